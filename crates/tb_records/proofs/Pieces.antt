@@ -1,0 +1,108 @@
+-- Buffers that are filled or emptied piece by piece, and counts that rise.
+use Rattle.std.proofs.Common.{◌≡◌, ℕ, ◌*◌, [], ◌∷◌, get_or, flat_map, subst, Option, ◌+◌, ◌-◌, ◌^◌, ◌<◌, ◌≤◌, inl, inr, min, List, ◌++◌, length, take, drop, cond, not, ◌&&◌, ◌==◌, sym, ap, ◌∙◌, arith, length-take, length-append, length-drop}
+use Rattle.std.proofs.lemmas.List.{take-append-le, take-append-drop, take_min, drop_more}
+use Rattle.std.proofs.lemmas.Grind.{flat_map-append}
+use Rattle.std.proofs.KnownBytes.{Appends-trans, Consumes-trans}
+use Rattle.std.specs.Io.KnownBytes.{Appends, Consumes}
+use Rattle.std.proofs.Math.Nat.{mul-le-mul_right}
+use Rattle.tb_records.specs.declared.faults.FrameFault.{FrameFault}
+use Rattle.tb_records.specs.declared.faults.FrameFault.TheVariants.{Short, Device}
+use Rattle.std.proofs.Math.Seq.{take-add, take-append-add}
+use Rattle.std.proofs.lemmas.Bool.{cases_lt, ne_eqb}
+use Rattle.std.proofs.lemmas.Slice.{between_to_end}
+use Rattle.std.specs.List.{between}
+use borrow.Rule.Slice.PartMut.{put_mid, post_of}
+use Rattle.tb_records.specs.Transport.{ReadFault, risen, Rose, stalls_after, CutOff, BodyFault}
+
+-- a beginning that was filled, and then a part of the rest
+pub filled : (at n k : ℕ) (xs ys : List ℕ) → at ≤ length xs → n ≤ length ys → take (at + n) (put_mid at k xs ys) ≡ take at xs ++ take n ys
+filled at n k xs ys h hn =
+    let front : length (take at xs) ≡ at = omega (arith, length-take at xs) in
+    ap (λ (m : ℕ). take (m + n) (put_mid at k xs ys)) (sym front)
+    ∙ take-append-add (take at xs) (ys ++ post_of at k xs) n
+    ∙ ap (λ (l : List ℕ). take at xs ++ l) (take-append-le n ys (post_of at k xs) hn)
+
+-- a beginning that was taken, and then a part of the rest
+pub taken : (at n end : ℕ) (xs : List ℕ) → length xs ≤ end → take (at + n) xs ≡ take at xs ++ take n (between at end xs)
+taken at n end xs h =
+    take-add at n xs ∙ ap (λ (l : List ℕ). take at xs ++ take n l) (sym (between_to_end xs at end h))
+
+-- an error raises the count
+pub rose_by_error : (was n is : ℕ) → n ≡ was → is ≡ risen n → Rose was is
+rose_by_error was n is e r =
+    elim (cases_lt n (2 ^ 64 - 1)) [ inl h ↦ inl (omega arith) | inr h ↦ inr (omega arith) ]
+
+-- a writer that takes something does not stall
+pub flows : (n was is : ℕ) (rest : List ℕ) → (n ≡ 0 → ⊥) → is ≡ stalls_after n rest was → is ≡ was
+flows n was is rest h e = e ∙ ap (λ b. cond (b && not (length rest == 0)) (risen was) was) (ne_eqb n 0 h)
+
+-- the buffer holds what was read into its rest
+pub put_mid-long : (at n : ℕ) (xs ys : List ℕ) → at ≤ length xs → n ≤ length ys → at + n ≤ length (put_mid at (length xs - at) xs ys)
+put_mid-long at n xs ys h hn =
+    omega (arith, length-append (take at xs) (ys ++ post_of at (length xs - at) xs), length-append ys (post_of at (length xs - at) xs), length-take at xs)
+
+-- no more was taken than was left
+pub between-long : (at n : ℕ) (xs : List ℕ) → at ≤ length xs → n ≤ length (between at (length xs) xs) → at + n ≤ length xs
+between-long at n xs h hn =
+    omega (arith, ap length (between_to_end xs at (length xs) (omega arith)), length-drop at xs)
+
+-- a count that rose since it was the same
+pub rose_since : (start was is : ℕ) → was ≡ start → Rose was is → Rose start is
+rose_since start was is e r = subst (λ (n : ℕ). Rose n is) e r
+
+-- what an item adds to the spellings of those before it
+pub spellings_at : {X : Type 0} (spelling : X → List ℕ) (items : List X) (k : ℕ) (x : X) → k < length items → x ≡ get_or items k x
+    → flat_map spelling items ≡ flat_map spelling (take k items) ++ (spelling x ++ flat_map spelling (drop (k + 1) items))
+spellings_at spelling items k x h e =
+    ap (flat_map spelling) (sym (take-append-drop k items))
+    ∙ flat_map-append spelling (take k items) (drop k items)
+    ∙ ap (λ l. flat_map spelling (take k items) ++ flat_map spelling l) (drop_more items k x h ∙ ap (λ y. y ∷ drop (k + 1) items) (sym e))
+
+-- a row of items was cut off in one of them
+pub cut_off_at : {X : Type 0} (spelling : X → List ℕ) (items : List X) (k : ℕ) (x : X) (bytes : List ℕ) (a b c : Option (List ℕ)) (start was is begun stalled stalls : ℕ)
+    → k < length items → x ≡ get_or items k x → bytes ≡ spelling x → Appends a b (flat_map spelling (take k items)) → was ≡ start → stalled ≡ begun
+    → CutOff bytes b c was is stalled stalls → CutOff (flat_map spelling items) a c start is begun stalls
+cut_off_at spelling items k x bytes a b c start was is begun stalled stalls h at spelled grown counted flowed cut =
+    let front = flat_map spelling (take k items) in
+    let rest = flat_map spelling (drop (k + 1) items) in
+    let n = min cut.count (length (spelling x)) in
+    let here : take (length front + n) (flat_map spelling items) ≡ front ++ take cut.count bytes =
+    ap (take (length front + n)) (spellings_at spelling items k x h at)
+    ∙ take-append-add front (spelling x ++ rest) n
+    ∙ ap (λ l. front ++ l) (take-append-le n (spelling x) rest (omega arith) ∙ take_min cut.count (spelling x) ∙ ap (take cut.count) (sym spelled)) in
+    record {
+      count = length front + n;
+      grown = subst (Appends a c) (sym here) (Appends-trans a b c front (take cut.count bytes) grown cut.grown);
+      rose = elim cut.rose [ inl r ↦ inl (rose_since start was is counted r) | inr r ↦ inr (rose_since begun stalled stalls flowed r) ];
+    }
+
+-- items of one size
+pub length-items : {X : Type 0} (spelling : X → List ℕ) (size : ℕ) (items : List X) → ((x : X) → length (spelling x) ≡ size) → length (flat_map spelling items) ≡ length items * size
+length-items spelling size [] each = omega arith
+length-items spelling size (x ∷ items) each =
+    let e = length-items spelling size items each in
+    omega (arith, length-append (spelling x) (flat_map spelling items), each x)
+
+-- a row of items, of which one could not be read
+pub items_cut : {X : Type 0} (fault : FrameFault) (spelling : X → List ℕ) (count size : ℕ) (items : List X) (a b c : Option (List ℕ)) (start was is : ℕ)
+    → length items < count → ((x : X) → length (spelling x) ≡ size) → Consumes a b (flat_map spelling items) → was ≡ start
+    → ReadFault fault size b c was is → BodyFault fault (count * size) a c start is
+items_cut Short spelling count size items a b c start was is h each bytes counted cut =
+    let front = flat_map spelling items in
+    let fits : (length items + 1) * size ≤ count * size = mul-le-mul_right size (omega arith) in
+    record {
+      rest = front ++ cut.rest;
+      short = omega (arith, length-append front cut.rest, length-items spelling size items each, cut.short);
+      bytes = Consumes-trans a b c front cut.rest bytes cut.bytes;
+      end = cut.end;
+    }
+items_cut Device spelling count size items a b c start was is h each bytes counted cut =
+    let front = flat_map spelling items in
+    let fits : (length items + 1) * size ≤ count * size = mul-le-mul_right size (omega arith) in
+    record {
+      front = front ++ cut.front;
+      short = omega (arith, length-append front cut.front, length-items spelling size items each, cut.short);
+      bytes = Consumes-trans a b c front cut.front bytes cut.bytes;
+      rose = rose_since start was is counted cut.rose;
+    }
+items_cut fault spelling count size items a b c start was is h each bytes counted cut = absurd cut

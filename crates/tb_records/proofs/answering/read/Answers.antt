@@ -1,0 +1,45 @@
+use Rattle.std.proofs.Common.{◌≡◌, ◌+◌, ◌-◌, ◌<◌, ◌≤◌, length, take, drop, true, ap, ◌∙◌, subst, sym, arith}
+use Rattle.tb_records.specs.Frames.{length_at}
+use Rattle.tb_records.specs.Messages.{status_code}
+use Rattle.tb_records.specs.ReplyFrames.{has_reply_length, SpellsReply}
+use Rattle.tb_records.specs.ReplyHeaders.{IsReplyBody}
+use Rattle.tb_records.proofs.ReplyFaults.{cut_reply_header, cut_reply_body, whole_reply, found_header_fault}
+use Rattle.tb_records.proofs.ReplyHeaderBytes.{body_behind, header_right, header_length, found_reply}
+use Rattle.tb_records.proofs.answering.read.Goals as goal
+
+pub returns-then-bytes-lt48 : goal.returns-then-bytes-lt48
+returns-then-bytes-lt48 c = cut_reply_header c.args.bytes.now c.if-bytes-lt48.true
+
+pub returns-in-Err : goal.returns-in-Err
+returns-in-Err c = found_header_fault c.args.bytes.now c.in-Err.fault c.if-bytes-lt48.false c.in-Err.ensures
+
+pub returns-then-bytes-end : goal.returns-then-bytes-end
+returns-then-bytes-end c =
+    let short : length c.args.bytes.now < 48 + length_at c.args.bytes.now = omega (arith, c.in-Ok.ensures.len) in
+    cut_reply_body c.args.bytes.now c.if-bytes-lt48.false c.in-Ok.ensures.none short
+
+pub body_in-requires : goal.body_in-requires
+body_in-requires c =
+    let h = c.in-Ok.header in
+    ap (λ n. has_reply_length h.operation c.code.result n) (body_behind c.args.bytes.now h.len c.if-bytes-end.false)
+    ∙ ap (λ s. has_reply_length h.operation s h.len) c.code.ensures
+    ∙ header_length c.args.bytes.now h c.in-Ok.ensures
+
+pub returns-in-Err-body_in : goal.returns-in-Err-body_in
+returns-in-Err-body_in c =
+    let long : 48 + length_at c.args.bytes.now ≤ length c.args.bytes.now = omega (arith, c.in-Ok.ensures.len) in
+    whole_reply c.args.bytes.now c.if-bytes-lt48.false c.in-Ok.ensures.none long
+
+pub lawful-requires : goal.lawful-requires
+lawful-requires c =
+    let h = c.in-Ok.header in
+    let b = c.args.bytes.now in
+    let is = subst (λ s. IsReplyBody h.operation s c.in-Ok-body_in.body (take (48 + h.len - 48) (drop 48 b))) c.code.ensures c.in-Ok-body_in.ensures in
+    header_right b h c.in-Ok-body_in.body (take (48 + h.len - 48) (drop 48 b)) c.in-Ok.ensures is (body_behind b h.len c.if-bytes-end.false)
+
+pub returns : goal.returns
+returns c =
+    let h = c.in-Ok.header in
+    let b = c.args.bytes.now in
+    let is = subst (λ s. IsReplyBody h.operation s c.in-Ok-body_in.body (take (48 + h.len - 48) (drop 48 b))) c.code.ensures c.in-Ok-body_in.ensures in
+    (c.if-bytes-end.false, subst (λ r. SpellsReply (take (48 + h.len) b) r) (sym c.lawful.ensures) (found_reply b h c.in-Ok-body_in.body (λ i. omega (arith, c.type_inv.bytes i)) c.in-Ok.ensures c.if-bytes-end.false is))

@@ -1,0 +1,13 @@
+use Rattle.std.proofs.Common.{◌≡◌, ◌-◌, ◌≤◌, length, take}
+use Rattle.std.specs.Io.KnownBytes.{Consumes}
+use Rattle.tb_records.proofs.devices.fill.Given as goal
+
+abbrev pub invariant-loop-at : goal.invariant-loop-at
+invariant-loop-at g l = record {
+  within : l.at ≤ length l.buf;
+  bytes : Consumes (g.S.Source.left l.initial.source) (g.S.Source.left l.source) (take l.at l.buf);
+  counted : g.S.Source.failed l.source ≡ g.S.Source.failed l.initial.source;
+}
+
+abbrev pub decreases-loop-at : goal.decreases-loop-at
+decreases-loop-at g l = length l.initial.buf - l.at

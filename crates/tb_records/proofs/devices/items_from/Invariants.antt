@@ -1,0 +1,12 @@
+use Rattle.std.proofs.Common.{◌≡◌, ◌≤◌, length, flat_map, All, vec_capacity}
+use Rattle.std.specs.Io.KnownBytes.{Consumes}
+use Rattle.tb_records.proofs.devices.items_from.Given as goal
+
+abbrev pub invariant-loop : goal.invariant-loop
+invariant-loop g l = record {
+  long : length l.items.items ≡ l.counter;
+  room : l.count ≤ vec_capacity l.items;
+  bytes : Consumes (g.S.Source.left l.initial.source) (g.S.Source.left l.source) (flat_map g.T.Item.spelling l.items.items);
+  fit : All g.T.Item.Fits l.items.items;
+  counted : g.S.Source.failed l.source ≡ g.S.Source.failed l.initial.source;
+}

@@ -1,0 +1,10 @@
+use Rattle.std.proofs.Common.{arith}
+use Rattle.tb_records.proofs.NumberBytes.{number_at, number_spelled}
+use Rattle.tb_records.proofs.encoding.u32_at.Goals as goal
+
+pub returns-clause-number : goal.returns-clause-number
+returns-clause-number c = number_at 4 c.args.at _ _ c.args.bytes.now (omega arith) c.read_u32.ensures
+
+pub returns-clause-spelled : goal.returns-clause-spelled
+returns-clause-spelled c =
+    number_spelled 4 c.args.at _ c.args.bytes.now (omega arith) (λ i. omega (arith, c.type_inv.bytes i)) (returns-clause-number c)

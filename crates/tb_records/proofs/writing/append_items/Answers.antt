@@ -1,0 +1,13 @@
+use Rattle.std.proofs.Common.{◌≡◌, ◌-◌, ◌*◌, length, ap, arith}
+use Rattle.std.proofs.lemmas.List.{append-nil}
+use Rattle.tb_records.proofs.ItemBytes.{length_items}
+use Rattle.tb_records.proofs.writing.append_items.Goals as goal
+
+pub loop-item-init : goal.loop-item-init
+loop-item-init g c =
+    let xs = c.args.items.now in
+    let all : length xs - 0 ≡ length xs = omega arith in
+    record {
+      room = omega (arith, ap (λ n. g.T.Item.SIZE * n) all, length_items g.T.Item.spelling g.T.Item.SIZE g.met.T.Item.length_spelling xs, c.requires);
+      appended = simp append-nil;
+    }

@@ -1,0 +1,96 @@
+-- What a header without a fault says.
+use Rattle.std.specs.Prelude.{ℕ, length, Result, Ok, Err, Bool, ◌&&◌, ◌==◌, ◌*◌, not, nat_lt, [], ◌∷◌, take, ◌≡◌, ◌+◌, ◌/◌, ◌^◌, ◌<◌, ◌≤◌, List, Option, Some, None}
+use Rattle.tb_records.specs.declared.headers.Operation.{Operation}
+use Rattle.tb_records.specs.declared.headers.Operation.TheVariants.{Register, CreateAccounts, CreateTransfers, LookupAccounts, LookupTransfers}
+use Rattle.tb_records.specs.declared.headers.Header.{Header}
+use Rattle.std.specs.Io.KnownBytes.{Consumes}
+use Rattle.tb_records.specs.declared.bodies.Body.{Body}
+use Rattle.tb_records.specs.declared.faults.FrameFault.{FrameFault}
+use Rattle.tb_records.specs.declared.faults.FrameFault.TheVariants.{ClientZero, TooMany, RegisterNumbers, RequestZero}
+use Rattle.tb_records.specs.Inputs.{Answers}
+use Rattle.tb_records.specs.Messages.{Message, operation, item_count, items_max, first_fault}
+use Rattle.tb_records.specs.Frames.{body_bytes, BodyFits, IsRequest, header_bytes, header_fault, client_at, session_at, request_at, operation_at, length_at, item_size}
+
+-- the number of an operation
+abbrev pub code_of : Operation → ℕ
+code_of Register = 2
+code_of CreateAccounts = 129
+code_of CreateTransfers = 130
+code_of LookupAccounts = 131
+code_of LookupTransfers = 132
+
+-- the fields of a header without a fault, and the number of items that its length makes
+pub record HeaderOf (b : List ℕ) (h : Header) : Type 0 where
+  pub sound : header_fault b ≡ None
+  pub client : h.client ≡ client_at b
+  pub session : h.session ≡ session_at b
+  pub request : h.request ≡ request_at b
+  pub operation : code_of h.operation ≡ operation_at b
+  pub length : h.length ≡ length_at b
+  pub count : h.count ≡ length_at b / item_size (operation_at b)
+
+-- the bytes of a header are the spelling of its fields, which fit
+pub record HeaderSpelled (b : List ℕ) : Type 0 where
+  pub bytes : take 48 b ≡ header_bytes (client_at b) (session_at b) (request_at b) (operation_at b) (length_at b)
+  pub client : client_at b < 2 ^ 128
+  pub session : session_at b < 2 ^ 64
+  pub request : request_at b < 2 ^ 32
+  pub body : length_at b < 2 ^ 32
+
+-- what the numbers of a header may have wrong, as those of the request that it begins
+abbrev pub numbers_tests : ℕ → ℕ → ℕ → ℕ → ℕ → List (Bool × FrameFault)
+numbers_tests client session request code count =
+    (client == 0, ClientZero)
+    ∷ (code == 2 && not (session == 0 && request == 0), RegisterNumbers)
+    ∷ (not (code == 2) && request == 0, RequestZero)
+    ∷ (nat_lt items_max count, TooMany)
+    ∷ []
+
+abbrev pub numbers_fault : ℕ → ℕ → ℕ → ℕ → ℕ → Option FrameFault
+numbers_fault client session request code count = first_fault (numbers_tests client session request code count)
+
+-- the numbers of a header keep the rules and fit
+pub record IsHeader (h : Header) : Type 0 where
+  pub lawful : numbers_fault h.client h.session h.request (code_of h.operation) h.count ≡ None
+  pub client : h.client < 2 ^ 128
+  pub session : h.session < 2 ^ 64
+  pub request : h.request < 2 ^ 32
+  pub empty : code_of h.operation ≡ 2 → h.count ≡ 0
+
+-- the length of the body behind a header
+abbrev pub body_length : Header → ℕ
+body_length h = h.count * item_size (code_of h.operation)
+
+-- a body was read: count items of the operation, whose numbers fit
+pub record ReadsBody (code n : ℕ) (body : Body) (before after : Option (List ℕ)) (was now : ℕ) : Type 0 where
+  pub operation : operation body ≡ code
+  pub count : item_count body ≡ n
+  pub bytes : Consumes before after (body_bytes body)
+  pub fit : BodyFits body
+  pub counted : now ≡ was
+
+-- the request of a header was read, of which the body was left
+pub record ReadsRequest (h : Header) (r : Message) (before after : Option (List ℕ)) (was now : ℕ) : Type 0 where
+  pub client : r.client ≡ h.client
+  pub session : r.session ≡ h.session
+  pub request : r.request ≡ h.request
+  pub operation : operation r.body ≡ code_of h.operation
+  pub count : item_count r.body ≡ h.count
+  pub bytes : Consumes before after (body_bytes r.body)
+  pub is : IsRequest r
+  pub counted : now ≡ was
+
+-- 48 bytes were read, the spelling of a header without a fault
+pub record ReadsHeader (h : Header) (before after : Option (List ℕ)) (was now : ℕ) : Type 0 where
+  pub header : List ℕ
+  pub long : length header ≡ 48
+  pub fields : HeaderOf header h
+  pub spelled : HeaderSpelled header
+  pub bytes : Consumes before after header
+  pub counted : now ≡ was
+
+-- what a stream answers as far as the header
+abbrev pub HeaderAnswers : Result (Option Header) FrameFault → Option (List ℕ) → Option (List ℕ) → ℕ → ℕ → Type 0
+HeaderAnswers (Ok None) before after was now = Answers (Ok None) before after × (now ≡ was)
+HeaderAnswers (Ok (Some h)) before after was now = ReadsHeader h before after was now
+HeaderAnswers (Err fault) before after was now = Answers (Err fault) before after

@@ -1,0 +1,89 @@
+-- What is read from bytes: a frame of a slice, and the frames of a stream one by one.
+use Rattle.std.specs.Prelude.{ℕ, ◌≡◌, ◌+◌, ◌<◌, ◌≤◌, ◌^◌, List, [], ◌++◌, length, take, drop, Option, Some, None, Result, Ok, Err}
+use Rattle.std.specs.Io.KnownBytes.{Consumes}
+use Rattle.tb_records.specs.declared.faults.FrameFault.{FrameFault}
+use Rattle.tb_records.specs.declared.faults.FrameFault.TheVariants.{Short, Device, NoMemory}
+use Rattle.tb_records.specs.Frames.{Spells, IsRequest, request_bytes, request_fault, header_fault, length_at}
+use Rattle.tb_records.specs.Messages.{Message}
+use Rattle.tb_records.specs.Numbers.{le_bytes}
+
+-- what a slice answers: the request that its first n bytes spell, or the first fault; want of memory only where there is none
+abbrev pub Found : Result (Message × ℕ) FrameFault → List ℕ → Type 0
+Found (Ok (r, n)) bytes = (n ≤ length bytes) × Spells (take n bytes) r
+Found (Err NoMemory) bytes = request_fault bytes ≡ None
+Found (Err fault) bytes = request_fault bytes ≡ Some fault
+
+-- no other answer than the request of n bytes, but for want of memory
+abbrev pub OnlyThis : Result (Message × ℕ) FrameFault → Message → ℕ → Type 0
+OnlyThis (Ok (found, k)) r n = (found ≡ r) × (k ≡ n)
+OnlyThis (Err NoMemory) r n = Unit {0}
+OnlyThis (Err fault) r n = ⊥
+
+-- a stream: its reader, and the fault that ended it
+pub record Stream (R : Type 0) : Type 0 where
+  pub source : R
+  pub fault : Option FrameFault
+
+-- a stream that has answered no fault
+abbrev pub opened : {R : Type 0} → R → Stream R
+opened source = record { source = source; fault = None }
+
+-- the fault of an answer
+abbrev pub fault_in : {X : Type 0} → Result X FrameFault → Option FrameFault
+fault_in (Ok x) = None
+fault_in (Err fault) = Some fault
+
+-- a fault of a frame, before which the bytes were left and after which the others are: of a reader that failed, no more
+-- than the frame is gone; without room for the body, just the header; what is cut is read to its end; of a header's
+-- fault, just the header
+abbrev pub Faulted : FrameFault → List ℕ → List ℕ → Type 0
+Faulted Device before after = (front : List ℕ) × (length front ≤ 48 + length_at before) × (before ≡ front ++ after)
+Faulted NoMemory before after = (48 ≤ length before) × (header_fault before ≡ None) × (after ≡ drop 48 before)
+Faulted Short before after = (0 < length before) × (request_fault before ≡ Some Short) × (after ≡ [])
+Faulted fault before after = (request_fault before ≡ Some fault) × (after ≡ drop 48 before)
+
+-- an answer of a stream: nothing at its end, else a request, of which just the bytes are read, or a fault
+abbrev pub Answered : Result (Option Message) FrameFault → List ℕ → List ℕ → Type 0
+Answered (Ok None) before after = (before ≡ []) × (after ≡ [])
+Answered (Ok (Some r)) before after = (before ≡ request_bytes r ++ after) × IsRequest r
+Answered (Err fault) before after = Faulted fault before after
+
+-- the same of a reader that may not tell its bytes
+abbrev pub Answers : Result (Option Message) FrameFault → Option (List ℕ) → Option (List ℕ) → Type 0
+Answers result None after = Unit {0}
+Answers result (Some before) None = ⊥
+Answers result (Some before) (Some after) = Answered result before after
+
+-- a fault of a moment of 8 bytes and a frame behind it
+abbrev pub TimedFaulted : FrameFault → List ℕ → List ℕ → Type 0
+TimedFaulted Device before after = (front : List ℕ) × (length front ≤ 56 + length_at (drop 8 before)) × (before ≡ front ++ after)
+TimedFaulted Short before after = (0 < length before) × (request_fault (drop 8 before) ≡ Some Short) × (after ≡ [])
+TimedFaulted fault before after = Faulted fault (drop 8 before) after
+
+-- the bytes of a moment and a request
+abbrev pub timed_bytes : ℕ × Message → List ℕ
+timed_bytes pair = le_bytes 8 pair.0 ++ request_bytes pair.1
+
+-- an answer of a stream of moments and requests
+abbrev pub TimedAnswered : Result (Option (ℕ × Message)) FrameFault → List ℕ → List ℕ → Type 0
+TimedAnswered (Ok None) before after = (before ≡ []) × (after ≡ [])
+TimedAnswered (Ok (Some pair)) before after = (before ≡ timed_bytes pair ++ after) × (pair.0 < 2 ^ 64) × IsRequest pair.1
+TimedAnswered (Err fault) before after = TimedFaulted fault before after
+
+-- the same of a reader that may not tell its bytes
+abbrev pub TimedAnswers : Result (Option (ℕ × Message)) FrameFault → Option (List ℕ) → Option (List ℕ) → Type 0
+TimedAnswers result None after = Unit {0}
+TimedAnswers result (Some before) None = ⊥
+TimedAnswers result (Some before) (Some after) = TimedAnswered result before after
+
+-- a moment was read
+pub record ReadsMoment (moment : ℕ) (before after : Option (List ℕ)) (was now : ℕ) : Type 0 where
+  pub bytes : Consumes before after (le_bytes 8 moment)
+  pub fits : moment < 2 ^ 64
+  pub counted : now ≡ was
+
+-- what a stream answers as far as the moment
+abbrev pub MomentAnswers : Result (Option ℕ) FrameFault → Option (List ℕ) → Option (List ℕ) → ℕ → ℕ → Type 0
+MomentAnswers (Ok None) before after was now = TimedAnswers (Ok None) before after × (now ≡ was)
+MomentAnswers (Ok (Some moment)) before after was now = ReadsMoment moment before after was now
+MomentAnswers (Err fault) before after was now = TimedAnswers (Err fault) before after

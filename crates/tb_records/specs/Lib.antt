@@ -1,0 +1,12 @@
+pub mod Frames
+pub mod HeaderFields
+pub mod Inputs
+pub mod Messages
+pub mod Numbers
+pub mod Ordered
+pub mod RecordBytes
+pub mod ReplyFrames
+pub mod ReplyHeaders
+pub mod Same
+pub mod Sizes
+pub mod Transport

@@ -1,0 +1,38 @@
+-- Records in the order of a key: finite maps as lists by rising key.
+use Rattle.std.specs.Prelude.{ℕ, ◌==◌, nat_lt, ◌<◌, ◌≤◌, length, slice_index_or, List, [], ◌∷◌, if◌then◌else◌}
+
+-- with a record more, in its place
+abbrev pub put : {X : Type 0} → (X → ℕ) → X → List X → List X
+put key x [] = x ∷ []
+put key x (y ∷ ys) = if nat_lt (key y) (key x) then y ∷ put key x ys else x ∷ y ∷ ys
+
+-- with a record in place of the one that has its key
+abbrev pub replaced : {X : Type 0} → (X → ℕ) → X → List X → List X
+replaced key x [] = []
+replaced key x (y ∷ ys) = if key y == key x then x ∷ ys else y ∷ replaced key x ys
+
+-- without the record that has the key
+abbrev pub taken_out : {X : Type 0} → (X → ℕ) → ℕ → List X → List X
+taken_out key id [] = []
+taken_out key id (y ∷ ys) = if key y == id then ys else y ∷ taken_out key id ys
+
+-- with the record that has the key changed, where there is one
+abbrev pub changed : {X : Type 0} → (X → ℕ) → ℕ → (X → X) → List X → List X
+changed key id f [] = []
+changed key id f (y ∷ ys) = if key y == id then f y ∷ ys else y ∷ changed key id f ys
+
+-- P holds of each
+abbrev pub Each : {X : Type 0} → (X → Type 0) → List X → Type 0
+Each P [] = Unit {0}
+Each P (x ∷ xs) = P x × Each P xs
+
+-- keys rise strictly
+abbrev pub Rising : {X : Type 0} → (X → ℕ) → List X → Type 0
+Rising key [] = Unit {0}
+Rising key (x ∷ xs) = Each (λ y. key x < key y) xs × Rising key xs
+
+-- smaller keys stand before place i, and none at it
+pub record IsPlace {X : Type 0} (key : X → ℕ) (xs : List X) (id i : ℕ) : Type 0 where
+  pub within : i ≤ length xs
+  pub before : (j : ℕ) (d : X) → j < i → key (slice_index_or xs j d) < id
+  pub here : (d : X) → i < length xs → id ≤ key (slice_index_or xs i d)

@@ -1,0 +1,194 @@
+//! Replies read from bytes.
+ghost use Rattle.std.specs.Prelude.{◌≡◌, ◌≤◌, ◌*◌, ◌++◌, ℕ, List, Some, None, length, IsTrue, IfOk, MatchResult};
+ghost use Rattle.tb_records.specs.Messages.{Answer};
+ghost use Rattle.tb_records.specs.ReplyFrames.{reply_bytes, reply_fault, reply_header_fault, reply_item_size, has_reply_length, IsReply, SpellsReply, FoundReply, OnlyThisReply};
+ghost use Rattle.tb_records.specs.ReplyHeaders.{IsReplyHeader, IsReplyBody, SpelledItems};
+
+use crate::bodies::ReplyBody;
+use crate::encoding::{u8_at, u16_at, u32_at, u64_at, u128_at};
+use crate::faults::FrameFault;
+use crate::layout::Item;
+use crate::lists::Items;
+use crate::replies::{Reply, Status, is_known, numbers_agree, suits_register};
+use std::alloc::{AllocError, Global};
+
+/// The header of a reply, whose numbers go together.
+#[derive(Clone, Copy)]
+pub(crate) struct ReplyHeader {
+    pub client: u128,
+    pub session: u64,
+    pub request: u32,
+    pub operation: u8,
+    pub status: Status,
+    pub commit: u64,
+    /// The number of bytes behind the header.
+    pub len: u32,
+}
+
+/// The header at the beginning of the bytes, or what is wrong with it.
+#[tactic(auto, unfolding(crate::specs::ReplyFrames::reply_header_fault))]
+fn header_in(bytes: &[u8]) -> Result<ReplyHeader, FrameFault>
+    requires { 48 ≤ length bytes.now }
+    ensures { MatchResult result (λ h. IsReplyHeader bytes.now h) (λ f. reply_header_fault bytes.now ≡ Some f) }
+{
+    let client = u128_at(bytes, 0);
+    let session = u64_at(bytes, 16);
+    let request = u32_at(bytes, 24);
+    let operation = u8_at(bytes, 28);
+    let code = u8_at(bytes, 29);
+    let low = u16_at(bytes, 30);
+    let len = u32_at(bytes, 32);
+    let commit = u64_at(bytes, 36);
+    let high = u32_at(bytes, 44);
+    let suits = suits_register(code, session, request);
+    let agree = numbers_agree(operation, code, session, commit);
+    let size = item_size(operation);
+    let long = is_long(operation, code, len);
+    if client == 0 {
+        return Err(FrameFault::ClientZero);
+    }
+    if !is_known(operation) {
+        return Err(FrameFault::UnknownOperation);
+    }
+    let Some(status) = Status::from_code(code) else {
+        return Err(FrameFault::Reserved);
+    };
+    if low != 0 || high != 0 {
+        return Err(FrameFault::Reserved);
+    }
+    if operation == 2 && !suits {
+        return Err(FrameFault::RegisterNumbers);
+    }
+    if operation != 2 && request == 0 {
+        return Err(FrameFault::RequestZero);
+    }
+    if !agree {
+        return Err(FrameFault::ReplyNumbers);
+    }
+    if !long {
+        return Err(FrameFault::BadLength);
+    }
+    if len / size > 8190 {
+        return Err(FrameFault::TooMany);
+    }
+    Ok(ReplyHeader {
+        client,
+        session,
+        request,
+        operation,
+        status,
+        commit,
+        len,
+    })
+}
+
+/// The size of one item in the reply to an operation: a record, or a result.
+fn item_size(operation: u8) -> u32
+    ensures { result ≡ reply_item_size operation }
+{
+    if operation == 131 || operation == 132 {
+        128
+    } else {
+        8
+    }
+}
+
+/// Says that the body of a reply may have this length.
+fn is_long(operation: u8, status: u8, len: u32) -> bool
+    ensures { result ≡ has_reply_length operation status len }
+{
+    if status == 0 && operation != 2 {
+        len % item_size(operation) == 0
+    } else {
+        len == 0
+    }
+}
+
+/// The items that the bytes spell, one behind the other.
+fn items_in<T: Item>(alloc: Global, bytes: &[u8], count: usize) -> Result<Items<T>, AllocError>
+    requires { length bytes.now ≡ T.SIZE * count }
+    ensures { IfOk result (λ items. SpelledItems T.spelling T.Fits items bytes.now) }
+{
+    let mut items = Vec::with_capacity(alloc, count)?;
+    let mut rest = bytes;
+    while items.len() < count {
+        let (item, more) = rest.split_at(T::SIZE);
+        items.push(T::read(item)).unwrap();
+        rest = more;
+    }
+    Ok(Items::new(items))
+}
+
+/// The body that the bytes spell, of the kind that the operation and the status ask for.
+#[tactic(auto, unfolding(crate::specs::ReplyFrames::reply_body_bytes))]
+fn body_in(alloc: Global, operation: u8, status: u8, bytes: &[u8]) -> Result<ReplyBody, AllocError>
+    requires { IsTrue (has_reply_length operation status (length bytes.now)) }
+    ensures { IfOk result (λ body. IsReplyBody operation status body bytes.now) }
+{
+    if status != 0 || operation == 2 {
+        return Ok(ReplyBody::Empty);
+    }
+    let count = bytes.len() / item_size(operation) as usize;
+    match operation {
+        131 => Ok(ReplyBody::Accounts(items_in(alloc, bytes, count)?)),
+        132 => Ok(ReplyBody::Transfers(items_in(alloc, bytes, count)?)),
+        _ => Ok(ReplyBody::Results(items_in(alloc, bytes, count)?)),
+    }
+}
+
+/// The reply at the beginning of the bytes, and the length of its frame; or the first of its faults.
+fn read(alloc: Global, bytes: &[u8]) -> Result<(Reply, usize), FrameFault>
+    ensures { FoundReply result bytes.now }
+{
+    if bytes.len() < 48 {
+        return Err(FrameFault::Short);
+    }
+    let header = match header_in(bytes) {
+        Ok(header) => header,
+        Err(fault) => return Err(fault),
+    };
+    let end = 48 + header.len as usize;
+    if bytes.len() < end {
+        return Err(FrameFault::Short);
+    }
+    let body = match body_in(
+        alloc,
+        header.operation,
+        header.status.code(),
+        &bytes[48..end],
+    ) {
+        Ok(body) => body,
+        Err(_) => return Err(FrameFault::NoMemory),
+    };
+    Ok((
+        Reply::lawful(
+            header.client,
+            header.session,
+            header.request,
+            header.operation,
+            header.status,
+            header.commit,
+            body,
+        ),
+        end,
+    ))
+}
+
+/// The reply whose frame the bytes begin with, and the length of the frame; or the first fault, in the order of the
+/// tests. NoMemory comes after all of these.
+pub fn read_reply(alloc: Global, bytes: &[u8]) -> Result<(Reply, usize), FrameFault>
+    ensures found { FoundReply result bytes.now }
+    ensures only { (r : Answer) (front rest : List ℕ) → SpellsReply front r → bytes.now ≡ front ++ rest → OnlyThisReply result r (length front) }
+{
+    read(alloc, bytes)
+}
+
+/// The frame of a reply has no fault, whatever stands behind it.
+pub fn spelled_reply_whole()
+    ensures { (r : Answer) (more : List ℕ) → IsReply r → reply_fault (reply_bytes r ++ more) ≡ None }
+{}
+
+/// No frame of a reply begins the frame of another one.
+pub fn one_reading_of_replies()
+    ensures { (r s : Answer) (x y : List ℕ) → IsReply r → IsReply s → reply_bytes r ++ x ≡ reply_bytes s ++ y → (r ≡ s) × (x ≡ y) }
+{}

@@ -1,0 +1,125 @@
+//! The header of a request's frame, and its tests in their order.
+ghost use Rattle.std.specs.Prelude.{◌≡◌, ◌==◌, ◌≤◌, ◌<◌, ◌+◌, ◌/◌, Some, None, false, MatchOption, MatchResult, OnOk, IfOk, length, take};
+ghost use Rattle.tb_records.specs.Frames.{header_bytes, header_fault, item_size, length_at, length_tests};
+ghost use Rattle.tb_records.specs.HeaderFields.{code_of, HeaderOf, HeaderSpelled};
+ghost use Rattle.tb_records.specs.Messages.{first_fault, is_operation};
+
+use crate::encoding::{u8_at, u24_at, u32_at, u64_at, u96_at, u128_at};
+use crate::faults::FrameFault;
+
+/// What a request asks for.
+#[derive(Clone, Copy)]
+pub(crate) enum Operation {
+    Register,
+    CreateAccounts,
+    CreateTransfers,
+    LookupAccounts,
+    LookupTransfers,
+}
+
+impl Operation {
+    /// The operation of a number.
+    fn with_code(code: u8) -> Option<Operation>
+        ensures { MatchOption result (is_operation code ≡ false) (λ o. code_of o ≡ code) }
+    {
+        match code {
+            2 => Some(Operation::Register),
+            129 => Some(Operation::CreateAccounts),
+            130 => Some(Operation::CreateTransfers),
+            131 => Some(Operation::LookupAccounts),
+            132 => Some(Operation::LookupTransfers),
+            _ => None,
+        }
+    }
+
+    /// The size of an item in the body.
+    fn item_size(self) -> usize
+        ensures { result ≡ item_size (code_of self) }
+    {
+        match self {
+            Operation::CreateAccounts | Operation::CreateTransfers => 128,
+            Operation::Register | Operation::LookupAccounts | Operation::LookupTransfers => 16,
+        }
+    }
+}
+
+/// The fields of a header without a fault.
+#[derive(Clone, Copy)]
+pub(crate) struct Header {
+    pub client: u128,
+    pub session: u64,
+    pub request: u32,
+    pub operation: Operation,
+    /// How many bytes the body has.
+    pub length: usize,
+    /// How many items the body has.
+    pub count: usize,
+}
+
+/// The number of items in a body of this length.
+fn count_of(operation: Operation, length: usize) -> Result<usize, FrameFault>
+    ensures { let code = code_of operation in MatchResult result
+        (λ n. (n ≡ length / item_size code) × (first_fault (length_tests code length) ≡ None))
+        (λ f. first_fault (length_tests code length) ≡ Some f) }
+{
+    let size = operation.item_size();
+    let register = matches!(operation, Operation::Register);
+    let odd = if register { length } else { length % size };
+    if odd != 0 {
+        return Err(FrameFault::BadLength);
+    }
+    let count = length / size;
+    if count > 8190 {
+        return Err(FrameFault::TooMany);
+    }
+    Ok(count)
+}
+
+/// The fields of the header that the bytes begin with, or the first of its faults.
+#[tactic(auto, unfolding(crate::specs::Frames::header_fault))]
+fn header_fields(bytes: &[u8]) -> Result<Header, FrameFault>
+    requires { 48 ≤ length bytes.now }
+    ensures { MatchResult result (λ h. HeaderOf bytes.now h) (λ f. header_fault bytes.now ≡ Some f) }
+{
+    let client = u128_at(bytes, 0);
+    if client == 0 {
+        return Err(FrameFault::ClientZero);
+    }
+    let operation = match Operation::with_code(u8_at(bytes, 28)) {
+        Some(operation) => operation,
+        None => return Err(FrameFault::UnknownOperation),
+    };
+    if u24_at(bytes, 29) != 0 || u96_at(bytes, 36) != 0 {
+        return Err(FrameFault::Reserved);
+    }
+    let session = u64_at(bytes, 16);
+    let request = u32_at(bytes, 24);
+    let register = matches!(operation, Operation::Register);
+    if register && (session != 0 || request != 0) {
+        return Err(FrameFault::RegisterNumbers);
+    }
+    if !register && request == 0 {
+        return Err(FrameFault::RequestZero);
+    }
+    let length = u32_at(bytes, 32) as usize;
+    match count_of(operation, length) {
+        Ok(count) => Ok(Header {
+            client,
+            session,
+            request,
+            operation,
+            length,
+            count,
+        }),
+        Err(fault) => Err(fault),
+    }
+}
+
+/// The fields of the header that the bytes begin with, which are its spelling; or the first of its faults.
+pub(crate) fn request_header(bytes: &[u8]) -> Result<Header, FrameFault>
+    requires { 48 ≤ length bytes.now }
+    ensures fields { MatchResult result (λ h. HeaderOf bytes.now h) (λ f. header_fault bytes.now ≡ Some f) }
+    ensures spelled { OnOk result (HeaderSpelled bytes.now) }
+{
+    header_fields(bytes)
+}

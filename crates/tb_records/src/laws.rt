@@ -1,0 +1,14 @@
+//! Laws of frames, for every request whose numbers keep the rules and fit their fields. None makes a call.
+ghost use Rattle.std.specs.Prelude.{◌≡◌, ◌++◌, None, ℕ, List};
+ghost use Rattle.tb_records.specs.Frames.{request_bytes, request_fault, IsRequest};
+ghost use Rattle.tb_records.specs.Messages.{Message};
+
+/// The frame of a request has no fault, whatever stands behind it.
+pub fn spelled_whole()
+    ensures { (r : Message) (more : List ℕ) → IsRequest r → request_fault (request_bytes r ++ more) ≡ None }
+{}
+
+/// Each request has one frame, and no frame begins another one.
+pub fn one_reading()
+    ensures { (r s : Message) (x y : List ℕ) → IsRequest r → IsRequest s → request_bytes r ++ x ≡ request_bytes s ++ y → (r ≡ s) × (x ≡ y) }
+{}

@@ -1,0 +1,32 @@
+//! Accounts, transfers, requests and replies of the ledger, as values and as bytes.
+#![tactic(auto)]
+
+mod answering;
+pub mod bodies;
+pub mod devices;
+mod encoding;
+pub mod faults;
+mod headers;
+pub mod laws;
+mod layout;
+pub mod limits;
+pub mod lists;
+pub mod reading;
+pub mod records;
+pub mod replies;
+pub mod requests;
+pub mod streams;
+mod writing;
+
+pub use answering::{one_reading_of_replies, read_reply, spelled_reply_whole};
+pub use bodies::{Body, ReplyBody};
+pub use devices::{Counting, Sink, Source};
+pub use faults::FrameFault;
+pub use limits::{ClientsMax, Profile};
+pub use lists::Items;
+pub use reading::read_request;
+pub use records::{Account, EventResult, Transfer};
+pub use replies::{Reply, Status};
+pub use requests::Request;
+pub use streams::RequestStream;
+pub use writing::{send_reply, write_reply, write_request};

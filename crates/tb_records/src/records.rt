@@ -1,0 +1,109 @@
+//! The records that a client creates, in TigerBeetle's layout of 128 bytes, and the result of an event.
+ghost use Rattle.std.specs.Prelude.{◌≡◌};
+ghost use Rattle.tb_records.specs.RecordBytes.{account_bytes, transfer_bytes, IsAccount, IsTransfer};
+
+use crate::layout::Item;
+
+/// An account. Of a record that a client sends, the four sums and the timestamp are to be 0.
+#[derive(Clone, Copy, Debug, PartialEq, Eq)]
+pub struct Account {
+    /// Names the account: neither 0 nor the largest number.
+    pub id: u128,
+    /// What pending transfers hold on the debit side, in the ledger's smallest unit.
+    pub debits_pending: u128,
+    /// What was debited for good.
+    pub debits_posted: u128,
+    /// What pending transfers hold on the credit side.
+    pub credits_pending: u128,
+    /// What was credited for good.
+    pub credits_posted: u128,
+    pub user_data_128: u128,
+    pub user_data_64: u64,
+    pub user_data_32: u32,
+    /// Must be 0.
+    pub reserved: u32,
+    /// Only accounts of one ledger can exchange money.
+    pub ledger: u32,
+    /// The kind of the account, the client's own choice, not 0.
+    pub code: u16,
+    /// 1 linked, 2 debits_must_not_exceed_credits, 4 credits_must_not_exceed_debits, 8 history,
+    /// 16 imported (refused), 32 closed.
+    pub flags: u16,
+    /// When the account was created, in nanoseconds.
+    pub timestamp: u64,
+}
+
+impl Account {
+    /// The account's 128 bytes: its fields in their order, each number with its lowest byte first.
+    pub fn to_bytes(&self) -> [u8; 128]
+        ensures { result ≡ account_bytes self.now }
+    {
+        let mut out = [0; 128];
+        self.write(&mut out);
+        out
+    }
+
+    /// The account that the bytes spell. Any 128 bytes spell one, and only one.
+    pub fn from_bytes(bytes: &[u8; 128]) -> Account
+        ensures spelled { account_bytes result ≡ bytes.now }
+        ensures fits { IsAccount result }
+        ensures only { (a : Account) → IsAccount a → account_bytes a ≡ bytes.now → result ≡ a }
+    {
+        let bytes: &[u8] = bytes;
+        Account::read(bytes)
+    }
+}
+
+/// A transfer of an amount from a debit account to a credit account.
+#[derive(Clone, Copy, Debug, PartialEq, Eq)]
+pub struct Transfer {
+    /// Names the transfer: neither 0 nor the largest number.
+    pub id: u128,
+    pub debit_account_id: u128,
+    pub credit_account_id: u128,
+    /// In the ledger's smallest unit.
+    pub amount: u128,
+    /// Of a post or void: the pending transfer that it resolves.
+    pub pending_id: u128,
+    pub user_data_128: u128,
+    pub user_data_64: u64,
+    pub user_data_32: u32,
+    /// Of a pending transfer: the seconds after which it expires; 0 is never.
+    pub timeout: u32,
+    pub ledger: u32,
+    /// The reason of the transfer, the client's own choice, not 0.
+    pub code: u16,
+    /// 1 linked, 2 pending, 4 post_pending_transfer, 8 void_pending_transfer, 16 balancing_debit,
+    /// 32 balancing_credit, 64 closing_debit, 128 closing_credit, 256 imported (refused).
+    pub flags: u16,
+    /// When the transfer was recorded, in nanoseconds.
+    pub timestamp: u64,
+}
+
+impl Transfer {
+    /// The transfer's 128 bytes: its fields in their order, each number with its lowest byte first.
+    pub fn to_bytes(&self) -> [u8; 128]
+        ensures { result ≡ transfer_bytes self.now }
+    {
+        let mut out = [0; 128];
+        self.write(&mut out);
+        out
+    }
+
+    /// The transfer that the bytes spell. Any 128 bytes spell one, and only one.
+    pub fn from_bytes(bytes: &[u8; 128]) -> Transfer
+        ensures spelled { transfer_bytes result ≡ bytes.now }
+        ensures fits { IsTransfer result }
+        ensures only { (t : Transfer) → IsTransfer t → transfer_bytes t ≡ bytes.now → result ≡ t }
+    {
+        let bytes: &[u8] = bytes;
+        Transfer::read(bytes)
+    }
+}
+
+/// An event of a batch that was not accepted: its index in the batch, and its result code.
+#[derive(Clone, Copy, Debug, PartialEq, Eq)]
+pub struct EventResult {
+    pub index: u32,
+    pub result: u32,
+}

@@ -1,0 +1,290 @@
+//! Replies whose numbers and bodies go together.
+ghost use Rattle.std.specs.Prelude.{◌≡◌, ◌≢◌, ◌<◌, MatchOption, IfOk, Ok, Err};
+ghost use Rattle.tb_records.specs.Messages.{status_code, operation, answered, answer_fault, has_reply_numbers, has_register_numbers, is_operation, kind_for, IsRight};
+
+use crate::bodies::ReplyBody;
+use crate::faults::FrameFault;
+use crate::requests::Request;
+use std::alloc::{AllocError, Global};
+use std::marker::Model;
+
+/// How a request fared.
+#[derive(Clone, Copy, Debug, PartialEq, Eq)]
+pub enum Status {
+    /// 0: the request stands in the history, and this is its reply.
+    Reply,
+    /// 1: the client has no session.
+    NoSession,
+    /// 2: the session is below the client's.
+    SessionTooLow,
+    /// 3: the session is above the client's.
+    NewerSession,
+    /// 4: the client's last request has a greater number.
+    Older,
+    /// 5: the client's last request has this number and another content.
+    Collision,
+    /// 6: requests before this one are missing.
+    NewerRequest,
+    /// 7: the request is new and not yet shown.
+    NotYet,
+}
+
+impl Status {
+    /// The number in a frame.
+    pub fn code(self) -> u8
+        ensures { result ≡ status_code self }
+    {
+        match self {
+            Status::Reply => 0,
+            Status::NoSession => 1,
+            Status::SessionTooLow => 2,
+            Status::NewerSession => 3,
+            Status::Older => 4,
+            Status::Collision => 5,
+            Status::NewerRequest => 6,
+            Status::NotYet => 7,
+        }
+    }
+
+    /// The status that has a number; None above 7.
+    pub fn from_code(code: u8) -> Option<Status>
+        ensures { MatchOption result (7 < code) (λ status. status_code status ≡ code) }
+    {
+        match code {
+            0 => Some(Status::Reply),
+            1 => Some(Status::NoSession),
+            2 => Some(Status::SessionTooLow),
+            3 => Some(Status::NewerSession),
+            4 => Some(Status::Older),
+            5 => Some(Status::Collision),
+            6 => Some(Status::NewerRequest),
+            7 => Some(Status::NotYet),
+            _ => None,
+        }
+    }
+}
+
+/// A reply to a request.
+#[derive(Drop)]
+pub struct Reply {
+    client: u128,
+    session: u64,
+    request: u32,
+    operation: u8,
+    status: Status,
+    commit: u64,
+    body: ReplyBody,
+}
+
+impl Model for Reply {
+    ghost use Rattle.tb_records.specs.Messages.{Answer, IsRight};
+
+    ghost Value = { Answer };
+
+    ghost view = { λ r. record { client = r.client; session = r.session; request = r.request; operation = r.operation; status = r.status; commit = r.commit; body = r.body } };
+
+    ghost invariant = { λ r. IsRight (record { client = r.client; session = r.session; request = r.request; operation = r.operation; status = r.status; commit = r.commit; body = r.body }) };
+}
+
+/// Says that an operation has this number.
+pub(crate) fn is_known(operation: u8) -> bool
+    ensures { result ≡ is_operation operation }
+{
+    operation == 2 || operation == 129 || operation == 130 || operation == 131 || operation == 132
+}
+
+/// The kind of body that the reply to an operation has: 0 none, 1 results, 2 accounts, 3 transfers.
+fn kind_of_reply(operation: u8) -> u8
+    ensures { result ≡ kind_for operation }
+{
+    match operation {
+        2 => 0,
+        131 => 2,
+        132 => 3,
+        _ => 1,
+    }
+}
+
+/// Says that a register's reply has request 0, and session 0 where it is a refusal.
+pub(crate) fn suits_register(status: u8, session: u64, request: u32) -> bool
+    ensures { result ≡ has_register_numbers status session request }
+{
+    request == 0 && (status == 0 || session == 0)
+}
+
+/// Says that a reply's session and commit number go together: a refusal has commit 0, the reply to a register has its
+/// commit as session, and any other reply a session before its commit.
+pub(crate) fn numbers_agree(operation: u8, status: u8, session: u64, commit: u64) -> bool
+    ensures { result ≡ has_reply_numbers operation status session commit }
+{
+    if status != 0 {
+        commit == 0
+    } else if operation == 2 {
+        session != 0 && session == commit
+    } else {
+        session != 0 && session < commit
+    }
+}
+
+impl Reply {
+    /// The first fault that the reply's frame would have, BadLength also where the body is not of the kind that the
+    /// operation and the status ask for; else the reply.
+    pub fn new(
+        client: u128,
+        session: u64,
+        request: u32,
+        operation: u8,
+        status: Status,
+        commit: u64,
+        body: ReplyBody,
+    ) -> Result<Reply, FrameFault>
+        ensures { let r = answered client session request operation status commit body in MatchOption (answer_fault r) (result ≡ Ok r) (λ f. result ≡ Err f) }
+    {
+        let code = status.code();
+        let suits = suits_register(code, session, request);
+        let agree = numbers_agree(operation, code, session, commit);
+        let kind = if code == 0 {
+            kind_of_reply(operation)
+        } else {
+            0
+        };
+        if client == 0 {
+            return Err(FrameFault::ClientZero);
+        }
+        if !is_known(operation) {
+            return Err(FrameFault::UnknownOperation);
+        }
+        if operation == 2 && !suits {
+            return Err(FrameFault::RegisterNumbers);
+        }
+        if operation != 2 && request == 0 {
+            return Err(FrameFault::RequestZero);
+        }
+        if !agree {
+            return Err(FrameFault::ReplyNumbers);
+        }
+        if body.kind() != kind {
+            return Err(FrameFault::BadLength);
+        }
+        if body.len() > 8190 {
+            return Err(FrameFault::TooMany);
+        }
+        Ok(Reply {
+            client,
+            session,
+            request,
+            operation,
+            status,
+            commit,
+            body,
+        })
+    }
+
+    /// A reply whose numbers and body go together.
+    pub(crate) fn lawful(
+        client: u128,
+        session: u64,
+        request: u32,
+        operation: u8,
+        status: Status,
+        commit: u64,
+        body: ReplyBody,
+    ) -> Reply
+        requires { IsRight (answered client session request operation status commit body) }
+        ensures { result ≡ answered client session request operation status commit body }
+    {
+        Reply {
+            client,
+            session,
+            request,
+            operation,
+            status,
+            commit,
+            body,
+        }
+    }
+
+    /// The refusal of a request: it names the client, the session, the number and the operation of the request, and has
+    /// commit 0 and no body.
+    pub fn refusal(request: &Request, status: Status) -> Reply
+        requires { status ≢ Status.Reply }
+        ensures { result ≡ answered request.now.client request.now.session request.now.request (operation request.now.body) status 0 ReplyBody.Empty }
+    {
+        let body = request.body();
+        Reply {
+            client: request.client(),
+            session: request.session(),
+            request: request.request(),
+            operation: body.operation(),
+            status,
+            commit: 0,
+            body: ReplyBody::Empty,
+        }
+    }
+
+    /// A reply equal to this one.
+    pub fn copy(&self, alloc: Global) -> Result<Reply, AllocError>
+        ensures { IfOk result (λ reply. reply ≡ self.now) }
+    {
+        let body = self.body.copy(alloc)?;
+        Ok(Reply {
+            client: self.client,
+            session: self.session,
+            request: self.request,
+            operation: self.operation,
+            status: self.status,
+            commit: self.commit,
+            body,
+        })
+    }
+
+    /// Who the reply is for.
+    pub fn client(&self) -> u128
+        ensures { result ≡ self.now.client }
+    {
+        self.client
+    }
+
+    /// The session of the client's row; of a register's reply the new session; of a refusal the request's.
+    pub fn session(&self) -> u64
+        ensures { result ≡ self.now.session }
+    {
+        self.session
+    }
+
+    /// The number of the request.
+    pub fn request(&self) -> u32
+        ensures { result ≡ self.now.request }
+    {
+        self.request
+    }
+
+    /// The number of the operation.
+    pub fn operation(&self) -> u8
+        ensures { result ≡ self.now.operation }
+    {
+        self.operation
+    }
+
+    /// How the request fared.
+    pub fn status(&self) -> Status
+        ensures { result ≡ self.now.status }
+    {
+        self.status
+    }
+
+    /// The number of the request's entry in the history, 0 of a refusal.
+    pub fn commit(&self) -> u64
+        ensures { result ≡ self.now.commit }
+    {
+        self.commit
+    }
+
+    /// What it answers.
+    pub fn body(&self) -> &ReplyBody
+        ensures value { result.now ≡ self.now.body }
+        ensures right { IsRight self.now }
+    {
+        &self.body
+    }
+}

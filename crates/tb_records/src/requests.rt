@@ -1,0 +1,104 @@
+//! Requests whose numbers keep the rules of sessions.
+ghost use Rattle.std.specs.Prelude.{◌≡◌, MatchOption, IfOk, Ok, Err};
+ghost use Rattle.tb_records.specs.Messages.{asked, number_fault, operation, IsLawful};
+
+use crate::bodies::Body;
+use crate::faults::FrameFault;
+use std::alloc::{AllocError, Global};
+use std::marker::Model;
+
+/// A request of a client: a register, or a numbered request of a session.
+#[derive(Drop)]
+pub struct Request {
+    client: u128,
+    session: u64,
+    request: u32,
+    body: Body,
+}
+
+impl Model for Request {
+    ghost use Rattle.tb_records.specs.Messages.{Message, IsLawful};
+
+    ghost Value = { Message };
+
+    ghost view = { λ r. record { client = r.client; session = r.session; request = r.request; body = r.body } };
+
+    ghost invariant = { λ r. IsLawful (record { client = r.client; session = r.session; request = r.request; body = r.body }) };
+}
+
+impl Request {
+    /// The first of ClientZero, RegisterNumbers (a register with session or request not 0), RequestZero (any other
+    /// with request 0) and TooMany (more than 8190 items) that holds; else the request.
+    pub fn new(client: u128, session: u64, request: u32, body: Body) -> Result<Request, FrameFault>
+        ensures { let r = asked client session request body in MatchOption (number_fault r) (result ≡ Ok r) (λ f. result ≡ Err f) }
+    {
+        let register = matches!(&body, Body::Register);
+        if client == 0 {
+            return Err(FrameFault::ClientZero);
+        }
+        if register && (session != 0 || request != 0) {
+            return Err(FrameFault::RegisterNumbers);
+        }
+        if !register && request == 0 {
+            return Err(FrameFault::RequestZero);
+        }
+        if body.len() > 8190 {
+            return Err(FrameFault::TooMany);
+        }
+        Ok(Request {
+            client,
+            session,
+            request,
+            body,
+        })
+    }
+
+    /// Who sent it.
+    pub fn client(&self) -> u128
+        ensures { result ≡ self.now.client }
+    {
+        self.client
+    }
+
+    /// The session, 0 of a register.
+    pub fn session(&self) -> u64
+        ensures { result ≡ self.now.session }
+    {
+        self.session
+    }
+
+    /// The number of the request in its session, 0 of a register.
+    pub fn request(&self) -> u32
+        ensures { result ≡ self.now.request }
+    {
+        self.request
+    }
+
+    /// The operation's number.
+    pub fn operation(&self) -> u8
+        ensures { result ≡ operation self.now.body }
+    {
+        self.body.operation()
+    }
+
+    /// What it asks for.
+    pub fn body(&self) -> &Body
+        ensures value { result.now ≡ self.now.body }
+        ensures lawful { IsLawful self.now }
+    {
+        &self.body
+    }
+
+    /// A request equal to this one.
+    pub fn copy(&self, alloc: Global) -> Result<Request, AllocError>
+        ensures { IfOk result (λ request. request ≡ self.now) }
+    {
+        let body = self.body.copy(alloc)?;
+        Ok(Request {
+            client: self.client,
+            session: self.session,
+            request: self.request,
+            body,
+        })
+    }
+}

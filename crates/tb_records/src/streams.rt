@@ -1,0 +1,215 @@
+//! Requests that are read from a stream, one by one.
+ghost use Rattle.std.specs.Prelude.{◌≡◌, ◌*◌, Some, None, Ok, Err, IfErr, OnOk, MatchResult};
+ghost use Rattle.tb_records.specs.Frames.{item_size};
+ghost use Rattle.tb_records.specs.HeaderFields.{code_of, body_length, HeaderAnswers, IsHeader, ReadsBody, ReadsRequest};
+ghost use Rattle.tb_records.specs.Inputs.{opened, fault_in, Answers, MomentAnswers, TimedAnswers};
+ghost use Rattle.tb_records.specs.Transport.{BodyFault, Rose};
+
+use crate::bodies::Body;
+use crate::devices::{Source, fill, items_from};
+use crate::encoding::u64_at;
+use crate::faults::FrameFault;
+use crate::headers::{Header, Operation, request_header};
+use crate::lists::Items;
+use crate::requests::Request;
+use std::alloc::Global;
+use std::marker::Model;
+
+/// The requests of a reader, one by one. After a fault it answers that fault and reads nothing.
+#[derive(Drop)]
+pub struct RequestStream<R: Source + Drop> {
+    source: R,
+    fault: Option<FrameFault>,
+}
+
+impl<R: Source + Drop> Model for RequestStream<R> {
+    ghost use Rattle.tb_records.specs.Inputs.{Stream};
+
+    ghost Value = { Stream R };
+
+    ghost view = { λ s. record { source = s.source; fault = s.fault } };
+}
+
+impl<R: Source + Drop> RequestStream<R> {
+    /// A stream over a reader. It reads nothing yet.
+    pub fn new(source: R) -> RequestStream<R>
+        ensures { result ≡ opened source }
+    {
+        RequestStream {
+            source,
+            fault: None,
+        }
+    }
+
+    /// The next request; None where the input ends before the first byte. Just the frame of what is answered is read;
+    /// after a fault of the header the body is unread. Device comes only where the reader answered an error.
+    pub fn next_request(&mut self, alloc: Global) -> Result<Option<Request>, FrameFault>
+        ensures again { (f : FrameFault) → self.old.fault ≡ Some f → (result ≡ Err f) × (self.new ≡ self.old) }
+        ensures answer { self.old.fault ≡ None → Answers result (R.left self.old.source) (R.left self.new.source) }
+        ensures counted { self.old.fault ≡ None → OnOk result (R.failed self.new.source ≡ R.failed self.old.source) }
+        ensures device { self.old.fault ≡ None → IfErr result (λ f. f ≡ FrameFault.Device → Rose (R.failed self.old.source) (R.failed self.new.source)) }
+        ensures keeps { self.old.fault ≡ None → self.new.fault ≡ fault_in result }
+    {
+        if let Some(fault) = self.fault {
+            return Err(fault);
+        }
+        let answer = request_from(alloc, &mut self.source);
+        if let Err(fault) = &answer {
+            self.fault = Some(*fault);
+        }
+        answer
+    }
+
+    /// The next moment of 8 bytes, and the request behind it; None where the input ends before the first byte. Short
+    /// where it ends in the moment or in the frame, or between the two.
+    pub fn next_timed(&mut self, alloc: Global) -> Result<Option<(u64, Request)>, FrameFault>
+        ensures again { (f : FrameFault) → self.old.fault ≡ Some f → (result ≡ Err f) × (self.new ≡ self.old) }
+        ensures answer { self.old.fault ≡ None → TimedAnswers result (R.left self.old.source) (R.left self.new.source) }
+        ensures counted { self.old.fault ≡ None → OnOk result (R.failed self.new.source ≡ R.failed self.old.source) }
+        ensures device { self.old.fault ≡ None → IfErr result (λ f. f ≡ FrameFault.Device → Rose (R.failed self.old.source) (R.failed self.new.source)) }
+        ensures keeps { self.old.fault ≡ None → self.new.fault ≡ fault_in result }
+    {
+        if let Some(fault) = self.fault {
+            return Err(fault);
+        }
+        let answer = read_timed_from(alloc, &mut self.source);
+        if let Err(fault) = &answer {
+            self.fault = Some(*fault);
+        }
+        answer
+    }
+
+    /// The reader, with what is unread.
+    pub fn into_source(self) -> R
+        ensures { result ≡ self.source }
+    {
+        let RequestStream { source, fault: _ } = self;
+        source
+    }
+}
+
+/// Reads the items of a body. The room for them is made before the first byte is read.
+#[tactic(auto, unfolding(crate::specs::Frames::body_bytes))]
+fn body_from<S: Source>(
+    alloc: Global,
+    source: &mut S,
+    operation: Operation,
+    count: usize,
+) -> Result<Body, FrameFault>
+    requires { code_of operation ≡ 2 → count ≡ 0 }
+    ensures { MatchResult result
+        (λ b. ReadsBody (code_of operation) count b (S.left source.old) (S.left source.new) (S.failed source.old) (S.failed source.new))
+        (λ f. BodyFault f (count * item_size (code_of operation)) (S.left source.old) (S.left source.new) (S.failed source.old) (S.failed source.new)) }
+{
+    match operation {
+        Operation::Register => Ok(Body::Register),
+        Operation::CreateAccounts => match items_from(alloc, source, count) {
+            Ok(events) => Ok(Body::CreateAccounts(Items::new(events))),
+            Err(fault) => Err(fault),
+        },
+        Operation::CreateTransfers => match items_from(alloc, source, count) {
+            Ok(events) => Ok(Body::CreateTransfers(Items::new(events))),
+            Err(fault) => Err(fault),
+        },
+        Operation::LookupAccounts => match items_from(alloc, source, count) {
+            Ok(ids) => Ok(Body::LookupAccounts(Items::new(ids))),
+            Err(fault) => Err(fault),
+        },
+        Operation::LookupTransfers => match items_from(alloc, source, count) {
+            Ok(ids) => Ok(Body::LookupTransfers(Items::new(ids))),
+            Err(fault) => Err(fault),
+        },
+    }
+}
+
+/// Reads the body behind a header, and makes the request.
+pub(crate) fn request_behind<S: Source>(
+    alloc: Global,
+    source: &mut S,
+    header: &Header,
+) -> Result<Request, FrameFault>
+    requires { IsHeader header.now }
+    ensures { MatchResult result
+        (λ r. ReadsRequest header.now r (S.left source.old) (S.left source.new) (S.failed source.old) (S.failed source.new))
+        (λ f. BodyFault f (body_length header.now) (S.left source.old) (S.left source.new) (S.failed source.old) (S.failed source.new)) }
+{
+    let body = match body_from(alloc, source, header.operation, header.count) {
+        Ok(body) => body,
+        Err(fault) => return Err(fault),
+    };
+    Request::new(header.client, header.session, header.request, body)
+}
+
+/// Reads a header and tests it. None where the input ends before the first byte.
+fn header_from<S: Source>(source: &mut S) -> Result<Option<Header>, FrameFault>
+    ensures answer { HeaderAnswers result (S.left source.old) (S.left source.new) (S.failed source.old) (S.failed source.new) }
+    ensures device { IfErr result (λ f. f ≡ FrameFault.Device → Rose (S.failed source.old) (S.failed source.new)) }
+{
+    let mut bytes = [0; 48];
+    let bytes: &mut [u8] = &mut bytes;
+    match fill(source, bytes) {
+        Ok(0) => return Ok(None),
+        Ok(n) if n < 48 => return Err(FrameFault::Short),
+        Ok(_) => {}
+        Err(fault) => return Err(fault),
+    }
+    match request_header(bytes) {
+        Ok(header) => Ok(Some(header)),
+        Err(fault) => Err(fault),
+    }
+}
+
+/// Reads one request. None where the input ends before the first byte.
+fn request_from<S: Source>(alloc: Global, source: &mut S) -> Result<Option<Request>, FrameFault>
+    ensures answer { Answers result (S.left source.old) (S.left source.new) }
+    ensures counted { OnOk result (S.failed source.new ≡ S.failed source.old) }
+    ensures device { IfErr result (λ f. f ≡ FrameFault.Device → Rose (S.failed source.old) (S.failed source.new)) }
+{
+    let header = match header_from(source) {
+        Ok(Some(header)) => header,
+        Ok(None) => return Ok(None),
+        Err(fault) => return Err(fault),
+    };
+    match request_behind(alloc, source, &header) {
+        Ok(request) => Ok(Some(request)),
+        Err(fault) => Err(fault),
+    }
+}
+
+/// Reads a moment of 8 bytes, and the request behind it. None where the input ends before the first byte; Short where it
+/// ends in the moment or in the frame, or between the two. Just the bytes of what is answered are read; after a fault of
+/// the header the body is unread.
+pub fn read_timed_from<R: Source>(
+    alloc: Global,
+    source: &mut R,
+) -> Result<Option<(u64, Request)>, FrameFault>
+    ensures answer { TimedAnswers result (R.left source.old) (R.left source.new) }
+    ensures counted { OnOk result (R.failed source.new ≡ R.failed source.old) }
+    ensures device { IfErr result (λ f. f ≡ FrameFault.Device → Rose (R.failed source.old) (R.failed source.new)) }
+{
+    let moment = match moment_from(source) {
+        Ok(Some(moment)) => moment,
+        Ok(None) => return Ok(None),
+        Err(fault) => return Err(fault),
+    };
+    match request_from(alloc, source) {
+        Ok(Some(request)) => Ok(Some((moment, request))),
+        Ok(None) => Err(FrameFault::Short),
+        Err(fault) => Err(fault),
+    }
+}
+
+/// Reads a moment. None where the input ends before the first byte.
+fn moment_from<S: Source>(source: &mut S) -> Result<Option<u64>, FrameFault>
+    ensures answer { MomentAnswers result (S.left source.old) (S.left source.new) (S.failed source.old) (S.failed source.new) }
+    ensures device { IfErr result (λ f. f ≡ FrameFault.Device → Rose (S.failed source.old) (S.failed source.new)) }
+{
+    let mut bytes = [0; 8];
+    let bytes: &mut [u8] = &mut bytes;
+    match fill(source, bytes) {
+        Ok(0) => Ok(None),
+        Ok(n) if n < 8 => Err(FrameFault::Short),
+        Ok(_) => Ok(Some(u64_at(bytes, 0))),
+        Err(fault) => Err(fault),
+    }
+}

@@ -1,0 +1,185 @@
+//! Requests and replies written as frames, to a vector or to a sink.
+ghost use Rattle.std.specs.Prelude.{◌≡◌, ◌≤◌, ◌+◌, ◌*◌, ◌++◌, length, vec_len, vec_capacity, OnOk, OnErr, MatchResult};
+ghost use Rattle.std.specs.List.{flat_map};
+ghost use Rattle.tb_records.specs.Frames.{header_bytes, body_bytes, request_bytes};
+ghost use Rattle.tb_records.specs.Messages.{operation, item_count, answer_count};
+ghost use Rattle.tb_records.specs.ReplyFrames.{header_of_reply, reply_body_bytes, reply_bytes};
+ghost use Rattle.tb_records.specs.Transport.{Sent, CutOff};
+
+use crate::bodies::{Body, ReplyBody};
+use crate::devices::{Sink, put_all, put_items};
+use crate::encoding::{put_u8, put_u16, put_u32, put_u64, put_u128};
+use crate::faults::FrameFault;
+use crate::layout::Item;
+use crate::replies::Reply;
+use crate::requests::Request;
+use std::alloc::AllocError;
+
+/// The header of a request before a body of this length.
+fn request_header(request: &Request, len: u32) -> [u8; 48]
+    ensures { result ≡ header_bytes request.now.client request.now.session request.now.request (operation request.now.body) len }
+{
+    let mut header = [0; 48];
+    put_u128(&mut header, 0, request.client());
+    put_u64(&mut header, 16, request.session());
+    put_u32(&mut header, 24, request.request());
+    put_u8(&mut header, 28, request.operation());
+    put_u8(&mut header, 29, 0);
+    put_u16(&mut header, 30, 0);
+    put_u32(&mut header, 32, len);
+    put_u64(&mut header, 36, 0);
+    put_u32(&mut header, 44, 0);
+    header
+}
+
+/// The header of a reply before a body of this length.
+fn reply_header(reply: &Reply, len: u32) -> [u8; 48]
+    ensures { result ≡ header_of_reply reply.now len }
+{
+    let mut header = [0; 48];
+    put_u128(&mut header, 0, reply.client());
+    put_u64(&mut header, 16, reply.session());
+    put_u32(&mut header, 24, reply.request());
+    put_u8(&mut header, 28, reply.operation());
+    put_u8(&mut header, 29, reply.status().code());
+    put_u16(&mut header, 30, 0);
+    put_u32(&mut header, 32, len);
+    put_u64(&mut header, 36, reply.commit());
+    put_u32(&mut header, 44, 0);
+    header
+}
+
+/// Appends the items to a vector that has room for them.
+fn append_items<T: Item>(items: &[T], out: &mut Vec<u8>)
+    requires { vec_len out.old + length (flat_map T.spelling items.now) ≤ vec_capacity out.old }
+    ensures { out.new.items ≡ out.old.items ++ flat_map T.spelling items.now }
+{
+    let mut bytes = [0; 128];
+    for item in items {
+        item.write(&mut bytes);
+        out.extend_from_slice(&bytes[..T::SIZE]).unwrap();
+    }
+}
+
+/// The number of bytes that a body of at most 8190 items has.
+#[tactic(auto, unfolding(crate::specs::Frames::body_bytes))]
+fn body_len(body: &Body) -> u32
+    requires { item_count body.now ≤ 8190 }
+    ensures { result ≡ length (body_bytes body.now) }
+{
+    match body {
+        Body::Register => 0,
+        Body::CreateAccounts(events) => items_len(events.as_slice()),
+        Body::CreateTransfers(events) => items_len(events.as_slice()),
+        Body::LookupAccounts(ids) => items_len(ids.as_slice()),
+        Body::LookupTransfers(ids) => items_len(ids.as_slice()),
+    }
+}
+
+/// The number of bytes that the body of a reply with at most 8190 items has.
+#[tactic(auto, unfolding(crate::specs::ReplyFrames::reply_body_bytes))]
+fn reply_body_len(body: &ReplyBody) -> u32
+    requires { answer_count body.now ≤ 8190 }
+    ensures { result ≡ length (reply_body_bytes body.now) }
+{
+    match body {
+        ReplyBody::Empty => 0,
+        ReplyBody::Results(results) => items_len(results.as_slice()),
+        ReplyBody::Accounts(accounts) => items_len(accounts.as_slice()),
+        ReplyBody::Transfers(transfers) => items_len(transfers.as_slice()),
+    }
+}
+
+/// The number of bytes that at most 8190 items have.
+fn items_len<T: Item>(items: &[T]) -> u32
+    requires { length items.now ≤ 8190 }
+    ensures { result ≡ length (flat_map T.spelling items.now) }
+{
+    (items.len() * T::SIZE) as u32
+}
+
+/// Appends a body to a vector that has room for it.
+#[tactic(auto, unfolding(crate::specs::Frames::body_bytes))]
+fn append_body(body: &Body, out: &mut Vec<u8>)
+    requires { vec_len out.old + length (body_bytes body.now) ≤ vec_capacity out.old }
+    ensures { out.new.items ≡ out.old.items ++ body_bytes body.now }
+{
+    match body {
+        Body::Register => {}
+        Body::CreateAccounts(events) => append_items(events.as_slice(), out),
+        Body::CreateTransfers(events) => append_items(events.as_slice(), out),
+        Body::LookupAccounts(ids) => append_items(ids.as_slice(), out),
+        Body::LookupTransfers(ids) => append_items(ids.as_slice(), out),
+    }
+}
+
+/// Appends the body of a reply to a vector that has room for it.
+#[tactic(auto, unfolding(crate::specs::ReplyFrames::reply_body_bytes))]
+fn append_reply_body(body: &ReplyBody, out: &mut Vec<u8>)
+    requires { vec_len out.old + length (reply_body_bytes body.now) ≤ vec_capacity out.old }
+    ensures { out.new.items ≡ out.old.items ++ reply_body_bytes body.now }
+{
+    match body {
+        ReplyBody::Empty => {}
+        ReplyBody::Results(results) => append_items(results.as_slice(), out),
+        ReplyBody::Accounts(accounts) => append_items(accounts.as_slice(), out),
+        ReplyBody::Transfers(transfers) => append_items(transfers.as_slice(), out),
+    }
+}
+
+/// Appends a request's frame. AllocError where there is no room for all of it: the vector keeps its bytes, and gets none.
+pub fn write_request(request: &Request, out: &mut Vec<u8>) -> Result<(), AllocError>
+    ensures ok { OnOk result (out.new.items ≡ out.old.items ++ request_bytes request.now) }
+    ensures err { OnErr result (out.new.items ≡ out.old.items) }
+{
+    let body = request.body();
+    let len = body_len(body);
+    out.reserve(48 + len as usize)?;
+    out.extend_from_slice(&request_header(request, len))
+        .unwrap();
+    append_body(body, out);
+    Ok(())
+}
+
+/// Appends a reply's frame. AllocError where there is no room for all of it: the vector keeps its bytes, and gets none.
+pub fn write_reply(reply: &Reply, out: &mut Vec<u8>) -> Result<(), AllocError>
+    ensures ok { OnOk result (out.new.items ≡ out.old.items ++ reply_bytes reply.now) }
+    ensures err { OnErr result (out.new.items ≡ out.old.items) }
+{
+    let body = reply.body();
+    let len = reply_body_len(body);
+    out.reserve(48 + len as usize)?;
+    out.extend_from_slice(&reply_header(reply, len)).unwrap();
+    append_reply_body(body, out);
+    Ok(())
+}
+
+/// Writes the body of a reply to a sink.
+#[tactic(auto, unfolding(crate::specs::ReplyFrames::reply_body_bytes))]
+fn send_body<W: Sink>(sink: &mut W, body: &ReplyBody) -> Result<(), FrameFault>
+    ensures { MatchResult result
+        (λ _. Sent (reply_body_bytes body.now) (W.written sink.old) (W.written sink.new) (W.failed sink.old) (W.failed sink.new) (W.stalled sink.old) (W.stalled sink.new))
+        (λ f. (f ≡ FrameFault.Device) × CutOff (reply_body_bytes body.now) (W.written sink.old) (W.written sink.new) (W.failed sink.old) (W.failed sink.new) (W.stalled sink.old) (W.stalled sink.new)) }
+{
+    match body {
+        ReplyBody::Empty => Ok(()),
+        ReplyBody::Results(results) => put_items(sink, results.as_slice()),
+        ReplyBody::Accounts(accounts) => put_items(sink, accounts.as_slice()),
+        ReplyBody::Transfers(transfers) => put_items(sink, transfers.as_slice()),
+    }
+}
+
+/// Writes a reply's frame to a sink. Device where the sink answers an error, or takes nothing of what is left: then a
+/// beginning of the frame went out.
+pub fn send_reply<W: Sink>(sink: &mut W, reply: &Reply) -> Result<(), FrameFault>
+    ensures { MatchResult result
+        (λ _. Sent (reply_bytes reply.now) (W.written sink.old) (W.written sink.new) (W.failed sink.old) (W.failed sink.new) (W.stalled sink.old) (W.stalled sink.new))
+        (λ f. (f ≡ FrameFault.Device) × CutOff (reply_bytes reply.now) (W.written sink.old) (W.written sink.new) (W.failed sink.old) (W.failed sink.new) (W.stalled sink.old) (W.stalled sink.new)) }
+{
+    let body = reply.body();
+    let len = reply_body_len(body);
+    match put_all(sink, &reply_header(reply, len)) {
+        Ok(()) => send_body(sink, body),
+        Err(fault) => Err(fault),
+    }
+}
