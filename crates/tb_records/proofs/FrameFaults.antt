@@ -1,13 +1,12 @@
 -- The first fault of a frame, by the fault of its header and its length.
-use Rattle.std.proofs.Common.{◌≡◌, ℕ, ◌+◌, ◌/◌, ◌%◌, ◌<◌, ◌≤◌, Bool, true, false, not, ◌&&◌, ◌==◌, nat_lt, List, [], ◌∷◌, ◌++◌, length, Option, Some, None, refl, sym, ap, ◌∙◌, arith}
+use Rattle.std.proofs.Common.{◌≡◌, ℕ, ◌+◌, ◌<◌, ◌≤◌, Bool, not, ◌&&◌, ◌==◌, nat_lt, List, [], ◌∷◌, ◌++◌, length, Some, None, ap, ◌∙◌, arith}
 use Rattle.std.proofs.lemmas.Bool.{lt-ltb, le-ltb}
 use Rattle.tb_records.specs.declared.faults.FrameFault.{FrameFault}
-use Rattle.tb_records.specs.declared.faults.FrameFault.TheVariants.{Short, ClientZero, UnknownOperation, Reserved, BadLength, TooMany, RegisterNumbers, RequestZero, Device, NoMemory, ReplyNumbers}
-use Rattle.tb_records.specs.Frames.{request_fault, header_fault, header_tests, length_tests, client_at, session_at, request_at, operation_at, length_at}
+use Rattle.tb_records.specs.declared.faults.FrameFault.TheVariants.{Short, ClientZero, UnknownOperation, Reserved, RegisterNumbers, RequestZero, Device, NoMemory}
+use Rattle.tb_records.specs.Frames.{request_fault, header_fault, header_tests, length_tests, length_at}
 use Rattle.tb_records.specs.Messages.{first_fault, is_operation}
-use Rattle.tb_records.specs.Numbers.{le_at}
 use Rattle.tb_records.proofs.NumberBytes.{le_at-append}
-use Rattle.tb_records.proofs.Tests.{first_fault-some, first_fault-none, first_fault_is, EachFault}
+use Rattle.tb_records.proofs.FirstFaults.{first_fault-some, first_fault-none, first_fault_is}
 
 -- the tests of a header, by its fields
 abbrev pub tests_of : ℕ → ℕ → ℕ → ℕ → ℕ → ℕ → ℕ → List (Bool × FrameFault)

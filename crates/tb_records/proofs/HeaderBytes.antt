@@ -1,7 +1,7 @@
 -- Headers: what their bytes say, and what bytes behind them leave alone.
-use Rattle.std.proofs.Common.{◌≡◌, ℕ, ◌+◌, ◌^◌, ◌<◌, ◌≤◌, List, ◌++◌, length, take, slice_index, replicate, None, refl, ap, ◌∙◌, arith}
+use Rattle.std.proofs.Common.{◌≡◌, ℕ, ◌^◌, ◌<◌, ◌≤◌, List, ◌++◌, length, take, slice_index, None, ap, ◌∙◌, arith}
 use Rattle.tb_records.specs.Numbers.{le_bytes, le_at}
-use Rattle.std.proofs.Common.{true, eq-eqb, Result, Ok, Err, MatchResult, OnOk, Some, ◌/◌, ◌*◌, ◌%◌, ◌==◌, not, ◌⊎◌, inl, inr, if◌then◌else◌, sym, subst}
+use Rattle.std.proofs.Common.{true, eq-eqb, Result, Ok, Err, MatchResult, OnOk, Some, ◌/◌, ◌*◌, ◌%◌, ◌==◌, not, inl, inr, if◌then◌else◌, sym, subst}
 use Rattle.std.proofs.Math.Nat.{div-add-mod', zero-div}
 use Rattle.std.proofs.lemmas.Bool.Decides.{eqb_tells}
 use Rattle.tb_records.specs.declared.faults.FrameFault.{FrameFault}
@@ -9,7 +9,7 @@ use Rattle.tb_records.specs.declared.headers.Header.{Header}
 use Rattle.tb_records.specs.Frames.{item_size, header_bytes, header_fault, header_tests, length_tests, client_at, session_at, request_at, operation_at, length_at}
 use Rattle.tb_records.specs.HeaderFields.{HeaderOf, HeaderSpelled, IsHeader, numbers_fault, numbers_tests, code_of}
 use Rattle.tb_records.proofs.NumberBytes.{le_at-spelled, le_at-fits, field_then}
-use Rattle.tb_records.proofs.Tests.{NoneHolds, none_each, all_none, both_zero, is_zero}
+use Rattle.tb_records.proofs.FirstFaults.{NoneHolds, none_each, all_none, both_zero, is_zero}
 
 -- the reserved bytes of a header without a fault are 0
 reserved_zero : (b : List ℕ) → header_fault b ≡ None → (le_at 3 29 b ≡ 0) × (le_at 12 36 b ≡ 0)

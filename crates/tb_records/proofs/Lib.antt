@@ -1,4 +1,5 @@
 pub mod ByKey
+pub mod FirstFaults
 pub mod FrameFaults
 pub mod HeaderBytes
 pub mod ItemBytes
@@ -15,5 +16,4 @@ pub mod Sendings
 pub mod SliceAnswers
 pub mod Spellings
 pub mod StreamAnswers
-pub mod Tests
 pub mod ZeroBytes

@@ -1,14 +1,12 @@
 -- The first fault of a reply's frame, by the fault of its header and its length.
-use Rattle.std.proofs.Common.{◌≡◌, ◌≢◌, ℕ, ◌+◌, ◌/◌, ◌<◌, ◌≤◌, Bool, true, false, not, ◌&&◌, ◌==◌, nat_lt, List, [], ◌∷◌, ◌++◌, length, Option, Some, None, Err, refl, sym, ap, ◌∙◌, arith}
+use Rattle.std.proofs.Common.{◌≡◌, ℕ, ◌+◌, ◌/◌, ◌<◌, ◌≤◌, Bool, not, ◌&&◌, ◌==◌, nat_lt, List, [], ◌∷◌, ◌++◌, length, Some, None, Err, ap, ◌∙◌}
 use Rattle.std.proofs.lemmas.Bool.{lt-ltb, le-ltb}
 use Rattle.tb_records.specs.declared.faults.FrameFault.{FrameFault}
 use Rattle.tb_records.specs.declared.faults.FrameFault.TheVariants.{Short, ClientZero, UnknownOperation, Reserved, BadLength, TooMany, RegisterNumbers, RequestZero, Device, NoMemory, ReplyNumbers}
-use Rattle.tb_records.specs.Frames.{client_at, session_at, request_at, operation_at, length_at}
+use Rattle.tb_records.specs.Frames.{length_at}
 use Rattle.tb_records.specs.Messages.{first_fault, is_operation, has_register_numbers, has_reply_numbers, items_max}
-use Rattle.tb_records.specs.Numbers.{le_at}
-use Rattle.tb_records.specs.ReplyFrames.{reply_fault, reply_header_fault, reply_header_tests, reply_item_size, has_reply_length, status_at, commit_at, FoundReply}
-use Rattle.tb_records.proofs.NumberBytes.{le_at-append}
-use Rattle.tb_records.proofs.Tests.{first_fault-some, first_fault-none, first_fault_is}
+use Rattle.tb_records.specs.ReplyFrames.{reply_fault, reply_header_fault, reply_header_tests, reply_item_size, has_reply_length, FoundReply}
+use Rattle.tb_records.proofs.FirstFaults.{first_fault-some, first_fault-none, first_fault_is}
 
 -- the tests of a header, by its fields
 abbrev pub reply_tests_of : ℕ → ℕ → ℕ → ℕ → ℕ → ℕ → ℕ → ℕ → ℕ → List (Bool × FrameFault)

@@ -1,16 +1,16 @@
 -- What is read from a slice, by where its reading ended.
-use Rattle.std.proofs.Common.{◌≡◌, ℕ, ◌+◌, ◌-◌, ◌<◌, ◌≤◌, List, [], ◌∷◌, ◌++◌, length, take, drop, Option, Some, None, Result, Ok, Err, refl, sym, ap, subst, ◌∙◌, arith, length-append, length-take, length-drop, append-nil}
+use Rattle.std.proofs.Common.{◌≡◌, ℕ, ◌+◌, ◌-◌, ◌<◌, ◌≤◌, List, [], ◌∷◌, ◌++◌, length, take, drop, Option, Some, None, Err, refl, sym, ap, ◌∙◌, arith, length-append, length-take, length-drop, append-nil}
 use Rattle.std.proofs.Math.Seq.{take-add}
 use Rattle.std.specs.List.{between}
 use Rattle.tb_records.specs.declared.faults.FrameFault.{FrameFault}
-use Rattle.tb_records.specs.declared.faults.FrameFault.TheVariants.{Short, Device, NoMemory}
+use Rattle.tb_records.specs.declared.faults.FrameFault.TheVariants.{Short, NoMemory}
 use Rattle.tb_records.specs.declared.headers.Header.{Header}
 use Rattle.tb_records.specs.Messages.{Message, operation}
-use Rattle.tb_records.specs.Frames.{header_bytes, body_bytes, request_fault, header_fault, length_at, Spells}
+use Rattle.tb_records.specs.Frames.{header_bytes, body_bytes, request_fault, header_fault, Spells}
 use Rattle.tb_records.specs.HeaderFields.{HeaderOf, HeaderSpelled, ReadsRequest}
 use Rattle.tb_records.specs.Inputs.{Found}
 use Rattle.tb_records.proofs.FrameFaults.{IsOfHeader, is_of_header, header_first, cut_body, whole_frame}
-use Rattle.tb_records.proofs.StreamAnswers.{header_of_request, length_of, length-body, read_length}
+use Rattle.tb_records.proofs.StreamAnswers.{header_of_request, read_length}
 
 -- the header has a fault
 pub bad_slice : (fault : FrameFault) (bytes : List ℕ) → 48 ≤ length bytes → header_fault bytes ≡ Some fault → Found (Err fault) bytes

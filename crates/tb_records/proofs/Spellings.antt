@@ -1,24 +1,23 @@
 -- What is spelled is read: the fields of a spelling, and that a spelling has no fault and begins no other.
-use Rattle.std.proofs.Common.{◌≡◌, ℕ, suc, ◌+◌, ◌*◌, ◌/◌, ◌%◌, ◌^◌, ◌<◌, ◌≤◌, Bool, true, false, not, ◌&&◌, ◌||◌, ◌==◌, nat_lt, List, [], ◌∷◌, ◌++◌, length, take, drop, replicate, flat_map, All, Option, Some, None, Result, Ok, Err, refl, sym, ap, subst, ◌∙◌, arith, length-append, length-take, append_assoc, take-append-drop, if◌then◌else◌}
+use Rattle.std.proofs.Common.{◌≡◌, ℕ, suc, ◌+◌, ◌*◌, ◌/◌, ◌%◌, ◌^◌, ◌<◌, ◌≤◌, false, not, ◌==◌, nat_lt, List, [], ◌∷◌, ◌++◌, length, take, drop, flat_map, All, None, Result, Ok, Err, refl, sym, ap, ◌∙◌, arith, length-append, length-take, append_assoc, take-append-drop}
 use Rattle.std.proofs.Math.Nat.{mul-mod_left, mul-div_left}
 use Rattle.std.proofs.lemmas.Bool.{ltb-false}
 use Rattle.tb_records.specs.declared.bodies.Body.{Body}
 use Rattle.tb_records.specs.declared.bodies.Body.TheVariants.{Register, CreateAccounts, CreateTransfers, LookupAccounts, LookupTransfers}
 use Rattle.tb_records.specs.declared.faults.FrameFault.{FrameFault}
-use Rattle.tb_records.specs.declared.faults.FrameFault.TheVariants.{Short, ClientZero, UnknownOperation, Reserved, BadLength, TooMany, RegisterNumbers, RequestZero, Device, NoMemory, ReplyNumbers}
-use Rattle.tb_records.specs.Messages.{Message, operation, item_count, is_operation, is_register, items_max, number_fault, IsLawful, first_fault}
+use Rattle.tb_records.specs.declared.faults.FrameFault.TheVariants.{NoMemory}
+use Rattle.tb_records.specs.Messages.{Message, operation, item_count, is_operation, IsLawful, first_fault}
 use Rattle.tb_records.specs.Numbers.{le_bytes, le_at}
 use Rattle.tb_records.specs.RecordBytes.{account_bytes, transfer_bytes, IsAccount, IsTransfer}
 use Rattle.tb_records.specs.Sizes.{length-le_bytes, length-account, length-transfer, length-id}
-use Rattle.tb_records.specs.Frames.{header_bytes, body_bytes, request_bytes, request_fault, header_fault, header_tests, length_tests, client_at, session_at, request_at, operation_at, length_at, item_size, IsRequest, Spells, BodyFits, IsId}
+use Rattle.tb_records.specs.Frames.{header_bytes, body_bytes, request_bytes, request_fault, header_fault, header_tests, length_tests, length_at, IsRequest, Spells, BodyFits, IsId}
 use Rattle.tb_records.specs.HeaderFields.{numbers_tests}
 use Rattle.tb_records.specs.Inputs.{Found, OnlyThis}
 use Rattle.tb_records.proofs.NumberBytes.{le_at-append, le_at-last, le_bytes-one, split_at}
 use Rattle.tb_records.proofs.OneSpelling.{one_account, one_transfer}
-use Rattle.tb_records.proofs.Pieces.{length-items}
 use Rattle.tb_records.proofs.StreamAnswers.{length-body}
 use Rattle.tb_records.proofs.FrameFaults.{tests_of, header_fault-append, length_at-append, whole_frame}
-use Rattle.tb_records.proofs.Tests.{NoneHolds, none_each, all_none}
+use Rattle.tb_records.proofs.FirstFaults.{NoneHolds, none_each, all_none}
 
 -- the fields that stand in the bytes of a header
 record Fields (b : List ℕ) (client session request code len : ℕ) : Type 0 where

@@ -1,22 +1,22 @@
 -- What a stream answers, by where its reading ended.
-use Rattle.std.proofs.Common.{◌≡◌, ℕ, ◌+◌, ◌*◌, ◌/◌, ◌^◌, ◌<◌, ◌≤◌, List, [], ◌∷◌, ◌++◌, length, take, drop, slice_index, Option, Some, None, Result, Ok, Err, refl, sym, ap, subst, ◌∙◌, arith, length-append, length-take, length-drop, drop_at, append_assoc, take_all}
-use Rattle.std.specs.Io.KnownBytes.{Consumes, Keeps, IsAtEnd}
+use Rattle.std.proofs.Common.{◌≡◌, ℕ, ◌+◌, ◌*◌, ◌/◌, ◌<◌, ◌≤◌, List, [], ◌++◌, length, take, drop, Option, Some, None, Ok, Err, refl, sym, ap, subst, ◌∙◌, arith, length-append, length-take, length-drop, drop_at, append_assoc, take_all}
+use Rattle.std.specs.Io.KnownBytes.{Consumes}
 use Rattle.tb_records.specs.declared.bodies.Body.{Body}
 use Rattle.tb_records.specs.declared.bodies.Body.TheVariants.{Register, CreateAccounts, CreateTransfers, LookupAccounts, LookupTransfers}
 use Rattle.tb_records.specs.declared.faults.FrameFault.{FrameFault}
-use Rattle.tb_records.specs.declared.faults.FrameFault.TheVariants.{Short, ClientZero, UnknownOperation, Reserved, BadLength, TooMany, RegisterNumbers, RequestZero, Device, NoMemory, ReplyNumbers}
+use Rattle.tb_records.specs.declared.faults.FrameFault.TheVariants.{Short, Device, NoMemory}
 use Rattle.tb_records.specs.declared.headers.Header.{Header}
 use Rattle.tb_records.specs.Messages.{Message, operation, item_count}
-use Rattle.tb_records.specs.Frames.{header_bytes, body_bytes, request_bytes, request_fault, header_fault, client_at, session_at, request_at, operation_at, length_at, header_tests, item_size, IsRequest}
-use Rattle.tb_records.specs.HeaderFields.{HeaderOf, HeaderSpelled, ReadsHeader, ReadsRequest, code_of, body_length}
-use Rattle.tb_records.specs.Inputs.{Faulted, TimedFaulted, Answered, Answers, TimedAnswers, ReadsMoment}
-use Rattle.tb_records.specs.Transport.{Rose, Filled, Lost, RunsOut, BodyFault, ReadFault}
+use Rattle.tb_records.specs.Frames.{header_bytes, body_bytes, request_fault, header_fault, operation_at, length_at, header_tests, item_size}
+use Rattle.tb_records.specs.HeaderFields.{HeaderOf, HeaderSpelled, ReadsHeader, ReadsRequest, body_length}
+use Rattle.tb_records.specs.Inputs.{Faulted, TimedFaulted, Answers, TimedAnswers, ReadsMoment}
+use Rattle.tb_records.specs.Transport.{Rose, Filled, Lost, BodyFault}
 use Rattle.tb_records.specs.Numbers.{le_bytes}
 use Rattle.tb_records.specs.RecordBytes.{account_bytes, transfer_bytes}
 use Rattle.tb_records.specs.Sizes.{length-le_bytes, length-account, length-transfer, length-id}
 use Rattle.tb_records.proofs.Pieces.{length-items, rose_since}
 use Rattle.tb_records.proofs.HeaderBytes.{right_length}
-use Rattle.tb_records.proofs.Tests.{none_each}
+use Rattle.tb_records.proofs.FirstFaults.{none_each}
 use Rattle.tb_records.proofs.FrameFaults.{IsOfHeader, is_of_header, cut_header, cut_body, header_first, header_fault-append, length_at-append}
 
 -- the input was at its end

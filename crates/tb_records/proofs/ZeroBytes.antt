@@ -1,5 +1,5 @@
 -- Headers that are written field after field.
-use Rattle.std.proofs.Common.{◌≡◌, ℕ, List, ◌++◌, length, take, replicate, refl, ap, ◌∙◌, append_assoc}
+use Rattle.std.proofs.Common.{◌≡◌, ℕ, List, ◌++◌, replicate, refl, append_assoc}
 use Rattle.tb_records.specs.Numbers.{le_bytes}
 
 -- two numbers of zeros are one row of zero bytes

@@ -1,5 +1,5 @@
 -- What a header without a fault says.
-use Rattle.std.specs.Prelude.{ℕ, length, Result, Ok, Err, Bool, ◌&&◌, ◌==◌, ◌*◌, not, nat_lt, [], ◌∷◌, take, ◌≡◌, ◌+◌, ◌/◌, ◌^◌, ◌<◌, ◌≤◌, List, Option, Some, None}
+use Rattle.std.specs.Prelude.{ℕ, length, Result, Ok, Err, Bool, ◌&&◌, ◌==◌, ◌*◌, not, nat_lt, [], ◌∷◌, take, ◌≡◌, ◌/◌, ◌^◌, ◌<◌, List, Option, Some, None}
 use Rattle.tb_records.specs.declared.headers.Operation.{Operation}
 use Rattle.tb_records.specs.declared.headers.Operation.TheVariants.{Register, CreateAccounts, CreateTransfers, LookupAccounts, LookupTransfers}
 use Rattle.tb_records.specs.declared.headers.Header.{Header}

@@ -1,7 +1,7 @@
 //! Replies read from bytes.
 ghost use Rattle.std.specs.Prelude.{◌≡◌, ◌≤◌, ◌*◌, ◌++◌, ℕ, List, Some, None, length, IsTrue, IfOk, MatchResult};
 ghost use Rattle.tb_records.specs.Messages.{Answer};
-ghost use Rattle.tb_records.specs.ReplyFrames.{reply_bytes, reply_fault, reply_header_fault, reply_item_size, has_reply_length, IsReply, SpellsReply, FoundReply, OnlyThisReply};
+ghost use Rattle.tb_records.specs.ReplyFrames.{reply_header_fault, reply_item_size, has_reply_length, SpellsReply, FoundReply, OnlyThisReply};
 ghost use Rattle.tb_records.specs.ReplyHeaders.{IsReplyHeader, IsReplyBody, SpelledItems};
 
 use crate::bodies::ReplyBody;
@@ -71,26 +71,14 @@ fn header_in(bytes: &[u8]) -> Result<ReplyHeader, FrameFault>
     if len / size > 8190 {
         return Err(FrameFault::TooMany);
     }
-    Ok(ReplyHeader {
-        client,
-        session,
-        request,
-        operation,
-        status,
-        commit,
-        len,
-    })
+    Ok(ReplyHeader { client, session, request, operation, status, commit, len })
 }
 
 /// The size of one item in the reply to an operation: a record, or a result.
 fn item_size(operation: u8) -> u32
     ensures { result ≡ reply_item_size operation }
 {
-    if operation == 131 || operation == 132 {
-        128
-    } else {
-        8
-    }
+    if operation == 131 || operation == 132 { 128 } else { 8 }
 }
 
 /// Says that the body of a reply may have this length.
@@ -151,27 +139,11 @@ fn read(alloc: Global, bytes: &[u8]) -> Result<(Reply, usize), FrameFault>
     if bytes.len() < end {
         return Err(FrameFault::Short);
     }
-    let body = match body_in(
-        alloc,
-        header.operation,
-        header.status.code(),
-        &bytes[48..end],
-    ) {
+    let body = match body_in(alloc, header.operation, header.status.code(), &bytes[48..end]) {
         Ok(body) => body,
         Err(_) => return Err(FrameFault::NoMemory),
     };
-    Ok((
-        Reply::lawful(
-            header.client,
-            header.session,
-            header.request,
-            header.operation,
-            header.status,
-            header.commit,
-            body,
-        ),
-        end,
-    ))
+    Ok((Reply::lawful(header.client, header.session, header.request, header.operation, header.status, header.commit, body), end))
 }
 
 /// The reply whose frame the bytes begin with, and the length of the frame; or the first fault, in the order of the
@@ -182,13 +154,3 @@ pub fn read_reply(alloc: Global, bytes: &[u8]) -> Result<(Reply, usize), FrameFa
 {
     read(alloc, bytes)
 }
-
-/// The frame of a reply has no fault, whatever stands behind it.
-pub fn spelled_reply_whole()
-    ensures { (r : Answer) (more : List ℕ) → IsReply r → reply_fault (reply_bytes r ++ more) ≡ None }
-{}
-
-/// No frame of a reply begins the frame of another one.
-pub fn one_reading_of_replies()
-    ensures { (r s : Answer) (x y : List ℕ) → IsReply r → IsReply s → reply_bytes r ++ x ≡ reply_bytes s ++ y → (r ≡ s) × (x ≡ y) }
-{}

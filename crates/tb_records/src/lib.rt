@@ -1,7 +1,7 @@
 //! Accounts, transfers, requests and replies of the ledger, as values and as bytes.
 #![tactic(auto)]
 
-mod answering;
+pub mod answering;
 pub mod bodies;
 pub mod devices;
 mod encoding;
@@ -14,11 +14,16 @@ pub mod lists;
 pub mod reading;
 pub mod records;
 pub mod replies;
+pub mod reply_laws;
+#[cfg(test)]
+mod reply_tests;
 pub mod requests;
 pub mod streams;
-mod writing;
+#[cfg(test)]
+mod tests;
+pub mod writing;
 
-pub use answering::{one_reading_of_replies, read_reply, spelled_reply_whole};
+pub use answering::read_reply;
 pub use bodies::{Body, ReplyBody};
 pub use devices::{Counting, Sink, Source};
 pub use faults::FrameFault;

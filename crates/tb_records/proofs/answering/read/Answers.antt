@@ -1,6 +1,5 @@
-use Rattle.std.proofs.Common.{◌≡◌, ◌+◌, ◌-◌, ◌<◌, ◌≤◌, length, take, drop, true, ap, ◌∙◌, subst, sym, arith}
+use Rattle.std.proofs.Common.{◌+◌, ◌-◌, ◌<◌, ◌≤◌, length, take, drop, ap, ◌∙◌, subst, sym, arith}
 use Rattle.tb_records.specs.Frames.{length_at}
-use Rattle.tb_records.specs.Messages.{status_code}
 use Rattle.tb_records.specs.ReplyFrames.{has_reply_length, SpellsReply}
 use Rattle.tb_records.specs.ReplyHeaders.{IsReplyBody}
 use Rattle.tb_records.proofs.ReplyFaults.{cut_reply_header, cut_reply_body, whole_reply, found_header_fault}

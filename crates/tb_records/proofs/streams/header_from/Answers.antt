@@ -1,5 +1,4 @@
-use Rattle.std.proofs.Common.{subst, arith, ap, ◌∙◌, take, take_all}
-use Rattle.std.specs.Io.KnownBytes.{Consumes}
+use Rattle.std.proofs.Common.{subst, arith}
 use Rattle.tb_records.proofs.FrameFaults.{IsOfHeader, is_of_header}
 use Rattle.tb_records.proofs.StreamAnswers.{short_header, faulty_header, whole_buffer}
 use Rattle.tb_records.proofs.streams.header_from.Goals as goal

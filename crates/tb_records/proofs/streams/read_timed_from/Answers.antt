@@ -1,4 +1,3 @@
-use Rattle.std.proofs.Common.{arith}
 use Rattle.tb_records.proofs.StreamAnswers.{no_frame, bad_frame}
 use Rattle.tb_records.proofs.streams.read_timed_from.Goals as goal
 

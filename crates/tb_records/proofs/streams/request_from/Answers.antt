@@ -1,4 +1,3 @@
-use Rattle.std.proofs.Common.{ap, sym, ◌∙◌}
 use Rattle.tb_records.proofs.HeaderBytes.{is_header}
 use Rattle.tb_records.proofs.StreamAnswers.{whole_request, faulty_body, lost_body}
 use Rattle.tb_records.proofs.streams.request_from.Goals as goal

@@ -1,7 +1,6 @@
 use Rattle.std.proofs.Common.{◌≤◌, length, arith}
 use Rattle.std.proofs.lemmas.List.{take_all}
-use Rattle.tb_records.specs.Numbers.{le_bytes}
-use Rattle.tb_records.specs.ReplyFrames.{header_of_reply, reply_header_bytes}
+use Rattle.tb_records.specs.ReplyFrames.{reply_header_bytes}
 use Rattle.tb_records.proofs.ZeroBytes.{zeros_2, zeros_4}
 use Rattle.tb_records.proofs.NumberBytes.{field_then}
 use Rattle.tb_records.proofs.writing.reply_header.Goals as goal

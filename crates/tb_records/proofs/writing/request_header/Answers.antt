@@ -1,6 +1,5 @@
-use Rattle.std.proofs.Common.{◌≤◌, ◌≡◌, List, ◌++◌, length, ◌∙◌, ap, arith}
+use Rattle.std.proofs.Common.{◌≤◌, length, ◌∙◌, arith}
 use Rattle.std.proofs.lemmas.List.{take_all}
-use Rattle.tb_records.specs.Numbers.{le_bytes}
 use Rattle.tb_records.specs.Frames.{header_bytes}
 use Rattle.tb_records.proofs.ZeroBytes.{zeros_3, zeros_12}
 use Rattle.tb_records.proofs.NumberBytes.{field_then}

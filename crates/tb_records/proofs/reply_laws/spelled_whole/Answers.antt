@@ -1,5 +1,5 @@
 use Rattle.tb_records.proofs.ReplyLaws.{spelled_whole}
-use Rattle.tb_records.proofs.answering.spelled_reply_whole.Goals as goal
+use Rattle.tb_records.proofs.reply_laws.spelled_whole.Goals as goal
 
 pub returns : goal.returns
 returns c = spelled_whole

@@ -1,0 +1,22 @@
+-- What holds of each row through an admission.
+use Rattle.std.proofs.Common.{◌≡◌, ℕ, ◌<◌, ◌+◌, Bool, true, false, cond, List, Option, Some, None, is_some, arith}
+use Rattle.tb_records.specs.Ordered.{Each, put, replaced}
+use Rattle.tb_records.proofs.ByKey.{each-map, each-put, each-replaced_all, each-taken_out}
+use Rattle.tb_sessions.specs.declared.rows.Row.{Row}
+use Rattle.tb_sessions.specs.Judged.{client_of, row_of}
+use Rattle.tb_sessions.specs.Admission.{driven_out, without, admitted}
+
+each_without : (P : Row → Type 0) (gone : Option Row) (rows : List Row) → Each P rows → Each P (without gone rows)
+each_without P None rows each = each
+each_without P (Some gone) rows each = each-taken_out client_of P (client_of gone) rows each
+
+pub each_admitted : (P : Row → Type 0) (clients_max : ℕ) (rows : List Row) (row : Row) → P row → Each P rows → Each P (admitted clients_max rows row)
+each_admitted P clients_max rows row here each =
+    elim (is_some (row_of rows (client_of row))) as (λ b. Each P (cond b (replaced client_of row rows) (put client_of row (without (driven_out clients_max rows) rows)))) [
+      | true ↦ each-replaced_all client_of P row rows here each
+      | false ↦ each-put client_of P row (without (driven_out clients_max rows) rows) here (each_without P (driven_out clients_max rows) rows each)
+    ]
+
+-- no row is later than the one that was taken in
+pub later_admitted : (clients_max : ℕ) (rows : List Row) (row : Row) (commit : ℕ) → row.commit ≡ commit → Each (λ (other : Row). other.commit < commit) rows → Each (λ (other : Row). other.commit < commit + 1) (admitted clients_max rows row)
+later_admitted clients_max rows row commit is each = each_admitted (λ (other : Row). other.commit < commit + 1) clients_max rows row (omega (arith, is)) (each-map (λ (other : Row). other.commit < commit) (λ (other : Row). other.commit < commit + 1) rows (λ other less. omega (arith, less)) each)

@@ -1,0 +1,22 @@
+//! How a request stands to its client's session.
+
+/// How a request stands to its client's session.
+#[derive(Clone, Copy, Debug, PartialEq, Eq)]
+pub enum Class {
+    /// To be executed: a register of a client without a session, or the request that follows the session's last.
+    New,
+    /// The session's last request again: to be answered by the stored reply.
+    Repeat,
+    /// The client has no session.
+    NoSession,
+    /// The session is below the client's.
+    SessionTooLow,
+    /// The session is above the client's.
+    NewerSession,
+    /// The session's last request has a greater number.
+    Older,
+    /// The session's last request has this number, and another operation or body.
+    Collision,
+    /// Requests before this one are missing.
+    NewerRequest,
+}

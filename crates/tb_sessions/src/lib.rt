@@ -1,0 +1,14 @@
+//! The sessions of clients: how a request stands to what its client sent last, and which session ends where there are
+//! too many.
+#![tactic(auto)]
+
+pub mod classes;
+pub mod rows;
+pub mod table;
+
+pub use classes::Class;
+pub use rows::Row;
+pub use table::Sessions;
+
+#[cfg(test)]
+mod tests;
