@@ -430,7 +430,7 @@ place_later : {X : Type 0} (key : X → ℕ) (y : X) (ys : List X) (id i : ℕ) 
 place_later key y ys id i place = record {
   within = omega (arith, place.within);
   before = λ j d less. place.before (suc j) d (omega arith);
-  here = λ d less. place.here d (omega arith)
+  here = λ d less. place.here d (omega arith);
 }
 
 -- the record there has the key: it is found

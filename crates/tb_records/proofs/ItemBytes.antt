@@ -11,7 +11,7 @@ length_items spelling size each (x ∷ xs) =
 
 -- one more item, read from the beginning of the rest
 pub row_more : {X : Type 0} (spelling : X → List ℕ) (xs : List X) (x : X) (front more rest whole : List ℕ)
-  → front ++ more ≡ rest → spelling x ≡ front → flat_map spelling xs ++ rest ≡ whole → flat_map spelling (xs ++ x ∷ []) ++ more ≡ whole
+    → front ++ more ≡ rest → spelling x ≡ front → flat_map spelling xs ++ rest ≡ whole → flat_map spelling (xs ++ x ∷ []) ++ more ≡ whole
 row_more spelling xs x front more rest whole cut same all =
     ap (λ (l : List ℕ). l ++ more) (sym (flat_map_more spelling [] xs x))
     ∙ append_assoc (flat_map spelling xs) (spelling x) more

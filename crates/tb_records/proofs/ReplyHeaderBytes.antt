@@ -45,7 +45,7 @@ reserved_zero b e =
     (is_zero (le_at 2 30 b) (ap not zeros.0), is_zero (le_at 4 44 b) (ap not zeros.1))
 
 fields_spelled : (b : List ℕ) → 48 ≤ length b → ((i : ℕ) → slice_index b i < 256) → reply_header_fault b ≡ None
-  → take 48 b ≡ reply_header_bytes (client_at b) (session_at b) (request_at b) (operation_at b) (status_at b) (length_at b) (commit_at b)
+    → take 48 b ≡ reply_header_bytes (client_at b) (session_at b) (request_at b) (operation_at b) (status_at b) (length_at b) (commit_at b)
 unfolding reply_header_bytes le_bytes
 fields_spelled b h fits sound =
     let zero = reserved_zero b sound in
@@ -62,7 +62,7 @@ fields_spelled b h fits sound =
 pub reply_header_spelled : (b : List ℕ) (h : ReplyHeader) → 48 ≤ length b → ((i : ℕ) → slice_index b i < 256) → IsReplyHeader b h → ReplyHeaderSpelled b h
 reply_header_spelled b h long fits of = record {
   bytes = fields_spelled b long fits of.none
-    ∙ sym (λ i. reply_header_bytes (of.client i) (of.session i) (of.request i) (of.operation i) (of.status i) (of.len i) (of.commit i));
+      ∙ sym (λ i. reply_header_bytes (of.client i) (of.session i) (of.request i) (of.operation i) (of.status i) (of.len i) (of.commit i));
   client = subst (λ (n : ℕ). n < 2 ^ 128) (sym of.client) (le_at-fits 16 0 b fits);
   session = subst (λ (n : ℕ). n < 2 ^ 64) (sym of.session) (le_at-fits 8 16 b fits);
   request = subst (λ (n : ℕ). n < 2 ^ 32) (sym of.request) (le_at-fits 4 24 b fits);
@@ -90,19 +90,19 @@ answer_tests_of client session request operation status commit kind count =
 
 -- a header without a fault, and a body of its kind and length: the reply's numbers go together
 pub header_right : (b : List ℕ) (h : ReplyHeader) (body : ReplyBody) (bytes : List ℕ) → IsReplyHeader b h → IsReplyBody h.operation (status_code h.status) body bytes → length bytes ≡ h.len
-  → IsRight (answered h.client h.session h.request h.operation h.status h.commit body)
+    → IsRight (answered h.client h.session h.request h.operation h.status h.commit body)
 unfolding reply_header_fault
 header_right b h body bytes of is long =
     let same : reply_tests_of h.client h.session h.request h.operation (status_code h.status) (le_at 2 30 b) h.len h.commit (le_at 4 44 b) ≡ reply_header_tests b =
-        λ i. reply_tests_of (of.client i) (of.session i) (of.request i) (of.operation i) (of.status i) (le_at 2 30 b) (of.len i) (of.commit i) (le_at 4 44 b) in
+    λ i. reply_tests_of (of.client i) (of.session i) (of.request i) (of.operation i) (of.status i) (le_at 2 30 b) (of.len i) (of.commit i) (le_at 4 44 b) in
     let tests : NoneHolds (reply_tests_of h.client h.session h.request h.operation (status_code h.status) (le_at 2 30 b) h.len h.commit (le_at 4 44 b)) =
-        none_each (reply_tests_of h.client h.session h.request h.operation (status_code h.status) (le_at 2 30 b) h.len h.commit (le_at 4 44 b)) (ap first_fault same ∙ of.none) in
+    none_each (reply_tests_of h.client h.session h.request h.operation (status_code h.status) (le_at 2 30 b) h.len h.commit (le_at 4 44 b)) (ap first_fault same ∙ of.none) in
     let kind = eq-eqb (kind_of body) (if status_code h.status == 0 then kind_for h.operation else 0) is.kind in
     let len : length (reply_body_bytes body) ≡ h.len = ap length is.spelled ∙ long in
     let count : h.len / reply_item_size h.operation ≡ answer_count body =
-        ap (λ n. n / reply_item_size h.operation) (sym len) ∙ row_count h.operation (status_code h.status) _ _ (is_row h.operation (status_code h.status) body is.kind) in
+    ap (λ n. n / reply_item_size h.operation) (sym len) ∙ row_count h.operation (status_code h.status) _ _ (is_row h.operation (status_code h.status) body is.kind) in
     all_none (answer_tests_of h.client h.session h.request h.operation (status_code h.status) h.commit (kind_of body) (answer_count body))
-      (tests.0, (tests.1.0, (tests.1.1.1.0, (tests.1.1.1.1.0, (tests.1.1.1.1.1.0, (ap not kind, (ap (λ n. nat_lt items_max n) (sym count) ∙ tests.1.1.1.1.1.1.1.0, tt)))))))
+    (tests.0, (tests.1.0, (tests.1.1.1.0, (tests.1.1.1.1.0, (tests.1.1.1.1.1.0, (ap not kind, (ap (λ n. nat_lt items_max n) (sym count) ∙ tests.1.1.1.1.1.1.1.0, tt)))))))
 
 -- the bytes of the body behind the header
 pub body_behind : (b : List ℕ) (n : ℕ) → 48 + n ≤ length b → length (take (48 + n - 48) (drop 48 b)) ≡ n
@@ -110,8 +110,8 @@ body_behind b n long = omega (arith, length-take (48 + n - 48) (drop 48 b), leng
 
 -- a header, and the body of its kind and length behind it: a reply
 pub found_reply : (b : List ℕ) (h : ReplyHeader) (body : ReplyBody) → ((i : ℕ) → slice_index b i < 256) → IsReplyHeader b h → 48 + h.len ≤ length b
-  → IsReplyBody h.operation (status_code h.status) body (take (48 + h.len - 48) (drop 48 b))
-  → SpellsReply (take (48 + h.len) b) (answered h.client h.session h.request h.operation h.status h.commit body)
+    → IsReplyBody h.operation (status_code h.status) body (take (48 + h.len - 48) (drop 48 b))
+    → SpellsReply (take (48 + h.len) b) (answered h.client h.session h.request h.operation h.status h.commit body)
 found_reply b h body fits of long is =
     let header = reply_header_spelled b h (omega arith) fits of in
     let same : 48 + h.len - 48 ≡ h.len = omega arith in
@@ -119,9 +119,9 @@ found_reply b h body fits of long is =
     let len : length (reply_body_bytes body) ≡ h.len = ap length is.spelled ∙ body_behind b h.len long in
     record {
       bytes_are = take-add 48 h.len b
-        ∙ ap (λ (l : List ℕ). take 48 b ++ l) (sym rest)
-        ∙ ap (λ (l : List ℕ). l ++ reply_body_bytes body) header.bytes
-        ∙ ap (λ (n : ℕ). reply_header_bytes h.client h.session h.request h.operation (status_code h.status) n h.commit ++ reply_body_bytes body) (sym len);
+          ∙ ap (λ (l : List ℕ). take 48 b ++ l) (sym rest)
+          ∙ ap (λ (l : List ℕ). l ++ reply_body_bytes body) header.bytes
+          ∙ ap (λ (n : ℕ). reply_header_bytes h.client h.session h.request h.operation (status_code h.status) n h.commit ++ reply_body_bytes body) (sym len);
       is = record {
         client = header.client;
         session = header.session;

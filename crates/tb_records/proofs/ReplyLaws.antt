@@ -81,6 +81,7 @@ row_small operation status len count (inr (b, e)) few = by (operation == 131 || 
   where
     at_most : count ≤ 8190
     at_most = ltb-false 8190 count few
+
     by : (x : Bool) → len ≡ (if x then 128 else 8) * count → len < 2 ^ 32
     by true e = omega (arith, at_most)
     by false e = omega (arith, at_most)
@@ -103,10 +104,10 @@ len_right r is = row_small r.operation (status_code r.status) _ (answer_count r.
 
 -- the fields of a spelled reply stand in its header
 places : (r : Answer) (more : List ℕ) → IsReply r
-  → ReplyPlaces (header_of_reply r (length (reply_body_bytes r.body)) ++ more) r.client r.session r.request r.operation (status_code r.status) (length (reply_body_bytes r.body)) r.commit
+    → ReplyPlaces (header_of_reply r (length (reply_body_bytes r.body)) ++ more) r.client r.session r.request r.operation (status_code r.status) (length (reply_body_bytes r.body)) r.commit
 places r more is =
     reply_places r.client r.session r.request r.operation (status_code r.status) (length (reply_body_bytes r.body)) r.commit more
-      is.client is.session is.request (operation_small r.operation (is_true _ (right_each r is).1.0)) (status_small r.status) (len_right r is) is.commit
+    is.client is.session is.request (operation_small r.operation (is_true _ (right_each r is).1.0)) (status_small r.status) (len_right r is) is.commit
 
 -- the header of a spelled reply has no fault
 spelled_header : (r : Answer) (more : List ℕ) → IsReply r → reply_header_fault (header_of_reply r (length (reply_body_bytes r.body)) ++ more) ≡ None
@@ -118,13 +119,13 @@ spelled_header r more is =
     let t = right_each r is in
     let row = row_right r is in
     let same : reply_header_tests (header_of_reply r len ++ more) ≡ reply_tests_of r.client r.session r.request r.operation code 0 len r.commit 0 =
-        λ i. reply_tests_of (p.client_is i) (p.session_is i) (p.request_is i) (p.operation_is i) (p.status_is i) (p.low_is i) (p.len_is i) (p.commit_is i) (p.high_is i) in
+    λ i. reply_tests_of (p.client_is i) (p.session_is i) (p.request_is i) (p.operation_is i) (p.status_is i) (p.low_is i) (p.len_is i) (p.commit_is i) (p.high_is i) in
     let known : not (nat_lt code 8 && true && true) ≡ false = ap (λ x. not (x && true && true)) (status_known r.status) in
     let few : nat_lt items_max (len / reply_item_size r.operation) ≡ false =
-        ap (λ n. nat_lt items_max n) (row_count r.operation code len (answer_count r.body) row) ∙ t.1.1.1.1.1.1.0 in
+    ap (λ n. nat_lt items_max n) (row_count r.operation code len (answer_count r.body) row) ∙ t.1.1.1.1.1.1.0 in
     ap first_fault same
     ∙ all_none (reply_tests_of r.client r.session r.request r.operation code 0 len r.commit 0)
-      (t.0, (t.1.0, (known, (t.1.1.0, (t.1.1.1.0, (t.1.1.1.1.0, (ap not (row_length r.operation code len (answer_count r.body) row), (few, tt))))))))
+    (t.0, (t.1.0, (known, (t.1.1.0, (t.1.1.1.0, (t.1.1.1.1.0, (ap not (row_length r.operation code len (answer_count r.body) row), (few, tt))))))))
 
 -- what is spelled has no fault, whatever stands behind it
 pub spelled_whole : (r : Answer) (more : List ℕ) → IsReply r → reply_fault (reply_bytes r ++ more) ≡ None
@@ -134,16 +135,16 @@ spelled_whole r more is =
     let b = header_of_reply r len ++ rest in
     let p = places r rest is in
     let long : length b ≡ 48 + (len + length more) =
-        length-append (header_of_reply r len) rest
-        ∙ ap (λ (n : ℕ). n + length rest) (length-reply_header r.client r.session r.request r.operation (status_code r.status) len r.commit)
-        ∙ ap (λ (n : ℕ). 48 + n) (length-append (reply_body_bytes r.body) more) in
+    length-append (header_of_reply r len) rest
+    ∙ ap (λ (n : ℕ). n + length rest) (length-reply_header r.client r.session r.request r.operation (status_code r.status) len r.commit)
+    ∙ ap (λ (n : ℕ). 48 + n) (length-append (reply_body_bytes r.body) more) in
     ap reply_fault (append_assoc (header_of_reply r len) (reply_body_bytes r.body) more)
     ∙ whole_reply b (omega arith) (spelled_header r rest is) (omega (arith, p.len_is))
 
 -- items of one size, each of which has one spelling
 items_one : {X : Type 0} (spelling : X → List ℕ) (Fits : X → Type 0) (size : ℕ) → ((x : X) → length (spelling x) ≡ size) → 0 < size
-  → ((x y : X) → Fits x → Fits y → spelling x ≡ spelling y → x ≡ y)
-  → (xs ys : List X) → All Fits xs → All Fits ys → flat_map spelling xs ≡ flat_map spelling ys → xs ≡ ys
+    → ((x y : X) → Fits x → Fits y → spelling x ≡ spelling y → x ≡ y)
+    → (xs ys : List X) → All Fits xs → All Fits ys → flat_map spelling xs ≡ flat_map spelling ys → xs ≡ ys
 items_one spelling Fits size each h one [] [] fx fy e = refl
 items_one spelling Fits size each h one [] (y ∷ ys) fx fy e =
     absurd (omega (arith, ap length e, length-append (spelling y) (flat_map spelling ys), each y))
@@ -172,7 +173,7 @@ one_reading r s x y ir is e =
     let br = reply_body_bytes r.body in
     let bs = reply_body_bytes s.body in
     let all : header_of_reply r lr ++ (br ++ x) ≡ header_of_reply s ls ++ (bs ++ y) =
-        sym (append_assoc (header_of_reply r lr) br x) ∙ e ∙ append_assoc (header_of_reply s ls) bs y in
+    sym (append_assoc (header_of_reply r lr) br x) ∙ e ∙ append_assoc (header_of_reply s ls) bs y in
     let p = places r (br ++ x) ir in
     let q = places s (bs ++ y) is in
     let client : r.client ≡ s.client = sym p.client_is ∙ ap client_at all ∙ q.client_is in
@@ -184,28 +185,29 @@ one_reading r s x y ir is e =
     let commit : r.commit ≡ s.commit = sym p.commit_is ∙ ap commit_at all ∙ q.commit_is in
     let len : lr ≡ ls = sym p.len_is ∙ ap length_at all ∙ q.len_is in
     let heads : length (header_of_reply r lr) ≡ length (header_of_reply s ls) =
-        length-reply_header r.client r.session r.request r.operation (status_code r.status) lr r.commit
-        ∙ sym (length-reply_header s.client s.session s.request s.operation (status_code s.status) ls s.commit) in
+    length-reply_header r.client r.session r.request r.operation (status_code r.status) lr r.commit
+    ∙ sym (length-reply_header s.client s.session s.request s.operation (status_code s.status) ls s.commit) in
     let behind = split_at (header_of_reply r lr) (header_of_reply s ls) (br ++ x) (bs ++ y) heads all in
     let bodies = split_at br bs x y len behind.1 in
     let kind : kind_of r.body ≡ kind_of s.body =
-        kind_right r ir ∙ (λ i. if code i == 0 then kind_for (operation i) else 0) ∙ sym (kind_right s is) in
-    let body : r.body ≡ s.body = body_one r.body s.body kind ir.body is.body bodies.0 in
-    ( (λ i. record { client = client i; session = session i; request = request i; operation = operation i; status = status i; commit = commit i; body = body i })
-    , bodies.1 )
+    kind_right r ir ∙ (λ i. if code i == 0 then kind_for (operation i) else 0) ∙ sym (kind_right s is) in
+    let body : r.body ≡ s.body = body_one r.body s.body kind ir.body is.body bodies.0 in (
+      (λ i. record { client = client i; session = session i; request = request i; operation = operation i; status = status i; commit = commit i; body = body i }),
+      bodies.1,
+    )
 
 -- where the bytes begin with the spelling of a reply, a reader answers no other reply
 pub only_this : (result : Result (Answer × ℕ) FrameFault) (b : List ℕ) → FoundReply result b
-  → (r : Answer) (front rest : List ℕ) → SpellsReply front r → b ≡ front ++ rest → OnlyThisReply result r (length front)
+    → (r : Answer) (front rest : List ℕ) → SpellsReply front r → b ≡ front ++ rest → OnlyThisReply result r (length front)
 only_this (Ok (s, n)) b found r front rest is e =
     let spelled : reply_bytes s ++ drop n b ≡ reply_bytes r ++ rest =
-        ap (λ (l : List ℕ). l ++ drop n b) (sym found.1.bytes_are) ∙ take-append-drop n b ∙ e ∙ ap (λ (l : List ℕ). l ++ rest) is.bytes_are in
+    ap (λ (l : List ℕ). l ++ drop n b) (sym found.1.bytes_are) ∙ take-append-drop n b ∙ e ∙ ap (λ (l : List ℕ). l ++ rest) is.bytes_are in
     let same : s ≡ r = (one_reading s r (drop n b) rest found.1.is is.is spelled).0 in
     let len : n ≡ length front =
-        sym (length-take-le n b found.0) ∙ ap length found.1.bytes_are ∙ ap (λ (a : Answer). length (reply_bytes a)) same ∙ ap length (sym is.bytes_are) in
+    sym (length-take-le n b found.0) ∙ ap length found.1.bytes_are ∙ ap (λ (a : Answer). length (reply_bytes a)) same ∙ ap length (sym is.bytes_are) in
     (same, len)
 only_this (Err NoMemory) b found r front rest is e = tt
 only_this (Err f) b found r front rest is e =
     let none : reply_fault b ≡ None =
-        ap reply_fault (e ∙ ap (λ (l : List ℕ). l ++ rest) is.bytes_are) ∙ spelled_whole r rest is.is in
+    ap reply_fault (e ∙ ap (λ (l : List ℕ). l ++ rest) is.bytes_are) ∙ spelled_whole r rest is.is in
     cc

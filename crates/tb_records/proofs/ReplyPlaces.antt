@@ -25,8 +25,8 @@ unfolding reply_header_bytes
 length-reply_header client session request operation status len commit = simp (length-append, length-le_bytes)
 
 pub reply_places : (client session request operation status len commit : ℕ) (more : List ℕ)
-  → client < 2 ^ 128 → session < 2 ^ 64 → request < 2 ^ 32 → operation < 2 ^ 8 → status < 2 ^ 8 → len < 2 ^ 32 → commit < 2 ^ 64
-  → ReplyPlaces (reply_header_bytes client session request operation status len commit ++ more) client session request operation status len commit
+    → client < 2 ^ 128 → session < 2 ^ 64 → request < 2 ^ 32 → operation < 2 ^ 8 → status < 2 ^ 8 → len < 2 ^ 32 → commit < 2 ^ 64
+    → ReplyPlaces (reply_header_bytes client session request operation status len commit ++ more) client session request operation status len commit
 unfolding reply_header_bytes
 reply_places client session request operation status len commit more fc fs fr fo ft fl fm =
     let h1 : List ℕ = le_bytes 16 client in

@@ -27,8 +27,9 @@ body_length (Transfers transfers) = length_items transfer_bytes 128 length-trans
 size_for : (operation : ℕ) → reply_item_size operation ≡ size_of (kind_for operation)
 size_for operation =
     elim (eqb_tells operation 2) [
-      inl (b, e) ↦ subst (λ n. reply_item_size n ≡ size_of (kind_for n)) (sym e) refl
-    | inr (b, n) ↦ others (operation == 131) (operation == 132) ∙ ap (λ t. size_of (if t then 0 else if operation == 131 then 2 else if operation == 132 then 3 else 1)) (sym b) ]
+      | inl (b, e) ↦ subst (λ n. reply_item_size n ≡ size_of (kind_for n)) (sym e) refl
+      | inr (b, n) ↦ others (operation == 131) (operation == 132) ∙ ap (λ t. size_of (if t then 0 else if operation == 131 then 2 else if operation == 132 then 3 else 1)) (sym b)
+    ]
   where
     others : (x y : Bool) → (if x || y then 128 else 8) ≡ size_of (if x then 2 else if y then 3 else 1)
     others true y = refl
@@ -60,17 +61,19 @@ row_by : (operation status kind len count : ℕ) → len ≡ size_of kind * coun
 row_by operation status kind len count el ec e =
     let none : kind ≡ 0 → (len ≡ 0) × (count ≡ 0) = λ z. (el ∙ ap (λ n. size_of kind * n) (ec z) ∙ omega arith, ec z) in
     elim (eqb_tells status 0) [
-      inl (b, z) ↦
-        let same : kind ≡ kind_for operation = e ∙ ap (λ t. if t then kind_for operation else 0) b in
-        elim (eqb_tells operation 2) [
-          inl (c, two) ↦
-            let zero = none (same ∙ ap kind_for two) in
-            inl (ap (λ t. t && not (operation == 2)) b ∙ ap not c, zero.0, zero.1)
-        | inr (c, n) ↦
-            inr (ap (λ t. t && not (operation == 2)) b ∙ ap not c, el ∙ ap (λ k. size_of k * count) same ∙ ap (λ n. n * count) (sym (size_for operation))) ]
-    | inr (b, n) ↦
-        let zero = none (e ∙ ap (λ t. if t then kind_for operation else 0) b) in
-        inl (ap (λ t. t && not (operation == 2)) b, zero.0, zero.1) ]
+      | inl (b, z) ↦
+          let same : kind ≡ kind_for operation = e ∙ ap (λ t. if t then kind_for operation else 0) b in
+          elim (eqb_tells operation 2) [
+            | inl (c, two) ↦
+                let zero = none (same ∙ ap kind_for two) in
+                inl (ap (λ t. t && not (operation == 2)) b ∙ ap not c, zero.0, zero.1)
+            | inr (c, n) ↦
+                inr (ap (λ t. t && not (operation == 2)) b ∙ ap not c, el ∙ ap (λ k. size_of k * count) same ∙ ap (λ n. n * count) (sym (size_for operation)))
+          ]
+      | inr (b, n) ↦
+          let zero = none (e ∙ ap (λ t. if t then kind_for operation else 0) b) in
+          inl (ap (λ t. t && not (operation == 2)) b, zero.0, zero.1)
+    ]
 
 -- the body of the kind that the operation and the status ask for is such a row
 pub is_row : (operation status : ℕ) (body : ReplyBody) → kind_of body ≡ (if status == 0 then kind_for operation else 0) → IsRow operation status (length (reply_body_bytes body)) (answer_count body)

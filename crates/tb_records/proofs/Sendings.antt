@@ -31,21 +31,21 @@ module _ (xs ys : List ℕ) (a b c : Option (List ℕ)) (f g h s t u : ℕ) wher
 
   -- the first part was sent, and the second as the result says
   pub sent_rest : (whole : List ℕ) → xs ++ ys ≡ whole → Sent xs a b f g s t
-    → (r : Result (Unit {0}) FrameFault)
-    → MatchResult r (λ _. Sent ys b c g h t u) (λ e. (e ≡ Device) × CutOff ys b c g h t u)
-    → MatchResult r (λ _. Sent whole a c f h s u) (λ e. (e ≡ Device) × CutOff whole a c f h s u)
+      → (r : Result (Unit {0}) FrameFault)
+      → MatchResult r (λ _. Sent ys b c g h t u) (λ e. (e ≡ Device) × CutOff ys b c g h t u)
+      → MatchResult r (λ _. Sent whole a c f h s u) (λ e. (e ≡ Device) × CutOff whole a c f h s u)
   sent_rest whole e one (Ok x) two = subst (λ (l : List ℕ). Sent l a c f h s u) e (sent_both one two)
   sent_rest whole e one (Err fault) two = (two.0, subst (λ (l : List ℕ). CutOff l a c f h s u) e (sent_some one two.1))
 
 beginning : (n : ℕ) (xs ys : List ℕ) → take (min n (length xs)) (xs ++ ys) ≡ take n xs
 beginning n xs ys =
     elim (cases_lt (length xs) n) [
-      inl h ↦
-        let e : min n (length xs) ≡ length xs = omega arith in
-        ap (λ (k : ℕ). take k (xs ++ ys)) e ∙ take-append_seam xs ys ∙ sym (take_all n xs (omega arith))
-    | inr h ↦
-        let e : min n (length xs) ≡ n = omega arith in
-        ap (λ (k : ℕ). take k (xs ++ ys)) e ∙ take-append-le n xs ys h
+      | inl h ↦
+          let e : min n (length xs) ≡ length xs = omega arith in
+          ap (λ (k : ℕ). take k (xs ++ ys)) e ∙ take-append_seam xs ys ∙ sym (take_all n xs (omega arith))
+      | inr h ↦
+          let e : min n (length xs) ≡ n = omega arith in
+          ap (λ (k : ℕ). take k (xs ++ ys)) e ∙ take-append-le n xs ys h
     ]
 
 -- a beginning of the first part was sent
@@ -58,7 +58,7 @@ sent_few xs ys whole a b f g s t e one = subst (λ (l : List ℕ). CutOff l a b 
 
 -- the header before the length of the body, and the body
 pub reply_frame : (r : Answer) (header : List ℕ) (len : ℕ) (body : ReplyBody) → header ≡ header_of_reply r len → len ≡ length (reply_body_bytes body) → body ≡ r.body
-  → header ++ reply_body_bytes body ≡ reply_bytes r
+    → header ++ reply_body_bytes body ≡ reply_bytes r
 reply_frame r header len body eh el eb =
     ap (λ (l : List ℕ). l ++ reply_body_bytes body) (eh ∙ ap (header_of_reply r) el)
     ∙ ap (λ (b : ReplyBody). header_of_reply r (length (reply_body_bytes b)) ++ reply_body_bytes b) eb

@@ -71,14 +71,26 @@ fn header_in(bytes: &[u8]) -> Result<ReplyHeader, FrameFault>
     if len / size > 8190 {
         return Err(FrameFault::TooMany);
     }
-    Ok(ReplyHeader { client, session, request, operation, status, commit, len })
+    Ok(ReplyHeader {
+        client,
+        session,
+        request,
+        operation,
+        status,
+        commit,
+        len,
+    })
 }
 
 /// The size of one item in the reply to an operation: a record, or a result.
 fn item_size(operation: u8) -> u32
     ensures { result ≡ reply_item_size operation }
 {
-    if operation == 131 || operation == 132 { 128 } else { 8 }
+    if operation == 131 || operation == 132 {
+        128
+    } else {
+        8
+    }
 }
 
 /// Says that the body of a reply may have this length.
@@ -139,11 +151,27 @@ fn read(alloc: Global, bytes: &[u8]) -> Result<(Reply, usize), FrameFault>
     if bytes.len() < end {
         return Err(FrameFault::Short);
     }
-    let body = match body_in(alloc, header.operation, header.status.code(), &bytes[48..end]) {
+    let body = match body_in(
+        alloc,
+        header.operation,
+        header.status.code(),
+        &bytes[48..end],
+    ) {
         Ok(body) => body,
         Err(_) => return Err(FrameFault::NoMemory),
     };
-    Ok((Reply::lawful(header.client, header.session, header.request, header.operation, header.status, header.commit, body), end))
+    Ok((
+        Reply::lawful(
+            header.client,
+            header.session,
+            header.request,
+            header.operation,
+            header.status,
+            header.commit,
+            body,
+        ),
+        end,
+    ))
 }
 
 /// The reply whose frame the bytes begin with, and the length of the frame; or the first fault, in the order of the

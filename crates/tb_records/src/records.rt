@@ -85,9 +85,9 @@ impl Transfer {
     pub fn to_bytes(&self) -> [u8; 128]
         ensures { result ≡ transfer_bytes self.now }
     {
-        let mut out = [0; 128];
-        self.write(&mut out);
-        out
+        let mut bytes = [0; 128];
+        self.write(&mut bytes);
+        bytes
     }
 
     /// The transfer that the bytes spell. Any 128 bytes spell one, and only one.

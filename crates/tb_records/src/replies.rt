@@ -181,11 +181,27 @@ impl Reply {
     }
 
     /// A reply whose numbers and body go together.
-    pub(crate) fn lawful(client: u128, session: u64, request: u32, operation: u8, status: Status, commit: u64, body: ReplyBody) -> Reply
+    pub(crate) fn lawful(
+        client: u128,
+        session: u64,
+        request: u32,
+        operation: u8,
+        status: Status,
+        commit: u64,
+        body: ReplyBody,
+    ) -> Reply
         requires { IsRight (answered client session request operation status commit body) }
         ensures { result ≡ answered client session request operation status commit body }
     {
-        Reply { client, session, request, operation, status, commit, body }
+        Reply {
+            client,
+            session,
+            request,
+            operation,
+            status,
+            commit,
+            body,
+        }
     }
 
     /// The refusal of a request: it names the client, the session, the number and the operation of the request, and has

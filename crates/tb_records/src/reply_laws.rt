@@ -6,11 +6,9 @@ ghost use Rattle.tb_records.specs.ReplyFrames.{reply_bytes, reply_fault, IsReply
 /// The frame of a reply has no fault, whatever stands behind it.
 pub fn spelled_whole()
     ensures { (r : Answer) (more : List ℕ) → IsReply r → reply_fault (reply_bytes r ++ more) ≡ None }
-{
-}
+{}
 
 /// Each reply has one frame, and no frame begins another one.
 pub fn one_reading()
     ensures { (r s : Answer) (x y : List ℕ) → IsReply r → IsReply s → reply_bytes r ++ x ≡ reply_bytes s ++ y → (r ≡ s) × (x ≡ y) }
-{
-}
+{}

@@ -113,7 +113,15 @@ fn registered() -> Result<Reply, FrameFault> {
 /// The reply to the lookup of accounts 2, 9 and 1.
 fn found(alloc: Global) -> Result<Reply, Fail> {
     let accounts = [account(2, 12), account(1, 11)].to_vec(alloc)?;
-    Ok(Reply::new(7, 1, 2, 131, Status::Reply, 3, ReplyBody::Accounts(Items::new(accounts)))?)
+    Ok(Reply::new(
+        7,
+        1,
+        2,
+        131,
+        Status::Reply,
+        3,
+        ReplyBody::Accounts(Items::new(accounts)),
+    )?)
 }
 
 /// The frame of that reply.
@@ -135,8 +143,16 @@ fn both_ways(rt: &impl Abort, alloc: Global, reply: &Reply, bytes: &[u8]) -> Res
     assert!(rt; sink.into_inner().as_slice() == bytes);
     let (read, n) = read_reply(alloc, bytes)?;
     assert!(rt; n == bytes.len());
-    assert!(rt; read.client() == reply.client() && read.session() == reply.session() && read.request() == reply.request());
-    assert!(rt; read.operation() == reply.operation() && read.status() == reply.status() && read.commit() == reply.commit());
+    assert!(rt;
+        read.client() == reply.client()
+            && read.session() == reply.session()
+            && read.request() == reply.request()
+    );
+    assert!(rt;
+        read.operation() == reply.operation()
+            && read.status() == reply.status()
+            && read.commit() == reply.commit()
+    );
     Ok(read)
 }
 
@@ -145,12 +161,22 @@ fn replies_both_ways(rt: HostRuntime) -> Result<(), Fail> {
     let alloc = rt.alloc();
     let read = both_ways(&rt, alloc, &registered()?, &REGISTERED)?;
     assert_eq!(rt; read.body().len(), 0);
-    let created = Reply::new(7, 1, 1, 129, Status::Reply, 2, ReplyBody::Results(Items::new(Vec::new(alloc))))?;
+    let created = Reply::new(
+        7,
+        1,
+        1,
+        129,
+        Status::Reply,
+        2,
+        ReplyBody::Results(Items::new(Vec::new(alloc))),
+    )?;
     let read = both_ways(&rt, alloc, &created, &CREATED)?;
     assert!(rt; matches!(read.body(), ReplyBody::Results(_)));
     let read = both_ways(&rt, alloc, &found(alloc)?, &found_bytes(alloc)?)?;
     match read.body() {
-        ReplyBody::Accounts(accounts) => assert!(rt; accounts.as_slice() == [account(2, 12), account(1, 11)].as_slice()),
+        ReplyBody::Accounts(accounts) => assert!(rt;
+            accounts.as_slice() == [account(2, 12), account(1, 11)].as_slice()
+        ),
         _ => panic!(rt; "accounts were found"),
     }
     Ok(())
@@ -164,7 +190,15 @@ fn results_and_transfers_both_ways(rt: HostRuntime) -> Result<(), Fail> {
     for (index, result) in codes {
         results.push(EventResult { index, result })?;
     }
-    let reply = Reply::new(7, 1, 3, 130, Status::Reply, 4, ReplyBody::Results(Items::new(results)))?;
+    let reply = Reply::new(
+        7,
+        1,
+        3,
+        130,
+        Status::Reply,
+        4,
+        ReplyBody::Results(Items::new(results)),
+    )?;
     let mut bytes = Vec::new(alloc);
     write_reply(&reply, &mut bytes)?;
     assert_eq!(rt; bytes.len(), 72);
@@ -172,12 +206,22 @@ fn results_and_transfers_both_ways(rt: HostRuntime) -> Result<(), Fail> {
     let read = both_ways(&rt, alloc, &reply, bytes.as_slice())?;
     assert_eq!(rt; read.body().len(), 3);
     let transfers = [transfer(9), transfer(8)].to_vec(alloc)?;
-    let reply = Reply::new(7, 1, 4, 132, Status::Reply, 5, ReplyBody::Transfers(Items::new(transfers)))?;
+    let reply = Reply::new(
+        7,
+        1,
+        4,
+        132,
+        Status::Reply,
+        5,
+        ReplyBody::Transfers(Items::new(transfers)),
+    )?;
     let mut bytes = Vec::new(alloc);
     write_reply(&reply, &mut bytes)?;
     let read = both_ways(&rt, alloc, &reply, bytes.as_slice())?;
     match read.body() {
-        ReplyBody::Transfers(transfers) => assert!(rt; transfers.as_slice() == [transfer(9), transfer(8)].as_slice()),
+        ReplyBody::Transfers(transfers) => assert!(rt;
+            transfers.as_slice() == [transfer(9), transfer(8)].as_slice()
+        ),
         _ => panic!(rt; "transfers were found"),
     }
     Ok(())
@@ -195,13 +239,21 @@ fn requests_are_written(rt: HostRuntime) -> Result<(), Fail> {
     bytes.extend_from_slice(&CREATION)?;
     bytes.extend_from_slice(&record(1, 0))?;
     bytes.extend_from_slice(&record(2, 0))?;
-    write_request(&Request::new(7, 1, 1, Body::CreateAccounts(Items::new(events)))?, &mut out)?;
+    write_request(
+        &Request::new(7, 1, 1, Body::CreateAccounts(Items::new(events)))?,
+        &mut out,
+    )?;
     assert!(rt; out.as_slice() == bytes.as_slice());
     Ok(())
 }
 
 /// The fault of the bytes with one of them changed.
-fn fault_with(alloc: Global, bytes: &[u8], at: usize, byte: u8) -> Result<Option<FrameFault>, Fail> {
+fn fault_with(
+    alloc: Global,
+    bytes: &[u8],
+    at: usize,
+    byte: u8,
+) -> Result<Option<FrameFault>, Fail> {
     let mut changed = bytes.to_vec(alloc)?;
     if let Some(place) = changed.get_mut(at) {
         *place = byte;
@@ -224,7 +276,11 @@ fn reply_faults_in_order(rt: HostRuntime) -> Result<(), Fail> {
         (32, 8, FrameFault::BadLength),
     ];
     for (at, byte, fault) in of_register {
-        assert_eq!(rt; fault_with(alloc, &REGISTERED, at, byte)?, Some(fault), "byte {at} is {byte}");
+        assert_eq!(rt;
+            fault_with(alloc, &REGISTERED, at, byte)?,
+            Some(fault),
+            "byte {at} is {byte}"
+        );
     }
     let of_creation = [
         (24, 0, FrameFault::RequestZero),
@@ -235,9 +291,16 @@ fn reply_faults_in_order(rt: HostRuntime) -> Result<(), Fail> {
         (32, 8, FrameFault::Short),
     ];
     for (at, byte, fault) in of_creation {
-        assert_eq!(rt; fault_with(alloc, &CREATED, at, byte)?, Some(fault), "byte {at} is {byte}");
+        assert_eq!(rt;
+            fault_with(alloc, &CREATED, at, byte)?,
+            Some(fault),
+            "byte {at} is {byte}"
+        );
     }
-    assert_eq!(rt; read_reply(alloc, &REGISTERED[..47]).err(), Some(FrameFault::Short));
+    assert_eq!(rt;
+        read_reply(alloc, &REGISTERED[..47]).err(),
+        Some(FrameFault::Short)
+    );
     Ok(())
 }
 
@@ -246,24 +309,83 @@ fn faults_of_new_replies(rt: HostRuntime) -> Result<(), Fail> {
     let alloc = rt.alloc();
     let cases = [
         (0, 1, 1, 129, Status::Reply, 2, Some(FrameFault::ClientZero)),
-        (7, 1, 1, 3, Status::Reply, 2, Some(FrameFault::UnknownOperation)),
-        (7, 1, 1, 2, Status::Reply, 1, Some(FrameFault::RegisterNumbers)),
-        (7, 1, 0, 2, Status::NotYet, 0, Some(FrameFault::RegisterNumbers)),
-        (7, 1, 0, 129, Status::Reply, 2, Some(FrameFault::RequestZero)),
+        (
+            7,
+            1,
+            1,
+            3,
+            Status::Reply,
+            2,
+            Some(FrameFault::UnknownOperation),
+        ),
+        (
+            7,
+            1,
+            1,
+            2,
+            Status::Reply,
+            1,
+            Some(FrameFault::RegisterNumbers),
+        ),
+        (
+            7,
+            1,
+            0,
+            2,
+            Status::NotYet,
+            0,
+            Some(FrameFault::RegisterNumbers),
+        ),
+        (
+            7,
+            1,
+            0,
+            129,
+            Status::Reply,
+            2,
+            Some(FrameFault::RequestZero),
+        ),
         (7, 1, 0, 2, Status::Reply, 2, Some(FrameFault::ReplyNumbers)),
-        (7, 1, 1, 129, Status::Reply, 1, Some(FrameFault::ReplyNumbers)),
-        (7, 1, 1, 129, Status::Older, 2, Some(FrameFault::ReplyNumbers)),
+        (
+            7,
+            1,
+            1,
+            129,
+            Status::Reply,
+            1,
+            Some(FrameFault::ReplyNumbers),
+        ),
+        (
+            7,
+            1,
+            1,
+            129,
+            Status::Older,
+            2,
+            Some(FrameFault::ReplyNumbers),
+        ),
         (7, 1, 1, 129, Status::Reply, 2, Some(FrameFault::BadLength)),
         (7, 1, 1, 129, Status::Older, 0, None),
         (7, 1, 0, 2, Status::Reply, 1, None),
     ];
     for (client, session, request, operation, status, commit, fault) in cases {
-        let reply = Reply::new(client, session, request, operation, status, commit, ReplyBody::Empty);
+        let reply = Reply::new(
+            client,
+            session,
+            request,
+            operation,
+            status,
+            commit,
+            ReplyBody::Empty,
+        );
         assert_eq!(rt; reply.err(), fault);
     }
     let none: Vec<Account> = Vec::new(alloc);
     let accounts = ReplyBody::Accounts(Items::new(none));
-    assert_eq!(rt; Reply::new(7, 1, 1, 132, Status::Reply, 2, accounts).err(), Some(FrameFault::BadLength));
+    assert_eq!(rt;
+        Reply::new(7, 1, 1, 132, Status::Reply, 2, accounts).err(),
+        Some(FrameFault::BadLength)
+    );
     Ok(())
 }
 
@@ -271,7 +393,10 @@ fn faults_of_new_replies(rt: HostRuntime) -> Result<(), Fail> {
 fn refusals_name_the_request(rt: HostRuntime) -> Result<(), Fail> {
     let alloc = rt.alloc();
     let ids = Items::new([9u128].to_vec(alloc)?);
-    let reply = Reply::refusal(&Request::new(7, 1, 5, Body::LookupTransfers(ids))?, Status::SessionTooLow);
+    let reply = Reply::refusal(
+        &Request::new(7, 1, 5, Body::LookupTransfers(ids))?,
+        Status::SessionTooLow,
+    );
     let mut bytes = Vec::new(alloc);
     write_reply(&reply, &mut bytes)?;
     let expected: [u8; 48] = [
@@ -307,16 +432,39 @@ fn copies_are_equal(rt: HostRuntime) -> Result<(), Fail> {
 #[test]
 fn largest_reply(rt: HostRuntime) -> Result<(), Fail> {
     let alloc = rt.alloc();
-    let results = vec![in alloc; EventResult { index: 1, result: 2 }; 8190]?;
-    let reply = Reply::new(7, 1, 1, 129, Status::Reply, 2, ReplyBody::Results(Items::new(results)))?;
+    let results = vec![in alloc; EventResult {
+        index: 1,
+        result: 2
+    }; 8190]?;
+    let reply = Reply::new(
+        7,
+        1,
+        1,
+        129,
+        Status::Reply,
+        2,
+        ReplyBody::Results(Items::new(results)),
+    )?;
     let mut bytes = Vec::new(alloc);
     write_reply(&reply, &mut bytes)?;
     assert_eq!(rt; bytes.len(), 65568);
     let (read, n) = read_reply(alloc, bytes.as_slice())?;
     assert_eq!(rt; n, 65568);
     assert_eq!(rt; read.body().len(), 8190);
-    let more = vec![in alloc; EventResult { index: 1, result: 2 }; 8191]?;
-    let fault = Reply::new(7, 1, 1, 129, Status::Reply, 2, ReplyBody::Results(Items::new(more))).err();
+    let more = vec![in alloc; EventResult {
+        index: 1,
+        result: 2
+    }; 8191]?;
+    let fault = Reply::new(
+        7,
+        1,
+        1,
+        129,
+        Status::Reply,
+        2,
+        ReplyBody::Results(Items::new(more)),
+    )
+    .err();
     assert_eq!(rt; fault, Some(FrameFault::TooMany));
     Ok(())
 }
@@ -352,15 +500,27 @@ fn writers_that_stop_in_a_frame(rt: HostRuntime) -> Result<(), Fail> {
     let whole = found_bytes(alloc)?;
     for room in [0, 30, 48, 100, 303] {
         for fails in [false, true] {
-            let mut sink = Counting::new(Narrow { taken: Vec::new(alloc), room, fails });
-            assert_eq!(rt; send_reply(&mut sink, &reply), Err(FrameFault::Device), "room for {room}");
+            let mut sink = Counting::new(Narrow {
+                taken: Vec::new(alloc),
+                room,
+                fails,
+            });
+            assert_eq!(rt;
+                send_reply(&mut sink, &reply),
+                Err(FrameFault::Device),
+                "room for {room}"
+            );
             assert_eq!(rt; Sink::failures(&sink), u64::from(fails));
             let writer = sink.into_inner();
             assert_eq!(rt; writer.taken.len(), room);
             assert!(rt; whole.as_slice().starts_with(writer.taken.as_slice()));
         }
     }
-    let mut sink = Counting::new(Narrow { taken: Vec::new(alloc), room: 304, fails: true });
+    let mut sink = Counting::new(Narrow {
+        taken: Vec::new(alloc),
+        room: 304,
+        fails: true,
+    });
     assert_eq!(rt; send_reply(&mut sink, &reply), Ok(()));
     assert!(rt; sink.into_inner().taken.as_slice() == whole.as_slice());
     Ok(())

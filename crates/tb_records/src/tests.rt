@@ -6,11 +6,10 @@ use crate::reading::read_request;
 use crate::records::{Account, Transfer};
 use crate::requests::Request;
 use crate::streams::{RequestStream, read_timed_from};
-use std::alloc::Global;
+use std::alloc::{AllocError, Global};
 use std::io;
 use std::io::{Error, ErrorKind, Read};
 use std::process::Abort;
-use std::test::Fail;
 
 /// Client 7 registers.
 const REGISTER: [u8; 48] = [
@@ -65,35 +64,46 @@ fn account(id: u128) -> Account {
     }
 }
 
-/// The frame that creates accounts 1 and 2.
-fn creation(alloc: Global) -> Result<Vec<u8>, Fail> {
+/// The frame that creates accounts 1 and 2, with this header.
+fn creation(alloc: Global, header: &[u8; 48]) -> Result<Vec<u8>, AllocError> {
     let mut bytes = Vec::new(alloc);
-    bytes.extend_from_slice(&CREATION)?;
+    bytes.extend_from_slice(header)?;
     bytes.extend_from_slice(&record(1))?;
     bytes.extend_from_slice(&record(2))?;
     Ok(bytes)
 }
 
 /// The frame that looks up accounts 2, 9 and 1.
-fn lookup(alloc: Global) -> Result<Vec<u8>, Fail> {
-    let mut bytes = Vec::new(alloc);
-    bytes.extend_from_slice(&LOOKUP)?;
-    for id in [2u8, 9, 1] {
-        let mut item = [0u8; 16];
-        item[0] = id;
-        bytes.extend_from_slice(&item)?;
-    }
-    Ok(bytes)
+fn lookup() -> [u8; 96] {
+    let mut bytes = [0; 96];
+    bytes[..48].copy_from_slice(&LOOKUP);
+    bytes[48] = 2;
+    bytes[64] = 9;
+    bytes[80] = 1;
+    bytes
 }
 
-/// The bytes with one of them changed.
-fn with(alloc: Global, bytes: &[u8], at: usize, byte: u8) -> Result<Vec<u8>, Fail> {
-    let mut changed = Vec::new(alloc);
-    changed.extend_from_slice(bytes)?;
+/// A register, a creation and a lookup, one behind the other.
+fn frames(alloc: Global) -> Result<Vec<u8>, AllocError> {
+    let mut bytes = creation(alloc, &CREATION)?;
+    bytes.extend_from_slice(&lookup())?;
+    let mut all = Vec::new(alloc);
+    all.extend_from_slice(&REGISTER)?;
+    all.extend_from_slice(&bytes)?;
+    Ok(all)
+}
+
+/// The header with one byte changed.
+fn with(header: &[u8; 48], at: usize, byte: u8) -> [u8; 48] {
+    let mut changed = *header;
     if let Some(place) = changed.get_mut(at) {
         *place = byte;
     }
-    Ok(changed)
+    changed
+}
+
+fn fault_of(alloc: Global, bytes: &[u8]) -> Option<FrameFault> {
+    read_request(alloc, bytes).err()
 }
 
 fn is_register(rt: &impl Abort, request: &Request) {
@@ -105,7 +115,9 @@ fn is_creation(rt: &impl Abort, request: &Request) {
     assert!(rt; request.client() == 7 && request.session() == 1 && request.request() == 1);
     assert!(rt; request.operation() == 129);
     match request.body() {
-        Body::CreateAccounts(events) => assert!(rt; events.as_slice() == [account(1), account(2)].as_slice()),
+        Body::CreateAccounts(events) => assert!(rt;
+            events.as_slice() == [account(1), account(2)].as_slice()
+        ),
         _ => panic!(rt; "accounts were asked"),
     }
 }
@@ -129,7 +141,10 @@ fn records_in_bytes(rt: HostRuntime) {
     }
     let transfer = Transfer::from_bytes(&bytes);
     assert_eq!(rt; transfer.id, 0x0f0e_0d0c_0b0a_0908_0706_0504_0302_0100);
-    assert_eq!(rt; transfer.pending_id, 0x4f4e_4d4c_4b4a_4948_4746_4544_4342_4140);
+    assert_eq!(rt;
+        transfer.pending_id,
+        0x4f4e_4d4c_4b4a_4948_4746_4544_4342_4140
+    );
     assert_eq!(rt; transfer.timeout, 0x6f6e_6d6c);
     assert_eq!(rt; transfer.flags, 0x7776);
     assert_eq!(rt; transfer.to_bytes(), bytes);
@@ -137,22 +152,22 @@ fn records_in_bytes(rt: HostRuntime) {
 }
 
 #[test]
-fn frames_are_read(rt: HostRuntime) -> Result<(), Fail> {
+fn frames_are_read(rt: HostRuntime) {
     let alloc = rt.alloc();
-    let (request, n) = read_request(alloc, &REGISTER)?;
+    let (request, n) = read_request(alloc, &REGISTER).expect(&rt, "a register");
     is_register(&rt, &request);
     assert_eq!(rt; n, 48);
-    let (request, n) = read_request(alloc, &creation(alloc)?)?;
+    let bytes = creation(alloc, &CREATION).expect(&rt, "memory");
+    let (request, n) = read_request(alloc, &bytes).expect(&rt, "a creation");
     is_creation(&rt, &request);
     assert_eq!(rt; n, 304);
-    let (request, n) = read_request(alloc, &lookup(alloc)?)?;
+    let (request, n) = read_request(alloc, &lookup()).expect(&rt, "a lookup");
     is_lookup(&rt, &request);
     assert_eq!(rt; n, 96);
-    Ok(())
 }
 
 #[test]
-fn request_faults_in_order(rt: HostRuntime) -> Result<(), Fail> {
+fn request_faults_in_order(rt: HostRuntime) {
     let alloc = rt.alloc();
     let cases = [
         (0, 0, 0, 0, FrameFault::ClientZero),
@@ -165,97 +180,148 @@ fn request_faults_in_order(rt: HostRuntime) -> Result<(), Fail> {
         (32, 1, 32, 1, FrameFault::BadLength),
     ];
     for (at, byte, also, other, fault) in cases {
-        let bytes = with(alloc, &with(alloc, &REGISTER, at, byte)?, also, other)?;
-        assert_eq!(rt; read_request(alloc, &bytes).err(), Some(fault), "byte {at}");
+        let header = with(&with(&REGISTER, at, byte), also, other);
+        assert_eq!(rt; fault_of(alloc, &header), Some(fault), "byte {at}");
     }
-    let creation = creation(alloc)?;
-    let zero = with(alloc, &creation, 24, 0)?;
-    assert_eq!(rt; read_request(alloc, &zero).err(), Some(FrameFault::RequestZero));
-    let lengths = [
-        (0xff, 0, 0, FrameFault::BadLength),
-        (0x80, 0xff, 0x0f, FrameFault::TooMany),
-        (0x80, 1, 0, FrameFault::Short),
+    assert_eq!(rt; fault_of(alloc, &REGISTER[..47]), Some(FrameFault::Short));
+}
+
+#[test]
+fn creation_faults_in_order(rt: HostRuntime) {
+    let alloc = rt.alloc();
+    let cases = [
+        (24, 0, 0, 1, 0, FrameFault::RequestZero),
+        (24, 1, 0xff, 0, 0, FrameFault::BadLength),
+        (24, 1, 0x80, 0xff, 0x0f, FrameFault::TooMany),
+        (24, 1, 0x80, 1, 0, FrameFault::Short),
     ];
-    for (low, middle, high, fault) in lengths {
-        let bytes = with(alloc, &creation, 32, low)?;
-        let bytes = with(alloc, &with(alloc, &bytes, 33, middle)?, 34, high)?;
-        assert_eq!(rt; read_request(alloc, &bytes).err(), Some(fault), "length {low}");
+    for (at, byte, low, middle, high, fault) in cases {
+        let header = with(&with(&CREATION, at, byte), 32, low);
+        let header = with(&with(&header, 33, middle), 34, high);
+        let bytes = creation(alloc, &header).expect(&rt, "memory");
+        assert_eq!(rt; fault_of(alloc, &bytes), Some(fault), "length {low}");
     }
-    assert_eq!(rt; read_request(alloc, &REGISTER[..47]).err(), Some(FrameFault::Short));
-    assert_eq!(rt; read_request(alloc, &[]).err(), Some(FrameFault::Short));
-    Ok(())
 }
 
 #[test]
-fn largest_body(rt: HostRuntime) -> Result<(), Fail> {
+fn largest_body(rt: HostRuntime) {
     let alloc = rt.alloc();
-    let mut bytes = Vec::new(alloc);
-    bytes.extend_from_slice(&CREATION)?;
-    let item = record(1);
-    for _ in 0..8191 {
-        bytes.extend_from_slice(&item)?;
+    for (low, most) in [(0, true), (0x80, false)] {
+        let header = with(&with(&with(&CREATION, 32, low), 33, 0xff), 34, 0x0f);
+        let mut bytes = Vec::new(alloc);
+        bytes.extend_from_slice(&header).expect(&rt, "memory");
+        let item = record(1);
+        for _ in 0..8191 {
+            bytes.extend_from_slice(&item).expect(&rt, "memory");
+        }
+        match read_request(alloc, &bytes) {
+            Ok((request, n)) => assert!(rt; most && request.body().len() == 8190 && n == 1_048_368),
+            Err(fault) => assert!(rt; !most && fault == FrameFault::TooMany),
+        }
     }
-    let most = with(alloc, &with(alloc, &bytes, 33, 0xff)?, 34, 0x0f)?;
-    let (request, n) = read_request(alloc, &most)?;
-    assert!(rt; request.body().len() == 8190 && n == 48 + 1_048_320);
-    let more = with(alloc, &most, 32, 0x80)?;
-    assert_eq!(rt; read_request(alloc, &more).err(), Some(FrameFault::TooMany));
-    Ok(())
 }
 
 #[test]
-fn stream_of_frames(rt: HostRuntime) -> Result<(), Fail> {
+fn stream_of_frames(rt: HostRuntime) {
     let alloc = rt.alloc();
-    let mut bytes = Vec::new(alloc);
-    bytes.extend_from_slice(&REGISTER)?;
-    bytes.extend_from_slice(&creation(alloc)?)?;
-    bytes.extend_from_slice(&lookup(alloc)?)?;
+    let bytes = frames(alloc).expect(&rt, "memory");
     let mut stream = RequestStream::new(Counting::new(bytes.as_slice()));
-    is_register(&rt, &stream.next_request(alloc)?.ok_or("a register")?);
-    is_creation(&rt, &stream.next_request(alloc)?.ok_or("a creation")?);
-    is_lookup(&rt, &stream.next_request(alloc)?.ok_or("a lookup")?);
-    assert!(rt; stream.next_request(alloc)?.is_none());
-    assert!(rt; stream.next_request(alloc)?.is_none());
-    let mut cut = RequestStream::new(Counting::new(&bytes[..100]));
-    is_register(&rt, &cut.next_request(alloc)?.ok_or("a register")?);
-    assert_eq!(rt; cut.next_request(alloc).err(), Some(FrameFault::Short));
-    assert_eq!(rt; cut.next_request(alloc).err(), Some(FrameFault::Short));
-    Ok(())
+    is_register(
+        &rt,
+        &stream
+            .next_request(alloc)
+            .expect(&rt, "no fault")
+            .expect(&rt, "a register"),
+    );
+    is_creation(
+        &rt,
+        &stream
+            .next_request(alloc)
+            .expect(&rt, "no fault")
+            .expect(&rt, "a creation"),
+    );
+    is_lookup(
+        &rt,
+        &stream
+            .next_request(alloc)
+            .expect(&rt, "no fault")
+            .expect(&rt, "a lookup"),
+    );
+    assert!(rt; stream.next_request(alloc).expect(&rt, "no fault").is_none());
+    assert!(rt; stream.next_request(alloc).expect(&rt, "no fault").is_none());
 }
 
 #[test]
-fn stream_of_moments(rt: HostRuntime) -> Result<(), Fail> {
+fn stream_is_cut(rt: HostRuntime) {
     let alloc = rt.alloc();
-    let mut bytes = Vec::new(alloc);
-    bytes.extend_from_slice(&[10, 0, 0, 0, 0, 0, 0, 0])?;
-    bytes.extend_from_slice(&REGISTER)?;
-    bytes.extend_from_slice(&[0, 1, 0, 0, 0, 0, 0, 0])?;
+    let mut bytes = frames(alloc).expect(&rt, "memory");
+    bytes.truncate(100);
     let mut stream = RequestStream::new(Counting::new(bytes.as_slice()));
-    let (moment, request) = stream.next_timed(alloc)?.ok_or("a register")?;
+    is_register(
+        &rt,
+        &stream
+            .next_request(alloc)
+            .expect(&rt, "no fault")
+            .expect(&rt, "a register"),
+    );
+    assert_eq!(rt; stream.next_request(alloc).err(), Some(FrameFault::Short));
+    assert_eq!(rt; stream.next_request(alloc).err(), Some(FrameFault::Short));
+}
+
+#[test]
+fn stream_of_moments(rt: HostRuntime) {
+    let alloc = rt.alloc();
+    let mut bytes = [0; 64];
+    bytes[0] = 10;
+    bytes[8..56].copy_from_slice(&REGISTER);
+    let mut stream = RequestStream::new(Counting::new(&bytes[..]));
+    let (moment, request) = stream
+        .next_timed(alloc)
+        .expect(&rt, "no fault")
+        .expect(&rt, "a register");
     is_register(&rt, &request);
     assert_eq!(rt; moment, 10);
-    assert_eq!(rt; stream.next_timed(alloc).err(), Some(FrameFault::Short), "a moment alone");
+    assert_eq!(rt;
+        stream.next_timed(alloc).err(),
+        Some(FrameFault::Short),
+        "a moment alone"
+    );
     let mut source = Counting::new(&bytes[..56]);
-    assert!(rt; read_timed_from(alloc, &mut source)?.is_some());
-    assert!(rt; read_timed_from(alloc, &mut source)?.is_none());
-    let mut cut = RequestStream::new(Counting::new(&bytes[..7]));
-    assert_eq!(rt; cut.next_timed(alloc).err(), Some(FrameFault::Short), "a cut moment");
-    Ok(())
+    assert!(rt;
+        read_timed_from(alloc, &mut source)
+            .expect(&rt, "no fault")
+            .is_some()
+    );
+    assert!(rt;
+        read_timed_from(alloc, &mut source)
+            .expect(&rt, "no fault")
+            .is_none()
+    );
+    assert!(rt;
+        read_timed_from(alloc, &mut Counting::new(&bytes[..7])).is_err(),
+        "a cut moment"
+    );
 }
 
 #[test]
-fn stream_stays_at_its_fault(rt: HostRuntime) -> Result<(), Fail> {
+fn stream_stays_at_its_fault(rt: HostRuntime) {
     let alloc = rt.alloc();
-    let mut bytes = with(alloc, &creation(alloc)?, 29, 1)?;
-    bytes.extend_from_slice(&REGISTER)?;
+    let mut bytes = creation(alloc, &with(&CREATION, 29, 1)).expect(&rt, "memory");
+    bytes.extend_from_slice(&REGISTER).expect(&rt, "memory");
     for calls in 1..3 {
         let mut stream = RequestStream::new(Counting::new(bytes.as_slice()));
         for _ in 0..calls {
-            assert_eq!(rt; stream.next_request(alloc).err(), Some(FrameFault::Reserved));
+            assert_eq!(rt;
+                stream.next_request(alloc).err(),
+                Some(FrameFault::Reserved)
+            );
         }
-        assert_eq!(rt; stream.into_source().into_inner().len(), 304, "after {calls} calls 48 bytes are read");
+        assert_eq!(rt;
+            stream.into_source().into_inner().len(),
+            304,
+            "48 bytes are read by {calls} calls"
+        );
     }
-    Ok(())
 }
 
 /// A reader that fails after some reads.
@@ -276,15 +342,25 @@ impl Read for Failing<'_> {
 }
 
 #[test]
-fn reader_fails_in_mid_stream(rt: HostRuntime) -> Result<(), Fail> {
+fn reader_fails_in_mid_stream(rt: HostRuntime) {
     let alloc = rt.alloc();
-    let bytes = creation(alloc)?;
+    let bytes = creation(alloc, &CREATION).expect(&rt, "memory");
     for good in 0..3 {
-        let reader = Failing { rest: bytes.as_slice(), good };
+        let reader = Failing {
+            rest: bytes.as_slice(),
+            good,
+        };
         let mut stream = RequestStream::new(Counting::new(reader));
-        assert_eq!(rt; stream.next_request(alloc).err(), Some(FrameFault::Device), "after {good} reads");
-        assert_eq!(rt; stream.next_request(alloc).err(), Some(FrameFault::Device), "after {good} reads");
+        assert_eq!(rt;
+            stream.next_request(alloc).err(),
+            Some(FrameFault::Device),
+            "after {good} reads"
+        );
+        assert_eq!(rt;
+            stream.next_request(alloc).err(),
+            Some(FrameFault::Device),
+            "after {good} reads"
+        );
         assert_eq!(rt; stream.into_source().failures(), 1, "after {good} reads");
     }
-    Ok(())
 }

@@ -8,7 +8,7 @@ ghost use Rattle.tb_records.specs.Transport.{Sent, CutOff};
 
 use crate::bodies::{Body, ReplyBody};
 use crate::devices::{Sink, put_all, put_items};
-use crate::encoding::{put_u128, put_u16, put_u32, put_u64, put_u8};
+use crate::encoding::{put_u8, put_u16, put_u32, put_u64, put_u128};
 use crate::faults::FrameFault;
 use crate::layout::Item;
 use crate::replies::Reply;
@@ -135,7 +135,8 @@ pub fn write_request(request: &Request, out: &mut Vec<u8>) -> Result<(), AllocEr
     let body = request.body();
     let len = body_len(body);
     out.reserve(48 + len as usize)?;
-    out.extend_from_slice(&request_header(request, len)).unwrap();
+    out.extend_from_slice(&request_header(request, len))
+        .unwrap();
     append_body(body, out);
     Ok(())
 }

@@ -1,0 +1,116 @@
+-- The shape of a tree: how long a path is at most, and how many nodes a height needs.
+use Rattle.std.proofs.Common.{◌≡◌, ℕ, zero, suc, ◌+◌, ◌-◌, ◌*◌, ◌^◌, ◌<◌, ◌≤◌, max, List, [], ◌∷◌, ◌++◌, length, Option, None, Some, sym, refl, ap, ◌∙◌, inl, inr, arith, length-append}
+use Rattle.std.proofs.lemmas.Bool.{cases_lt}
+use Rattle.std.proofs.Math.Nat.{pow-suc}
+use Rattle.std.specs.declared.cmp.Ordering.{Ordering}
+use Rattle.std.specs.declared.cmp.Ordering.TheVariants.{Less, Equal, Greater}
+use Rattle.std.specs.Ordering.{match_ordering}
+use Rattle.std.specs.Option.{IsSome, IfSome}
+use Rattle.avl_tree.specs.Search.{Search, leaf, fork, entries_of, path_length, least}
+use Rattle.avl_tree.specs.Nodes.{entries, with_first, stored_height, joined, search_of, IsAvl}
+use Rattle.avl_tree.specs.declared.tree.Tree.{Tree}
+use Rattle.avl_tree.specs.declared.tree.Tree.TheVariants.{Empty, Fork'}
+
+module _ {K V : Type 0} (compare : K → Ordering) (l r : Search (K × V)) where
+  pub path-left : (e : Option (K × V)) → IsSome e → IfSome e (λ f. Less ≡ compare f.0) → path_length compare (joined l e r) ≡ 1 + path_length compare l
+  path-left None n p = absurd (cc)
+  path-left (Some f) n p = let q = sym p in rw q refl
+
+  pub path-right : (e : Option (K × V)) → IsSome e → IfSome e (λ f. Greater ≡ compare f.0) → path_length compare (joined l e r) ≡ 1 + path_length compare r
+  path-right None n p = absurd (cc)
+  path-right (Some f) n p = let q = sym p in rw q refl
+
+  pub path-here : (e : Option (K × V)) → IsSome e → IfSome e (λ f. Equal ≡ compare f.0) → path_length compare (joined l e r) ≡ 1
+  path-here None n p = absurd (cc)
+  path-here (Some f) n p = let q = sym p in rw q refl
+
+-- the entries of the shape are those of the nodes
+joined-entries : {E : Type 0} (l r : Search E) (e : Option E) → IsSome e → entries_of (joined l e r) ≡ entries_of l ++ with_first e (entries_of r)
+joined-entries l r None n = absurd (cc)
+joined-entries l r (Some f) n = refl
+
+pub entries-search_of : {K V A : Type 0} (t : Tree K V A) → IsAvl t → entries_of (search_of t) ≡ entries t
+entries-search_of Empty a = refl
+entries-search_of (Fork' h p l r e) a =
+    joined-entries (search_of l) (search_of r) e a.0 ∙ ap (λ m. m ++ with_first e (entries_of (search_of r))) (entries-search_of l a.1) ∙ ap (λ m. entries l ++ with_first e m) (entries-search_of r a.2)
+
+-- no path is longer than the tree is high
+path-joined : {K V : Type 0} (compare : K → Ordering) (l r : Search (K × V)) (e : Option (K × V)) (n : ℕ) → path_length compare l ≤ n → path_length compare r ≤ n → path_length compare (joined l e r) ≤ n + 1
+path-joined compare l r None n a b = omega arith
+path-joined compare l r (Some f) n a b =
+    elim (compare f.0) as (λ o. 1 + match_ordering o (path_length compare l) 0 (path_length compare r) ≤ n + 1) [
+      | Less ↦ omega arith
+      | Equal ↦ omega arith
+      | Greater ↦ omega arith
+    ]
+
+pub path-le-height : {K V A : Type 0} (compare : K → Ordering) (t : Tree K V A) → IsAvl t → path_length compare (search_of t) ≤ stored_height t
+path-le-height compare Empty a = omega arith
+path-le-height compare (Fork' h p l r e) a =
+    let x = path-le-height compare l a.1 in
+    let y = path-le-height compare r a.2 in
+    let z = path-joined compare (search_of l) (search_of r) e (max (stored_height l) (stored_height r)) (omega (arith, x)) (omega (arith, y)) in
+    omega (arith, z, a.3)
+
+-- more height needs more nodes
+least_suc : (h : ℕ) → least h ≤ least (suc h)
+least_suc zero = omega arith
+least_suc (suc h) = omega arith
+
+least_more : (a d c : ℕ) → c ≡ a + d → least a ≤ least c
+least_more a zero c e = let q : c ≡ a = omega arith in rw q (omega arith)
+least_more a (suc d) zero e = absurd (omega arith)
+least_more a (suc d) (suc c) e = let x = least_more a d c (omega arith) in omega (arith, x, least_suc c)
+
+least_monotone : (a c : ℕ) → a ≤ c → least a ≤ least c
+least_monotone a c h = least_more a (c - a) c (omega arith)
+
+length-with_first : {E : Type 0} (e : Option E) (xs : List E) → IsSome e → length (with_first e xs) ≡ length xs + 1
+length-with_first None xs n = absurd (cc)
+length-with_first (Some f) xs n = omega arith
+
+least_cases : (a b h n m : ℕ) → h ≡ max a b + 1 → a ≤ b + 1 → b ≤ a + 1 → least a ≤ n → least b ≤ m → least h ≤ n + (m + 1)
+least_cases a b zero n m e p q x y = absurd (omega arith)
+least_cases a b (suc zero) n m e p q x y = omega arith
+least_cases a b (suc (suc h)) n m e p q x y =
+    elim (cases_lt a b) [
+      | inl l ↦ let u : suc h ≡ b = omega arith in let v = least_monotone h a (omega arith) in omega (arith, v, ap least u)
+      | inr l ↦ let u : suc h ≡ a = omega arith in let v = least_monotone h b (omega arith) in omega (arith, v, ap least u)
+    ]
+
+-- a balanced tree has at least the nodes that its height needs
+pub least-le-length : {K V A : Type 0} (t : Tree K V A) → IsAvl t → least (stored_height t) ≤ length (entries t)
+least-le-length Empty a = omega arith
+least-le-length (Fork' h p l r e) a =
+    let x = least-le-length l a.1 in
+    let y = least-le-length r a.2 in
+    let z = least_cases (stored_height l) (stored_height r) h (length (entries l)) (length (entries r)) a.3 a.4.0 a.4.1 x y in
+    omega (arith, z, length-append (entries l) (with_first e (entries r)), length-with_first e (entries r) a.0)
+
+-- so a number of nodes that fits 64 bits bounds the height
+double : ℕ → ℕ
+double zero = zero
+double (suc k) = suc (suc (double k))
+
+pow-le-least : (k : ℕ) → 2 ^ k ≤ least (double k) + 1
+unfolding double
+pow-le-least zero = omega arith
+pow-le-least (suc k) =
+    let x = pow-le-least k in
+    let y = least_suc (double k) in
+    let z : 2 ^ suc k ≡ 2 ^ k * 2 = pow-suc 2 k in
+    omega (arith, x, y, z)
+
+height_below : (k h n : ℕ) → least h ≤ n → n + 1 < 2 ^ k → h < double k
+height_below k h n l f =
+    elim (cases_lt h (double k)) [
+      | inl x ↦ x
+      | inr x ↦ absurd (omega (arith, least_monotone (double k) h x, pow-le-least k))
+    ]
+
+fits_below : (n : ℕ) → n < 2 ^ 64 → n + 1 < 2 ^ 65
+fits_below n f = omega arith
+
+pub low : (h n : ℕ) → least h ≤ n → n < 2 ^ 64 → h < 130
+unfolding double
+low h n l f = height_below 65 h n l (fits_below n f)

@@ -1,0 +1,64 @@
+-- What the fields of a map keep, through each change.
+use Rattle.std.proofs.Common.{◌≡◌, ℕ, ◌+◌, ◌-◌, ◌<◌, ◌^◌, Bool, true, false, List, length, Option, None, Some, sym, ap, ◌∙◌, subst, refl, arith}
+use Rattle.std.specs.declared.cmp.Ordering.{Ordering}
+use Rattle.std.specs.Option.{IsSome, option_map}
+use Rattle.std.specs.Cmp.{IsTotalOrder}
+use Rattle.std.specs.List.Sorted.{IsStrictlySortedBy}
+use Rattle.std.specs.Map.{lookup, set_value, remove_entry, keys_of}
+use Rattle.std.specs.BTreeMap.{insert_entry, is_at}
+use Rattle.std.proofs.lemmas.Map.{keys-set_value, length-set_value}
+use Rattle.avl_tree.specs.Nodes.{entries, stored_height, IsAvl, IsOrdered, IsWhole, Exchanges}
+use Rattle.avl_tree.specs.declared.tree.Tree.{Tree}
+use Rattle.avl_tree.proofs.Around.{ordered-insert_entry, ordered-remove_entry, length-insert_entry, length-remove_entry_found, remove_entry-absent}
+use Rattle.avl_tree.proofs.Shape.{low, least-le-length}
+
+module _ {K V A : Type 0} {cmp : K → K → Ordering} {root : Tree K V A} {len spare : ℕ} (w : IsWhole cmp root len spare) where
+  pub low_height : stored_height root < 130
+  low_height =
+      let n = w.counted in
+      let f = w.fits in
+      low (stored_height root) (length (entries root)) (least-le-length root w.balanced) (omega (arith, n, f))
+
+  pub whole_exchange : (k : K) (v v' : V) (b : Bool) (root' : Tree K V A) → Exchanges (is_at (cmp k)) root v b root' v' → IsWhole cmp root' len spare
+  whole_exchange k v v' true root' x =
+      let t = is_at (cmp k) in
+      let written = x.written in
+      record {
+        balanced = x.balanced;
+        sorted = rw written (subst (λ ks. IsStrictlySortedBy cmp ks) (sym (keys-set_value t (entries root) v)) w.sorted);
+        counted = rw written (w.counted ∙ sym (length-set_value t (entries root) v));
+        fits = w.fits;
+      }
+  whole_exchange k v v' false root' x = subst (λ t. IsWhole cmp t len spare) (sym x.1) w
+
+  pub whole_insert : IsTotalOrder cmp → (k : K) (v : V) → {root' : Tree K V A} {spare' : ℕ} → lookup (is_at (cmp k)) (entries root) ≡ None → IsAvl root' → entries root' ≡ insert_entry cmp (entries root) k v → spare' + 1 ≡ spare → IsWhole cmp root' (len + 1) spare'
+  whole_insert o k v {root'} {spare'} absent avl put one_less =
+      let n = length-insert_entry cmp k v (entries root) absent in
+      let f = w.fits in
+      record {
+        balanced = avl;
+        sorted = rw put (ordered-insert_entry o k v (entries root) w.sorted);
+        counted = rw put (omega (arith, n, w.counted));
+        fits = omega (arith, f, one_less);
+      }
+
+  removed : (k : K) (v : V) → {root' : Tree K V A} {spare' : ℕ} → lookup (is_at (cmp k)) (entries root) ≡ Some v → IsAvl root' → entries root' ≡ remove_entry (is_at (cmp k)) (entries root) → spare' ≡ spare + 1 → IsWhole cmp root' (len - 1) spare'
+  removed k v {root'} {spare'} found avl taken one_more =
+      let n = length-remove_entry_found cmp k v (entries root) found in
+      let c = w.counted in
+      let f = w.fits in
+      record {
+        balanced = avl;
+        sorted = rw taken (ordered-remove_entry cmp (is_at (cmp k)) (entries root) w.sorted);
+        counted = rw taken (omega (arith, n, c));
+        fits = omega (arith, n, c, f, one_more);
+      }
+
+  pub whole_remove : (k : K) {root' : Tree K V A} {spare' : ℕ} (e : Option (K × V)) → IsSome e → option_map (λ f. f.1) e ≡ lookup (is_at (cmp k)) (entries root) → IsAvl root' → entries root' ≡ remove_entry (is_at (cmp k)) (entries root) → spare' ≡ spare + 1 → IsWhole cmp root' (len - 1) spare'
+  whole_remove k None n found avl taken one_more = absurd (cc)
+  whole_remove k (Some f) n found avl taken one_more = removed k f.1 (sym found) avl taken one_more
+
+  pub whole_absent : (k : K) {root' : Tree K V A} → lookup (is_at (cmp k)) (entries root) ≡ None → IsAvl root' → entries root' ≡ remove_entry (is_at (cmp k)) (entries root) → IsWhole cmp root' len spare
+  whole_absent k {root'} absent avl taken =
+      let same = taken ∙ remove_entry-absent cmp k (entries root) absent in
+      record { balanced = avl; sorted = rw same w.sorted; counted = rw same w.counted; fits = w.fits }

@@ -1,0 +1,13 @@
+use Rattle.std.proofs.Common.{◌≡◌, ◌<◌, ◌+◌, Option, None, Some, sym, ◌∙◌, ap, subst, refl, arith}
+use Rattle.avl_tree.proofs.Shape.{entries-search_of, path-le-height, least-le-length}
+use Rattle.avl_tree.proofs.map.AvlMap.len.Goals as goal
+
+pub returns-clause-length : goal.returns-clause-length
+returns-clause-length g c =
+    let e = entries-search_of c.self.inside.root c.self.invariant.balanced in
+    rw (← c.self.view_is, e) c.self.invariant.counted
+
+pub returns-clause-ordered : goal.returns-clause-ordered
+returns-clause-ordered g c =
+    let e = entries-search_of c.self.inside.root c.self.invariant.balanced in
+    rw (← c.self.view_is, e) c.self.invariant.sorted

@@ -1,0 +1,40 @@
+use Rattle.std.proofs.Common.{◌≡◌, ◌<◌, ◌+◌, Option, None, Some, sym, ◌∙◌, ap, subst, refl, arith}
+use Rattle.avl_tree.proofs.Shape.{entries-search_of, path-le-height, least-le-length}
+use Rattle.avl_tree.proofs.Whole.{low_height, whole_exchange, whole_insert, whole_remove, whole_absent}
+use Rattle.avl_tree.proofs.map.AvlMap.remove.Goals as goal
+
+pub remove-requires-clause-height_fits : goal.remove-requires-clause-height_fits
+remove-requires-clause-height_fits g c = omega (arith, low_height c.self.invariant)
+
+pub invariant_of-self : goal.invariant_of-self
+invariant_of-self g c =
+    let r = c.in_err-node.ensures in
+    whole_absent c.self.invariant c.args.key.now (sym r.value) r.balanced r.entries
+
+pub returns-in_err-node-clause-value : goal.returns-in_err-node-clause-value
+returns-in_err-node-clause-value g c =
+    let e = entries-search_of c.self.inside.root c.self.invariant.balanced in
+    rw (← c.self.view_is, e) (c.from_residual.ensures ∙ c.in_err-node.ensures.value)
+
+pub returns-in_err-node-clause-entries : goal.returns-in_err-node-clause-entries
+returns-in_err-node-clause-entries g c =
+    let e = entries-search_of c.self.inside.root c.self.invariant.balanced in
+    let n = entries-search_of c.remove.new.tree c.in_err-node.ensures.balanced in
+    rw (← c.self.view_is, e, n) c.in_err-node.ensures.entries
+
+pub invariant_of-self-2 : goal.invariant_of-self-2
+invariant_of-self-2 g c =
+    let r = c.in_ok-node.ensures in
+    whole_remove c.self.invariant c.args.key.now c.in_ok-node.node.value.entry r.taken.1 r.value r.balanced r.entries c.push.ensures
+
+pub returns-clause-value : goal.returns-clause-value
+returns-clause-value g c =
+    let e = entries-search_of c.self.inside.root c.self.invariant.balanced in
+    let taken = rw c.deref_mut.ensures.value at c.empty-value.ensures.value in
+    rw (← c.self.view_is, e) (taken ∙ c.in_ok-node.ensures.value)
+
+pub returns-clause-entries : goal.returns-clause-entries
+returns-clause-entries g c =
+    let e = entries-search_of c.self.inside.root c.self.invariant.balanced in
+    let n = entries-search_of c.remove.new.tree c.in_ok-node.ensures.balanced in
+    rw (← c.self.view_is, e, n) c.in_ok-node.ensures.entries

@@ -1,0 +1,4 @@
+pub mod Map
+pub mod Nodes
+pub mod Search
+pub mod Visits

@@ -1,0 +1,170 @@
+// Changes of the tree.
+ghost use Rattle.std.specs.Prelude.{◌≡◌, ◌+◌, ◌<◌, ◌≤◌, ◌++◌, None, Some, IsSome, IfSome, MatchOption};
+ghost use Rattle.std.specs.Option.{option_map, option_and_then, is_some};
+ghost use Rattle.std.specs.Map.{lookup, remove_entry};
+ghost use Rattle.std.specs.BTreeMap.{is_at, insert_entry};
+ghost use Rattle.avl_tree.specs.Nodes.{entries, with_first, stored_height, IsAvl, IsOrdered, IsBare, HasNoLeft, beside_root, root_entry, IsGrown, IsShrunk, Exchanges};
+ghost use Rattle.avl_tree.specs.declared.tree.Tree.TheVariants.{Empty};
+
+use crate::tree::{Node, Tree, balance, put, settle, split, take};
+use crate::walks::compare;
+use std::alloc::Allocator;
+use std::cmp::Ordering;
+use std::mem;
+
+/// Exchanges the value of a node.
+fn exchange_value<K, V, A: Allocator>(node: &mut Node<K, V, A>, value: &mut V)
+    requires { IsSome node.old.entry }
+    ensures left { node.new.left ≡ node.old.left }
+    ensures right { node.new.right ≡ node.old.right }
+    ensures entry { node.new.entry ≡ option_map (λ e. (e.0, value.old)) node.old.entry }
+    ensures value { Some value.new ≡ option_map (λ e. e.1) node.old.entry }
+{
+    match &mut node.entry {
+        Some((_, held)) => mem::swap(held, value),
+        None => unreachable!(),
+    }
+}
+
+/// Exchanges the value at the key that compares equal, and says whether there is one.
+pub fn exchange<K: Ord, V, A: Allocator>(tree: &mut Tree<K, V, A>, key: &K, value: &mut V) -> bool
+    requires balanced { IsAvl tree.old }
+    requires sorted { IsOrdered K.cmp (entries tree.old) }
+    ensures { Exchanges (is_at (K.cmp key.now)) tree.old value.old result tree.new value.new }
+{
+    match tree {
+        Tree::Empty => false,
+        Tree::Fork(_, node) => match compare(key, node) {
+            Ordering::Less => exchange(&mut node.left, key, value),
+            Ordering::Greater => exchange(&mut node.right, key, value),
+            Ordering::Equal => {
+                exchange_value(node, value);
+                true
+            }
+        },
+    }
+}
+
+/// Puts a node with an entry at its place, where no key compares equal.
+pub fn insert<K: Ord, V, A: Allocator>(
+    tree: &mut Tree<K, V, A>,
+    key: &K,
+    fresh: Box<Node<K, V, A>, A>,
+)
+    requires balanced { IsAvl tree.old }
+    requires sorted { IsOrdered K.cmp (entries tree.old) }
+    requires height_fits { stored_height tree.old < 200 }
+    requires absent { lookup (is_at (K.cmp key.now)) (entries tree.old) ≡ None }
+    requires bare { IsBare fresh.value }
+    requires key { option_map (λ e. e.0) fresh.value.entry ≡ Some key.now }
+    ensures balanced { IsAvl tree.new }
+    ensures entries { IfSome fresh.value.entry (λ e. entries tree.new ≡ insert_entry K.cmp (entries tree.old) key.now e.1) }
+    ensures height { IsGrown (stored_height tree.old) (stored_height tree.new) }
+{
+    match tree {
+        Tree::Empty => {
+            put(tree, Tree::Fork(1, fresh));
+            return;
+        }
+        Tree::Fork(_, node) => match compare(key, node) {
+            Ordering::Less => insert(&mut node.left, key, fresh),
+            Ordering::Greater => insert(&mut node.right, key, fresh),
+            Ordering::Equal => unreachable!(),
+        },
+    }
+    settle(tree);
+}
+
+/// Takes the root off, where it has no left side.
+fn take_top<K, V, A: Allocator>(tree: &mut Tree<K, V, A>) -> Option<Box<Node<K, V, A>, A>>
+    requires balanced { IsAvl tree.old }
+    requires no_left { HasNoLeft tree.old }
+    ensures balanced { IsAvl tree.new }
+    ensures entries { entries tree.old ≡ with_first (option_and_then (λ b. b.value.entry) result) (entries tree.new) }
+    ensures taken { MatchOption result ((tree.old ≡ Empty) × (tree.new ≡ Empty)) (λ b. IsBare b.value × IsSome b.value.entry) }
+    ensures height { IsShrunk (stored_height tree.old) (stored_height tree.new) }
+{
+    match take(tree) {
+        Tree::Empty => None,
+        Tree::Fork(_, node) => {
+            let (left, node, right) = split(node);
+            let Tree::Empty = left else { unreachable!() };
+            put(tree, right);
+            Some(node)
+        }
+    }
+}
+
+/// Takes the node of the least key off.
+fn take_first<K, V, A: Allocator>(tree: &mut Tree<K, V, A>) -> Option<Box<Node<K, V, A>, A>>
+    requires balanced { IsAvl tree.old }
+    requires height_fits { stored_height tree.old < 200 }
+    ensures balanced { IsAvl tree.new }
+    ensures entries { entries tree.old ≡ with_first (option_and_then (λ b. b.value.entry) result) (entries tree.new) }
+    ensures taken { MatchOption result ((tree.old ≡ Empty) × (tree.new ≡ Empty)) (λ b. IsBare b.value × IsSome b.value.entry) }
+    ensures height { IsShrunk (stored_height tree.old) (stored_height tree.new) }
+{
+    let taken = match tree {
+        Tree::Empty => return None,
+        Tree::Fork(_, node) => take_first(&mut node.left),
+    };
+    match taken {
+        None => take_top(tree),
+        Some(first) => {
+            settle(tree);
+            Some(first)
+        }
+    }
+}
+
+/// Takes the root off. The node of the next key comes into its place.
+fn take_root<K, V, A: Allocator>(tree: &mut Tree<K, V, A>) -> Option<Box<Node<K, V, A>, A>>
+    requires balanced { IsAvl tree.old }
+    requires height_fits { stored_height tree.old < 200 }
+    ensures balanced { IsAvl tree.new }
+    ensures entries { entries tree.new ≡ beside_root tree.old }
+    ensures root { option_and_then (λ b. b.value.entry) result ≡ root_entry tree.old }
+    ensures taken { IfSome result (λ b. IsBare b.value × IsSome b.value.entry) }
+    ensures height { IsShrunk (stored_height tree.old) (stored_height tree.new) }
+{
+    match take(tree) {
+        Tree::Empty => None,
+        Tree::Fork(_, node) => {
+            let (left, node, mut right) = split(node);
+            match take_first(&mut right) {
+                None => {
+                    put(&mut right, left);
+                    put(tree, right);
+                }
+                Some(next) => put(tree, balance(left, next, right)),
+            }
+            Some(node)
+        }
+    }
+}
+
+/// Takes the node off whose key compares equal.
+pub fn remove<K: Ord, V, A: Allocator>(
+    tree: &mut Tree<K, V, A>,
+    key: &K,
+) -> Option<Box<Node<K, V, A>, A>>
+    requires balanced { IsAvl tree.old }
+    requires sorted { IsOrdered K.cmp (entries tree.old) }
+    requires height_fits { stored_height tree.old < 200 }
+    ensures balanced { IsAvl tree.new }
+    ensures entries { entries tree.new ≡ remove_entry (is_at (K.cmp key.now)) (entries tree.old) }
+    ensures value { option_and_then (λ b. option_map (λ e. e.1) b.value.entry) result ≡ lookup (is_at (K.cmp key.now)) (entries tree.old) }
+    ensures taken { IfSome result (λ b. IsBare b.value × IsSome b.value.entry) }
+    ensures height { IsShrunk (stored_height tree.old) (stored_height tree.new) }
+{
+    let taken = match tree {
+        Tree::Empty => return None,
+        Tree::Fork(_, node) => match compare(key, node) {
+            Ordering::Less => remove(&mut node.left, key),
+            Ordering::Greater => remove(&mut node.right, key),
+            Ordering::Equal => return take_root(tree),
+        },
+    };
+    settle(tree);
+    taken
+}

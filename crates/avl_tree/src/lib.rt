@@ -1,0 +1,14 @@
+//! An ordered map whose nodes are boxed, balanced and reserved before they are used.
+#![tactic(auto)]
+
+mod edits;
+mod map;
+mod range;
+mod spare;
+mod tree;
+mod walks;
+
+pub use map::AvlMap;
+
+#[cfg(test)]
+mod tests;

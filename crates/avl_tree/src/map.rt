@@ -1,0 +1,195 @@
+// The map.
+ghost use Rattle.std.specs.Prelude.{◌≡◌, ◌+◌, ◌<◌, ◌≤◌, [], length, max, IfOk, IfErr, if◌then◌else◌};
+ghost use Rattle.std.specs.Option.{option_copied, option_map, is_some};
+ghost use Rattle.std.specs.List.{slice_get};
+ghost use Rattle.std.specs.List.Sorted.{IsStrictlySortedBy};
+ghost use Rattle.std.specs.Map.{keys_of, set_value, remove_entry};
+ghost use Rattle.std.specs.BTreeMap.{insert_entry, is_at};
+ghost use Rattle.std.specs.declared.option.Option.TheVariants.{None, Some};
+ghost use Rattle.avl_tree.specs.Map.{entries, get, IsShallow};
+ghost use Rattle.avl_tree.specs.Search.{path_length};
+ghost use Rattle.avl_tree.specs.Visits.{between, VisitsTo};
+
+use crate::spare::SpareNodes;
+use crate::tree::{Node, Tree};
+use crate::{edits, range, walks};
+use std::alloc::{AllocError, Allocator};
+use std::marker::Model;
+use std::mem;
+
+/// A map with its keys in order, in a balanced tree of nodes in boxes of the caller's allocator.
+///
+/// A contract sees the pairs by rising key (`entries`), the number of spare nodes, and in `probe` alone the shape
+/// of the tree. Only `reserve` takes memory. An insert uses a spare node and never fails, and a removal makes the
+/// node of its key spare.
+#[derive(Drop)]
+pub struct AvlMap<K: Ord + Copy, V, A: Allocator + Clone> {
+    root: Tree<K, V, A>,
+    len: usize,
+    spare: SpareNodes<K, V, A>,
+    alloc: A,
+}
+
+impl<K: Ord + Copy, V, A: Allocator + Clone> Model for AvlMap<K, V, A> {
+    ghost use Rattle.avl_tree.specs.Map.{Map, map_code};
+
+    ghost Value = { Map K V };
+
+    ghost coded = { map_code K.code V.code };
+
+    ghost use Rattle.avl_tree.specs.Nodes.{search_of, IsWhole};
+
+    ghost view = { λ m. record { tree = search_of m.root; spare = m.spare } };
+
+    ghost invariant = { λ m. IsWhole K.cmp m.root m.len m.spare };
+}
+
+/// Puts a pair into a node that holds nothing.
+fn fill<K, V, A: Allocator>(node: &mut Node<K, V, A>, key: K, value: V)
+    requires { node.old.entry ≡ None }
+    ensures left { node.new.left ≡ node.old.left }
+    ensures right { node.new.right ≡ node.old.right }
+    ensures entry { node.new.entry ≡ Some (key, value) }
+{
+    match mem::replace(&mut node.entry, Some((key, value))) {
+        None => {}
+        Some((_, _)) => unreachable!(),
+    }
+}
+
+/// Takes the value out of a node.
+fn empty<K: Copy, V, A: Allocator>(node: &mut Node<K, V, A>) -> Option<V>
+    ensures left { node.new.left ≡ node.old.left }
+    ensures right { node.new.right ≡ node.old.right }
+    ensures entry { node.new.entry ≡ None }
+    ensures value { result ≡ option_map (λ e. e.1) node.old.entry }
+{
+    match mem::replace(&mut node.entry, None) {
+        None => None,
+        Some((_, value)) => Some(value),
+    }
+}
+
+impl<K: Ord + Copy, V, A: Allocator + Clone> AvlMap<K, V, A> {
+    /// An empty map with no spare node.
+    pub fn new_in(alloc: A) -> Self
+        ensures empty { entries result ≡ [] }
+        ensures no_spare { result.spare ≡ 0 }
+    {
+        AvlMap {
+            root: Tree::Empty,
+            len: 0,
+            spare: SpareNodes::new(),
+            alloc,
+        }
+    }
+
+    /// The number of keys.
+    pub fn len(&self) -> usize
+        ensures length { result ≡ length (entries self.now) }
+        ensures ordered { IsStrictlySortedBy K.cmp (keys_of (entries self.now)) }
+    {
+        self.len
+    }
+
+    /// The number of spare nodes.
+    pub fn spare(&self) -> usize
+        ensures { result ≡ self.now.spare }
+    {
+        self.spare.count()
+    }
+
+    /// The value of the key.
+    pub fn get(&self, key: &K) -> Option<&V>
+        ensures { option_copied result ≡ get K.cmp self.now key.now }
+    {
+        walks::find(&self.root, key)
+    }
+
+    /// The pair of the least key.
+    pub fn first(&self) -> Option<(&K, &V)>
+        ensures { option_map (λ p. (p.0.now, p.1.now)) result ≡ slice_get (entries self.now) 0 }
+    {
+        walks::first(&self.root)
+    }
+
+    /// The value of the key, as `get` gives it, and the number of nodes met on the way from the root to the key or
+    /// to where it would stand.
+    pub fn probe(&self, key: &K) -> (Option<&V>, u32)
+        ensures value { option_copied result.0 ≡ get K.cmp self.now key.now }
+        ensures visits { result.1 ≡ path_length (K.cmp key.now) self.now.tree }
+        ensures shallow { IsShallow self.now result.1 }
+    {
+        walks::count_visits(&self.root, key)
+    }
+
+    /// Calls the closure with each pair from `low` to `high`, both among them, by rising key. Where `high` is below
+    /// `low` there is none.
+    ///
+    /// The closure is lent, so that the caller has the state that the calls left it in.
+    pub fn for_range<F: FnMut(&K, &V)>(&self, low: &K, high: &K, f: &mut F)
+        requires { F.IsAlwaysCallable f.old }
+        ensures callable { F.IsAlwaysCallable f.new }
+        ensures visited { VisitsTo F.FnMut f.old (between K.cmp low.now high.now (entries self.now)) f.new }
+    {
+        range::visit(&self.root, low, high, f);
+    }
+
+    /// Gives the key another value, and answers the old one. Where the key is absent it answers the value that was
+    /// handed in, and changes nothing.
+    pub fn set(&mut self, key: K, value: V) -> Result<V, V>
+        ensures spare { self.new.spare ≡ self.old.spare }
+        ensures old { IfOk result (λ v. get K.cmp self.old key ≡ Some v) }
+        ensures written { IfOk result (λ _. entries self.new ≡ set_value (is_at (K.cmp key)) (entries self.old) value) }
+        ensures absent { IfErr result (λ v. (v ≡ value) × (get K.cmp self.old key ≡ None) × (self.new ≡ self.old)) }
+    {
+        let mut value = value;
+        if edits::exchange(&mut self.root, &key, &mut value) {
+            Ok(value)
+        } else {
+            Err(value)
+        }
+    }
+
+    /// Takes the key out, and answers its value. Its node becomes spare.
+    pub fn remove(&mut self, key: &K) -> Option<V>
+        ensures value { result ≡ get K.cmp self.old key.now }
+        ensures entries { entries self.new ≡ remove_entry (is_at (K.cmp key.now)) (entries self.old) }
+        ensures spare { self.new.spare ≡ self.old.spare + (if is_some result then 1 else 0) }
+    {
+        let mut node = edits::remove(&mut self.root, key)?;
+        let value = empty(&mut node);
+        self.len -= 1;
+        self.spare.push(node);
+        value
+    }
+
+    /// Makes spare nodes until there are `n`: the one call that takes memory. Where memory is refused, the pairs and
+    /// the tree are as they were, and the map keeps the nodes that were made.
+    ///
+    /// More nodes than a `usize` counts are refused as well.
+    pub fn reserve(&mut self, n: usize) -> Result<(), AllocError>
+        ensures same_tree { self.new.tree ≡ self.old.tree }
+        ensures not_less { self.old.spare ≤ self.new.spare }
+        ensures no_more { self.new.spare ≤ max self.old.spare n }
+        ensures enough { IfOk result (λ _. n ≤ self.new.spare) }
+    {
+        if self.len.checked_add(n).is_none() {
+            return Err(AllocError);
+        }
+        self.spare.grow_to(n, &self.alloc)
+    }
+
+    /// Puts a pair whose key is absent into a spare node.
+    pub fn insert_reserved(&mut self, key: K, value: V)
+        requires spare { 0 < self.old.spare }
+        requires absent { get K.cmp self.old key ≡ None }
+        ensures entries { entries self.new ≡ insert_entry K.cmp (entries self.old) key value }
+        ensures spare { self.new.spare + 1 ≡ self.old.spare }
+    {
+        let mut node = self.spare.pop();
+        fill(&mut node, key, value);
+        edits::insert(&mut self.root, &key, node);
+        self.len += 1;
+    }
+}

@@ -1,0 +1,63 @@
+// Walks over a range of keys.
+ghost use Rattle.std.specs.Prelude.{IsSome, IfSome};
+ghost use Rattle.avl_tree.specs.Nodes.{entries, IsAvl, IsOrdered};
+ghost use Rattle.avl_tree.specs.Visits.{between, CalledAtEntry, VisitsTo};
+
+use crate::tree::{Node, Tree};
+use crate::walks::compare;
+use std::alloc::Allocator;
+use std::cmp::Ordering;
+
+/// Calls the closure with the entry of a node.
+fn call_at<K, V, A: Allocator, F: FnMut(&K, &V)>(node: &Node<K, V, A>, f: &mut F)
+    requires entry { IsSome node.now.entry }
+    requires callable { F.IsAlwaysCallable f.old }
+    ensures callable { F.IsAlwaysCallable f.new }
+    ensures called { IfSome node.now.entry (λ e. CalledAtEntry F.FnMut f.old e f.new) }
+{
+    match &node.entry {
+        Some((key, value)) => f(key, value),
+        None => unreachable!(),
+    }
+}
+
+/// Calls the closure with each entry from `low` to `high`, by rising key.
+pub fn visit<K: Ord, V, A: Allocator, F: FnMut(&K, &V)>(
+    tree: &Tree<K, V, A>,
+    low: &K,
+    high: &K,
+    f: &mut F,
+)
+    requires balanced { IsAvl tree.now }
+    requires sorted { IsOrdered K.cmp (entries tree.now) }
+    requires callable { F.IsAlwaysCallable f.old }
+    ensures callable { F.IsAlwaysCallable f.new }
+    ensures visited { VisitsTo F.FnMut f.old (between K.cmp low.now high.now (entries tree.now)) f.new }
+{
+    let Tree::Fork(_, node) = tree else {
+        return;
+    };
+    match compare(low, node) {
+        Ordering::Greater => visit(&node.right, low, high, f),
+        Ordering::Equal => match compare(high, node) {
+            Ordering::Less => {}
+            Ordering::Equal => call_at(node, f),
+            Ordering::Greater => {
+                call_at(node, f);
+                visit(&node.right, low, high, f);
+            }
+        },
+        Ordering::Less => match compare(high, node) {
+            Ordering::Less => visit(&node.left, low, high, f),
+            Ordering::Equal => {
+                visit(&node.left, low, high, f);
+                call_at(node, f);
+            }
+            Ordering::Greater => {
+                visit(&node.left, low, high, f);
+                call_at(node, f);
+                visit(&node.right, low, high, f);
+            }
+        },
+    }
+}

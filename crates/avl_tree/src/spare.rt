@@ -1,0 +1,139 @@
+// Nodes that wait for an entry.
+ghost use Rattle.std.specs.Prelude.{◌≡◌, ◌+◌, ◌<◌, ◌≤◌, ◌^◌, max, None, IfOk};
+ghost use Rattle.avl_tree.specs.Nodes.{IsBare, IsSpareChain, chain_length};
+
+use crate::tree::{Node, Tree, put, take};
+use std::alloc::{AllocError, Allocator};
+use std::marker::Model;
+
+/// Nodes with no entry, each linked to the next by its left side.
+pub struct SpareNodes<K, V, A: Allocator> {
+    first: Tree<K, V, A>,
+    count: usize,
+}
+
+impl<K, V, A: Allocator> Model for SpareNodes<K, V, A> {
+    ghost use Rattle.std.specs.Prelude.{ℕ, ◌≡◌};
+
+    ghost Value = { ℕ };
+
+    ghost use Rattle.avl_tree.specs.Nodes.{IsSpareChain, chain_length};
+
+    ghost view = { λ s. s.count };
+
+    ghost invariant = { λ s. IsSpareChain s.first × (s.count ≡ chain_length s.first) };
+}
+
+impl<K: Drop, V: Drop, A: Allocator> Drop for SpareNodes<K, V, A> {
+    fn drop(self) {
+        let SpareNodes { first, count: _ } = self;
+        free(first);
+    }
+}
+
+/// Frees a chain a node at a time: a derived `drop` would call itself once for each node.
+fn free<K: Drop, V: Drop, A: Allocator>(mut chain: Tree<K, V, A>) {
+    loop {
+        match chain {
+            Tree::Empty => return,
+            Tree::Fork(_, node) => {
+                let Node {
+                    left,
+                    right: _,
+                    entry: _,
+                } = Box::into_inner(node);
+                chain = left;
+            }
+        }
+    }
+}
+
+/// Makes a node with no entry.
+fn make<K, V, A: Allocator>(alloc: A) -> Result<Box<Node<K, V, A>, A>, AllocError>
+    ensures bare { IfOk result (λ b. IsBare b.value) }
+    ensures empty { IfOk result (λ b. b.value.entry ≡ None) }
+{
+    let node = Node {
+        left: Tree::Empty,
+        right: Tree::Empty,
+        entry: None,
+    };
+    match Box::new(alloc, node) {
+        Ok(node) => Ok(node),
+        Err(failed) => {
+            discard(failed.value);
+            Err(AllocError)
+        }
+    }
+}
+
+/// Takes a node apart that holds nothing.
+fn discard<K, V, A: Allocator>(node: Node<K, V, A>)
+    requires bare { IsBare node }
+    requires empty { node.entry ≡ None }
+{
+    let Node { left, right, entry } = node;
+    let Tree::Empty = left else { unreachable!() };
+    let Tree::Empty = right else { unreachable!() };
+    let None = entry else { unreachable!() };
+}
+
+impl<K, V, A: Allocator> SpareNodes<K, V, A> {
+    /// No node.
+    pub fn new() -> Self
+        ensures { result ≡ 0 }
+    {
+        SpareNodes {
+            first: Tree::Empty,
+            count: 0,
+        }
+    }
+
+    /// How many nodes there are.
+    pub fn count(&self) -> usize
+        ensures { result ≡ self.now }
+    {
+        self.count
+    }
+
+    /// Adds a node that holds nothing.
+    pub fn push(&mut self, mut node: Box<Node<K, V, A>, A>)
+        requires bare { IsBare node.value }
+        requires empty { node.value.entry ≡ None }
+        requires fits { self.old + 1 < 2 ^ 64 }
+        ensures { self.new ≡ self.old + 1 }
+    {
+        put(&mut node.left, take(&mut self.first));
+        put(&mut self.first, Tree::Fork(1, node));
+        self.count += 1;
+    }
+
+    /// Takes a node.
+    pub fn pop(&mut self) -> Box<Node<K, V, A>, A>
+        requires { 0 < self.old }
+        ensures one_less { self.new + 1 ≡ self.old }
+        ensures bare { IsBare result.value }
+        ensures empty { result.value.entry ≡ None }
+    {
+        let Tree::Fork(_, mut node) = take(&mut self.first) else {
+            unreachable!()
+        };
+        put(&mut self.first, take(&mut node.left));
+        self.count -= 1;
+        node
+    }
+
+    /// Makes nodes until there are `n`.
+    pub fn grow_to(&mut self, n: usize, alloc: &A) -> Result<(), AllocError>
+    where
+        A: Clone,
+        ensures not_less { self.old ≤ self.new }
+        ensures no_more { self.new ≤ max self.old n }
+        ensures enough { IfOk result (λ _. n ≤ self.new) }
+    {
+        while self.count() < n {
+            self.push(make(alloc.clone()?)?);
+        }
+        Ok(())
+    }
+}

@@ -1,0 +1,186 @@
+-- Chains: what a loop through one knows of the events behind it, and what is left of them.
+use Rattle.std.proofs.Common.{◌≡◌, ℕ, suc, ◌+◌, ◌-◌, ◌<◌, ◌≤◌, ◌==◌, ◌&&◌, Bool, true, false, List, [], ◌∷◌, ◌++◌, length, replicate, take, drop, get_or, Option, Some, None, if◌then◌else◌, refl, sym, ap, subst, ◌∙◌, append_assoc, length-append, arith}
+use Rattle.std.proofs.lemmas.Bool.Decides.{nat_tests}
+use Rattle.std.proofs.lemmas.List.{at_drop_more, at_drop_all, length-replicate, length-drop}
+use Rattle.tb_ledger.specs.Books.{Books}
+use Rattle.tb_ledger.specs.Batches.{Kind, Timed, Failure, Outcome, timed_from, timed, joined, blocks, block_length, code_in_chain, failure_from, all_recorded, undone_code, undone, outcome, block_after, blocks_after, batch_after, results_from, results}
+use Rattle.tb_ledger.proofs.CodeLaws.{results-append, results-none, results-one, length-results_from}
+
+pub length-timed_from : {E : Type 0} (t : ℕ) (es : List E) → length (timed_from t es) ≡ length es
+length-timed_from t [] = refl
+length-timed_from t (e ∷ es) = ap suc (length-timed_from (t + 1) es)
+
+module _ {E : Type 0} (kind : Kind E) where
+  -- the code of an event, by whether it is the last of the chain
+  pub in-chain : (B : Books) (e : E) (time : ℕ) (es : List E) (last : Bool) → last ≡ (length es == 0)
+      → code_in_chain kind B (e, time) (timed_from (time + 1) es) ≡ (if last && kind.linked e then 2 else kind.verdict B e time)
+  in-chain B e time [] last is = rw is refl
+  in-chain B e time (x ∷ xs) last is =
+      let more : (length (x ∷ xs) == 0) ≡ false = grind (arith, nat_tests) in
+      rw (is, more) refl
+
+  pub undone-one : (e : E) (time : ℕ) (es : List E) (last : Bool) → last ≡ (length es == 0)
+      → undone_code kind (e, time) (timed_from (time + 1) es) ≡ (if last && kind.linked e then 2 else 1)
+  undone-one e time [] last is = rw is refl
+  undone-one e time (x ∷ xs) last is =
+      let more : (length (x ∷ xs) == 0) ≡ false = grind (arith, nat_tests) in
+      rw (is, more) refl
+
+  -- what is undone has no times
+  pub undone-timed : (t s : ℕ) (es : List E) → undone kind (timed_from t es) ≡ undone kind (timed_from s es)
+  undone-timed t s [] = refl
+  undone-timed t s (e ∷ []) = refl
+  undone-timed t s (e ∷ (x ∷ xs)) = ap (λ codes. 1 ∷ codes) (undone-timed (t + 1) (s + 1) (x ∷ xs))
+
+  pub length-undone : (es : List (Timed E)) → length (undone kind es) ≡ length es
+  length-undone [] = refl
+  length-undone (x ∷ xs) = ap suc (length-undone xs)
+
+  same_end : (p n : ℕ) → p < n → (p + 1 == n) ≡ (n - (p + 1) == 0)
+  same_end p n within = grind (arith, nat_tests)
+
+  last-is : (block : List E) (place : ℕ) → place < length block → (place + 1 == length block) ≡ (length (drop (place + 1) block) == 0)
+  last-is block place within = rw (length-drop (place + 1) block) (same_end place (length block) within)
+
+  -- one step past an event
+  timed-more : (block : List E) (place stamp : ℕ) (e : E) → place < length block → e ≡ get_or block place e
+      → timed_from stamp (drop place block) ≡ (e, stamp) ∷ timed_from (stamp + 1) (drop (place + 1) block)
+  timed-more block place stamp e within here = at_drop_more (timed_from stamp) block place e within ∙ ap (λ x. timed_from stamp (x ∷ drop (place + 1) block)) (sym here)
+
+  code-here : (B : Books) (block : List E) (place stamp code : ℕ) (e : E) → place < length block
+      → code ≡ (if (place + 1 == length block) && kind.linked e then 2 else kind.verdict B e stamp)
+      → code_in_chain kind B (e, stamp) (timed_from (stamp + 1) (drop (place + 1) block)) ≡ code
+  code-here B block place stamp code e within is = in-chain B e stamp (drop (place + 1) block) (place + 1 == length block) (last-is block place within) ∙ sym is
+
+  -- an event that isn't accepted is the failure
+  pub failure-here : (B : Books) (block : List E) (place stamp code : ℕ) (e : E) → place < length block → e ≡ get_or block place e
+      → code ≡ (if (place + 1 == length block) && kind.linked e then 2 else kind.verdict B e stamp) → (code == 0) ≡ false
+      → failure_from kind place B (timed_from stamp (drop place block)) ≡ Some (record { place = place; event = e; code = code; rest = timed_from (stamp + 1) (drop (place + 1) block) })
+  failure-here B block place stamp code e within here is refused = rw (timed-more block place stamp e within here, code-here B block place stamp code e within is, refused) refl
+
+  -- an accepted event is passed
+  pub failure-later : (B : Books) (block : List E) (place stamp code : ℕ) (e : E) → place < length block → e ≡ get_or block place e
+      → code ≡ (if (place + 1 == length block) && kind.linked e then 2 else kind.verdict B e stamp) → code ≡ 0
+      → failure_from kind place B (timed_from stamp (drop place block)) ≡ failure_from kind (place + 1) (kind.recorded B e stamp) (timed_from (stamp + 1) (drop (place + 1) block))
+  failure-later B block place stamp code e within here is accepted = rw (timed-more block place stamp e within here, code-here B block place stamp code e within is, accepted) refl
+
+  pub all-later : (B : Books) (block : List E) (place stamp : ℕ) (e : E) → place < length block → e ≡ get_or block place e
+      → all_recorded kind B (timed_from stamp (drop place block)) ≡ all_recorded kind (kind.recorded B e stamp) (timed_from (stamp + 1) (drop (place + 1) block))
+  all-later B block place stamp e within here = rw (timed-more block place stamp e within here) refl
+
+  undone-is : (b : Bool) → ((if b then 2 else 1) == 0) ≡ false
+  undone-is true = refl
+  undone-is false = refl
+
+  pub undone-step : (rest : List E) (p i code : ℕ) (e : E) → i < length rest → e ≡ get_or rest i e → code ≡ (if (i + 1 == length rest) && kind.linked e then 2 else 1)
+      → results_from (p + i) (undone kind (timed_from 0 (drop i rest))) ≡ record { index = p + i; result = code } ∷ results_from (p + (i + 1)) (undone kind (timed_from 0 (drop (i + 1) rest)))
+  undone-step rest p i code e within here is =
+      let last = (i + 1 == length rest) && kind.linked e in
+      let next : p + i + 1 ≡ p + (i + 1) = omega arith in
+      let later = undone kind (timed_from 0 (drop (i + 1) rest)) in
+      let codes : undone kind (timed_from 0 (drop i rest)) ≡ code ∷ later =
+      ap (undone kind) (timed-more rest i 0 e within here)
+      ∙ ap (λ x. x ∷ undone kind (timed_from 1 (drop (i + 1) rest))) (undone-one e 0 (drop (i + 1) rest) (i + 1 == length rest) (last-is rest i within) ∙ sym is)
+      ∙ ap (λ codes. code ∷ codes) (undone-timed 1 0 (drop (i + 1) rest)) in
+      let some : (code == 0) ≡ false = subst (λ n. (n == 0) ≡ false) (sym is) (undone-is last) in
+      ap (results_from (p + i)) codes ∙ results-one (p + i) code later some ∙ ap (λ k. record { index = p + i; result = code } ∷ results_from k later) next
+
+  -- what a chain leaves
+  pub broken-books : (B : Books) (block : List (Timed E)) (f : Failure E) → failure_from kind 0 B block ≡ Some f → (block_after kind B block).books ≡ kind.refused B f.event f.code
+  broken-books B block f is = rw is refl
+
+  pub broken-codes : (B : Books) (block : List (Timed E)) (f : Failure E) → failure_from kind 0 B block ≡ Some f → (block_after kind B block).codes ≡ replicate f.place 1 ++ f.code ∷ undone kind f.rest
+  broken-codes B block f is = rw is refl
+
+  pub passed-books : (B : Books) (block : List (Timed E)) → failure_from kind 0 B block ≡ None → (block_after kind B block).books ≡ all_recorded kind B block
+  passed-books B block is = rw is refl
+
+  pub passed-codes : (B : Books) (block : List (Timed E)) → failure_from kind 0 B block ≡ None → (block_after kind B block).codes ≡ replicate (length block) 0
+  passed-codes B block is = rw is refl
+
+  -- what a chain leaves, by the place where a loop through it stands
+  pub broken-here : (B : Books) (block : List E) (time : ℕ) (B' : Books) (place stamp code : ℕ) (e : E)
+      → failure_from kind place B' (timed_from stamp (drop place block)) ≡ failure_from kind 0 B (timed_from time block)
+      → place < length block → e ≡ get_or block place e
+      → code ≡ (if (place + 1 == length block) && kind.linked e then 2 else kind.verdict B' e stamp) → (code ≡ 0 → ⊥)
+      → block_after kind B (timed_from time block) ≡ record { books = kind.refused B e code; codes = replicate place 1 ++ code ∷ undone kind (timed_from 0 (drop (place + 1) block)) }
+  broken-here B block time B' place stamp code e ahead within here is refused =
+      let refused' : (code == 0) ≡ false = grind (arith, nat_tests) in
+      let rest = timed_from (stamp + 1) (drop (place + 1) block) in
+      let f : Failure E = record { place = place; event = e; code = code; rest = rest } in
+      let fails : failure_from kind 0 B (timed_from time block) ≡ Some f = sym ahead ∙ failure-here B' block place stamp code e within here is refused' in
+      ap (outcome kind B (timed_from time block)) fails
+      ∙ ap (λ codes. record { books = kind.refused B e code; codes = replicate place 1 ++ code ∷ codes }) (undone-timed (stamp + 1) 0 (drop (place + 1) block))
+
+  pub no_failure : (place : ℕ) (B : Books) (block : List E) (stamp : ℕ) → length block ≤ place → failure_from kind place B (timed_from stamp (drop place block)) ≡ None
+  no_failure place B block stamp end = at_drop_all (λ es. failure_from kind place B (timed_from stamp es)) block place end
+
+  pub all_passed : (place : ℕ) (B : Books) (block : List E) (stamp : ℕ) → length block ≤ place → all_recorded kind B (timed_from stamp (drop place block)) ≡ B
+  all_passed place B block stamp end = at_drop_all (λ es. all_recorded kind B (timed_from stamp es)) block place end
+
+  pub passed-here : (B : Books) (block : List E) (time : ℕ) (B' : Books) (place stamp : ℕ)
+      → failure_from kind place B' (timed_from stamp (drop place block)) ≡ failure_from kind 0 B (timed_from time block)
+      → all_recorded kind B' (timed_from stamp (drop place block)) ≡ all_recorded kind B (timed_from time block)
+      → length block ≤ place
+      → block_after kind B (timed_from time block) ≡ record { books = B'; codes = replicate (length block) 0 }
+  passed-here B block time B' place stamp ahead all end =
+      let passes : failure_from kind 0 B (timed_from time block) ≡ None = sym ahead ∙ no_failure place B' block stamp end in
+      let books : all_recorded kind B (timed_from time block) ≡ B' = sym all ∙ all_passed place B' block stamp end in
+      ap (outcome kind B (timed_from time block)) passes
+      ∙ (λ i. record { books = books i; codes = replicate (length-timed_from time block i) 0 })
+
+  -- cutting a batch
+  pub blocks-cut : (t : ℕ) (e : E) (es : List E)
+      → blocks kind (timed_from t (e ∷ es)) ≡ timed_from t (take (block_length kind (e ∷ es)) (e ∷ es)) ∷ blocks kind (timed_from (t + block_length kind (e ∷ es)) (drop (block_length kind (e ∷ es)) (e ∷ es)))
+  blocks-cut t e [] = elim (kind.linked e) as (λ b. (if b then joined kind (e, t) [] else ((e, t) ∷ []) ∷ []) ≡ timed_from t (take (if b then 1 else 1) (e ∷ [])) ∷ blocks kind (timed_from (t + (if b then 1 else 1)) (drop (if b then 1 else 1) (e ∷ [])))) [ true ↦ refl | false ↦ refl ]
+  blocks-cut t e (x ∷ xs) =
+      let n = block_length kind (x ∷ xs) in
+      let moved : t + 1 + n ≡ t + suc n = omega arith in
+      let later : blocks kind (timed_from (t + 1) (x ∷ xs)) ≡ timed_from (t + 1) (take n (x ∷ xs)) ∷ blocks kind (timed_from (t + suc n) (drop n (x ∷ xs))) = blocks-cut (t + 1) x xs ∙ ap (λ s. timed_from (t + 1) (take n (x ∷ xs)) ∷ blocks kind (timed_from s (drop n (x ∷ xs)))) moved in
+      elim (kind.linked e) as (λ b. (if b then joined kind (e, t) (blocks kind (timed_from (t + 1) (x ∷ xs))) else ((e, t) ∷ []) ∷ blocks kind (timed_from (t + 1) (x ∷ xs)))
+      ≡ timed_from t (take (if b then suc n else 1) (e ∷ (x ∷ xs))) ∷ blocks kind (timed_from (t + (if b then suc n else 1)) (drop (if b then suc n else 1) (e ∷ (x ∷ xs))))) [
+        | true ↦ ap (joined kind (e, t)) later
+        | false ↦ refl
+      ]
+
+  -- a code for each event
+  pub length-failure : (place : ℕ) (B : Books) (block : List (Timed E)) (f : Failure E) → failure_from kind place B block ≡ Some f → f.place + suc (length f.rest) ≡ place + length block
+  length-failure place B [] f is = absurd (cc)
+  length-failure place B (x ∷ xs) f is =
+      let code = code_in_chain kind B x xs in
+      elim (code == 0) as (λ b. (if b then failure_from kind (place + 1) (kind.recorded B x.0 x.1) xs else Some (record { place = place; event = x.0; code = code; rest = xs })) ≡ Some f → f.place + suc (length f.rest) ≡ place + suc (length xs)) [
+        | true ↦ λ later. omega (arith, length-failure (place + 1) (kind.recorded B x.0 x.1) xs f later)
+        | false ↦ λ here. let e : record { place = place; event = x.0; code = code; rest = xs } ≡ f = cc in sym (ap (λ g. g.place + suc (length g.rest)) e)
+      ] is
+
+  length-outcome : (B : Books) (block : List (Timed E)) (o : Option (Failure E)) → ((f : Failure E) → o ≡ Some f → f.place + suc (length f.rest) ≡ length block) → length (outcome kind B block o).codes ≡ length block
+  length-outcome B block None place = length-replicate {A = ℕ} (length block) 0
+  length-outcome B block (Some f) place = omega (arith, place f refl, length-append (replicate f.place 1) (f.code ∷ undone kind f.rest), length-replicate {A = ℕ} f.place 1, length-undone f.rest)
+
+  pub length-codes : (B : Books) (block : List (Timed E)) → length (block_after kind B block).codes ≡ length block
+  length-codes B block = length-outcome B block (failure_from kind 0 B block) (λ f is. omega (arith, length-failure 0 B block f is))
+
+  -- the events of all chains
+  abbrev total : List (List (Timed E)) → ℕ
+  total [] = 0
+  total (block ∷ rest) = length block + total rest
+
+  total-joined : (x : Timed E) (all : List (List (Timed E))) → total (joined kind x all) ≡ suc (total all)
+  total-joined x [] = refl
+  total-joined x (block ∷ rest) = omega arith
+
+  total-blocks : (xs : List (Timed E)) → total (blocks kind xs) ≡ length xs
+  total-blocks [] = refl
+  total-blocks (x ∷ xs) = elim (kind.linked x.0) as (λ b. total (if b then joined kind x (blocks kind xs) else (x ∷ []) ∷ blocks kind xs) ≡ suc (length xs)) [
+    | true ↦ omega (arith, total-joined x (blocks kind xs), total-blocks xs)
+    | false ↦ omega (arith, total-blocks xs)
+  ]
+
+  length-chains : (B : Books) (all : List (List (Timed E))) → length (blocks_after kind B all).codes ≡ total all
+  length-chains B [] = refl
+  length-chains B (block ∷ rest) =
+      let first = block_after kind B block in
+      omega (arith, length-append first.codes (blocks_after kind first.books rest).codes, length-codes B block, length-chains first.books rest)
+
+  pub length-batch : (B : Books) (events : List E) (T : ℕ) → length (batch_after kind B events T).codes ≡ length events
+  length-batch B events T = omega (arith, length-chains (record B { time = T }) (blocks kind (timed T events)), total-blocks (timed T events), length-timed_from (T + 1 - length events) events)

@@ -1,0 +1,96 @@
+-- The ids that failed for good.
+use Rattle.std.proofs.Common.{◌≡◌, ℕ, ◌==◌, ◌&&◌, Bool, true, false, not, List, [], ◌∷◌, find, is_some, Option, Some, None, if◌then◌else◌, refl, sym, ap, ◌∙◌, arith}
+use Rattle.std.specs.List.{list_any}
+use Rattle.std.specs.Option.{option_map_or}
+use Rattle.std.proofs.lemmas.Bool.{and_parts}
+use Rattle.tb_records.specs.declared.records.Transfer.{Transfer}
+use Rattle.tb_records.specs.Ordered.{put}
+use Rattle.tb_ledger.specs.declared.rows.AccountRow.{AccountRow}
+use Rattle.tb_ledger.specs.declared.rows.TransferRow.{TransferRow}
+use Rattle.tb_ledger.specs.Books.{Books, resolves, transfer_at}
+use Rattle.tb_ledger.specs.Batches.{is_final, transfer_events}
+use Rattle.tb_ledger.specs.Kept.{books_of, IsLedger}
+use Rattle.tb_ledger.specs.Verdicts.{Line, first_of, first_code, transfer_own_lines, transfer_exists, filled, resolve_code, single_code, transfer_verdict}
+use Rattle.tb_ledger.proofs.SoundLaws.{sound_failed}
+use Rattle.tb_ledger.proofs.VerdictLaws.{any-found}
+
+-- no line fails a transfer for good
+abbrev never : List Line → Bool
+never [] = true
+never (line ∷ lines) = not (is_final line.0) && never lines
+
+never_final : (lines : List Line) → never lines ≡ true → is_final (first_of lines) ≡ false
+never_final [] is = refl
+never_final (line ∷ lines) is = by line.1 (and_parts (not (is_final line.0)) (never lines) is) (never_final lines)
+  where
+    passes : (b : Bool) → not b ≡ true → b ≡ false
+    passes true e = absurd (cc)
+    passes false e = refl
+
+    by : (b : Bool) → (not (is_final line.0) ≡ true) × (never lines ≡ true) → (never lines ≡ true → is_final (first_of lines) ≡ false) → is_final (if b then line.0 else first_of lines) ≡ false
+    by true parts later = passes (is_final line.0) parts.0
+    by false parts later = later parts.1
+
+-- where the id has failed before, the verdict is no final one
+before : (a b d : ℕ) → is_final a ≡ false → is_final b ≡ false → is_final (first_code (a ∷ b ∷ 68 ∷ d ∷ [])) ≡ false
+before a b d a_is b_is = elim (a == 0) as (λ x. is_final (if x then (if b == 0 then 68 else b) else a) ≡ false) [
+  | true ↦ elim (b == 0) as (λ y. is_final (if y then 68 else b) ≡ false) [ true ↦ refl | false ↦ b_is ]
+  | false ↦ a_is
+]
+
+there_final : (o : Option Transfer) (f : Transfer) → is_final (first_of (transfer_exists o f)) ≡ false
+there_final None f = refl
+there_final (Some e) f = never_final (transfer_exists (Some e) f) refl
+
+-- a transfer that fails for good has not failed before
+pub final_is_new : (B : Books) (t : Transfer) (time code : ℕ) → code ≡ transfer_verdict B t time → is_final code ≡ true → option_map_or (list_any (λ id. id == t.id)) B.failed false ≡ false
+final_is_new B t time code code_is final = by (option_map_or (list_any (λ id. id == t.id)) B.failed false) (sym (ap is_final code_is) ∙ final)
+  where
+    own : ℕ
+    own = first_of (transfer_own_lines t)
+
+    there : ℕ
+    there = first_of (transfer_exists (transfer_at B t.id) (filled B t))
+
+    kind : ℕ
+    kind = if resolves t then resolve_code B (filled B t) else single_code B t time
+
+    by : (b : Bool) → is_final (first_code (first_of (transfer_own_lines t) ∷ first_of (transfer_exists (transfer_at B t.id) (filled B t)) ∷ first_of ((68, b) ∷ []) ∷ (if resolves t then resolve_code B (filled B t) else single_code B t time) ∷ [])) ≡ true → b ≡ false
+    by false h = refl
+    by true h =
+        let free = before (first_of (transfer_own_lines t)) (first_of (transfer_exists (transfer_at B t.id) (filled B t))) (if resolves t then resolve_code B (filled B t) else single_code B t time)
+        (never_final (transfer_own_lines t) refl) (there_final (transfer_at B t.id) (filled B t)) in
+        absurd (cc)
+
+-- an id that is none of some ids isn't found among them
+pub absent : (ids : List ℕ) (keeps : Bool) (id : ℕ) → keeps ≡ true → option_map_or (list_any (λ k. k == id)) (if keeps then Some ids else None) false ≡ false → find (λ k. k == id) ids ≡ None
+absent ids keeps id kept new = by (find (λ k. k == id) ids) (sym (any-found (λ k. k == id) ids) ∙ sym (ap (λ b. option_map_or (list_any (λ k. k == id)) (if b then Some ids else None) false) kept) ∙ new)
+  where
+    by : (o : Option ℕ) → is_some o ≡ false → o ≡ None
+    by None e = refl
+    by (Some k) e = absurd (cc)
+
+pub refused_unkept : (accounts : List AccountRow) (transfers : List TransferRow) (failed : List ℕ) (keeps : Bool) (time : ℕ) (t : Transfer) (code : ℕ) → keeps ≡ false
+    → books_of accounts transfers failed keeps time ≡ transfer_events.refused (books_of accounts transfers failed keeps time) t code
+refused_unkept accounts transfers failed keeps time t code unkept = rw unkept (by (is_final code))
+  where
+    by : (b : Bool) → books_of accounts transfers failed false time ≡ (if b then books_of accounts transfers failed false time else books_of accounts transfers failed false time)
+    by true = refl
+    by false = refl
+
+pub refused_passing : (B : Books) (t : Transfer) (code : ℕ) → is_final code ≡ false → B ≡ transfer_events.refused B t code
+refused_passing B t code passing = rw passing refl
+
+pub refused_final : (accounts : List AccountRow) (transfers : List TransferRow) (failed : List ℕ) (keeps : Bool) (time : ℕ) (t : Transfer) (code : ℕ) → keeps ≡ true → is_final code ≡ true
+    → books_of accounts transfers (put (λ id. id) t.id failed) keeps time ≡ transfer_events.refused (books_of accounts transfers failed keeps time) t code
+refused_final accounts transfers failed keeps time t code kept final = rw (kept, final) refl
+
+-- the books stay sound
+pub kept_failed : (accounts : List AccountRow) (transfers : List TransferRow) (failed later : List ℕ) (keeps : Bool) (next time : ℕ) → keeps ≡ true
+    → IsLedger accounts transfers failed keeps next time → IsLedger accounts transfers later keeps next time
+kept_failed accounts transfers failed later keeps next time kept is = record {
+  kept = is.kept;
+  expiries = is.expiries;
+  unused = λ unkept. absurd (cc);
+  sound = sound_failed (books_of accounts transfers failed keeps time) (if keeps then Some later else None) is.sound;
+}

@@ -1,0 +1,32 @@
+-- A batch, chain by chain, and how many codes and results it has.
+use Rattle.std.proofs.Common.{◌≡◌, ℕ, ◌+◌, ◌<◌, ◌≤◌, List, [], ◌∷◌, ◌++◌, length, take, drop, sym, ap, ◌∙◌, append_assoc, arith, refl}
+use Rattle.tb_records.specs.declared.records.EventResult.{EventResult}
+use Rattle.tb_ledger.specs.Books.{Books}
+use Rattle.tb_ledger.specs.Batches.{Kind, batch_after, blocks, block_length, timed_from, results, results_from}
+use Rattle.tb_ledger.proofs.CodeLaws.{results-append, length-results_from}
+use Rattle.tb_ledger.proofs.BlockLaws.{length-batch, blocks-cut}
+
+-- at most a result for each event
+pub length-results : {E : Type 0} (kind : Kind E) (B : Books) (events : List E) (T : ℕ) → length (results (batch_after kind B events T).codes) ≤ length events
+length-results kind B events T = omega (arith, length-results_from 0 (batch_after kind B events T).codes, length-batch kind B events T)
+
+-- the first chain and the rest
+pub blocks-round : {E : Type 0} (kind : Kind E) (stamp n : ℕ) (rest block later : List E) → 0 < length rest
+    → n ≡ block_length kind rest → block ≡ take n rest → later ≡ drop n rest → length block ≡ n
+    → blocks kind (timed_from stamp rest) ≡ timed_from stamp block ∷ blocks kind (timed_from (stamp + length block) later)
+blocks-round kind stamp n [] block later some n_is block_is later_is len = absurd (omega arith)
+blocks-round kind stamp n (e ∷ es) block later some n_is block_is later_is len =
+    blocks-cut kind stamp e es
+    ∙ ap (λ k. timed_from stamp (take k (e ∷ es)) ∷ blocks kind (timed_from (stamp + k) (drop k (e ∷ es)))) (sym n_is)
+    ∙ (λ i. timed_from stamp (sym block_is i) ∷ blocks kind (timed_from (stamp + sym len i) (sym later_is i)))
+
+-- the results of the first chain are pushed, and those of the rest come
+pub results-round : (before after all : List EventResult) (index m : ℕ) (codes later : List ℕ) → length codes ≡ m → after ≡ before ++ results_from index codes
+    → before ++ results_from index (codes ++ later) ≡ all → after ++ results_from (index + m) later ≡ all
+results-round before after all index m codes later len after_is ahead =
+    let first = results_from index codes in
+    ap (λ items. items ++ results_from (index + m) later) after_is
+    ∙ append_assoc before first (results_from (index + m) later)
+    ∙ ap (λ k. before ++ (first ++ results_from (index + k) later)) (sym len)
+    ∙ ap (λ rs. before ++ rs) (sym (results-append index codes later))
+    ∙ ahead

@@ -1,0 +1,196 @@
+-- What the code of an accepted event makes of the rows.
+use Rattle.std.proofs.Common.{◌≡◌, ◌≢◌, ℕ, ◌+◌, ◌<◌, ◌≤◌, Bool, true, false, not, ◌&&◌, eqb, ◌==◌, List, [], ◌∷◌, map, find, if◌then◌else◌, Option, Some, None, option_map, refl, sym, ap, subst, ◌∙◌, arith}
+use Rattle.tb_records.specs.declared.records.Account.{Account}
+use Rattle.tb_records.specs.declared.records.Transfer.{Transfer}
+use Rattle.tb_records.specs.Ordered.{put, replaced, changed, Each, Rising}
+use Rattle.tb_records.proofs.ByKey.{found_key, changed_found, changed_absent, found-changed, find-map, each-back, each-map, each-put, each-find, each-replaced_all, map-put, map-changed, map-replaced}
+use Rattle.tb_ledger.specs.declared.rows.Side.{Side}
+use Rattle.tb_ledger.specs.declared.rows.State.{State}
+use Rattle.tb_ledger.specs.declared.rows.AccountRow.{AccountRow}
+use Rattle.tb_ledger.specs.declared.rows.TransferRow.{TransferRow}
+use Rattle.tb_ledger.specs.declared.rows.State.TheVariants.{Posted, Voided}
+use Rattle.tb_ledger.specs.Books.{Books, posts, pending, resolves, holds, is_open, expires_at, account_at, transfer_at, closing_debit, closing_credit}
+use Rattle.tb_ledger.specs.Verdicts.{max_id}
+use Rattle.tb_ledger.specs.Sound.{account_key, transfer_key, debit, credit, ledger_at, Sound, Moves, Resolves}
+use Rattle.tb_ledger.specs.Kept.{account_row_key, transfer_row_key, books_of, row_holds, dated, ExpiresFrom, HasSide, HasSums, HasState, IsLedger, on_debits, on_credits, gained, resolved, settled, outcome_of, accounts_gained, accounts_resolved, new_row, new_transfer_row}
+use Rattle.tb_ledger.proofs.Parts.{held_enough, no_sums}
+use Rattle.tb_ledger.proofs.Pairs.{sums_gained, sums_resolved}
+use Rattle.tb_ledger.proofs.States.{states_added, states_resolved}
+use Rattle.tb_ledger.proofs.Standing.{holds_stand, takes_debit, takes_credit}
+use Rattle.tb_ledger.proofs.SoundLaws.{sound_moved, sound_resolved}
+
+-- what is found by an id is found by its key
+pub refound : {X : Type 0} (key : X → ℕ) (id : ℕ) (x : X) (xs : List X) → find (λ y. key y == id) xs ≡ Some x → find (λ y. key y == key x) xs ≡ Some x
+refound key id x xs found = subst (λ k. find (λ y. key y == k) xs ≡ Some x) (sym (found_key key id x xs found)) found
+
+module _ (id : ℕ) (f : Side → Side) (accounts : List AccountRow) (spare : ℕ) where
+  pub wrote_debits : (old : AccountRow) (s : Side) (later : List AccountRow × ℕ) → find (λ a. a.created.id == id) accounts ≡ Some old → s ≡ f old.debits → later ≡ (replaced account_row_key (record old { debits = s }) accounts, spare) → later ≡ (changed account_row_key id (on_debits f) accounts, spare)
+  wrote_debits old s later found is wrote = wrote ∙ ap (λ s. (replaced account_row_key (record old { debits = s }) accounts, spare)) is ∙ ap (λ rows. (rows, spare)) (sym (changed_found account_row_key id (on_debits f) old accounts (λ y. refl) found))
+
+  pub wrote_credits : (old : AccountRow) (s : Side) (later : List AccountRow × ℕ) → find (λ a. a.created.id == id) accounts ≡ Some old → s ≡ f old.credits → later ≡ (replaced account_row_key (record old { credits = s }) accounts, spare) → later ≡ (changed account_row_key id (on_credits f) accounts, spare)
+  wrote_credits old s later found is wrote = wrote ∙ ap (λ s. (replaced account_row_key (record old { credits = s }) accounts, spare)) is ∙ ap (λ rows. (rows, spare)) (sym (changed_found account_row_key id (on_credits f) old accounts (λ y. refl) found))
+
+pub none_debits : (id : ℕ) (f : Side → Side) (table : List AccountRow × ℕ) → find (λ a. a.created.id == id) table.0 ≡ None → table ≡ (changed account_row_key id (on_debits f) table.0, table.1)
+none_debits id f table none = let wrap : List AccountRow → List AccountRow × ℕ = λ rows. (rows, table.1) in ap wrap (sym (changed_absent account_row_key id (on_debits f) table.0 none))
+
+pub none_credits : (id : ℕ) (f : Side → Side) (table : List AccountRow × ℕ) → find (λ a. a.created.id == id) table.0 ≡ None → table ≡ (changed account_row_key id (on_credits f) table.0, table.1)
+none_credits id f table none = let wrap : List AccountRow → List AccountRow × ℕ = λ rows. (rows, table.1) in ap wrap (sym (changed_absent account_row_key id (on_credits f) table.0 none))
+
+-- a change of debits leaves credits
+pub credits_before : (d : ℕ) (f : Side → Side) (c : ℕ) (z : AccountRow) (xs : List AccountRow) → find (λ a. a.created.id == c) (changed account_row_key d (on_debits f) xs) ≡ Some z → (y : AccountRow) × (find (λ a. a.created.id == c) xs ≡ Some y) × (z.credits ≡ y.credits)
+credits_before d f c z xs found =
+    let was = found-changed account_row_key d (on_debits f) c z xs (λ y. refl) found in
+    (was.0, was.1, ap (λ a. a.credits) was.2 ∙ same (account_row_key was.0 == d) was.0)
+  where
+    same : (b : Bool) (y : AccountRow) → (if b then on_debits f y else y).credits ≡ y.credits
+    same true y = refl
+    same false y = refl
+
+-- two changes, one after the other
+pub both_changed : (d c : ℕ) (f h : AccountRow → AccountRow) (before between after : List AccountRow × ℕ) → between ≡ (changed account_row_key d f before.0, before.1) → after ≡ (changed account_row_key c h between.0, between.1) → (after.0 ≡ changed account_row_key c h (changed account_row_key d f before.0)) × (after.1 ≡ before.1)
+both_changed d c f h before between after first second =
+    (ap (λ v. v.0) second ∙ ap (λ v. changed account_row_key c h v.0) first, ap (λ v. v.1) second ∙ ap (λ v. v.1) first)
+
+-- the order of accounts, by their rows
+pub rising_rows : (accounts : List AccountRow) → Rising account_key (map (λ a. a.created) accounts) → Rising account_row_key accounts
+rising_rows [] rising = tt
+rising_rows (a ∷ accounts) rising = (each-back (λ b. a.created.id < account_key b) (λ b. b.created) accounts rising.0, rising_rows accounts rising.1)
+
+none_mapped : {X Y : Type 0} (g : X → Y) (o : Option X) → option_map g o ≡ None → o ≡ None
+none_mapped g None e = refl
+none_mapped g (Some x) e = absurd (cc)
+
+-- an id that the books don't have, no row has
+pub no_row : {X Y : Type 0} (key : Y → ℕ) (g : X → Y) (id : ℕ) (xs : List X) → find (λ y. key y == id) (map g xs) ≡ None → find (λ x. key (g x) == id) xs ≡ None
+no_row key g id xs none = none_mapped g (find (λ x. key (g x) == id) xs) (sym (find-map (λ y. key y == id) g xs) ∙ none)
+
+-- no transfer names an account that isn't there
+unnamed : (side : Transfer → ℕ) (B : Books) (id : ℕ) → account_at B id ≡ None → (t : Transfer) → ledger_at B.accounts (side t) ≡ Some t.ledger → side t ≢ id
+unnamed side B id none t there same = let gone = subst (λ k. ledger_at B.accounts k ≡ Some t.ledger) same there in let nothing = ap (option_map (λ a. a.ledger)) none in cc
+
+-- what is kept of the times at which transfers expire
+
+pub expires_added : (n later first : ℕ) (t : Transfer) (transfers : List TransferRow) → Each (ExpiresFrom n) transfers → later ≤ n → later ≤ first → (dated (new_transfer_row t) ≡ true → first ≤ expires_at t) → Each (ExpiresFrom later) (put transfer_row_key (new_transfer_row t) transfers)
+expires_added n later first t transfers all less less_t its =
+    each-put transfer_row_key (ExpiresFrom later) (new_transfer_row t) transfers (λ is. let at = its is in omega arith)
+    (each-map (ExpiresFrom n) (ExpiresFrom later) transfers (λ y from is. let at = from is in omega arith) all)
+
+pub expires_closed : (n : ℕ) (p : TransferRow) (s : State) (transfers : List TransferRow) → is_open s ≡ false → Each (ExpiresFrom n) transfers → Each (ExpiresFrom n) (replaced transfer_row_key (settled s p) transfers)
+expires_closed n p s transfers over all =
+    each-replaced_all transfer_row_key (ExpiresFrom n) (settled s p) transfers (λ is. absurd (let not_dated : dated (settled s p) ≡ false = by (pending p.recorded) (is_open s) over in cc)) all
+  where
+    by : (b o : Bool) → o ≡ false → ((b && o) && not (p.recorded.timeout == 0)) ≡ false
+    by true o e = rw e refl
+    by false o e = refl
+
+module _ (accounts : List AccountRow) (transfers : List TransferRow) (failed : List ℕ) (keeps_failed : Bool) (next time : ℕ) (ledger : IsLedger accounts transfers failed keeps_failed next time) where
+  abbrev B : Books
+  B = books_of accounts transfers failed keeps_failed time
+
+  rising_accounts : Rising account_row_key accounts
+  rising_accounts = rising_rows accounts ledger.sound.rising
+
+  -- an account added
+  module _ (a : Account) (later : List AccountRow) (is : later ≡ put account_row_key (new_row a) accounts) where
+    pub books_with_account : books_of later transfers failed keeps_failed time ≡ record B { accounts = put account_key a B.accounts }
+    books_with_account = rw (is, map-put account_key (λ a. a.created) (new_row a) accounts) refl
+
+    pub ledger_with_account : account_at B a.id ≡ None → Sound (record B { accounts = put account_key a B.accounts }) → IsLedger later transfers failed keeps_failed next time
+    ledger_with_account fresh sound = record {
+      kept = record { sums = subst (Each (HasSums transfers)) (sym is) (each-put account_row_key (HasSums transfers) (new_row a) accounts (new_sums a fresh) ledger.kept.sums); states = ledger.kept.states };
+      expiries = ledger.expiries;
+      unused = ledger.unused;
+      sound = subst Sound (sym books_with_account) sound;
+    }
+      where
+        new_sums : (a : Account) → account_at B a.id ≡ None → HasSums transfers (new_row a)
+        new_sums a fresh = record {
+          debits = no_sums debit closing_debit transfers a.id (each-back (λ t. debit t ≢ a.id) (λ t. t.recorded) transfers (each-map (λ t. ledger_at B.accounts (debit t) ≡ Some t.ledger) (λ t. debit t ≢ a.id) B.transfers (unnamed debit B a.id fresh) ledger.sound.debits.named));
+          credits = no_sums credit closing_credit transfers a.id (each-back (λ t. credit t ≢ a.id) (λ t. t.recorded) transfers (each-map (λ t. ledger_at B.accounts (credit t) ≡ Some t.ledger) (λ t. credit t ≢ a.id) B.transfers (unnamed credit B a.id fresh) ledger.sound.credits.named));
+        }
+
+  -- a transfer recorded that is no post or void
+  module _ (t : Transfer) (later : List AccountRow) (more : List TransferRow) (is : later ≡ accounts_gained t accounts) (added : more ≡ put transfer_row_key (new_transfer_row t) transfers) where
+    pub books_with_single : books_of later more failed keeps_failed time ≡ record B { transfers = put transfer_key t B.transfers }
+    books_with_single = rw (is, added, map-put transfer_key (λ t. t.recorded) (new_transfer_row t) transfers, map-changed account_row_key (λ a. a.created) t.credit_account_id (on_credits (gained closing_credit t)) (changed account_row_key t.debit_account_id (on_debits (gained closing_debit t)) accounts) (λ y. refl), map-changed account_row_key (λ a. a.created) t.debit_account_id (on_debits (gained closing_debit t)) accounts (λ y. refl)) refl
+
+    pub ledger_with_single : (earlier : ℕ) → transfer_at B t.id ≡ None → resolves t ≡ false → time < t.timestamp + 1000000000 → Moves B t → Each (ExpiresFrom earlier) more → IsLedger later more failed keeps_failed earlier time
+    ledger_with_single earlier fresh single stamped moves_t expiries = record {
+      kept = rw (is, added) (record {
+        sums = sums_gained accounts transfers t rising_accounts (takes_debit accounts transfers failed keeps_failed time ledger.kept.states t moves_t ledger.kept.sums) (takes_credit accounts transfers failed keeps_failed time ledger.kept.states t moves_t ledger.kept.sums) ledger.kept.sums;
+        states = states_added transfers time t ledger.kept.states (no_row transfer_key (λ t. t.recorded) t.id transfers fresh) single stamped;
+      });
+      expiries = expiries;
+      unused = ledger.unused;
+      sound = subst Sound (sym books_with_single) (sound_moved B t ledger.sound moves_t);
+    }
+
+  -- a post or void recorded
+  module _ (p : TransferRow) (r : Transfer) (found : find (λ q. q.recorded.id == r.pending_id) transfers ≡ Some p) (resolves_p : Resolves B r) (is_resolver : resolves r ≡ true) where
+    names : r.pending_id ≡ p.recorded.id
+    names = sym (found_key transfer_row_key r.pending_id p transfers found)
+
+    by_key : find (λ q. transfer_row_key q == transfer_row_key p) transfers ≡ Some p
+    by_key = refound transfer_row_key r.pending_id p transfers found
+
+    the_one : resolves_p.p ≡ p.recorded
+    the_one = let e : Some resolves_p.p ≡ Some p.recorded = sym resolves_p.named ∙ find-map (λ t. eqb t.id r.pending_id) (λ t. t.recorded) transfers ∙ ap (option_map (λ t. t.recorded)) found in cc
+
+    it_holds : row_holds p ≡ true
+    it_holds =
+        holds_stand accounts transfers failed keeps_failed time p (each-find (HasState transfers time) (λ q. q.recorded.id == r.pending_id) p transfers ledger.kept.states found)
+        ∙ ap (holds B) (sym the_one) ∙ resolves_p.held
+
+    over : is_open (outcome_of r) ≡ false
+    over = by (posts r)
+      where
+        by : (b : Bool) → is_open (if b then Posted else Voided) ≡ false
+        by true = refl
+        by false = refl
+
+    same_debit : r.debit_account_id ≡ p.recorded.debit_account_id
+    same_debit = resolves_p.debit_same ∙ ap (λ t. t.debit_account_id) the_one
+
+    same_credit : r.credit_account_id ≡ p.recorded.credit_account_id
+    same_credit = resolves_p.credit_same ∙ ap (λ t. t.credit_account_id) the_one
+
+    pub at_most : r.amount ≤ p.recorded.amount
+    at_most = omega (arith, resolves_p.at_most, ap (λ t. t.amount) the_one)
+
+    -- the sides of both accounts have the amount, and fit
+    pub debit_enough : (a : AccountRow) → find (λ a. a.created.id == r.debit_account_id) accounts ≡ Some a → (p.recorded.amount ≤ a.debits.pending) × (a.debits.pending + a.debits.posted ≤ max_id)
+    debit_enough a there =
+        let has = (each-find (HasSums transfers) (λ a. a.created.id == r.debit_account_id) a accounts ledger.kept.sums there).debits in
+        let its = subst (λ k. HasSide debit closing_debit transfers k a.debits) (found_key account_row_key r.debit_account_id a accounts there ∙ same_debit) has in
+        (held_enough debit closing_debit transfers p (outcome_of r) by_key it_holds over a.debits its, has.fit)
+
+    pub credit_enough : (a : AccountRow) → find (λ a. a.created.id == r.credit_account_id) accounts ≡ Some a → (p.recorded.amount ≤ a.credits.pending) × (a.credits.pending + a.credits.posted ≤ max_id)
+    credit_enough a there =
+        let has = (each-find (HasSums transfers) (λ a. a.created.id == r.credit_account_id) a accounts ledger.kept.sums there).credits in
+        let its = subst (λ k. HasSide credit closing_credit transfers k a.credits) (found_key account_row_key r.credit_account_id a accounts there ∙ same_credit) has in
+        (held_enough credit closing_credit transfers p (outcome_of r) by_key it_holds over a.credits its, has.fit)
+
+    pub fresh_still : transfer_at B r.id ≡ None → find (λ q. q.recorded.id == r.id) (replaced transfer_row_key (settled (outcome_of r) p) transfers) ≡ None
+    fresh_still fresh = no_row transfer_key (λ t. t.recorded) r.id (replaced transfer_row_key (settled (outcome_of r) p) transfers)
+        (ap (find (λ t. transfer_key t == r.id)) (map-replaced transfer_row_key (λ t. t.recorded) (settled (outcome_of r) p) p transfers by_key refl) ∙ fresh)
+
+    expiries_still : Each (ExpiresFrom next) (put transfer_row_key (new_transfer_row r) (replaced transfer_row_key (settled (outcome_of r) p) transfers))
+    expiries_still =
+        each-put transfer_row_key (ExpiresFrom next) (new_transfer_row r) (replaced transfer_row_key (settled (outcome_of r) p) transfers)
+        (λ is. absurd (let single = resolves_p.not_pending in let not_dated : dated (new_transfer_row r) ≡ false = rw single refl in cc))
+        (expires_closed next p (outcome_of r) transfers over ledger.expiries)
+
+    module _ (later : List AccountRow) (more : List TransferRow) (is : later ≡ accounts_resolved p.recorded r accounts) (added : more ≡ put transfer_row_key (new_transfer_row r) (replaced transfer_row_key (settled (outcome_of r) p) transfers)) where
+      pub books_with_resolver : books_of later more failed keeps_failed time ≡ record B { transfers = put transfer_key r B.transfers }
+      books_with_resolver = rw (is, added, map-put transfer_key (λ t. t.recorded) (new_transfer_row r) (replaced transfer_row_key (settled (outcome_of r) p) transfers), map-replaced transfer_row_key (λ t. t.recorded) (settled (outcome_of r) p) p transfers by_key refl, map-changed account_row_key (λ a. a.created) r.credit_account_id (on_credits (resolved closing_credit p.recorded r)) (changed account_row_key r.debit_account_id (on_debits (resolved closing_debit p.recorded r)) accounts) (λ y. refl), map-changed account_row_key (λ a. a.created) r.debit_account_id (on_debits (resolved closing_debit p.recorded r)) accounts (λ y. refl)) refl
+
+      pub ledger_with_resolver : Rising transfer_row_key transfers → IsLedger later more failed keeps_failed next time
+      ledger_with_resolver rising = record {
+        kept = rw (is, added) (record {
+          sums = sums_resolved accounts transfers p r (outcome_of r) rising_accounts by_key it_holds over resolves_p.not_pending same_debit same_credit at_most ledger.kept.sums;
+          states = states_resolved transfers time p r ledger.kept.states by_key it_holds names is_resolver rising resolves_p.not_pending;
+        });
+        expiries = rw added expiries_still;
+        unused = ledger.unused;
+        sound = subst Sound (sym books_with_resolver) (sound_resolved B r ledger.sound is_resolver resolves_p);
+      }

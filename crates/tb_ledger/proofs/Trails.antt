@@ -1,0 +1,42 @@
+-- The last change of a trail is undone first.
+use Rattle.std.proofs.Common.{◌≡◌, ◌==◌, List, [], ◌∷◌, ◌++◌, find, Some, None, refl, ap, ◌∙◌}
+use Rattle.tb_records.specs.Ordered.{put, replaced, taken_out}
+use Rattle.tb_records.proofs.ByKey.{replaced-replaced, taken_out-put}
+use Rattle.tb_ledger.specs.declared.rows.AccountRow.{AccountRow}
+use Rattle.tb_ledger.specs.declared.rows.TransferRow.{TransferRow}
+use Rattle.tb_ledger.specs.declared.undo.Undo.{Undo}
+use Rattle.tb_ledger.specs.declared.undo.Undo.TheVariants.{Account, Transfer, AddedAccount, AddedTransfer}
+use Rattle.tb_ledger.specs.Kept.{account_row_key, transfer_row_key}
+use Rattle.tb_ledger.specs.Trail.{undo_account, undo_transfer, unwound_accounts, unwound_transfers}
+
+pub unwound_accounts_push : (us : List Undo) (u : Undo) (rows : List AccountRow) → unwound_accounts (us ++ u ∷ []) rows ≡ unwound_accounts us (undo_account u rows)
+unwound_accounts_push [] u rows = refl
+unwound_accounts_push (v ∷ us) u rows = ap (undo_account v) (unwound_accounts_push us u rows)
+
+pub unwound_transfers_push : (us : List Undo) (u : Undo) (rows : List TransferRow) → unwound_transfers (us ++ u ∷ []) rows ≡ unwound_transfers us (undo_transfer u rows)
+unwound_transfers_push [] u rows = refl
+unwound_transfers_push (v ∷ us) u rows = ap (undo_transfer v) (unwound_transfers_push us u rows)
+
+-- a row changed, and put back
+pub undone_change : (us more : List Undo) (old new : AccountRow) (accounts later : List AccountRow) → more ≡ us ++ Account old ∷ [] → later ≡ replaced account_row_key new accounts → find (λ a. account_row_key a == account_row_key new) accounts ≡ Some old → unwound_accounts more later ≡ unwound_accounts us accounts
+undone_change us more old new accounts later pushed is found =
+    ap (λ vs. unwound_accounts vs later) pushed ∙ unwound_accounts_push us (Account old) later ∙ ap (unwound_accounts us) (ap (replaced account_row_key old) is ∙ replaced-replaced account_row_key new old accounts found)
+
+pub undone_add : (us more : List Undo) (row : AccountRow) (accounts later : List AccountRow) → more ≡ us ++ AddedAccount row.created.id ∷ [] → later ≡ put account_row_key row accounts → find (λ a. account_row_key a == account_row_key row) accounts ≡ None → unwound_accounts more later ≡ unwound_accounts us accounts
+undone_add us more row accounts later pushed is fresh =
+    ap (λ vs. unwound_accounts vs later) pushed ∙ unwound_accounts_push us (AddedAccount row.created.id) later ∙ ap (unwound_accounts us) (ap (taken_out account_row_key row.created.id) is ∙ taken_out-put account_row_key row accounts fresh)
+
+pub undone_close : (us more : List Undo) (old new : TransferRow) (transfers later : List TransferRow) → more ≡ us ++ Transfer old ∷ [] → later ≡ replaced transfer_row_key new transfers → find (λ t. transfer_row_key t == transfer_row_key new) transfers ≡ Some old → unwound_transfers more later ≡ unwound_transfers us transfers
+undone_close us more old new transfers later pushed is found =
+    ap (λ vs. unwound_transfers vs later) pushed ∙ unwound_transfers_push us (Transfer old) later ∙ ap (unwound_transfers us) (ap (replaced transfer_row_key old) is ∙ replaced-replaced transfer_row_key new old transfers found)
+
+pub undone_row : (us more : List Undo) (row : TransferRow) (transfers later : List TransferRow) → more ≡ us ++ AddedTransfer row.recorded.id ∷ [] → later ≡ put transfer_row_key row transfers → find (λ t. transfer_row_key t == transfer_row_key row) transfers ≡ None → unwound_transfers more later ≡ unwound_transfers us transfers
+undone_row us more row transfers later pushed is fresh =
+    ap (λ vs. unwound_transfers vs later) pushed ∙ unwound_transfers_push us (AddedTransfer row.recorded.id) later ∙ ap (unwound_transfers us) (ap (taken_out transfer_row_key row.recorded.id) is ∙ taken_out-put transfer_row_key row transfers fresh)
+
+-- what is not of a table leaves it
+pub other_transfers : (us more : List Undo) (u : Undo) → ((rows : List TransferRow) → undo_transfer u rows ≡ rows) → more ≡ us ++ u ∷ [] → (rows : List TransferRow) → unwound_transfers more rows ≡ unwound_transfers us rows
+other_transfers us more u leaves pushed rows = ap (λ vs. unwound_transfers vs rows) pushed ∙ unwound_transfers_push us u rows ∙ ap (unwound_transfers us) (leaves rows)
+
+pub other_accounts : (us more : List Undo) (u : Undo) → ((rows : List AccountRow) → undo_account u rows ≡ rows) → more ≡ us ++ u ∷ [] → (rows : List AccountRow) → unwound_accounts more rows ≡ unwound_accounts us rows
+other_accounts us more u leaves pushed rows = ap (λ vs. unwound_accounts vs rows) pushed ∙ unwound_accounts_push us u rows ∙ ap (unwound_accounts us) (leaves rows)

@@ -1,0 +1,75 @@
+use Rattle.std.proofs.Common.{◌≡◌, ◌+◌, ◌++◌, [], length, sym, ap, ◌∙◌, arith, append-nil}
+use Rattle.tb_ledger.specs.Batches.{results_from, Outcome, block_after, timed_from}
+use Rattle.tb_ledger.specs.Kept.{books_in}
+use Rattle.tb_ledger.proofs.CodeLaws.{results-none}
+use Rattle.tb_ledger.proofs.BlockLaws.{failure-later, all-later, broken-here, passed-here}
+use Rattle.tb_ledger.proofs.RowLaws.{ledger_back, books_back}
+use Rattle.tb_ledger.proofs.chains.run_block.Goals as goal
+
+pub refuse-requires-clause-kept : goal.refuse-requires-clause-kept
+refuse-requires-clause-kept g c =
+    let u = c.unwind.ensures in
+    let t = c.take_in_chain-code.ensures.step in
+    let v = c.loop-i.invariant in
+    ledger_back _ _ _ _ _ _ _ _ _ _ _ _ c.requires.kept
+    (u.accounts ∙ t.undo_accounts ∙ v.accounts) (u.transfers ∙ t.undo_transfers ∙ v.transfers) (ap (λ x. x.0) (u.failed ∙ t.failed ∙ v.failed)) (u.keeps_failed ∙ t.keeps_failed ∙ v.keeps)
+    (omega (arith, u.next_expiry, t.next_expiry, v.expiry)) (u.time ∙ t.time ∙ v.time)
+
+pub returns-then-code-ne0-clause-books : goal.returns-then-code-ne0-clause-books
+returns-then-code-ne0-clause-books g c =
+    let u = c.unwind.ensures in
+    let t = c.take_in_chain-code.ensures.step in
+    let v = c.loop-i.invariant in
+    let kind = g.E.Event.kind in
+    let back : books_in c.unwind.new.rows ≡ books_in c.args.rows.now = books_back _ _ _ _ _ _ _ _ _ _
+    (u.accounts ∙ t.undo_accounts ∙ v.accounts) (u.transfers ∙ t.undo_transfers ∙ v.transfers) (ap (λ x. x.0) (u.failed ∙ t.failed ∙ v.failed)) (u.keeps_failed ∙ t.keeps_failed ∙ v.keeps) (u.time ∙ t.time ∙ v.time) in
+    let broken = broken-here kind (books_in c.args.rows.now) c.args.block.now c.args.time (books_in c.loop-i.rows) c.loop-i.i c.loop-i.stamp c.take_in_chain-code.result c.index-block-i.result
+    v.failure c.loop-i-test.true c.index-block-i.is c.take_in_chain-code.ensures.code c.if-code-ne0.true in
+    c.refuse.ensures.books ∙ ap (λ B. kind.refused B c.index-block-i.result c.take_in_chain-code.result) back ∙ sym (ap (λ o. o.books) broken)
+
+pub returns-then-code-ne0-clause-results : goal.returns-then-code-ne0-clause-results
+returns-then-code-ne0-clause-results g c =
+    let v = c.loop-i.invariant in
+    let kind = g.E.Event.kind in
+    let broken = broken-here kind (books_in c.args.rows.now) c.args.block.now c.args.time (books_in c.loop-i.rows) c.loop-i.i c.loop-i.stamp c.take_in_chain-code.result c.index-block-i.result
+    v.failure c.loop-i-test.true c.index-block-i.is c.take_in_chain-code.ensures.code c.if-code-ne0.true in
+    c.break_off.ensures.items ∙ (λ i. (v.results i).items ++ results_from c.args.index (sym broken i).codes)
+
+pub loop-i-preserved : goal.loop-i-preserved
+loop-i-preserved g c =
+    let t = c.take_in_chain-code.ensures in
+    let s = t.step in
+    let v = c.loop-i.invariant in
+    let kind = g.E.Event.kind in
+    let B = books_in c.loop-i.rows in
+    let event = c.index-block-i.result in
+    let block = c.args.block.now in
+    let accepted = c.if-code-ne0.false in
+    let later = failure-later kind B block c.loop-i.i c.loop-i.stamp c.take_in_chain-code.result event c.loop-i-test.true c.index-block-i.is t.code accepted in
+    let ends = all-later kind B block c.loop-i.i c.loop-i.stamp event c.loop-i-test.true c.index-block-i.is in
+    let done = t.done accepted in
+    record {
+      failure = rw done (sym later ∙ v.failure);
+      all = rw done (sym ends ∙ v.all);
+      accounts = s.undo_accounts ∙ v.accounts;
+      transfers = s.undo_transfers ∙ v.transfers;
+      failed = s.failed ∙ v.failed;
+      keeps = s.keeps_failed ∙ v.keeps;
+      expiry = omega (arith, s.next_expiry, v.expiry);
+      time = s.time ∙ v.time;
+      kept = t.kept;
+      results = v.results;
+      stamp = omega (arith, v.stamp);
+      within = omega (arith, c.loop-i-test.true);
+      room = omega (arith, t.room, v.room);
+      trail = omega (arith, s.length, v.trail);
+      capacity = s.capacity ∙ v.capacity;
+    }
+
+pub returns-clause-results : goal.returns-clause-results
+returns-clause-results g c =
+    let v = c.loop-i.invariant in
+    let block = c.args.block.now in
+    let passed = passed-here g.E.Event.kind (books_in c.args.rows.now) block c.args.time (books_in c.loop-i.rows) c.loop-i.i c.loop-i.stamp v.failure v.all c.loop-i-test.false in
+    let none : results_from c.args.index (block_after g.E.Event.kind (books_in c.args.rows.now) (timed_from c.args.time block)).codes ≡ [] = ap (λ o. results_from c.args.index o.codes) passed ∙ results-none c.args.index (length block) in
+    ap (λ r. r.items) v.results ∙ sym (append-nil c.args.results.now.items) ∙ ap (λ rest. c.args.results.now.items ++ rest) (sym none)

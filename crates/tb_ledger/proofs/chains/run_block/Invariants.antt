@@ -1,0 +1,28 @@
+use Rattle.std.proofs.Common.{◌≡◌, ◌+◌, ◌*◌, ◌-◌, ◌≤◌, length, drop, vec_len, vec_capacity}
+use Rattle.tb_ledger.specs.declared.undo.TheConstants.{TRAIL_PER_EVENT}
+use Rattle.tb_ledger.specs.Batches.{failure_from, all_recorded, timed_from}
+use Rattle.tb_ledger.specs.Kept.{books_in, IsKept}
+use Rattle.tb_ledger.specs.Trail.{unwound_accounts, unwound_transfers}
+use Rattle.tb_ledger.proofs.chains.run_block.Given as goal
+
+abbrev pub invariant-loop-i : goal.invariant-loop-i
+invariant-loop-i g l = let kind = g.E.Event.kind in let start = l.initial.rows in record {
+  failure : failure_from kind l.i (books_in l.rows) (timed_from l.stamp (drop l.i l.block)) ≡ failure_from kind 0 (books_in start) (timed_from l.time l.block);
+  all : all_recorded kind (books_in l.rows) (timed_from l.stamp (drop l.i l.block)) ≡ all_recorded kind (books_in start) (timed_from l.time l.block);
+  accounts : unwound_accounts l.trail.items l.rows.accounts.0 ≡ start.accounts.0;
+  transfers : unwound_transfers l.trail.items l.rows.transfers.0 ≡ start.transfers.0;
+  failed : l.rows.failed ≡ start.failed;
+  keeps : l.rows.keeps_failed ≡ start.keeps_failed;
+  expiry : l.rows.next_expiry ≤ start.next_expiry;
+  time : l.rows.time ≡ start.time;
+  kept : IsKept l.rows;
+  results : l.results ≡ l.initial.results;
+  stamp : l.stamp ≡ l.time + l.i;
+  within : l.i ≤ length l.block;
+  room : g.E.Event.room start.accounts.1 start.transfers.1 ≤ g.E.Event.room l.rows.accounts.1 l.rows.transfers.1 + l.i;
+  trail : vec_len l.trail ≤ TRAIL_PER_EVENT * l.i;
+  capacity : vec_capacity l.trail ≡ vec_capacity l.initial.trail;
+}
+
+abbrev pub decreases-loop-i : goal.decreases-loop-i
+decreases-loop-i g l = length l.block - l.i

@@ -1,0 +1,10 @@
+use Rattle.std.proofs.Common.{◌≡◌, ◌+◌, ◌≤◌, ◌++◌, length, drop, vec_len, vec_capacity}
+use Rattle.tb_ledger.specs.Books.{found_accounts}
+use Rattle.tb_ledger.specs.Kept.{books_in}
+use Rattle.tb_ledger.proofs.ledgers.Ledger.fill_accounts.Given as goal
+
+abbrev pub invariant-loop-id : goal.invariant-loop-id
+invariant-loop-id g l = record {
+  items : l.out.items ++ found_accounts l.self (drop l.id-index l.ids) ≡ l.initial.out.items ++ found_accounts l.self l.ids;
+  room : vec_len l.out + length (drop l.id-index l.ids) ≤ vec_capacity l.out;
+}

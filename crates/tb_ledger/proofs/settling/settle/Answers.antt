@@ -1,0 +1,74 @@
+use Rattle.std.proofs.Common.{ap, ◌∙◌, ◌==◌, find}
+use Rattle.tb_records.specs.Ordered.{put, replaced}
+use Rattle.tb_ledger.specs.Books.{closing_debit, closing_credit}
+use Rattle.tb_ledger.specs.Kept.{on_debits, on_credits, resolved, settled, transfer_row_key, new_transfer_row}
+use Rattle.tb_ledger.proofs.Settled.{both_changed, credits_before, refound, at_most, debit_enough, credit_enough, fresh_still, books_with_resolver, ledger_with_resolver}
+use Rattle.tb_ledger.proofs.settling.settle.Goals as goal
+
+pub settle_debit-requires-clause-enough : goal.settle_debit-requires-clause-enough
+settle_debit-requires-clause-enough g c a there =
+    let rows = c.args.rows.now in
+    (debit_enough rows.accounts.0 rows.transfers.0 rows.failed.0 rows.keeps_failed rows.next_expiry rows.time c.requires.kept c.args.p.now c.args.r.now c.requires.found c.requires.resolves c.requires.is_resolver a there).0
+
+pub settle_debit-requires-clause-fit : goal.settle_debit-requires-clause-fit
+settle_debit-requires-clause-fit g c a there =
+    let rows = c.args.rows.now in
+    (debit_enough rows.accounts.0 rows.transfers.0 rows.failed.0 rows.keeps_failed rows.next_expiry rows.time c.requires.kept c.args.p.now c.args.r.now c.requires.found c.requires.resolves c.requires.is_resolver a there).1
+
+pub settle_debit-requires-clause-at_most : goal.settle_debit-requires-clause-at_most
+settle_debit-requires-clause-at_most g c =
+    let rows = c.args.rows.now in
+    at_most rows.accounts.0 rows.transfers.0 rows.failed.0 rows.keeps_failed rows.next_expiry rows.time c.requires.kept c.args.p.now c.args.r.now c.requires.found c.requires.resolves c.requires.is_resolver
+
+pub settle_credit-requires-clause-enough : goal.settle_credit-requires-clause-enough
+settle_credit-requires-clause-enough g c a found =
+    let rows = c.args.rows.now in
+    let r = c.args.r.now in
+    let there = rw (ap (λ v. v.0) c.settle_debit.ensures.accounts) at found in
+    let was = credits_before r.debit_account_id (resolved closing_debit c.args.p.now.recorded r) r.credit_account_id a rows.accounts.0 there in
+    let enough = (credit_enough rows.accounts.0 rows.transfers.0 rows.failed.0 rows.keeps_failed rows.next_expiry rows.time c.requires.kept c.args.p.now r c.requires.found c.requires.resolves c.requires.is_resolver was.0 was.1).0 in
+    rw was.2 enough
+
+pub settle_credit-requires-clause-fit : goal.settle_credit-requires-clause-fit
+settle_credit-requires-clause-fit g c a found =
+    let rows = c.args.rows.now in
+    let r = c.args.r.now in
+    let there = rw (ap (λ v. v.0) c.settle_debit.ensures.accounts) at found in
+    let was = credits_before r.debit_account_id (resolved closing_debit c.args.p.now.recorded r) r.credit_account_id a rows.accounts.0 there in
+    let enough = (credit_enough rows.accounts.0 rows.transfers.0 rows.failed.0 rows.keeps_failed rows.next_expiry rows.time c.requires.kept c.args.p.now r c.requires.found c.requires.resolves c.requires.is_resolver was.0 was.1).1 in
+    rw was.2 enough
+
+pub settle_credit-requires-clause-at_most : goal.settle_credit-requires-clause-at_most
+settle_credit-requires-clause-at_most g c =
+    let rows = c.args.rows.now in
+    at_most rows.accounts.0 rows.transfers.0 rows.failed.0 rows.keeps_failed rows.next_expiry rows.time c.requires.kept c.args.p.now c.args.r.now c.requires.found c.requires.resolves c.requires.is_resolver
+
+pub close_row-requires-clause-found : goal.close_row-requires-clause-found
+close_row-requires-clause-found g c = refound transfer_row_key c.args.r.now.pending_id c.args.p.now c.args.rows.now.transfers.0 c.requires.found
+
+pub add_row-requires-clause-fresh : goal.add_row-requires-clause-fresh
+add_row-requires-clause-fresh g c =
+    let rows = c.args.rows.now in
+    let r = c.args.r.now in
+    let closed = ap (λ v. v.0) c.close_row.ensures.transfers ∙ ap (λ s. replaced transfer_row_key (settled s c.args.p.now) rows.transfers.0) c.outcome-state.ensures in
+    ap (find (λ row. row.recorded.id == r.id)) closed ∙ fresh_still rows.accounts.0 rows.transfers.0 rows.failed.0 rows.keeps_failed rows.next_expiry rows.time c.requires.kept c.args.p.now r c.requires.found c.requires.resolves c.requires.is_resolver c.requires.fresh
+
+pub returns-clause-kept : goal.returns-clause-kept
+returns-clause-kept g c =
+    let rows = c.args.rows.now in
+    let p = c.args.p.now in
+    let r = c.args.r.now in
+    let both = both_changed r.debit_account_id r.credit_account_id (on_debits (resolved closing_debit p.recorded r)) (on_credits (resolved closing_credit p.recorded r)) rows.accounts c.settle_debit.new.accounts c.settle_credit.new.accounts c.settle_debit.ensures.accounts c.settle_credit.ensures.accounts in
+    let closed = ap (λ v. v.0) c.close_row.ensures.transfers ∙ ap (λ s. replaced transfer_row_key (settled s p) rows.transfers.0) c.outcome-state.ensures in
+    let added = ap (λ v. v.0) c.add_row.ensures.transfers ∙ ap (put transfer_row_key (new_transfer_row r)) closed in
+    ledger_with_resolver rows.accounts.0 rows.transfers.0 rows.failed.0 rows.keeps_failed rows.next_expiry rows.time c.requires.kept p r c.requires.found c.requires.resolves c.requires.is_resolver c.settle_credit.new.accounts.0 c.add_row.new.transfers.0 both.0 added c.close_row.ensures.rising
+
+pub returns-clause-books : goal.returns-clause-books
+returns-clause-books g c =
+    let rows = c.args.rows.now in
+    let p = c.args.p.now in
+    let r = c.args.r.now in
+    let both = both_changed r.debit_account_id r.credit_account_id (on_debits (resolved closing_debit p.recorded r)) (on_credits (resolved closing_credit p.recorded r)) rows.accounts c.settle_debit.new.accounts c.settle_credit.new.accounts c.settle_debit.ensures.accounts c.settle_credit.ensures.accounts in
+    let closed = ap (λ v. v.0) c.close_row.ensures.transfers ∙ ap (λ s. replaced transfer_row_key (settled s p) rows.transfers.0) c.outcome-state.ensures in
+    let added = ap (λ v. v.0) c.add_row.ensures.transfers ∙ ap (put transfer_row_key (new_transfer_row r)) closed in
+    books_with_resolver rows.accounts.0 rows.transfers.0 rows.failed.0 rows.keeps_failed rows.next_expiry rows.time c.requires.kept p r c.requires.found c.requires.resolves c.requires.is_resolver c.settle_credit.new.accounts.0 c.add_row.new.transfers.0 both.0 added

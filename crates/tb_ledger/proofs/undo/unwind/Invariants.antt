@@ -1,0 +1,19 @@
+use Rattle.std.proofs.Common.{◌≡◌, ◌≤◌, vec_len, vec_capacity}
+use Rattle.tb_ledger.specs.Trail.{unwound_accounts, unwound_transfers}
+use Rattle.tb_ledger.proofs.undo.unwind.Given as goal
+
+abbrev pub invariant-loop-undo : goal.invariant-loop-undo
+invariant-loop-undo g l = record {
+  accounts : unwound_accounts l.trail.items l.rows.accounts.0 ≡ unwound_accounts l.initial.trail.items l.initial.rows.accounts.0;
+  transfers : unwound_transfers l.trail.items l.rows.transfers.0 ≡ unwound_transfers l.initial.trail.items l.initial.rows.transfers.0;
+  accounts_room : l.initial.rows.accounts.1 ≤ l.rows.accounts.1;
+  transfers_room : l.initial.rows.transfers.1 ≤ l.rows.transfers.1;
+  failed : l.rows.failed ≡ l.initial.rows.failed;
+  keeps_failed : l.rows.keeps_failed ≡ l.initial.rows.keeps_failed;
+  next_expiry : l.rows.next_expiry ≡ l.initial.rows.next_expiry;
+  time : l.rows.time ≡ l.initial.rows.time;
+  capacity : vec_capacity l.trail ≡ vec_capacity l.initial.trail;
+}
+
+abbrev pub decreases-loop-undo : goal.decreases-loop-undo
+decreases-loop-undo g l = vec_len l.trail

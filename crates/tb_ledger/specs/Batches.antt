@@ -1,0 +1,132 @@
+-- Chains and batches: a chain happens whole or not at all.
+use Rattle.std.specs.Prelude.{ℕ, suc, Bool, not, ◌&&◌, ◌==◌, ◌+◌, ◌-◌, List, [], ◌∷◌, ◌++◌, map, filter, length, replicate, Option, Some, None, if◌then◌else◌}
+use Rattle.std.specs.List.{list_any, enumerate_from}
+use Rattle.std.specs.Option.{option_map}
+use Rattle.tb_records.specs.declared.records.Account.{Account}
+use Rattle.tb_records.specs.declared.records.Transfer.{Transfer}
+use Rattle.tb_records.specs.declared.records.EventResult.{EventResult}
+use Rattle.tb_records.specs.Ordered.{put}
+use Rattle.tb_ledger.specs.Books.{Books, has}
+use Rattle.tb_ledger.specs.Verdicts.{account_verdict, recorded_account, transfer_verdict, recorded_transfer}
+
+-- what a kind of event brings: whether it is linked to the next, its verdict, its record, and what its refusal leaves
+pub record Kind (E : Type 0) : Type 0 where
+  pub linked : E → Bool
+  pub verdict : Books → E → ℕ → ℕ
+  pub recorded : Books → E → ℕ → Books
+  pub refused : Books → E → ℕ → Books
+
+abbrev pub account_events : Kind Account
+account_events = record {
+  linked = λ a. has 1 a.flags;
+  verdict = λ B a time. account_verdict B a;
+  recorded = λ B a time. record B { accounts = put (λ a. a.id) (recorded_account a time) B.accounts };
+  refused = λ B a code. B;
+}
+
+-- verdicts that a transfer's id doesn't outlive, by profile 2
+abbrev pub is_final : ℕ → Bool
+is_final code = list_any (λ c. c == code) (21 ∷ 22 ∷ 25 ∷ 54 ∷ 55 ∷ 65 ∷ 66 ∷ [])
+
+abbrev pub transfer_events : Kind Transfer
+transfer_events = record {
+  linked = λ t. has 1 t.flags;
+  verdict = transfer_verdict;
+  recorded = λ B t time. record B { transfers = put (λ t. t.id) (recorded_transfer B t time) B.transfers };
+  refused = λ B t code. if is_final code then record B { failed = option_map (put (λ id. id) t.id) B.failed } else B;
+}
+
+-- an event with its timestamp
+abbrev pub Timed : Type 0 → Type 0
+Timed E = E × ℕ
+
+-- an event that isn't accepted: its place, its code, and what comes after it
+pub record Failure (E : Type 0) : Type 0 where
+  pub place : ℕ
+  pub event : E
+  pub code : ℕ
+  pub rest : List (Timed E)
+
+-- the books after events, and a code for each
+pub record Outcome : Type 0 where
+  pub books : Books
+  pub codes : List ℕ
+
+abbrev pub timed_from : {E : Type 0} → ℕ → List E → List (Timed E)
+timed_from time [] = []
+timed_from time (e ∷ es) = (e, time) ∷ timed_from (time + 1) es
+
+-- event i of n, at the time T of the entry, has the timestamp T - n + i + 1
+abbrev pub timed : {E : Type 0} → ℕ → List E → List (Timed E)
+timed T events = timed_from (T + 1 - length events) events
+
+module _ {E : Type 0} (kind : Kind E) where
+  -- the chains: each but its last event is linked, and only the last chain may end linked
+  abbrev pub joined : Timed E → List (List (Timed E)) → List (List (Timed E))
+  joined x [] = (x ∷ []) ∷ []
+  joined x (block ∷ blocks) = (x ∷ block) ∷ blocks
+
+  abbrev pub blocks : List (Timed E) → List (List (Timed E))
+  blocks [] = []
+  blocks (x ∷ xs) = if kind.linked x.0 then joined x (blocks xs) else (x ∷ []) ∷ blocks xs
+
+  -- the number of events in the first chain
+  abbrev pub block_length : List E → ℕ
+  block_length [] = 0
+  block_length (e ∷ es) = if kind.linked e then suc (block_length es) else 1
+
+  -- an event and what comes after it in its chain: linked with nothing after it, the chain is open
+  abbrev pub code_in_chain : Books → Timed E → List (Timed E) → ℕ
+  code_in_chain B x [] = if kind.linked x.0 then 2 else kind.verdict B x.0 x.1
+  code_in_chain B x (y ∷ ys) = kind.verdict B x.0 x.1
+
+  -- the first event that isn't accepted after those before it
+  abbrev pub failure_from : ℕ → Books → List (Timed E) → Option (Failure E)
+  failure_from place B [] = None
+  failure_from place B (x ∷ xs) =
+      let code = code_in_chain B x xs in
+      if code == 0
+      then failure_from (place + 1) (kind.recorded B x.0 x.1) xs
+      else Some (record { place = place; event = x.0; code = code; rest = xs })
+
+  abbrev pub all_recorded : Books → List (Timed E) → Books
+  all_recorded B [] = B
+  all_recorded B (x ∷ xs) = all_recorded (kind.recorded B x.0 x.1) xs
+
+  -- the code of an event that another event's failure undoes, and of all that come after
+  abbrev pub undone_code : Timed E → List (Timed E) → ℕ
+  undone_code x [] = if kind.linked x.0 then 2 else 1
+  undone_code x (y ∷ ys) = 1
+
+  abbrev pub undone : List (Timed E) → List ℕ
+  undone [] = []
+  undone (x ∷ xs) = undone_code x xs ∷ undone xs
+
+  abbrev pub outcome : Books → List (Timed E) → Option (Failure E) → Outcome
+  outcome B block None = record { books = all_recorded B block; codes = replicate (length block) 0 }
+  outcome B block (Some f) = record {
+    books = kind.refused B f.event f.code;
+    codes = replicate f.place 1 ++ f.code ∷ undone f.rest;
+  }
+
+  -- one chain: all of it, or what the failure leaves
+  abbrev pub block_after : Books → List (Timed E) → Outcome
+  block_after B block = outcome B block (failure_from 0 B block)
+
+  abbrev pub blocks_after : Books → List (List (Timed E)) → Outcome
+  blocks_after B [] = record { books = B; codes = [] }
+  blocks_after B (block ∷ rest) =
+      let first = block_after B block in
+      let later = blocks_after first.books rest in
+      record { books = later.books; codes = first.codes ++ later.codes }
+
+  -- a batch at the time T
+  abbrev pub batch_after : Books → List E → ℕ → Outcome
+  batch_after B events T = blocks_after (record B { time = T }) (blocks (timed T events))
+
+-- the reply: a pair (index, code) for each event whose code isn't 0, by rising index
+abbrev pub results_from : ℕ → List ℕ → List EventResult
+results_from index codes = map (λ x. record { index = x.0; result = x.1 }) (filter (λ x. not (x.1 == 0)) (enumerate_from index codes))
+
+abbrev pub results : List ℕ → List EventResult
+results codes = results_from 0 codes

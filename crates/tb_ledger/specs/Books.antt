@@ -1,0 +1,165 @@
+-- The books of a ledger, and what is read from them. Records never change, and no number here is kept: each is added up afresh.
+use Rattle.std.specs.Prelude.{ℕ, Bool, true, false, not, ◌&&◌, ◌||◌, ◌==◌, ◌+◌, ◌*◌, nat_le, List, [], Option, Some, None, if◌then◌else◌, find, sum_by, bit_and, bit_or}
+use Rattle.std.specs.List.{list_any, filter_map}
+use Rattle.std.specs.Option.{option_map}
+use Rattle.tb_records.specs.declared.records.Account.{Account}
+use Rattle.tb_records.specs.declared.records.Transfer.{Transfer}
+use Rattle.tb_records.specs.declared.limits.Profile.{Profile}
+use Rattle.tb_records.specs.declared.limits.Profile.TheVariants.{One, Two}
+use Rattle.tb_ledger.specs.declared.rows.State.{State}
+use Rattle.tb_ledger.specs.declared.rows.State.TheVariants.{Open, Posted, Voided, Expired}
+
+pub record Books : Type 0 where
+  pub accounts : List Account  -- as created, by rising id
+  pub transfers : List Transfer  -- as recorded, by rising id
+  pub failed : Option (List ℕ)  -- ids of transfers that failed for good, by rising id; none are kept by profile 1
+  pub time : ℕ  -- of the last entry, in nanoseconds
+
+-- the books of a new ledger
+abbrev pub empty_books : Profile → Books
+empty_books One = record { accounts = []; transfers = []; failed = None; time = 0 }
+empty_books Two = record { accounts = []; transfers = []; failed = Some []; time = 0 }
+
+-- flags
+
+-- one of the mask's bits is set
+abbrev pub has : ℕ → ℕ → Bool
+has mask flags = not (bit_and flags mask == 0)
+
+abbrev pub debits_limited : Account → Bool
+debits_limited a = has 2 a.flags
+
+abbrev pub credits_limited : Account → Bool
+credits_limited a = has 4 a.flags
+
+abbrev pub shut : Account → Bool
+shut a = has 32 a.flags
+
+abbrev pub pending : Transfer → Bool
+pending t = has 2 t.flags
+
+abbrev pub posts : Transfer → Bool
+posts t = has 4 t.flags
+
+abbrev pub voids : Transfer → Bool
+voids t = has 8 t.flags
+
+abbrev pub resolves : Transfer → Bool
+resolves t = posts t || voids t
+
+abbrev pub balancing_debit : Transfer → Bool
+balancing_debit t = has 16 t.flags
+
+abbrev pub balancing_credit : Transfer → Bool
+balancing_credit t = has 32 t.flags
+
+abbrev pub balancing : Transfer → Bool
+balancing t = balancing_debit t || balancing_credit t
+
+abbrev pub closing_debit : Transfer → Bool
+closing_debit t = has 64 t.flags
+
+abbrev pub closing_credit : Transfer → Bool
+closing_credit t = has 128 t.flags
+
+abbrev pub closing : Transfer → Bool
+closing t = closing_debit t || closing_credit t
+
+-- what is there
+
+abbrev pub account_at : Books → ℕ → Option Account
+account_at B id = find (λ a. a.id == id) B.accounts
+
+abbrev pub transfer_at : Books → ℕ → Option Transfer
+transfer_at B id = find (λ t. t.id == id) B.transfers
+
+-- pending transfers
+
+-- the post or void of a pending transfer
+abbrev pub resolver : Books → Transfer → Option Transfer
+resolver B p = find (λ r. resolves r && (r.pending_id == p.id)) B.transfers
+
+abbrev pub expires_at : Transfer → ℕ
+expires_at p = p.timestamp + p.timeout * 1000000000
+
+abbrev pub is_due : ℕ → Transfer → Bool
+is_due time p = not (p.timeout == 0) && nat_le (expires_at p) time
+
+abbrev pub state_by : Option Transfer → Bool → State
+state_by (Some r) due = if posts r then Posted else Voided
+state_by None due = if due then Expired else Open
+
+abbrev pub state_of : Books → Transfer → State
+state_of B p = state_by (resolver B p) (is_due B.time p)
+
+abbrev pub is_open : State → Bool
+is_open Open = true
+is_open Posted = false
+is_open Voided = false
+is_open Expired = false
+
+abbrev pub is_posted : State → Bool
+is_posted Posted = true
+is_posted Open = false
+is_posted Voided = false
+is_posted Expired = false
+
+abbrev pub is_voided : State → Bool
+is_voided Voided = true
+is_voided Open = false
+is_voided Posted = false
+is_voided Expired = false
+
+abbrev pub is_expired : State → Bool
+is_expired Expired = true
+is_expired Open = false
+is_expired Posted = false
+is_expired Voided = false
+
+-- a pending transfer that is neither resolved nor expired
+abbrev pub holds : Books → Transfer → Bool
+holds B t = pending t && is_open (state_of B t)
+
+-- a transfer that moves money for good
+abbrev pub moves : Transfer → Bool
+moves t = not (pending t) && not (voids t)
+
+-- the four sums of an account
+
+abbrev pub debits_pending : Books → ℕ → ℕ
+debits_pending B id = sum_by (λ t. if (t.debit_account_id == id) && holds B t then t.amount else 0) B.transfers
+
+abbrev pub debits_posted : Books → ℕ → ℕ
+debits_posted B id = sum_by (λ t. if (t.debit_account_id == id) && moves t then t.amount else 0) B.transfers
+
+abbrev pub credits_pending : Books → ℕ → ℕ
+credits_pending B id = sum_by (λ t. if (t.credit_account_id == id) && holds B t then t.amount else 0) B.transfers
+
+abbrev pub credits_posted : Books → ℕ → ℕ
+credits_posted B id = sum_by (λ t. if (t.credit_account_id == id) && moves t then t.amount else 0) B.transfers
+
+-- created closed, or held closed by a closing transfer
+abbrev pub is_closed : Books → Account → Bool
+is_closed B a = shut a
+    || list_any (λ t. holds B t && closing_debit t && (t.debit_account_id == a.id)) B.transfers
+    || list_any (λ t. holds B t && closing_credit t && (t.credit_account_id == a.id)) B.transfers
+
+-- the account as it stands
+abbrev pub as_it_stands : Books → Account → Account
+as_it_stands B a = record a {
+  debits_pending = debits_pending B a.id;
+  debits_posted = debits_posted B a.id;
+  credits_pending = credits_pending B a.id;
+  credits_posted = credits_posted B a.id;
+  flags = (if is_closed B a then bit_or a.flags 32 else a.flags);
+}
+
+abbrev pub account_now : Books → ℕ → Option Account
+account_now B id = option_map (as_it_stands B) (account_at B id)
+
+-- lookups: what is found, in the order of the ids
+abbrev pub found_accounts : Books → List ℕ → List Account
+found_accounts B ids = filter_map (account_now B) ids
+
+abbrev pub found_transfers : Books → List ℕ → List Transfer
+found_transfers B ids = filter_map (transfer_at B) ids

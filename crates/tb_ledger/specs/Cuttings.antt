@@ -1,0 +1,40 @@
+-- What it is to cut a batch into its chains.
+use Rattle.std.specs.Prelude.{◌≡◌, ◌↔◌, Bool, true, false, List, [], ◌∷◌, ◌++◌}
+use Rattle.tb_records.specs.declared.records.Account.{Account}
+use Rattle.tb_records.specs.declared.records.Transfer.{Transfer}
+use Rattle.tb_records.specs.Ordered.{Each}
+use Rattle.tb_ledger.specs.Batches.{Kind, Timed, blocks, account_events, transfer_events}
+
+-- blocks one after another
+abbrev pub in_turn : {X : Type 0} → List (List X) → List X
+in_turn [] = []
+in_turn (block ∷ rest) = block ++ in_turn rest
+
+module _ {E : Type 0} (kind : Kind E) where
+  -- a block isn't empty, and all its events but the last are linked
+  abbrev pub IsBlock : List (Timed E) → Type 0
+  IsBlock [] = ⊥
+  IsBlock (x ∷ []) = Unit {0}
+  IsBlock (x ∷ y ∷ ys) = (kind.linked x.0 ≡ true) × IsBlock (y ∷ ys)
+
+  -- its last event is linked
+  abbrev pub ends_linked : List (Timed E) → Bool
+  ends_linked [] = false
+  ends_linked (x ∷ []) = kind.linked x.0
+  ends_linked (x ∷ y ∷ ys) = ends_linked (y ∷ ys)
+
+  -- the last event of each block but the final one isn't linked
+  abbrev pub AreEnded : List (List (Timed E)) → Type 0
+  AreEnded [] = Unit {0}
+  AreEnded (block ∷ []) = Unit {0}
+  AreEnded (block ∷ next ∷ rest) = (ends_linked block ≡ false) × AreEnded (next ∷ rest)
+
+  -- a cutting of the events into blocks
+  pub record IsCutting (events : List (Timed E)) (cutting : List (List (Timed E))) : Type 0 where
+    pub whole : in_turn cutting ≡ events
+    pub are_blocks : Each IsBlock cutting
+    pub are_ended : AreEnded cutting
+
+  -- the only one
+  abbrev pub CutsOneWay : Type 0
+  CutsOneWay = (events : List (Timed E)) (cutting : List (List (Timed E))) → IsCutting events cutting ↔ (cutting ≡ blocks kind events)

@@ -1,0 +1,169 @@
+-- What the ledger keeps of the books, and that it is what the books say.
+use Rattle.std.specs.Prelude.{ℕ, Bool, true, false, not, ◌≡◌, ◌≤◌, ◌+◌, ◌-◌, ◌&&◌, ◌||◌, ◌==◌, List, [], map, sum_by, if◌then◌else◌, find, IsSome, bit_or, Some, None}
+use Rattle.tb_records.specs.declared.records.Account.{Account}
+use Rattle.tb_records.specs.declared.records.Transfer.{Transfer}
+use Rattle.tb_records.specs.Ordered.{Each, changed}
+use Rattle.tb_ledger.specs.declared.rows.State.{State}
+use Rattle.tb_ledger.specs.declared.rows.State.TheVariants.{Open, Posted, Voided}
+use Rattle.tb_ledger.specs.declared.rows.Side.{Side}
+use Rattle.tb_ledger.specs.declared.rows.AccountRow.{AccountRow}
+use Rattle.tb_ledger.specs.declared.rows.TransferRow.{TransferRow}
+use Rattle.tb_ledger.specs.declared.rows.Rows.{Rows}
+use Rattle.tb_ledger.specs.Books.{Books, shut, pending, posts, moves, resolves, is_open, is_due, state_of, expires_at, closing_debit, closing_credit}
+use Rattle.tb_ledger.specs.Verdicts.{max_id}
+use Rattle.tb_ledger.specs.Sound.{Sound, debit, credit}
+
+abbrev pub account_row_key : AccountRow → ℕ
+account_row_key a = a.created.id
+
+abbrev pub transfer_row_key : TransferRow → ℕ
+transfer_row_key t = t.recorded.id
+
+-- the books that are kept: by profile 2 with the failed ids
+abbrev pub books_of : List AccountRow → List TransferRow → List ℕ → Bool → ℕ → Books
+books_of accounts transfers failed keeps_failed time = record {
+  accounts = map (λ a. a.created) accounts;
+  transfers = map (λ t. t.recorded) transfers;
+  failed = (if keeps_failed then Some failed else None);
+  time = time;
+}
+
+abbrev pub books_in : {A : Type 0} → Rows A → Books
+books_in rows = books_of rows.accounts.0 rows.transfers.0 rows.failed.0 rows.keeps_failed rows.time
+
+-- of the books, what the states of transfers are read from
+abbrev pub books_at : List TransferRow → ℕ → Books
+books_at transfers time = books_of [] transfers [] false time
+
+-- an account as it stands
+
+abbrev pub row_closed : AccountRow → Bool
+row_closed a = shut a.created || a.debits.shut || a.credits.shut
+
+abbrev pub row_now : AccountRow → Account
+row_now a = record (a.created) {
+  debits_pending = a.debits.pending;
+  debits_posted = a.debits.posted;
+  credits_pending = a.credits.pending;
+  credits_posted = a.credits.posted;
+  flags = (if row_closed a then bit_or a.created.flags 32 else a.created.flags);
+}
+
+-- the sums of a side
+
+abbrev pub row_holds : TransferRow → Bool
+row_holds t = pending t.recorded && is_open t.state
+
+abbrev pub bit : Bool → ℕ
+bit b = if b then 1 else 0
+
+-- what a transfer gives to a side of the account id
+abbrev pub pending_share : (Transfer → ℕ) → ℕ → TransferRow → ℕ
+pending_share side id t = if (side t.recorded == id) && row_holds t then t.recorded.amount else 0
+
+abbrev pub posted_share : (Transfer → ℕ) → ℕ → TransferRow → ℕ
+posted_share side id t = if (side t.recorded == id) && moves t.recorded then t.recorded.amount else 0
+
+abbrev pub closing_share : (Transfer → ℕ) → (Transfer → Bool) → ℕ → TransferRow → ℕ
+closing_share side closes id t = if (side t.recorded == id) && (row_holds t && closes t.recorded) then 1 else 0
+
+-- a side of the account id: its sums, and whether a transfer holds it closed (then one does)
+pub record HasSide (side : Transfer → ℕ) (closes : Transfer → Bool) (transfers : List TransferRow) (id : ℕ) (s : Side) : Type 0 where
+  pub pending : s.pending ≡ sum_by (pending_share side id) transfers
+  pub posted : s.posted ≡ sum_by (posted_share side id) transfers
+  pub shut : bit s.shut ≡ sum_by (closing_share side closes id) transfers
+  pub fit : s.pending + s.posted ≤ max_id
+
+-- the debit side by some rows, the credit side by others: between two changes of a pair
+pub record HasBoth (ds cs : List TransferRow) (a : AccountRow) : Type 0 where
+  pub debits : HasSide debit closing_debit ds a.created.id a.debits
+  pub credits : HasSide credit closing_credit cs a.created.id a.credits
+
+abbrev pub HasSums : List TransferRow → AccountRow → Type 0
+HasSums transfers a = HasBoth transfers transfers a
+
+-- a pending transfer's state is that of the books, and what a post or void names is there
+pub record HasState (transfers : List TransferRow) (time : ℕ) (t : TransferRow) : Type 0 where
+  pub state_is : pending t.recorded ≡ true → t.state ≡ state_of (books_at transfers time) t.recorded
+  pub named : resolves t.recorded ≡ true → IsSome (find (λ p. p.recorded.id == t.recorded.pending_id) transfers)
+
+pub record AreKept (accounts : List AccountRow) (transfers : List TransferRow) (time : ℕ) : Type 0 where
+  pub sums : Each (HasSums transfers) accounts
+  pub states : Each (HasState transfers time) transfers
+
+-- a transfer that holds until its timeout ends it, or it is resolved
+abbrev pub dated : TransferRow → Bool
+dated t = row_holds t && not (t.recorded.timeout == 0)
+
+-- it doesn't expire before the time n
+abbrev pub ExpiresFrom : ℕ → TransferRow → Type 0
+ExpiresFrom n t = dated t ≡ true → n ≤ expires_at t.recorded
+
+-- it holds, and its timeout has passed at T
+abbrev pub lapses : ℕ → TransferRow → Bool
+lapses T t = row_holds t && is_due T t.recorded
+
+-- what stays true of the ledger's rows
+pub record IsLedger (accounts : List AccountRow) (transfers : List TransferRow) (failed : List ℕ) (keeps_failed : Bool) (next_expiry time : ℕ) : Type 0 where
+  pub kept : AreKept accounts transfers time
+  -- no transfer expires before the time that is kept
+  pub expiries : Each (ExpiresFrom next_expiry) transfers
+  -- profile 1 keeps no failed ids
+  pub unused : keeps_failed ≡ false → failed ≡ []
+  pub sound : Sound (books_of accounts transfers failed keeps_failed time)
+
+abbrev pub IsKept : {A : Type 0} → Rows A → Type 0
+IsKept rows = IsLedger rows.accounts.0 rows.transfers.0 rows.failed.0 rows.keeps_failed rows.next_expiry rows.time
+
+-- the changes of a side: a transfer comes, and the amount of a pending one leaves
+
+abbrev pub gained : (Transfer → Bool) → Transfer → Side → Side
+gained closes t s = record {
+  pending = s.pending + (if pending t then t.amount else 0);
+  posted = s.posted + (if moves t then t.amount else 0);
+  shut = s.shut || (pending t && closes t);
+}
+
+abbrev pub released : (Transfer → Bool) → Transfer → Side → Side
+released closes p s = record { pending = s.pending - p.amount; posted = s.posted; shut = s.shut && not (closes p) }
+
+-- p is resolved by r
+abbrev pub resolved : (Transfer → Bool) → Transfer → Transfer → Side → Side
+resolved closes p r s = gained closes r (released closes p s)
+
+abbrev pub settled : State → TransferRow → TransferRow
+settled s p = record p { state = s }
+
+abbrev pub on_debits : (Side → Side) → AccountRow → AccountRow
+on_debits f a = record a { debits = f a.debits }
+
+abbrev pub on_credits : (Side → Side) → AccountRow → AccountRow
+on_credits f a = record a { credits = f a.credits }
+
+abbrev pub accounts_gained : Transfer → List AccountRow → List AccountRow
+accounts_gained t accounts = changed account_row_key t.credit_account_id (on_credits (gained closing_credit t)) (changed account_row_key t.debit_account_id (on_debits (gained closing_debit t)) accounts)
+
+abbrev pub accounts_released : Transfer → List AccountRow → List AccountRow
+accounts_released p accounts = changed account_row_key p.credit_account_id (on_credits (released closing_credit p)) (changed account_row_key p.debit_account_id (on_debits (released closing_debit p)) accounts)
+
+abbrev pub accounts_resolved : Transfer → Transfer → List AccountRow → List AccountRow
+accounts_resolved p r accounts = changed account_row_key r.credit_account_id (on_credits (resolved closing_credit p r)) (changed account_row_key r.debit_account_id (on_debits (resolved closing_debit p r)) accounts)
+
+-- the row of a new transfer: where it is pending, it is open
+abbrev pub new_transfer_row : Transfer → TransferRow
+new_transfer_row t = record { recorded = t; state = Open }
+
+-- the state that a post or void gives to its pending transfer
+abbrev pub outcome_of : Transfer → State
+outcome_of r = if posts r then Posted else Voided
+
+-- a side can take t: there is room, and where t closes it, nothing holds it closed
+abbrev pub Takes : (Transfer → Bool) → Transfer → Side → Type 0
+Takes closes t s = (s.pending + s.posted + t.amount ≤ max_id) × ((pending t && closes t) ≡ true → s.shut ≡ false)
+
+-- the row of a new account
+abbrev pub new_side : Side
+new_side = record { pending = 0; posted = 0; shut = false }
+
+abbrev pub new_row : Account → AccountRow
+new_row a = record { created = a; debits = new_side; credits = new_side }

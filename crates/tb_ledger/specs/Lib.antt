@@ -1,0 +1,12 @@
+pub mod Books
+pub mod Verdicts
+pub mod Batches
+pub mod Groups
+pub mod Sound
+pub mod Limits
+pub mod Cuttings
+pub mod Meanings
+pub mod WorkedRows
+pub mod Tables
+pub mod Kept
+pub mod Trail

@@ -1,0 +1,21 @@
+-- Limits and sums: what holds of every account and of every ledger, whatever was asked.
+use Rattle.std.specs.Prelude.{◌≡◌, ℕ, true, ◌==◌, ◌+◌, ◌≤◌, map, sum_by, if◌then◌else◌}
+use Rattle.tb_records.specs.declared.records.Account.{Account}
+use Rattle.tb_ledger.specs.Books.{Books, debits_limited, credits_limited, as_it_stands}
+use Rattle.tb_ledger.specs.Verdicts.{max_id}
+
+-- of an account as it stands: its sums fit, debits_must_not_exceed_credits and credits_must_not_exceed_debits hold
+pub record KeepsLimits (a : Account) : Type 0 where
+  pub debits_fit : a.debits_pending + a.debits_posted ≤ max_id
+  pub credits_fit : a.credits_pending + a.credits_posted ≤ max_id
+  pub debits_within : debits_limited a ≡ true → a.debits_pending + a.debits_posted ≤ a.credits_posted
+  pub credits_within : credits_limited a ≡ true → a.credits_pending + a.credits_posted ≤ a.debits_posted
+
+-- a sum over the accounts of a ledger, as they stand
+abbrev pub in_ledger : Books → ℕ → (Account → ℕ) → ℕ
+in_ledger B ledger part = sum_by (λ a. if a.ledger == ledger then part a else 0) (map (as_it_stands B) B.accounts)
+
+-- what is debited in a ledger is credited in it
+pub record Balances (B : Books) (ledger : ℕ) : Type 0 where
+  pub posted : in_ledger B ledger (λ a. a.debits_posted) ≡ in_ledger B ledger (λ a. a.credits_posted)
+  pub pending : in_ledger B ledger (λ a. a.debits_pending) ≡ in_ledger B ledger (λ a. a.credits_pending)

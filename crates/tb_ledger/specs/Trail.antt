@@ -1,0 +1,56 @@
+-- A trail of changes, the oldest first, and what undoing them gives.
+use Rattle.std.specs.Prelude.{ℕ, ◌≡◌, ◌+◌, ◌≤◌, List, [], ◌∷◌, Vec, vec_len, vec_capacity}
+use Rattle.tb_ledger.specs.declared.rows.AccountRow.{AccountRow}
+use Rattle.tb_ledger.specs.declared.rows.TransferRow.{TransferRow}
+use Rattle.tb_ledger.specs.declared.rows.Rows.{Rows}
+use Rattle.tb_ledger.specs.declared.undo.Undo.{Undo}
+use Rattle.tb_ledger.specs.declared.undo.Undo.TheVariants.{Account, Transfer, AddedAccount, AddedTransfer}
+use Rattle.tb_records.specs.Ordered.{replaced, taken_out}
+use Rattle.tb_ledger.specs.Kept.{account_row_key, transfer_row_key}
+
+abbrev pub undo_account : Undo → List AccountRow → List AccountRow
+undo_account (Account row) rows = replaced account_row_key row rows
+undo_account (Transfer row) rows = rows
+undo_account (AddedAccount id) rows = taken_out account_row_key id rows
+undo_account (AddedTransfer id) rows = rows
+
+abbrev pub undo_transfer : Undo → List TransferRow → List TransferRow
+undo_transfer (Account row) rows = rows
+undo_transfer (Transfer row) rows = replaced transfer_row_key row rows
+undo_transfer (AddedAccount id) rows = rows
+undo_transfer (AddedTransfer id) rows = taken_out transfer_row_key id rows
+
+-- the accounts before the changes of a trail
+abbrev pub unwound_accounts : List Undo → List AccountRow → List AccountRow
+unwound_accounts [] rows = rows
+unwound_accounts (u ∷ us) rows = undo_account u (unwound_accounts us rows)
+
+-- the transfers before the changes of a trail
+abbrev pub unwound_transfers : List Undo → List TransferRow → List TransferRow
+unwound_transfers [] rows = rows
+unwound_transfers (u ∷ us) rows = undo_transfer u (unwound_transfers us rows)
+
+-- accounts changed, with n records more at most that lead back
+pub record IsNoted {A : Type 0} (n : ℕ) (accounts later : List AccountRow) (trail grown : Vec Undo A) : Type 0 where
+  pub undo_accounts : unwound_accounts grown.items later ≡ unwound_accounts trail.items accounts
+  pub undo_transfers : (transfers : List TransferRow) → unwound_transfers grown.items transfers ≡ unwound_transfers trail.items transfers
+  pub length : vec_len grown ≤ vec_len trail + n
+  pub capacity : vec_capacity grown ≡ vec_capacity trail
+
+-- a transfer's row changed or added, with n records more at most that lead back
+pub record IsMarked {A : Type 0} (n : ℕ) (transfers later : List TransferRow) (trail grown : Vec Undo A) : Type 0 where
+  pub undo_accounts : (accounts : List AccountRow) → unwound_accounts grown.items accounts ≡ unwound_accounts trail.items accounts
+  pub undo_transfers : unwound_transfers grown.items later ≡ unwound_transfers trail.items transfers
+  pub length : vec_len grown ≤ vec_len trail + n
+  pub capacity : vec_capacity grown ≡ vec_capacity trail
+
+-- a step that the trail leads back from, with n records more at most
+pub record IsStep {A : Type 0} (n : ℕ) (rows later : Rows A) (trail grown : Vec Undo A) : Type 0 where
+  pub undo_accounts : unwound_accounts grown.items later.accounts.0 ≡ unwound_accounts trail.items rows.accounts.0
+  pub undo_transfers : unwound_transfers grown.items later.transfers.0 ≡ unwound_transfers trail.items rows.transfers.0
+  pub failed : later.failed ≡ rows.failed
+  pub keeps_failed : later.keeps_failed ≡ rows.keeps_failed
+  pub next_expiry : later.next_expiry ≤ rows.next_expiry
+  pub time : later.time ≡ rows.time
+  pub length : vec_len grown ≤ vec_len trail + n
+  pub capacity : vec_capacity grown ≡ vec_capacity trail

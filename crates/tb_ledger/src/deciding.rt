@@ -1,0 +1,188 @@
+//! Verdicts on the rows of a ledger. What is wrong with an event by itself, or with an id that is there, is answered before any
+//! account is looked up.
+ghost use Rattle.std.specs.Prelude.{◌≡◌, ◌≢◌, ◌==◌, true, false, Some, find, IfOk, IfErr, MatchResult};
+ghost use Rattle.std.specs.List.{list_any};
+ghost use Rattle.std.specs.Option.{option_map_or};
+ghost use Rattle.tb_ledger.specs.Books.{account_now, resolves};
+ghost use Rattle.tb_ledger.specs.Groups.{closed_lines, id_verdict};
+ghost use Rattle.tb_ledger.specs.Kept.{books_in, IsKept};
+ghost use Rattle.tb_ledger.specs.Verdicts.{account_verdict, balanced_between, failed_lines, filled, filled_from, first_of, is_closed_at, resolve_code, resolve_lines_of, single_code, transfer_exists};
+
+use crate::judging::{
+    account_new, account_own, account_there, between, closed, filled, resolve_named, resolve_own,
+    single_own, transfer_own, transfer_there,
+};
+use crate::rows::{Rows, TransferRow};
+use std::alloc::Allocator;
+use tb_records::{Account, Transfer};
+
+/// The verdict on an account.
+pub(crate) fn account_code<A: Allocator>(rows: &Rows<A>, a: &Account) -> u32
+    requires { IsKept rows.now }
+    ensures { result ≡ account_verdict (books_in rows.now) a.now }
+{
+    let code = account_own(a);
+    if code != 0 {
+        return code;
+    }
+    match rows.accounts.get(a.id) {
+        Some(e) => account_there(a, e),
+        None => account_new(a),
+    }
+}
+
+/// It is a post or void.
+pub(crate) fn resolving(t: &Transfer) -> bool
+    ensures { result ≡ resolves t.now }
+{
+    t.flags & 4 != 0 || t.flags & 8 != 0
+}
+
+/// By profile 2, whether the transfer's id has failed for good: 68, or 0.
+fn failed_code<A: Allocator>(rows: &Rows<A>, t: &Transfer) -> u32
+    ensures { result ≡ first_of (failed_lines (books_in rows.now).failed t.now) }
+{
+    if failed_before(rows, t) { 68 } else { 0 }
+}
+
+/// By profile 2: the transfer's id has failed for good.
+fn failed_before<A: Allocator>(rows: &Rows<A>, t: &Transfer) -> bool
+    ensures { result ≡ option_map_or (list_any (λ id. id == t.now.id)) (books_in rows.now).failed false }
+{
+    rows.keeps_failed && rows.failed.get(t.id).is_some()
+}
+
+/// How a transfer, filled, differs from the recorded one that has its id.
+fn repeated<A: Allocator>(rows: &Rows<A>, t: &Transfer, e: &Transfer) -> u32
+    ensures { result ≡ first_of (transfer_exists (Some e.now) (filled (books_in rows.now) t.now)) }
+{
+    if resolving(t) {
+        match rows.transfers.get(t.pending_id) {
+            Some(p) => transfer_there(&filled(t, &p.recorded), e),
+            None => transfer_there(t, e),
+        }
+    } else {
+        transfer_there(t, e)
+    }
+}
+
+/// What is wrong with a transfer of either kind, or with its id: a code, or 0.
+pub(crate) fn id_code<A: Allocator>(rows: &Rows<A>, t: &Transfer) -> u32
+    ensures { result ≡ id_verdict (books_in rows.now) t.now }
+{
+    let code = transfer_own(t);
+    if code != 0 {
+        return code;
+    }
+    match rows.transfers.get(t.id) {
+        Some(e) => repeated(rows, t, &e.recorded),
+        None => failed_code(rows, t),
+    }
+}
+
+/// The verdict on a transfer between two accounts, once its id is free: a code, or the amount that it moves.
+pub(crate) fn single_amount<A: Allocator>(
+    rows: &Rows<A>,
+    t: &Transfer,
+    time: u64,
+) -> Result<u128, u32>
+    requires { IsKept rows.now }
+    ensures code { MatchResult result (λ amount. single_code (books_in rows.now) t.now time ≡ 0) (λ code. single_code (books_in rows.now) t.now time ≡ code) }
+    ensures refused { IfErr result (λ code. code ≢ 0) }
+    ensures amount { IfOk result (λ amount. amount ≡ balanced_between (account_now (books_in rows.now) t.now.debit_account_id) (account_now (books_in rows.now) t.now.credit_account_id) t.now) }
+{
+    let code = single_own(t);
+    if code != 0 {
+        return Err(code);
+    }
+    let d = match rows.accounts.get(t.debit_account_id) {
+        Some(d) => d,
+        None => return Err(21),
+    };
+    let c = match rows.accounts.get(t.credit_account_id) {
+        Some(c) => c,
+        None => return Err(22),
+    };
+    between(d, c, t, time)
+}
+
+/// A post or void that passes: the row of the pending transfer that it names, and its record, filled and not yet stamped.
+pub(crate) struct Resolution {
+    pub pending: TransferRow,
+    pub record: Transfer,
+}
+
+/// The account is there and closed.
+fn closed_at<A: Allocator>(rows: &Rows<A>, id: u128) -> bool
+    requires { IsKept rows.now }
+    ensures { result ≡ is_closed_at (books_in rows.now) id }
+{
+    match rows.accounts.get(id) {
+        Some(a) => closed(a),
+        None => false,
+    }
+}
+
+/// A post needs both accounts open: a code, or 0.
+fn closed_code<A: Allocator>(rows: &Rows<A>, f: &Transfer, p: &Transfer) -> u32
+    requires { IsKept rows.now }
+    ensures { result ≡ first_of (closed_lines (books_in rows.now) f.now p.now) }
+{
+    if f.flags & 4 == 0 {
+        return 0;
+    }
+    if closed_at(rows, p.debit_account_id) {
+        return 65;
+    }
+    if closed_at(rows, p.credit_account_id) {
+        return 66;
+    }
+    0
+}
+
+/// The verdict on a post or void, once its id is free: a code, or what it resolves.
+pub(crate) fn resolved<A: Allocator>(rows: &Rows<A>, t: &Transfer) -> Result<Resolution, u32>
+    requires kept { IsKept rows.now }
+    requires resolving { resolves t.now ≡ true }
+    ensures code { MatchResult result (λ x. resolve_code (books_in rows.now) (filled (books_in rows.now) t.now) ≡ 0) (λ code. resolve_code (books_in rows.now) (filled (books_in rows.now) t.now) ≡ code) }
+    ensures refused { IfErr result (λ code. code ≢ 0) }
+    ensures pending { IfOk result (λ x. find (λ row. row.recorded.id == t.now.pending_id) rows.now.transfers.0 ≡ Some x.pending) }
+    ensures record { IfOk result (λ x. x.record ≡ filled (books_in rows.now) t.now) }
+{
+    let code = resolve_own(t);
+    if code != 0 {
+        return Err(code);
+    }
+    match rows.transfers.get(t.pending_id) {
+        Some(p) => resolved_by(rows, t, p),
+        None => Err(25),
+    }
+}
+
+/// The verdict on a post or void that is right by itself, by the pending transfer that it names.
+fn resolved_by<A: Allocator>(
+    rows: &Rows<A>,
+    t: &Transfer,
+    p: &TransferRow,
+) -> Result<Resolution, u32>
+    requires kept { IsKept rows.now }
+    requires found { find (λ row. row.recorded.id == t.now.pending_id) rows.now.transfers.0 ≡ Some p.now }
+    ensures code { MatchResult result (λ x. first_of (resolve_lines_of (books_in rows.now) (filled_from p.now.recorded t.now) (Some p.now.recorded)) ≡ 0) (λ code. first_of (resolve_lines_of (books_in rows.now) (filled_from p.now.recorded t.now) (Some p.now.recorded)) ≡ code) }
+    ensures refused { IfErr result (λ code. code ≢ 0) }
+    ensures pending { IfOk result (λ x. x.pending ≡ p.now) }
+    ensures record { IfOk result (λ x. x.record ≡ filled_from p.now.recorded t.now) }
+{
+    let record = filled(t, &p.recorded);
+    let code = resolve_named(&record, &p.recorded, p.state);
+    if code != 0 {
+        return Err(code);
+    }
+    let code = closed_code(rows, &record, &p.recorded);
+    if code != 0 {
+        return Err(code);
+    }
+    Ok(Resolution {
+        pending: *p,
+        record,
+    })
+}

@@ -1,0 +1,390 @@
+//! The verdicts on accounts and transfers, group by group: each group of lines is answered before the next looks anything up.
+ghost use Rattle.std.specs.Prelude.{◌≡◌, ◌≢◌, ◌+◌, ◌*◌, nat_lt, if◌then◌else◌, Some, IfErr, IfOk, MatchResult};
+ghost use Rattle.tb_ledger.specs.Books.{balancing};
+ghost use Rattle.tb_ledger.specs.Groups.{pending_lines};
+ghost use Rattle.tb_ledger.specs.Kept.{row_now, row_closed};
+ghost use Rattle.tb_ledger.specs.Verdicts.{first_of, is_not, given_or, filled_amount, max_id, max_time, account_exists, account_own_lines, account_new_lines, filled_from, transfer_exists, resolve_own_lines, balanced_amount, amount_lines, pair_code, pair_lines, single_own_lines, transfer_own_lines};
+
+use crate::rows::{AccountRow, State};
+use tb_records::{Account, Transfer};
+
+/// The first line that holds, else 0.
+fn first_line(lines: &[(u32, bool)]) -> u32
+    ensures { result ≡ first_of lines.now }
+{
+    for line in lines {
+        if line.1 {
+            return line.0;
+        }
+    }
+    0
+}
+
+/// The sum is above the largest number.
+fn above(x: u128, y: u128) -> bool
+    ensures { result ≡ nat_lt max_id (x + y) }
+{
+    x.checked_add(y).is_none()
+}
+
+/// The sum of three is above the largest number.
+fn sum_above(x: u128, y: u128, z: u128) -> bool
+    ensures { result ≡ nat_lt max_id (x + y + z) }
+{
+    match x.checked_add(y) {
+        Some(sum) => above(sum, z),
+        None => true,
+    }
+}
+
+/// The sum of three is above a limit.
+fn sum_exceeds(x: u128, y: u128, z: u128, limit: u128) -> bool
+    ensures { result ≡ nat_lt limit (x + y + z) }
+{
+    match x.checked_add(y) {
+        Some(two) => match two.checked_add(z) {
+            Some(sum) => limit < sum,
+            None => true,
+        },
+        None => true,
+    }
+}
+
+/// What of an account is wrong by itself, or 0.
+pub(crate) fn account_own(a: &Account) -> u32
+    ensures { result ≡ first_of (account_own_lines a.now) }
+{
+    first_line(&[
+        (3, a.timestamp != 0),
+        (4, a.reserved != 0),
+        (5, a.flags & 0xFFD0 != 0),
+        (6, a.id == 0),
+        (7, a.id == u128::MAX),
+    ])
+}
+
+/// How an account differs from the one that has its id.
+pub(crate) fn account_there(a: &Account, e: &AccountRow) -> u32
+    ensures { result ≡ first_of (account_exists (Some (row_now e.now)) a.now) }
+{
+    let there = &e.created;
+    first_line(&[
+        (15, a.flags != flags_now(e)),
+        (16, a.user_data_128 != there.user_data_128),
+        (17, a.user_data_64 != there.user_data_64),
+        (18, a.user_data_32 != there.user_data_32),
+        (19, a.ledger != there.ledger),
+        (20, a.code != there.code),
+        (21, true),
+    ])
+}
+
+/// An account whose id is free: what is wrong with it, or 0.
+pub(crate) fn account_new(a: &Account) -> u32
+    ensures { result ≡ first_of (account_new_lines a.now) }
+{
+    first_line(&[
+        (8, a.flags & 2 != 0 && a.flags & 4 != 0),
+        (9, a.debits_pending != 0),
+        (10, a.debits_posted != 0),
+        (11, a.credits_pending != 0),
+        (12, a.credits_posted != 0),
+        (13, a.ledger == 0),
+        (14, a.code == 0),
+    ])
+}
+
+/// The account is closed: created so, or held so by a pending transfer.
+pub(crate) fn closed(a: &AccountRow) -> bool
+    ensures { result ≡ row_closed a.now }
+{
+    a.created.flags & 32 != 0 || a.debits.shut || a.credits.shut
+}
+
+/// The account's flags as it stands.
+pub(crate) fn flags_now(a: &AccountRow) -> u16
+    ensures { result ≡ (row_now a.now).flags }
+{
+    if closed(a) {
+        a.created.flags | 32
+    } else {
+        a.created.flags
+    }
+}
+
+/// What of a transfer is wrong whatever its kind, or 0.
+pub(crate) fn transfer_own(t: &Transfer) -> u32
+    ensures { result ≡ first_of (transfer_own_lines t.now) }
+{
+    if t.timestamp != 0 {
+        return 3;
+    }
+    if t.flags & 0xFF00 != 0 {
+        return 4;
+    }
+    if t.id == 0 {
+        return 5;
+    }
+    if t.id == u128::MAX {
+        return 6;
+    }
+    0
+}
+
+/// How a transfer, filled, differs from the recorded one that has its id.
+pub(crate) fn transfer_there(f: &Transfer, e: &Transfer) -> u32
+    ensures { result ≡ first_of (transfer_exists (Some e.now) f.now) }
+{
+    first_line(&[
+        (36, f.flags != e.flags),
+        (40, f.pending_id != e.pending_id),
+        (44, f.timeout != e.timeout),
+        (37, f.debit_account_id != e.debit_account_id),
+        (38, f.credit_account_id != e.credit_account_id),
+        (39, other_amount(f, e)),
+        (41, f.user_data_128 != e.user_data_128),
+        (42, f.user_data_64 != e.user_data_64),
+        (43, f.user_data_32 != e.user_data_32),
+        (67, f.ledger != e.ledger),
+        (45, f.code != e.code),
+        (46, true),
+    ])
+}
+
+/// The amount differs; of a balancing transfer, which may have moved less than it asks, it is below the recorded one.
+fn other_amount(f: &Transfer, e: &Transfer) -> bool
+    ensures { result ≡ (if balancing f.now then nat_lt f.now.amount e.now.amount else is_not f.now.amount e.now.amount) }
+{
+    if f.flags & 16 != 0 || f.flags & 32 != 0 {
+        f.amount < e.amount
+    } else {
+        f.amount != e.amount
+    }
+}
+
+/// What is wrong by itself with a post or void, or 0.
+pub(crate) fn resolve_own(f: &Transfer) -> u32
+    ensures { result ≡ first_of (resolve_own_lines f.now) }
+{
+    first_line(&[
+        (7, f.flags & 4 != 0 && f.flags & 8 != 0),
+        (7, f.flags & 2 != 0),
+        (7, f.flags & 16 != 0 || f.flags & 32 != 0),
+        (7, f.flags & 64 != 0 || f.flags & 128 != 0),
+        (14, f.pending_id == 0),
+        (15, f.pending_id == u128::MAX),
+        (16, f.pending_id == f.id),
+        (17, f.timeout != 0),
+    ])
+}
+
+/// Whether a post or void fits the pending transfer that it names: a code, or 0.
+pub(crate) fn resolve_named(f: &Transfer, p: &Transfer, state: State) -> u32
+    ensures { result ≡ first_of (pending_lines f.now p.now state) }
+{
+    first_line(&[
+        (26, p.flags & 2 == 0),
+        (27, f.debit_account_id != p.debit_account_id),
+        (28, f.credit_account_id != p.credit_account_id),
+        (29, f.ledger != p.ledger),
+        (30, f.code != p.code),
+        (31, p.amount < f.amount),
+        (32, f.flags & 8 != 0 && f.amount < p.amount),
+        (33, state == State::Posted),
+        (34, state == State::Voided),
+        (35, state == State::Expired),
+    ])
+}
+
+/// What is wrong by itself with a transfer that is no post or void, or 0.
+pub(crate) fn single_own(t: &Transfer) -> u32
+    ensures { result ≡ first_of (single_own_lines t.now) }
+{
+    if t.debit_account_id == 0 {
+        return 8;
+    }
+    if t.debit_account_id == u128::MAX {
+        return 9;
+    }
+    if t.credit_account_id == 0 {
+        return 10;
+    }
+    if t.credit_account_id == u128::MAX {
+        return 11;
+    }
+    if t.debit_account_id == t.credit_account_id {
+        return 12;
+    }
+    if t.pending_id != 0 {
+        return 13;
+    }
+    let pending = t.flags & 2 != 0;
+    if !pending && t.timeout != 0 {
+        return 17;
+    }
+    if !pending && (t.flags & 64 != 0 || t.flags & 128 != 0) {
+        return 64;
+    }
+    if t.ledger == 0 {
+        return 19;
+    }
+    if t.code == 0 {
+        return 20;
+    }
+    0
+}
+
+/// Whether two accounts can exchange money: a code, or 0.
+fn pair(d: &AccountRow, c: &AccountRow, t: &Transfer) -> u32
+    ensures { result ≡ first_of (pair_lines (row_now d.now) (row_now c.now) t.now) }
+{
+    if d.created.ledger != c.created.ledger {
+        return 23;
+    }
+    if t.ledger != d.created.ledger {
+        return 24;
+    }
+    if flags_now(d) & 32 != 0 {
+        return 65;
+    }
+    if flags_now(c) & 32 != 0 {
+        return 66;
+    }
+    0
+}
+
+/// Whether the amount, balanced, fits both accounts and the timeout the clock: a code, or 0.
+fn amounts(d: &AccountRow, c: &AccountRow, t: &Transfer, amount: u128, time: u64) -> u32
+    ensures { result ≡ first_of (amount_lines (row_now d.now) (row_now c.now) t.now amount time) }
+{
+    let pending = t.flags & 2 != 0;
+    if pending && above(d.debits.pending, amount) {
+        return 47;
+    }
+    if pending && above(c.credits.pending, amount) {
+        return 48;
+    }
+    if above(d.debits.posted, amount) {
+        return 49;
+    }
+    if above(c.credits.posted, amount) {
+        return 50;
+    }
+    if sum_above(d.debits.pending, d.debits.posted, amount) {
+        return 51;
+    }
+    if sum_above(c.credits.pending, c.credits.posted, amount) {
+        return 52;
+    }
+    if overdue(time, t.timeout) {
+        return 53;
+    }
+    if flags_now(d) & 2 != 0
+        && sum_exceeds(d.debits.pending, d.debits.posted, amount, d.credits.posted)
+    {
+        return 54;
+    }
+    if flags_now(c) & 4 != 0
+        && sum_exceeds(c.credits.pending, c.credits.posted, amount, c.debits.posted)
+    {
+        return 55;
+    }
+    0
+}
+
+/// A transfer between two accounts that are there: a code, or the amount that it moves.
+pub(crate) fn between(d: &AccountRow, c: &AccountRow, t: &Transfer, time: u64) -> Result<u128, u32>
+    ensures code { MatchResult result (λ amount. pair_code (Some (row_now d.now)) (Some (row_now c.now)) t.now time ≡ 0) (λ code. pair_code (Some (row_now d.now)) (Some (row_now c.now)) t.now time ≡ code) }
+    ensures refused { IfErr result (λ code. code ≢ 0) }
+    ensures amount { IfOk result (λ amount. amount ≡ balanced_amount (row_now d.now) (row_now c.now) t.now) }
+{
+    let code = pair(d, c, t);
+    if code != 0 {
+        return Err(code);
+    }
+    let amount = balanced(d, c, t);
+    let code = amounts(d, c, t, amount, time);
+    if code != 0 {
+        return Err(code);
+    }
+    Ok(amount)
+}
+
+/// A timeout would end after the last moment of the clock.
+fn overdue(time: u64, timeout: u32) -> bool
+    ensures { result ≡ nat_lt max_time (time + timeout * 1000000000) }
+{
+    (i64::MAX as u128) < time as u128 + timeout as u128 * 1_000_000_000
+}
+
+/// What a balancing transfer moves between two accounts: at most what keeps its sides balanced.
+fn balanced(d: &AccountRow, c: &AccountRow, t: &Transfer) -> u128
+    ensures { result ≡ balanced_amount (row_now d.now) (row_now c.now) t.now }
+{
+    let mut amount = t.amount;
+    if t.flags & 16 != 0 {
+        amount = amount.min(
+            d.credits
+                .posted
+                .saturating_sub(d.debits.posted)
+                .saturating_sub(d.debits.pending),
+        );
+    }
+    if t.flags & 32 != 0 {
+        amount = amount.min(
+            c.debits
+                .posted
+                .saturating_sub(c.credits.posted)
+                .saturating_sub(c.credits.pending),
+        );
+    }
+    amount
+}
+
+/// The value given, or the pending transfer's where none is given.
+fn given(x: u128, other: u128) -> u128
+    ensures { result ≡ given_or x other }
+{
+    if x == 0 { other } else { x }
+}
+
+/// A post or void with the values of the pending transfer that it names where its own are 0.
+pub(crate) fn filled(t: &Transfer, p: &Transfer) -> Transfer
+    ensures { result ≡ filled_from p.now t.now }
+{
+    Transfer {
+        id: t.id,
+        debit_account_id: given(t.debit_account_id, p.debit_account_id),
+        credit_account_id: given(t.credit_account_id, p.credit_account_id),
+        amount: filled_with(t, p),
+        pending_id: t.pending_id,
+        user_data_128: given(t.user_data_128, p.user_data_128),
+        user_data_64: if t.user_data_64 == 0 {
+            p.user_data_64
+        } else {
+            t.user_data_64
+        },
+        user_data_32: if t.user_data_32 == 0 {
+            p.user_data_32
+        } else {
+            t.user_data_32
+        },
+        timeout: t.timeout,
+        ledger: if t.ledger == 0 { p.ledger } else { t.ledger },
+        code: if t.code == 0 { p.code } else { t.code },
+        flags: t.flags,
+        timestamp: t.timestamp,
+    }
+}
+
+/// The amount of a post or void: a post of the largest number and a void of 0 take the whole.
+fn filled_with(t: &Transfer, p: &Transfer) -> u128
+    ensures { result ≡ filled_amount p.now t.now }
+{
+    let whole = if t.flags & 4 != 0 { u128::MAX } else { 0 };
+    if t.amount == whole {
+        p.amount
+    } else {
+        t.amount
+    }
+}

@@ -1,0 +1,233 @@
+//! The ledger: its books, kept in rows.
+ghost use Rattle.std.specs.Prelude.{◌≡◌, ◌+◌, ◌<◌, ◌≤◌, ◌++◌, max, true, length, IfOk, OnOk, OnErr, vec_len, vec_capacity};
+ghost use Rattle.tb_ledger.specs.Batches.{account_events, batch_after, results, transfer_events};
+ghost use Rattle.tb_ledger.specs.Books.{account_now, empty_books, found_accounts, found_transfers, transfer_at};
+ghost use Rattle.tb_ledger.specs.Kept.{books_in, IsKept, row_now};
+ghost use Rattle.tb_ledger.specs.Verdicts.{max_time};
+
+use crate::batching::run_batch;
+use crate::events::Event;
+use crate::expiry::expire;
+use crate::judging::flags_now;
+use crate::rows::{AccountRow, Rows};
+use crate::undo::TRAIL_PER_EVENT;
+use std::alloc::{AllocError, Allocator, Global};
+use std::marker::Model;
+use tb_records::{Account, EventResult, Profile, Transfer};
+
+/// A ledger of accounts and transfers. Its value is its books: the accounts as they were created, the transfers as they
+/// were recorded, by profile 2 the ids that failed for good, and the time of the last entry. Sums, closed accounts and the
+/// states of pending transfers all follow from these.
+///
+/// Amounts are in the ledger's smallest unit, times in nanoseconds. What takes memory makes all its room before the first
+/// change, so where it answers that there is none, the ledger is as it was.
+#[derive(Drop)]
+pub struct Ledger<A: Allocator + Clone> {
+    alloc: A,
+    rows: Rows<A>,
+}
+
+impl<A: Allocator + Clone> Model for Ledger<A> {
+    ghost use Rattle.tb_ledger.specs.Books.{Books};
+    ghost use Rattle.tb_ledger.specs.Kept.{books_in, IsKept};
+
+    ghost Value = { Books };
+
+    ghost view = { λ l. books_in l.rows };
+
+    ghost invariant = { λ l. IsKept l.rows };
+}
+
+// An account as it stands: with its present sums, and closed where it was created so or a pending transfer holds it so.
+fn as_it_stands(row: &AccountRow) -> Account
+    ensures { result ≡ row_now row.now }
+{
+    Account {
+        debits_pending: row.debits.pending,
+        debits_posted: row.debits.posted,
+        credits_pending: row.credits.pending,
+        credits_posted: row.credits.posted,
+        flags: flags_now(row),
+        ..row.created
+    }
+}
+
+// Makes room for `n` transfers, and for as many failed ids where these are kept.
+fn reserve_transfers<A: Allocator + Clone>(
+    rows: &mut Rows<A>,
+    alloc: &A,
+    n: usize,
+) -> Result<(), AllocError>
+    requires { IsKept rows.old }
+    ensures kept { IsKept rows.new }
+    ensures books { books_in rows.new ≡ books_in rows.old }
+    ensures ok { OnOk result ((n ≤ rows.new.transfers.1) × (rows.new.keeps_failed ≡ true → n ≤ rows.new.failed.1)) }
+{
+    rows.transfers.reserve(alloc, n)?;
+    if rows.keeps_failed {
+        rows.failed.reserve(alloc, n)?;
+    }
+    Ok(())
+}
+
+// Enters a batch at the time `t`, where there is room for its records: expires to `t`, then takes the events.
+fn enter<E: Event, A: Allocator + Clone>(
+    rows: &mut Rows<A>,
+    alloc: &A,
+    global: Global,
+    t: u64,
+    events: &[E],
+) -> Result<Vec<EventResult>, AllocError>
+    requires kept { IsKept rows.old }
+    requires room { length events.now ≤ E.room rows.old.accounts.1 rows.old.transfers.1 }
+    requires ids { E.HasIdRoom (length events.now) rows.old.keeps_failed rows.old.failed.1 }
+    requires count { length events.now ≤ 8190 }
+    requires later { rows.old.time + max (length events.now) 1 ≤ t }
+    requires in_range { t ≤ max_time }
+    ensures kept { IsKept rows.new }
+    ensures books { OnOk result (books_in rows.new ≡ (batch_after E.kind (books_in rows.old) events.now t).books) }
+    ensures results { IfOk result (λ r. r.items ≡ results (batch_after E.kind (books_in rows.old) events.now t).codes) }
+    ensures err { OnErr result (books_in rows.new ≡ books_in rows.old) }
+{
+    let n = events.len();
+    let mut trail = Vec::with_capacity(alloc.clone()?, TRAIL_PER_EVENT * n)?;
+    let mut refused = Vec::with_capacity(global, n)?;
+    expire(rows, t);
+    run_batch(rows, &mut trail, &mut refused, events, t + 1 - n as u64);
+    Ok(refused)
+}
+
+impl<A: Allocator + Clone> Ledger<A> {
+    /// A ledger with no accounts and no transfers, at the time 0. It takes its memory from `alloc`, and none yet.
+    pub fn new_in(alloc: A, profile: Profile) -> Self
+        ensures { result ≡ empty_books profile }
+    {
+        Ledger {
+            alloc,
+            rows: Rows::new(profile),
+        }
+    }
+
+    /// The time of the last entry, in nanoseconds: 0 before the first.
+    pub fn time(&self) -> u64
+        ensures { result ≡ self.now.time }
+    {
+        self.rows.time
+    }
+
+    /// The account of an id as it stands: its four sums, and flag closed where it is closed. None where it isn't there.
+    pub fn account(&self, id: u128) -> Option<Account>
+        ensures { result ≡ account_now self.now id }
+    {
+        match self.rows.accounts.get(id) {
+            Some(row) => Some(as_it_stands(row)),
+            None => None,
+        }
+    }
+
+    /// The transfer of an id as it was recorded: a post or void filled, a balancing one lowered. None where it isn't there.
+    pub fn transfer(&self, id: u128) -> Option<Transfer>
+        ensures { result ≡ transfer_at self.now id }
+    {
+        match self.rows.transfers.get(id) {
+            Some(row) => Some(row.recorded),
+            None => None,
+        }
+    }
+
+    /// Moves the time on to `t`: each pending transfer whose timeout has passed by then expires, and its amount leaves the
+    /// pending sums.
+    pub fn expire(&mut self, t: u64)
+        requires later { self.old.time < t }
+        requires in_range { t ≤ max_time }
+        ensures { self.new ≡ record self.old { time = t } }
+    {
+        expire(&mut self.rows, t);
+    }
+
+    /// Creates accounts, as an entry of the time `t`: expires to `t`, then takes the events, of which the one at index i of n
+    /// has the timestamp `t - n + i + 1`. Answers the index and result code of each event that isn't accepted, by rising
+    /// index. A chain of linked events happens whole or not at all.
+    pub fn create_accounts(
+        &mut self,
+        global: Global,
+        t: u64,
+        events: &[Account],
+    ) -> Result<Vec<EventResult>, AllocError>
+        requires count { length events.now ≤ 8190 }
+        requires later { self.old.time + max (length events.now) 1 ≤ t }
+        requires in_range { t ≤ max_time }
+        ensures books { OnOk result (self.new ≡ (batch_after account_events self.old events.now t).books) }
+        ensures results { IfOk result (λ r. r.items ≡ results (batch_after account_events self.old events.now t).codes) }
+        ensures err { OnErr result (self.new ≡ self.old) }
+    {
+        self.rows.accounts.reserve(&self.alloc, events.len())?;
+        enter(&mut self.rows, &self.alloc, global, t, events)
+    }
+
+    /// Creates transfers, as an entry of the time `t`, in the way of [`Ledger::create_accounts`]: single transfers, pending
+    /// ones, and the posts and voids of these. By profile 2 the id of a transfer that fails for good is kept.
+    pub fn create_transfers(
+        &mut self,
+        global: Global,
+        t: u64,
+        events: &[Transfer],
+    ) -> Result<Vec<EventResult>, AllocError>
+        requires count { length events.now ≤ 8190 }
+        requires later { self.old.time + max (length events.now) 1 ≤ t }
+        requires in_range { t ≤ max_time }
+        ensures books { OnOk result (self.new ≡ (batch_after transfer_events self.old events.now t).books) }
+        ensures results { IfOk result (λ r. r.items ≡ results (batch_after transfer_events self.old events.now t).codes) }
+        ensures err { OnErr result (self.new ≡ self.old) }
+    {
+        reserve_transfers(&mut self.rows, &self.alloc, events.len())?;
+        enter(&mut self.rows, &self.alloc, global, t, events)
+    }
+
+    /// Accounts as they stand, in the order of the ids: one that isn't there is left out, one asked twice is answered twice.
+    pub fn lookup_accounts(&self, global: Global, ids: &[u128]) -> Result<Vec<Account>, AllocError>
+        ensures { IfOk result (λ v. v.items ≡ found_accounts self.now ids.now) }
+    {
+        let mut found = Vec::with_capacity(global, ids.len())?;
+        self.fill_accounts(ids, &mut found);
+        Ok(found)
+    }
+
+    /// Transfers as they were recorded, in the order of the ids: one that isn't there is left out, one asked twice is
+    /// answered twice.
+    pub fn lookup_transfers(
+        &self,
+        global: Global,
+        ids: &[u128],
+    ) -> Result<Vec<Transfer>, AllocError>
+        ensures { IfOk result (λ v. v.items ≡ found_transfers self.now ids.now) }
+    {
+        let mut found = Vec::with_capacity(global, ids.len())?;
+        self.fill_transfers(ids, &mut found);
+        Ok(found)
+    }
+
+    /// Appends what [`Ledger::lookup_accounts`] answers, to a vector with room for as many accounts as there are ids.
+    pub fn fill_accounts(&self, ids: &[u128], out: &mut Vec<Account>)
+        requires { vec_len out.old + length ids.now ≤ vec_capacity out.old }
+        ensures { out.new.items ≡ out.old.items ++ found_accounts self.now ids.now }
+    {
+        for id in ids {
+            if let Some(account) = self.account(*id) {
+                out.push_reserved(account);
+            }
+        }
+    }
+
+    /// Appends what [`Ledger::lookup_transfers`] answers, to a vector with room for as many transfers as there are ids.
+    pub fn fill_transfers(&self, ids: &[u128], out: &mut Vec<Transfer>)
+        requires { vec_len out.old + length ids.now ≤ vec_capacity out.old }
+        ensures { out.new.items ≡ out.old.items ++ found_transfers self.now ids.now }
+    {
+        for id in ids {
+            if let Some(transfer) = self.transfer(*id) {
+                out.push_reserved(transfer);
+            }
+        }
+    }
+}

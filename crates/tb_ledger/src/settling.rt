@@ -1,0 +1,337 @@
+//! What an accepted event changes: an account added, a transfer recorded, a pending transfer resolved.
+ghost use Rattle.std.specs.Prelude.{◌≡◌, ◌+◌, ◌-◌, ◌<◌, ◌≤◌, ◌==◌, true, false, find, if◌then◌else◌, Some, None, vec_len, vec_capacity};
+ghost use Rattle.tb_records.specs.Ordered.{put, replaced, changed, Each, Rising};
+ghost use Rattle.tb_ledger.specs.Books.{pending, moves, resolves, closing_debit, closing_credit, expires_at, account_at, transfer_at};
+ghost use Rattle.tb_ledger.specs.Verdicts.{max_id};
+ghost use Rattle.tb_ledger.specs.Kept.{books_in, IsKept, account_row_key, transfer_row_key, dated, ExpiresFrom, on_debits, on_credits, gained, released, resolved, settled, outcome_of, new_row, new_transfer_row};
+ghost use Rattle.tb_ledger.specs.Sound.{Sound, Moves, Resolves, account_key, transfer_key};
+ghost use Rattle.tb_ledger.specs.Trail.{IsStep, IsNoted, IsMarked};
+
+use crate::rows::{AccountRow, Rows, Side, State, TransferRow};
+use crate::table::Table;
+use crate::undo::{TRAIL_PER_EVENT, Undo};
+use std::alloc::Allocator;
+use tb_records::{Account, Transfer};
+
+// What a transfer holds until it is resolved or expires.
+fn pending_part(t: &Transfer) -> u128
+    ensures { result ≡ (if pending t.now then t.now.amount else 0) }
+{
+    if t.flags & 2 != 0 { t.amount } else { 0 }
+}
+
+// What a transfer moves for good.
+fn posted_part(t: &Transfer) -> u128
+    ensures { result ≡ (if moves t.now then t.now.amount else 0) }
+{
+    if t.flags & 2 == 0 && t.flags & 8 == 0 {
+        t.amount
+    } else {
+        0
+    }
+}
+
+fn gain_side(s: Side, t: &Transfer, closes: bool) -> Side
+    requires { s.pending + s.posted + t.now.amount ≤ max_id }
+    ensures { result ≡ gained (λ _. closes) t.now s }
+{
+    let held = pending_part(t);
+    let moved = posted_part(t);
+    let shut = s.shut || t.flags & 2 != 0 && closes;
+    Side {
+        pending: s.pending + held,
+        posted: s.posted + moved,
+        shut,
+    }
+}
+
+pub(crate) fn release_side(s: Side, p: &Transfer, closes: bool) -> Side
+    requires { p.now.amount ≤ s.pending }
+    ensures { result ≡ released (λ _. closes) p.now s }
+{
+    Side {
+        pending: s.pending - p.amount,
+        posted: s.posted,
+        shut: s.shut && !closes,
+    }
+}
+
+// The pending amount leaves before what is posted of it comes.
+fn settle_side(s: Side, p: &Transfer, r: &Transfer, closes: bool, closes_anew: bool) -> Side
+    requires enough { p.now.amount ≤ s.pending }
+    requires fit { s.pending + s.posted ≤ max_id }
+    requires at_most { r.now.amount ≤ p.now.amount }
+    ensures { result ≡ gained (λ _. closes_anew) r.now (released (λ _. closes) p.now s) }
+{
+    gain_side(release_side(s, p, closes), r, closes_anew)
+}
+
+// Writes an account's row, and notes the one from before.
+fn change<A: Allocator>(
+    accounts: &mut Table<AccountRow, A>,
+    trail: &mut Vec<Undo, A>,
+    old: AccountRow,
+    new: AccountRow,
+)
+    requires room { vec_len trail.old < vec_capacity trail.old }
+    requires found { find (λ a. a.created.id == new.created.id) accounts.old.0 ≡ Some old }
+    ensures accounts { accounts.new ≡ (replaced account_row_key new accounts.old.0, accounts.old.1) }
+    ensures noted { IsNoted 1 accounts.old.0 accounts.new.0 trail.old trail.new }
+{
+    trail.push_reserved(Undo::Account(old));
+    accounts.replace(new);
+}
+
+fn gain_debit<A: Allocator>(
+    accounts: &mut Table<AccountRow, A>,
+    trail: &mut Vec<Undo, A>,
+    t: &Transfer,
+)
+    requires room { vec_len trail.old < vec_capacity trail.old }
+    requires takes { (a : AccountRow) → find (λ a. a.created.id == t.now.debit_account_id) accounts.old.0 ≡ Some a → a.debits.pending + a.debits.posted + t.now.amount ≤ max_id }
+    ensures accounts { accounts.new ≡ (changed account_row_key t.now.debit_account_id (on_debits (gained closing_debit t.now)) accounts.old.0, accounts.old.1) }
+    ensures noted { IsNoted 1 accounts.old.0 accounts.new.0 trail.old trail.new }
+{
+    match accounts.get(t.debit_account_id) {
+        Some(row) => {
+            let old = *row;
+            let new = AccountRow {
+                created: old.created,
+                debits: gain_side(old.debits, t, t.flags & 64 != 0),
+                credits: old.credits,
+            };
+            change(accounts, trail, old, new);
+        }
+        None => {}
+    }
+}
+
+fn gain_credit<A: Allocator>(
+    accounts: &mut Table<AccountRow, A>,
+    trail: &mut Vec<Undo, A>,
+    t: &Transfer,
+)
+    requires room { vec_len trail.old < vec_capacity trail.old }
+    requires takes { (a : AccountRow) → find (λ a. a.created.id == t.now.credit_account_id) accounts.old.0 ≡ Some a → a.credits.pending + a.credits.posted + t.now.amount ≤ max_id }
+    ensures accounts { accounts.new ≡ (changed account_row_key t.now.credit_account_id (on_credits (gained closing_credit t.now)) accounts.old.0, accounts.old.1) }
+    ensures noted { IsNoted 1 accounts.old.0 accounts.new.0 trail.old trail.new }
+{
+    match accounts.get(t.credit_account_id) {
+        Some(row) => {
+            let old = *row;
+            let new = AccountRow {
+                created: old.created,
+                debits: old.debits,
+                credits: gain_side(old.credits, t, t.flags & 128 != 0),
+            };
+            change(accounts, trail, old, new);
+        }
+        None => {}
+    }
+}
+
+fn settle_debit<A: Allocator>(
+    accounts: &mut Table<AccountRow, A>,
+    trail: &mut Vec<Undo, A>,
+    p: &Transfer,
+    r: &Transfer,
+)
+    requires room { vec_len trail.old < vec_capacity trail.old }
+    requires enough { (a : AccountRow) → find (λ a. a.created.id == r.now.debit_account_id) accounts.old.0 ≡ Some a → p.now.amount ≤ a.debits.pending }
+    requires fit { (a : AccountRow) → find (λ a. a.created.id == r.now.debit_account_id) accounts.old.0 ≡ Some a → a.debits.pending + a.debits.posted ≤ max_id }
+    requires at_most { r.now.amount ≤ p.now.amount }
+    ensures accounts { accounts.new ≡ (changed account_row_key r.now.debit_account_id (on_debits (resolved closing_debit p.now r.now)) accounts.old.0, accounts.old.1) }
+    ensures noted { IsNoted 1 accounts.old.0 accounts.new.0 trail.old trail.new }
+{
+    match accounts.get(r.debit_account_id) {
+        Some(row) => {
+            let old = *row;
+            let new = AccountRow {
+                created: old.created,
+                debits: settle_side(old.debits, p, r, p.flags & 64 != 0, r.flags & 64 != 0),
+                credits: old.credits,
+            };
+            change(accounts, trail, old, new);
+        }
+        None => {}
+    }
+}
+
+fn settle_credit<A: Allocator>(
+    accounts: &mut Table<AccountRow, A>,
+    trail: &mut Vec<Undo, A>,
+    p: &Transfer,
+    r: &Transfer,
+)
+    requires room { vec_len trail.old < vec_capacity trail.old }
+    requires enough { (a : AccountRow) → find (λ a. a.created.id == r.now.credit_account_id) accounts.old.0 ≡ Some a → p.now.amount ≤ a.credits.pending }
+    requires fit { (a : AccountRow) → find (λ a. a.created.id == r.now.credit_account_id) accounts.old.0 ≡ Some a → a.credits.pending + a.credits.posted ≤ max_id }
+    requires at_most { r.now.amount ≤ p.now.amount }
+    ensures accounts { accounts.new ≡ (changed account_row_key r.now.credit_account_id (on_credits (resolved closing_credit p.now r.now)) accounts.old.0, accounts.old.1) }
+    ensures noted { IsNoted 1 accounts.old.0 accounts.new.0 trail.old trail.new }
+{
+    match accounts.get(r.credit_account_id) {
+        Some(row) => {
+            let old = *row;
+            let new = AccountRow {
+                created: old.created,
+                debits: old.debits,
+                credits: settle_side(old.credits, p, r, p.flags & 128 != 0, r.flags & 128 != 0),
+            };
+            change(accounts, trail, old, new);
+        }
+        None => {}
+    }
+}
+
+// The time at which a pending transfer expires, and of any other no time before it.
+fn first_expiry(t: &Transfer) -> u64
+    ensures { dated (new_transfer_row t.now) ≡ true → result ≤ expires_at t.now }
+{
+    if t.flags & 2 != 0 && t.timeout != 0 {
+        let after = u64::from(t.timeout) * 1_000_000_000;
+        t.timestamp.saturating_add(after)
+    } else {
+        u64::MAX
+    }
+}
+
+// Adds the row of a transfer.
+fn add_row<A: Allocator>(
+    transfers: &mut Table<TransferRow, A>,
+    trail: &mut Vec<Undo, A>,
+    t: &Transfer,
+)
+    requires room { 0 < transfers.old.1 }
+    requires trail_room { vec_len trail.old < vec_capacity trail.old }
+    requires fresh { find (λ row. row.recorded.id == t.now.id) transfers.old.0 ≡ None }
+    ensures transfers { transfers.new ≡ (put transfer_row_key (new_transfer_row t.now) transfers.old.0, transfers.old.1 - 1) }
+    ensures rising { Rising transfer_row_key transfers.old.0 }
+    ensures marked { IsMarked 1 transfers.old.0 transfers.new.0 trail.old trail.new }
+{
+    trail.push_reserved(Undo::AddedTransfer(t.id));
+    transfers.insert_reserved(TransferRow {
+        recorded: *t,
+        state: State::Open,
+    });
+}
+
+// Adds the row of an account: no transfer names it yet.
+fn add_account_row<A: Allocator>(
+    accounts: &mut Table<AccountRow, A>,
+    trail: &mut Vec<Undo, A>,
+    a: &Account,
+)
+    requires room { 0 < accounts.old.1 }
+    requires trail_room { vec_len trail.old < vec_capacity trail.old }
+    requires fresh { find (λ row. row.created.id == a.now.id) accounts.old.0 ≡ None }
+    ensures accounts { accounts.new ≡ (put account_row_key (new_row a.now) accounts.old.0, accounts.old.1 - 1) }
+    ensures noted { IsNoted 1 accounts.old.0 accounts.new.0 trail.old trail.new }
+{
+    let empty = Side {
+        pending: 0,
+        posted: 0,
+        shut: false,
+    };
+    trail.push_reserved(Undo::AddedAccount(a.id));
+    accounts.insert_reserved(AccountRow {
+        created: *a,
+        debits: empty,
+        credits: empty,
+    });
+}
+
+// Gives a pending transfer its state.
+fn close_row<A: Allocator>(
+    transfers: &mut Table<TransferRow, A>,
+    trail: &mut Vec<Undo, A>,
+    p: &TransferRow,
+    state: State,
+)
+    requires trail_room { vec_len trail.old < vec_capacity trail.old }
+    requires found { find (λ row. row.recorded.id == p.now.recorded.id) transfers.old.0 ≡ Some p.now }
+    ensures transfers { transfers.new ≡ (replaced transfer_row_key (settled state p.now) transfers.old.0, transfers.old.1) }
+    ensures rising { Rising transfer_row_key transfers.old.0 }
+    ensures marked { IsMarked 1 transfers.old.0 transfers.new.0 trail.old trail.new }
+{
+    trail.push_reserved(Undo::Transfer(*p));
+    transfers.replace(TransferRow {
+        recorded: p.recorded,
+        state,
+    });
+}
+
+fn outcome(r: &Transfer) -> State
+    ensures { result ≡ outcome_of r.now }
+{
+    if r.flags & 4 != 0 {
+        State::Posted
+    } else {
+        State::Voided
+    }
+}
+
+/// Adds an account as it is recorded.
+pub fn record_account<A: Allocator>(rows: &mut Rows<A>, trail: &mut Vec<Undo, A>, a: &Account)
+    requires kept { IsKept rows.old }
+    requires room { 0 < rows.old.accounts.1 }
+    requires trail_room { vec_len trail.old + TRAIL_PER_EVENT ≤ vec_capacity trail.old }
+    requires fresh { account_at (books_in rows.old) a.now.id ≡ None }
+    requires sound { Sound (record (books_in rows.old) { accounts = put account_key a.now (books_in rows.old).accounts }) }
+    ensures kept { IsKept rows.new }
+    ensures books { books_in rows.new ≡ record (books_in rows.old) { accounts = put account_key a.now (books_in rows.old).accounts } }
+    ensures step { IsStep TRAIL_PER_EVENT rows.old rows.new trail.old trail.new }
+    ensures accounts_room { rows.new.accounts.1 + 1 ≡ rows.old.accounts.1 }
+    ensures transfers_room { rows.new.transfers.1 ≡ rows.old.transfers.1 }
+{
+    add_account_row(&mut rows.accounts, trail, a);
+}
+
+/// Records a transfer that is no post or void, as it is recorded: balanced and stamped.
+pub fn add_single<A: Allocator>(rows: &mut Rows<A>, trail: &mut Vec<Undo, A>, t: &Transfer)
+    requires kept { IsKept rows.old }
+    requires room { 0 < rows.old.transfers.1 }
+    requires trail_room { vec_len trail.old + TRAIL_PER_EVENT ≤ vec_capacity trail.old }
+    requires fresh { transfer_at (books_in rows.old) t.now.id ≡ None }
+    requires single { resolves t.now ≡ false }
+    requires stamped { rows.old.time < t.now.timestamp + 1000000000 }
+    requires moves { Moves (books_in rows.old) t.now }
+    ensures kept { IsKept rows.new }
+    ensures books { books_in rows.new ≡ record (books_in rows.old) { transfers = put transfer_key t.now (books_in rows.old).transfers } }
+    ensures step { IsStep TRAIL_PER_EVENT rows.old rows.new trail.old trail.new }
+    ensures accounts_room { rows.new.accounts.1 ≡ rows.old.accounts.1 }
+    ensures transfers_room { rows.new.transfers.1 + 1 ≡ rows.old.transfers.1 }
+{
+    gain_debit(&mut rows.accounts, trail, t);
+    gain_credit(&mut rows.accounts, trail, t);
+    add_row(&mut rows.transfers, trail, t);
+    let first = first_expiry(t);
+    rows.next_expiry = rows.next_expiry.min(first);
+}
+
+/// Records a post or void, filled and stamped, of the pending transfer `p`.
+pub fn settle<A: Allocator>(
+    rows: &mut Rows<A>,
+    trail: &mut Vec<Undo, A>,
+    p: &TransferRow,
+    r: &Transfer,
+)
+    requires kept { IsKept rows.old }
+    requires room { 0 < rows.old.transfers.1 }
+    requires trail_room { vec_len trail.old + TRAIL_PER_EVENT ≤ vec_capacity trail.old }
+    requires fresh { transfer_at (books_in rows.old) r.now.id ≡ None }
+    requires found { find (λ row. row.recorded.id == r.now.pending_id) rows.old.transfers.0 ≡ Some p.now }
+    requires is_resolver { resolves r.now ≡ true }
+    requires resolves { Resolves (books_in rows.old) r.now }
+    ensures kept { IsKept rows.new }
+    ensures books { books_in rows.new ≡ record (books_in rows.old) { transfers = put transfer_key r.now (books_in rows.old).transfers } }
+    ensures step { IsStep TRAIL_PER_EVENT rows.old rows.new trail.old trail.new }
+    ensures accounts_room { rows.new.accounts.1 ≡ rows.old.accounts.1 }
+    ensures transfers_room { rows.new.transfers.1 + 1 ≡ rows.old.transfers.1 }
+{
+    settle_debit(&mut rows.accounts, trail, &p.recorded, r);
+    settle_credit(&mut rows.accounts, trail, &p.recorded, r);
+    let state = outcome(r);
+    close_row(&mut rows.transfers, trail, p, state);
+    add_row(&mut rows.transfers, trail, r);
+}

@@ -1,0 +1,57 @@
+//! Worked rows, computed: what the definitions answer to requests of which the answers are known, by either profile.
+//! Its functions do nothing. Each states rows, and is proved by computing them.
+ghost use Rattle.tb_ledger.specs.WorkedRows.{Created, Balancing, PostsAndVoids, Closing, Chains, Accounts, Overflow, FailedIds, Expiry};
+ghost use Rattle.tb_records.specs.declared.limits.Profile.TheVariants.{One, Two};
+
+/// Accounts get the timestamps of their places in the batch.
+pub fn created()
+    ensures one { Created One }
+    ensures two { Created Two }
+{}
+
+/// A balancing transfer records the lowered amount, 0 where nothing is left, and its repeat exists unless it asks for less.
+pub fn balancing()
+    ensures one { Balancing One }
+    ensures two { Balancing Two }
+{}
+
+/// A post of the whole, of a part, of nothing; a void; and posts and voids of what is resolved already or not pending.
+pub fn posts_and_voids()
+    ensures one { PostsAndVoids One }
+    ensures two { PostsAndVoids Two }
+{}
+
+/// A closing transfer shuts its account for all but voids, until it is voided itself.
+pub fn closing()
+    ensures one { Closing One }
+    ensures two { Closing Two }
+{}
+
+/// A chain happens whole or not at all; one that the batch cuts off is open.
+pub fn chains()
+    ensures one { Chains One }
+    ensures two { Chains Two }
+{}
+
+/// Accounts that are refused, and accounts that must not exceed their credits or debits.
+pub fn accounts()
+    ensures one { Accounts One }
+    ensures two { Accounts Two }
+{}
+
+/// A sum that would pass the largest number is refused.
+pub fn overflow()
+    ensures one { Overflow One }
+    ensures two { Overflow Two }
+{}
+
+/// By profile 2 an id that failed for good is refused again, also where its chain was undone; by profile 1 it is free.
+pub fn failed_ids()
+    ensures { FailedIds }
+{}
+
+/// A pending transfer holds its amount, and a closing one its account, until the very moment it expires.
+pub fn expiry()
+    ensures one { Expiry One }
+    ensures two { Expiry Two }
+{}

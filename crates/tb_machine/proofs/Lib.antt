@@ -1,0 +1,10 @@
+pub mod Rows
+pub mod Legal
+pub mod Judging
+pub mod Reached
+pub mod LawProofs
+pub mod SoundBooks
+pub mod Lawful
+pub mod SoundSteps
+pub mod Turns
+pub mod Running

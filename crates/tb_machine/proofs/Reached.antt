@@ -1,0 +1,155 @@
+-- What holds of the rows and the entries after a legal history.
+use Rattle.std.proofs.Common.{◌≡◌, ◌≢◌, ℕ, ◌+◌, ◌<◌, ◌≤◌, ◌⊎◌, inl, inr, ⊎_elim, Bool, true, false, cond, List, [], ◌∷◌, ◌++◌, length, fold, Option, Some, None, refl, sym, ap, ◌∙◌, subst, IsTrue, arith, append_assoc, append-nil, length-append}
+use Rattle.tb_records.specs.declared.limits.Profile.{Profile}
+use Rattle.tb_records.specs.Messages.{Message, is_register}
+use Rattle.tb_records.specs.Ordered.{Each, Rising}
+use Rattle.tb_sessions.specs.declared.rows.Row.{Row}
+use Rattle.tb_sessions.specs.Judged.{client_of, row_of}
+use Rattle.tb_machine.specs.declared.entries.Entry.{Entry}
+use Rattle.tb_machine.specs.Histories.{State, start, fits, is_lawful, session_of, row_at, step, LegalFrom, IsLegal, after, key_of}
+use Rattle.tb_machine.specs.HistoryLaws.{KeysDiffer}
+use Rattle.tb_machine.proofs.Rows.{each_map, each_both, each_snoc, each_admitted, each_admitted_apart, rising_admitted, row_found}
+use Rattle.tb_machine.proofs.Legal.{after_snoc}
+use Rattle.tb_machine.proofs.Judging.{Follows, new_by, MayCome, may_come}
+
+-- an entry of a row's client is of its session or an older one, and in its session it has its number or a smaller one
+pub record IsWithin (row : Row) (e : Entry) : Type 0 where
+  pub session : session_of e ≤ row.session
+  pub number : session_of e ≡ row.session → e.request.request ≤ row.request.request
+
+abbrev pub Before : Row → Entry → Type 0
+Before row e = e.request.client ≡ row.client → IsWithin row e
+
+-- an entry that comes after another of its client has a newer session, or in the same a greater number
+pub record IsPast (later e : Entry) : Type 0 where
+  pub session : session_of e ≤ session_of later
+  pub number : session_of e ≡ session_of later → e.request.request < later.request.request
+
+abbrev pub Earlier : Entry → Entry → Type 0
+Earlier later e = e.request.client ≡ later.request.client → IsPast later e
+
+-- the row was made by an entry of the history, which it names
+pub record Stands (profile : Profile) (clients_max : ℕ) (p : List Entry) (row : Row) : Type 0 where
+  pub front : List Entry
+  pub entry : Entry
+  pub rest : List Entry
+  pub whole : p ≡ front ++ entry ∷ rest
+  pub is : row ≡ row_at (after profile clients_max front) entry
+  pub lawful : IsTrue (is_lawful entry.request)
+  pub numbered : entry.commit ≡ length front + 1
+
+pub record Reached (profile : Profile) (clients_max : ℕ) (p : List Entry) (S : State) : Type 0 where
+  pub is : S ≡ after profile clients_max p
+  pub count : S.commit ≡ length p
+  pub issued : Each (λ (e : Entry). session_of e ≤ S.commit) p
+  pub sessions : Each (λ (row : Row). row.session ≤ S.commit) S.rows
+  pub before : Each (λ (row : Row). Each (Before row) p) S.rows
+  pub stands : Each (Stands profile clients_max p) S.rows
+  pub rising : Rising client_of S.rows
+  pub differ : KeysDiffer p
+
+-- the session of an entry
+
+pub session_register : (e : Entry) → is_register e.request.body ≡ true → session_of e ≡ e.commit
+session_register e is = ap (λ b. cond b e.commit e.request.session) is
+
+pub session_numbered : (e : Entry) → is_register e.request.body ≡ false → session_of e ≡ e.request.session
+session_numbered e is = ap (λ b. cond b e.commit e.request.session) is
+
+keys_snoc : (p : List Entry) (e : Entry) → KeysDiffer p → Each (λ (other : Entry). key_of e ≢ key_of other) p → KeysDiffer (p ++ e ∷ [])
+keys_snoc [] e differ each = (tt, tt)
+keys_snoc (x ∷ xs) e differ each = (each_snoc (λ (later : Entry). key_of later ≢ key_of x) xs e differ.0 each.0, keys_snoc xs e differ.1 each.1)
+
+module _ (profile : Profile) (clients_max : ℕ) where
+  pub started : Reached profile clients_max [] (start profile clients_max)
+  started = record { is = refl; count = refl; issued = tt; sessions = tt; before = tt; stands = tt; rising = tt; differ = tt }
+
+  module _ (p : List Entry) (S : State) (e : Entry) (reached : Reached profile clients_max p S) (may : MayCome S e) where
+    -- the entry is later than each one of its client
+    all_earlier : Each (Earlier e) p
+    all_earlier = ⊎_elim registers follows (new_by (row_of S.rows e.request.client) e.request may.new)
+      where
+        registers : (row_of S.rows e.request.client ≡ None) × (is_register e.request.body ≡ true) → Each (Earlier e) p
+        registers both =
+            let mine = session_register e both.1 in
+            let commit = may.commit in
+            each_map (λ (x : Entry). session_of x ≤ S.commit) (Earlier e) (λ x issued same. record { session = omega (arith, mine, commit, issued); number = λ equal. absurd (omega (arith, mine, commit, issued, equal)) }) p reached.issued
+
+        follows : (row : Row) × (row_of S.rows e.request.client ≡ Some row) × Follows row e.request → Each (Earlier e) p
+        follows found =
+            let its = row_found (λ (row : Row). Each (Before row) p) S.rows e.request.client found.0 reached.before found.1 in
+            let mine = session_numbered e found.2.numbered ∙ found.2.session in
+            let number = found.2.number in
+            each_map (Before found.0) (Earlier e) (λ x before same.
+            let within = before (same ∙ sym its.1) in
+            record { session = omega (arith, mine, within.session); number = λ equal. omega (arith, number, within.number (equal ∙ mine)) }) p its.0
+
+    session_low : session_of e ≤ e.commit
+    session_low = ⊎_elim registers follows (new_by (row_of S.rows e.request.client) e.request may.new)
+      where
+        registers : (row_of S.rows e.request.client ≡ None) × (is_register e.request.body ≡ true) → session_of e ≤ e.commit
+        registers both = omega (arith, session_register e both.1)
+
+        follows : (row : Row) × (row_of S.rows e.request.client ≡ Some row) × Follows row e.request → session_of e ≤ e.commit
+        follows found =
+            let its = row_found (λ (row : Row). row.session ≤ S.commit) S.rows e.request.client found.0 reached.sessions found.1 in
+            omega (arith, session_numbered e found.2.numbered, found.2.session, its.0, may.commit)
+
+    here : Stands profile clients_max (p ++ e ∷ []) (row_at S e)
+    here = record {
+      front = p;
+      entry = e;
+      rest = [];
+      whole = refl;
+      is = ap (λ (T : State). row_at T e) reached.is;
+      lawful = may.lawful;
+      numbered = omega (arith, may.commit, reached.count);
+    }
+
+    still : (row : Row) → Stands profile clients_max p row → Stands profile clients_max (p ++ e ∷ []) row
+    still row stands = record {
+      front = stands.front;
+      entry = stands.entry;
+      rest = stands.rest ++ e ∷ [];
+      whole = ap (λ l. l ++ e ∷ []) stands.whole ∙ append_assoc stands.front (stands.entry ∷ stands.rest) (e ∷ []);
+      is = stands.is;
+      lawful = stands.lawful;
+      numbered = stands.numbered;
+    }
+
+    -- a row of another client, or the entry's own
+    before_row : Each (Before (row_at S e)) (p ++ e ∷ [])
+    before_row = each_snoc (Before (row_at S e)) p e
+        (each_map (Earlier e) (Before (row_at S e)) (λ x earlier same. let past = earlier same in record { session = past.session; number = λ equal. omega (arith, past.number equal) }) p all_earlier)
+        (λ same. record { session = omega arith; number = λ equal. omega arith })
+
+    before_other : (other : Row) → Each (Before other) p → client_of other ≢ client_of (row_at S e) → Each (Before other) (p ++ e ∷ [])
+    before_other other before apart = each_snoc (Before other) p e before (λ same. absurd (apart (sym same)))
+
+    pub reached_on : Reached profile clients_max (p ++ e ∷ []) (step S e)
+    reached_on = record {
+      is = ap (λ (T : State). step T e) reached.is ∙ sym (after_snoc profile clients_max p e);
+      count = omega (arith, may.commit, reached.count, length-append p (e ∷ []));
+      issued = each_snoc (λ (x : Entry). session_of x ≤ e.commit) p e (each_map (λ (x : Entry). session_of x ≤ S.commit) (λ (x : Entry). session_of x ≤ e.commit) (λ x low. omega (arith, may.commit, low)) p reached.issued) session_low;
+      sessions = each_admitted S.clients_max S.rows (row_at S e) (λ (row : Row). row.session ≤ e.commit) session_low
+          (each_map (λ (row : Row). row.session ≤ S.commit) (λ (row : Row). row.session ≤ e.commit) (λ row low. omega (arith, may.commit, low)) S.rows reached.sessions);
+      before = each_admitted_apart S.clients_max S.rows (row_at S e) (λ (row : Row). Each (Before row) (p ++ e ∷ [])) reached.rising before_row
+          (each_map (λ (row : Row). Each (Before row) p) (λ (row : Row). client_of row ≢ client_of (row_at S e) → Each (Before row) (p ++ e ∷ [])) before_other S.rows reached.before);
+      stands = each_admitted S.clients_max S.rows (row_at S e) (Stands profile clients_max (p ++ e ∷ [])) here
+          (each_map (Stands profile clients_max p) (Stands profile clients_max (p ++ e ∷ [])) still S.rows reached.stands);
+      rising = rising_admitted S.clients_max S.rows (row_at S e) reached.rising;
+      differ = keys_snoc p e reached.differ
+          (each_map (Earlier e) (λ (other : Entry). key_of e ≢ key_of other) (λ x earlier same.
+          let past = earlier (ap (λ (k : ℕ × ℕ × ℕ). k.0) (sym same)) in
+          omega (arith, past.number (ap (λ (k : ℕ × ℕ × ℕ). k.1) (sym same)), ap (λ (k : ℕ × ℕ × ℕ). k.2) same)) p all_earlier);
+    }
+
+  -- what each entry keeps, a legal history keeps
+  pub reached_after : (p : List Entry) (S : State) (h : List Entry) → Reached profile clients_max p S → LegalFrom S h → Reached profile clients_max (p ++ h) (fold step S h)
+  reached_after p S [] reached legal = subst (λ l. Reached profile clients_max l S) (sym (append-nil p)) reached
+  reached_after p S (e ∷ es) reached legal =
+      subst (λ l. Reached profile clients_max l (fold step (step S e) es)) (append_assoc p (e ∷ []) es)
+      (reached_after (p ++ e ∷ []) (step S e) es (reached_on p S e reached (may_come S e legal.0)) legal.1)
+
+  pub reached : (h : List Entry) → IsLegal profile clients_max h → Reached profile clients_max h (after profile clients_max h)
+  reached h legal = reached_after [] (start profile clients_max) h started legal

@@ -1,0 +1,164 @@
+-- One pair: what its entry leaves for its request, and the answers that the rows give.
+use Rattle.std.proofs.Common.{true≢false, ◌≡◌, ◌≢◌, ℕ, ◌+◌, ◌<◌, ◌≤◌, Bool, true, false, cond, not, ◌&&◌, List, [], ◌∷◌, find, is_some, Option, Some, None, Result, Ok, Err, MatchResult, refl, sym, ap, ◌∙◌, subst, IsTrue, arith, max, eqb, ltb, leb, eq-eqb, eqb-true, ne_eqb, ltb-true, leb-true, ltb-false}
+use Rattle.std.proofs.lemmas.Bool.{cond_both}
+use Rattle.std.proofs.lemmas.Bool.Decides.{nat_tests}
+use Rattle.std.specs.Option.{option_map}
+use Rattle.tb_records.specs.Messages.{Message, Answer, is_register, IsLawful}
+use Rattle.tb_records.specs.Same.{same_body}
+use Rattle.tb_records.proofs.OneBody.{body_same}
+use Rattle.tb_records.specs.Ordered.{put, replaced}
+use Rattle.tb_ledger.specs.Verdicts.{max_time}
+use Rattle.tb_sessions.specs.declared.rows.Row.{Row}
+use Rattle.tb_sessions.specs.declared.classes.Class.{Class}
+use Rattle.tb_sessions.specs.declared.classes.Class.TheVariants.{New, Repeat, NoSession, SessionTooLow, NewerSession, Older, Collision, NewerRequest}
+use Rattle.tb_sessions.specs.Judged.{client_of, row_of, first_class, class_beside, class_by, class_of}
+use Rattle.tb_sessions.specs.Admission.{driven_out, without, admitted}
+use Rattle.tb_machine.specs.declared.entries.Entry.{Entry}
+use Rattle.tb_machine.specs.Histories.{State, is_new, session_of, row_at, reply_at, step, status_of, refusal, answer_by, answer_to}
+use Rattle.tb_machine.specs.Scripts.{Pair, entry_of, has_time, is_entered, moved}
+use Rattle.tb_records.specs.ReplyFrames.{reply_bytes}
+use Rattle.tb_machine.specs.declared.serving.RunFault.{RunFault}
+use Rattle.tb_machine.specs.declared.serving.RunFault.TheVariants as fault
+use Rattle.tb_machine.specs.Runs.{Output, Sends, Breaks, Delivers, is_new_in, Enters, Turns}
+use Rattle.tb_machine.proofs.Judging.{both_of}
+use Rattle.tb_machine.proofs.Lawful.{LawfulNumbers, lawful_numbers}
+
+-- the row that was admitted is found
+
+find_replaced : {X : Type 0} (key : X → ℕ) (x : X) (xs : List X) → is_some (find (λ y. eqb (key y) (key x)) xs) ≡ true → find (λ y. eqb (key y) (key x)) (replaced key x xs) ≡ Some x
+find_replaced key x [] is = absurd cc
+find_replaced key x (y ∷ ys) is = parts (eqb (key y) (key x)) refl is (find_replaced key x ys)
+  where
+    parts : (b : Bool) → eqb (key y) (key x) ≡ b → is_some (cond b (Some y) (find (λ y. eqb (key y) (key x)) ys)) ≡ true
+        → (is_some (find (λ y. eqb (key y) (key x)) ys) ≡ true → find (λ y. eqb (key y) (key x)) (replaced key x ys) ≡ Some x)
+        → find (λ y. eqb (key y) (key x)) (cond b (x ∷ ys) (y ∷ replaced key x ys)) ≡ Some x
+    parts true e is later = ap (λ b. cond b (Some x) (find (λ y. eqb (key y) (key x)) ys)) (eq-eqb (key x) (key x) refl)
+    parts false e is later = ap (λ b. cond b (Some y) (find (λ y. eqb (key y) (key x)) (replaced key x ys))) e ∙ later is
+
+find_put : {X : Type 0} (key : X → ℕ) (x : X) (xs : List X) → find (λ y. eqb (key y) (key x)) (put key x xs) ≡ Some x
+find_put key x [] = ap (λ b. cond b (Some x) None) (eq-eqb (key x) (key x) refl)
+find_put key x (y ∷ ys) = cond_both (ltb (key y) (key x)) (y ∷ put key x ys) (x ∷ y ∷ ys) (λ l. find (λ y. eqb (key y) (key x)) l ≡ Some x)
+    (λ e. let less : key y < key x = ltb-true (key y) (key x) e in ap (λ b. cond b (Some y) (find (λ y. eqb (key y) (key x)) (put key x ys))) (ne_eqb (key y) (key x) (omega arith)) ∙ find_put key x ys)
+    (λ _. ap (λ b. cond b (Some x) (find (λ y. eqb (key y) (key x)) (y ∷ ys))) (eq-eqb (key x) (key x) refl))
+
+row_admitted : (clients_max : ℕ) (rows : List Row) (row : Row) → row_of (admitted clients_max rows row) (client_of row) ≡ Some row
+row_admitted clients_max rows row =
+    cond_both (is_some (row_of rows (client_of row))) (replaced client_of row rows) (put client_of row (without (driven_out clients_max rows) rows)) (λ (l : List Row). row_of l (client_of row) ≡ Some row)
+    (λ is. find_replaced client_of row rows is)
+    (λ _. find_put client_of row (without (driven_out clients_max rows) rows))
+
+-- the state after an entry has the row that the entry made
+pub row_after : (S : State) (e : Entry) → row_of (step S e).rows e.request.client ≡ Some (row_at S e)
+row_after S e = row_admitted S.clients_max S.rows (row_at S e)
+
+-- its request is a repeat from then on
+
+by_lines_repeat : (register first low newer older same other next : Bool)
+    → (register ≡ true → first ≡ true) → (register ≡ false → (low ≡ false) × (newer ≡ false) × (older ≡ false) × (same ≡ true))
+    → cond register (first_class Older ((first, Repeat) ∷ [])) (first_class NewerRequest ((low, SessionTooLow) ∷ (newer, NewerSession) ∷ (older, Older) ∷ (same, Repeat) ∷ (other, Collision) ∷ (next, New) ∷ [])) ≡ Repeat
+by_lines_repeat true true low newer older same other next one all = refl
+by_lines_repeat true false low newer older same other next one all = let e : false ≡ true = one refl in absurd cc
+by_lines_repeat false first true newer older same other next one all = let e = (all refl).0 in absurd cc
+by_lines_repeat false first false true older same other next one all = let e = (all refl).1 in absurd cc
+by_lines_repeat false first false false true same other next one all = let e = (all refl).2 in absurd cc
+by_lines_repeat false first false false false false other next one all = let e = (all refl).3 in absurd cc
+by_lines_repeat false first false false false true other next one all = refl
+
+repeats_after : (S : State) (e : Entry) → IsLawful e.request → class_beside (row_at S e) e.request ≡ Repeat
+repeats_after S e lawful =
+    by_lines_repeat (is_register e.request.body) (eqb e.request.request 0) (ltb e.request.session (session_of e)) (ltb (session_of e) e.request.session) (ltb e.request.request e.request.request)
+    (eqb e.request.request e.request.request && same_body e.request.body e.request.body) (eqb e.request.request e.request.request) (eqb e.request.request (e.request.request + 1))
+    (λ is. eq-eqb e.request.request 0 ((lawful_numbers e.request lawful).register is))
+    (λ is. let same : session_of e ≡ e.request.session = ap (λ b. cond b e.commit e.request.session) is in
+    (grind (arith, nat_tests), grind (arith, nat_tests), grind (arith, nat_tests), ap (λ b. b && same_body e.request.body e.request.body) (eq-eqb e.request.request e.request.request refl) ∙ body_same e.request.body))
+
+answer_stored : (o : Option Row) (r : Message) (row : Row) → o ≡ Some row → class_beside row r ≡ Repeat → answer_by (class_by o r) o r ≡ row.reply
+answer_stored o r row is repeats = subst (λ (o : Option Row). answer_by (class_by o r) o r ≡ row.reply) (sym is) (ap (λ class. answer_by class (Some row) r) repeats)
+
+-- once it is entered, a request is answered by the reply that its entry has
+pub answer_after : (S : State) (e : Entry) → IsLawful e.request → answer_to (step S e) e.request ≡ reply_at S e
+answer_after S e lawful = answer_stored (row_of (step S e).rows e.request.client) e.request (row_at S e) (row_after S e) (repeats_after S e lawful)
+
+-- a request that is neither new nor a repeat is refused
+pub answer_refused : (class : Class) (o : Option Row) (r : Message) → class ≢ Repeat → answer_by class o r ≡ refusal (status_of class) r
+answer_refused New o r other = refl
+answer_refused Repeat o r other = absurd (other refl)
+answer_refused NoSession o r other = refl
+answer_refused SessionTooLow o r other = refl
+answer_refused NewerSession o r other = refl
+answer_refused Older o r other = refl
+answer_refused Collision o r other = refl
+answer_refused NewerRequest o r other = refl
+
+-- where a pair leads
+
+pub moved_new : (S : State) (p : Pair) → is_new_in S p ≡ true → has_time S p ≡ true → moved S p ≡ step S (entry_of S p)
+moved_new S p new time = ap (λ b. cond b (step S (entry_of S p)) S) (ap (λ b. b && has_time S p) new ∙ time)
+
+pub moved_known : (S : State) (p : Pair) → is_new_in S p ≡ false → moved S p ≡ S
+moved_known S p known = ap (λ b. cond b (step S (entry_of S p)) S) (ap (λ b. b && has_time S p) known)
+
+-- what a call answers
+
+pub refused : (S : State) (r : Message) (class : Class) (a : Answer) → class ≡ class_of S.rows r → class ≢ Repeat → a ≡ refusal (status_of class) r → answer_to S r ≡ a
+refused S r class a is other told = ap (λ (c : Class). answer_by c (row_of S.rows r.client) r) (sym is) ∙ answer_refused class (row_of S.rows r.client) r other ∙ sym told
+
+pub entered_stored : (S T : State) (p : Pair) (client : ℕ) → Enters (Ok tt) S T p → client ≡ p.1.client → row_of T.rows client ≡ Some (row_at S (entry_of S p))
+entered_stored S T p client entered is =
+    subst (λ (U : State). row_of U.rows client ≡ Some (row_at S (entry_of S p))) (sym entered.1)
+    (ap (row_of (step S (entry_of S p)).rows) is ∙ row_after S (entry_of S p))
+
+entered_answer : (S : State) (p : Pair) (a : Answer) (o : Option Row) → IsLawful p.1 → is_new_in S p ≡ true → has_time S p ≡ true
+    → o ≡ Some (row_at S (entry_of S p)) → option_map (λ (row : Row). row.reply) o ≡ Some a → answer_to (moved S p) p.1 ≡ a
+entered_answer S p a o lawful new time found told =
+    ap (λ (U : State). answer_to U p.1) (moved_new S p new time)
+    ∙ answer_after S (entry_of S p) lawful
+    ∙ some_one (sym (ap (option_map (λ (row : Row). row.reply)) found) ∙ told)
+  where
+    some_one : {X : Type 0} {x y : X} → Some x ≡ Some y → x ≡ y
+    some_one e = cc
+
+pub entered_turn : (result : Result (Unit {0}) RunFault) (S T : State) (p : Pair) (client : ℕ) (a : Answer) (before after : Output)
+    → IsLawful p.1 → class_of S.rows p.1 ≡ New → Enters (Ok tt) S T p → client ≡ p.1.client
+    → option_map (λ (row : Row). row.reply) (row_of T.rows client) ≡ Some a
+    → Delivers result (reply_bytes a) before after
+    → Turns result S T p before after
+entered_turn result S T p client a before after lawful class entered is told sent = by result sent
+  where
+    new : is_new_in S p ≡ true
+    new = ap is_new class
+
+    answer_is : answer_to (moved S p) p.1 ≡ a
+    answer_is = entered_answer S p a (row_of T.rows client) lawful new entered.0 (entered_stored S T p client entered is) told
+
+    by : (result : Result (Unit {0}) RunFault)
+        → Delivers result (reply_bytes a) before after
+        → Turns result S T p before after
+    by (Ok done) sent = ((λ _. entered.0), entered.1 ∙ sym (moved_new S p new entered.0), subst (λ (b : Answer). Sends (reply_bytes b) before after) (sym answer_is) sent)
+    by (Err f) sent = subst (λ (f : RunFault). Turns (Err f) S T p before after) (sym sent.0)
+        ((λ _. entered.0), refl, subst (λ (b : Answer). Breaks (reply_bytes b) before after) (sym answer_is) sent.1)
+
+pub known_turn : (result : Result (Unit {0}) RunFault) (S : State) (p : Pair) (before after : Output) → class_of S.rows p.1 ≢ New
+    → Delivers result (reply_bytes (answer_to S p.1)) before after
+    → Turns result S S p before after
+known_turn result S p before after known sent = by result sent
+  where
+    not_new : (class : Class) → class ≢ New → is_new class ≡ false
+    not_new New other = absurd (other refl)
+    not_new class other = refl
+
+    old : is_new_in S p ≡ false
+    old = not_new (class_of S.rows p.1) known
+
+    stays : moved S p ≡ S
+    stays = moved_known S p old
+
+    timely : is_new_in S p ≡ true → has_time S p ≡ true
+    timely new = absurd (true≢false (sym new ∙ old))
+
+    by : (result : Result (Unit {0}) RunFault)
+        → Delivers result (reply_bytes (answer_to S p.1)) before after
+        → Turns result S S p before after
+    by (Ok done) sent = (timely, sym stays, subst (λ (U : State). Sends (reply_bytes (answer_to U p.1)) before after) (sym stays) sent)
+    by (Err f) sent = subst (λ (f : RunFault). Turns (Err f) S S p before after) (sym sent.0)
+        (timely, refl, subst (λ (U : State). Breaks (reply_bytes (answer_to U p.1)) before after) (sym stays) sent.1)

@@ -1,0 +1,6 @@
+pub mod Histories
+pub mod Scripts
+pub mod WorkedRows
+pub mod HistoryLaws
+pub mod Sound
+pub mod Runs

@@ -1,0 +1,166 @@
+-- What a server makes of a script: the pairs that it read, the replies that it wrote, and what ended it.
+use Rattle.std.specs.Prelude.{ℕ, Bool, true, false, ◌≡◌, ◌≢◌, ◌⊎◌, ◌-◌, ◌^◌, ◌<◌, List, [], ◌∷◌, ◌++◌, length, Option, Some, None, Result, Ok, Err, MatchResult}
+use Rattle.std.specs.List.{flat_map}
+use Rattle.tb_records.specs.declared.faults.FrameFault.{FrameFault}
+use Rattle.tb_records.specs.declared.faults.FrameFault.TheVariants.{Device}
+use Rattle.tb_records.specs.declared.limits.Profile.{Profile}
+use Rattle.tb_records.specs.Messages.{Message, Answer}
+use Rattle.tb_records.specs.Ordered.{Each}
+use Rattle.tb_records.specs.Frames.{IsRequest}
+use Rattle.tb_records.specs.ReplyFrames.{reply_bytes}
+use Rattle.tb_records.specs.Inputs.{timed_bytes, TimedAnswers}
+use Rattle.tb_records.specs.Transport.{Rose, Sent, CutOff}
+use Rattle.tb_sessions.specs.Judged.{class_of}
+use Rattle.tb_machine.specs.declared.entries.Entry.{Entry}
+use Rattle.tb_machine.specs.declared.serving.RunFault.{RunFault}
+use Rattle.tb_machine.specs.declared.serving.RunFault.TheVariants as fault
+use Rattle.tb_machine.specs.Histories.{State, is_new, step, after, answer_to}
+use Rattle.tb_machine.specs.Scripts.{Pair, entry_of, has_time, moved, with_pair, accepted, replies_to}
+
+-- a reader: the bytes that are left, where it tells them, and the number of its errors
+pub record Input : Type 0 where
+  pub left : Option (List ℕ)
+  pub failed : ℕ
+
+abbrev pub input : Option (List ℕ) → ℕ → Input
+input left failed = record { left = left; failed = failed }
+
+-- a writer: the bytes written, where it tells them, the number of its errors, and how often it took nothing
+pub record Output : Type 0 where
+  pub written : Option (List ℕ)
+  pub failed : ℕ
+  pub stalled : ℕ
+
+abbrev pub output : Option (List ℕ) → ℕ → ℕ → Output
+output written failed stalled = record { written = written; failed = failed; stalled = stalled }
+
+-- all bytes were written, and no error was counted
+abbrev pub Sends : List ℕ → Output → Output → Type 0
+Sends bytes before after = Sent bytes before.written after.written before.failed after.failed before.stalled after.stalled
+
+-- a beginning of the bytes was written, and the writer failed, or took nothing
+abbrev pub Breaks : List ℕ → Output → Output → Type 0
+Breaks bytes before after = CutOff bytes before.written after.written before.failed after.failed before.stalled after.stalled
+
+-- the bytes were written, or the writer's fault left a beginning of them
+abbrev pub Delivers : Result (Unit {0}) RunFault → List ℕ → Output → Output → Type 0
+Delivers result bytes before after = MatchResult result (λ _. Sends bytes before after) (λ f. (f ≡ fault.Frame Device) × Breaks bytes before after)
+
+-- pairs that a reader's bytes spell, one after another
+abbrev pub IsPair : Pair → Type 0
+IsPair p = (p.0 < 2 ^ 64) × IsRequest p.1
+
+abbrev pub Spell : List Pair → Option (List ℕ) → Option (List ℕ) → Type 0
+Spell ps None after = Unit {0}
+Spell ps (Some before) None = ⊥
+Spell ps (Some before) (Some after) = (before ≡ flat_map timed_bytes ps ++ after) × Each IsPair ps
+
+-- the pairs were read, and no error was counted
+pub record Reads (ps : List Pair) (before after : Input) : Type 0 where
+  pub spelled : Spell ps before.left after.left
+  pub counted : after.failed ≡ before.failed
+
+-- one pair
+
+abbrev pub is_new_in : State → Pair → Bool
+is_new_in S p = is_new (class_of S.rows p.1)
+
+-- where its request is new, there is a time for it
+abbrev pub IsTimely : State → Pair → Type 0
+IsTimely S p = is_new_in S p ≡ true → has_time S p ≡ true
+
+-- a new pair is entered: the machine moves on by its entry, or stays
+abbrev pub Enters : Result (Unit {0}) RunFault → State → State → Pair → Type 0
+Enters (Ok done) S T p = (has_time S p ≡ true) × (T ≡ step S (entry_of S p))
+Enters (Err fault.NoMemory) S T p = (has_time S p ≡ true) × (T ≡ S)
+Enters (Err fault.TimeExhausted) S T p = (has_time S p ≡ false) × (T ≡ S)
+Enters (Err fault.TooLong) S T p = ⊥
+Enters (Err (fault.Frame f)) S T p = ⊥
+
+-- the spelling of the reply to a pair
+abbrev pub answer_bytes : State → Pair → List ℕ
+answer_bytes S p = reply_bytes (answer_to (moved S p) p.1)
+
+-- a pair is answered: by the reply that its entry has once it is entered, or by the one that its request has as it stands
+abbrev pub Turns : Result (Unit {0}) RunFault → State → State → Pair → Output → Output → Type 0
+Turns (Ok done) S T p before after = IsTimely S p × (T ≡ moved S p) × Sends (answer_bytes S p) before after
+Turns (Err (fault.Frame f)) S T p before after = IsTimely S p × (f ≡ Device) × Breaks (answer_bytes S p) before after
+Turns (Err fault.NoMemory) S T p before after = (is_new_in S p ≡ true) × (has_time S p ≡ true) × (after ≡ before)
+Turns (Err fault.TimeExhausted) S T p before after = (is_new_in S p ≡ true) × (has_time S p ≡ false) × (after ≡ before)
+Turns (Err fault.TooLong) S T p before after = ⊥
+
+-- the next pair is read and answered, where there is one
+pub record Next (result : Result (Unit {0}) RunFault) (S T : State) (before middle : Input) (start written : Output) : Type 0 where
+  pub pair : Pair
+  pub read : Reads (pair ∷ []) before middle
+  pub turn : Turns result S T pair start written
+
+-- a reader's fault: nothing was written
+pub record Unread (f : FrameFault) (before after : Input) (start written : Output) : Type 0 where
+  pub answer : TimedAnswers (Err f) before.left after.left
+  pub device : f ≡ Device → Rose before.failed after.failed
+  pub silent : written ≡ start
+
+-- the end of the input
+pub record Ends (before after : Input) (start written : Output) : Type 0 where
+  pub answer : TimedAnswers (Ok None) before.left after.left
+  pub counted : after.failed ≡ before.failed
+  pub silent : written ≡ start
+
+abbrev pub Serves : Result Bool RunFault → State → State → Input → Input → Output → Output → Type 0
+Serves (Ok true) S T before after start written = Next (Ok tt) S T before after start written
+Serves (Ok false) S T before after start written = Ends before after start written
+Serves (Err (fault.Frame f)) S T before after start written = Unread f before after start written ⊎ Next (Err (fault.Frame f)) S T before after start written
+Serves (Err f) S T before after start written = Next (Err f) S T before after start written
+
+-- a script
+
+module _ (profile : Profile) (clients_max : ℕ) where
+  -- each pair that is new in its turn has a time
+  abbrev pub HasTimes : List Entry → List Pair → Type 0
+  HasTimes h [] = Unit {0}
+  HasTimes h (p ∷ ps) = IsTimely (after profile clients_max h) p × HasTimes (with_pair profile clients_max h p) ps
+
+  -- the state after pairs
+  abbrev pub state_after : List Pair → State
+  state_after ps = after profile clients_max (accepted profile clients_max [] ps)
+
+  -- the pairs were read and answered, and nothing else was read or written
+  pub record Served (ps : List Pair) (before after : Input) (start written : Output) : Type 0 where
+    pub read : Reads ps before after
+    pub times : HasTimes [] ps
+    pub replied : Sends (flat_map reply_bytes (replies_to profile clients_max ps)) start written
+
+  -- one more pair was read, of a new request, and nothing was written
+  pub record Halts (ps : List Pair) (has : Bool) (before after : Input) (start written : Output) : Type 0 where
+    pub pair : Pair
+    pub read : Reads (pair ∷ []) before after
+    pub new : is_new_in (state_after ps) pair ≡ true
+    pub time : has_time (state_after ps) pair ≡ has
+    pub silent : written ≡ start
+
+  -- one more pair was read, and a beginning of the reply to it was written
+  pub record BreaksOff (ps : List Pair) (before after : Input) (start written : Output) : Type 0 where
+    pub pair : Pair
+    pub read : Reads (pair ∷ []) before after
+    pub timely : IsTimely (state_after ps) pair
+    pub cut : Breaks (answer_bytes (state_after ps) pair) start written
+
+  -- what ended the script behind the pairs ps
+  abbrev pub EndsBy : RunFault → List Pair → Input → Input → Output → Output → Type 0
+  EndsBy (fault.Frame f) ps before after start written = Unread f before after start written ⊎ ((f ≡ Device) × BreaksOff ps before after start written)
+  EndsBy fault.NoMemory ps before after start written = ((ps ≡ []) × (after ≡ before) × (written ≡ start)) ⊎ Halts ps true before after start written
+  EndsBy fault.TimeExhausted ps before after start written = Halts ps false before after start written
+  EndsBy fault.TooLong ps before after start written = (length ps ≡ 2 ^ 64 - 1) × (after ≡ before) × (written ≡ start)
+
+  abbrev pub RanTo : Result ℕ RunFault → List Pair → Input → Input → Output → Output → Type 0
+  RanTo (Ok k) ps before after start written = (length ps ≡ k) × Ends before after start written
+  RanTo (Err f) ps before after start written = EndsBy f ps before after start written
+
+  -- a whole run: some pairs were served, and then the input was at its end, or a fault came
+  pub record Ran (result : Result ℕ RunFault) (before after : Input) (start written : Output) : Type 0 where
+    pub pairs : List Pair
+    pub middle : Input
+    pub replied : Output
+    pub served : Served pairs before middle start replied
+    pub ended : RanTo result pairs middle after replied written

@@ -1,0 +1,121 @@
+-- Worked rows over the definitions: scripts, and the replies to them. All amounts are in ledger 700, all codes 10.
+use Rattle.std.specs.Prelude.{ℕ, Bool, false, ◌≡◌, ◌+◌, List, [], ◌∷◌, ◌++◌, map, length}
+use Rattle.std.specs.List.{range_with_len}
+use Rattle.tb_records.specs.declared.records.Account.{Account}
+use Rattle.tb_records.specs.declared.records.Transfer.{Transfer}
+use Rattle.tb_records.specs.declared.bodies.Body.{Body}
+use Rattle.tb_records.specs.declared.bodies.Body.TheVariants.{Register, CreateAccounts, CreateTransfers, LookupAccounts}
+use Rattle.tb_records.specs.declared.bodies.ReplyBody.TheVariants.{Empty, Results, Accounts}
+use Rattle.tb_records.specs.declared.replies.Status.TheVariants as status
+use Rattle.tb_records.specs.declared.limits.Profile.TheVariants.{One}
+use Rattle.tb_records.specs.Messages.{Message, Answer, asked, answered, status_code}
+use Rattle.tb_ledger.specs.Verdicts.{max_time}
+use Rattle.tb_machine.specs.Histories.{start, after}
+use Rattle.tb_machine.specs.Scripts.{Pair, has_time, accepted, replies_to}
+
+-- an account and a transfer as the rows write them
+abbrev account : ℕ → Account
+account id = record { id = id; debits_pending = 0; debits_posted = 0; credits_pending = 0; credits_posted = 0; user_data_128 = 0; user_data_64 = 0; user_data_32 = 0; reserved = 0; ledger = 700; code = 10; flags = 0; timestamp = 0 }
+
+abbrev transfer : ℕ → ℕ → ℕ → ℕ → Transfer
+transfer id debit credit amount = record { id = id; debit_account_id = debit; credit_account_id = credit; amount = amount; pending_id = 0; user_data_128 = 0; user_data_64 = 0; user_data_32 = 0; timeout = 0; ledger = 700; code = 10; flags = 0; timestamp = 0 }
+
+abbrev register : ℕ → Message
+register client = asked client 0 0 Register
+
+-- a request for no account
+abbrev empty_lookup : ℕ → ℕ → ℕ → Message
+empty_lookup client session number = asked client session number (LookupAccounts [])
+
+-- it comes at moment 10
+abbrev at_ten : Message → Pair
+at_ten r = (10, r)
+
+abbrev script : List Message → List Pair
+script rs = map at_ten rs
+
+-- what a reply says first: status, session and commit number
+abbrev summary : Answer → ℕ × ℕ × ℕ
+summary answer = (status_code answer.status, answer.session, answer.commit)
+
+abbrev summaries : ℕ → List Message → List (ℕ × ℕ × ℕ)
+summaries clients_max rs = map summary (replies_to One clients_max (script rs))
+
+abbrev entered : ℕ → List Message → ℕ
+entered clients_max rs = length (accepted One clients_max [] (script rs))
+
+-- client 7's first requests
+abbrev accounts : Message
+accounts = asked 7 1 1 (CreateAccounts (account 1 ∷ account 2 ∷ []))
+
+abbrev lookup : Message
+lookup = asked 7 1 2 (LookupAccounts (2 ∷ 9 ∷ 1 ∷ []))
+
+abbrev transfers : ℕ → Message
+transfers amount = asked 7 1 3 (CreateTransfers (transfer 11 1 2 amount ∷ []))
+
+abbrev first_requests : List Message
+first_requests = register 7 ∷ accounts ∷ lookup ∷ transfers 100 ∷ []
+
+-- a register at moment 10 has the time 10, and two accounts at moment 10 have the timestamps 11 and 12; the register
+-- delivered again gets the same reply
+abbrev pub FirstRequests : Type 0
+FirstRequests = replies_to One 2 (script (register 7 ∷ first_requests))
+    ≡ answered 7 1 0 2 status.Reply 1 Empty
+    ∷ answered 7 1 0 2 status.Reply 1 Empty
+    ∷ answered 7 1 1 129 status.Reply 2 (Results [])
+    ∷ answered 7 1 2 131 status.Reply 3 (Accounts (record (account 2) { timestamp = 12 } ∷ record (account 1) { timestamp = 11 } ∷ []))
+    ∷ answered 7 1 3 130 status.Reply 4 (Results [])
+    ∷ []
+
+-- after them: the last request again, the one before it, the last with another amount, a number too great, a session too
+-- great, a session too small, a client without a session; none of them is entered
+abbrev refused_requests : List Message
+refused_requests =
+    transfers 100
+    ∷ lookup
+    ∷ transfers 101
+    ∷ empty_lookup 7 1 5
+    ∷ empty_lookup 7 2 4
+    ∷ empty_lookup 7 0 4
+    ∷ empty_lookup 9 1 1
+    ∷ []
+
+abbrev pub Refusals : Type 0
+Refusals =
+    (summaries 2 (first_requests ++ refused_requests)
+    ≡ (0, 1, 1) ∷ (0, 1, 2) ∷ (0, 1, 3) ∷ (0, 1, 4)
+    ∷ (0, 1, 4) ∷ (4, 1, 0) ∷ (5, 1, 0) ∷ (6, 1, 0) ∷ (3, 2, 0) ∷ (2, 0, 0) ∷ (1, 1, 0) ∷ [])
+    × (entered 2 (first_requests ++ refused_requests) ≡ 4)
+
+-- two places: client 9 drives out 8, whose reply has the least commit number, though 7 has the least session; 8 then
+-- drives out 7, and 7's old register 9
+abbrev pub Eviction : Type 0
+Eviction =
+    summaries 2 (register 7 ∷ register 8 ∷ empty_lookup 7 1 1 ∷ register 9 ∷ empty_lookup 8 2 1 ∷ register 8 ∷ empty_lookup 8 2 1 ∷ register 7 ∷ empty_lookup 9 4 1 ∷ [])
+    ≡ (0, 1, 1) ∷ (0, 2, 2) ∷ (0, 1, 3) ∷ (0, 4, 4) ∷ (1, 2, 0) ∷ (0, 5, 5) ∷ (2, 2, 0) ∷ (0, 6, 6) ∷ (1, 4, 0) ∷ []
+
+-- the last moment can be the time of an entry: there is no time after it, nor for a later moment
+abbrev last_entry : List Pair
+last_entry = (max_time, register 7) ∷ []
+
+abbrev pub EndOfTime : Type 0
+EndOfTime =
+    (map summary (replies_to One 2 last_entry) ≡ (0, 1, 1) ∷ [])
+    × (has_time (after One 2 (accepted One 2 [] last_entry)) (0, register 8) ≡ false)
+    × (has_time (start One 2) (9223372036854775808, register 7) ≡ false)
+
+-- one place, and clients 1 to 100: each drives out the one before
+abbrev storm : List Message
+storm =
+    map register (range_with_len 1 100)
+    ++ map (λ client. empty_lookup client client 1) (range_with_len 1 99)
+    ++ (empty_lookup 100 100 1 ∷ register 1 ∷ empty_lookup 1 1 1 ∷ empty_lookup 100 100 2 ∷ [])
+
+abbrev pub EvictionStorm : Type 0
+EvictionStorm =
+    (summaries 1 storm
+    ≡ map (λ k. (0, k, k)) (range_with_len 1 100)
+    ++ map (λ k. (1, k, 0)) (range_with_len 1 99)
+    ++ ((0, 100, 101) ∷ (0, 102, 102) ∷ (2, 1, 0) ∷ (1, 100, 0) ∷ []))
+    × (entered 1 storm ≡ 102)

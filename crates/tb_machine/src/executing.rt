@@ -1,0 +1,81 @@
+//! What a request does to the ledger, and what its reply says.
+ghost use Rattle.std.specs.Prelude.{◌≡◌, ◌+◌, ◌≤◌, max, MatchResult, IsTrue};
+ghost use Rattle.tb_records.specs.Messages.{count, item_count, items_max, operation, IsRight};
+ghost use Rattle.tb_ledger.specs.Verdicts.{max_time};
+ghost use Rattle.tb_machine.specs.Histories.{executed, found, reply_with, session_of};
+
+use crate::entries::Entry;
+use std::alloc::{AllocError, Allocator, Global};
+use tb_ledger::Ledger;
+use tb_records::{Body, Items, Reply, ReplyBody, Request, Status};
+
+/// Does what a body asks for, at a time, and tells what its reply says; on a refusal the ledger is unchanged.
+pub(crate) fn execute<A: Allocator + Clone>(
+    global: Global,
+    ledger: &mut Ledger<A>,
+    time: u64,
+    body: &Body,
+) -> Result<ReplyBody, AllocError>
+    requires few { item_count body.now ≤ items_max }
+    requires later { ledger.old.time + max (count body.now) 1 ≤ time }
+    requires in_range { time ≤ max_time }
+    ensures { MatchResult result (λ answer. (ledger.new ≡ executed ledger.old body.now time) × (answer ≡ found ledger.old body.now time)) (λ _. ledger.new ≡ ledger.old) }
+{
+    match body {
+        Body::Register => {
+            ledger.expire(time);
+            Ok(ReplyBody::Empty)
+        }
+        Body::CreateAccounts(events) => {
+            let results = ledger.create_accounts(global, time, events.as_slice())?;
+            Ok(ReplyBody::Results(Items::new(results)))
+        }
+        Body::CreateTransfers(events) => {
+            let results = ledger.create_transfers(global, time, events.as_slice())?;
+            Ok(ReplyBody::Results(Items::new(results)))
+        }
+        Body::LookupAccounts(ids) => {
+            let mut accounts = Vec::with_capacity(global, ids.len())?;
+            ledger.expire(time);
+            ledger.fill_accounts(ids.as_slice(), &mut accounts);
+            Ok(ReplyBody::Accounts(Items::new(accounts)))
+        }
+        Body::LookupTransfers(ids) => {
+            let mut transfers = Vec::with_capacity(global, ids.len())?;
+            ledger.expire(time);
+            ledger.fill_transfers(ids.as_slice(), &mut transfers);
+            Ok(ReplyBody::Transfers(Items::new(transfers)))
+        }
+    }
+}
+
+/// The session that an entry belongs to: a register's is its own commit number.
+pub(crate) fn session_of(entry: &Entry) -> u64
+    ensures { result ≡ session_of entry.now }
+{
+    if matches!(entry.request.body(), Body::Register) {
+        entry.commit
+    } else {
+        entry.request.session()
+    }
+}
+
+/// The reply to an entry.
+pub(crate) fn reply_with(entry: &Entry, body: ReplyBody) -> Reply
+    requires { IsRight (reply_with entry.now body) }
+    ensures { result ≡ reply_with entry.now body }
+{
+    let request = &entry.request;
+    let session = session_of(entry);
+    let reply = Reply::new(
+        request.client(),
+        session,
+        request.request(),
+        request.operation(),
+        Status::Reply,
+        entry.commit,
+        body,
+    );
+    let Ok(reply) = reply else { unreachable!() };
+    reply
+}

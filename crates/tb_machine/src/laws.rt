@@ -1,0 +1,27 @@
+//! The laws of legal histories, over the definitions alone. A call does nothing; its promise is the law.
+ghost use Rattle.tb_machine.specs.HistoryLaws.{OneKey, FirstReply, StaysOut, LimitsHold, LedgersBalance};
+
+/// In a legal history no client, session and request number stand together twice, where a register counts with the
+/// session that its reply names.
+pub fn one_key()
+    ensures { OneKey }
+{}
+
+/// After a legal history a request that is a repeat stands in the one entry that its client's row names by its commit
+/// number, and the stored reply is the one that was given there.
+pub fn first_reply()
+    ensures { FirstReply }
+{}
+
+/// Once a session's row was taken out, a request of that session that is no register has the class NoSession or
+/// SessionTooLow for ever after.
+pub fn stays_out()
+    ensures { StaysOut }
+{}
+
+/// After a legal history the pending and posted sums of every account fit in 128 bits on each side and keep to its
+/// limits, and in each ledger the debits of all accounts add up to their credits, pending and posted.
+pub fn sums_balance()
+    ensures limits { LimitsHold }
+    ensures ledgers { LedgersBalance }
+{}

@@ -1,0 +1,188 @@
+//! The machine: a ledger and the sessions of its clients, which entries move on.
+ghost use Rattle.std.specs.Prelude.{◌≡◌, ◌+◌, ◌≤◌, ◌<◌, max, IfOk, MatchOption, MatchResult, IsTrue, None, Some};
+ghost use Rattle.std.specs.Option.{option_map};
+ghost use Rattle.tb_records.specs.Messages.{IsLawful};
+ghost use Rattle.tb_ledger.specs.Books.{account_now, transfer_at, found_accounts, found_transfers};
+ghost use Rattle.tb_ledger.specs.Verdicts.{max_time};
+ghost use Rattle.tb_sessions.specs.Judged.{class_of, row_of};
+ghost use Rattle.tb_machine.specs.Histories.{start, step, fits, least_time};
+
+use crate::entries::Entry;
+use crate::executing::{execute, reply_with};
+use std::alloc::{AllocError, Allocator, Global};
+use std::marker::Model;
+use tb_ledger::Ledger;
+use tb_records::{Account, ClientsMax, Profile, Reply, Request, Transfer};
+use tb_sessions::{Class, Row, Sessions};
+
+/// The last moment that there is, in nanoseconds: `2^63 - 1`.
+const MAX_TIME: u64 = 9_223_372_036_854_775_807;
+
+/// A ledger and the sessions of its clients, after a history. Requests, replies and the rows of the sessions take their
+/// memory of the global allocator, the records of `A`.
+#[derive(Drop)]
+pub struct Machine<A: Allocator + Clone> {
+    global: Global,
+    ledger: Ledger<A>,
+    sessions: Sessions,
+    commit: u64,
+}
+
+impl<A: Allocator + Clone> Model for Machine<A> {
+    ghost use Rattle.tb_machine.specs.Histories.{State};
+    ghost use Rattle.tb_machine.specs.Sound.{IsSound};
+
+    ghost Value = { State };
+
+    ghost view = { λ m. record { clients_max = m.sessions.clients_max; commit = m.commit; books = m.ledger; rows = m.sessions.rows } };
+
+    ghost invariant = { λ m. IsSound (record { clients_max = m.sessions.clients_max; commit = m.commit; books = m.ledger; rows = m.sessions.rows }) };
+}
+
+impl<A: Allocator + Clone> Machine<A> {
+    /// The machine of the empty history, with room for the sessions of so many clients.
+    pub fn new_in(
+        global: Global,
+        alloc: A,
+        profile: Profile,
+        clients_max: ClientsMax,
+    ) -> Result<Machine<A>, AllocError>
+        ensures { IfOk result (λ m. m ≡ start profile clients_max) }
+    {
+        let sessions = Sessions::with_capacity(global, clients_max)?;
+        Ok(Machine {
+            global,
+            ledger: Ledger::new_in(alloc, profile),
+            sessions,
+            commit: 0,
+        })
+    }
+
+    /// The time of a request of n events that comes at a moment: the larger of the moment and the last entry's time and
+    /// n, or 1 where there is no event. None where that is above `2^63 - 1`.
+    pub fn next_time(&self, now: u64, n: u64) -> Option<u64>
+        ensures { let time = max now (self.now.books.time + max n 1) in MatchOption result (max_time < time) (λ t. (t ≡ time) × (t ≤ max_time)) }
+    {
+        let least = self.ledger.time().checked_add(n.max(1))?;
+        let time = now.max(least);
+        if time > MAX_TIME {
+            return None;
+        }
+        Some(time)
+    }
+
+    /// The number of the last entry; 0 before the first.
+    pub fn commit(&self) -> u64
+        ensures value { result ≡ self.now.commit }
+        ensures in_range { result ≤ max_time }
+    {
+        self.commit
+    }
+
+    /// How a request stands to the sessions.
+    pub fn class(&self, request: &Request) -> Class
+        ensures { result ≡ class_of self.now.rows request.now }
+    {
+        self.sessions.classify(request)
+    }
+
+    /// The reply to a client's last request; None of a client without a session.
+    pub fn reply_of(&self, client: u128) -> Option<&Reply>
+        ensures { let stored = option_map (λ (row : Row). row.reply) (row_of self.now.rows client) in MatchOption result (stored ≡ None) (λ reply. stored ≡ Some reply.now) }
+    {
+        match self.sessions.stored(client) {
+            Some(row) => Some(&row.reply),
+            None => None,
+        }
+    }
+
+    /// The account as it stands; None where there is none with this id.
+    pub fn account(&self, id: u128) -> Option<Account>
+        ensures { result ≡ account_now self.now.books id }
+    {
+        self.ledger.account(id)
+    }
+
+    /// The transfer as it was recorded; None where there is none with this id.
+    pub fn transfer(&self, id: u128) -> Option<Transfer>
+        ensures { result ≡ transfer_at self.now.books id }
+    {
+        self.ledger.transfer(id)
+    }
+
+    /// The accounts that are found, in the order of the ids, as they stand.
+    pub fn lookup_accounts(&self, ids: &[u128]) -> Result<Vec<Account>, AllocError>
+        ensures { IfOk result (λ v. v.items ≡ found_accounts self.now.books ids.now) }
+    {
+        self.ledger.lookup_accounts(self.global, ids)
+    }
+
+    /// The transfers that are found, in the order of the ids, as they were recorded.
+    pub fn lookup_transfers(&self, ids: &[u128]) -> Result<Vec<Transfer>, AllocError>
+        ensures { IfOk result (λ v. v.items ≡ found_transfers self.now.books ids.now) }
+    {
+        self.ledger.lookup_transfers(self.global, ids)
+    }
+
+    /// The least time of a request's entry.
+    fn least_time(&self, request: &Request) -> u64
+        ensures time { result ≡ least_time self.now request.now }
+        ensures lawful { IsLawful request.now }
+    {
+        let events = request.body().event_count() as u64;
+        self.ledger.time() + events.max(1)
+    }
+
+    /// Says that an entry may come next: its commit is the next one, its time at least the least allowed and at most
+    /// `2^63 - 1`, and its request is New.
+    pub fn fits(&self, entry: &Entry) -> bool
+        ensures { result ≡ fits self.now entry.now }
+    {
+        entry.commit == self.commit + 1
+            && self.least_time(&entry.request) <= entry.time
+            && entry.time <= MAX_TIME
+            && matches!(self.class(&entry.request), Class::New)
+    }
+
+    /// Enters an entry that may come next: its request is executed, and its client's row keeps the request and the
+    /// reply. On a refusal the machine is unchanged.
+    pub fn apply(&mut self, entry: &Entry) -> Result<(), AllocError>
+        requires { IsTrue (fits self.old entry.now) }
+        ensures { MatchResult result (λ _. self.new ≡ step self.old entry.now) (λ _. self.new ≡ self.old) }
+    {
+        let entry = entry.copy(self.global)?;
+        self.enter(entry)
+    }
+
+    /// As `apply`, of an entry whose request moves into its client's row.
+    pub fn enter(&mut self, entry: Entry) -> Result<(), AllocError>
+        requires { IsTrue (fits self.old entry) }
+        ensures { MatchResult result (λ _. self.new ≡ step self.old entry) (λ _. self.new ≡ self.old) }
+    {
+        let body = execute(
+            self.global,
+            &mut self.ledger,
+            entry.time,
+            entry.request.body(),
+        )?;
+        let reply = reply_with(&entry, body);
+        let Entry {
+            commit,
+            request,
+            ..
+        } = entry;
+        let row = Row {
+            client: request.client(),
+            session: reply.session(),
+            request,
+            reply,
+            commit,
+        };
+        let _left = self.sessions.record(row);
+        self.commit = commit;
+        Ok(())
+    }
+}
+
+#[cfg(test)]
+mod tests;

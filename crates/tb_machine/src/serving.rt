@@ -1,0 +1,190 @@
+//! The serving of a script: moments and requests are read, executed and answered, one after another.
+ghost use Rattle.std.specs.Prelude.{◌≡◌, ◌≢◌, true, MatchResult, Some};
+ghost use Rattle.std.specs.Option.{is_some, option_map};
+ghost use Rattle.tb_records.specs.Messages.{IsLawful};
+ghost use Rattle.tb_records.specs.ReplyFrames.{reply_bytes};
+ghost use Rattle.tb_sessions.specs.Judged.{class_of, row_of};
+ghost use Rattle.tb_machine.specs.Histories.{status_of, answer_to};
+ghost use Rattle.tb_machine.specs.Runs.{input, output, is_new_in, Enters, Delivers, Turns, Serves, Ran};
+
+use crate::entries::Entry;
+use crate::machines::Machine;
+use std::alloc::{AllocError, Global};
+use tb_records::streams::read_timed_from;
+use tb_records::{
+    ClientsMax, FrameFault, Profile, Reply, Request, Sink, Source, Status, send_reply,
+};
+use tb_sessions::{Class, Row};
+use thiserror::Error;
+
+/// Why the serving of a script ends before the script does.
+#[derive(Clone, Copy, Debug, PartialEq, Eq, Error)]
+pub enum RunFault {
+    /// The next pair can't be read, or the reply to it can't be written.
+    #[error("{0}")]
+    Frame(FrameFault),
+    /// There is no memory for the machine, or for the next entry.
+    #[error("NoMemory")]
+    NoMemory,
+    /// The next request is new, and the end of time leaves no time for it.
+    #[error("TimeExhausted")]
+    TimeExhausted,
+    /// `2^64 - 1` replies are written.
+    #[error("TooLong")]
+    TooLong,
+}
+
+/// The status of the answer to a request of a class: a repeat gets its reply, and a new request none yet.
+pub fn status_of(class: Class) -> Status
+    ensures { result ≡ status_of class }
+{
+    match class {
+        Class::New => Status::NotYet,
+        Class::Repeat => Status::Reply,
+        Class::NoSession => Status::NoSession,
+        Class::SessionTooLow => Status::SessionTooLow,
+        Class::NewerSession => Status::NewerSession,
+        Class::Older => Status::Older,
+        Class::Collision => Status::Collision,
+        Class::NewerRequest => Status::NewerRequest,
+    }
+}
+
+/// Enters a new request that comes at a moment. The time is found before any room is made.
+fn enter(machine: &mut Machine<Global>, moment: u64, request: Request) -> Result<(), RunFault>
+    requires { is_new_in machine.old (moment, request) ≡ true }
+    ensures entered { Enters result machine.old machine.new (moment, request) }
+    ensures lawful { IsLawful request }
+{
+    let events = request.body().event_count() as u64;
+    let Some(time) = machine.next_time(moment, events) else {
+        return Err(RunFault::TimeExhausted)
+    };
+    let commit = machine.commit() + 1;
+    match machine.enter(Entry {
+        commit,
+        time,
+        request,
+    }) {
+        Ok(()) => Ok(()),
+        Err(AllocError) => Err(RunFault::NoMemory),
+    }
+}
+
+/// The reply that a client's row keeps.
+fn stored(machine: &Machine<Global>, client: u128) -> &Reply
+    requires { is_some (row_of machine.now.rows client) ≡ true }
+    ensures { option_map (λ (row : Row). row.reply) (row_of machine.now.rows client) ≡ Some result.now }
+{
+    let Some(reply) = machine.reply_of(client) else {
+        unreachable!()
+    };
+    reply
+}
+
+/// Writes a reply.
+fn send<W: Sink>(writer: &mut W, reply: &Reply) -> Result<(), RunFault>
+    ensures { Delivers result (reply_bytes reply.now) (output (W.written writer.old) (W.failed writer.old) (W.stalled writer.old)) (output (W.written writer.new) (W.failed writer.new) (W.stalled writer.new)) }
+{
+    match send_reply(writer, reply) {
+        Ok(()) => Ok(()),
+        Err(fault) => Err(RunFault::Frame(fault)),
+    }
+}
+
+/// Enters a new request that comes at a moment, and writes the reply to it.
+fn answer_new<W: Sink>(
+    machine: &mut Machine<Global>,
+    writer: &mut W,
+    moment: u64,
+    request: Request,
+) -> Result<(), RunFault>
+    requires { class_of machine.old.rows request ≡ Class.New }
+    ensures { Turns result machine.old machine.new (moment, request) (output (W.written writer.old) (W.failed writer.old) (W.stalled writer.old)) (output (W.written writer.new) (W.failed writer.new) (W.stalled writer.new)) }
+{
+    let client = request.client();
+    match enter(machine, moment, request) {
+        Ok(()) => send(writer, stored(machine, client)),
+        Err(fault) => Err(fault),
+    }
+}
+
+/// Answers a request that is not new: a repeat by the stored reply, any other by a refusal.
+fn answer_known<W: Sink>(
+    machine: &Machine<Global>,
+    writer: &mut W,
+    request: &Request,
+    class: Class,
+) -> Result<(), RunFault>
+    requires class { class ≡ class_of machine.now.rows request.now }
+    requires known { class ≢ Class.New }
+    ensures { Delivers result (reply_bytes (answer_to machine.now request.now)) (output (W.written writer.old) (W.failed writer.old) (W.stalled writer.old)) (output (W.written writer.new) (W.failed writer.new) (W.stalled writer.new)) }
+{
+    match class {
+        Class::Repeat => send(writer, stored(machine, request.client())),
+        _ => send(writer, &Reply::refusal(request, status_of(class))),
+    }
+}
+
+/// Answers a request that comes at a moment; a new one is entered first.
+fn answer<W: Sink>(
+    machine: &mut Machine<Global>,
+    writer: &mut W,
+    moment: u64,
+    request: Request,
+) -> Result<(), RunFault>
+    ensures { Turns result machine.old machine.new (moment, request) (output (W.written writer.old) (W.failed writer.old) (W.stalled writer.old)) (output (W.written writer.new) (W.failed writer.new) (W.stalled writer.new)) }
+{
+    match machine.class(&request) {
+        Class::New => answer_new(machine, writer, moment, request),
+        class => answer_known(machine, writer, &request, class),
+    }
+}
+
+/// Serves the next pair of a script: false where there is none.
+fn serve_next<R: Source, W: Sink>(
+    alloc: Global,
+    machine: &mut Machine<Global>,
+    reader: &mut R,
+    writer: &mut W,
+) -> Result<bool, RunFault>
+    ensures { Serves result machine.old machine.new (input (R.left reader.old) (R.failed reader.old)) (input (R.left reader.new) (R.failed reader.new)) (output (W.written writer.old) (W.failed writer.old) (W.stalled writer.old)) (output (W.written writer.new) (W.failed writer.new) (W.stalled writer.new)) }
+{
+    match read_timed_from(alloc, reader) {
+        Ok(Some((moment, request))) => match answer(machine, writer, moment, request) {
+            Ok(()) => Ok(true),
+            Err(fault) => Err(fault),
+        },
+        Ok(None) => Ok(false),
+        Err(fault) => Err(RunFault::Frame(fault)),
+    }
+}
+
+/// Serves a script of pairs, a moment and the frame of a request each, until it ends, and answers the number of replies
+/// written. On a fault the replies to all earlier pairs are written, and the rest of the script is unread; where the
+/// writer failed, a beginning of the next reply was written too.
+pub fn run<R: Source, W: Sink>(
+    alloc: Global,
+    profile: Profile,
+    clients_max: ClientsMax,
+    reader: &mut R,
+    writer: &mut W,
+) -> Result<u64, RunFault>
+    ensures { Ran profile clients_max result (input (R.left reader.old) (R.failed reader.old)) (input (R.left reader.new) (R.failed reader.new)) (output (W.written writer.old) (W.failed writer.old) (W.stalled writer.old)) (output (W.written writer.new) (W.failed writer.new) (W.stalled writer.new)) }
+{
+    let mut machine = match Machine::new_in(alloc, alloc, profile, clients_max) {
+        Ok(machine) => machine,
+        Err(AllocError) => return Err(RunFault::NoMemory),
+    };
+    for k in 0..u64::MAX {
+        match serve_next(alloc, &mut machine, reader, writer) {
+            Ok(true) => {}
+            Ok(false) => return Ok(k),
+            Err(fault) => return Err(fault),
+        }
+    }
+    Err(RunFault::TooLong)
+}
+
+#[cfg(test)]
+mod tests;

@@ -1,0 +1,27 @@
+//! Worked rows: scripts, and what the definitions answer to them, computed. A call does nothing; its promise is the row.
+ghost use Rattle.tb_machine.specs.WorkedRows.{FirstRequests, Refusals, Eviction, EndOfTime, EvictionStorm};
+
+/// A register, the same again, two accounts, their lookup, a transfer.
+pub fn first_requests()
+    ensures { FirstRequests }
+{}
+
+/// A repeat, and one refusal of each status.
+pub fn refusals()
+    ensures { Refusals }
+{}
+
+/// The client whose reply has the least commit number loses its session.
+pub fn eviction()
+    ensures { Eviction }
+{}
+
+/// After the last moment there is no time for a request.
+pub fn end_of_time()
+    ensures { EndOfTime }
+{}
+
+/// A hundred clients in one place.
+pub fn eviction_storm()
+    ensures { EvictionStorm }
+{}

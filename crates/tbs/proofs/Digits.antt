@@ -1,0 +1,13 @@
+-- A number that is past the range stays past it, whatever digits follow.
+use Rattle.std.proofs.Common.{ℕ, ◌≡◌, ◌<◌, ◌+◌, ◌*◌, ◌&&◌, Bool, true, false, nat_le, List, [], ◌∷◌, Option, Some, None, refl, arith, if◌then◌else◌}
+use Rattle.std.specs.Option.{option_and_then}
+use Rattle.std.proofs.lemmas.Bool.Decides.{nat_tests}
+use Rattle.tbs.specs.Orders.{number_from, digit_of, within}
+
+pub beyond : (low high n : ℕ) (bytes : List ℕ) → high < n → within low high (number_from n bytes) ≡ None
+beyond low high n [] above = grind (arith, nat_tests)
+beyond low high n (byte ∷ bytes) above = by (digit_of byte) (λ digit. beyond low high (n * 10 + digit) bytes (omega arith))
+  where
+    by : (o : Option ℕ) → ((digit : ℕ) → within low high (number_from (n * 10 + digit) bytes) ≡ None) → within low high (option_and_then (λ digit. number_from (n * 10 + digit) bytes) o) ≡ None
+    by None later = refl
+    by (Some digit) later = later digit

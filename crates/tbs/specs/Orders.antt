@@ -1,0 +1,55 @@
+-- What the words of the command line ask for.
+use Rattle.std.specs.Prelude.{ℕ, Bool, ◌&&◌, ◌+◌, ◌-◌, ◌*◌, nat_le, nat_eq, List, [], ◌∷◌, Option, Some, None, if◌then◌else◌, codes}
+use Rattle.std.specs.Option.{option_and_then}
+use Rattle.std.specs.Cmp.Lexicographic.{pointwise}
+use Rattle.tb_records.specs.declared.limits.Profile.{Profile}
+use Rattle.tb_records.specs.declared.limits.Profile.TheVariants.{One, Two}
+use Rattle.tbs.specs.declared.arguments.Order.{Order}
+use Rattle.tbs.specs.declared.arguments.Order.TheVariants.{Run}
+
+-- the value of a digit, 0 to 9
+abbrev pub digit_of : ℕ → Option ℕ
+digit_of byte = if nat_le 48 byte && nat_le byte 57 then Some (byte - 48) else None
+
+-- the number that digits spell behind those that spelled n
+abbrev pub number_from : ℕ → List ℕ → Option ℕ
+number_from n [] = Some n
+number_from n (byte ∷ bytes) = option_and_then (λ digit. number_from (n * 10 + digit) bytes) (digit_of byte)
+
+-- the number that a word spells: one or more digits, leading zeros allowed
+abbrev pub number_of : List ℕ → Option ℕ
+number_of [] = None
+number_of (byte ∷ bytes) = number_from 0 (byte ∷ bytes)
+
+-- the number, where it is in the range
+abbrev pub within : ℕ → ℕ → Option ℕ → Option ℕ
+within low high None = None
+within low high (Some n) = if nat_le low n && nat_le n high then Some n else None
+
+-- 1 to 64 clients
+abbrev pub clients_of : List ℕ → Option ℕ
+clients_of word = within 1 64 (number_of word)
+
+abbrev pub profile_by : Option ℕ → Option Profile
+profile_by None = None
+profile_by (Some n) = Some (if nat_le n 1 then One else Two)
+
+-- profile 1 or 2
+abbrev pub profile_of : List ℕ → Option Profile
+profile_of word = profile_by (within 1 2 (number_of word))
+
+abbrev pub run_by : Option ℕ → Option Profile → Option Order
+run_by None profile = None
+run_by (Some clients) None = None
+run_by (Some clients) (Some profile) = Some (Run clients profile)
+
+abbrev pub is_run : List ℕ → Bool
+is_run word = pointwise nat_eq word (codes "run")
+
+-- `run CLIENTS_MAX` or `run CLIENTS_MAX PROFILE`
+abbrev pub order_of : List (List ℕ) → Option Order
+order_of [] = None
+order_of (word ∷ []) = None
+order_of (word ∷ clients ∷ []) = if is_run word then run_by (clients_of clients) (Some One) else None
+order_of (word ∷ clients ∷ profile ∷ []) = if is_run word then run_by (clients_of clients) (profile_of profile) else None
+order_of (word ∷ clients ∷ profile ∷ more ∷ rest) = None

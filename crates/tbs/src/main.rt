@@ -1,0 +1,61 @@
+//! `tbs`: serves scripts of request frames, from standard input to standard output.
+#![tactic(auto)]
+
+mod arguments;
+mod commands;
+#[cfg(test)]
+mod tests;
+
+use commands::{Fault, command, put_line, tell};
+use std::env;
+use std::io::{self, BufReader, BufWriter, Write};
+use std::process::ExitCode;
+use tb_machine::RunFault;
+use tb_records::{Counting, FrameFault, Sink};
+
+/// The bytes of input and of output that are held at a time.
+const BUFFER: usize = 65536;
+
+/// The words after the program's name.
+fn words(rt: &HostRuntime) -> io::Result<Vec<String>> {
+    let mut words = Vec::new(rt.alloc());
+    for word in env::args(rt)?.skip(1) {
+        words.push(word)?;
+    }
+    Ok(words)
+}
+
+/// Serves the command that the words are, between standard input and standard output.
+fn serve<E: Sink>(rt: &HostRuntime, words: &[String], faults: &mut E) -> u8 {
+    let Ok(input) = BufReader::with_capacity(rt.alloc(), BUFFER, rt.stdin()) else {
+        return refuse(Fault::Serving(RunFault::NoMemory), faults);
+    };
+    let Ok(output) = BufWriter::with_capacity(rt.alloc(), BUFFER, rt.stdout()) else {
+        return refuse(Fault::Serving(RunFault::NoMemory), faults);
+    };
+    let mut reader = Counting::new(input);
+    let mut writer = Counting::new(output);
+    let mut line = Counting::new(Vec::new(rt.alloc()));
+    let status = command(rt.alloc(), words, &mut reader, &mut writer, &mut line);
+    // Replies that stay in the buffer are lost: that fault comes before any other.
+    if writer.into_inner().flush().is_err() {
+        return refuse(Fault::Serving(RunFault::Frame(FrameFault::Device)), faults);
+    }
+    put_line(line.into_inner().as_slice(), faults);
+    status
+}
+
+/// Tells the fault, and answers its status.
+fn refuse<E: Sink>(fault: Fault, faults: &mut E) -> u8 {
+    tell(fault, faults);
+    fault.status()
+}
+
+fn main(rt: HostRuntime) -> ExitCode {
+    let mut faults = Counting::new(rt.stderr());
+    let status = match words(&rt) {
+        Ok(words) => serve(&rt, words.as_slice(), &mut faults),
+        Err(_) => refuse(Fault::Usage, &mut faults),
+    };
+    ExitCode::from(status)
+}
