@@ -649,6 +649,8 @@ fn fills_append_in_the_order_of_ids(rt: HostRuntime) -> Result<(), Fail> {
     let run = start(&rt, rt.alloc(), Profile::One)?;
     let mut out = Vec::with_capacity(rt.alloc(), 4)?;
     run.ledger.fill_accounts(&[2, 2], &mut out);
+    assert_eq!(rt; out.len(), 2);
+    assert!(rt; out.capacity() >= 4);
     run.ledger.fill_accounts(&[9, 1], &mut out);
     assert_eq!(rt; out.len(), 3);
     assert_eq!(rt; [out[0].id, out[1].id, out[2].id], [2, 2, 1]);

@@ -183,6 +183,3 @@ impl<A: Allocator + Clone> Machine<A> {
         Ok(())
     }
 }
-
-#[cfg(test)]
-mod tests;

@@ -185,6 +185,3 @@ pub fn run<R: Source, W: Sink>(
     }
     Err(RunFault::TooLong)
 }
-
-#[cfg(test)]
-mod tests;

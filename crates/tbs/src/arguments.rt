@@ -16,7 +16,11 @@ fn digit(byte: u8) -> Option<u64>
     ensures value { result ≡ digit_of byte }
     ensures small { IfSome result (λ n. n < 10) }
 {
-    if b'0' <= byte && byte <= b'9' { Some((byte - b'0') as u64) } else { None }
+    if b'0' <= byte && byte <= b'9' {
+        Some((byte - b'0') as u64)
+    } else {
+        None
+    }
 }
 
 /// The number, where it is from `low` to `high`.
@@ -87,7 +91,11 @@ pub fn read_order(words: &[String]) -> Option<Order>
     match words {
         [word, clients_max] => run_order(word.as_str(), clients_max.as_str(), Some(Profile::One)),
         [word, clients_max, rules] => {
-            run_order(word.as_str(), clients_max.as_str(), profile(rules.as_bytes()))
+            run_order(
+                word.as_str(),
+                clients_max.as_str(),
+                profile(rules.as_bytes()),
+            )
         }
         _ => None,
     }

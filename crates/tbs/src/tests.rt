@@ -35,8 +35,18 @@ fn left_by(rt: &HostRuntime, words: &[&str], script: &[u8]) -> Result<Left, Fail
     let mut reader = Counting::new(script);
     let mut writer = Counting::new(Vec::new(rt.alloc()));
     let mut faults = Counting::new(Vec::new(rt.alloc()));
-    let status = command(rt.alloc(), owned.as_slice(), &mut reader, &mut writer, &mut faults);
-    Ok(Left { status, replies: writer.into_inner(), line: faults.into_inner() })
+    let status = command(
+        rt.alloc(),
+        owned.as_slice(),
+        &mut reader,
+        &mut writer,
+        &mut faults,
+    );
+    Ok(Left {
+        status,
+        replies: writer.into_inner(),
+        line: faults.into_inner(),
+    })
 }
 
 #[test]

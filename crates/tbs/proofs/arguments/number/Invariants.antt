@@ -5,5 +5,5 @@ use Rattle.tbs.proofs.arguments.number.Given as goal
 abbrev pub invariant-loop-byte : goal.invariant-loop-byte
 invariant-loop-byte l = record {
   value : within l.low l.high (number_from l.n (drop l.byte-index l.word)) ≡ within l.low l.high (number_of l.word);
-  small : l.n < 10 * l.high + 10
+  small : l.n < 10 * l.high + 10;
 }
