@@ -14,7 +14,7 @@ here = os.path.dirname(os.path.abspath(__file__))
 tbs = os.path.join(here, "..", "crates", "tbs", "out", "tbs")
 size = int(sys.argv[1]) if len(sys.argv) > 1 else 100000
 turns = int(sys.argv[2]) if len(sys.argv) > 2 else 3
-WORKLOADS = ["rising", "pending", "chains", "expiring", "single", "mixed", "random"]
+WORKLOADS = ["rising", "pending", "chains", "expiring", "single", "lookups", "mixed", "random"]
 
 
 def run(program, script, replies):

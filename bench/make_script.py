@@ -7,6 +7,7 @@ pending   pending transfers, then their posts and voids
 chains    chains of 5, each tenth broken
 expiring  pending transfers that expire as moments go on
 single    requests of one transfer by 60 clients, each tenth repeated
+lookups   batches of 8190 ids of accounts and of transfers by turns, among 10,000 of each
 mixed     small batches of everything, right and wrong, for comparing replies
 """
 import random
@@ -142,6 +143,20 @@ def single():
             send(data)
 
 
+def lookups():
+    c = Client(7)
+    register(c)
+    accounts_for(c, 10000)
+    for first in range(0, 10000, 5000):
+        request(c, 130, [transfer(1000000 + first + i, *two(10000), 1) for i in range(5000)])
+    for turn, first in enumerate(range(0, size, 8190)):
+        n = min(size, first + 8190) - first
+        if turn % 2 == 0:
+            request(c, 131, [u128(rng.randint(1, 10000)) for _ in range(n)])
+        else:
+            request(c, 132, [u128(1000000 + rng.randrange(10000)) for _ in range(n)])
+
+
 def mixed():
     global now, commit
     clients = [Client(7), Client(8), Client(9)]
@@ -192,4 +207,5 @@ def mixed():
 
 
 {"rising": lambda: bulk(lambda i: 1000000 + i), "random": lambda: bulk(lambda i: rng.getrandbits(127) + 1),
- "pending": pending, "chains": chains, "expiring": expiring, "single": single, "mixed": mixed}[workload]()
+ "pending": pending, "chains": chains, "expiring": expiring, "single": single, "lookups": lookups,
+ "mixed": mixed}[workload]()

@@ -1,12 +1,11 @@
 -- An exchange in one side of a tree is an exchange in the tree.
-use Rattle.std.proofs.Common.{◌≡◌, ℕ, ◌++◌, Bool, true, false, Option, None, Some, sym, ap, ◌∙◌, refl}
+use Rattle.std.proofs.Common.{◌≡◌, ℕ, ◌++◌, Bool, true, false, Option, sym, ap, ◌∙◌, refl}
 use Rattle.std.specs.declared.cmp.Ordering.{Ordering}
-use Rattle.std.specs.Option.{IsSome, option_map}
 use Rattle.std.specs.BTreeMap.{is_at}
-use Rattle.avl_tree.specs.Nodes.{entries, with_first, stored_height, IsAvl, Exchanges}
+use Rattle.avl_tree.specs.Nodes.{entries, with_first, IsAvl, Exchanges}
 use Rattle.avl_tree.specs.declared.tree.Tree.{Tree}
-use Rattle.avl_tree.specs.declared.tree.Tree.TheVariants.{Empty, Fork'}
-use Rattle.avl_tree.proofs.Steps.{GoesLeft, GoesRight, StandsHere}
+use Rattle.avl_tree.specs.declared.tree.Tree.TheVariants.{Fork'}
+use Rattle.avl_tree.proofs.Steps.{GoesLeft, GoesRight}
 
 module _ {K V A : Type 0} {cmp : K → K → Ordering} {k : K} where
   pub exchanges_left : {h : ℕ} {p : _} {t l r : Tree K V A} {e : Option (K × V)} → t ≡ Fork' h p l r e → GoesLeft cmp k (entries l) e (entries r) → IsAvl (Fork' h p l r e) → (b : Bool) (l' : Tree K V A) (v v' : V) → Exchanges (is_at (cmp k)) l v b l' v' → Exchanges (is_at (cmp k)) t v b (Fork' h p l' r e) v'

@@ -6,7 +6,7 @@ use Rattle.std.specs.Ordering.{ordering_reverse, is_le}
 use Rattle.std.specs.Option.{IsSome, IfSome}
 use Rattle.std.specs.Prelude.{◌&&◌}
 use Rattle.std.specs.Cmp.{IsTotalOrder}
-use Rattle.std.specs.List.{filter, FoldsTo, AllByRecursion}
+use Rattle.std.specs.List.{FoldsTo, AllByRecursion}
 use Rattle.std.specs.List.Sorted.{IsStrictlySortedBy}
 use Rattle.std.specs.Map.{keys_of}
 use Rattle.std.proofs.lemmas.List.Elements.{filter-append}

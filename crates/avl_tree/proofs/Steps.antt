@@ -7,7 +7,7 @@ use Rattle.std.specs.Cmp.{IsTotalOrder}
 use Rattle.std.specs.Map.{lookup, set_value, remove_entry}
 use Rattle.std.specs.BTreeMap.{insert_entry, is_at}
 use Rattle.avl_tree.specs.Nodes.{IsOrdered, with_first}
-use Rattle.avl_tree.proofs.Around.{IsAbove, IsBelow, lookup-past, lookup-before, set_value-past, set_value-before, remove_entry-past, remove_entry-before, insert_entry-past, insert_entry-before, ordered_left, ordered_right, ordered_tail, above_front, above_front_at, below_back}
+use Rattle.avl_tree.proofs.Around.{IsAbove, lookup-past, lookup-before, set_value-past, set_value-before, remove_entry-past, remove_entry-before, insert_entry-past, insert_entry-before, ordered_left, ordered_right, ordered_tail, above_front, above_front_at, below_back}
 
 pub record GoesLeft {K V : Type 0} (cmp : K → K → Ordering) (k : K) (l : List (K × V)) (e : Option (K × V)) (r : List (K × V)) : Type 0 where
   pub sorted : IsOrdered cmp l

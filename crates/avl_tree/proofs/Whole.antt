@@ -1,13 +1,13 @@
 -- What the fields of a map keep, through each change.
-use Rattle.std.proofs.Common.{◌≡◌, ℕ, ◌+◌, ◌-◌, ◌<◌, ◌^◌, Bool, true, false, List, length, Option, None, Some, sym, ap, ◌∙◌, subst, refl, arith}
+use Rattle.std.proofs.Common.{◌≡◌, ℕ, ◌+◌, ◌-◌, ◌<◌, Bool, true, false, length, Option, None, Some, sym, ◌∙◌, subst, arith}
 use Rattle.std.specs.declared.cmp.Ordering.{Ordering}
 use Rattle.std.specs.Option.{IsSome, option_map}
 use Rattle.std.specs.Cmp.{IsTotalOrder}
 use Rattle.std.specs.List.Sorted.{IsStrictlySortedBy}
-use Rattle.std.specs.Map.{lookup, set_value, remove_entry, keys_of}
+use Rattle.std.specs.Map.{lookup, remove_entry}
 use Rattle.std.specs.BTreeMap.{insert_entry, is_at}
 use Rattle.std.proofs.lemmas.Map.{keys-set_value, length-set_value}
-use Rattle.avl_tree.specs.Nodes.{entries, stored_height, IsAvl, IsOrdered, IsWhole, Exchanges}
+use Rattle.avl_tree.specs.Nodes.{entries, stored_height, IsAvl, IsWhole, Exchanges}
 use Rattle.avl_tree.specs.declared.tree.Tree.{Tree}
 use Rattle.avl_tree.proofs.Around.{ordered-insert_entry, ordered-remove_entry, length-insert_entry, length-remove_entry_found, remove_entry-absent}
 use Rattle.avl_tree.proofs.Shape.{low, least-le-length}

@@ -1,10 +1,10 @@
 -- What others see of a map.
-use Rattle.std.specs.Prelude.{◌≡◌, ℕ, ◌≤◌, List, length, Option, refl}
+use Rattle.std.specs.Prelude.{ℕ, ◌≤◌, List, length, Option, refl}
 use Rattle.std.specs.Coded.{Coded, code_by, coded×, coded_ℕ}
 use Rattle.std.specs.Map.{lookup}
 use Rattle.std.specs.BTreeMap.{is_at}
 use Rattle.std.specs.declared.cmp.Ordering.{Ordering}
-use Rattle.avl_tree.specs.Search.{Search, leaf, fork, entries_of, least, coded_search}
+use Rattle.avl_tree.specs.Search.{Search, entries_of, least, coded_search}
 
 -- the shape of the tree, with its entries, and the number of nodes that wait for an entry
 pub record Map (K V : Type 0) : Type 0 where

@@ -1,12 +1,20 @@
 // The map in use, at the keys that the books have.
+mod limited;
+
 use crate::AvlMap;
-use std::alloc::Global;
+use limited::Limited;
+use std::alloc::{Allocator, Global};
 use std::collections::BTreeMap;
 use std::process::Abort;
 use std::test::Fail;
 
 /// Inserts a pair, where there is a spare node and the key is absent.
-fn put<K: Ord + Copy, V>(rt: &impl Abort, map: &mut AvlMap<K, V, Global>, key: K, value: V) {
+fn put<K: Ord + Copy, V, A: Allocator + Clone>(
+    rt: &impl Abort,
+    map: &mut AvlMap<K, V, A>,
+    key: K,
+    value: V,
+) {
     assert!(rt; map.spare() > 0, "no spare node");
     assert!(rt; map.get(&key).is_none(), "the key is there");
     map.insert_reserved(key, value);
@@ -46,6 +54,17 @@ fn probes_stay_short(rt: HostRuntime) -> Result<(), Fail> {
     Ok(())
 }
 
+/// The keys from `low` to `high`, below 10, as the digits of a number in the order in which they come.
+fn digits<A: Allocator + Clone>(map: &AvlMap<u64, u128, A>, low: u64, high: u64) -> u64 {
+    let mut digits = 0u64;
+    map.for_range(
+        &low,
+        &high,
+        &mut |key: &u64, _: &u128| { digits = digits.wrapping_mul(10).wrapping_add(*key) },
+    );
+    digits
+}
+
 #[test]
 fn spare_nodes_are_kept(rt: HostRuntime) -> Result<(), Fail> {
     let mut map = AvlMap::new_in(rt.alloc());
@@ -69,15 +88,8 @@ fn spare_nodes_are_kept(rt: HostRuntime) -> Result<(), Fail> {
     assert_eq!(rt; map.get(&2).copied(), None);
     assert_eq!(rt; map.first().map(|(key, _)| *key), Some(1));
 
-    let mut called = 0u64;
-    map.for_range(
-        &0,
-        &9,
-        &mut |key: &u64, _: &u128| { called = called.wrapping_mul(10).wrapping_add(*key) },
-    );
-    assert_eq!(rt; called, 13);
-    map.for_range(&9, &0, &mut |_: &u64, _: &u128| called = 0);
-    assert_eq!(rt; called, 13);
+    assert_eq!(rt; digits(&map, 0, 9), 13);
+    assert_eq!(rt; digits(&map, 9, 0), 0);
     Ok(())
 }
 
@@ -89,25 +101,55 @@ fn mixed(n: u64) -> u128 {
     u128::from(c ^ c / 0x8000_0000).wrapping_mul(0x1_0000_0000_0000_0001) ^ u128::from(a)
 }
 
-#[test]
-fn agrees_with_another_map(rt: HostRuntime) -> Result<(), Fail> {
-    const KEYS: u64 = 500_000;
-    let mut map = AvlMap::new_in(rt.alloc());
-    let mut other = BTreeMap::new(rt.alloc());
-    map.reserve(KEYS as usize)?;
-    for n in 0..KEYS {
-        put(&rt, &mut map, mixed(n), n);
+/// Two maps with the same `keys` keys that look like chance.
+fn both_filled(
+    rt: &impl Abort,
+    alloc: Global,
+    keys: u64,
+) -> Result<(AvlMap<u128, u64, Global>, BTreeMap<u128, u64>), Fail> {
+    let mut map = AvlMap::new_in(alloc);
+    let mut other = BTreeMap::new(alloc);
+    map.reserve(keys as usize)?;
+    for n in 0..keys {
+        put(rt, &mut map, mixed(n), n);
         other.insert(mixed(n), n)?;
     }
-    for n in 0..KEYS {
+    Ok((map, other))
+}
+
+/// Takes two in three of the keys out of both maps.
+fn thin_both(
+    rt: &impl Abort,
+    map: &mut AvlMap<u128, u64, Global>,
+    other: &mut BTreeMap<u128, u64>,
+    keys: u64,
+) {
+    for n in 0..keys {
         if n % 3 != 0 {
             assert_eq!(rt; map.remove(&mixed(n)), other.remove(&mixed(n)));
         }
     }
-    assert_eq!(rt; map.len(), other.len());
-    for n in 0..KEYS * 2 {
+}
+
+/// Looks up as many keys again as there were, in both maps.
+fn look_up_both(
+    rt: &impl Abort,
+    map: &AvlMap<u128, u64, Global>,
+    other: &BTreeMap<u128, u64>,
+    keys: u64,
+) {
+    for n in 0..keys.saturating_mul(2) {
         assert_eq!(rt; map.get(&mixed(n)).copied(), other.get(&mixed(n)).copied());
     }
+}
+
+#[test]
+fn agrees_with_another_map(rt: HostRuntime) -> Result<(), Fail> {
+    const KEYS: u64 = 1_000_000;
+    let (mut map, mut other) = both_filled(&rt, rt.alloc(), KEYS)?;
+    thin_both(&rt, &mut map, &mut other, KEYS);
+    assert_eq!(rt; map.len(), other.len());
+    look_up_both(&rt, &map, &other, KEYS);
 
     let mut others = other.iter();
     let mut same = true;
@@ -138,5 +180,67 @@ fn many_spare_nodes_are_let_go(rt: HostRuntime) -> Result<(), Fail> {
     let mut map: AvlMap<u128, [u64; 16], Global> = AvlMap::new_in(rt.alloc());
     map.reserve(1_000_000)?;
     assert!(rt; map.spare() >= 1_000_000);
+    Ok(())
+}
+
+/// Puts the keys from `low` to `high` in, each with ten times itself.
+fn put_all<A: Allocator + Clone>(
+    rt: &impl Abort,
+    map: &mut AvlMap<u64, u128, A>,
+    low: u64,
+    high: u64,
+) {
+    for key in low..=high {
+        put(rt, map, key, u128::from(key) * 10);
+    }
+}
+
+/// Looks the keys from `low` to `high` up, each of which has ten times itself.
+fn look_up_all<A: Allocator + Clone>(
+    rt: &impl Abort,
+    map: &AvlMap<u64, u128, A>,
+    low: u64,
+    high: u64,
+) {
+    for key in low..=high {
+        assert_eq!(rt; map.get(&key).copied(), Some(u128::from(key) * 10));
+    }
+}
+
+/// Asks for eight spare nodes where the allocator gives `given` blocks, too few, and then where it gives enough.
+fn reserve_twice(
+    rt: &impl Abort,
+    limited: &Limited<Global>,
+    map: &mut AvlMap<u64, u128, &Limited<Global>>,
+    given: u64,
+) -> Result<(), Fail> {
+    let before = map.spare();
+    limited.allow(given);
+    assert!(rt; map.reserve(8).is_err(), "after {given} blocks");
+    assert!(rt; map.spare() >= before);
+    assert_eq!(rt; map.len(), 3);
+    assert_eq!(rt; digits(map, 0, 9), 123);
+    look_up_all(rt, map, 1, 3);
+
+    limited.allow(8);
+    map.reserve(8)?;
+    assert!(rt; map.spare() >= 8);
+    Ok(())
+}
+
+#[test]
+fn refused_reserve_leaves_the_map(rt: HostRuntime) -> Result<(), Fail> {
+    for given in 0..6 {
+        let limited = Limited::new(rt.alloc(), 5);
+        let mut map = AvlMap::new_in(&limited);
+        map.reserve(5)?;
+        put_all(&rt, &mut map, 1, 3);
+        reserve_twice(&rt, &limited, &mut map, given)?;
+
+        limited.allow(0);
+        put_all(&rt, &mut map, 4, 9);
+        assert_eq!(rt; digits(&map, 0, 9), 123_456_789);
+        look_up_all(&rt, &map, 4, 9);
+    }
     Ok(())
 }

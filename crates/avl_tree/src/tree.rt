@@ -90,8 +90,8 @@ pub fn join<K, V, A: Allocator>(
     Tree::Fork(height, node)
 }
 
-#[tactic(auto, using(crate::proofs::Firsts::regroup))]
 /// Joins where the left side is two levels higher.
+#[tactic(auto, using(crate::proofs::Firsts::regroup))]
 fn lean_left<K, V, A: Allocator>(
     left: Tree<K, V, A>,
     node: Box<Node<K, V, A>, A>,
@@ -122,8 +122,8 @@ fn lean_left<K, V, A: Allocator>(
     join(join(outer, top, below), middle, join(above, node, right))
 }
 
-#[tactic(auto, using(crate::proofs::Firsts::regroup))]
 /// Joins where the right side is two levels higher.
+#[tactic(auto, using(crate::proofs::Firsts::regroup))]
 fn lean_right<K, V, A: Allocator>(
     left: Tree<K, V, A>,
     node: Box<Node<K, V, A>, A>,

@@ -42,6 +42,10 @@ same_numbers x y is = by (eqb x y) refl is
     by true e is = grind (arith, nat_tests)
     by false e is = absurd (cc)
 
+-- numbers that a test tells apart
+other_numbers : (x y : ℕ) → eqb x y ≡ false → x ≢ y
+other_numbers x y is same = grind (arith, nat_tests)
+
 -- closing leaves the other flags
 pub flag_stays : (mask flags : ℕ) (b : Bool) → bit_and 32 mask ≡ 0 → has mask (if b then bit_or flags 32 else flags) ≡ has mask flags
 flag_stays mask flags true apart = ap (λ n. not (n == 0)) (and_or_apart mask flags 32 apart)
@@ -111,8 +115,8 @@ pub resolves_of : (B : Books) (t : Transfer) (time : ℕ) → resolves t ≡ tru
 resolves_of B t time is ok = resolves_by B (filled B t) (subst (λ b. (if b then resolve_code B (filled B t) else single_code B t time) ≡ 0) is (own_code B t time ok))
 
 -- a pair of accounts that is there
-pair_of : (B : Books) (t : Transfer) (time : ℕ) (d c : Account) → account_at B t.debit_account_id ≡ Some d → account_at B t.credit_account_id ≡ Some c → pair_code (Some (as_it_stands B d)) (Some (as_it_stands B c)) t time ≡ 0 → Moves B (record t { amount = balanced_amount (as_it_stands B d) (as_it_stands B c) t; timestamp = time })
-pair_of B t time d c d_is c_is ok = by (balanced_amount (as_it_stands B d) (as_it_stands B c) t) ok
+pair_of : (B : Books) (t : Transfer) (time : ℕ) (d c : Account) → account_at B t.debit_account_id ≡ Some d → account_at B t.credit_account_id ≡ Some c → t.debit_account_id ≢ t.credit_account_id → pair_code (Some (as_it_stands B d)) (Some (as_it_stands B c)) t time ≡ 0 → Moves B (record t { amount = balanced_amount (as_it_stands B d) (as_it_stands B c) t; timestamp = time })
+pair_of B t time d c d_is c_is apart ok = by (balanced_amount (as_it_stands B d) (as_it_stands B c) t) ok
   where
     limit : (b l : Bool) (x y : ℕ) → b ≡ true → l ≡ b → (l && ltb x y) ≡ false → y ≤ x
     limit b l x y is same test = ltb-false x y (subst (λ k. (k && ltb x y) ≡ false) (same ∙ is) test)
@@ -128,6 +132,7 @@ pair_of B t time d c d_is c_is ok = by (balanced_amount (as_it_stands B d) (as_i
         let ledger : t.ledger ≡ d.ledger = same_numbers t.ledger d.ledger pair.1.0 in record {
           d = d;
           c = c;
+          apart = apart;
           debit_is = d_is;
           credit_is = c_is;
           debit_ledger = sym ledger;
@@ -143,9 +148,11 @@ pair_of B t time d c d_is c_is ok = by (balanced_amount (as_it_stands B d) (as_i
 pub moves_of : (B : Books) (t : Transfer) (time : ℕ) → resolves t ≡ false → transfer_verdict B t time ≡ 0 → Moves B (record t { amount = balanced_between (account_now B t.debit_account_id) (account_now B t.credit_account_id) t; timestamp = time })
 moves_of B t time is ok =
     let single : single_code B t time ≡ 0 = subst (λ b. (if b then resolve_code B (filled B t) else single_code B t time) ≡ 0) is (own_code B t time ok) in
-    by (account_at B t.debit_account_id) (account_at B t.credit_account_id) refl refl (none_fails (first_of (single_own_lines t) ∷ pair_code (account_now B t.debit_account_id) (account_now B t.credit_account_id) t time ∷ []) single).1.0
+    let codes = none_fails (first_of (single_own_lines t) ∷ pair_code (account_now B t.debit_account_id) (account_now B t.credit_account_id) t time ∷ []) single in
+    let own = fail (single_own_lines t) refl codes.0 in
+    by (other_numbers t.debit_account_id t.credit_account_id own.1.1.1.1.0) (account_at B t.debit_account_id) (account_at B t.credit_account_id) refl refl codes.1.0
   where
-    by : (d c : Option Account) → account_at B t.debit_account_id ≡ d → account_at B t.credit_account_id ≡ c → pair_code (option_map (as_it_stands B) d) (option_map (as_it_stands B) c) t time ≡ 0 → Moves B (record t { amount = balanced_between (option_map (as_it_stands B) d) (option_map (as_it_stands B) c) t; timestamp = time })
-    by None c e f z = absurd (omega arith)
-    by (Some d) None e f z = absurd (omega arith)
-    by (Some d) (Some c) e f z = pair_of B t time d c e f z
+    by : t.debit_account_id ≢ t.credit_account_id → (d c : Option Account) → account_at B t.debit_account_id ≡ d → account_at B t.credit_account_id ≡ c → pair_code (option_map (as_it_stands B) d) (option_map (as_it_stands B) c) t time ≡ 0 → Moves B (record t { amount = balanced_between (option_map (as_it_stands B) d) (option_map (as_it_stands B) c) t; timestamp = time })
+    by apart None c e f z = absurd (omega arith)
+    by apart (Some d) None e f z = absurd (omega arith)
+    by apart (Some d) (Some c) e f z = pair_of B t time d c e f apart z

@@ -1,8 +1,8 @@
 -- Places in a list whose keys rise.
-use Rattle.std.proofs.Common.{◌≡◌, ◌≢◌, ℕ, zero, suc, ◌+◌, ◌<◌, ◌≤◌, true, false, ltb, nat_lt, List, [], ◌∷◌, length, get_or, find, Some, None, refl, sym, ap, ◌∙◌, arith}
+use Rattle.std.proofs.Common.{◌≡◌, ◌≢◌, ℕ, zero, suc, ◌+◌, ◌<◌, ◌≤◌, true, false, ltb, nat_lt, List, [], ◌∷◌, ◌++◌, length, get_or, find, Some, None, refl, sym, ap, ◌∙◌, arith}
 use Rattle.std.proofs.lemmas.Bool.Decides.{nat_tests}
 use Rattle.std.proofs.lemmas.List.{get_or_default}
-use Rattle.tb_records.specs.Ordered.{Each, Rising, IsPlace}
+use Rattle.tb_records.specs.Ordered.{put, Each, Rising, IsPlace}
 use Rattle.tb_ledger.specs.Tables.{AreBelow, AreFrom, IsPlaceAfter}
 
 -- what holds of each holds of the one at a place
@@ -50,6 +50,25 @@ module _ {X : Type 0} (key : X → ℕ) (xs : List X) (rising : Rising key xs) (
     before = λ j d less. omega (arith, keys_till j d less);
     above = λ d inside. omega (arith, rising-at key xs m (m + 1) d rising (omega arith) inside, ap key (here d));
   }
+
+-- where all are below the id, its place is the end
+pub above-all : {X : Type 0} (key : X → ℕ) (xs : List X) (id m : ℕ) → m + 1 ≡ length xs → AreBelow key xs id (m + 1) → IsPlace key xs id (length xs)
+above-all key xs id m all below = record {
+  within = omega arith;
+  before = λ j d less. below j d (omega (arith, all));
+  here = λ d inside. absurd (omega arith);
+}
+
+-- a record whose place is the end
+pub append_at_place : {X : Type 0} (key : X → ℕ) (x : X) (xs : List X) → IsPlace key xs (key x) (length xs) → xs ++ x ∷ [] ≡ put key x xs
+append_at_place {X = X} key x xs place = by xs place.before
+  where
+    by : (xs : List X) → AreBelow key xs (key x) (length xs) → xs ++ x ∷ [] ≡ put key x xs
+    by [] below = refl
+    by (y ∷ ys) below =
+        let less : key y < key x = below 0 x (omega arith) in
+        let e : ltb (key y) (key x) ≡ true = grind (arith, nat_tests) in
+        rw e (ap (λ zs. y ∷ zs) (by ys (λ j d before. below (suc j) d (omega arith))))
 
 -- a record with another id
 pub other-here : {X : Type 0} (key : X → ℕ) (xs : List X) (m id : ℕ) (x : X) → x ≡ get_or xs m x → m < length xs → key x ≢ id → (d : X) → key (get_or xs m d) ≢ id

@@ -1,9 +1,10 @@
 -- What the code of an accepted event makes of the rows.
 use Rattle.std.proofs.Common.{◌≡◌, ◌≢◌, ℕ, ◌+◌, ◌<◌, ◌≤◌, Bool, true, false, not, ◌&&◌, eqb, ◌==◌, List, [], ◌∷◌, map, find, if◌then◌else◌, Option, Some, None, option_map, refl, sym, ap, subst, ◌∙◌, arith}
+use Rattle.std.proofs.lemmas.Bool.Decides.{nat_tests}
 use Rattle.tb_records.specs.declared.records.Account.{Account}
 use Rattle.tb_records.specs.declared.records.Transfer.{Transfer}
 use Rattle.tb_records.specs.Ordered.{put, replaced, changed, Each, Rising}
-use Rattle.tb_records.proofs.ByKey.{found_key, changed_found, changed_absent, found-changed, find-map, each-back, each-map, each-put, each-find, each-replaced_all, map-put, map-changed, map-replaced}
+use Rattle.tb_records.proofs.ByKey.{found_key, changed_found, changed_absent, find-changed, found-changed, find-map, each-back, each-map, each-put, each-find, each-replaced_all, map-put, map-changed, map-replaced}
 use Rattle.tb_ledger.specs.declared.rows.Side.{Side}
 use Rattle.tb_ledger.specs.declared.rows.State.{State}
 use Rattle.tb_ledger.specs.declared.rows.AccountRow.{AccountRow}
@@ -45,6 +46,14 @@ credits_before d f c z xs found =
     same : (b : Bool) (y : AccountRow) → (if b then on_debits f y else y).credits ≡ y.credits
     same true y = refl
     same false y = refl
+
+-- a change of one account leaves the row of another
+pub found_still : (d c : ℕ) (f : AccountRow → AccountRow) (z : AccountRow) (xs : List AccountRow) → ((y : AccountRow) → account_row_key (f y) ≡ account_row_key y) → d ≢ c → find (λ a. a.created.id == c) xs ≡ Some z → find (λ a. a.created.id == c) (changed account_row_key d f xs) ≡ Some z
+found_still d c f z xs same apart found =
+    let has : account_row_key z ≡ c = found_key account_row_key c z xs found in
+    let other : eqb (account_row_key z) d ≡ false = grind (arith, nat_tests) in
+    let left : option_map (λ y. if account_row_key y == d then f y else y) (find (λ a. a.created.id == c) xs) ≡ Some z = rw (found, other) refl in
+    find-changed account_row_key d f c xs same ∙ left
 
 -- two changes, one after the other
 pub both_changed : (d c : ℕ) (f h : AccountRow → AccountRow) (before between after : List AccountRow × ℕ) → between ≡ (changed account_row_key d f before.0, before.1) → after ≡ (changed account_row_key c h between.0, between.1) → (after.0 ≡ changed account_row_key c h (changed account_row_key d f before.0)) × (after.1 ≡ before.1)
@@ -148,11 +157,14 @@ module _ (accounts : List AccountRow) (transfers : List TransferRow) (failed : L
         by true = refl
         by false = refl
 
-    same_debit : r.debit_account_id ≡ p.recorded.debit_account_id
+    pub same_debit : r.debit_account_id ≡ p.recorded.debit_account_id
     same_debit = resolves_p.debit_same ∙ ap (λ t. t.debit_account_id) the_one
 
-    same_credit : r.credit_account_id ≡ p.recorded.credit_account_id
+    pub same_credit : r.credit_account_id ≡ p.recorded.credit_account_id
     same_credit = resolves_p.credit_same ∙ ap (λ t. t.credit_account_id) the_one
+
+    pub apart : r.debit_account_id ≢ r.credit_account_id
+    apart same = each-find (λ t. debit t ≢ credit t) (λ t. t.id == r.pending_id) resolves_p.p B.transfers ledger.sound.apart resolves_p.named (sym resolves_p.debit_same ∙ same ∙ resolves_p.credit_same)
 
     pub at_most : r.amount ≤ p.recorded.amount
     at_most = omega (arith, resolves_p.at_most, ap (λ t. t.amount) the_one)

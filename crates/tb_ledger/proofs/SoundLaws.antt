@@ -1,12 +1,12 @@
 -- Sound books stay sound: at each event, at each entry, at each batch. Of sound books sums fit, limits hold, ledgers balance.
-use Rattle.std.proofs.Common.{◌≡◌, ◌≢◌, ℕ, ◌+◌, ◌≤◌, Bool, true, false, ◌&&◌, ◌||◌, cond, if◌then◌else◌, List, [], ◌∷◌, find, Option, Some, None, option_map, refl, sym, ap, subst, ◌∙◌, arith}
+use Rattle.std.proofs.Common.{◌≡◌, ◌≢◌, ℕ, ◌+◌, ◌≤◌, Bool, true, false, ◌&&◌, ◌||◌, cond, if◌then◌else◌, ◌==◌, List, [], ◌∷◌, find, Option, Some, None, option_map, refl, sym, ap, subst, ◌∙◌, arith}
 use Rattle.std.specs.Option.{option_map_or}
 use Rattle.tb_records.specs.declared.records.Account.{Account}
 use Rattle.tb_records.specs.declared.records.Transfer.{Transfer}
 use Rattle.tb_records.specs.declared.limits.Profile.{Profile}
 use Rattle.tb_records.specs.declared.limits.Profile.TheVariants.{One, Two}
 use Rattle.tb_records.specs.Ordered.{put, Each, Rising}
-use Rattle.tb_records.proofs.ByKey.{found_key, rising-put}
+use Rattle.tb_records.proofs.ByKey.{found_key, rising-put, each-put, each-find}
 use Rattle.tb_ledger.specs.Books.{Books, empty_books, debits_limited, credits_limited, pending, resolves, holds, is_closed, account_at, account_now, as_it_stands, transfer_at, debits_pending, debits_posted, credits_pending, credits_posted}
 use Rattle.tb_ledger.specs.Verdicts.{max_id, account_verdict, recorded_account, transfer_verdict, recorded_transfer, filled, filled_from, balanced_between}
 use Rattle.tb_ledger.specs.Batches.{account_events, transfer_events, is_final, batch_after}
@@ -21,11 +21,13 @@ use Rattle.tb_ledger.proofs.LedgerSums.{ledgers_balance}
 pub sound_empty : (profile : Profile) → Sound (empty_books profile)
 sound_empty One = record {
   rising = tt;
+  apart = tt;
   debits = record { named = tt; fit = λ id. omega arith; within = λ id a is limits. omega arith };
   credits = record { named = tt; fit = λ id. omega arith; within = λ id a is limits. omega arith };
 }
 sound_empty Two = record {
   rising = tt;
+  apart = tt;
   debits = record { named = tt; fit = λ id. omega arith; within = λ id a is limits. omega arith };
   credits = record { named = tt; fit = λ id. omega arith; within = λ id a is limits. omega arith };
 }
@@ -34,6 +36,7 @@ sound_empty Two = record {
 pub sound_later : (B : Books) (T : ℕ) → B.time ≤ T → Sound B → Sound (record B { time = T })
 sound_later B T le sound = record {
   rising = sound.rising;
+  apart = sound.apart;
   debits = kept_later debit credit debits_limited B T le sound.debits;
   credits = kept_later credit debit credits_limited B T le sound.credits;
 }
@@ -42,6 +45,7 @@ sound_later B T le sound = record {
 pub sound_failed : (B : Books) (failed : Option (List ℕ)) → Sound B → Sound (record B { failed = failed })
 sound_failed B failed sound = record {
   rising = sound.rising;
+  apart = sound.apart;
   debits = record { named = sound.debits.named; fit = sound.debits.fit; within = sound.debits.within };
   credits = record { named = sound.credits.named; fit = sound.credits.fit; within = sound.credits.within };
 }
@@ -51,6 +55,7 @@ pub sound_account : (B : Books) (a : Account) (time : ℕ) → Sound B → accou
 sound_account B a time sound ok =
     let none = new_account B a ok in record {
       rising = rising-put account_key (recorded_account a time) B.accounts none sound.rising;
+      apart = sound.apart;
       debits = kept_account debit credit debits_limited B (recorded_account a time) none sound.debits;
       credits = kept_account credit debit credits_limited B (recorded_account a time) none sound.credits;
     }
@@ -59,6 +64,7 @@ sound_account B a time sound ok =
 pub sound_moved : (B : Books) (t : Transfer) → Sound B → Moves B t → Sound (record B { transfers = put transfer_key t B.transfers })
 sound_moved B t sound m = record {
   rising = sound.rising;
+  apart = each-put transfer_key (λ t. debit t ≢ credit t) t B.transfers m.apart sound.apart;
   debits = kept_added debit credit debits_limited B t (named_of t.debit_account_id m.d m.debit_is m.debit_ledger) m.debits_fit (λ a is limits. m.debits_within (ap debits_limited (one t.debit_account_id m.d a m.debit_is is) ∙ limits)) sound.debits;
   credits = kept_added credit debit credits_limited B t (named_of t.credit_account_id m.c m.credit_is m.credit_ledger) m.credits_fit (λ a is limits. m.credits_within (ap credits_limited (one t.credit_account_id m.c a m.credit_is is) ∙ limits)) sound.credits;
 }
@@ -73,6 +79,7 @@ sound_moved B t sound m = record {
 pub sound_resolved : (B : Books) (f : Transfer) → Sound B → resolves f ≡ true → Resolves B f → Sound (record B { transfers = put transfer_key f B.transfers })
 sound_resolved B f sound is r = record {
   rising = sound.rising;
+  apart = each-put transfer_key (λ t. debit t ≢ credit t) f B.transfers (λ same. each-find (λ t. debit t ≢ credit t) (λ t. t.id == f.pending_id) r.p B.transfers sound.apart r.named (sym r.debit_same ∙ same ∙ r.credit_same)) sound.apart;
   debits = kept_resolved debit credit debits_limited B f r.p r.named r.held is r.not_pending r.debit_same r.ledger_same r.at_most sound.debits;
   credits = kept_resolved credit debit credits_limited B f r.p r.named r.held is r.not_pending r.credit_same r.ledger_same r.at_most sound.credits;
 }

@@ -1,11 +1,11 @@
 -- The verdicts, by the rows that are found.
-use Rattle.std.proofs.Common.{◌≡◌, ◌≢◌, ℕ, suc, zero, ◌==◌, ◌||◌, Bool, true, false, List, [], ◌∷◌, map, find, is_some, Option, Some, None, option_map, if◌then◌else◌, refl, sym, ap, subst, ◌∙◌, arith, Bor, not, ◌&&◌, ◌++◌, nat_lt}
+use Rattle.std.proofs.Common.{◌≡◌, ◌≢◌, ℕ, suc, zero, ◌==◌, ◌||◌, Bool, true, false, List, [], ◌∷◌, map, find, is_some, IsSome, Option, Some, None, option_map, if◌then◌else◌, refl, sym, ap, subst, ◌∙◌, arith, Bor, not, ◌&&◌, ◌++◌, nat_lt}
 use Rattle.std.proofs.lemmas.Bool.Decides.{nat_tests}
 use Rattle.std.specs.List.{list_any}
 use Rattle.std.specs.Option.{option_map_or, option_copied}
 use Rattle.tb_records.specs.declared.records.Account.{Account}
 use Rattle.tb_records.specs.declared.records.Transfer.{Transfer}
-use Rattle.tb_ledger.specs.Books.{Books, resolves, pending, voids, is_posted, is_voided, is_expired, transfer_at, account_now, as_it_stands, is_closed, state_of}
+use Rattle.tb_ledger.specs.Books.{Books, resolves, pending, posts, voids, is_posted, is_voided, is_expired, transfer_at, account_now, as_it_stands, is_closed, state_of}
 use Rattle.tb_ledger.specs.Verdicts.{Line, is_not, is_closed_at, resolve_own_lines, resolve_lines_of, resolve_code, transfer_verdict, first_of, first_code, account_own_lines, account_exists, account_new_lines, account_verdict, transfer_own_lines, transfer_exists, failed_lines, filled, filled_from, single_own_lines, pair_lines, amount_lines, balanced_amount, balanced_between, single_code, pair_code}
 use Rattle.tb_ledger.specs.declared.rows.Rows.{Rows}
 use Rattle.tb_ledger.specs.Kept.{books_in, IsKept, row_now, row_closed, HasSums, HasState}
@@ -15,9 +15,10 @@ use Rattle.tb_ledger.proofs.Standing.{row_stands, closed_stands}
 use Rattle.std.proofs.lemmas.Bool.{and_parts}
 use Rattle.tb_ledger.specs.declared.rows.State.{State}
 use Rattle.tb_ledger.specs.declared.rows.TransferRow.{TransferRow}
-use Rattle.tb_ledger.specs.Groups.{id_verdict, pending_lines, closed_lines}
+use Rattle.tb_ledger.specs.Groups.{id_verdict, pending_lines, closed_lines, closed_rows}
 use Rattle.tb_ledger.proofs.Accepted.{coded, fail, none_fails, moves_of, resolves_of}
-use Rattle.tb_ledger.specs.Sound.{Moves, Resolves}
+use Rattle.tb_records.specs.Ordered.{Each}
+use Rattle.tb_ledger.specs.Sound.{debit, credit, ledger_at, Moves, Resolves}
 
 -- an id is found among ids
 pub any-found : {X : Type 0} (p : X → Bool) (xs : List X) → list_any p xs ≡ is_some (find p xs)
@@ -111,6 +112,38 @@ closed_stands_at rows kept id = by (find (λ a. a.created.id == id) rows.account
     by (Some a) e =
         ap (λ o. option_map_or (is_closed (books_in rows)) o false) (find-map (λ a. a.id == id) (λ a. a.created) rows.accounts.0 ∙ ap (option_map (λ a. a.created)) e)
         ∙ sym (closed_stands rows.accounts.0 rows.transfers.0 rows.failed.0 rows.keeps_failed rows.time kept.kept.states id a (each-find (HasSums rows.transfers.0) (λ a. a.created.id == id) a rows.accounts.0 kept.kept.sums e) e)
+
+-- whether both accounts of a pending transfer are closed, by their rows
+pub closed_by_rows : {A : Type 0} (rows : Rows A) → IsKept rows → (f p : Transfer) (d c : AccountRow) → find (λ a. a.created.id == p.debit_account_id) rows.accounts.0 ≡ Some d → find (λ a. a.created.id == p.credit_account_id) rows.accounts.0 ≡ Some c
+    → (code : ℕ) → code ≡ first_of (closed_rows f d c) → code ≡ first_of (closed_lines (books_in rows) f p)
+closed_by_rows rows kept f p d c d_is c_is code is =
+    let debit = closed_stands_at rows kept p.debit_account_id ∙ ap (λ o. option_map_or row_closed o false) d_is in
+    let credit = closed_stands_at rows kept p.credit_account_id ∙ ap (λ o. option_map_or row_closed o false) c_is in
+    is ∙ sym (ap (λ b. first_of ((65, posts f && b) ∷ (66, posts f && is_closed_at (books_in rows) p.credit_account_id) ∷ [])) debit ∙ ap (λ b. first_of ((65, posts f && row_closed d) ∷ (66, posts f && b) ∷ [])) credit)
+
+-- the account that a recorded transfer names is there
+some_from : {X Y : Type 0} (g : X → Y) (y : Y) (o : Option X) → option_map g o ≡ Some y → IsSome o
+some_from g y None is = absurd (cc)
+some_from g y (Some x) is = refl
+
+named_there : {A : Type 0} (rows : Rows A) (side : Transfer → ℕ) → Each (λ t. ledger_at (books_in rows).accounts (side t) ≡ Some t.ledger) (books_in rows).transfers
+    → (id : ℕ) (p : TransferRow) → find (λ row. row.recorded.id == id) rows.transfers.0 ≡ Some p → IsSome (find (λ a. a.created.id == side p.recorded) rows.accounts.0)
+named_there rows side named id p found =
+    let recorded = transfer_stands rows id ∙ ap (option_map (λ t. t.recorded)) found in
+    let ledger = each-find (λ t. ledger_at (books_in rows).accounts (side t) ≡ Some t.ledger) (λ t. t.id == id) p.recorded (books_in rows).transfers named recorded in
+    let there = some_from (λ a. a.ledger) p.recorded.ledger (find (λ a. a.id == side p.recorded) (books_in rows).accounts) ledger in
+    let row = subst IsSome (find-map (λ a. a.id == side p.recorded) (λ a. a.created) rows.accounts.0) there in
+    unmapped (find (λ a. a.created.id == side p.recorded) rows.accounts.0) row
+  where
+    unmapped : (o : Option AccountRow) → IsSome (option_map (λ a. a.created) o) → IsSome o
+    unmapped None is = is
+    unmapped (Some a) is = refl
+
+pub debit_there : {A : Type 0} (rows : Rows A) → IsKept rows → (id : ℕ) (p : TransferRow) → find (λ row. row.recorded.id == id) rows.transfers.0 ≡ Some p → IsSome (find (λ a. a.created.id == p.recorded.debit_account_id) rows.accounts.0)
+debit_there rows kept id p found = named_there rows debit kept.sound.debits.named id p found
+
+pub credit_there : {A : Type 0} (rows : Rows A) → IsKept rows → (id : ℕ) (p : TransferRow) → find (λ row. row.recorded.id == id) rows.transfers.0 ≡ Some p → IsSome (find (λ a. a.created.id == p.recorded.credit_account_id) rows.accounts.0)
+credit_there rows kept id p found = named_there rows credit kept.sound.credits.named id p found
 
 -- lines after lines whose codes aren't 0
 first_of-append : (xs ys : List Line) → coded xs ≡ true → first_of (xs ++ ys) ≡ first_code (first_of xs ∷ first_of ys ∷ [])

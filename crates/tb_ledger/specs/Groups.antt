@@ -2,7 +2,9 @@
 use Rattle.std.specs.Prelude.{ℕ, Bool, not, ◌&&◌, nat_lt, List, [], ◌∷◌, Option}
 use Rattle.tb_records.specs.declared.records.Transfer.{Transfer}
 use Rattle.tb_ledger.specs.declared.rows.State.{State}
+use Rattle.tb_ledger.specs.declared.rows.AccountRow.{AccountRow}
 use Rattle.tb_ledger.specs.Books.{Books, pending, posts, voids, is_posted, is_voided, is_expired, transfer_at}
+use Rattle.tb_ledger.specs.Kept.{row_closed}
 use Rattle.tb_ledger.specs.Verdicts.{Line, is_not, first_of, first_code, transfer_own_lines, transfer_exists, failed_lines, filled, is_closed_at}
 
 -- what either kind of transfer is asked first
@@ -29,4 +31,11 @@ abbrev pub closed_lines : Books → Transfer → Transfer → List Line
 closed_lines B f p =
     (65, posts f && is_closed_at B p.debit_account_id)  -- debit_account_already_closed
     ∷ (66, posts f && is_closed_at B p.credit_account_id)  -- credit_account_already_closed
+    ∷ []
+
+-- the same by the rows of both accounts
+abbrev pub closed_rows : Transfer → AccountRow → AccountRow → List Line
+closed_rows f debit credit =
+    (65, posts f && row_closed debit)  -- debit_account_already_closed
+    ∷ (66, posts f && row_closed credit)  -- credit_account_already_closed
     ∷ []

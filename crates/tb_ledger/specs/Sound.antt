@@ -1,5 +1,5 @@
--- What all books of a ledger keep: each transfer's accounts are there, each account's sums fit and keep to its limits.
-use Rattle.std.specs.Prelude.{◌≡◌, ℕ, Bool, true, false, ◌&&◌, ◌==◌, ◌+◌, ◌≤◌, List, Option, Some, None, if◌then◌else◌, find, sum_by}
+-- What all books of a ledger keep: each transfer's two accounts are there, each account's sums fit and keep to its limits.
+use Rattle.std.specs.Prelude.{◌≡◌, ◌≢◌, ℕ, Bool, true, false, ◌&&◌, ◌==◌, ◌+◌, ◌≤◌, List, Option, Some, None, if◌then◌else◌, find, sum_by}
 use Rattle.std.specs.Option.{option_map}
 use Rattle.tb_records.specs.declared.records.Account.{Account}
 use Rattle.tb_records.specs.declared.records.Transfer.{Transfer}
@@ -38,9 +38,10 @@ pub record SideKept (side other : Transfer → ℕ) (limited : Account → Bool)
   pub fit : (id : ℕ) → pending_on side B id + posted_on side B id ≤ max_id
   pub within : (id : ℕ) (a : Account) → account_at B id ≡ Some a → limited a ≡ true → pending_on side B id + posted_on side B id ≤ posted_on other B id
 
--- account ids rise, and both sides are kept
+-- account ids rise, no transfer debits the account that it credits, and both sides are kept
 pub record Sound (B : Books) : Type 0 where
   pub rising : Rising account_key B.accounts
+  pub apart : Each (λ t. debit t ≢ credit t) B.transfers
   pub debits : SideKept debit credit debits_limited B
   pub credits : SideKept credit debit credits_limited B
 
@@ -48,6 +49,7 @@ pub record Sound (B : Books) : Type 0 where
 pub record Moves (B : Books) (t : Transfer) : Type 0 where
   pub d : Account
   pub c : Account
+  pub apart : t.debit_account_id ≢ t.credit_account_id
   pub debit_is : account_at B t.debit_account_id ≡ Some d
   pub credit_is : account_at B t.credit_account_id ≡ Some c
   pub debit_ledger : d.ledger ≡ t.ledger

@@ -64,6 +64,9 @@ Created profile =
 
 -- balancing
 
+abbrev pub before_balancing : List Transfer
+before_balancing = transfer 1 2 1 100 0 ∷ transfer 2 1 2 20 0 ∷ transfer 3 1 2 30 2 ∷ []
+
 abbrev pub balancing_debits : List Transfer
 balancing_debits = transfer 1 2 1 100 0 ∷ transfer 2 1 2 20 0 ∷ transfer 3 1 2 30 2 ∷ transfer 4 1 2 80 16 ∷ transfer 4 1 2 80 16 ∷ transfer 4 1 2 50 16 ∷ transfer 4 1 2 49 16 ∷ transfer 5 1 2 10 16 ∷ []
 
@@ -76,7 +79,8 @@ start_of_four profile = (batch_after account_events (start profile) (account 3 0
 
 abbrev pub Balancing : Profile → Type 0
 Balancing profile =
-    (codes (start profile) balancing_debits ≡ 0 ∷ 0 ∷ 0 ∷ 0 ∷ 46 ∷ 46 ∷ 39 ∷ 0 ∷ [])
+    (sums (books_after (start profile) (alone before_balancing)) 1 ≡ Some (30 ∷ 20 ∷ 0 ∷ 100 ∷ 0 ∷ []))
+    × (codes (start profile) balancing_debits ≡ 0 ∷ 0 ∷ 0 ∷ 0 ∷ 46 ∷ 46 ∷ 39 ∷ 0 ∷ [])
     × (amount_of (books_after (start profile) (alone balancing_debits)) 4 ≡ Some 50)
     × (amount_of (books_after (start profile) (alone balancing_debits)) 5 ≡ Some 0)
     × (codes (start_of_four profile) balancing_both ≡ 0 ∷ 0 ∷ 0 ∷ 46 ∷ 46 ∷ 39 ∷ 0 ∷ 0 ∷ 66 ∷ [])
@@ -96,6 +100,8 @@ PostsAndVoids profile =
     × (sums (books_after (start profile) (alone posted)) 1 ≡ Some (0 ∷ 55 ∷ 0 ∷ 0 ∷ 0 ∷ []))
     × (sums (books_after (start profile) (alone posted)) 2 ≡ Some (0 ∷ 0 ∷ 0 ∷ 55 ∷ 0 ∷ []))
     × (map (amount_of (books_after (start profile) (alone posted))) (21 ∷ 23 ∷ 25 ∷ []) ≡ Some 40 ∷ Some 15 ∷ Some 0 ∷ [])
+    × (transfer_at (books_after (start profile) (alone posted)) 21 ≡ Some (record (transfer 21 1 2 40 4) { pending_id = 20; timestamp = 14 }))
+    × (transfer_at (books_after (start profile) (alone posted)) 23 ≡ Some (record (transfer 23 1 2 15 4) { pending_id = 22; timestamp = 16 }))
     × (codes (books_after (start profile) (alone posted)) voided ≡ 0 ∷ 0 ∷ 34 ∷ 0 ∷ 32 ∷ 31 ∷ 26 ∷ [])
     × (amount_of (books_after (start profile) (alone voided)) 31 ≡ Some 40)
 
@@ -139,6 +145,7 @@ Chains profile =
     ≡ ((0, 2) ∷ []) ∷ ((0, 1) ∷ (1, 2) ∷ []) ∷ ((0, 21) ∷ (1, 2) ∷ []) ∷ [])
     × (answers (start profile) held_and_posted ≡ [] ∷ ((0, 1) ∷ (1, 21) ∷ []) ∷ [])
     × (sums (books_after (start profile) held_and_posted) 1 ≡ Some (40 ∷ 0 ∷ 0 ∷ 0 ∷ 0 ∷ []))
+    × (transfer_at (books_after (start profile) held_and_posted) 65 ≡ None)
     × (sums (request (books_after (start profile) held_and_posted) (resolving 65 64 max_id 4 ∷ [])).books 1 ≡ Some (0 ∷ 40 ∷ 0 ∷ 0 ∷ 0 ∷ []))
 
 -- refused accounts, and the limits of accounts
@@ -178,10 +185,12 @@ closed_for_a_second profile = (batch_after transfer_events (start profile) (with
 
 abbrev pub Expiry : Profile → Type 0
 Expiry profile =
-    (sums (record (dated profile) { time = 1000000099 }) 1 ≡ Some (40 ∷ 0 ∷ 0 ∷ 0 ∷ 0 ∷ []))
+    (option_map (λ t. t.timestamp) (transfer_at (dated profile) 60) ≡ Some 100)
+    × (sums (record (dated profile) { time = 1000000099 }) 1 ≡ Some (40 ∷ 0 ∷ 0 ∷ 0 ∷ 0 ∷ []))
     × (sums (record (dated profile) { time = 1000000100 }) 1 ≡ Some (0 ∷ 0 ∷ 0 ∷ 0 ∷ 0 ∷ []))
     × ((batch_after transfer_events (record (dated profile) { time = 1000000100 }) (resolving 61 60 max_id 4 ∷ []) 1000000101).codes ≡ 35 ∷ [])
     × ((batch_after transfer_events (closed_for_a_second profile) (transfer 63 1 2 1 0 ∷ []) 1000000099).codes ≡ 65 ∷ [])
     × ((batch_after transfer_events (closed_for_a_second profile) (transfer 63 1 2 1 0 ∷ []) 1000000100).codes ≡ 0 ∷ [])
+    × ((batch_after transfer_events (batch_after transfer_events (closed_for_a_second profile) (transfer 63 1 2 1 0 ∷ []) 1000000099).books (transfer 63 1 2 1 0 ∷ []) 1000000100).codes ≡ again profile ∷ [])
     × ((batch_after transfer_events (start profile) (with_timeout 4294967295 (transfer 67 1 2 1 2) ∷ []) 5000000000000000000).codes ≡ 53 ∷ [])
     × ((batch_after transfer_events (start profile) (with_timeout 4000000000 (transfer 67 1 2 1 2) ∷ []) 5000000000000000000).codes ≡ 0 ∷ [])

@@ -1,18 +1,18 @@
 //! Verdicts on the rows of a ledger. What is wrong with an event by itself, or with an id that is there, is answered before any
 //! account is looked up.
-ghost use Rattle.std.specs.Prelude.{◌≡◌, ◌≢◌, ◌==◌, true, false, Some, find, IfOk, IfErr, MatchResult};
+ghost use Rattle.std.specs.Prelude.{◌≡◌, ◌≢◌, ◌==◌, true, false, Some, find, IsSome, IfOk, IfErr, MatchResult};
 ghost use Rattle.std.specs.List.{list_any};
 ghost use Rattle.std.specs.Option.{option_map_or};
 ghost use Rattle.tb_ledger.specs.Books.{account_now, resolves};
-ghost use Rattle.tb_ledger.specs.Groups.{closed_lines, id_verdict};
+ghost use Rattle.tb_ledger.specs.Groups.{closed_rows, id_verdict};
 ghost use Rattle.tb_ledger.specs.Kept.{books_in, IsKept};
-ghost use Rattle.tb_ledger.specs.Verdicts.{account_verdict, balanced_between, failed_lines, filled, filled_from, first_of, is_closed_at, resolve_code, resolve_lines_of, single_code, transfer_exists};
+ghost use Rattle.tb_ledger.specs.Verdicts.{account_verdict, balanced_between, failed_lines, filled, filled_from, first_of, resolve_code, resolve_lines_of, single_code, transfer_exists};
 
 use crate::judging::{
     account_new, account_own, account_there, between, closed, filled, resolve_named, resolve_own,
     single_own, transfer_own, transfer_there,
 };
-use crate::rows::{Rows, TransferRow};
+use crate::rows::{AccountRow, Rows, TransferRow};
 use std::alloc::Allocator;
 use tb_records::{Account, Transfer};
 
@@ -80,73 +80,99 @@ pub(crate) fn id_code<A: Allocator>(rows: &Rows<A>, t: &Transfer) -> u32
     }
 }
 
-/// The verdict on a transfer between two accounts, once its id is free: a code, or the amount that it moves.
-pub(crate) fn single_amount<A: Allocator>(
-    rows: &Rows<A>,
+/// A transfer between two accounts that passes: the rows of both, and the amount that it moves.
+#[derive(Clone, Copy)]
+pub(crate) struct Exchange<'a> {
+    pub debit: &'a AccountRow,
+    pub credit: &'a AccountRow,
+    pub amount: u128,
+}
+
+/// The verdict on a transfer between two accounts, once its id is free: a code, or what it exchanges. Each account is looked
+/// up once, and neither where the transfer is wrong by itself.
+pub(crate) fn exchanged<'a, A: Allocator>(
+    rows: &'a Rows<A>,
     t: &Transfer,
     time: u64,
-) -> Result<u128, u32>
+) -> Result<Exchange<'a>, u32>
     requires { IsKept rows.now }
-    ensures code { MatchResult result (λ amount. single_code (books_in rows.now) t.now time ≡ 0) (λ code. single_code (books_in rows.now) t.now time ≡ code) }
+    ensures code { MatchResult result (λ x. single_code (books_in rows.now) t.now time ≡ 0) (λ code. single_code (books_in rows.now) t.now time ≡ code) }
     ensures refused { IfErr result (λ code. code ≢ 0) }
-    ensures amount { IfOk result (λ amount. amount ≡ balanced_between (account_now (books_in rows.now) t.now.debit_account_id) (account_now (books_in rows.now) t.now.credit_account_id) t.now) }
+    ensures debit { IfOk result (λ x. find (λ a. a.created.id == t.now.debit_account_id) rows.now.accounts.0 ≡ Some x.debit.now) }
+    ensures credit { IfOk result (λ x. find (λ a. a.created.id == t.now.credit_account_id) rows.now.accounts.0 ≡ Some x.credit.now) }
+    ensures amount { IfOk result (λ x. x.amount ≡ balanced_between (account_now (books_in rows.now) t.now.debit_account_id) (account_now (books_in rows.now) t.now.credit_account_id) t.now) }
 {
     let code = single_own(t);
     if code != 0 {
         return Err(code);
     }
-    let d = match rows.accounts.get(t.debit_account_id) {
+    let debit = match rows.accounts.get(t.debit_account_id) {
         Some(d) => d,
         None => return Err(21),
     };
-    let c = match rows.accounts.get(t.credit_account_id) {
+    let credit = match rows.accounts.get(t.credit_account_id) {
         Some(c) => c,
         None => return Err(22),
     };
-    between(d, c, t, time)
+    match between(debit, credit, t, time) {
+        Ok(amount) => Ok(Exchange {
+            debit,
+            credit,
+            amount,
+        }),
+        Err(code) => Err(code),
+    }
 }
 
-/// A post or void that passes: the row of the pending transfer that it names, and its record, filled and not yet stamped.
-pub(crate) struct Resolution {
-    pub pending: TransferRow,
+/// A post or void that passes: the row of the pending transfer that it names, the rows of both accounts, and its record,
+/// filled and not yet stamped.
+#[derive(Clone, Copy)]
+pub(crate) struct Resolution<'a> {
+    pub pending: &'a TransferRow,
+    pub debit: &'a AccountRow,
+    pub credit: &'a AccountRow,
     pub record: Transfer,
 }
 
-/// The account is there and closed.
-fn closed_at<A: Allocator>(rows: &Rows<A>, id: u128) -> bool
-    requires { IsKept rows.now }
-    ensures { result ≡ is_closed_at (books_in rows.now) id }
+/// The row of an account that a recorded transfer names.
+fn party<'a, A: Allocator>(rows: &'a Rows<A>, id: u128) -> &'a AccountRow
+    requires { IsSome (find (λ a. a.created.id == id) rows.now.accounts.0) }
+    ensures { find (λ a. a.created.id == id) rows.now.accounts.0 ≡ Some result.now }
 {
     match rows.accounts.get(id) {
-        Some(a) => closed(a),
-        None => false,
+        Some(row) => row,
+        None => unreachable!(),
     }
 }
 
 /// A post needs both accounts open: a code, or 0.
-fn closed_code<A: Allocator>(rows: &Rows<A>, f: &Transfer, p: &Transfer) -> u32
-    requires { IsKept rows.now }
-    ensures { result ≡ first_of (closed_lines (books_in rows.now) f.now p.now) }
+fn closed_code(f: &Transfer, debit: &AccountRow, credit: &AccountRow) -> u32
+    ensures { result ≡ first_of (closed_rows f.now debit.now credit.now) }
 {
     if f.flags & 4 == 0 {
         return 0;
     }
-    if closed_at(rows, p.debit_account_id) {
+    if closed(debit) {
         return 65;
     }
-    if closed_at(rows, p.credit_account_id) {
+    if closed(credit) {
         return 66;
     }
     0
 }
 
 /// The verdict on a post or void, once its id is free: a code, or what it resolves.
-pub(crate) fn resolved<A: Allocator>(rows: &Rows<A>, t: &Transfer) -> Result<Resolution, u32>
+pub(crate) fn resolved<'a, A: Allocator>(
+    rows: &'a Rows<A>,
+    t: &Transfer,
+) -> Result<Resolution<'a>, u32>
     requires kept { IsKept rows.now }
     requires resolving { resolves t.now ≡ true }
     ensures code { MatchResult result (λ x. resolve_code (books_in rows.now) (filled (books_in rows.now) t.now) ≡ 0) (λ code. resolve_code (books_in rows.now) (filled (books_in rows.now) t.now) ≡ code) }
     ensures refused { IfErr result (λ code. code ≢ 0) }
-    ensures pending { IfOk result (λ x. find (λ row. row.recorded.id == t.now.pending_id) rows.now.transfers.0 ≡ Some x.pending) }
+    ensures pending { IfOk result (λ x. find (λ row. row.recorded.id == t.now.pending_id) rows.now.transfers.0 ≡ Some x.pending.now) }
+    ensures debit { IfOk result (λ x. find (λ a. a.created.id == x.pending.now.recorded.debit_account_id) rows.now.accounts.0 ≡ Some x.debit.now) }
+    ensures credit { IfOk result (λ x. find (λ a. a.created.id == x.pending.now.recorded.credit_account_id) rows.now.accounts.0 ≡ Some x.credit.now) }
     ensures record { IfOk result (λ x. x.record ≡ filled (books_in rows.now) t.now) }
 {
     let code = resolve_own(t);
@@ -159,17 +185,20 @@ pub(crate) fn resolved<A: Allocator>(rows: &Rows<A>, t: &Transfer) -> Result<Res
     }
 }
 
-/// The verdict on a post or void that is right by itself, by the pending transfer that it names.
-fn resolved_by<A: Allocator>(
-    rows: &Rows<A>,
+/// The verdict on a post or void that is right by itself, by the pending transfer that it names. No account is looked up
+/// before the two fit, and then each once.
+fn resolved_by<'a, A: Allocator>(
+    rows: &'a Rows<A>,
     t: &Transfer,
-    p: &TransferRow,
-) -> Result<Resolution, u32>
+    p: &'a TransferRow,
+) -> Result<Resolution<'a>, u32>
     requires kept { IsKept rows.now }
     requires found { find (λ row. row.recorded.id == t.now.pending_id) rows.now.transfers.0 ≡ Some p.now }
     ensures code { MatchResult result (λ x. first_of (resolve_lines_of (books_in rows.now) (filled_from p.now.recorded t.now) (Some p.now.recorded)) ≡ 0) (λ code. first_of (resolve_lines_of (books_in rows.now) (filled_from p.now.recorded t.now) (Some p.now.recorded)) ≡ code) }
     ensures refused { IfErr result (λ code. code ≢ 0) }
-    ensures pending { IfOk result (λ x. x.pending ≡ p.now) }
+    ensures pending { IfOk result (λ x. x.pending.now ≡ p.now) }
+    ensures debit { IfOk result (λ x. find (λ a. a.created.id == x.pending.now.recorded.debit_account_id) rows.now.accounts.0 ≡ Some x.debit.now) }
+    ensures credit { IfOk result (λ x. find (λ a. a.created.id == x.pending.now.recorded.credit_account_id) rows.now.accounts.0 ≡ Some x.credit.now) }
     ensures record { IfOk result (λ x. x.record ≡ filled_from p.now.recorded t.now) }
 {
     let record = filled(t, &p.recorded);
@@ -177,12 +206,16 @@ fn resolved_by<A: Allocator>(
     if code != 0 {
         return Err(code);
     }
-    let code = closed_code(rows, &record, &p.recorded);
+    let debit = party(rows, p.recorded.debit_account_id);
+    let credit = party(rows, p.recorded.credit_account_id);
+    let code = closed_code(&record, debit, credit);
     if code != 0 {
         return Err(code);
     }
     Ok(Resolution {
-        pending: *p,
+        pending: p,
+        debit,
+        credit,
         record,
     })
 }

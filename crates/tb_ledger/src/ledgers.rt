@@ -210,7 +210,8 @@ impl<A: Allocator + Clone> Ledger<A> {
     /// Appends what [`Ledger::lookup_accounts`] answers, to a vector with room for as many accounts as there are ids.
     pub fn fill_accounts(&self, ids: &[u128], out: &mut Vec<Account>)
         requires { vec_len out.old + length ids.now ≤ vec_capacity out.old }
-        ensures { out.new.items ≡ out.old.items ++ found_accounts self.now ids.now }
+        ensures items { out.new.items ≡ out.old.items ++ found_accounts self.now ids.now }
+        ensures capacity { vec_capacity out.new ≡ vec_capacity out.old }
     {
         for id in ids {
             if let Some(account) = self.account(*id) {
@@ -222,7 +223,8 @@ impl<A: Allocator + Clone> Ledger<A> {
     /// Appends what [`Ledger::lookup_transfers`] answers, to a vector with room for as many transfers as there are ids.
     pub fn fill_transfers(&self, ids: &[u128], out: &mut Vec<Transfer>)
         requires { vec_len out.old + length ids.now ≤ vec_capacity out.old }
-        ensures { out.new.items ≡ out.old.items ++ found_transfers self.now ids.now }
+        ensures items { out.new.items ≡ out.old.items ++ found_transfers self.now ids.now }
+        ensures capacity { vec_capacity out.new ≡ vec_capacity out.old }
     {
         for id in ids {
             if let Some(transfer) = self.transfer(*id) {

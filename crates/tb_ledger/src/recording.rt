@@ -8,7 +8,9 @@ ghost use Rattle.tb_ledger.specs.Groups.{id_verdict};
 ghost use Rattle.tb_ledger.specs.Kept.{books_in, IsKept};
 ghost use Rattle.tb_ledger.specs.Trail.{IsStep};
 
-use crate::deciding::{Resolution, account_code, id_code, resolved, resolving, single_amount};
+use crate::deciding::{
+    Exchange, Resolution, account_code, exchanged, id_code, resolved, resolving,
+};
 use crate::rows::Rows;
 use crate::settling::{add_single, record_account, settle};
 use crate::undo::{TRAIL_PER_EVENT, Undo};
@@ -60,12 +62,19 @@ fn take_single<A: Allocator>(
     ensures step { IsStep TRAIL_PER_EVENT rows.old rows.new trail.old trail.new }
     ensures room { rows.old.transfers.1 ≤ rows.new.transfers.1 + 1 }
 {
-    match single_amount(rows, t, time) {
-        Ok(amount) => {
+    match exchanged(rows, t, time) {
+        Ok(found) => {
+            let Exchange {
+                debit,
+                credit,
+                amount,
+            } = found;
+            let debit = *debit;
+            let credit = *credit;
             let mut recorded = *t;
             recorded.amount = amount;
             recorded.timestamp = time;
-            add_single(rows, trail, &recorded);
+            add_single(rows, trail, &debit, &credit, &recorded);
             0
         }
         Err(code) => code,
@@ -94,10 +103,15 @@ fn take_resolving<A: Allocator>(
         Ok(found) => {
             let Resolution {
                 pending,
+                debit,
+                credit,
                 mut record,
             } = found;
+            let pending = *pending;
+            let debit = *debit;
+            let credit = *credit;
             record.timestamp = time;
-            settle(rows, trail, &pending, &record);
+            settle(rows, trail, &pending, &debit, &credit, &record);
             0
         }
         Err(code) => code,

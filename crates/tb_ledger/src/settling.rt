@@ -70,118 +70,102 @@ fn settle_side(s: Side, p: &Transfer, r: &Transfer, closes: bool, closes_anew: b
 fn change<A: Allocator>(
     accounts: &mut Table<AccountRow, A>,
     trail: &mut Vec<Undo, A>,
-    old: AccountRow,
+    old: &AccountRow,
     new: AccountRow,
 )
     requires room { vec_len trail.old < vec_capacity trail.old }
-    requires found { find (λ a. a.created.id == new.created.id) accounts.old.0 ≡ Some old }
+    requires found { find (λ a. a.created.id == new.created.id) accounts.old.0 ≡ Some old.now }
     ensures accounts { accounts.new ≡ (replaced account_row_key new accounts.old.0, accounts.old.1) }
     ensures noted { IsNoted 1 accounts.old.0 accounts.new.0 trail.old trail.new }
 {
-    trail.push_reserved(Undo::Account(old));
+    trail.push_reserved(Undo::Account(*old));
     accounts.replace(new);
 }
 
 fn gain_debit<A: Allocator>(
     accounts: &mut Table<AccountRow, A>,
     trail: &mut Vec<Undo, A>,
+    old: &AccountRow,
     t: &Transfer,
 )
     requires room { vec_len trail.old < vec_capacity trail.old }
-    requires takes { (a : AccountRow) → find (λ a. a.created.id == t.now.debit_account_id) accounts.old.0 ≡ Some a → a.debits.pending + a.debits.posted + t.now.amount ≤ max_id }
+    requires found { find (λ a. a.created.id == t.now.debit_account_id) accounts.old.0 ≡ Some old.now }
+    requires takes { old.now.debits.pending + old.now.debits.posted + t.now.amount ≤ max_id }
     ensures accounts { accounts.new ≡ (changed account_row_key t.now.debit_account_id (on_debits (gained closing_debit t.now)) accounts.old.0, accounts.old.1) }
     ensures noted { IsNoted 1 accounts.old.0 accounts.new.0 trail.old trail.new }
 {
-    match accounts.get(t.debit_account_id) {
-        Some(row) => {
-            let old = *row;
-            let new = AccountRow {
-                created: old.created,
-                debits: gain_side(old.debits, t, t.flags & 64 != 0),
-                credits: old.credits,
-            };
-            change(accounts, trail, old, new);
-        }
-        None => {}
-    }
+    let new = AccountRow {
+        created: old.created,
+        debits: gain_side(old.debits, t, t.flags & 64 != 0),
+        credits: old.credits,
+    };
+    change(accounts, trail, old, new);
 }
 
 fn gain_credit<A: Allocator>(
     accounts: &mut Table<AccountRow, A>,
     trail: &mut Vec<Undo, A>,
+    old: &AccountRow,
     t: &Transfer,
 )
     requires room { vec_len trail.old < vec_capacity trail.old }
-    requires takes { (a : AccountRow) → find (λ a. a.created.id == t.now.credit_account_id) accounts.old.0 ≡ Some a → a.credits.pending + a.credits.posted + t.now.amount ≤ max_id }
+    requires found { find (λ a. a.created.id == t.now.credit_account_id) accounts.old.0 ≡ Some old.now }
+    requires takes { old.now.credits.pending + old.now.credits.posted + t.now.amount ≤ max_id }
     ensures accounts { accounts.new ≡ (changed account_row_key t.now.credit_account_id (on_credits (gained closing_credit t.now)) accounts.old.0, accounts.old.1) }
     ensures noted { IsNoted 1 accounts.old.0 accounts.new.0 trail.old trail.new }
 {
-    match accounts.get(t.credit_account_id) {
-        Some(row) => {
-            let old = *row;
-            let new = AccountRow {
-                created: old.created,
-                debits: old.debits,
-                credits: gain_side(old.credits, t, t.flags & 128 != 0),
-            };
-            change(accounts, trail, old, new);
-        }
-        None => {}
-    }
+    let new = AccountRow {
+        created: old.created,
+        debits: old.debits,
+        credits: gain_side(old.credits, t, t.flags & 128 != 0),
+    };
+    change(accounts, trail, old, new);
 }
 
 fn settle_debit<A: Allocator>(
     accounts: &mut Table<AccountRow, A>,
     trail: &mut Vec<Undo, A>,
+    old: &AccountRow,
     p: &Transfer,
     r: &Transfer,
 )
     requires room { vec_len trail.old < vec_capacity trail.old }
-    requires enough { (a : AccountRow) → find (λ a. a.created.id == r.now.debit_account_id) accounts.old.0 ≡ Some a → p.now.amount ≤ a.debits.pending }
-    requires fit { (a : AccountRow) → find (λ a. a.created.id == r.now.debit_account_id) accounts.old.0 ≡ Some a → a.debits.pending + a.debits.posted ≤ max_id }
+    requires found { find (λ a. a.created.id == r.now.debit_account_id) accounts.old.0 ≡ Some old.now }
+    requires enough { p.now.amount ≤ old.now.debits.pending }
+    requires fit { old.now.debits.pending + old.now.debits.posted ≤ max_id }
     requires at_most { r.now.amount ≤ p.now.amount }
     ensures accounts { accounts.new ≡ (changed account_row_key r.now.debit_account_id (on_debits (resolved closing_debit p.now r.now)) accounts.old.0, accounts.old.1) }
     ensures noted { IsNoted 1 accounts.old.0 accounts.new.0 trail.old trail.new }
 {
-    match accounts.get(r.debit_account_id) {
-        Some(row) => {
-            let old = *row;
-            let new = AccountRow {
-                created: old.created,
-                debits: settle_side(old.debits, p, r, p.flags & 64 != 0, r.flags & 64 != 0),
-                credits: old.credits,
-            };
-            change(accounts, trail, old, new);
-        }
-        None => {}
-    }
+    let new = AccountRow {
+        created: old.created,
+        debits: settle_side(old.debits, p, r, p.flags & 64 != 0, r.flags & 64 != 0),
+        credits: old.credits,
+    };
+    change(accounts, trail, old, new);
 }
 
 fn settle_credit<A: Allocator>(
     accounts: &mut Table<AccountRow, A>,
     trail: &mut Vec<Undo, A>,
+    old: &AccountRow,
     p: &Transfer,
     r: &Transfer,
 )
     requires room { vec_len trail.old < vec_capacity trail.old }
-    requires enough { (a : AccountRow) → find (λ a. a.created.id == r.now.credit_account_id) accounts.old.0 ≡ Some a → p.now.amount ≤ a.credits.pending }
-    requires fit { (a : AccountRow) → find (λ a. a.created.id == r.now.credit_account_id) accounts.old.0 ≡ Some a → a.credits.pending + a.credits.posted ≤ max_id }
+    requires found { find (λ a. a.created.id == r.now.credit_account_id) accounts.old.0 ≡ Some old.now }
+    requires enough { p.now.amount ≤ old.now.credits.pending }
+    requires fit { old.now.credits.pending + old.now.credits.posted ≤ max_id }
     requires at_most { r.now.amount ≤ p.now.amount }
     ensures accounts { accounts.new ≡ (changed account_row_key r.now.credit_account_id (on_credits (resolved closing_credit p.now r.now)) accounts.old.0, accounts.old.1) }
     ensures noted { IsNoted 1 accounts.old.0 accounts.new.0 trail.old trail.new }
 {
-    match accounts.get(r.credit_account_id) {
-        Some(row) => {
-            let old = *row;
-            let new = AccountRow {
-                created: old.created,
-                debits: old.debits,
-                credits: settle_side(old.credits, p, r, p.flags & 128 != 0, r.flags & 128 != 0),
-            };
-            change(accounts, trail, old, new);
-        }
-        None => {}
-    }
+    let new = AccountRow {
+        created: old.created,
+        debits: old.debits,
+        credits: settle_side(old.credits, p, r, p.flags & 128 != 0, r.flags & 128 != 0),
+    };
+    change(accounts, trail, old, new);
 }
 
 // The time at which a pending transfer expires, and of any other no time before it.
@@ -287,8 +271,15 @@ pub fn record_account<A: Allocator>(rows: &mut Rows<A>, trail: &mut Vec<Undo, A>
     add_account_row(&mut rows.accounts, trail, a);
 }
 
-/// Records a transfer that is no post or void, as it is recorded: balanced and stamped.
-pub fn add_single<A: Allocator>(rows: &mut Rows<A>, trail: &mut Vec<Undo, A>, t: &Transfer)
+/// Records a transfer that is no post or void, as it is recorded: balanced and stamped. The rows of its accounts, as they
+/// stand before it, are handed in.
+pub fn add_single<A: Allocator>(
+    rows: &mut Rows<A>,
+    trail: &mut Vec<Undo, A>,
+    debit: &AccountRow,
+    credit: &AccountRow,
+    t: &Transfer,
+)
     requires kept { IsKept rows.old }
     requires room { 0 < rows.old.transfers.1 }
     requires trail_room { vec_len trail.old + TRAIL_PER_EVENT ≤ vec_capacity trail.old }
@@ -296,24 +287,29 @@ pub fn add_single<A: Allocator>(rows: &mut Rows<A>, trail: &mut Vec<Undo, A>, t:
     requires single { resolves t.now ≡ false }
     requires stamped { rows.old.time < t.now.timestamp + 1000000000 }
     requires moves { Moves (books_in rows.old) t.now }
+    requires debit { find (λ a. a.created.id == t.now.debit_account_id) rows.old.accounts.0 ≡ Some debit.now }
+    requires credit { find (λ a. a.created.id == t.now.credit_account_id) rows.old.accounts.0 ≡ Some credit.now }
     ensures kept { IsKept rows.new }
     ensures books { books_in rows.new ≡ record (books_in rows.old) { transfers = put transfer_key t.now (books_in rows.old).transfers } }
     ensures step { IsStep TRAIL_PER_EVENT rows.old rows.new trail.old trail.new }
     ensures accounts_room { rows.new.accounts.1 ≡ rows.old.accounts.1 }
     ensures transfers_room { rows.new.transfers.1 + 1 ≡ rows.old.transfers.1 }
 {
-    gain_debit(&mut rows.accounts, trail, t);
-    gain_credit(&mut rows.accounts, trail, t);
+    gain_debit(&mut rows.accounts, trail, debit, t);
+    gain_credit(&mut rows.accounts, trail, credit, t);
     add_row(&mut rows.transfers, trail, t);
     let first = first_expiry(t);
     rows.next_expiry = rows.next_expiry.min(first);
 }
 
-/// Records a post or void, filled and stamped, of the pending transfer `p`.
+/// Records a post or void, filled and stamped, of the pending transfer `p`. The rows of its accounts, as they stand before it,
+/// are handed in.
 pub fn settle<A: Allocator>(
     rows: &mut Rows<A>,
     trail: &mut Vec<Undo, A>,
     p: &TransferRow,
+    debit: &AccountRow,
+    credit: &AccountRow,
     r: &Transfer,
 )
     requires kept { IsKept rows.old }
@@ -323,14 +319,16 @@ pub fn settle<A: Allocator>(
     requires found { find (λ row. row.recorded.id == r.now.pending_id) rows.old.transfers.0 ≡ Some p.now }
     requires is_resolver { resolves r.now ≡ true }
     requires resolves { Resolves (books_in rows.old) r.now }
+    requires debit { find (λ a. a.created.id == p.now.recorded.debit_account_id) rows.old.accounts.0 ≡ Some debit.now }
+    requires credit { find (λ a. a.created.id == p.now.recorded.credit_account_id) rows.old.accounts.0 ≡ Some credit.now }
     ensures kept { IsKept rows.new }
     ensures books { books_in rows.new ≡ record (books_in rows.old) { transfers = put transfer_key r.now (books_in rows.old).transfers } }
     ensures step { IsStep TRAIL_PER_EVENT rows.old rows.new trail.old trail.new }
     ensures accounts_room { rows.new.accounts.1 ≡ rows.old.accounts.1 }
     ensures transfers_room { rows.new.transfers.1 + 1 ≡ rows.old.transfers.1 }
 {
-    settle_debit(&mut rows.accounts, trail, &p.recorded, r);
-    settle_credit(&mut rows.accounts, trail, &p.recorded, r);
+    settle_debit(&mut rows.accounts, trail, debit, &p.recorded, r);
+    settle_credit(&mut rows.accounts, trail, credit, &p.recorded, r);
     let state = outcome(r);
     close_row(&mut rows.transfers, trail, p, state);
     add_row(&mut rows.transfers, trail, r);

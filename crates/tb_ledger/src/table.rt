@@ -37,13 +37,20 @@ impl<V: Keyed, A: Allocator> Model for Table<V, A> {
     ghost invariant = { λ t. Rising V.key (option_map_or (λ v. v.items) t.rows []) };
 }
 
-// The first place whose key isn't below the id.
+// The first place whose key isn't below the id. An id above all keys costs one comparison.
 fn place<V: Keyed>(rows: &[V], id: u128) -> usize
     requires { Rising V.key rows.now }
     ensures { IsPlace V.key rows.now id result }
 {
+    let n = rows.len();
+    if n == 0 {
+        return 0;
+    }
+    if rows[n - 1].key() < id {
+        return n;
+    }
     let mut low = 0;
-    let mut high = rows.len();
+    let mut high = n - 1;
     while low < high {
         let middle = low + (high - low) / 2;
         if rows[middle].key() < id {
@@ -105,7 +112,7 @@ fn row_after<V: Keyed>(rows: &[V], id: u128) -> Option<&V>
 }
 
 // Inserts a row whose key isn't there. A key above all others goes to the end without a move.
-#[tactic(auto, using(tb_records::proofs::ByKey::insert_at_place))]
+#[tactic(auto, using(tb_records::proofs::ByKey::insert_at_place, crate::proofs::Places::append_at_place))]
 fn insert_row<V: Keyed, A: Allocator>(rows: &mut Vec<V, A>, row: V)
     requires rising { Rising V.key rows.old.items }
     requires room { vec_len rows.old < vec_capacity rows.old }
@@ -114,7 +121,11 @@ fn insert_row<V: Keyed, A: Allocator>(rows: &mut Vec<V, A>, row: V)
     ensures capacity { vec_capacity rows.new ≡ vec_capacity rows.old }
 {
     let i = place(rows, row.key());
-    let _ = rows.insert(i, row);
+    if i == rows.len() {
+        rows.push_reserved(row);
+    } else {
+        let _ = rows.insert(i, row);
+    }
 }
 
 // Puts a row in place of the one that has its key, if there is one.
@@ -253,7 +264,21 @@ impl<V: Keyed, A: Allocator> Table<V, A> {
 mod tests {
     use super::*;
     use std::alloc::Global;
+    use std::process::Abort;
     use std::test::Fail;
+
+    fn expect_next(
+        rt: &impl Abort,
+        ids: &Table<u128, Global>,
+        id: Option<u128>,
+        next: Option<u128>,
+    ) {
+        assert!(rt; ids.next_after(id).copied() == next);
+    }
+
+    fn expect_row(rt: &impl Abort, ids: &Table<u128, Global>, id: u128, row: Option<u128>) {
+        assert!(rt; ids.get(id).copied() == row);
+    }
 
     #[test]
     fn keeps_the_order_of_keys(rt: HostRuntime) -> Result<(), Fail> {
@@ -262,15 +287,15 @@ mod tests {
         ids.insert_reserved(5);
         ids.insert_reserved(9);
         ids.insert_reserved(7);
-        assert_eq!(rt; ids.len(), 3);
-        assert_eq!(rt; ids.next_after(None).copied(), Some(5));
-        assert_eq!(rt; ids.next_after(Some(5)).copied(), Some(7));
-        assert_eq!(rt; ids.next_after(Some(9)).copied(), None);
+        assert!(rt; ids.len() == 3);
+        expect_next(&rt, &ids, None, Some(5));
+        expect_next(&rt, &ids, Some(5), Some(7));
+        expect_next(&rt, &ids, Some(9), None);
         ids.replace(7);
         ids.remove(5);
-        assert_eq!(rt; ids.len(), 2);
-        assert_eq!(rt; ids.get(7).copied(), Some(7));
-        assert_eq!(rt; ids.get(5).copied(), None);
+        assert!(rt; ids.len() == 2);
+        expect_row(&rt, &ids, 7, Some(7));
+        expect_row(&rt, &ids, 5, None);
         Ok(())
     }
 }

@@ -59,9 +59,14 @@ fn with_timeout(timeout: u32, t: Transfer) -> Transfer {
 
 // Compares results with pairs of an index and a code.
 fn expect_results(rt: &impl Abort, results: &[EventResult], want: &[(u32, u32)]) {
-    assert_eq!(rt; results.len(), want.len());
-    for (result, pair) in results.iter().zip(want.iter()) {
-        assert_eq!(rt; (result.index, result.result), *pair);
+    assert!(rt; results.len() == want.len(), "{} results", results.len());
+    for (result, (index, code)) in results.iter().zip(want.iter()) {
+        assert!(rt;
+            result.index == *index && result.result == *code,
+            "{} at {}",
+            result.result,
+            result.index
+        );
     }
 }
 
@@ -121,15 +126,25 @@ fn transfer_of(row: Row) -> Transfer {
     }
 }
 
+// A request of one transfer at a moment, with the code that it gets.
+fn ask_one(
+    rt: &impl Abort,
+    run: &mut Run,
+    moment: u64,
+    event: Transfer,
+    code: u32,
+) -> Result<(), Fail> {
+    if code == 0 {
+        ask(rt, run, moment, &[event], &[])
+    } else {
+        ask(rt, run, moment, &[event], &[(0, code)])
+    }
+}
+
 // Each transfer in a request of its own, with the code that it gets.
 fn ask_each(rt: &impl Abort, run: &mut Run, rows: &[(Row, u32)]) -> Result<(), Fail> {
     for (row, code) in rows {
-        let events = [transfer_of(*row)];
-        if *code == 0 {
-            ask(rt, run, 10, &events, &[])?;
-        } else {
-            ask(rt, run, 10, &events, &[(0, *code)])?;
-        }
+        ask_one(rt, run, 10, transfer_of(*row), *code)?;
     }
     Ok(())
 }
@@ -149,35 +164,39 @@ fn ask_together(
 }
 
 // An account's debits pending and posted, its credits pending and posted, and its flags.
-fn expect_account(
-    rt: &impl Abort,
-    run: &Run,
-    id: u128,
-    sums: [u128; 4],
-    flags: u16,
-) -> Result<(), Fail> {
-    let a = run.ledger.account(id).ok_or("no account")?;
-    assert_eq!(rt;
-        [
-            a.debits_pending,
-            a.debits_posted,
-            a.credits_pending,
-            a.credits_posted
-        ],
-        sums,
-        "sums of {id}"
-    );
-    assert_eq!(rt; a.flags, flags);
-    Ok(())
+fn expect_account(rt: &impl Abort, run: &Run, id: u128, sums: [u128; 4], flags: u16) {
+    match run.ledger.account(id) {
+        Some(a) => {
+            assert!(rt;
+                a.debits_pending == sums[0] && a.debits_posted == sums[1],
+                "debits of {id}"
+            );
+            assert!(rt;
+                a.credits_pending == sums[2] && a.credits_posted == sums[3],
+                "credits of {id}"
+            );
+            assert!(rt; a.flags == flags, "flags of {id}");
+        }
+        None => panic!(rt; "no account {id}"),
+    }
 }
 
-fn expect_amount(rt: &impl Abort, run: &Run, id: u128, amount: u128) -> Result<(), Fail> {
-    assert_eq!(rt;
-        run.ledger.transfer(id).ok_or("no transfer")?.amount,
-        amount,
-        "amount of {id}"
-    );
-    Ok(())
+fn expect_amount(rt: &impl Abort, run: &Run, id: u128, amount: u128) {
+    match run.ledger.transfer(id) {
+        Some(t) => assert!(rt; t.amount == amount, "amount of {id}"),
+        None => panic!(rt; "no transfer {id}"),
+    }
+}
+
+fn expect_timestamp(rt: &impl Abort, run: &Run, id: u128, timestamp: u64) {
+    match run.ledger.transfer(id) {
+        Some(t) => assert!(rt; t.timestamp == timestamp, "timestamp of {id}"),
+        None => panic!(rt; "no transfer {id}"),
+    }
+}
+
+fn expect_no_transfer(rt: &impl Abort, run: &Run, id: u128) {
+    assert!(rt; run.ledger.transfer(id).is_none(), "transfer {id}");
 }
 
 // A register at moment 10, then accounts 1 and 2.
@@ -191,52 +210,113 @@ fn start(rt: &impl Abort, alloc: Global, profile: Profile) -> Result<Run, Fail> 
     Ok(run)
 }
 
-fn created(rt: &impl Abort, alloc: Global, profile: Profile) -> Result<(), Fail> {
-    let run = start(rt, alloc, profile)?;
-    assert_eq!(rt; run.ledger.time(), 12);
+// What is asked of a ledger with accounts 1 and 2.
+#[derive(Clone, Copy)]
+enum Case {
+    Created,
+    Moved,
+    Lowered,
+    LoweredToZero,
+    LoweredBothWays,
+    Posted,
+    Voided,
+    Closed,
+    Chained,
+    Expired,
+    Overflowed,
+    RefusedAccounts,
+    Limited,
+    ClosedForASecond,
+    Freed,
+    FailedIds,
+    Outlived,
+    Filled,
+}
+
+// `again` is the code of a transfer whose id failed for good before, and which is right by now.
+fn ask_case(rt: &impl Abort, run: &mut Run, case: Case, again: u32) -> Result<(), Fail> {
+    match case {
+        Case::Created => created(rt, run),
+        Case::Moved => moved(rt, run),
+        Case::Lowered => lowered(rt, run),
+        Case::LoweredToZero => lowered_to_zero(rt, run),
+        Case::LoweredBothWays => lowered_both_ways(rt, run),
+        Case::Posted => posts_recorded(rt, run),
+        Case::Voided => voided(rt, run),
+        Case::Closed => closed(rt, run, again),
+        Case::Chained => chained(rt, run),
+        Case::Expired => expired(rt, run),
+        Case::Overflowed => overflowed(rt, run),
+        Case::RefusedAccounts => refused_accounts(rt, run),
+        Case::Limited => limited(rt, run),
+        Case::ClosedForASecond => closed_for_a_second(rt, run, again),
+        Case::Freed => freed(rt, run),
+        Case::FailedIds => failed_ids(rt, run, again),
+        Case::Outlived => outlived(rt, run),
+        Case::Filled => filled(rt, run),
+    }
+}
+
+fn by_profile(rt: &impl Abort, alloc: Global, profile: Profile, case: Case) -> Result<(), Fail> {
+    let again = match profile {
+        Profile::One => 0,
+        Profile::Two => 68,
+    };
+    let mut run = start(rt, alloc, profile)?;
+    ask_case(rt, &mut run, case, again)
+}
+
+fn by_both(rt: &impl Abort, alloc: Global, case: Case) -> Result<(), Fail> {
+    by_profile(rt, alloc, Profile::One, case)?;
+    by_profile(rt, alloc, Profile::Two, case)
+}
+
+fn created(rt: &impl Abort, run: &mut Run) -> Result<(), Fail> {
+    assert!(rt; run.ledger.time() == 12);
     let found = run.ledger.lookup_accounts(run.alloc, &[2, 9, 1, 2])?;
-    assert_eq!(rt; found.len(), 3);
-    assert_eq!(rt; (found[0].id, found[0].timestamp), (2, 12));
-    assert_eq!(rt; (found[1].id, found[1].timestamp), (1, 11));
-    assert_eq!(rt; (found[2].id, found[2].timestamp), (2, 12));
+    let want = [(2, 12), (1, 11), (2, 12)];
+    assert!(rt; found.len() == want.len());
+    for (account, (id, timestamp)) in found.iter().zip(want.iter()) {
+        assert!(rt;
+            account.id == *id && account.timestamp == *timestamp,
+            "account {id}"
+        );
+    }
     Ok(())
 }
 
 #[test]
 fn accounts_created(rt: HostRuntime) -> Result<(), Fail> {
-    created(&rt, rt.alloc(), Profile::One)?;
-    created(&rt, rt.alloc(), Profile::Two)
+    by_both(&rt, rt.alloc(), Case::Created)
 }
 
-fn moved(rt: &impl Abort, alloc: Global, profile: Profile) -> Result<(), Fail> {
-    let mut run = start(rt, alloc, profile)?;
-    ask_each(rt, &mut run, &[((11, 1, 2, 0, 100, 0), 0)])?;
-    expect_account(rt, &run, 1, [0, 100, 0, 0], 0)?;
-    expect_account(rt, &run, 2, [0, 0, 0, 100], 0)?;
-    expect_amount(rt, &run, 11, 100)
+fn moved(rt: &impl Abort, run: &mut Run) -> Result<(), Fail> {
+    ask_each(rt, run, &[((11, 1, 2, 0, 100, 0), 0)])?;
+    expect_account(rt, run, 1, [0, 100, 0, 0], 0);
+    expect_account(rt, run, 2, [0, 0, 0, 100], 0);
+    expect_amount(rt, run, 11, 100);
+    Ok(())
 }
 
 #[test]
 fn transfer_sums(rt: HostRuntime) -> Result<(), Fail> {
-    moved(&rt, rt.alloc(), Profile::One)?;
-    moved(&rt, rt.alloc(), Profile::Two)
+    by_both(&rt, rt.alloc(), Case::Moved)
 }
 
-fn lowered(rt: &impl Abort, alloc: Global, profile: Profile) -> Result<Run, Fail> {
-    let mut run = start(rt, alloc, profile)?;
+fn lowered(rt: &impl Abort, run: &mut Run) -> Result<(), Fail> {
     ask_each(
         rt,
-        &mut run,
+        run,
         &[
             ((1, 2, 1, 0, 100, 0), 0),
             ((2, 1, 2, 0, 20, 0), 0),
             ((3, 1, 2, 0, 30, 2), 0),
         ],
     )?;
-    expect_account(rt, &run, 1, [30, 20, 0, 100], 0)?;
+    expect_account(rt, run, 1, [30, 20, 0, 100], 0);
     ask_each(
         rt,
-        &mut run,
+        run,
         &[
             ((4, 1, 2, 0, 80, 16), 0),
             ((4, 1, 2, 0, 80, 16), 46),
@@ -244,35 +324,32 @@ fn lowered(rt: &impl Abort, alloc: Global, profile: Profile) -> Result<Run, Fail
             ((4, 1, 2, 0, 49, 16), 39),
         ],
     )?;
-    expect_amount(rt, &run, 4, 50)?;
-    Ok(run)
+    expect_amount(rt, run, 4, 50);
+    Ok(())
 }
 
 #[test]
 fn balancing_debit_lowers(rt: HostRuntime) -> Result<(), Fail> {
-    lowered(&rt, rt.alloc(), Profile::One)?;
-    lowered(&rt, rt.alloc(), Profile::Two)?;
-    Ok(())
+    by_both(&rt, rt.alloc(), Case::Lowered)
 }
 
-fn lowered_to_zero(rt: &impl Abort, alloc: Global, profile: Profile) -> Result<(), Fail> {
-    let mut run = lowered(rt, alloc, profile)?;
-    ask_each(rt, &mut run, &[((5, 1, 2, 0, 10, 16), 0)])?;
-    expect_amount(rt, &run, 5, 0)
+fn lowered_to_zero(rt: &impl Abort, run: &mut Run) -> Result<(), Fail> {
+    lowered(rt, run)?;
+    ask_each(rt, run, &[((5, 1, 2, 0, 10, 16), 0)])?;
+    expect_amount(rt, run, 5, 0);
+    Ok(())
 }
 
 #[test]
 fn balancing_debit_to_zero(rt: HostRuntime) -> Result<(), Fail> {
-    lowered_to_zero(&rt, rt.alloc(), Profile::One)?;
-    lowered_to_zero(&rt, rt.alloc(), Profile::Two)
+    by_both(&rt, rt.alloc(), Case::LoweredToZero)
 }
 
-fn lowered_both_ways(rt: &impl Abort, alloc: Global, profile: Profile) -> Result<(), Fail> {
-    let mut run = start(rt, alloc, profile)?;
-    create(rt, &mut run, &[(3, 700, 10, 0), (6, 700, 10, 32)], &[])?;
+fn lowered_both_ways(rt: &impl Abort, run: &mut Run) -> Result<(), Fail> {
+    create(rt, run, &[(3, 700, 10, 0), (6, 700, 10, 32)], &[])?;
     ask_each(
         rt,
-        &mut run,
+        run,
         &[
             ((1, 2, 1, 0, 100, 0), 0),
             ((2, 3, 2, 0, 30, 0), 0),
@@ -285,22 +362,21 @@ fn lowered_both_ways(rt: &impl Abort, alloc: Global, profile: Profile) -> Result
             ((6, 1, 6, 0, 1, 0), 66),
         ],
     )?;
-    expect_amount(rt, &run, 3, 30)?;
-    expect_amount(rt, &run, 4, 70)?;
-    expect_amount(rt, &run, 5, 0)
+    expect_amount(rt, run, 3, 30);
+    expect_amount(rt, run, 4, 70);
+    expect_amount(rt, run, 5, 0);
+    Ok(())
 }
 
 #[test]
 fn balancing_both_ways(rt: HostRuntime) -> Result<(), Fail> {
-    lowered_both_ways(&rt, rt.alloc(), Profile::One)?;
-    lowered_both_ways(&rt, rt.alloc(), Profile::Two)
+    by_both(&rt, rt.alloc(), Case::LoweredBothWays)
 }
 
-fn posted(rt: &impl Abort, alloc: Global, profile: Profile) -> Result<Run, Fail> {
-    let mut run = start(rt, alloc, profile)?;
+fn posted(rt: &impl Abort, run: &mut Run) -> Result<(), Fail> {
     ask_each(
         rt,
-        &mut run,
+        run,
         &[
             ((20, 1, 2, 0, 40, 2), 0),
             ((21, 0, 0, 20, MAX, 4), 0),
@@ -310,52 +386,37 @@ fn posted(rt: &impl Abort, alloc: Global, profile: Profile) -> Result<Run, Fail>
             ((25, 0, 0, 24, 0, 4), 0),
         ],
     )?;
-    expect_account(rt, &run, 1, [0, 55, 0, 0], 0)?;
-    expect_account(rt, &run, 2, [0, 0, 0, 55], 0)?;
-    Ok(run)
+    expect_account(rt, run, 1, [0, 55, 0, 0], 0);
+    expect_account(rt, run, 2, [0, 0, 0, 55], 0);
+    Ok(())
 }
 
-fn posts_recorded(rt: &impl Abort, alloc: Global, profile: Profile) -> Result<(), Fail> {
-    let run = posted(rt, alloc, profile)?;
+fn posts_recorded(rt: &impl Abort, run: &mut Run) -> Result<(), Fail> {
+    posted(rt, run)?;
     let found = run.ledger.lookup_transfers(run.alloc, &[21, 23])?;
-    assert_eq!(rt; found.len(), 2);
-    let t = found[0];
-    assert_eq!(rt;
-        (
-            t.id,
-            t.debit_account_id,
-            t.credit_account_id,
-            t.amount,
-            t.pending_id
-        ),
-        (21, 1, 2, 40, 20)
-    );
-    assert_eq!(rt; (t.ledger, t.code, t.flags), (700, 10, 4));
-    let t = found[1];
-    assert_eq!(rt;
-        (
-            t.id,
-            t.debit_account_id,
-            t.credit_account_id,
-            t.amount,
-            t.pending_id
-        ),
-        (23, 1, 2, 15, 22)
-    );
-    expect_amount(rt, &run, 25, 0)
+    let whole = Transfer {
+        timestamp: 14,
+        ..transfer_of((21, 1, 2, 20, 40, 4))
+    };
+    let part = Transfer {
+        timestamp: 16,
+        ..transfer_of((23, 1, 2, 22, 15, 4))
+    };
+    assert!(rt; found.len() == 2 && found[0] == whole && found[1] == part);
+    expect_amount(rt, run, 25, 0);
+    Ok(())
 }
 
 #[test]
 fn posts_whole_part_and_none(rt: HostRuntime) -> Result<(), Fail> {
-    posts_recorded(&rt, rt.alloc(), Profile::One)?;
-    posts_recorded(&rt, rt.alloc(), Profile::Two)
+    by_both(&rt, rt.alloc(), Case::Posted)
 }
 
-fn voided(rt: &impl Abort, alloc: Global, profile: Profile) -> Result<(), Fail> {
-    let mut run = posted(rt, alloc, profile)?;
+fn voided(rt: &impl Abort, run: &mut Run) -> Result<(), Fail> {
+    posted(rt, run)?;
     ask_each(
         rt,
-        &mut run,
+        run,
         &[
             ((30, 1, 2, 0, 40, 2), 0),
             ((31, 0, 0, 30, 0, 8), 0),
@@ -366,28 +427,27 @@ fn voided(rt: &impl Abort, alloc: Global, profile: Profile) -> Result<(), Fail> 
             ((36, 0, 0, 31, 0, 4), 26),
         ],
     )?;
-    expect_amount(rt, &run, 31, 40)?;
-    expect_account(rt, &run, 1, [40, 55, 0, 0], 0)
+    expect_amount(rt, run, 31, 40);
+    expect_account(rt, run, 1, [40, 55, 0, 0], 0);
+    Ok(())
 }
 
 #[test]
 fn voids_and_resolved_pendings(rt: HostRuntime) -> Result<(), Fail> {
-    voided(&rt, rt.alloc(), Profile::One)?;
-    voided(&rt, rt.alloc(), Profile::Two)
+    by_both(&rt, rt.alloc(), Case::Voided)
 }
 
 // The last transfer failed for good while the account was closed: by profile 2 its id is refused again.
-fn closed(rt: &impl Abort, alloc: Global, profile: Profile, last: u32) -> Result<(), Fail> {
-    let mut run = start(rt, alloc, profile)?;
+fn closed(rt: &impl Abort, run: &mut Run, again: u32) -> Result<(), Fail> {
     ask_each(
         rt,
-        &mut run,
+        run,
         &[((39, 1, 2, 0, 5, 2), 0), ((40, 1, 2, 0, 0, 66), 0)],
     )?;
-    expect_account(rt, &run, 1, [5, 0, 0, 0], 32)?;
+    expect_account(rt, run, 1, [5, 0, 0, 0], 32);
     ask_each(
         rt,
-        &mut run,
+        run,
         &[
             ((41, 1, 2, 0, 1, 0), 65),
             ((42, 2, 1, 0, 1, 0), 66),
@@ -395,39 +455,36 @@ fn closed(rt: &impl Abort, alloc: Global, profile: Profile, last: u32) -> Result
             ((44, 0, 0, 39, 0, 8), 0),
         ],
     )?;
-    expect_account(rt, &run, 1, [0, 0, 0, 0], 32)?;
-    ask_each(rt, &mut run, &[((45, 0, 0, 40, 0, 8), 0)])?;
-    expect_account(rt, &run, 1, [0, 0, 0, 0], 0)?;
-    ask_each(rt, &mut run, &[((41, 1, 2, 0, 1, 0), last)])
+    expect_account(rt, run, 1, [0, 0, 0, 0], 32);
+    ask_each(rt, run, &[((45, 0, 0, 40, 0, 8), 0)])?;
+    expect_account(rt, run, 1, [0, 0, 0, 0], 0);
+    ask_each(rt, run, &[((41, 1, 2, 0, 1, 0), again)])
 }
 
 #[test]
 fn closing_and_reopening(rt: HostRuntime) -> Result<(), Fail> {
-    closed(&rt, rt.alloc(), Profile::One, 0)?;
-    closed(&rt, rt.alloc(), Profile::Two, 68)
+    by_both(&rt, rt.alloc(), Case::Closed)
 }
 
-fn chained(rt: &impl Abort, alloc: Global, profile: Profile) -> Result<(), Fail> {
-    let mut run = start(rt, alloc, profile)?;
+fn chained(rt: &impl Abort, run: &mut Run) -> Result<(), Fail> {
     let broken = [
         (50, 1, 2, 0, 1, 1),
         (51, 99, 2, 0, 1, 1),
         (52, 1, 2, 0, 1, 0),
     ];
-    ask_together(rt, &mut run, &broken, &[(0, 1), (1, 21), (2, 1)])?;
-    expect_account(rt, &run, 1, [0, 0, 0, 0], 0)?;
-    assert_eq!(rt; run.ledger.transfer(50), None);
-    ask_together(rt, &mut run, &[(53, 1, 2, 0, 1, 1)], &[(0, 2)])?;
+    ask_together(rt, run, &broken, &[(0, 1), (1, 21), (2, 1)])?;
+    expect_account(rt, run, 1, [0, 0, 0, 0], 0);
+    expect_no_transfer(rt, run, 50);
+    ask_together(rt, run, &[(53, 1, 2, 0, 1, 1)], &[(0, 2)])?;
     let open = [(54, 1, 2, 0, 1, 1), (55, 1, 2, 0, 1, 1)];
-    ask_together(rt, &mut run, &open, &[(0, 1), (1, 2)])?;
+    ask_together(rt, run, &open, &[(0, 1), (1, 2)])?;
     let both = [(56, 99, 2, 0, 1, 1), (57, 1, 2, 0, 1, 1)];
-    ask_together(rt, &mut run, &both, &[(0, 21), (1, 2)])
+    ask_together(rt, run, &both, &[(0, 21), (1, 2)])
 }
 
 #[test]
 fn chains_whole_or_not(rt: HostRuntime) -> Result<(), Fail> {
-    chained(&rt, rt.alloc(), Profile::One)?;
-    chained(&rt, rt.alloc(), Profile::Two)
+    by_both(&rt, rt.alloc(), Case::Chained)
 }
 
 // Moves the time on to `t`, as a lookup's entry does.
@@ -436,51 +493,41 @@ fn pass_to(rt: &impl Abort, run: &mut Run, t: u64) {
     run.ledger.expire(t);
 }
 
-fn expired(rt: &impl Abort, alloc: Global, profile: Profile) -> Result<(), Fail> {
-    let mut run = start(rt, alloc, profile)?;
-    ask(
+fn expired(rt: &impl Abort, run: &mut Run) -> Result<(), Fail> {
+    ask_one(rt, run, 100, with_timeout(1, transfer(60, 1, 2, 40, 2)), 0)?;
+    expect_timestamp(rt, run, 60, 100);
+    pass_to(rt, run, 1_000_000_099);
+    expect_account(rt, run, 1, [40, 0, 0, 0], 0);
+    pass_to(rt, run, 1_000_000_100);
+    expect_account(rt, run, 1, [0, 0, 0, 0], 0);
+    ask_one(
         rt,
-        &mut run,
-        100,
-        &[with_timeout(1, transfer(60, 1, 2, 40, 2))],
-        &[],
-    )?;
-    pass_to(rt, &mut run, 1_000_000_099);
-    expect_account(rt, &run, 1, [40, 0, 0, 0], 0)?;
-    pass_to(rt, &mut run, 1_000_000_100);
-    expect_account(rt, &run, 1, [0, 0, 0, 0], 0)?;
-    ask(
-        rt,
-        &mut run,
+        run,
         1_000_000_101,
-        &[transfer_of((61, 0, 0, 60, MAX, 4))],
-        &[(0, 35)],
+        transfer_of((61, 0, 0, 60, MAX, 4)),
+        35,
     )
 }
 
 #[test]
 fn expiry_at_the_moment(rt: HostRuntime) -> Result<(), Fail> {
-    expired(&rt, rt.alloc(), Profile::One)?;
-    expired(&rt, rt.alloc(), Profile::Two)
+    by_both(&rt, rt.alloc(), Case::Expired)
 }
 
-fn overflowed(rt: &impl Abort, alloc: Global, profile: Profile) -> Result<(), Fail> {
-    let mut run = start(rt, alloc, profile)?;
+fn overflowed(rt: &impl Abort, run: &mut Run) -> Result<(), Fail> {
     ask_each(
         rt,
-        &mut run,
+        run,
         &[((1, 1, 2, 0, MAX, 0), 0), ((2, 1, 2, 0, 1, 0), 49)],
     )
 }
 
 #[test]
 fn sums_overflow(rt: HostRuntime) -> Result<(), Fail> {
-    overflowed(&rt, rt.alloc(), Profile::One)?;
-    overflowed(&rt, rt.alloc(), Profile::Two)
+    by_both(&rt, rt.alloc(), Case::Overflowed)
 }
 
-fn refused_accounts(rt: &impl Abort, alloc: Global, profile: Profile) -> Result<(), Fail> {
-    let mut run = start(rt, alloc, profile)?;
+fn refused_accounts(rt: &impl Abort, run: &mut Run) -> Result<(), Fail> {
     let nine = [
         (0, 700, 10, 0),
         (MAX, 700, 10, 0),
@@ -494,7 +541,7 @@ fn refused_accounts(rt: &impl Abort, alloc: Global, profile: Profile) -> Result<
     ];
     create(
         rt,
-        &mut run,
+        run,
         &nine,
         &[
             (0, 6),
@@ -511,16 +558,14 @@ fn refused_accounts(rt: &impl Abort, alloc: Global, profile: Profile) -> Result<
 
 #[test]
 fn account_refusals(rt: HostRuntime) -> Result<(), Fail> {
-    refused_accounts(&rt, rt.alloc(), Profile::One)?;
-    refused_accounts(&rt, rt.alloc(), Profile::Two)
+    by_both(&rt, rt.alloc(), Case::RefusedAccounts)
 }
 
-fn limited(rt: &impl Abort, alloc: Global, profile: Profile) -> Result<(), Fail> {
-    let mut run = start(rt, alloc, profile)?;
-    create(rt, &mut run, &[(3, 700, 10, 2), (4, 700, 10, 4)], &[])?;
+fn limited(rt: &impl Abort, run: &mut Run) -> Result<(), Fail> {
+    create(rt, run, &[(3, 700, 10, 2), (4, 700, 10, 4)], &[])?;
     ask_each(
         rt,
-        &mut run,
+        run,
         &[
             ((80, 3, 1, 0, 1, 0), 54),
             ((81, 1, 4, 0, 1, 0), 55),
@@ -531,111 +576,71 @@ fn limited(rt: &impl Abort, alloc: Global, profile: Profile) -> Result<(), Fail>
 
 #[test]
 fn limits_of_accounts(rt: HostRuntime) -> Result<(), Fail> {
-    limited(&rt, rt.alloc(), Profile::One)?;
-    limited(&rt, rt.alloc(), Profile::Two)
+    by_both(&rt, rt.alloc(), Case::Limited)
 }
 
 // The refused transfer comes again once the account is open: by profile 2 its id has failed for good.
-fn closed_for_a_second(
-    rt: &impl Abort,
-    alloc: Global,
-    profile: Profile,
-    again: &[(u32, u32)],
-) -> Result<(), Fail> {
-    let mut run = start(rt, alloc, profile)?;
-    ask(
-        rt,
-        &mut run,
-        100,
-        &[with_timeout(1, transfer(62, 1, 2, 0, 66))],
-        &[],
-    )?;
-    ask(
-        rt,
-        &mut run,
-        1_000_000_099,
-        &[transfer(63, 1, 2, 1, 0)],
-        &[(0, 65)],
-    )?;
-    ask(
-        rt,
-        &mut run,
-        1_000_000_100,
-        &[transfer(63, 1, 2, 1, 0)],
-        again,
-    )?;
+fn closed_for_a_second(rt: &impl Abort, run: &mut Run, again: u32) -> Result<(), Fail> {
+    let closing = with_timeout(1, transfer(62, 1, 2, 0, 66));
+    let next = transfer(63, 1, 2, 1, 0);
+    ask_one(rt, run, 100, closing, 0)?;
+    ask_one(rt, run, 1_000_000_099, next, 65)?;
+    ask_one(rt, run, 1_000_000_100, next, again)?;
     let late = 5_000_000_000_000_000_000;
-    ask(
-        rt,
-        &mut run,
-        late,
-        &[with_timeout(4_294_967_295, transfer(67, 1, 2, 1, 2))],
-        &[(0, 53)],
-    )?;
-    ask(
-        rt,
-        &mut run,
-        late,
-        &[with_timeout(4_000_000_000, transfer(67, 1, 2, 1, 2))],
-        &[],
-    )
+    let held = transfer(67, 1, 2, 1, 2);
+    ask_one(rt, run, late, with_timeout(4_294_967_295, held), 53)?;
+    ask_one(rt, run, late, with_timeout(4_000_000_000, held), 0)
 }
 
 #[test]
 fn closing_expires_and_timeout_overflows(rt: HostRuntime) -> Result<(), Fail> {
-    closed_for_a_second(&rt, rt.alloc(), Profile::One, &[])?;
-    closed_for_a_second(&rt, rt.alloc(), Profile::Two, &[(0, 68)])
+    by_both(&rt, rt.alloc(), Case::ClosedForASecond)
 }
 
-fn freed(rt: &impl Abort, alloc: Global, profile: Profile) -> Result<(), Fail> {
-    let mut run = start(rt, alloc, profile)?;
-    ask_each(rt, &mut run, &[((64, 1, 2, 0, 40, 2), 0)])?;
+fn freed(rt: &impl Abort, run: &mut Run) -> Result<(), Fail> {
+    ask_each(rt, run, &[((64, 1, 2, 0, 40, 2), 0)])?;
     let broken = [(65, 0, 0, 64, MAX, 5), (66, 99, 2, 0, 1, 0)];
-    ask_together(rt, &mut run, &broken, &[(0, 1), (1, 21)])?;
-    expect_account(rt, &run, 1, [40, 0, 0, 0], 0)?;
-    assert_eq!(rt; run.ledger.transfer(65), None);
-    ask_each(rt, &mut run, &[((65, 0, 0, 64, MAX, 4), 0)])?;
-    expect_account(rt, &run, 1, [0, 40, 0, 0], 0)
+    ask_together(rt, run, &broken, &[(0, 1), (1, 21)])?;
+    expect_account(rt, run, 1, [40, 0, 0, 0], 0);
+    expect_no_transfer(rt, run, 65);
+    ask_each(rt, run, &[((65, 0, 0, 64, MAX, 4), 0)])?;
+    expect_account(rt, run, 1, [0, 40, 0, 0], 0);
+    Ok(())
 }
 
 #[test]
 fn broken_chain_frees_its_post(rt: HostRuntime) -> Result<(), Fail> {
-    freed(&rt, rt.alloc(), Profile::One)?;
-    freed(&rt, rt.alloc(), Profile::Two)
+    by_both(&rt, rt.alloc(), Case::Freed)
 }
 
-fn failed_ids(rt: &impl Abort, alloc: Global, profile: Profile, again: u32) -> Result<(), Fail> {
-    let mut run = start(rt, alloc, profile)?;
+fn failed_ids(rt: &impl Abort, run: &mut Run, again: u32) -> Result<(), Fail> {
     ask_each(
         rt,
-        &mut run,
+        run,
         &[((70, 99, 2, 0, 1, 0), 21), ((70, 1, 2, 0, 1, 0), again)],
     )?;
     let broken = [(71, 1, 2, 0, 1, 1), (72, 99, 2, 0, 1, 0)];
-    ask_together(rt, &mut run, &broken, &[(0, 1), (1, 21)])?;
+    ask_together(rt, run, &broken, &[(0, 1), (1, 21)])?;
     ask_each(
         rt,
-        &mut run,
+        run,
         &[((71, 1, 2, 0, 1, 0), 0), ((72, 1, 2, 0, 1, 0), again)],
     )
 }
 
 #[test]
 fn failed_id_is_refused_again(rt: HostRuntime) -> Result<(), Fail> {
-    failed_ids(&rt, rt.alloc(), Profile::One, 0)?;
-    failed_ids(&rt, rt.alloc(), Profile::Two, 68)
+    by_both(&rt, rt.alloc(), Case::FailedIds)
 }
 
-#[test]
-fn failed_ids_outlive_their_chain(rt: HostRuntime) -> Result<(), Fail> {
-    let mut run = start(&rt, rt.alloc(), Profile::Two)?;
+fn outlived(rt: &impl Abort, run: &mut Run) -> Result<(), Fail> {
     let again = [(74, 99, 2, 0, 1, 0), (74, 1, 2, 0, 1, 0)];
-    ask_together(&rt, &mut run, &again, &[(0, 21), (1, 68)])?;
+    ask_together(rt, run, &again, &[(0, 21), (1, 68)])?;
     let same = [(75, 1, 2, 0, 1, 1), (75, 99, 2, 0, 1, 0)];
-    ask_together(&rt, &mut run, &same, &[(0, 1), (1, 36)])?;
+    ask_together(rt, run, &same, &[(0, 1), (1, 36)])?;
     ask_each(
-        &rt,
-        &mut run,
+        rt,
+        run,
         &[
             ((75, 1, 2, 0, 1, 0), 0),
             ((76, 0, 0, 999, 0, 4), 25),
@@ -645,17 +650,31 @@ fn failed_ids_outlive_their_chain(rt: HostRuntime) -> Result<(), Fail> {
 }
 
 #[test]
-fn fills_append_in_the_order_of_ids(rt: HostRuntime) -> Result<(), Fail> {
-    let run = start(&rt, rt.alloc(), Profile::One)?;
-    let mut out = Vec::with_capacity(rt.alloc(), 4)?;
+fn failed_ids_outlive_their_chain(rt: HostRuntime) -> Result<(), Fail> {
+    by_profile(&rt, rt.alloc(), Profile::Two, Case::Outlived)
+}
+
+fn expect_ids(rt: &impl Abort, found: &[Account], ids: &[u128]) {
+    assert!(rt; found.len() == ids.len());
+    for (account, id) in found.iter().zip(ids.iter()) {
+        assert!(rt; account.id == *id, "{} where {id} is due", account.id);
+    }
+}
+
+fn filled(rt: &impl Abort, run: &mut Run) -> Result<(), Fail> {
+    let mut out = Vec::with_capacity(run.alloc, 4)?;
     run.ledger.fill_accounts(&[2, 2], &mut out);
-    assert_eq!(rt; out.len(), 2);
-    assert!(rt; out.capacity() >= 4);
+    expect_ids(rt, &out, &[2, 2]);
+    assert!(rt; out.len() == 2 && out.capacity() >= 4);
     run.ledger.fill_accounts(&[9, 1], &mut out);
-    assert_eq!(rt; out.len(), 3);
-    assert_eq!(rt; [out[0].id, out[1].id, out[2].id], [2, 2, 1]);
-    let mut out = Vec::with_capacity(rt.alloc(), 1)?;
+    expect_ids(rt, &out, &[2, 2, 1]);
+    let mut out = Vec::with_capacity(run.alloc, 1)?;
     run.ledger.fill_transfers(&[7], &mut out);
     assert!(rt; out.is_empty());
     Ok(())
+}
+
+#[test]
+fn fills_append_in_the_order_of_ids(rt: HostRuntime) -> Result<(), Fail> {
+    by_both(&rt, rt.alloc(), Case::Filled)
 }

@@ -185,3 +185,6 @@ pub fn run<R: Source, W: Sink>(
     }
     Err(RunFault::TooLong)
 }
+
+#[cfg(test)]
+mod tests;

@@ -10,6 +10,7 @@ pub mod Pieces
 pub mod ReplyFaults
 pub mod ReplyHeaderBytes
 pub mod ReplyLaws
+pub mod ReplyParts
 pub mod ReplyPlaces
 pub mod ReplyRows
 pub mod Sendings

@@ -1,15 +1,15 @@
 -- Numbers and their bytes: each number has one spelling, and bytes spell the number that stands in them.
 use Rattle.std.proofs.Common.{◌≡◌, ℕ, set, zero, suc, ◌+◌, ◌*◌, ◌/◌, ◌%◌, ◌^◌, ◌-◌, ◌<◌, ◌≤◌, List, [], ◌∷◌, ◌++◌, length, take, drop, slice_index, refl, sym, ap, ◌∙◌, arith, add-zero}
-use Rattle.std.proofs.Math.Nat.{add-mul-mod_self_left, add-mul-div_left, div-div-eq-div-mul, mod-eq_of_lt, div-eq_of_lt, pow-succ'}
+use Rattle.std.proofs.Math.Nat.{add-mul-mod_self_left, add-mul-div_left, div-div-eq-div-mul, div-one, mod-eq_of_lt, mod-lt, div-eq_of_lt, pow-succ'}
 use Rattle.std.proofs.Math.Seq.{take-add}
 use Rattle.std.proofs.lemmas.List.{length-append, length-drop, length-take, take_at, drop_at, get_or-drop, drop-append-le, append-nil}
-use Rattle.std.proofs.lemmas.List.{drop_all, take_more_set}
+use Rattle.std.proofs.lemmas.List.{drop_all, take_all, take_more_set}
 use Rattle.std.proofs.lemmas.Slice.{take-put_mid, between_to_end}
 use Rattle.std.specs.List.{between}
 use borrow.Rule.Slice.PartMut.{put_mid}
 use Rattle.std.specs.Int.{byte_at, bytes_low_first}
 use Rattle.byteorder.specs.Endian.{little_from}
-use Rattle.byteorder.specs.Numbers.{little_from-cons, little_from-lt, little_from-append, little_number-reads_back, length-bytes_low_first}
+use Rattle.byteorder.specs.Numbers.{little_from-bytes, little_from-cons, little_from-lt, little_from-append, little_number-reads_back, length-bytes_low_first}
 use Rattle.tb_records.specs.Numbers.{le_bytes, le_at}
 use Rattle.tb_records.specs.Sizes.{length-le_bytes}
 
@@ -37,6 +37,37 @@ bytes_of_number (suc n) (x ∷ xs) h b =
     ap (λ (l : ℕ). (x + 256 * l) % 256 ∷ bytes_low_first 1 n (x + 256 * l)) rest
     ∙ ap (λ (y : ℕ). y ∷ bytes_low_first 1 n (x + 256 * little_from 0 n xs)) low
     ∙ ap (λ (bs : List ℕ). x ∷ bs) (bytes_above 0 n (x + 256 * little_from 0 n xs) ∙ ap (bytes_low_first 0 n) high ∙ all)
+
+-- the bytes from a place on are those of the number without its lower bytes
+bytes_from : (j n x : ℕ) → bytes_low_first j n x ≡ bytes_low_first 0 n (x / 256 ^ j)
+bytes_from zero n x = ap (bytes_low_first 0 n) (sym (div-one x))
+bytes_from (suc j) n x =
+    bytes_above j n x
+    ∙ bytes_from j n (x / 256)
+    ∙ ap (bytes_low_first 0 n) (div-div-eq-div-mul x 256 (256 ^ j) ∙ ap (λ (p : ℕ). x / p) (sym (pow-succ' 256 j)))
+
+-- each byte of a number is below 256
+bytes_fit : (j n x i : ℕ) → slice_index (bytes_low_first j n x) i < 256
+bytes_fit j zero x i = omega arith
+bytes_fit zero (suc n) x zero = mod-lt x (omega arith)
+bytes_fit (suc j) (suc n) x zero = mod-lt (x / 256 ^ suc j) (omega arith)
+bytes_fit j (suc n) x (suc i) = bytes_fit (suc j) n x i
+
+-- the lowest bytes of a number are those of its remainder
+bytes_below : (n x : ℕ) → bytes_low_first 0 n (x % 256 ^ n) ≡ bytes_low_first 0 n x
+bytes_below n x =
+    let bytes : List ℕ = bytes_low_first 0 n x in
+    let long : length bytes ≡ n = length-bytes_low_first 0 n x in
+    let number : little_from 0 n bytes ≡ x % 256 ^ n =
+    ap (little_from 0 n) (sym (append-nil bytes)) ∙ little_from-bytes n 0 x [] ∙ ap (λ (y : ℕ). y % 256 ^ n) (div-one x) in
+    ap (bytes_low_first 0 n) (sym number) ∙ bytes_of_number n bytes (omega (arith, long)) (bytes_fit 0 n x) ∙ take_all n bytes (omega (arith, long))
+
+-- the bytes of a number of 16 are those of its two halves
+pub two_halves : (x : ℕ) → le_bytes 8 (x % 2 ^ 64) ++ le_bytes 8 (x / 2 ^ 64) ≡ le_bytes 16 x
+unfolding le_bytes
+two_halves x =
+    ap (λ (bs : List ℕ). bs ++ bytes_low_first 0 8 (x / 2 ^ 64)) (bytes_below 8 x)
+    ∙ ap (λ (bs : List ℕ). bytes_low_first 0 8 x ++ bs) (sym (bytes_from 8 8 x))
 
 -- a number that fits has one spelling
 pub le_bytes-one : (n x y : ℕ) → x < 256 ^ n → y < 256 ^ n → le_bytes n x ≡ le_bytes n y → x ≡ y

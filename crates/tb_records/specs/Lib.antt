@@ -7,6 +7,7 @@ pub mod Ordered
 pub mod RecordBytes
 pub mod ReplyFrames
 pub mod ReplyHeaders
+pub mod ReplyTests
 pub mod Same
 pub mod Sizes
 pub mod Transport

@@ -2,9 +2,21 @@
 use Rattle.std.specs.Prelude.{ℕ, ◌≡◌, ◌==◌, List, flat_map, All, None, if◌then◌else◌}
 use Rattle.tb_records.specs.declared.bodies.ReplyBody.{ReplyBody}
 use Rattle.tb_records.specs.declared.answering.ReplyHeader.{ReplyHeader}
-use Rattle.tb_records.specs.Messages.{status_code, kind_of, kind_for}
+use Rattle.tb_records.specs.Messages.{status_code, first_fault, kind_of, kind_for}
 use Rattle.tb_records.specs.Frames.{client_at, session_at, request_at, operation_at, length_at}
 use Rattle.tb_records.specs.ReplyFrames.{status_at, commit_at, reply_header_fault, reply_body_bytes, ReplyBodyFits}
+use Rattle.tb_records.specs.ReplyTests.{reply_field_tests}
+
+-- the bytes begin with these fields, none of which has a fault by itself
+pub record HasReplyFields (b : List ℕ) (h : ReplyHeader) : Type 0 where
+  pub none : first_fault (reply_field_tests b) ≡ None
+  pub client : h.client ≡ client_at b
+  pub session : h.session ≡ session_at b
+  pub request : h.request ≡ request_at b
+  pub operation : h.operation ≡ operation_at b
+  pub status : status_code h.status ≡ status_at b
+  pub commit : h.commit ≡ commit_at b
+  pub len : h.len ≡ length_at b
 
 -- the bytes begin with a header that has no fault and these fields
 pub record IsReplyHeader (b : List ℕ) (h : ReplyHeader) : Type 0 where

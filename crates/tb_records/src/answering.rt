@@ -1,15 +1,16 @@
 //! Replies read from bytes.
 ghost use Rattle.std.specs.Prelude.{◌≡◌, ◌≤◌, ◌*◌, ◌++◌, ℕ, List, Some, None, length, IsTrue, IfOk, MatchResult};
-ghost use Rattle.tb_records.specs.Messages.{Answer};
+ghost use Rattle.tb_records.specs.Messages.{Answer, first_fault};
 ghost use Rattle.tb_records.specs.ReplyFrames.{reply_header_fault, reply_item_size, has_reply_length, SpellsReply, FoundReply, OnlyThisReply};
-ghost use Rattle.tb_records.specs.ReplyHeaders.{IsReplyHeader, IsReplyBody, SpelledItems};
+ghost use Rattle.tb_records.specs.ReplyHeaders.{HasReplyFields, IsReplyHeader, IsReplyBody, SpelledItems};
+ghost use Rattle.tb_records.specs.ReplyTests.{reply_field_tests, reply_length_tests};
 
 use crate::bodies::ReplyBody;
 use crate::encoding::{u8_at, u16_at, u32_at, u64_at, u128_at};
 use crate::faults::FrameFault;
 use crate::layout::Item;
 use crate::lists::Items;
-use crate::replies::{Reply, Status, is_known, numbers_agree, suits_register};
+use crate::replies::{Reply, Status, is_known, numbers_fault};
 use std::alloc::{AllocError, Global};
 
 /// The header of a reply, whose numbers go together.
@@ -25,61 +26,74 @@ pub(crate) struct ReplyHeader {
     pub len: u32,
 }
 
+/// The fields at the beginning of the bytes; or what is wrong with the client, the operation, the status or the zero bytes.
+fn fields_in(bytes: &[u8]) -> Result<ReplyHeader, FrameFault>
+    requires { 48 ≤ length bytes.now }
+    ensures { MatchResult result (λ h. HasReplyFields bytes.now h) (λ f. first_fault (reply_field_tests bytes.now) ≡ Some f) }
+{
+    let client = u128_at(bytes, 0);
+    if client == 0 {
+        return Err(FrameFault::ClientZero);
+    }
+    let operation = u8_at(bytes, 28);
+    if !is_known(operation) {
+        return Err(FrameFault::UnknownOperation);
+    }
+    let Some(status) = Status::from_code(u8_at(bytes, 29)) else {
+        return Err(FrameFault::Reserved);
+    };
+    let low = u16_at(bytes, 30);
+    let high = u32_at(bytes, 44);
+    if low != 0 || high != 0 {
+        return Err(FrameFault::Reserved);
+    }
+    Ok(ReplyHeader {
+        client,
+        session: u64_at(bytes, 16),
+        request: u32_at(bytes, 24),
+        operation,
+        status,
+        commit: u64_at(bytes, 36),
+        len: u32_at(bytes, 32),
+    })
+}
+
+/// What is wrong with the length of a reply's body.
+fn length_fault(operation: u8, status: u8, len: u32) -> Option<FrameFault>
+    ensures { result ≡ first_fault (reply_length_tests operation status len) }
+{
+    if !is_long(operation, status, len) {
+        return Some(FrameFault::BadLength);
+    }
+    if len / item_size(operation) > 8190 {
+        return Some(FrameFault::TooMany);
+    }
+    None
+}
+
 /// The header at the beginning of the bytes, or what is wrong with it.
-#[tactic(auto, unfolding(crate::specs::ReplyFrames::reply_header_fault))]
 fn header_in(bytes: &[u8]) -> Result<ReplyHeader, FrameFault>
     requires { 48 ≤ length bytes.now }
     ensures { MatchResult result (λ h. IsReplyHeader bytes.now h) (λ f. reply_header_fault bytes.now ≡ Some f) }
 {
-    let client = u128_at(bytes, 0);
-    let session = u64_at(bytes, 16);
-    let request = u32_at(bytes, 24);
-    let operation = u8_at(bytes, 28);
-    let code = u8_at(bytes, 29);
-    let low = u16_at(bytes, 30);
-    let len = u32_at(bytes, 32);
-    let commit = u64_at(bytes, 36);
-    let high = u32_at(bytes, 44);
-    let suits = suits_register(code, session, request);
-    let agree = numbers_agree(operation, code, session, commit);
-    let size = item_size(operation);
-    let long = is_long(operation, code, len);
-    if client == 0 {
-        return Err(FrameFault::ClientZero);
-    }
-    if !is_known(operation) {
-        return Err(FrameFault::UnknownOperation);
-    }
-    let Some(status) = Status::from_code(code) else {
-        return Err(FrameFault::Reserved);
+    let header = match fields_in(bytes) {
+        Ok(header) => header,
+        Err(fault) => return Err(fault),
     };
-    if low != 0 || high != 0 {
-        return Err(FrameFault::Reserved);
-    }
-    if operation == 2 && !suits {
-        return Err(FrameFault::RegisterNumbers);
-    }
-    if operation != 2 && request == 0 {
-        return Err(FrameFault::RequestZero);
-    }
-    if !agree {
-        return Err(FrameFault::ReplyNumbers);
-    }
-    if !long {
-        return Err(FrameFault::BadLength);
-    }
-    if len / size > 8190 {
-        return Err(FrameFault::TooMany);
-    }
-    Ok(ReplyHeader {
-        client,
-        session,
-        request,
-        operation,
+    let status = header.status.code();
+    if let Some(fault) = numbers_fault(
+        header.operation,
         status,
-        commit,
-        len,
-    })
+        header.session,
+        header.request,
+        header.commit,
+    ) {
+        return Err(fault);
+    }
+    if let Some(fault) = length_fault(header.operation, status, header.len) {
+        return Err(fault);
+    }
+    Ok(header)
 }
 
 /// The size of one item in the reply to an operation: a record, or a result.

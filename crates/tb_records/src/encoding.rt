@@ -4,12 +4,15 @@ ghost use Rattle.tb_records.specs.Numbers.{le_bytes, le_at};
 
 use byteorder::{ByteOrder, LittleEndian};
 
-/// Writes 16 bytes at a place.
+/// Writes 16 bytes at a place, as two halves of 8: each half is one store, where the compiler would take a whole number
+/// apart into its bytes.
 pub(crate) fn put_u128(out: &mut [u8], at: usize, number: u128)
     requires { at + 16 ≤ length out.old }
     ensures { take (at + 16) out.new ≡ take at out.old ++ le_bytes 16 number }
 {
-    LittleEndian::write_u128(&mut out[at..at + 16], number);
+    let base = 0x1_0000_0000_0000_0000;
+    put_u64(out, at, (number % base) as u64);
+    put_u64(out, at + 8, (number / base) as u64);
 }
 
 /// Writes 8 bytes at a place.

@@ -21,6 +21,8 @@ pub mod requests;
 pub mod streams;
 #[cfg(test)]
 mod tests;
+#[cfg(test)]
+mod vectors;
 pub mod writing;
 
 pub use answering::read_reply;

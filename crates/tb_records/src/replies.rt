@@ -1,6 +1,7 @@
 //! Replies whose numbers and bodies go together.
-ghost use Rattle.std.specs.Prelude.{◌≡◌, ◌≢◌, ◌<◌, MatchOption, IfOk, Ok, Err};
-ghost use Rattle.tb_records.specs.Messages.{status_code, operation, answered, answer_fault, has_reply_numbers, has_register_numbers, is_operation, kind_for, IsRight};
+ghost use Rattle.std.specs.Prelude.{◌≡◌, ◌≢◌, ◌==◌, ◌<◌, MatchOption, IfOk, Ok, Err, if◌then◌else◌};
+ghost use Rattle.tb_records.specs.Messages.{status_code, operation, answered, answer_fault, first_fault, has_reply_numbers, has_register_numbers, is_operation, kind_for, IsRight};
+ghost use Rattle.tb_records.specs.ReplyTests.{reply_number_tests};
 
 use crate::bodies::ReplyBody;
 use crate::faults::FrameFault;
@@ -93,10 +94,13 @@ pub(crate) fn is_known(operation: u8) -> bool
     operation == 2 || operation == 129 || operation == 130 || operation == 131 || operation == 132
 }
 
-/// The kind of body that the reply to an operation has: 0 none, 1 results, 2 accounts, 3 transfers.
-fn kind_of_reply(operation: u8) -> u8
-    ensures { result ≡ kind_for operation }
+/// The kind of body that an operation and a status ask for: 0 none, 1 results, 2 accounts, 3 transfers.
+fn kind_of_reply(operation: u8, status: u8) -> u8
+    ensures { result ≡ (if status == 0 then kind_for operation else 0) }
 {
+    if status != 0 {
+        return 0;
+    }
     match operation {
         2 => 0,
         131 => 2,
@@ -106,7 +110,7 @@ fn kind_of_reply(operation: u8) -> u8
 }
 
 /// Says that a register's reply has request 0, and session 0 where it is a refusal.
-pub(crate) fn suits_register(status: u8, session: u64, request: u32) -> bool
+fn suits_register(status: u8, session: u64, request: u32) -> bool
     ensures { result ≡ has_register_numbers status session request }
 {
     request == 0 && (status == 0 || session == 0)
@@ -114,7 +118,7 @@ pub(crate) fn suits_register(status: u8, session: u64, request: u32) -> bool
 
 /// Says that a reply's session and commit number go together: a refusal has commit 0, the reply to a register has its
 /// commit as session, and any other reply a session before its commit.
-pub(crate) fn numbers_agree(operation: u8, status: u8, session: u64, commit: u64) -> bool
+fn numbers_agree(operation: u8, status: u8, session: u64, commit: u64) -> bool
     ensures { result ≡ has_reply_numbers operation status session commit }
 {
     if status != 0 {
@@ -124,6 +128,29 @@ pub(crate) fn numbers_agree(operation: u8, status: u8, session: u64, commit: u64
     } else {
         session != 0 && session < commit
     }
+}
+
+/// What is wrong with the numbers of a reply: the request of a register or of any other operation, or the session and the
+/// commit number.
+pub(crate) fn numbers_fault(
+    operation: u8,
+    status: u8,
+    session: u64,
+    request: u32,
+    commit: u64,
+) -> Option<FrameFault>
+    ensures { result ≡ first_fault (reply_number_tests operation status session request commit) }
+{
+    if operation == 2 && !suits_register(status, session, request) {
+        return Some(FrameFault::RegisterNumbers);
+    }
+    if operation != 2 && request == 0 {
+        return Some(FrameFault::RequestZero);
+    }
+    if !numbers_agree(operation, status, session, commit) {
+        return Some(FrameFault::ReplyNumbers);
+    }
+    None
 }
 
 impl Reply {
@@ -141,29 +168,16 @@ impl Reply {
         ensures { let r = answered client session request operation status commit body in MatchOption (answer_fault r) (result ≡ Ok r) (λ f. result ≡ Err f) }
     {
         let code = status.code();
-        let suits = suits_register(code, session, request);
-        let agree = numbers_agree(operation, code, session, commit);
-        let kind = if code == 0 {
-            kind_of_reply(operation)
-        } else {
-            0
-        };
         if client == 0 {
             return Err(FrameFault::ClientZero);
         }
         if !is_known(operation) {
             return Err(FrameFault::UnknownOperation);
         }
-        if operation == 2 && !suits {
-            return Err(FrameFault::RegisterNumbers);
+        if let Some(fault) = numbers_fault(operation, code, session, request, commit) {
+            return Err(fault);
         }
-        if operation != 2 && request == 0 {
-            return Err(FrameFault::RequestZero);
-        }
-        if !agree {
-            return Err(FrameFault::ReplyNumbers);
-        }
-        if body.kind() != kind {
+        if body.kind() != kind_of_reply(operation, code) {
             return Err(FrameFault::BadLength);
         }
         if body.len() > 8190 {

@@ -1,4 +1,4 @@
-//! The vectors of replies, and what writers do that fail or take nothing.
+//! The vectors of replies, requests and replies as they are written, and what writers do that fail or take nothing.
 use crate::answering::read_reply;
 use crate::bodies::{Body, ReplyBody};
 use crate::devices::{Counting, Sink};
@@ -7,264 +7,232 @@ use crate::lists::Items;
 use crate::records::{Account, EventResult, Transfer};
 use crate::replies::{Reply, Status};
 use crate::requests::Request;
+use crate::vectors::{
+    CREATED, CREATION, REGISTER, REGISTERED, account, creation, found_bytes, lookup, movement,
+    record, transfer, two_behind, with,
+};
 use crate::writing::{send_reply, write_reply, write_request};
-use std::alloc::Global;
+use std::alloc::{AllocError, Global};
 use std::io;
 use std::io::{Error, ErrorKind, Write};
-use std::process::Abort;
-use std::test::Fail;
 
-/// Client 7 registers.
-const REGISTER: [u8; 48] = [
+/// Events 0, 1 and 2 have the codes 1, 21 and 1: the reply to the third request of session 1, by entry 4.
+const BROKEN_CHAIN: [u8; 72] = [
     7, 0, 0, 0, 0, 0, 0, 0, 0, 0, 0, 0, 0, 0, 0, 0, //
-    0, 0, 0, 0, 0, 0, 0, 0, 0, 0, 0, 0, 2, 0, 0, 0, //
-    0, 0, 0, 0, 0, 0, 0, 0, 0, 0, 0, 0, 0, 0, 0, 0,
-];
-
-/// Client 7 has session 1.
-const REGISTERED: [u8; 48] = [
-    7, 0, 0, 0, 0, 0, 0, 0, 0, 0, 0, 0, 0, 0, 0, 0, //
-    1, 0, 0, 0, 0, 0, 0, 0, 0, 0, 0, 0, 2, 0, 0, 0, //
-    0, 0, 0, 0, 1, 0, 0, 0, 0, 0, 0, 0, 0, 0, 0, 0,
-];
-
-/// Client 7, session 1, request 1: creates two accounts.
-const CREATION: [u8; 48] = [
-    7, 0, 0, 0, 0, 0, 0, 0, 0, 0, 0, 0, 0, 0, 0, 0, //
-    1, 0, 0, 0, 0, 0, 0, 0, 1, 0, 0, 0, 0x81, 0, 0, 0, //
-    0, 1, 0, 0, 0, 0, 0, 0, 0, 0, 0, 0, 0, 0, 0, 0,
-];
-
-/// Both accounts were created, by entry 2.
-const CREATED: [u8; 48] = [
-    7, 0, 0, 0, 0, 0, 0, 0, 0, 0, 0, 0, 0, 0, 0, 0, //
-    1, 0, 0, 0, 0, 0, 0, 0, 1, 0, 0, 0, 0x81, 0, 0, 0, //
-    0, 0, 0, 0, 2, 0, 0, 0, 0, 0, 0, 0, 0, 0, 0, 0,
-];
-
-/// Two accounts were found, by entry 3.
-const FOUND: [u8; 48] = [
-    7, 0, 0, 0, 0, 0, 0, 0, 0, 0, 0, 0, 0, 0, 0, 0, //
-    1, 0, 0, 0, 0, 0, 0, 0, 2, 0, 0, 0, 0x83, 0, 0, 0, //
-    0, 1, 0, 0, 3, 0, 0, 0, 0, 0, 0, 0, 0, 0, 0, 0,
-];
-
-/// Events 0, 1 and 2 were not accepted, with the codes 1, 21 and 1.
-const BROKEN_CHAIN: [u8; 24] = [
+    1, 0, 0, 0, 0, 0, 0, 0, 3, 0, 0, 0, 0x82, 0, 0, 0, //
+    24, 0, 0, 0, 4, 0, 0, 0, 0, 0, 0, 0, 0, 0, 0, 0, //
     0, 0, 0, 0, 1, 0, 0, 0, //
     1, 0, 0, 0, 0x15, 0, 0, 0, //
     2, 0, 0, 0, 1, 0, 0, 0,
 ];
 
-/// The last 16 bytes of an account: ledger 700, code 10, and the time of its creation.
-fn last(time: u8) -> [u8; 16] {
-    [0xbc, 2, 0, 0, 10, 0, 0, 0, time, 0, 0, 0, 0, 0, 0, 0]
-}
+/// Two transfers were found: the reply to the fourth, by entry 5.
+const MOVED: [u8; 48] = [
+    7, 0, 0, 0, 0, 0, 0, 0, 0, 0, 0, 0, 0, 0, 0, 0, //
+    1, 0, 0, 0, 0, 0, 0, 0, 4, 0, 0, 0, 0x84, 0, 0, 0, //
+    0, 1, 0, 0, 5, 0, 0, 0, 0, 0, 0, 0, 0, 0, 0, 0,
+];
 
-/// The 128 bytes of an account.
-fn record(id: u8, time: u8) -> [u8; 128] {
-    let mut bytes = [0; 128];
-    bytes[0] = id;
-    bytes[112..].copy_from_slice(&last(time));
-    bytes
-}
+/// The fifth, a lookup of transfers, is refused: its session is too low.
+const TOO_LOW: [u8; 48] = [
+    7, 0, 0, 0, 0, 0, 0, 0, 0, 0, 0, 0, 0, 0, 0, 0, //
+    1, 0, 0, 0, 0, 0, 0, 0, 5, 0, 0, 0, 0x84, 2, 0, 0, //
+    0, 0, 0, 0, 0, 0, 0, 0, 0, 0, 0, 0, 0, 0, 0, 0,
+];
 
-fn account(id: u128, timestamp: u64) -> Account {
-    Account {
-        id,
-        debits_pending: 0,
-        debits_posted: 0,
-        credits_pending: 0,
-        credits_posted: 0,
-        user_data_128: 0,
-        user_data_64: 0,
-        user_data_32: 0,
-        reserved: 0,
-        ledger: 700,
-        code: 10,
-        flags: 0,
-        timestamp,
+/// The items, or NoMemory.
+fn items<T: Copy + Drop>(alloc: Global, slice: &[T]) -> Result<Items<T>, FrameFault> {
+    match Vec::from_slice(alloc, slice) {
+        Ok(vec) => Ok(Items::new(vec)),
+        Err(_) => Err(FrameFault::NoMemory),
     }
 }
 
-fn transfer(id: u128) -> Transfer {
-    Transfer {
-        id,
-        debit_account_id: 1,
-        credit_account_id: 2,
-        amount: 30,
-        pending_id: 0,
-        user_data_128: 0,
-        user_data_64: 0,
-        user_data_32: 0,
-        timeout: 0,
-        ledger: 700,
-        code: 10,
-        flags: 0,
-        timestamp: 20,
-    }
+/// A reply to a request of client 7 in session 1.
+fn answer(number: u32, operation: u8, commit: u64, body: ReplyBody) -> Result<Reply, FrameFault> {
+    Reply::new(7, 1, number, operation, Status::Reply, commit, body)
 }
 
-/// The reply to the register of client 7.
-fn registered() -> Result<Reply, FrameFault> {
-    Reply::new(7, 1, 0, 2, Status::Reply, 1, ReplyBody::Empty)
+/// A request of client 7 in session 1.
+fn ask(number: u32, body: Body) -> Result<Request, FrameFault> {
+    Request::new(7, 1, number, body)
+}
+
+/// The reply that lists results.
+fn results(
+    alloc: Global,
+    number: u32,
+    operation: u8,
+    commit: u64,
+    codes: &[EventResult],
+) -> Result<Reply, FrameFault> {
+    answer(
+        number,
+        operation,
+        commit,
+        ReplyBody::Results(items(alloc, codes)?),
+    )
+}
+
+/// The reply that lists accounts.
+fn accounts(
+    alloc: Global,
+    number: u32,
+    commit: u64,
+    found: &[Account],
+) -> Result<Reply, FrameFault> {
+    let body = ReplyBody::Accounts(items(alloc, found)?);
+    answer(number, 131, commit, body)
+}
+
+/// The reply that lists transfers.
+fn transfers(
+    alloc: Global,
+    number: u32,
+    commit: u64,
+    found: &[Transfer],
+) -> Result<Reply, FrameFault> {
+    let body = ReplyBody::Transfers(items(alloc, found)?);
+    answer(number, 132, commit, body)
 }
 
 /// The reply to the lookup of accounts 2, 9 and 1.
-fn found(alloc: Global) -> Result<Reply, Fail> {
-    let accounts = [account(2, 12), account(1, 11)].to_vec(alloc)?;
-    Ok(Reply::new(
-        7,
-        1,
-        2,
-        131,
-        Status::Reply,
-        3,
-        ReplyBody::Accounts(Items::new(accounts)),
-    )?)
+fn found(alloc: Global) -> Result<Reply, FrameFault> {
+    accounts(alloc, 2, 3, &[account(2, 12), account(1, 11)])
 }
 
-/// The frame of that reply.
-fn found_bytes(alloc: Global) -> Result<Vec<u8>, Fail> {
-    let mut bytes = Vec::new(alloc);
-    bytes.extend_from_slice(&FOUND)?;
-    bytes.extend_from_slice(&record(2, 12))?;
-    bytes.extend_from_slice(&record(1, 11))?;
-    Ok(bytes)
+/// The request that creates accounts 1 and 2.
+fn creating(alloc: Global) -> Result<Request, FrameFault> {
+    let events = items(alloc, &[account(1, 0), account(2, 0)])?;
+    ask(1, Body::CreateAccounts(events))
 }
 
-/// Writes the reply, which must spell the bytes, and reads it again.
-fn both_ways(rt: &impl Abort, alloc: Global, reply: &Reply, bytes: &[u8]) -> Result<Reply, Fail> {
+/// The request that looks up accounts 2, 9 and 1.
+fn looking_up(alloc: Global) -> Result<Request, FrameFault> {
+    let ids = items(alloc, &[2u128, 9, 1])?;
+    ask(2, Body::LookupAccounts(ids))
+}
+
+/// Says that the reply is appended as these bytes.
+fn is_written(alloc: Global, reply: &Reply, bytes: &[u8]) -> bool {
     let mut out = Vec::new(alloc);
-    write_reply(reply, &mut out)?;
-    assert!(rt; out.as_slice() == bytes);
+    write_reply(reply, &mut out).is_ok() && out.as_slice() == bytes
+}
+
+/// Says that the reply is sent as these bytes.
+fn is_sent(alloc: Global, reply: &Reply, bytes: &[u8]) -> bool {
     let mut sink = Counting::new(Vec::new(alloc));
-    send_reply(&mut sink, reply)?;
-    assert!(rt; sink.into_inner().as_slice() == bytes);
-    let (read, n) = read_reply(alloc, bytes)?;
-    assert!(rt; n == bytes.len());
-    assert!(rt;
-        read.client() == reply.client()
-            && read.session() == reply.session()
-            && read.request() == reply.request()
-    );
-    assert!(rt;
-        read.operation() == reply.operation()
-            && read.status() == reply.status()
-            && read.commit() == reply.commit()
-    );
-    Ok(read)
+    send_reply(&mut sink, reply).is_ok() && sink.into_inner().as_slice() == bytes
+}
+
+/// Says that both list the same.
+fn same_list(a: &ReplyBody, b: &ReplyBody) -> bool {
+    match (a, b) {
+        (ReplyBody::Empty, ReplyBody::Empty) => true,
+        (ReplyBody::Results(a), ReplyBody::Results(b)) => a.as_slice() == b.as_slice(),
+        (ReplyBody::Accounts(a), ReplyBody::Accounts(b)) => a.as_slice() == b.as_slice(),
+        (ReplyBody::Transfers(a), ReplyBody::Transfers(b)) => a.as_slice() == b.as_slice(),
+        _ => false,
+    }
+}
+
+/// Says that both replies are the same.
+fn same(a: &Reply, b: &Reply) -> bool {
+    a.client() == b.client()
+        && a.session() == b.session()
+        && a.request() == b.request()
+        && a.operation() == b.operation()
+        && a.status() == b.status()
+        && a.commit() == b.commit()
+        && same_list(a.body(), b.body())
+}
+
+/// Says that the reply is read from these bytes.
+fn is_read(alloc: Global, reply: &Reply, bytes: &[u8]) -> bool {
+    match read_reply(alloc, bytes) {
+        Ok((read, n)) => n == bytes.len() && same(&read, reply),
+        Err(_) => false,
+    }
+}
+
+/// Says that there is a reply, which is written and sent as these bytes and read from them.
+fn both_ways(alloc: Global, reply: Result<Reply, FrameFault>, bytes: &[u8]) -> bool {
+    match reply {
+        Ok(reply) => {
+            is_written(alloc, &reply, bytes)
+                && is_sent(alloc, &reply, bytes)
+                && is_read(alloc, &reply, bytes)
+        }
+        Err(_) => false,
+    }
 }
 
 #[test]
-fn replies_both_ways(rt: HostRuntime) -> Result<(), Fail> {
+fn replies_both_ways(rt: HostRuntime) {
     let alloc = rt.alloc();
-    let read = both_ways(&rt, alloc, &registered()?, &REGISTERED)?;
-    assert_eq!(rt; read.body().len(), 0);
-    let created = Reply::new(
-        7,
-        1,
-        1,
-        129,
-        Status::Reply,
-        2,
-        ReplyBody::Results(Items::new(Vec::new(alloc))),
-    )?;
-    let read = both_ways(&rt, alloc, &created, &CREATED)?;
-    assert!(rt; matches!(read.body(), ReplyBody::Results(_)));
-    let read = both_ways(&rt, alloc, &found(alloc)?, &found_bytes(alloc)?)?;
-    match read.body() {
-        ReplyBody::Accounts(accounts) => assert!(rt;
-            accounts.as_slice() == [account(2, 12), account(1, 11)].as_slice()
-        ),
-        _ => panic!(rt; "accounts were found"),
-    }
-    Ok(())
+    let registered = answer(0, 2, 1, ReplyBody::Empty);
+    assert!(rt; both_ways(alloc, registered, &REGISTERED));
+    let created = results(alloc, 1, 129, 2, &[]);
+    assert!(rt; both_ways(alloc, created, &CREATED));
+    assert!(rt; both_ways(alloc, found(alloc), &found_bytes()));
 }
 
 #[test]
-fn results_and_transfers_both_ways(rt: HostRuntime) -> Result<(), Fail> {
-    let alloc = rt.alloc();
-    let codes = [(0, 1), (1, 21), (2, 1)];
-    let mut results = Vec::new(alloc);
-    for (index, result) in codes {
-        results.push(EventResult { index, result })?;
-    }
-    let reply = Reply::new(
-        7,
-        1,
-        3,
-        130,
-        Status::Reply,
-        4,
-        ReplyBody::Results(Items::new(results)),
-    )?;
-    let mut bytes = Vec::new(alloc);
-    write_reply(&reply, &mut bytes)?;
-    assert_eq!(rt; bytes.len(), 72);
-    assert!(rt; bytes[48..] == BROKEN_CHAIN[..]);
-    let read = both_ways(&rt, alloc, &reply, bytes.as_slice())?;
-    assert_eq!(rt; read.body().len(), 3);
-    let transfers = [transfer(9), transfer(8)].to_vec(alloc)?;
-    let reply = Reply::new(
-        7,
-        1,
-        4,
-        132,
-        Status::Reply,
-        5,
-        ReplyBody::Transfers(Items::new(transfers)),
-    )?;
-    let mut bytes = Vec::new(alloc);
-    write_reply(&reply, &mut bytes)?;
-    let read = both_ways(&rt, alloc, &reply, bytes.as_slice())?;
-    match read.body() {
-        ReplyBody::Transfers(transfers) => assert!(rt;
-            transfers.as_slice() == [transfer(9), transfer(8)].as_slice()
-        ),
-        _ => panic!(rt; "transfers were found"),
-    }
-    Ok(())
+fn results_both_ways(rt: HostRuntime) {
+    let mut codes = [EventResult {
+        index: 0,
+        result: 1,
+    }; 3];
+    codes[1] = EventResult {
+        index: 1,
+        result: 21,
+    };
+    codes[2] = EventResult {
+        index: 2,
+        result: 1,
+    };
+    let reply = results(rt.alloc(), 3, 130, 4, &codes);
+    assert!(rt; both_ways(rt.alloc(), reply, &BROKEN_CHAIN));
 }
 
 #[test]
-fn requests_are_written(rt: HostRuntime) -> Result<(), Fail> {
-    let alloc = rt.alloc();
-    let mut out = Vec::new(alloc);
-    write_request(&Request::new(7, 0, 0, Body::Register)?, &mut out)?;
-    assert!(rt; out.as_slice() == REGISTER.as_slice());
-    let events = [account(1, 0), account(2, 0)].to_vec(alloc)?;
-    let mut bytes = Vec::new(alloc);
-    bytes.extend_from_slice(&REGISTER)?;
-    bytes.extend_from_slice(&CREATION)?;
-    bytes.extend_from_slice(&record(1, 0))?;
-    bytes.extend_from_slice(&record(2, 0))?;
-    write_request(
-        &Request::new(7, 1, 1, Body::CreateAccounts(Items::new(events)))?,
-        &mut out,
-    )?;
-    assert!(rt; out.as_slice() == bytes.as_slice());
-    Ok(())
+fn transfers_both_ways(rt: HostRuntime) {
+    let reply = transfers(rt.alloc(), 4, 5, &[transfer(9), transfer(8)]);
+    let bytes = two_behind(&MOVED, &movement(9), &movement(8));
+    assert!(rt; both_ways(rt.alloc(), reply, &bytes));
 }
 
-/// The fault of the bytes with one of them changed.
-fn fault_with(
-    alloc: Global,
-    bytes: &[u8],
-    at: usize,
-    byte: u8,
-) -> Result<Option<FrameFault>, Fail> {
-    let mut changed = bytes.to_vec(alloc)?;
-    if let Some(place) = changed.get_mut(at) {
-        *place = byte;
+/// Says that there is a request, which is appended to other bytes as these.
+fn is_appended(alloc: Global, request: Result<Request, FrameFault>, bytes: &[u8]) -> bool {
+    match (request, REGISTER.to_vec(alloc)) {
+        (Ok(request), Ok(mut out)) => {
+            write_request(&request, &mut out).is_ok()
+                && out.as_slice().starts_with(&REGISTER)
+                && out.as_slice().ends_with(bytes)
+                && out.len() == 48 + bytes.len()
+        }
+        _ => false,
     }
-    Ok(read_reply(alloc, changed.as_slice()).err())
 }
 
 #[test]
-fn reply_faults_in_order(rt: HostRuntime) -> Result<(), Fail> {
+fn requests_are_written(rt: HostRuntime) {
     let alloc = rt.alloc();
-    let of_register = [
+    let register = Request::new(7, 0, 0, Body::Register);
+    assert!(rt; is_appended(alloc, register, &REGISTER));
+    assert!(rt; is_appended(alloc, creating(alloc), &creation(&CREATION)));
+    assert!(rt; is_appended(alloc, looking_up(alloc), &lookup()));
+}
+
+/// The fault of the bytes.
+fn fault_in(alloc: Global, bytes: &[u8]) -> Option<FrameFault> {
+    read_reply(alloc, bytes).err()
+}
+
+#[test]
+fn reply_faults_in_order(rt: HostRuntime) {
+    let alloc = rt.alloc();
+    let cases = [
         (0, 0, FrameFault::ClientZero),
         (28, 3, FrameFault::UnknownOperation),
         (29, 8, FrameFault::Reserved),
@@ -275,14 +243,16 @@ fn reply_faults_in_order(rt: HostRuntime) -> Result<(), Fail> {
         (36, 2, FrameFault::ReplyNumbers),
         (32, 8, FrameFault::BadLength),
     ];
-    for (at, byte, fault) in of_register {
-        assert_eq!(rt;
-            fault_with(alloc, &REGISTERED, at, byte)?,
-            Some(fault),
-            "byte {at} is {byte}"
-        );
+    for (at, byte, fault) in cases {
+        let found = fault_in(alloc, &with(&REGISTERED, at, byte));
+        assert!(rt; found == Some(fault), "byte {at} is {byte}");
     }
-    let of_creation = [
+    assert!(rt; fault_in(alloc, &REGISTERED[..47]) == Some(FrameFault::Short));
+}
+
+#[test]
+fn created_faults_in_order(rt: HostRuntime) {
+    let cases = [
         (24, 0, FrameFault::RequestZero),
         (29, 4, FrameFault::ReplyNumbers),
         (36, 1, FrameFault::ReplyNumbers),
@@ -290,183 +260,155 @@ fn reply_faults_in_order(rt: HostRuntime) -> Result<(), Fail> {
         (34, 1, FrameFault::TooMany),
         (32, 8, FrameFault::Short),
     ];
-    for (at, byte, fault) in of_creation {
-        assert_eq!(rt;
-            fault_with(alloc, &CREATED, at, byte)?,
-            Some(fault),
-            "byte {at} is {byte}"
-        );
+    for (at, byte, fault) in cases {
+        let found = fault_in(rt.alloc(), &with(&CREATED, at, byte));
+        assert!(rt; found == Some(fault), "byte {at} is {byte}");
     }
-    assert_eq!(rt;
-        read_reply(alloc, &REGISTERED[..47]).err(),
-        Some(FrameFault::Short)
-    );
-    Ok(())
 }
 
-#[test]
-fn faults_of_new_replies(rt: HostRuntime) -> Result<(), Fail> {
-    let alloc = rt.alloc();
-    let cases = [
-        (0, 1, 1, 129, Status::Reply, 2, Some(FrameFault::ClientZero)),
-        (
-            7,
-            1,
-            1,
-            3,
-            Status::Reply,
-            2,
-            Some(FrameFault::UnknownOperation),
-        ),
-        (
-            7,
-            1,
-            1,
-            2,
-            Status::Reply,
-            1,
-            Some(FrameFault::RegisterNumbers),
-        ),
-        (
-            7,
-            1,
-            0,
-            2,
-            Status::NotYet,
-            0,
-            Some(FrameFault::RegisterNumbers),
-        ),
-        (
-            7,
-            1,
-            0,
-            129,
-            Status::Reply,
-            2,
-            Some(FrameFault::RequestZero),
-        ),
-        (7, 1, 0, 2, Status::Reply, 2, Some(FrameFault::ReplyNumbers)),
-        (
-            7,
-            1,
-            1,
-            129,
-            Status::Reply,
-            1,
-            Some(FrameFault::ReplyNumbers),
-        ),
-        (
-            7,
-            1,
-            1,
-            129,
-            Status::Older,
-            2,
-            Some(FrameFault::ReplyNumbers),
-        ),
-        (7, 1, 1, 129, Status::Reply, 2, Some(FrameFault::BadLength)),
-        (7, 1, 1, 129, Status::Older, 0, None),
-        (7, 1, 0, 2, Status::Reply, 1, None),
-    ];
-    for (client, session, request, operation, status, commit, fault) in cases {
-        let reply = Reply::new(
-            client,
-            session,
-            request,
-            operation,
-            status,
-            commit,
-            ReplyBody::Empty,
-        );
-        assert_eq!(rt; reply.err(), fault);
-    }
-    let none: Vec<Account> = Vec::new(alloc);
-    let accounts = ReplyBody::Accounts(Items::new(none));
-    assert_eq!(rt;
-        Reply::new(7, 1, 1, 132, Status::Reply, 2, accounts).err(),
-        Some(FrameFault::BadLength)
-    );
-    Ok(())
-}
-
-#[test]
-fn refusals_name_the_request(rt: HostRuntime) -> Result<(), Fail> {
-    let alloc = rt.alloc();
-    let ids = Items::new([9u128].to_vec(alloc)?);
-    let reply = Reply::refusal(
-        &Request::new(7, 1, 5, Body::LookupTransfers(ids))?,
-        Status::SessionTooLow,
-    );
-    let mut bytes = Vec::new(alloc);
-    write_reply(&reply, &mut bytes)?;
-    let expected: [u8; 48] = [
-        7, 0, 0, 0, 0, 0, 0, 0, 0, 0, 0, 0, 0, 0, 0, 0, //
-        1, 0, 0, 0, 0, 0, 0, 0, 5, 0, 0, 0, 0x84, 2, 0, 0, //
-        0, 0, 0, 0, 0, 0, 0, 0, 0, 0, 0, 0, 0, 0, 0, 0,
-    ];
-    both_ways(&rt, alloc, &reply, &expected)?;
-    Ok(())
-}
-
-#[test]
-fn copies_are_equal(rt: HostRuntime) -> Result<(), Fail> {
-    let alloc = rt.alloc();
-    let reply = found(alloc)?.copy(alloc)?;
-    both_ways(&rt, alloc, &reply, &found_bytes(alloc)?)?;
-    let events = Items::new([account(1, 0), account(2, 0)].to_vec(alloc)?);
-    let request = Request::new(7, 1, 1, Body::CreateAccounts(events))?;
-    let copy = request.copy(alloc)?;
-    assert!(rt; copy.client() == 7 && copy.session() == 1 && copy.request() == 1);
-    assert!(rt; copy.body().same(request.body()));
-    assert!(rt; !copy.body().same(&Body::Register));
-    let others = Items::new([account(1, 0), account(3, 0)].to_vec(alloc)?);
-    assert!(rt; !copy.body().same(&Body::CreateAccounts(others)));
-    let transfers = Items::new([transfer(1)].to_vec(alloc)?);
-    let creation = Body::CreateTransfers(transfers);
-    assert!(rt; creation.copy(alloc)?.same(&creation));
-    let ids = Body::LookupAccounts(Items::new([1u128].to_vec(alloc)?));
-    assert!(rt; !ids.same(&Body::LookupTransfers(Items::new([1u128].to_vec(alloc)?))));
-    Ok(())
-}
-
-#[test]
-fn largest_reply(rt: HostRuntime) -> Result<(), Fail> {
-    let alloc = rt.alloc();
-    let results = vec![in alloc; EventResult {
-        index: 1,
-        result: 2
-    }; 8190]?;
-    let reply = Reply::new(
-        7,
+/// The fault of a new reply in session 1 with no body.
+fn fault_of(
+    client: u128,
+    request: u32,
+    operation: u8,
+    status: Status,
+    commit: u64,
+) -> Option<FrameFault> {
+    Reply::new(
+        client,
         1,
-        1,
-        129,
-        Status::Reply,
-        2,
-        ReplyBody::Results(Items::new(results)),
-    )?;
-    let mut bytes = Vec::new(alloc);
-    write_reply(&reply, &mut bytes)?;
-    assert_eq!(rt; bytes.len(), 65568);
-    let (read, n) = read_reply(alloc, bytes.as_slice())?;
-    assert_eq!(rt; n, 65568);
-    assert_eq!(rt; read.body().len(), 8190);
-    let more = vec![in alloc; EventResult {
-        index: 1,
-        result: 2
-    }; 8191]?;
-    let fault = Reply::new(
-        7,
-        1,
-        1,
-        129,
-        Status::Reply,
-        2,
-        ReplyBody::Results(Items::new(more)),
+        request,
+        operation,
+        status,
+        commit,
+        ReplyBody::Empty,
     )
-    .err();
-    assert_eq!(rt; fault, Some(FrameFault::TooMany));
-    Ok(())
+    .err()
+}
+
+#[test]
+fn faults_of_new_replies(rt: HostRuntime) {
+    let cases = [
+        (0, 1, 129, Status::Reply, 2, FrameFault::ClientZero),
+        (7, 1, 3, Status::Reply, 2, FrameFault::UnknownOperation),
+        (7, 1, 2, Status::Reply, 1, FrameFault::RegisterNumbers),
+        (7, 0, 2, Status::NotYet, 0, FrameFault::RegisterNumbers),
+        (7, 0, 129, Status::Reply, 2, FrameFault::RequestZero),
+        (7, 0, 2, Status::Reply, 2, FrameFault::ReplyNumbers),
+        (7, 1, 129, Status::Reply, 1, FrameFault::ReplyNumbers),
+        (7, 1, 129, Status::Older, 2, FrameFault::ReplyNumbers),
+        (7, 1, 129, Status::Reply, 2, FrameFault::BadLength),
+    ];
+    for (client, request, operation, status, commit, fault) in cases {
+        let found = fault_of(client, request, operation, status, commit);
+        assert!(rt;
+            found == Some(fault),
+            "operation {operation}, commit {commit}"
+        );
+    }
+    assert!(rt; fault_of(7, 1, 129, Status::Older, 0).is_none());
+    assert!(rt; fault_of(7, 0, 2, Status::Reply, 1).is_none());
+}
+
+#[test]
+fn body_of_another_kind(rt: HostRuntime) {
+    let none: Vec<Account> = Vec::new(rt.alloc());
+    let reply = answer(1, 132, 2, ReplyBody::Accounts(Items::new(none)));
+    assert!(rt; reply.err() == Some(FrameFault::BadLength));
+}
+
+/// The refusal of the fifth request, a lookup of transfer 9.
+fn too_low(alloc: Global) -> Result<Reply, FrameFault> {
+    let ids = items(alloc, &[9u128])?;
+    let request = ask(5, Body::LookupTransfers(ids))?;
+    Ok(Reply::refusal(&request, Status::SessionTooLow))
+}
+
+#[test]
+fn refusals_name_the_request(rt: HostRuntime) {
+    assert!(rt; both_ways(rt.alloc(), too_low(rt.alloc()), &TOO_LOW));
+}
+
+/// A copy of the reply to the lookup.
+fn found_copy(alloc: Global) -> Result<Reply, FrameFault> {
+    match found(alloc)?.copy(alloc) {
+        Ok(reply) => Ok(reply),
+        Err(_) => Err(FrameFault::NoMemory),
+    }
+}
+
+/// A copy of the request that creates two accounts.
+fn creating_copy(alloc: Global) -> Result<Request, FrameFault> {
+    match creating(alloc)?.copy(alloc) {
+        Ok(request) => Ok(request),
+        Err(_) => Err(FrameFault::NoMemory),
+    }
+}
+
+#[test]
+fn copies_are_equal(rt: HostRuntime) {
+    let alloc = rt.alloc();
+    assert!(rt; both_ways(alloc, found_copy(alloc), &found_bytes()));
+    assert!(rt; is_appended(alloc, creating_copy(alloc), &creation(&CREATION)));
+}
+
+/// Says that a copy of the body is the same.
+fn copies(alloc: Global, body: &Body) -> bool {
+    match body.copy(alloc) {
+        Ok(copy) => copy.same(body),
+        Err(_) => false,
+    }
+}
+
+/// The creation of two accounts.
+fn accounts_of(alloc: Global, one: u128, other: u128) -> Result<Body, FrameFault> {
+    let events = items(alloc, &[account(one, 0), account(other, 0)])?;
+    Ok(Body::CreateAccounts(events))
+}
+
+#[test]
+fn bodies_are_the_same(rt: HostRuntime) {
+    let body = accounts_of(rt.alloc(), 1, 2).expect(&rt, "memory");
+    assert!(rt; copies(rt.alloc(), &body) && !body.same(&Body::Register));
+    let other = accounts_of(rt.alloc(), 1, 3).expect(&rt, "memory");
+    assert!(rt; !body.same(&other));
+}
+
+#[test]
+fn bodies_of_other_operations(rt: HostRuntime) {
+    let ids = items(rt.alloc(), &[1u128]).expect(&rt, "memory");
+    let same_ids = items(rt.alloc(), &[1u128]).expect(&rt, "memory");
+    assert!(rt; !Body::LookupAccounts(ids).same(&Body::LookupTransfers(same_ids)));
+    let events = items(rt.alloc(), &[transfer(1)]).expect(&rt, "memory");
+    assert!(rt; copies(rt.alloc(), &Body::CreateTransfers(events)));
+}
+
+/// The reply that lists so many results.
+fn many(alloc: Global, count: usize) -> Result<Reply, FrameFault> {
+    match vec![in alloc; EventResult {
+        index: 1,
+        result: 2
+    }; count]
+    {
+        Ok(codes) => answer(1, 129, 2, ReplyBody::Results(Items::new(codes))),
+        Err(_) => Err(FrameFault::NoMemory),
+    }
+}
+
+/// The frame of the reply; none where memory is wanting.
+fn frame_of(alloc: Global, reply: &Reply) -> Result<Vec<u8>, AllocError> {
+    let mut out = Vec::new(alloc);
+    write_reply(reply, &mut out)?;
+    Ok(out)
+}
+
+#[test]
+fn largest_reply(rt: HostRuntime) {
+    let most = many(rt.alloc(), 8190).expect(&rt, "a reply");
+    let bytes = frame_of(rt.alloc(), &most).expect(&rt, "memory");
+    assert!(rt; most.body().len() == 8190 && bytes.len() == 65568);
+    assert!(rt; is_read(rt.alloc(), &most, bytes.as_slice()));
+    assert!(rt; many(rt.alloc(), 8191).err() == Some(FrameFault::TooMany));
 }
 
 /// A writer with little room, which takes at most 20 bytes at a time, and then fails or takes nothing.
@@ -493,35 +435,39 @@ impl Write for Narrow {
     }
 }
 
+/// A writer with room for so many bytes.
+fn writer_of(alloc: Global, room: usize, fails: bool) -> Counting<Narrow> {
+    let taken = Vec::new(alloc);
+    Counting::new(Narrow { taken, room, fails })
+}
+
+/// Says that the reply is sent with this answer and count of failures, and that so many bytes of its frame went out.
+fn sends(
+    mut sink: Counting<Narrow>,
+    reply: &Reply,
+    answer: Result<(), FrameFault>,
+    failures: u64,
+    taken: usize,
+) -> bool {
+    let sent = send_reply(&mut sink, reply);
+    let failed = Sink::failures(&sink);
+    let bytes = sink.into_inner().taken;
+    sent == answer
+        && failed == failures
+        && bytes.len() == taken
+        && found_bytes().starts_with(bytes.as_slice())
+}
+
 #[test]
-fn writers_that_stop_in_a_frame(rt: HostRuntime) -> Result<(), Fail> {
+fn writers_that_stop_in_a_frame(rt: HostRuntime) {
     let alloc = rt.alloc();
-    let reply = found(alloc)?;
-    let whole = found_bytes(alloc)?;
+    let reply = found(alloc).expect(&rt, "a reply");
+    let device = Err(FrameFault::Device);
     for room in [0, 30, 48, 100, 303] {
-        for fails in [false, true] {
-            let mut sink = Counting::new(Narrow {
-                taken: Vec::new(alloc),
-                room,
-                fails,
-            });
-            assert_eq!(rt;
-                send_reply(&mut sink, &reply),
-                Err(FrameFault::Device),
-                "room for {room}"
-            );
-            assert_eq!(rt; Sink::failures(&sink), u64::from(fails));
-            let writer = sink.into_inner();
-            assert_eq!(rt; writer.taken.len(), room);
-            assert!(rt; whole.as_slice().starts_with(writer.taken.as_slice()));
-        }
+        let failing = writer_of(alloc, room, true);
+        assert!(rt; sends(failing, &reply, device, 1, room), "room for {room}");
+        let full = writer_of(alloc, room, false);
+        assert!(rt; sends(full, &reply, device, 0, room), "room for {room}");
     }
-    let mut sink = Counting::new(Narrow {
-        taken: Vec::new(alloc),
-        room: 304,
-        fails: true,
-    });
-    assert_eq!(rt; send_reply(&mut sink, &reply), Ok(()));
-    assert!(rt; sink.into_inner().taken.as_slice() == whole.as_slice());
-    Ok(())
+    assert!(rt; sends(writer_of(alloc, 304, true), &reply, Ok(()), 0, 304));
 }

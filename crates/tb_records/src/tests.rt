@@ -1,4 +1,4 @@
-//! The vectors of frames and records, and what readers do that fail, end or stay at a fault.
+//! The vectors of requests and records, and what readers do that fail, end or stay at a fault.
 use crate::bodies::Body;
 use crate::devices::{Counting, Source};
 use crate::faults::FrameFault;
@@ -6,164 +6,121 @@ use crate::reading::read_request;
 use crate::records::{Account, Transfer};
 use crate::requests::Request;
 use crate::streams::{RequestStream, read_timed_from};
+use crate::vectors::{CREATION, REGISTER, account, creation, first, lookup, record, with};
 use std::alloc::{AllocError, Global};
 use std::io;
 use std::io::{Error, ErrorKind, Read};
-use std::process::Abort;
-
-/// Client 7 registers.
-const REGISTER: [u8; 48] = [
-    7, 0, 0, 0, 0, 0, 0, 0, 0, 0, 0, 0, 0, 0, 0, 0, //
-    0, 0, 0, 0, 0, 0, 0, 0, 0, 0, 0, 0, 2, 0, 0, 0, //
-    0, 0, 0, 0, 0, 0, 0, 0, 0, 0, 0, 0, 0, 0, 0, 0,
-];
-
-/// Client 7, session 1, request 1: creates two accounts.
-const CREATION: [u8; 48] = [
-    7, 0, 0, 0, 0, 0, 0, 0, 0, 0, 0, 0, 0, 0, 0, 0, //
-    1, 0, 0, 0, 0, 0, 0, 0, 1, 0, 0, 0, 0x81, 0, 0, 0, //
-    0, 1, 0, 0, 0, 0, 0, 0, 0, 0, 0, 0, 0, 0, 0, 0,
-];
-
-/// Client 7, session 1, request 2: looks up three accounts.
-const LOOKUP: [u8; 48] = [
-    7, 0, 0, 0, 0, 0, 0, 0, 0, 0, 0, 0, 0, 0, 0, 0, //
-    1, 0, 0, 0, 0, 0, 0, 0, 2, 0, 0, 0, 0x83, 0, 0, 0, //
-    48, 0, 0, 0, 0, 0, 0, 0, 0, 0, 0, 0, 0, 0, 0, 0,
-];
-
-/// The last 32 bytes of account 1 or 2: ledger 700, code 10.
-const LAST: [u8; 32] = [
-    0, 0, 0, 0, 0, 0, 0, 0, 0, 0, 0, 0, 0, 0, 0, 0, //
-    0xbc, 2, 0, 0, 10, 0, 0, 0, 0, 0, 0, 0, 0, 0, 0, 0,
-];
-
-/// The 128 bytes of an account.
-fn record(id: u8) -> [u8; 128] {
-    let mut bytes = [0; 128];
-    bytes[0] = id;
-    bytes[96..].copy_from_slice(&LAST);
-    bytes
-}
-
-fn account(id: u128) -> Account {
-    Account {
-        id,
-        debits_pending: 0,
-        debits_posted: 0,
-        credits_pending: 0,
-        credits_posted: 0,
-        user_data_128: 0,
-        user_data_64: 0,
-        user_data_32: 0,
-        reserved: 0,
-        ledger: 700,
-        code: 10,
-        flags: 0,
-        timestamp: 0,
-    }
-}
-
-/// The frame that creates accounts 1 and 2, with this header.
-fn creation(alloc: Global, header: &[u8; 48]) -> Result<Vec<u8>, AllocError> {
-    let mut bytes = Vec::new(alloc);
-    bytes.extend_from_slice(header)?;
-    bytes.extend_from_slice(&record(1))?;
-    bytes.extend_from_slice(&record(2))?;
-    Ok(bytes)
-}
-
-/// The frame that looks up accounts 2, 9 and 1.
-fn lookup() -> [u8; 96] {
-    let mut bytes = [0; 96];
-    bytes[..48].copy_from_slice(&LOOKUP);
-    bytes[48] = 2;
-    bytes[64] = 9;
-    bytes[80] = 1;
-    bytes
-}
 
 /// A register, a creation and a lookup, one behind the other.
-fn frames(alloc: Global) -> Result<Vec<u8>, AllocError> {
-    let mut bytes = creation(alloc, &CREATION)?;
-    bytes.extend_from_slice(&lookup())?;
-    let mut all = Vec::new(alloc);
-    all.extend_from_slice(&REGISTER)?;
-    all.extend_from_slice(&bytes)?;
-    Ok(all)
+fn frames() -> [u8; 448] {
+    let mut bytes = [0; 448];
+    bytes[..48].copy_from_slice(&REGISTER);
+    bytes[48..352].copy_from_slice(&creation(&CREATION));
+    bytes[352..].copy_from_slice(&lookup());
+    bytes
 }
 
-/// The header with one byte changed.
-fn with(header: &[u8; 48], at: usize, byte: u8) -> [u8; 48] {
-    let mut changed = *header;
-    if let Some(place) = changed.get_mut(at) {
-        *place = byte;
-    }
-    changed
+/// Says that the request is of client 7, with these numbers.
+fn has_numbers(request: &Request, session: u64, number: u32, operation: u8) -> bool {
+    request.client() == 7
+        && request.session() == session
+        && request.request() == number
+        && request.operation() == operation
 }
 
-fn fault_of(alloc: Global, bytes: &[u8]) -> Option<FrameFault> {
-    read_request(alloc, bytes).err()
-}
-
-fn is_register(rt: &impl Abort, request: &Request) {
-    assert!(rt; request.client() == 7 && request.session() == 0 && request.request() == 0);
-    assert!(rt; request.operation() == 2 && request.body().len() == 0);
-}
-
-fn is_creation(rt: &impl Abort, request: &Request) {
-    assert!(rt; request.client() == 7 && request.session() == 1 && request.request() == 1);
-    assert!(rt; request.operation() == 129);
+/// Says that the request creates accounts 1 and 2.
+fn creates(request: &Request) -> bool {
     match request.body() {
-        Body::CreateAccounts(events) => assert!(rt;
-            events.as_slice() == [account(1), account(2)].as_slice()
-        ),
-        _ => panic!(rt; "accounts were asked"),
+        Body::CreateAccounts(events) => {
+            events.as_slice() == [account(1, 0), account(2, 0)].as_slice()
+        }
+        _ => false,
     }
 }
 
-fn is_lookup(rt: &impl Abort, request: &Request) {
-    assert!(rt; request.client() == 7 && request.session() == 1 && request.request() == 2);
-    assert!(rt; request.operation() == 131);
+/// Says that the request looks up accounts 2, 9 and 1.
+fn looks_up(request: &Request) -> bool {
     match request.body() {
-        Body::LookupAccounts(ids) => assert!(rt; ids.as_slice() == [2u128, 9, 1].as_slice()),
-        _ => panic!(rt; "a lookup was asked"),
+        Body::LookupAccounts(ids) => ids.as_slice() == [2u128, 9, 1].as_slice(),
+        _ => false,
     }
 }
 
-#[test]
-fn records_in_bytes(rt: HostRuntime) {
-    assert_eq!(rt; account(1).to_bytes(), record(1));
-    assert_eq!(rt; Account::from_bytes(&record(2)), account(2));
+/// Which of the three frames the request has: 1 the register, 2 the creation, 3 the lookup; 0 none of them.
+fn frame_of(request: &Request) -> u32 {
+    if has_numbers(request, 0, 0, 2) {
+        1
+    } else if has_numbers(request, 1, 1, 129) && creates(request) {
+        2
+    } else if has_numbers(request, 1, 2, 131) && looks_up(request) {
+        3
+    } else {
+        0
+    }
+}
+
+/// Which of the three frames is read, and its length.
+fn read_frame(alloc: Global, bytes: &[u8]) -> Result<(u32, usize), FrameFault> {
+    match read_request(alloc, bytes) {
+        Ok((request, n)) => Ok((frame_of(&request), n)),
+        Err(fault) => Err(fault),
+    }
+}
+
+/// Which of the three frames comes next; None at the end.
+fn next_frame<R: Source + Drop>(
+    alloc: Global,
+    stream: &mut RequestStream<R>,
+) -> Result<Option<u32>, FrameFault> {
+    match stream.next_request(alloc) {
+        Ok(Some(request)) => Ok(Some(frame_of(&request))),
+        Ok(None) => Ok(None),
+        Err(fault) => Err(fault),
+    }
+}
+
+/// The moment that comes next, and which of the three frames is behind it; None at the end.
+fn timed_frame(
+    answer: Result<Option<(u64, Request)>, FrameFault>,
+) -> Result<Option<(u64, u32)>, FrameFault> {
+    match answer {
+        Ok(Some((moment, request))) => Ok(Some((moment, frame_of(&request)))),
+        Ok(None) => Ok(None),
+        Err(fault) => Err(fault),
+    }
+}
+
+/// The bytes 0, 1, 2 and so on.
+fn counted() -> [u8; 128] {
     let mut bytes = [0u8; 128];
     for (i, byte) in bytes.iter_mut().enumerate() {
         *byte = i as u8;
     }
-    let transfer = Transfer::from_bytes(&bytes);
-    assert_eq!(rt; transfer.id, 0x0f0e_0d0c_0b0a_0908_0706_0504_0302_0100);
-    assert_eq!(rt;
-        transfer.pending_id,
-        0x4f4e_4d4c_4b4a_4948_4746_4544_4342_4140
-    );
-    assert_eq!(rt; transfer.timeout, 0x6f6e_6d6c);
-    assert_eq!(rt; transfer.flags, 0x7776);
-    assert_eq!(rt; transfer.to_bytes(), bytes);
-    assert_eq!(rt; Account::from_bytes(&bytes).to_bytes(), bytes);
+    bytes
+}
+
+#[test]
+fn accounts_in_bytes(rt: HostRuntime) {
+    assert!(rt; account(1, 0).to_bytes() == record(1, 0));
+    assert!(rt; Account::from_bytes(&record(2, 0)) == account(2, 0));
+    assert!(rt; Account::from_bytes(&counted()).to_bytes() == counted());
+}
+
+#[test]
+fn transfers_in_bytes(rt: HostRuntime) {
+    let transfer = Transfer::from_bytes(&counted());
+    assert!(rt; transfer.id == 0x0f0e_0d0c_0b0a_0908_0706_0504_0302_0100);
+    assert!(rt; transfer.pending_id == 0x4f4e_4d4c_4b4a_4948_4746_4544_4342_4140);
+    assert!(rt; transfer.timeout == 0x6f6e_6d6c && transfer.flags == 0x7776);
+    assert!(rt; transfer.to_bytes() == counted());
 }
 
 #[test]
 fn frames_are_read(rt: HostRuntime) {
     let alloc = rt.alloc();
-    let (request, n) = read_request(alloc, &REGISTER).expect(&rt, "a register");
-    is_register(&rt, &request);
-    assert_eq!(rt; n, 48);
-    let bytes = creation(alloc, &CREATION).expect(&rt, "memory");
-    let (request, n) = read_request(alloc, &bytes).expect(&rt, "a creation");
-    is_creation(&rt, &request);
-    assert_eq!(rt; n, 304);
-    let (request, n) = read_request(alloc, &lookup()).expect(&rt, "a lookup");
-    is_lookup(&rt, &request);
-    assert_eq!(rt; n, 96);
+    assert_eq!(rt; read_frame(alloc, &REGISTER), Ok((1, 48)));
+    assert_eq!(rt; read_frame(alloc, &creation(&CREATION)), Ok((2, 304)));
+    assert_eq!(rt; read_frame(alloc, &lookup()), Ok((3, 96)));
 }
 
 #[test]
@@ -181,9 +138,9 @@ fn request_faults_in_order(rt: HostRuntime) {
     ];
     for (at, byte, also, other, fault) in cases {
         let header = with(&with(&REGISTER, at, byte), also, other);
-        assert_eq!(rt; fault_of(alloc, &header), Some(fault), "byte {at}");
+        assert!(rt; read_frame(alloc, &header) == Err(fault), "byte {at}");
     }
-    assert_eq!(rt; fault_of(alloc, &REGISTER[..47]), Some(FrameFault::Short));
+    assert!(rt; read_frame(alloc, &REGISTER[..47]) == Err(FrameFault::Short));
 }
 
 #[test]
@@ -198,129 +155,108 @@ fn creation_faults_in_order(rt: HostRuntime) {
     for (at, byte, low, middle, high, fault) in cases {
         let header = with(&with(&CREATION, at, byte), 32, low);
         let header = with(&with(&header, 33, middle), 34, high);
-        let bytes = creation(alloc, &header).expect(&rt, "memory");
-        assert_eq!(rt; fault_of(alloc, &bytes), Some(fault), "length {low}");
+        assert!(rt;
+            read_frame(alloc, &creation(&header)) == Err(fault),
+            "length {low}"
+        );
+    }
+}
+
+/// The frame that creates 8190 accounts, or with 0x80 as the lowest byte of its length 8191.
+fn many(alloc: Global, low: u8) -> Result<Vec<u8>, AllocError> {
+    let header = with(&with(&with(&CREATION, 32, low), 33, 0xff), 34, 0x0f);
+    let mut bytes = Vec::new(alloc);
+    bytes.extend_from_slice(&header)?;
+    let item = record(1, 0);
+    for _ in 0..8191 {
+        bytes.extend_from_slice(&item)?;
+    }
+    Ok(bytes)
+}
+
+/// The number of items that are read, and the length of their frame.
+fn read_count(alloc: Global, bytes: &[u8]) -> Result<(usize, usize), FrameFault> {
+    match read_request(alloc, bytes) {
+        Ok((request, n)) => Ok((request.body().len(), n)),
+        Err(fault) => Err(fault),
     }
 }
 
 #[test]
 fn largest_body(rt: HostRuntime) {
     let alloc = rt.alloc();
-    for (low, most) in [(0, true), (0x80, false)] {
-        let header = with(&with(&with(&CREATION, 32, low), 33, 0xff), 34, 0x0f);
-        let mut bytes = Vec::new(alloc);
-        bytes.extend_from_slice(&header).expect(&rt, "memory");
-        let item = record(1);
-        for _ in 0..8191 {
-            bytes.extend_from_slice(&item).expect(&rt, "memory");
-        }
-        match read_request(alloc, &bytes) {
-            Ok((request, n)) => assert!(rt; most && request.body().len() == 8190 && n == 1_048_368),
-            Err(fault) => assert!(rt; !most && fault == FrameFault::TooMany),
-        }
-    }
+    let most = many(alloc, 0).expect(&rt, "memory");
+    assert!(rt; read_count(alloc, most.as_slice()) == Ok((8190, 1_048_368)));
+    let more = many(alloc, 0x80).expect(&rt, "memory");
+    assert!(rt; read_count(alloc, more.as_slice()) == Err(FrameFault::TooMany));
 }
 
 #[test]
 fn stream_of_frames(rt: HostRuntime) {
-    let alloc = rt.alloc();
-    let bytes = frames(alloc).expect(&rt, "memory");
-    let mut stream = RequestStream::new(Counting::new(bytes.as_slice()));
-    is_register(
-        &rt,
-        &stream
-            .next_request(alloc)
-            .expect(&rt, "no fault")
-            .expect(&rt, "a register"),
-    );
-    is_creation(
-        &rt,
-        &stream
-            .next_request(alloc)
-            .expect(&rt, "no fault")
-            .expect(&rt, "a creation"),
-    );
-    is_lookup(
-        &rt,
-        &stream
-            .next_request(alloc)
-            .expect(&rt, "no fault")
-            .expect(&rt, "a lookup"),
-    );
-    assert!(rt; stream.next_request(alloc).expect(&rt, "no fault").is_none());
-    assert!(rt; stream.next_request(alloc).expect(&rt, "no fault").is_none());
+    let bytes = frames();
+    let mut stream = RequestStream::new(Counting::new(&bytes[..]));
+    for frame in [Some(1), Some(2), Some(3), None, None] {
+        assert_eq!(rt; next_frame(rt.alloc(), &mut stream), Ok(frame));
+    }
 }
 
 #[test]
 fn stream_is_cut(rt: HostRuntime) {
-    let alloc = rt.alloc();
-    let mut bytes = frames(alloc).expect(&rt, "memory");
-    bytes.truncate(100);
-    let mut stream = RequestStream::new(Counting::new(bytes.as_slice()));
-    is_register(
-        &rt,
-        &stream
-            .next_request(alloc)
-            .expect(&rt, "no fault")
-            .expect(&rt, "a register"),
-    );
-    assert_eq!(rt; stream.next_request(alloc).err(), Some(FrameFault::Short));
-    assert_eq!(rt; stream.next_request(alloc).err(), Some(FrameFault::Short));
+    let bytes = frames();
+    let mut stream = RequestStream::new(Counting::new(first(&bytes, 100)));
+    for answer in [Ok(Some(1)), Err(FrameFault::Short), Err(FrameFault::Short)] {
+        assert_eq!(rt; next_frame(rt.alloc(), &mut stream), answer);
+    }
+}
+
+/// A moment of 10 and a register, and 8 bytes more.
+fn timed_register() -> [u8; 64] {
+    let mut bytes = [0; 64];
+    bytes[0] = 10;
+    bytes[8..56].copy_from_slice(&REGISTER);
+    bytes
 }
 
 #[test]
 fn stream_of_moments(rt: HostRuntime) {
-    let alloc = rt.alloc();
-    let mut bytes = [0; 64];
-    bytes[0] = 10;
-    bytes[8..56].copy_from_slice(&REGISTER);
+    let bytes = timed_register();
     let mut stream = RequestStream::new(Counting::new(&bytes[..]));
-    let (moment, request) = stream
-        .next_timed(alloc)
-        .expect(&rt, "no fault")
-        .expect(&rt, "a register");
-    is_register(&rt, &request);
-    assert_eq!(rt; moment, 10);
-    assert_eq!(rt;
-        stream.next_timed(alloc).err(),
-        Some(FrameFault::Short),
-        "a moment alone"
-    );
-    let mut source = Counting::new(&bytes[..56]);
-    assert!(rt;
-        read_timed_from(alloc, &mut source)
-            .expect(&rt, "no fault")
-            .is_some()
-    );
-    assert!(rt;
-        read_timed_from(alloc, &mut source)
-            .expect(&rt, "no fault")
-            .is_none()
-    );
-    assert!(rt;
-        read_timed_from(alloc, &mut Counting::new(&bytes[..7])).is_err(),
-        "a cut moment"
-    );
+    let one = timed_frame(stream.next_timed(rt.alloc()));
+    assert!(rt; one == Ok(Some((10, 1))));
+    let next = timed_frame(stream.next_timed(rt.alloc()));
+    assert!(rt; next == Err(FrameFault::Short), "a moment alone");
+}
+
+#[test]
+fn moments_of_a_reader(rt: HostRuntime) {
+    let bytes = timed_register();
+    let mut source = Counting::new(first(&bytes, 56));
+    for answer in [Some((10, 1)), None] {
+        let read = timed_frame(read_timed_from(rt.alloc(), &mut source));
+        assert!(rt; read == Ok(answer));
+    }
+    let cut = timed_frame(read_timed_from(rt.alloc(), &mut Counting::new(first(&bytes, 7))));
+    assert!(rt; cut == Err(FrameFault::Short), "a cut moment");
+}
+
+/// A creation with a reserved byte that is not 0, and a register behind it.
+fn damaged() -> [u8; 352] {
+    let mut bytes = [0; 352];
+    bytes[..304].copy_from_slice(&creation(&with(&CREATION, 29, 1)));
+    bytes[304..].copy_from_slice(&REGISTER);
+    bytes
 }
 
 #[test]
 fn stream_stays_at_its_fault(rt: HostRuntime) {
-    let alloc = rt.alloc();
-    let mut bytes = creation(alloc, &with(&CREATION, 29, 1)).expect(&rt, "memory");
-    bytes.extend_from_slice(&REGISTER).expect(&rt, "memory");
+    let bytes = damaged();
     for calls in 1..3 {
-        let mut stream = RequestStream::new(Counting::new(bytes.as_slice()));
+        let mut stream = RequestStream::new(Counting::new(&bytes[..]));
         for _ in 0..calls {
-            assert_eq!(rt;
-                stream.next_request(alloc).err(),
-                Some(FrameFault::Reserved)
-            );
+            assert!(rt; next_frame(rt.alloc(), &mut stream) == Err(FrameFault::Reserved));
         }
-        assert_eq!(rt;
-            stream.into_source().into_inner().len(),
-            304,
-            "48 bytes are read by {calls} calls"
-        );
+        let unread = stream.into_source().into_inner().len();
+        assert!(rt; unread == 304, "48 bytes are read by {calls} calls");
     }
 }
 
@@ -343,24 +279,14 @@ impl Read for Failing<'_> {
 
 #[test]
 fn reader_fails_in_mid_stream(rt: HostRuntime) {
-    let alloc = rt.alloc();
-    let bytes = creation(alloc, &CREATION).expect(&rt, "memory");
+    let bytes = creation(&CREATION);
     for good in 0..3 {
-        let reader = Failing {
-            rest: bytes.as_slice(),
-            good,
-        };
-        let mut stream = RequestStream::new(Counting::new(reader));
-        assert_eq!(rt;
-            stream.next_request(alloc).err(),
-            Some(FrameFault::Device),
-            "after {good} reads"
-        );
-        assert_eq!(rt;
-            stream.next_request(alloc).err(),
-            Some(FrameFault::Device),
-            "after {good} reads"
-        );
-        assert_eq!(rt; stream.into_source().failures(), 1, "after {good} reads");
+        let rest = &bytes[..];
+        let mut stream = RequestStream::new(Counting::new(Failing { rest, good }));
+        for _ in 0..2 {
+            let answer = next_frame(rt.alloc(), &mut stream);
+            assert!(rt; answer == Err(FrameFault::Device), "after {good} reads");
+        }
+        assert!(rt; stream.into_source().failures() == 1, "after {good} reads");
     }
 }

@@ -1,5 +1,5 @@
 //! The program's forms, over any reader and writer, and the exit status of each outcome.
-ghost use Rattle.std.specs.Prelude.{◌≡◌, None, Some, map, string_bytes};
+ghost use Rattle.std.specs.Prelude.{◌≡◌, ◌<◌, None, Some, map, string_bytes};
 ghost use Rattle.tb_machine.specs.Runs.{input, output};
 ghost use Rattle.tbs.specs.declared.arguments.Order.{Order};
 ghost use Rattle.tbs.specs.Orders.{order_of};
@@ -27,7 +27,8 @@ pub enum Fault {
 impl Fault {
     /// 1 where a device or memory failed, 2 where the input or the arguments are wrong.
     pub fn status(self) -> u8
-        ensures { result ≡ fault_status self }
+        ensures value { result ≡ fault_status self }
+        ensures failing { 0 < result }
     {
         match self {
             Fault::Serving(RunFault::NoMemory) => 1,
@@ -71,8 +72,8 @@ fn perform<R: Source, W: Sink>(
     }
 }
 
-/// Does what the words ask for, all forms but `storm`, and answers the exit status: 0 done, else that of the fault,
-/// whose line goes to `faults`. Arguments that are none of the program's forms are found before any input is read.
+/// Does what the words ask for, and answers the exit status: 0 done, where nothing goes to `faults`, else that of the
+/// fault, whose line goes there. Arguments that are none of the program's forms are found before any input is read.
 pub fn command<R: Source, W: Sink, E: Sink>(
     alloc: Global,
     words: &[String],
@@ -81,6 +82,7 @@ pub fn command<R: Source, W: Sink, E: Sink>(
     faults: &mut E,
 ) -> u8
     ensures usage { order_of (map string_bytes words.now) ≡ None → (result ≡ 2) × (reader.new ≡ reader.old) × (writer.new ≡ writer.old) }
+    ensures quiet { result ≡ 0 → faults.new ≡ faults.old }
     ensures served { (order : Order) → order_of (map string_bytes words.now) ≡ Some order → Exits order result (input (R.left reader.old) (R.failed reader.old)) (input (R.left reader.new) (R.failed reader.new)) (output (W.written writer.old) (W.failed writer.old) (W.stalled writer.old)) (output (W.written writer.new) (W.failed writer.new) (W.stalled writer.new)) }
 {
     let Some(order) = read_order(words) else {

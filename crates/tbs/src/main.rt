@@ -45,6 +45,14 @@ fn serve<E: Sink>(rt: &HostRuntime, words: &[String], faults: &mut E) -> u8 {
     status
 }
 
+/// The fault where the words cannot be had: a word is no text, or there is no memory for them.
+fn fault_of(error: &io::Error) -> Fault {
+    match error.kind() {
+        io::ErrorKind::OutOfMemory => Fault::Serving(RunFault::NoMemory),
+        _ => Fault::Usage,
+    }
+}
+
 /// Tells the fault, and answers its status.
 fn refuse<E: Sink>(fault: Fault, faults: &mut E) -> u8 {
     tell(fault, faults);
@@ -55,7 +63,7 @@ fn main(rt: HostRuntime) -> ExitCode {
     let mut faults = Counting::new(rt.stderr());
     let status = match words(&rt) {
         Ok(words) => serve(&rt, words.as_slice(), &mut faults),
-        Err(_) => refuse(Fault::Usage, &mut faults),
+        Err(error) => refuse(fault_of(&error), &mut faults),
     };
     ExitCode::from(status)
 }

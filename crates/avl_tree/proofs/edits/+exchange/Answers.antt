@@ -1,6 +1,6 @@
-use Rattle.std.proofs.Common.{◌≡◌, ◌<◌, ◌++◌, Option, None, Some, ap, sym, ◌∙◌, subst, refl, arith}
+use Rattle.std.proofs.Common.{◌<◌, Option, None, Some, sym, ◌∙◌, subst, refl, arith}
 use Rattle.std.specs.Option.{IsSome, option_map}
-use Rattle.avl_tree.specs.Nodes.{entries, with_first, IsAvl, IsOrdered, stored_height}
+use Rattle.avl_tree.specs.Nodes.{entries, IsAvl, IsOrdered, stored_height}
 use Rattle.avl_tree.proofs.Steps.{goes_left, goes_right, stands_here}
 use Rattle.avl_tree.proofs.Exchange.{exchanges_left, exchanges_right}
 use Rattle.avl_tree.proofs.edits.+exchange.Goals as goal

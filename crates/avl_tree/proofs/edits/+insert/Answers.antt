@@ -1,6 +1,6 @@
-use Rattle.std.proofs.Common.{◌≡◌, ◌<◌, ◌++◌, Option, None, Some, ap, sym, ◌∙◌, subst, refl, arith}
+use Rattle.std.proofs.Common.{◌≡◌, ◌<◌, Option, None, Some, ap, sym, ◌∙◌, subst, arith}
 use Rattle.std.specs.Option.{IsSome, option_map}
-use Rattle.avl_tree.specs.Nodes.{entries, with_first, IsAvl, IsOrdered, stored_height, SettlesTo}
+use Rattle.avl_tree.specs.Nodes.{entries, IsAvl, IsOrdered, stored_height}
 use Rattle.avl_tree.proofs.Steps.{goes_left, goes_right, stands_here}
 use Rattle.avl_tree.proofs.Inserts.{inserts_left, inserts_right}
 use Rattle.avl_tree.proofs.edits.+insert.Goals as goal

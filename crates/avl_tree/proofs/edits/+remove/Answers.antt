@@ -1,6 +1,6 @@
 use Rattle.std.proofs.Common.{◌≡◌, ◌<◌, ◌++◌, Option, None, Some, ap, sym, ◌∙◌, subst, refl, arith}
 use Rattle.std.specs.Option.{option_map, option_and_then}
-use Rattle.avl_tree.specs.Nodes.{entries, with_first, IsAvl, IsOrdered, stored_height, root_entry, beside_root}
+use Rattle.avl_tree.specs.Nodes.{entries, with_first, IsAvl, IsOrdered, stored_height}
 use Rattle.avl_tree.proofs.Steps.{goes_left, goes_right, stands_here}
 use Rattle.avl_tree.proofs.edits.+remove.Goals as goal
 use Rattle.avl_tree.proofs.edits.+remove.Goals.{in-Less, in-Greater}

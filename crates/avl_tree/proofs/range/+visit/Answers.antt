@@ -1,6 +1,6 @@
-use Rattle.std.proofs.Common.{◌≡◌, ◌<◌, ◌++◌, [], Option, None, Some, sym, ap, ◌∙◌, subst, refl, arith}
+use Rattle.std.proofs.Common.{◌<◌, [], subst, refl, arith}
 use Rattle.avl_tree.specs.Nodes.{entries, with_first, stored_height, IsAvl, IsOrdered}
-use Rattle.avl_tree.specs.Visits.{between, CalledAtEntry}
+use Rattle.avl_tree.specs.Visits.{CalledAtEntry}
 use Rattle.avl_tree.proofs.Around.{ordered_left}
 use Rattle.avl_tree.proofs.Ranges.{FoldsTo-append, FoldsTo-with_first, right_only, none_there, this_only, this_and_right, left_only, left_and_this, all_three, ordered_beyond}
 use Rattle.avl_tree.proofs.range.+visit.Goals as goal

@@ -1,7 +1,7 @@
-use Rattle.std.proofs.Common.{◌≡◌, ◌<◌, ◌+◌, ap, sym, ◌∙◌, subst, refl, arith}
-use Rattle.avl_tree.specs.Nodes.{entries, IsAvl, IsOrdered, search_of, stored_height}
+use Rattle.std.proofs.Common.{sym, ◌∙◌, subst, arith}
+use Rattle.avl_tree.specs.Nodes.{entries, IsAvl, IsOrdered, search_of}
 use Rattle.avl_tree.proofs.Steps.{goes_left, goes_right, stands_here}
-use Rattle.avl_tree.proofs.Shape.{path-left, path-right, path-here}
+use Rattle.avl_tree.proofs.Shape.{path-left, path-right}
 use Rattle.avl_tree.proofs.walks.count_visits.Goals as goal
 
 pub loop-at-preserved-in-Less : goal.loop-at-preserved-in-Less

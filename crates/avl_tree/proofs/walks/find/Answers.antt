@@ -1,4 +1,4 @@
-use Rattle.std.proofs.Common.{◌≡◌, sym, ◌∙◌, subst}
+use Rattle.std.proofs.Common.{sym, ◌∙◌, subst}
 use Rattle.avl_tree.specs.Nodes.{entries, IsAvl, IsOrdered}
 use Rattle.avl_tree.proofs.Steps.{goes_left, goes_right, stands_here}
 use Rattle.avl_tree.proofs.walks.find.Goals as goal

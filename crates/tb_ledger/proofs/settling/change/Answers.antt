@@ -5,8 +5,8 @@ use Rattle.tb_ledger.proofs.settling.change.Goals as goal
 
 pub returns-clause-noted : goal.returns-clause-noted
 returns-clause-noted g c = record {
-  undo_accounts = undone_change c.args.trail.now.items c.push_reserved.new.self.items c.args.old c.args.new c.args.accounts.now.0 c.replace.new.self.0 c.push_reserved.ensures.items (ap (λ v. v.0) c.replace.ensures.table) c.requires.found;
-  undo_transfers = other_transfers c.args.trail.now.items c.push_reserved.new.self.items (Account c.args.old) (λ rows. refl) c.push_reserved.ensures.items;
+  undo_accounts = undone_change c.args.trail.now.items c.push_reserved.new.self.items c.args.old.now c.args.new c.args.accounts.now.0 c.replace.new.self.0 c.push_reserved.ensures.items (ap (λ v. v.0) c.replace.ensures.table) c.requires.found;
+  undo_transfers = other_transfers c.args.trail.now.items c.push_reserved.new.self.items (Account c.args.old.now) (λ rows. refl) c.push_reserved.ensures.items;
   length = omega arith;
   capacity = c.push_reserved.ensures.capacity;
 }

@@ -1,42 +1,57 @@
-use Rattle.std.proofs.Common.{ap, ◌∙◌, ◌==◌, find}
+use Rattle.std.proofs.Common.{refl, ap, ◌∙◌, ◌==◌, find}
 use Rattle.tb_records.specs.Ordered.{put, replaced}
 use Rattle.tb_ledger.specs.Books.{closing_debit, closing_credit}
 use Rattle.tb_ledger.specs.Kept.{on_debits, on_credits, resolved, settled, transfer_row_key, new_transfer_row}
-use Rattle.tb_ledger.proofs.Settled.{both_changed, credits_before, refound, at_most, debit_enough, credit_enough, fresh_still, books_with_resolver, ledger_with_resolver}
+use Rattle.tb_ledger.proofs.Settled.{both_changed, found_still, refound, same_debit, same_credit, apart, at_most, debit_enough, credit_enough, fresh_still, books_with_resolver, ledger_with_resolver}
 use Rattle.tb_ledger.proofs.settling.settle.Goals as goal
 
-pub settle_debit-requires-clause-enough : goal.settle_debit-requires-clause-enough
-settle_debit-requires-clause-enough g c a there =
+pub settle_debit-requires-clause-found : goal.settle_debit-requires-clause-found
+settle_debit-requires-clause-found g c =
     let rows = c.args.rows.now in
-    (debit_enough rows.accounts.0 rows.transfers.0 rows.failed.0 rows.keeps_failed rows.next_expiry rows.time c.requires.kept c.args.p.now c.args.r.now c.requires.found c.requires.resolves c.requires.is_resolver a there).0
+    ap (λ id. find (λ a. a.created.id == id) rows.accounts.0) (same_debit rows.accounts.0 rows.transfers.0 rows.failed.0 rows.keeps_failed rows.next_expiry rows.time c.requires.kept c.args.p.now c.args.r.now c.requires.found c.requires.resolves c.requires.is_resolver) ∙ c.requires.debit
+
+pub settle_debit-requires-clause-enough : goal.settle_debit-requires-clause-enough
+settle_debit-requires-clause-enough g c =
+    let rows = c.args.rows.now in
+    let same = same_debit rows.accounts.0 rows.transfers.0 rows.failed.0 rows.keeps_failed rows.next_expiry rows.time c.requires.kept c.args.p.now c.args.r.now c.requires.found c.requires.resolves c.requires.is_resolver in
+    let there = ap (λ id. find (λ a. a.created.id == id) rows.accounts.0) same ∙ c.requires.debit in
+    (debit_enough rows.accounts.0 rows.transfers.0 rows.failed.0 rows.keeps_failed rows.next_expiry rows.time c.requires.kept c.args.p.now c.args.r.now c.requires.found c.requires.resolves c.requires.is_resolver c.args.debit.now there).0
 
 pub settle_debit-requires-clause-fit : goal.settle_debit-requires-clause-fit
-settle_debit-requires-clause-fit g c a there =
+settle_debit-requires-clause-fit g c =
     let rows = c.args.rows.now in
-    (debit_enough rows.accounts.0 rows.transfers.0 rows.failed.0 rows.keeps_failed rows.next_expiry rows.time c.requires.kept c.args.p.now c.args.r.now c.requires.found c.requires.resolves c.requires.is_resolver a there).1
+    let same = same_debit rows.accounts.0 rows.transfers.0 rows.failed.0 rows.keeps_failed rows.next_expiry rows.time c.requires.kept c.args.p.now c.args.r.now c.requires.found c.requires.resolves c.requires.is_resolver in
+    let there = ap (λ id. find (λ a. a.created.id == id) rows.accounts.0) same ∙ c.requires.debit in
+    (debit_enough rows.accounts.0 rows.transfers.0 rows.failed.0 rows.keeps_failed rows.next_expiry rows.time c.requires.kept c.args.p.now c.args.r.now c.requires.found c.requires.resolves c.requires.is_resolver c.args.debit.now there).1
 
 pub settle_debit-requires-clause-at_most : goal.settle_debit-requires-clause-at_most
 settle_debit-requires-clause-at_most g c =
     let rows = c.args.rows.now in
     at_most rows.accounts.0 rows.transfers.0 rows.failed.0 rows.keeps_failed rows.next_expiry rows.time c.requires.kept c.args.p.now c.args.r.now c.requires.found c.requires.resolves c.requires.is_resolver
 
-pub settle_credit-requires-clause-enough : goal.settle_credit-requires-clause-enough
-settle_credit-requires-clause-enough g c a found =
+pub settle_credit-requires-clause-found : goal.settle_credit-requires-clause-found
+settle_credit-requires-clause-found g c =
     let rows = c.args.rows.now in
     let r = c.args.r.now in
-    let there = rw (ap (λ v. v.0) c.settle_debit.ensures.accounts) at found in
-    let was = credits_before r.debit_account_id (resolved closing_debit c.args.p.now.recorded r) r.credit_account_id a rows.accounts.0 there in
-    let enough = (credit_enough rows.accounts.0 rows.transfers.0 rows.failed.0 rows.keeps_failed rows.next_expiry rows.time c.requires.kept c.args.p.now r c.requires.found c.requires.resolves c.requires.is_resolver was.0 was.1).0 in
-    rw was.2 enough
+    let same = same_credit rows.accounts.0 rows.transfers.0 rows.failed.0 rows.keeps_failed rows.next_expiry rows.time c.requires.kept c.args.p.now c.args.r.now c.requires.found c.requires.resolves c.requires.is_resolver in
+    let there = ap (λ id. find (λ a. a.created.id == id) rows.accounts.0) same ∙ c.requires.credit in
+    let other = apart rows.accounts.0 rows.transfers.0 rows.failed.0 rows.keeps_failed rows.next_expiry rows.time c.requires.kept c.args.p.now c.args.r.now c.requires.found c.requires.resolves c.requires.is_resolver in
+    let still = found_still r.debit_account_id r.credit_account_id (on_debits (resolved closing_debit c.args.p.now.recorded r)) c.args.credit.now rows.accounts.0 (λ y. refl) other there in
+    ap (λ v. find (λ a. a.created.id == r.credit_account_id) v.0) c.settle_debit.ensures.accounts ∙ still
+
+pub settle_credit-requires-clause-enough : goal.settle_credit-requires-clause-enough
+settle_credit-requires-clause-enough g c =
+    let rows = c.args.rows.now in
+    let same = same_credit rows.accounts.0 rows.transfers.0 rows.failed.0 rows.keeps_failed rows.next_expiry rows.time c.requires.kept c.args.p.now c.args.r.now c.requires.found c.requires.resolves c.requires.is_resolver in
+    let there = ap (λ id. find (λ a. a.created.id == id) rows.accounts.0) same ∙ c.requires.credit in
+    (credit_enough rows.accounts.0 rows.transfers.0 rows.failed.0 rows.keeps_failed rows.next_expiry rows.time c.requires.kept c.args.p.now c.args.r.now c.requires.found c.requires.resolves c.requires.is_resolver c.args.credit.now there).0
 
 pub settle_credit-requires-clause-fit : goal.settle_credit-requires-clause-fit
-settle_credit-requires-clause-fit g c a found =
+settle_credit-requires-clause-fit g c =
     let rows = c.args.rows.now in
-    let r = c.args.r.now in
-    let there = rw (ap (λ v. v.0) c.settle_debit.ensures.accounts) at found in
-    let was = credits_before r.debit_account_id (resolved closing_debit c.args.p.now.recorded r) r.credit_account_id a rows.accounts.0 there in
-    let enough = (credit_enough rows.accounts.0 rows.transfers.0 rows.failed.0 rows.keeps_failed rows.next_expiry rows.time c.requires.kept c.args.p.now r c.requires.found c.requires.resolves c.requires.is_resolver was.0 was.1).1 in
-    rw was.2 enough
+    let same = same_credit rows.accounts.0 rows.transfers.0 rows.failed.0 rows.keeps_failed rows.next_expiry rows.time c.requires.kept c.args.p.now c.args.r.now c.requires.found c.requires.resolves c.requires.is_resolver in
+    let there = ap (λ id. find (λ a. a.created.id == id) rows.accounts.0) same ∙ c.requires.credit in
+    (credit_enough rows.accounts.0 rows.transfers.0 rows.failed.0 rows.keeps_failed rows.next_expiry rows.time c.requires.kept c.args.p.now c.args.r.now c.requires.found c.requires.resolves c.requires.is_resolver c.args.credit.now there).1
 
 pub settle_credit-requires-clause-at_most : goal.settle_credit-requires-clause-at_most
 settle_credit-requires-clause-at_most g c =

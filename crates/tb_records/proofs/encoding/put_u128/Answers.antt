@@ -1,6 +1,12 @@
-use Rattle.std.proofs.Common.{arith}
-use Rattle.tb_records.proofs.NumberBytes.{put_number}
+use Rattle.std.proofs.Common.{◌≡◌, ◌+◌, ◌++◌, take, ap, ◌∙◌, append_assoc, arith}
+use Rattle.tb_records.proofs.NumberBytes.{field_then, two_halves}
 use Rattle.tb_records.proofs.encoding.put_u128.Goals as goal
 
 pub returns : goal.returns
-returns c = put_number 16 c.args.at c.args.number c.args.out.now _ (omega arith) c.write_u128.ensures
+returns c =
+    let front = take c.args.at c.args.out.now in
+    let end : c.args.at + 16 ≡ c.args.at + 8 + 8 = omega arith in
+    ap (λ n. take n c.put_u64-2.new.out) end
+    ∙ field_then _ _ _ _ c.put_u64-2.ensures c.put_u64.ensures
+    ∙ append_assoc front _ _
+    ∙ ap (λ bs. front ++ bs) (two_halves c.args.number)

@@ -1,4 +1,3 @@
-use Rattle.std.proofs.Common.{◌≡◌}
 use Rattle.avl_tree.proofs.Shape.{entries-search_of}
 use Rattle.avl_tree.proofs.map.AvlMap.for_range.Goals as goal
 

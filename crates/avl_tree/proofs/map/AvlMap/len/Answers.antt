@@ -1,5 +1,4 @@
-use Rattle.std.proofs.Common.{◌≡◌, ◌<◌, ◌+◌, Option, None, Some, sym, ◌∙◌, ap, subst, refl, arith}
-use Rattle.avl_tree.proofs.Shape.{entries-search_of, path-le-height, least-le-length}
+use Rattle.avl_tree.proofs.Shape.{entries-search_of}
 use Rattle.avl_tree.proofs.map.AvlMap.len.Goals as goal
 
 pub returns-clause-length : goal.returns-clause-length

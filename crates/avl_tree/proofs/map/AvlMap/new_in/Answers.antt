@@ -1,4 +1,4 @@
-use Rattle.std.proofs.Common.{◌≡◌, refl, arith}
+use Rattle.std.proofs.Common.{refl, arith}
 use Rattle.std.specs.List.Sorted.{IsStrictlySortedBy}
 use Rattle.avl_tree.proofs.map.AvlMap.new_in.Goals as goal
 

@@ -1,6 +1,6 @@
-use Rattle.std.proofs.Common.{◌≡◌, ◌<◌, ◌+◌, Option, None, Some, sym, ◌∙◌, ap, subst, refl, arith}
-use Rattle.avl_tree.proofs.Shape.{entries-search_of, path-le-height, least-le-length}
-use Rattle.avl_tree.proofs.Whole.{low_height, whole_exchange, whole_insert, whole_remove, whole_absent}
+use Rattle.std.proofs.Common.{sym, ◌∙◌, arith}
+use Rattle.avl_tree.proofs.Shape.{entries-search_of}
+use Rattle.avl_tree.proofs.Whole.{low_height, whole_remove, whole_absent}
 use Rattle.avl_tree.proofs.map.AvlMap.remove.Goals as goal
 
 pub remove-requires-clause-height_fits : goal.remove-requires-clause-height_fits

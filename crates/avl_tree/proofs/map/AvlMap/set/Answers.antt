@@ -1,6 +1,6 @@
-use Rattle.std.proofs.Common.{◌≡◌, ◌<◌, ◌+◌, Option, None, Some, sym, ◌∙◌, ap, subst, refl, arith}
-use Rattle.avl_tree.proofs.Shape.{entries-search_of, path-le-height, least-le-length}
-use Rattle.avl_tree.proofs.Whole.{low_height, whole_exchange, whole_insert, whole_remove, whole_absent}
+use Rattle.std.proofs.Common.{refl}
+use Rattle.avl_tree.proofs.Shape.{entries-search_of}
+use Rattle.avl_tree.proofs.Whole.{whole_exchange}
 use Rattle.avl_tree.proofs.map.AvlMap.set.Goals as goal
 use Rattle.avl_tree.proofs.map.AvlMap.set.Goals.{then-exchange, else-exchange}
 

@@ -1,0 +1,269 @@
+#!/usr/bin/env python3
+"""Runs the built program over examples/first.script and scripts made of it: replies, exit statuses and the line on
+standard error, for input and output of every kind that a shell can give. First build it:
+
+    (cd crates/tbs && rt run -- run 2) < examples/first.script > /dev/null
+    checks/program.py
+
+Prints a line for each case, and 'N passed, M failed'. Frames and faults are those of docs/FORMATS.md. Needs Linux (/dev/full).
+"""
+import os
+import resource
+import signal
+import struct
+import subprocess
+import sys
+import tempfile
+import time
+
+TOP = os.path.dirname(os.path.dirname(os.path.abspath(__file__)))
+PROGRAM = f"{TOP}/crates/tbs/out/tbs"
+RUN = ["run", "2"]
+MAX_TIME = 2**63 - 1
+
+
+def read(name):
+    with open(f"{TOP}/examples/{name}", "rb") as it:
+        return it.read()
+
+
+SCRIPT, REPLIES = read("first.script"), read("first.replies")
+# where each pair of the script ends, and the reply to it
+PAIR_ENDS, REPLY_ENDS = [0, 56, 368, 472], [0, 48, 96, 400]
+FIRST, FIRST_REPLY = SCRIPT[:56], REPLIES[:48]
+
+
+def pair(moment, client, session, number, operation, body=b"", length=None):
+    length = len(body) if length is None else length
+    header = client.to_bytes(16, "little") + struct.pack("<QIB3xI12x", session, number, operation, length)
+    return struct.pack("<Q", moment) + header + body
+
+
+def reply(client, session, number, operation, status, commit, body=b""):
+    return client.to_bytes(16, "little") + struct.pack("<QIBB2xIQ4x", session, number, operation, status, len(body), commit) + body
+
+
+def account(id, timestamp=0, debits_pending=0):
+    return id.to_bytes(16, "little") + debits_pending.to_bytes(16, "little") + bytes(64) + struct.pack("<QIIIHHQ", 0, 0, 0, 700, 10, 0, timestamp)
+
+
+def transfer(id, debit, credit, amount, pending_id=0, timeout=0, flags=0):
+    ids = b"".join(it.to_bytes(16, "little") for it in (id, debit, credit, amount, pending_id, 0))
+    return ids + struct.pack("<QIIIHHQ", 0, 0, timeout, 700, 10, flags, 0)
+
+
+def ids(*numbers):
+    return b"".join(it.to_bytes(16, "little") for it in numbers)
+
+
+def changed(at, byte):
+    """The script's first pair, and behind it its second with one byte of the frame changed."""
+    frame = bytearray(SCRIPT[56:])
+    frame[8 + at] = byte
+    return FIRST + bytes(frame)
+
+
+def line(fault):
+    return f"tbs: {fault}\n".encode() if fault else b""
+
+
+def ended(script, words=RUN, **how):
+    """Status, output and standard error of a run on these bytes."""
+    ran = subprocess.run([PROGRAM, *words], input=script, stdout=how.pop("stdout", subprocess.PIPE), stderr=subprocess.PIPE, timeout=60, **how)
+    return ran.returncode, ran.stdout or b"", ran.stderr
+
+
+def with_file(script, words=RUN, **how):
+    with tempfile.TemporaryFile() as file:
+        file.write(script)
+        file.seek(0)
+        ran = subprocess.run([PROGRAM, *words], stdin=file, stdout=subprocess.PIPE, stderr=subprocess.PIPE, timeout=60, **how)
+        return (ran.returncode, ran.stdout, ran.stderr), file.tell()
+
+
+def closing(*numbers):
+    return lambda: [os.close(it) for it in numbers]
+
+
+passed = failed = 0
+
+
+def case(name, got, wanted):
+    """Compares a status, an output and a line with those that are wanted."""
+    global passed, failed
+    if got == wanted:
+        passed += 1
+        print(f"ok: {name}")
+    else:
+        failed += 1
+        print(f"FAILED: {name}: got {got[0]}, {len(got[1])} bytes, {got[2]}; wanted {wanted[0]}, {len(wanted[1])} bytes, {wanted[2]}")
+
+
+def inputs():
+    case("a file", with_file(SCRIPT)[0], (0, REPLIES, b""))
+    case("a pipe", ended(SCRIPT), (0, REPLIES, b""))
+    program = subprocess.Popen([PROGRAM, *RUN], stdin=subprocess.PIPE, stdout=subprocess.PIPE, stderr=subprocess.PIPE)
+    for byte in SCRIPT:
+        program.stdin.write(bytes([byte]))
+        program.stdin.flush()
+        time.sleep(0.0005)
+    got = program.communicate()
+    case("a pipe, byte by byte", (program.returncode, *got), (0, REPLIES, b""))
+    case("an empty file", with_file(b"")[0], (0, b"", b""))
+    case("an empty pipe", ended(b""), (0, b"", b""))
+    closed = subprocess.run([PROGRAM, *RUN], capture_output=True, preexec_fn=closing(0))
+    case("closed input", (closed.returncode, closed.stdout, closed.stderr), (1, b"", line("Device")))
+    folder = os.open(TOP, os.O_RDONLY)
+    read_folder = subprocess.run([PROGRAM, *RUN], stdin=folder, capture_output=True)
+    case("a directory as input", (read_folder.returncode, read_folder.stdout, read_folder.stderr), (1, b"", line("Device")))
+
+
+def cuts():
+    """The script cut behind each of its bytes."""
+    for end in range(len(SCRIPT) + 1):
+        whole = max(k for k in range(4) if PAIR_ENDS[k] <= end)
+        cut = PAIR_ENDS[whole] != end
+        wanted = (2 if cut else 0, REPLIES[: REPLY_ENDS[whole]], line("Short") if cut else b"")
+        got = ended(SCRIPT[:end])
+        if got != wanted:
+            case(f"the script cut behind {end} bytes", got, wanted)
+            return
+    case("the script cut behind each of its bytes", (), ())
+
+
+def frames():
+    faults = [
+        ("ClientZero", changed(0, 0)),
+        ("UnknownOperation", changed(28, 133)),
+        ("Reserved", changed(29, 1)),
+        ("Reserved", changed(47, 1)),
+        ("RegisterNumbers", changed(28, 2)),
+        ("RequestZero", changed(24, 0)),
+        ("BadLength", changed(32, 1)),
+        ("TooMany", FIRST + pair(10, 7, 1, 1, 129, b"", 8191 * 128)),
+        ("Short", FIRST + pair(10, 7, 1, 1, 129, b"", 8190 * 128)),
+    ]
+    for fault, script in faults:
+        case(f"{fault} in the second frame", ended(script), (2, FIRST_REPLY, line(fault)))
+    last = pair(MAX_TIME, 7, 0, 0, 2)
+    case("no time after the last moment", ended(last + pair(0, 8, 0, 0, 2)), (2, FIRST_REPLY, line("TimeExhausted")))
+    case("a repeat after the last moment", ended(last + pair(0, 7, 0, 0, 2)), (0, FIRST_REPLY * 2, b""))
+    case("no time for the moment 2^63", ended(pair(2**63, 7, 0, 0, 2)), (2, b"", line("TimeExhausted")))
+
+
+def sessions():
+    """Repeats, each refusal, eviction, expiry and the second profile."""
+    transfers = [pair(10, 7, 1, 3, 130, transfer(11, 1, 2, amount)) for amount in (100, 101)]
+    again = [transfers[0], SCRIPT[368:], transfers[1], pair(10, 7, 1, 5, 131), pair(10, 7, 2, 4, 131), pair(10, 7, 0, 4, 131), pair(10, 9, 1, 1, 131)]
+    answers = [reply(7, 1, 3, 130, 0, 4)] * 2 + [reply(7, 1, 2, 131, 4, 0), reply(7, 1, 3, 130, 5, 0), reply(7, 1, 5, 131, 6, 0),
+               reply(7, 2, 4, 131, 3, 0), reply(7, 0, 4, 131, 2, 0), reply(9, 1, 1, 131, 1, 0)]
+    case("the first register again", ended(FIRST + SCRIPT), (0, FIRST_REPLY + REPLIES, b""))
+    case("a repeat, and each refusal", ended(b"".join([SCRIPT, transfers[0], *again])), (0, b"".join([REPLIES, *answers]), b""))
+
+    # two places: the row of least commit goes, whatever its session
+    register = {client: pair(10, client, 0, 0, 2) for client in (7, 8, 9)}
+    late = pair(10, 8, 2, 1, 131)
+    script = [register[7], register[8], pair(10, 7, 1, 1, 131), register[9], late, register[8], late, register[7], pair(10, 9, 4, 1, 131)]
+    answers = [reply(7, 1, 0, 2, 0, 1), reply(8, 2, 0, 2, 0, 2), reply(7, 1, 1, 131, 0, 3), reply(9, 4, 0, 2, 0, 4), reply(8, 2, 1, 131, 1, 0),
+               reply(8, 5, 0, 2, 0, 5), reply(8, 2, 1, 131, 2, 0), reply(7, 6, 0, 2, 0, 6), reply(9, 4, 1, 131, 1, 0)]
+    case("sessions that end for others", ended(b"".join(script)), (0, b"".join(answers), b""))
+
+    # pending at 100 for a second: it is due at 1000000100, and code 35 is pending_transfer_expired
+    held, due = (account(1, 11, debits_pending) for debits_pending in (40, 0))
+    script = [SCRIPT[:368], pair(100, 7, 1, 2, 130, transfer(60, 1, 2, 40, timeout=1, flags=2)), pair(1000000099, 7, 1, 3, 131, ids(1)),
+              pair(1000000100, 7, 1, 4, 131, ids(1)), pair(1000000101, 7, 1, 5, 130, transfer(61, 0, 0, 0, pending_id=60, flags=4))]
+    answers = [REPLIES[:96], reply(7, 1, 2, 130, 0, 3), reply(7, 1, 3, 131, 0, 4, held), reply(7, 1, 4, 131, 0, 5, due),
+               reply(7, 1, 5, 130, 0, 6, struct.pack("<II", 0, 35))]
+    case("a pending transfer before and at its last moment", ended(b"".join(script)), (0, b"".join(answers), b""))
+
+    # no account 99: code 21; profile 2 keeps the id, and answers it 68
+    script = SCRIPT[:368] + pair(10, 7, 1, 2, 130, transfer(70, 99, 2, 1)) + pair(10, 7, 1, 3, 130, transfer(70, 1, 2, 1))
+    failed_first = REPLIES[:96] + reply(7, 1, 2, 130, 0, 3, struct.pack("<II", 0, 21))
+    case("a failed id by profile 1", ended(script, ["run", "2", "1"]), (0, failed_first + reply(7, 1, 3, 130, 0, 4), b""))
+    case("a failed id by profile 2", ended(script, ["run", "2", "2"]), (0, failed_first + reply(7, 1, 3, 130, 0, 4, struct.pack("<II", 0, 68)), b""))
+
+
+def many_items():
+    """8190 accounts and their look-up: a body and a reply of more bytes than the program holds at a time."""
+    numbers = range(1, 8191)
+    create = pair(10, 7, 1, 1, 129, b"".join(account(id) for id in numbers))
+    lookup = pair(10, 7, 1, 2, 131, ids(*numbers))
+    # the register has the time 10, so the batch has 10 + 8190, and account 1 the first timestamp after 10
+    found = b"".join(account(id, 10 + id) for id in numbers)
+    wanted = FIRST_REPLY + reply(7, 1, 1, 129, 0, 2) + reply(7, 1, 2, 131, 0, 3, found)
+    case("8190 accounts and their look-up", ended(FIRST + create + lookup), (0, wanted, b""))
+    return FIRST + create + lookup
+
+
+def outputs(long_script):
+    case("closed output", ended(SCRIPT, preexec_fn=closing(1)), (1, b"", line("Device")))
+    case("closed output, and nothing to write", ended(b"", preexec_fn=closing(1)), (0, b"", b""))
+    with open("/dev/full", "wb") as full:
+        case("a full device", ended(SCRIPT, stdout=full), (1, b"", line("Device")))
+        case("a full device, and a script that is cut", ended(SCRIPT[:-1], stdout=full), (1, b"", line("Device")))
+        case("a full device, and replies past the buffer", ended(long_script, stdout=full), (1, b"", line("Device")))
+    for name, action in [("left to the shell", signal.SIG_DFL), ("ignored", signal.SIG_IGN)]:
+        for what, script in [("the script", SCRIPT), ("replies past the buffer", long_script)]:
+            reader, writer = os.pipe()
+            os.close(reader)
+            got = ended(script, stdout=writer, restore_signals=False, preexec_fn=lambda: signal.signal(signal.SIGPIPE, action))
+            os.close(writer)
+            case(f"a pipe that nobody reads, {what}, SIGPIPE {name}", got, (1, b"", line("Device")))
+    reader = subprocess.Popen(["head", "-c", "100000"], stdin=subprocess.PIPE, stdout=subprocess.DEVNULL)
+    got = ended(long_script, stdout=reader.stdin)
+    reader.stdin.close()
+    reader.wait()
+    case("a pipe whose reader goes in the middle", got, (1, b"", line("Device")))
+
+
+def wrong_words():
+    for words in [[], ["run"], ["run", "0"], ["run", "65"], ["run", "+2"], ["run", ""], ["run", " 2"], ["run", "2 "], ["run", "-1"],
+                  ["run", "2", "0"], ["run", "2", "3"], ["run", "2", "1", "1"], ["run", "18446744073709551618"], ["serve", "2"],
+                  ["RUN", "2"], ["run", b"\xff"], ["--help"]]:
+        got, at = with_file(SCRIPT, words)
+        case(f"the arguments {words}", (*got, f"read {at}"), (2, b"", line("Usage"), "read 0"))
+    closed = subprocess.run([PROGRAM, "run", "0"], capture_output=True, preexec_fn=closing(0))
+    case("wrong arguments, and closed input", (closed.returncode, closed.stdout, closed.stderr), (2, b"", line("Usage")))
+    for words in [["run", "2", "1"], ["run", "2", "2"], ["run", "002"], ["run", "1"], ["run", "64", "01"]]:
+        case(f"the arguments {words}", with_file(SCRIPT, words)[0], (0, REPLIES, b""))
+
+
+def lines():
+    """The line cannot be written: the status is the same."""
+    with open("/dev/full", "wb") as full:
+        ran = subprocess.run([PROGRAM, "run", "0"], input=b"", stdout=subprocess.PIPE, stderr=full)
+    case("wrong arguments, and a full standard error", (ran.returncode, ran.stdout, b""), (2, b"", b""))
+    ran = subprocess.run([PROGRAM, *RUN], input=SCRIPT[:-1], stdout=subprocess.PIPE, preexec_fn=closing(2))
+    case("a cut script, and a closed standard error", (ran.returncode, ran.stdout, b""), (2, REPLIES[:96], b""))
+
+
+def memory():
+    """So little memory that the program serves a register, and has none for a body of 1048320 bytes."""
+    def limited(kib):
+        return lambda: resource.setrlimit(resource.RLIMIT_AS, (kib << 10, kib << 10))
+
+    least = next((kib for kib in range(1024, 65536, 128) if ended(FIRST, preexec_fn=limited(kib)) == (0, FIRST_REPLY, b"")), None)
+    if least is None:
+        case("a register in 64 MiB", (None, b"", b""), (0, FIRST_REPLY, b""))
+        return
+    script = FIRST + pair(10, 7, 1, 1, 129, b"", 8190 * 128)
+    case("no memory for a body", ended(script, preexec_fn=limited(least + 128)), (1, FIRST_REPLY, line("NoMemory")))
+
+
+def main():
+    if not os.access(PROGRAM, os.X_OK):
+        sys.exit(f"{PROGRAM} is not there: build it first, as the head of this file says")
+    inputs()
+    cuts()
+    frames()
+    sessions()
+    outputs(many_items())
+    wrong_words()
+    lines()
+    memory()
+    print(f"{passed} passed, {failed} failed")
+    return 1 if failed else 0
+
+
+if __name__ == "__main__":
+    sys.exit(main())

@@ -1,0 +1,31 @@
+-- The tests of a reply's header in their parts: the fields by themselves, the numbers together, the length of the body.
+use Rattle.std.specs.Prelude.{ℕ, Bool, not, ◌&&◌, ◌==◌, ◌/◌, nat_lt, List, [], ◌∷◌}
+use Rattle.tb_records.specs.declared.faults.FrameFault.{FrameFault}
+use Rattle.tb_records.specs.declared.faults.FrameFault.TheVariants.{ClientZero, UnknownOperation, Reserved, BadLength, TooMany, RegisterNumbers, RequestZero, ReplyNumbers}
+use Rattle.tb_records.specs.Frames.{client_at, operation_at}
+use Rattle.tb_records.specs.Messages.{is_operation, items_max, has_register_numbers, has_reply_numbers}
+use Rattle.tb_records.specs.Numbers.{le_at}
+use Rattle.tb_records.specs.ReplyFrames.{status_at, reply_item_size, has_reply_length}
+
+-- what a field by itself may have wrong: the client, the operation, the status, the zero bytes
+abbrev pub reply_field_tests : List ℕ → List (Bool × FrameFault)
+reply_field_tests b =
+    (client_at b == 0, ClientZero)
+    ∷ (not (is_operation (operation_at b)), UnknownOperation)
+    ∷ (not (nat_lt (status_at b) 8 && le_at 2 30 b == 0 && le_at 4 44 b == 0), Reserved)
+    ∷ []
+
+-- what the numbers may have wrong, by the operation and the status
+abbrev pub reply_number_tests : ℕ → ℕ → ℕ → ℕ → ℕ → List (Bool × FrameFault)
+reply_number_tests operation status session request commit =
+    (operation == 2 && not (has_register_numbers status session request), RegisterNumbers)
+    ∷ (not (operation == 2) && request == 0, RequestZero)
+    ∷ (not (has_reply_numbers operation status session commit), ReplyNumbers)
+    ∷ []
+
+-- what the length of the body may have wrong, by the operation and the status
+abbrev pub reply_length_tests : ℕ → ℕ → ℕ → List (Bool × FrameFault)
+reply_length_tests operation status len =
+    (not (has_reply_length operation status len), BadLength)
+    ∷ (nat_lt items_max (len / reply_item_size operation), TooMany)
+    ∷ []
