@@ -1,5 +1,5 @@
 -- What a verdict of 0 tells: each line of its tables fails.
-use Rattle.std.proofs.Common.{◌≡◌, ◌≢◌, ℕ, ◌+◌, ◌<◌, ◌≤◌, Bool, true, false, not, ◌&&◌, ◌||◌, cond, if◌then◌else◌, eqb, ltb, ◌==◌, nat_lt, List, [], ◌∷◌, find, Option, Some, None, option_map, bit_and, bit_or, refl, sym, ap, subst, ◌∙◌, arith, ltb-false}
+use Rattle.std.proofs.Common.{◌≡◌, ◌≢◌, ℕ, ◌+◌, ◌≤◌, Bool, true, false, not, ◌&&◌, if◌then◌else◌, eqb, ltb, ◌==◌, List, [], ◌∷◌, Option, Some, None, option_map, bit_and, bit_or, refl, sym, ap, subst, ◌∙◌, arith, ltb-false}
 use Rattle.std.proofs.lemmas.Bool.Decides.{nat_tests}
 use Rattle.std.proofs.lemmas.Bool.{and_parts, and_from}
 use Rattle.std.proofs.lemmas.Nat.{and_or_apart, and_or_self}
@@ -9,7 +9,7 @@ use Rattle.tb_records.specs.Ordered.{Each}
 use Rattle.tb_records.proofs.ByKey.{found_key}
 use Rattle.tb_ledger.specs.declared.rows.State.{State}
 use Rattle.tb_ledger.specs.declared.rows.State.TheVariants.{Open, Posted, Voided, Expired}
-use Rattle.tb_ledger.specs.Books.{Books, has, shut, debits_limited, credits_limited, pending, posts, voids, resolves, is_open, is_posted, is_voided, is_expired, state_of, holds, is_closed, account_at, account_now, as_it_stands, transfer_at, debits_pending, debits_posted, credits_pending, credits_posted}
+use Rattle.tb_ledger.specs.Books.{Books, has, shut, debits_limited, credits_limited, pending, posts, voids, resolves, is_open, is_posted, is_voided, is_expired, state_of, is_closed, account_at, account_now, as_it_stands, transfer_at, debits_pending, debits_posted, credits_pending, credits_posted}
 use Rattle.tb_ledger.specs.Verdicts.{Line, first_of, first_code, is_not, max_id, account_own_lines, account_exists, account_new_lines, account_verdict, transfer_own_lines, transfer_exists, failed_lines, transfer_verdict, filled, resolve_own_lines, resolve_lines_of, resolve_code, single_own_lines, pair_lines, pair_code, amount_lines, single_code, balanced_amount, balanced_between}
 use Rattle.tb_ledger.specs.Sound.{Moves, Resolves}
 

@@ -1,5 +1,5 @@
 -- A batch is cut into chains in one way.
-use Rattle.std.proofs.Common.{◌≡◌, ◌↔◌, ℕ, Bool, true, false, cond, List, [], ◌∷◌, ◌++◌, refl, sym, ap, subst, ◌∙◌, append_assoc, append-nil}
+use Rattle.std.proofs.Common.{◌≡◌, Bool, true, false, cond, List, [], ◌∷◌, ◌++◌, refl, sym, ap, subst, ◌∙◌, append-nil}
 use Rattle.tb_records.specs.Ordered.{Each}
 use Rattle.tb_ledger.specs.Batches.{Kind, Timed, joined, blocks}
 use Rattle.tb_ledger.specs.Cuttings.{in_turn, IsBlock, ends_linked, AreEnded, IsCutting, CutsOneWay}

@@ -1,12 +1,12 @@
 -- What counts in the sums, proved.
-use Rattle.std.proofs.Common.{◌≡◌, ◌≢◌, ◌↔◌, ℕ, ◌+◌, ◌<◌, ◌≤◌, Bool, true, false, not, ◌&&◌, ◌||◌, cond, if◌then◌else◌, eqb, leb, ◌==◌, List, [], ◌∷◌, find, sum_by, Option, Some, None, refl, sym, ap, subst, ◌∙◌, arith}
+use Rattle.std.proofs.Common.{◌≡◌, ◌≢◌, ℕ, ◌+◌, ◌<◌, Bool, true, false, not, ◌&&◌, ◌||◌, cond, if◌then◌else◌, eqb, leb, ◌==◌, List, [], ◌∷◌, find, sum_by, Some, refl, sym, ap, subst, ◌∙◌, arith}
 use Rattle.std.proofs.lemmas.Bool.Decides.{nat_tests}
 use Rattle.std.proofs.lemmas.Bool.{and_parts, and_from}
 use Rattle.std.proofs.lemmas.List.Sums.{sum_by-cons}
 use Rattle.tb_records.specs.declared.records.Transfer.{Transfer}
-use Rattle.tb_records.specs.Ordered.{put, Each, Rising}
-use Rattle.tb_records.proofs.ByKey.{sum_by-same, sum_by-put, find-put_other, found_key, each-map, none-found, none-fails}
-use Rattle.tb_ledger.specs.Books.{Books, pending, posts, voids, resolves, resolver, expires_at, is_due, state_of, is_open, holds, moves, transfer_at}
+use Rattle.tb_records.specs.Ordered.{put, Rising}
+use Rattle.tb_records.proofs.ByKey.{sum_by-same, sum_by-put, find-put_other, each-map, none-found, none-fails}
+use Rattle.tb_ledger.specs.Books.{Books, pending, posts, voids, resolves, resolver, expires_at, is_due, state_of, is_open, holds, moves}
 use Rattle.tb_ledger.specs.Sound.{transfer_key, debit, credit, pending_on, posted_on, Resolves}
 use Rattle.tb_ledger.specs.Meanings.{IsHeld, HeldWhileOpen, Settles, SettlesBoth}
 use Rattle.tb_ledger.proofs.Sides.{open_parts, open_from, not_true, share_none, share_whole, no_more}

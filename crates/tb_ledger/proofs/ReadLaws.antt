@@ -1,7 +1,6 @@
 -- What is read from the rows is read from the books.
 use Rattle.std.proofs.Common.{◌≡◌, ℕ, ◌==◌, Bool, List, find, Option, Some, None, option_map, sym, ap, ◌∙◌}
 use Rattle.tb_records.specs.declared.records.Account.{Account}
-use Rattle.tb_records.specs.declared.records.Transfer.{Transfer}
 use Rattle.tb_records.proofs.ByKey.{find-map, each-find}
 use Rattle.tb_ledger.specs.declared.rows.AccountRow.{AccountRow}
 use Rattle.tb_ledger.specs.declared.rows.TransferRow.{TransferRow}

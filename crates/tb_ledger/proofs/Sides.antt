@@ -1,14 +1,13 @@
 -- One side of the accounts: what each step of a ledger leaves of its sums.
-use Rattle.std.proofs.Common.{◌≡◌, ◌≢◌, ℕ, ◌+◌, ◌*◌, ◌<◌, ◌≤◌, Bool, true, false, not, ◌&&◌, ◌||◌, cond, if◌then◌else◌, eqb, ltb, leb, ◌==◌, nat_le, List, [], ◌∷◌, find, sum_by, Option, Some, None, option_map, refl, sym, ap, subst, ◌∙◌, arith}
+use Rattle.std.proofs.Common.{◌≡◌, ℕ, ◌+◌, ◌≤◌, Bool, true, false, not, ◌&&◌, if◌then◌else◌, eqb, leb, ◌==◌, List, find, sum_by, Option, Some, None, option_map, refl, sym, ap, subst, ◌∙◌, arith}
 use Rattle.std.proofs.lemmas.Bool.Decides.{nat_tests}
 use Rattle.std.proofs.lemmas.Bool.{and_parts, and_from}
 use Rattle.std.proofs.lemmas.List.Sums.{sum_by-le-sum_by}
 use Rattle.tb_records.specs.declared.records.Account.{Account}
 use Rattle.tb_records.specs.declared.records.Transfer.{Transfer}
 use Rattle.tb_records.specs.Ordered.{put, Each}
-use Rattle.tb_records.proofs.ByKey.{sum_by-put, find-put_other, find-put_here, find-put_none, find_passes, found_key, each-put, each-map, each-find}
-use Rattle.tb_ledger.specs.declared.rows.State.{State}
-use Rattle.tb_ledger.specs.declared.rows.State.TheVariants.{Open, Posted, Voided, Expired}
+use Rattle.tb_records.proofs.ByKey.{sum_by-put, find-put_other, find-put_none, found_key, each-put, each-map, each-find}
+use Rattle.tb_ledger.specs.declared.rows.State.TheVariants.{Posted, Voided}
 use Rattle.tb_ledger.specs.Books.{Books, pending, posts, voids, resolves, resolver, expires_at, is_due, state_by, state_of, is_open, holds, moves, account_at, transfer_at}
 use Rattle.tb_ledger.specs.Verdicts.{max_id}
 use Rattle.tb_ledger.specs.Sound.{account_key, transfer_key, ledger_at, pending_on, posted_on, SideKept}

@@ -1,16 +1,16 @@
 -- Sound books stay sound: at each event, at each entry, at each batch. Of sound books sums fit, limits hold, ledgers balance.
-use Rattle.std.proofs.Common.{◌≡◌, ◌≢◌, ℕ, ◌+◌, ◌≤◌, Bool, true, false, ◌&&◌, ◌||◌, cond, if◌then◌else◌, ◌==◌, List, [], ◌∷◌, find, Option, Some, None, option_map, refl, sym, ap, subst, ◌∙◌, arith}
+use Rattle.std.proofs.Common.{◌≡◌, ◌≢◌, ℕ, ◌≤◌, Bool, true, false, if◌then◌else◌, ◌==◌, List, Option, Some, None, option_map, refl, sym, ap, subst, ◌∙◌, arith}
 use Rattle.std.specs.Option.{option_map_or}
 use Rattle.tb_records.specs.declared.records.Account.{Account}
 use Rattle.tb_records.specs.declared.records.Transfer.{Transfer}
 use Rattle.tb_records.specs.declared.limits.Profile.{Profile}
 use Rattle.tb_records.specs.declared.limits.Profile.TheVariants.{One, Two}
-use Rattle.tb_records.specs.Ordered.{put, Each, Rising}
+use Rattle.tb_records.specs.Ordered.{put}
 use Rattle.tb_records.proofs.ByKey.{found_key, rising-put, each-put, each-find}
-use Rattle.tb_ledger.specs.Books.{Books, empty_books, debits_limited, credits_limited, pending, resolves, holds, is_closed, account_at, account_now, as_it_stands, transfer_at, debits_pending, debits_posted, credits_pending, credits_posted}
-use Rattle.tb_ledger.specs.Verdicts.{max_id, account_verdict, recorded_account, transfer_verdict, recorded_transfer, filled, filled_from, balanced_between}
+use Rattle.tb_ledger.specs.Books.{Books, empty_books, debits_limited, credits_limited, resolves, is_closed, account_at, account_now, as_it_stands, transfer_at}
+use Rattle.tb_ledger.specs.Verdicts.{account_verdict, recorded_account, transfer_verdict, recorded_transfer, filled, filled_from, balanced_between}
 use Rattle.tb_ledger.specs.Batches.{account_events, transfer_events, is_final, batch_after}
-use Rattle.tb_ledger.specs.Sound.{account_key, transfer_key, debit, credit, ledger_at, SideKept, Sound, Moves, Resolves}
+use Rattle.tb_ledger.specs.Sound.{account_key, transfer_key, debit, credit, ledger_at, Sound, Moves, Resolves}
 use Rattle.tb_ledger.specs.Limits.{KeepsLimits, Balances}
 use Rattle.tb_ledger.proofs.Accepted.{flag_stays, new_account, moves_of, resolves_of}
 use Rattle.tb_ledger.proofs.Sides.{kept_later, kept_account, kept_added, kept_resolved}

@@ -1,5 +1,5 @@
 -- The verdicts, by the rows that are found.
-use Rattle.std.proofs.Common.{◌≡◌, ◌≢◌, ℕ, suc, zero, ◌==◌, ◌||◌, Bool, true, false, List, [], ◌∷◌, map, find, is_some, IsSome, Option, Some, None, option_map, if◌then◌else◌, refl, sym, ap, subst, ◌∙◌, arith, Bor, not, ◌&&◌, ◌++◌, nat_lt}
+use Rattle.std.proofs.Common.{◌≡◌, ℕ, suc, zero, ◌==◌, ◌||◌, Bool, true, false, List, [], ◌∷◌, find, is_some, IsSome, Option, Some, None, option_map, if◌then◌else◌, refl, sym, ap, subst, ◌∙◌, arith, Bor, not, ◌&&◌, ◌++◌, nat_lt}
 use Rattle.std.proofs.lemmas.Bool.Decides.{nat_tests}
 use Rattle.std.specs.List.{list_any}
 use Rattle.std.specs.Option.{option_map_or, option_copied}

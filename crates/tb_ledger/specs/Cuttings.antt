@@ -1,9 +1,7 @@
 -- What it is to cut a batch into its chains.
 use Rattle.std.specs.Prelude.{◌≡◌, ◌↔◌, Bool, true, false, List, [], ◌∷◌, ◌++◌}
-use Rattle.tb_records.specs.declared.records.Account.{Account}
-use Rattle.tb_records.specs.declared.records.Transfer.{Transfer}
 use Rattle.tb_records.specs.Ordered.{Each}
-use Rattle.tb_ledger.specs.Batches.{Kind, Timed, blocks, account_events, transfer_events}
+use Rattle.tb_ledger.specs.Batches.{Kind, Timed, blocks}
 
 -- blocks one after another
 abbrev pub in_turn : {X : Type 0} → List (List X) → List X

@@ -1,10 +1,10 @@
 -- What all books of a ledger keep: each transfer's two accounts are there, each account's sums fit and keep to its limits.
-use Rattle.std.specs.Prelude.{◌≡◌, ◌≢◌, ℕ, Bool, true, false, ◌&&◌, ◌==◌, ◌+◌, ◌≤◌, List, Option, Some, None, if◌then◌else◌, find, sum_by}
+use Rattle.std.specs.Prelude.{◌≡◌, ◌≢◌, ℕ, Bool, true, false, ◌&&◌, ◌==◌, ◌+◌, ◌≤◌, List, Option, Some, if◌then◌else◌, find, sum_by}
 use Rattle.std.specs.Option.{option_map}
 use Rattle.tb_records.specs.declared.records.Account.{Account}
 use Rattle.tb_records.specs.declared.records.Transfer.{Transfer}
 use Rattle.tb_records.specs.Ordered.{Each, Rising}
-use Rattle.tb_ledger.specs.Books.{Books, debits_limited, credits_limited, pending, posts, voids, resolves, holds, moves, is_closed, account_at, transfer_at, debits_pending, debits_posted, credits_pending, credits_posted}
+use Rattle.tb_ledger.specs.Books.{Books, debits_limited, credits_limited, pending, posts, voids, holds, moves, is_closed, account_at, transfer_at, debits_pending, debits_posted, credits_pending, credits_posted}
 use Rattle.tb_ledger.specs.Verdicts.{max_id}
 
 -- the keys by which accounts and transfers stand in order

@@ -1,12 +1,12 @@
 -- What a class says of a client's row and a request, and what it says of an entry that it may come next.
-use Rattle.std.proofs.Common.{◌≡◌, ℕ, ◌+◌, ◌<◌, ◌≤◌, ◌⊎◌, inl, inr, Bool, true, false, not, ◌&&◌, cond, List, [], ◌∷◌, Option, Some, None, refl, sym, ap, ◌∙◌, subst, IsTrue, arith, max, eqb, ltb, leb, eqb-true, ltb-true, ltb-false, lt-ltb, leb-true, eq-eqb, le-leb, ⊎_elim}
-use Rattle.tb_records.specs.Messages.{Message, count, is_register}
+use Rattle.std.proofs.Common.{◌≡◌, ◌+◌, ◌<◌, ◌≤◌, ◌⊎◌, inl, inr, Bool, true, false, ◌&&◌, cond, [], ◌∷◌, Option, Some, None, refl, ap, IsTrue, arith, eqb, ltb, leb, eqb-true, ltb-false, lt-ltb, leb-true, eq-eqb, le-leb, ⊎_elim}
+use Rattle.tb_records.specs.Messages.{Message, is_register}
 use Rattle.tb_records.specs.Same.{same_body}
 use Rattle.tb_ledger.specs.Verdicts.{max_time}
 use Rattle.tb_sessions.specs.declared.rows.Row.{Row}
 use Rattle.tb_sessions.specs.declared.classes.Class.{Class}
 use Rattle.tb_sessions.specs.declared.classes.Class.TheVariants.{New, Repeat, NoSession, SessionTooLow, NewerSession, Older, Collision, NewerRequest}
-use Rattle.tb_sessions.specs.Judged.{first_class, class_beside, class_by, class_of, row_of}
+use Rattle.tb_sessions.specs.Judged.{first_class, class_by, class_of}
 use Rattle.tb_machine.specs.declared.entries.Entry.{Entry}
 use Rattle.tb_machine.specs.Histories.{State, least_time, is_new, is_lawful, fits}
 

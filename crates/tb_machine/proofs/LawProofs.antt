@@ -1,17 +1,17 @@
 -- The laws of legal histories, proved.
-use Rattle.std.proofs.Common.{◌≡◌, ◌≢◌, ℕ, ◌+◌, ◌<◌, ◌≤◌, ◌⊎◌, inl, inr, ⊎_elim, Bool, true, false, not, ◌&&◌, cond, eqb, eq-eqb, eqb-true, List, [], ◌∷◌, ◌++◌, length, fold, Option, Some, None, is_none, ltb, length-append, refl, sym, ap, ◌∙◌, subst, IsTrue, arith, append_assoc}
+use Rattle.std.proofs.Common.{◌≡◌, ◌≢◌, ℕ, ◌+◌, ◌<◌, ◌≤◌, ◌⊎◌, inl, inr, ⊎_elim, Bool, true, false, not, ◌&&◌, eqb, eq-eqb, eqb-true, List, [], ◌∷◌, ◌++◌, fold, Some, None, is_none, ltb, length-append, refl, sym, ap, ◌∙◌, subst, IsTrue, arith}
 use Rattle.tb_records.specs.declared.bodies.Body.{Body}
 use Rattle.tb_records.specs.declared.bodies.Body.TheVariants.{Register, CreateAccounts, CreateTransfers, LookupAccounts, LookupTransfers}
 use Rattle.tb_records.specs.declared.limits.Profile.{Profile}
-use Rattle.tb_records.specs.Messages.{Message, is_register, first_fault, items_max, item_count, number_fault}
+use Rattle.tb_records.specs.Messages.{Message, is_register, first_fault, items_max, item_count}
 use Rattle.tb_records.specs.declared.faults.FrameFault.TheVariants.{ClientZero, RegisterNumbers, RequestZero, TooMany}
-use Rattle.tb_records.specs.Ordered.{Each, Rising}
+use Rattle.tb_records.specs.Ordered.{Each}
 use Rattle.tb_records.proofs.OneBody.{one_body}
 use Rattle.tb_sessions.specs.declared.rows.Row.{Row}
-use Rattle.tb_sessions.specs.declared.classes.Class.TheVariants.{Repeat, NoSession, SessionTooLow}
+use Rattle.tb_sessions.specs.declared.classes.Class.TheVariants.{NoSession, SessionTooLow}
 use Rattle.tb_sessions.specs.Judged.{client_of, row_of, class_of}
 use Rattle.tb_machine.specs.declared.entries.Entry.{Entry}
-use Rattle.tb_machine.specs.Histories.{State, start, fits, is_lawful, session_of, row_at, step, LegalFrom, IsLegal, after, key_of}
+use Rattle.tb_machine.specs.Histories.{State, start, is_lawful, session_of, row_at, step, LegalFrom, IsLegal, after, key_of}
 use Rattle.tb_machine.specs.HistoryLaws.{KeysDiffer, OneKey, IsStored, FirstReply, HasSession, StaysOut}
 use Rattle.tb_machine.proofs.Rows.{each_map, each_both, each_admitted, row_found, each_found}
 use Rattle.tb_machine.proofs.Legal.{fold_append, legal_split, legal_front}

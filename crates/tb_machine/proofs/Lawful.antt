@@ -1,14 +1,14 @@
 -- The numbers of a lawful request, and the reply that they give.
-use Rattle.std.proofs.Common.{◌≡◌, ◌≢◌, ℕ, ◌+◌, ◌<◌, ◌≤◌, Bool, true, false, not, ◌&&◌, List, [], ◌∷◌, length, Option, Some, None, refl, sym, ap, ◌∙◌, subst, arith, IsTrue, max, eqb, ltb, eqb-true, eq-eqb, lt-ltb, ltb-false, ne_eqb, le-ltb}
+use Rattle.std.proofs.Common.{◌≡◌, ◌≢◌, ℕ, ◌<◌, ◌≤◌, Bool, true, false, not, ◌&&◌, List, [], ◌∷◌, length, Option, Some, None, refl, arith, eqb, ltb, eqb-true, eq-eqb, lt-ltb, ltb-false, ne_eqb, le-ltb}
 use Rattle.std.specs.List.{filter_map, cons_option}
 use Rattle.tb_records.specs.declared.bodies.Body.{Body}
 use Rattle.tb_records.specs.declared.bodies.Body.TheVariants.{Register, CreateAccounts, CreateTransfers, LookupAccounts, LookupTransfers}
 use Rattle.tb_records.specs.declared.bodies.ReplyBody.{ReplyBody}
 use Rattle.tb_records.specs.declared.replies.Status.TheVariants as status
 use Rattle.tb_records.specs.declared.faults.FrameFault.TheVariants as fault
-use Rattle.tb_records.specs.Messages.{Message, operation, count, item_count, items_max, is_register, first_fault, number_fault, answered, kind_of, kind_for, answer_count, IsLawful, IsRight}
+use Rattle.tb_records.specs.Messages.{Message, operation, count, item_count, items_max, is_register, first_fault, answered, kind_of, kind_for, answer_count, IsLawful, IsRight}
 use Rattle.tb_ledger.specs.Books.{Books, account_now, transfer_at}
-use Rattle.tb_ledger.specs.Batches.{account_events, transfer_events, batch_after}
+use Rattle.tb_ledger.specs.Batches.{account_events, transfer_events}
 use Rattle.tb_ledger.proofs.ResultLaws.{length-results}
 use Rattle.tb_ledger.proofs.SoundLaws.{time_after_accounts, time_after_transfers}
 use Rattle.tb_machine.specs.Histories.{at_time, executed, found}

@@ -1,5 +1,5 @@
 -- Legal histories: their beginnings, their ends, and one entry more.
-use Rattle.std.proofs.Common.{◌≡◌, ℕ, ◌+◌, Bool, true, List, [], ◌∷◌, ◌++◌, length, fold, refl, sym, ap, ◌∙◌, subst, IsTrue}
+use Rattle.std.proofs.Common.{◌≡◌, ℕ, List, [], ◌∷◌, ◌++◌, fold, refl, IsTrue}
 use Rattle.tb_records.specs.declared.limits.Profile.{Profile}
 use Rattle.tb_machine.specs.declared.entries.Entry.{Entry}
 use Rattle.tb_machine.specs.Histories.{State, start, fits, step, LegalFrom, IsLegal, after}

@@ -1,14 +1,14 @@
 -- What holds of the rows and the entries after a legal history.
-use Rattle.std.proofs.Common.{◌≡◌, ◌≢◌, ℕ, ◌+◌, ◌<◌, ◌≤◌, ◌⊎◌, inl, inr, ⊎_elim, Bool, true, false, cond, List, [], ◌∷◌, ◌++◌, length, fold, Option, Some, None, refl, sym, ap, ◌∙◌, subst, IsTrue, arith, append_assoc, append-nil, length-append}
+use Rattle.std.proofs.Common.{◌≡◌, ◌≢◌, ℕ, ◌+◌, ◌<◌, ◌≤◌, ⊎_elim, true, false, cond, List, [], ◌∷◌, ◌++◌, length, fold, Some, None, refl, sym, ap, ◌∙◌, subst, IsTrue, arith, append_assoc, append-nil, length-append}
 use Rattle.tb_records.specs.declared.limits.Profile.{Profile}
-use Rattle.tb_records.specs.Messages.{Message, is_register}
+use Rattle.tb_records.specs.Messages.{is_register}
 use Rattle.tb_records.specs.Ordered.{Each, Rising}
 use Rattle.tb_sessions.specs.declared.rows.Row.{Row}
 use Rattle.tb_sessions.specs.Judged.{client_of, row_of}
 use Rattle.tb_machine.specs.declared.entries.Entry.{Entry}
-use Rattle.tb_machine.specs.Histories.{State, start, fits, is_lawful, session_of, row_at, step, LegalFrom, IsLegal, after, key_of}
+use Rattle.tb_machine.specs.Histories.{State, start, is_lawful, session_of, row_at, step, LegalFrom, IsLegal, after, key_of}
 use Rattle.tb_machine.specs.HistoryLaws.{KeysDiffer}
-use Rattle.tb_machine.proofs.Rows.{each_map, each_both, each_snoc, each_admitted, each_admitted_apart, rising_admitted, row_found}
+use Rattle.tb_machine.proofs.Rows.{each_map, each_snoc, each_admitted, each_admitted_apart, rising_admitted, row_found}
 use Rattle.tb_machine.proofs.Legal.{after_snoc}
 use Rattle.tb_machine.proofs.Judging.{Follows, new_by, MayCome, may_come}
 

@@ -1,10 +1,10 @@
 -- What holds of each row, through an admission and of the row that a look-up finds.
-use Rattle.std.proofs.Common.{◌≡◌, ◌≢◌, ℕ, ◌+◌, ◌<◌, ◌≤◌, Bool, true, false, cond, List, [], ◌∷◌, ◌++◌, find, is_some, Option, Some, None, refl, sym, ap, ◌∙◌, subst, arith, eqb, ltb, eqb-true, eq-eqb, ne_eqb, ltb-true, ltb-false}
+use Rattle.std.proofs.Common.{◌≡◌, ◌≢◌, ℕ, ◌<◌, Bool, true, false, cond, List, [], ◌∷◌, ◌++◌, find, is_some, Option, Some, None, refl, ap, ◌∙◌, subst, arith, eqb, ltb, eqb-true, eq-eqb, ne_eqb, ltb-true, ltb-false}
 use Rattle.std.proofs.lemmas.Bool.{cond_both}
 use Rattle.tb_records.specs.Ordered.{put, replaced, taken_out, Each, Rising}
 use Rattle.tb_sessions.specs.declared.rows.Row.{Row}
 use Rattle.tb_sessions.specs.Judged.{client_of, row_of}
-use Rattle.tb_sessions.specs.Admission.{oldest, driven_out, without, admitted}
+use Rattle.tb_sessions.specs.Admission.{driven_out, without, admitted}
 
 -- what holds of each
 

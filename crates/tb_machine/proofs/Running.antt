@@ -1,20 +1,16 @@
 -- A whole run: the pairs so far, and one more.
-use Rattle.std.proofs.Common.{◌≡◌, ℕ, ◌+◌, Bool, true, false, cond, List, [], ◌∷◌, ◌++◌, length, fold, flat_map, Option, Some, None, Result, Ok, Err, inl, inr, ◌-◌, ◌^◌, refl, sym, ap, ◌∙◌, subst, arith, append_assoc, append-nil, length-append}
+use Rattle.std.proofs.Common.{◌≡◌, ℕ, ◌+◌, Bool, true, false, cond, List, [], ◌∷◌, ◌++◌, length, flat_map, Option, Some, None, Ok, Err, inl, inr, ◌-◌, ◌^◌, refl, sym, ap, ◌∙◌, subst, arith, append_assoc, append-nil, length-append}
 use Rattle.std.proofs.lemmas.Grind.{flat_map-append}
 use Rattle.std.specs.Io.KnownBytes.{Appends}
-use Rattle.tb_records.specs.declared.faults.FrameFault.{FrameFault}
 use Rattle.tb_records.specs.declared.limits.Profile.{Profile}
-use Rattle.tb_records.specs.Ordered.{Each}
-use Rattle.tb_records.specs.Messages.{Message, Answer}
 use Rattle.tb_records.specs.ReplyFrames.{reply_bytes}
 use Rattle.tb_records.specs.Inputs.{timed_bytes, TimedAnswers}
-use Rattle.tb_records.specs.Transport.{Sent}
 use Rattle.tb_machine.specs.declared.entries.Entry.{Entry}
 use Rattle.tb_machine.specs.declared.serving.RunFault.{RunFault}
 use Rattle.tb_machine.specs.declared.serving.RunFault.TheVariants as fault
 use Rattle.tb_machine.specs.Histories.{State, start, step, after, answer_to}
 use Rattle.tb_machine.specs.Scripts.{Pair, entry_of, is_entered, moved, with_pair, accepted, replies_from, replies_to}
-use Rattle.tb_machine.specs.Runs.{Input, input, Output, Sends, IsPair, Spell, Reads, IsTimely, answer_bytes, Turns, Next, Serves, HasTimes, state_after, Served, BreaksOff, Halts, EndsBy, Ran, RanTo}
+use Rattle.tb_machine.specs.Runs.{Input, input, Output, Sends, IsPair, Spell, Reads, IsTimely, answer_bytes, Turns, Serves, HasTimes, state_after, Served, EndsBy, Ran}
 use Rattle.tb_machine.proofs.Rows.{each_snoc}
 use Rattle.tb_machine.proofs.Legal.{fold_snoc, after_snoc}
 

@@ -1,5 +1,5 @@
 -- The books after a legal history are sound.
-use Rattle.std.proofs.Common.{◌≡◌, ℕ, ◌+◌, ◌≤◌, max, List, [], ◌∷◌, fold, arith}
+use Rattle.std.proofs.Common.{ℕ, ◌≤◌, List, [], ◌∷◌, fold, arith}
 use Rattle.tb_records.specs.declared.bodies.Body.{Body}
 use Rattle.tb_records.specs.declared.bodies.Body.TheVariants.{Register, CreateAccounts, CreateTransfers, LookupAccounts, LookupTransfers}
 use Rattle.tb_records.specs.declared.limits.Profile.{Profile}

@@ -1,17 +1,14 @@
 -- An entry that may come next leaves a sound state sound, and has a reply that a frame can carry.
-use Rattle.std.proofs.Common.{◌≡◌, ℕ, ◌+◌, ◌<◌, ◌≤◌, ◌⊎◌, ⊎_elim, Bool, true, false, not, List, [], Option, Some, None, is_none, refl, sym, ap, ◌∙◌, subst, IsTrue, max, arith}
-use Rattle.tb_records.specs.declared.replies.Status.TheVariants as status
+use Rattle.std.proofs.Common.{◌≡◌, ◌<◌, ◌≤◌, ⊎_elim, Bool, true, false, Option, Some, None, is_none, refl, sym, ap, ◌∙◌, IsTrue, arith}
 use Rattle.tb_records.specs.declared.faults.FrameFault.{FrameFault}
-use Rattle.tb_records.specs.Messages.{Message, count, item_count, items_max, is_register, number_fault, IsLawful, IsRight}
+use Rattle.tb_records.specs.Messages.{Message, is_register, number_fault, IsLawful, IsRight}
 use Rattle.tb_records.specs.Ordered.{Each}
 use Rattle.tb_ledger.specs.Books.{Books}
-use Rattle.tb_ledger.specs.Verdicts.{max_time}
 use Rattle.tb_sessions.specs.declared.rows.Row.{Row}
-use Rattle.tb_sessions.specs.declared.classes.Class.TheVariants.{New}
-use Rattle.tb_sessions.specs.Judged.{class_of, row_of}
+use Rattle.tb_sessions.specs.Judged.{row_of}
 use Rattle.tb_sessions.specs.Admission.{admitted}
 use Rattle.tb_machine.specs.declared.entries.Entry.{Entry}
-use Rattle.tb_machine.specs.Histories.{State, fits, is_lawful, session_of, body_at, reply_at, step, executed, found}
+use Rattle.tb_machine.specs.Histories.{State, fits, is_lawful, session_of, body_at, reply_at, executed}
 use Rattle.tb_machine.specs.Sound.{IsNumbered, IsSound}
 use Rattle.tb_machine.proofs.Rows.{each_map, each_admitted, row_found}
 use Rattle.tb_machine.proofs.Judging.{Follows, MayCome, may_come, new_by}

@@ -1,5 +1,5 @@
 -- One pair: what its entry leaves for its request, and the answers that the rows give.
-use Rattle.std.proofs.Common.{true≢false, ◌≡◌, ◌≢◌, ℕ, ◌+◌, ◌<◌, ◌≤◌, Bool, true, false, cond, not, ◌&&◌, List, [], ◌∷◌, find, is_some, Option, Some, None, Result, Ok, Err, MatchResult, refl, sym, ap, ◌∙◌, subst, IsTrue, arith, max, eqb, ltb, leb, eq-eqb, eqb-true, ne_eqb, ltb-true, leb-true, ltb-false}
+use Rattle.std.proofs.Common.{true≢false, ◌≡◌, ◌≢◌, ℕ, ◌+◌, ◌<◌, Bool, true, false, cond, ◌&&◌, List, [], ◌∷◌, find, is_some, Option, Some, None, Result, Ok, Err, refl, sym, ap, ◌∙◌, subst, arith, eqb, ltb, eq-eqb, ne_eqb, ltb-true}
 use Rattle.std.proofs.lemmas.Bool.{cond_both}
 use Rattle.std.proofs.lemmas.Bool.Decides.{nat_tests}
 use Rattle.std.specs.Option.{option_map}
@@ -7,7 +7,6 @@ use Rattle.tb_records.specs.Messages.{Message, Answer, is_register, IsLawful}
 use Rattle.tb_records.specs.Same.{same_body}
 use Rattle.tb_records.proofs.OneBody.{body_same}
 use Rattle.tb_records.specs.Ordered.{put, replaced}
-use Rattle.tb_ledger.specs.Verdicts.{max_time}
 use Rattle.tb_sessions.specs.declared.rows.Row.{Row}
 use Rattle.tb_sessions.specs.declared.classes.Class.{Class}
 use Rattle.tb_sessions.specs.declared.classes.Class.TheVariants.{New, Repeat, NoSession, SessionTooLow, NewerSession, Older, Collision, NewerRequest}
@@ -15,13 +14,11 @@ use Rattle.tb_sessions.specs.Judged.{client_of, row_of, first_class, class_besid
 use Rattle.tb_sessions.specs.Admission.{driven_out, without, admitted}
 use Rattle.tb_machine.specs.declared.entries.Entry.{Entry}
 use Rattle.tb_machine.specs.Histories.{State, is_new, session_of, row_at, reply_at, step, status_of, refusal, answer_by, answer_to}
-use Rattle.tb_machine.specs.Scripts.{Pair, entry_of, has_time, is_entered, moved}
+use Rattle.tb_machine.specs.Scripts.{Pair, entry_of, has_time, moved}
 use Rattle.tb_records.specs.ReplyFrames.{reply_bytes}
 use Rattle.tb_machine.specs.declared.serving.RunFault.{RunFault}
-use Rattle.tb_machine.specs.declared.serving.RunFault.TheVariants as fault
 use Rattle.tb_machine.specs.Runs.{Output, Sends, Breaks, Delivers, is_new_in, Enters, Turns}
-use Rattle.tb_machine.proofs.Judging.{both_of}
-use Rattle.tb_machine.proofs.Lawful.{LawfulNumbers, lawful_numbers}
+use Rattle.tb_machine.proofs.Lawful.{lawful_numbers}
 
 -- the row that was admitted is found
 

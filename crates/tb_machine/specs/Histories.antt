@@ -1,5 +1,5 @@
 -- Entries, the state that they lead to, and the answers that it gives: a request is executed once, in its turn, and its reply is kept in its client's row.
-use Rattle.std.specs.Prelude.{ℕ, Bool, true, false, not, ◌&&◌, ◌==◌, ◌≡◌, ◌+◌, max, nat_le, IsTrue, List, [], ◌∷◌, ◌++◌, Option, Some, None, if◌then◌else◌, fold}
+use Rattle.std.specs.Prelude.{ℕ, Bool, true, false, ◌&&◌, ◌==◌, ◌+◌, max, nat_le, IsTrue, List, [], ◌∷◌, Option, Some, if◌then◌else◌, fold}
 use Rattle.std.specs.Option.{is_none}
 use Rattle.tb_records.specs.declared.bodies.Body.{Body}
 use Rattle.tb_records.specs.declared.bodies.Body.TheVariants.{Register, CreateAccounts, CreateTransfers, LookupAccounts, LookupTransfers}

@@ -1,5 +1,5 @@
 -- The laws of legal histories.
-use Rattle.std.specs.Prelude.{ℕ, Bool, false, ◌≡◌, ◌≢◌, ◌+◌, ◌⊎◌, IsTrue, List, [], ◌∷◌, ◌++◌, length, Some}
+use Rattle.std.specs.Prelude.{ℕ, false, ◌≡◌, ◌≢◌, ◌+◌, ◌⊎◌, IsTrue, List, [], ◌∷◌, ◌++◌, length, Some}
 use Rattle.tb_records.specs.declared.records.Account.{Account}
 use Rattle.tb_records.specs.declared.limits.Profile.{Profile}
 use Rattle.tb_records.specs.Messages.{Message, is_register}

@@ -1,10 +1,9 @@
 -- What a server makes of a script: the pairs that it read, the replies that it wrote, and what ended it.
-use Rattle.std.specs.Prelude.{ℕ, Bool, true, false, ◌≡◌, ◌≢◌, ◌⊎◌, ◌-◌, ◌^◌, ◌<◌, List, [], ◌∷◌, ◌++◌, length, Option, Some, None, Result, Ok, Err, MatchResult}
+use Rattle.std.specs.Prelude.{ℕ, Bool, true, false, ◌≡◌, ◌⊎◌, ◌-◌, ◌^◌, ◌<◌, List, [], ◌∷◌, ◌++◌, length, Option, Some, None, Result, Ok, Err, MatchResult}
 use Rattle.std.specs.List.{flat_map}
 use Rattle.tb_records.specs.declared.faults.FrameFault.{FrameFault}
 use Rattle.tb_records.specs.declared.faults.FrameFault.TheVariants.{Device}
 use Rattle.tb_records.specs.declared.limits.Profile.{Profile}
-use Rattle.tb_records.specs.Messages.{Message, Answer}
 use Rattle.tb_records.specs.Ordered.{Each}
 use Rattle.tb_records.specs.Frames.{IsRequest}
 use Rattle.tb_records.specs.ReplyFrames.{reply_bytes}

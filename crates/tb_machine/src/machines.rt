@@ -183,3 +183,6 @@ impl<A: Allocator + Clone> Machine<A> {
         Ok(())
     }
 }
+
+#[cfg(test)]
+mod tests;

@@ -1,5 +1,5 @@
 -- What holds of each row through an admission.
-use Rattle.std.proofs.Common.{◌≡◌, ℕ, ◌<◌, ◌+◌, Bool, true, false, cond, List, Option, Some, None, is_some, arith}
+use Rattle.std.proofs.Common.{◌≡◌, ℕ, ◌<◌, ◌+◌, true, false, cond, List, Option, Some, None, is_some, arith}
 use Rattle.tb_records.specs.Ordered.{Each, put, replaced}
 use Rattle.tb_records.proofs.ByKey.{each-map, each-put, each-replaced_all, each-taken_out}
 use Rattle.tb_sessions.specs.declared.rows.Row.{Row}

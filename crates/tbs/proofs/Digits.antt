@@ -1,5 +1,5 @@
 -- A number that is past the range stays past it, whatever digits follow.
-use Rattle.std.proofs.Common.{ℕ, ◌≡◌, ◌<◌, ◌+◌, ◌*◌, ◌&&◌, Bool, true, false, nat_le, List, [], ◌∷◌, Option, Some, None, refl, arith, if◌then◌else◌}
+use Rattle.std.proofs.Common.{ℕ, ◌≡◌, ◌<◌, ◌+◌, ◌*◌, List, [], ◌∷◌, Option, Some, None, refl, arith}
 use Rattle.std.specs.Option.{option_and_then}
 use Rattle.std.proofs.lemmas.Bool.Decides.{nat_tests}
 use Rattle.tbs.specs.Orders.{number_from, digit_of, within}

@@ -1,6 +1,9 @@
 //! `tbs`: serves scripts of request frames, from standard input to standard output.
 #![tactic(auto)]
 
+ghost use Rattle.std.specs.Prelude.{◌≡◌};
+ghost use Rattle.tbs.specs.Statuses.{fault_status};
+
 mod arguments;
 mod commands;
 #[cfg(test)]
@@ -54,7 +57,9 @@ fn fault_of(error: &io::Error) -> Fault {
 }
 
 /// Tells the fault, and answers its status.
-fn refuse<E: Sink>(fault: Fault, faults: &mut E) -> u8 {
+fn refuse<E: Sink>(fault: Fault, faults: &mut E) -> u8
+    ensures { result ≡ fault_status fault }
+{
     tell(fault, faults);
     fault.status()
 }

@@ -1,4 +1,4 @@
-use Rattle.std.proofs.Common.{◌≡◌, ◌+◌, ◌*◌, ◌≤◌, ◌++◌, [], length, vec_len, vec_capacity}
+use Rattle.std.proofs.Common.{◌≡◌, ◌+◌, ◌≤◌, ◌++◌, [], length, vec_len, vec_capacity}
 use Rattle.tb_ledger.specs.Batches.{blocks, blocks_after, timed_from, results_from}
 use Rattle.tb_ledger.specs.Kept.{books_in, IsKept}
 use Rattle.tb_ledger.proofs.batching.run_batch.Given as goal

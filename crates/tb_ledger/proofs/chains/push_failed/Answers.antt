@@ -1,5 +1,4 @@
-use Rattle.std.proofs.Common.{◌+◌, ◌-◌, ◌++◌, replicate, sym, ap, ◌∙◌, arith}
-use Rattle.tb_ledger.specs.Batches.{results_from}
+use Rattle.std.proofs.Common.{◌++◌, sym, ap, ◌∙◌, arith}
 use Rattle.tb_ledger.proofs.CodeLaws.{pushed, failed-step}
 use Rattle.tb_ledger.proofs.chains.push_failed.Goals as goal
 

@@ -1,5 +1,5 @@
-use Rattle.std.proofs.Common.{◌≡◌, ◌+◌, ◌++◌, [], length, sym, ap, ◌∙◌, arith, append-nil}
-use Rattle.tb_ledger.specs.Batches.{results_from, Outcome, block_after, timed_from}
+use Rattle.std.proofs.Common.{◌≡◌, ◌++◌, [], length, sym, ap, ◌∙◌, arith, append-nil}
+use Rattle.tb_ledger.specs.Batches.{results_from, block_after, timed_from}
 use Rattle.tb_ledger.specs.Kept.{books_in}
 use Rattle.tb_ledger.proofs.CodeLaws.{results-none}
 use Rattle.tb_ledger.proofs.BlockLaws.{failure-later, all-later, broken-here, passed-here}

@@ -1,4 +1,4 @@
-use Rattle.std.proofs.Common.{◌≡◌, Some, MatchResult, IfOk, subst, sym, ap, ◌∙◌, option_map}
+use Rattle.std.proofs.Common.{◌≡◌, MatchResult, IfOk, subst, sym, ap, ◌∙◌, option_map}
 use Rattle.tb_ledger.specs.Kept.{books_in}
 use Rattle.tb_ledger.proofs.VerdictLaws.{transfer_stands, filled_found, resolve_refused, resolve_missing, resolve_found}
 use Rattle.tb_ledger.proofs.deciding.resolved.Goals as goal

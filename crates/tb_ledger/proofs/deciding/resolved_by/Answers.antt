@@ -1,6 +1,6 @@
 use Rattle.std.proofs.Common.{◌∙◌, refl}
 use Rattle.tb_ledger.specs.Kept.{books_in}
-use Rattle.tb_ledger.specs.Groups.{pending_lines, closed_lines}
+use Rattle.tb_ledger.specs.Groups.{closed_lines}
 use Rattle.tb_ledger.specs.Verdicts.{first_of}
 use Rattle.tb_ledger.proofs.VerdictLaws.{named_code, pair_first, pair_second, closed_by_rows, debit_there, credit_there}
 use Rattle.tb_ledger.proofs.deciding.resolved_by.Goals as goal

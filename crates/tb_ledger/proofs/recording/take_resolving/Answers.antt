@@ -1,4 +1,4 @@
-use Rattle.std.proofs.Common.{◌≡◌, ◌==◌, Some, None, find, subst, sym, ap, ◌∙◌}
+use Rattle.std.proofs.Common.{◌==◌, find, ap, ◌∙◌}
 use Rattle.tb_ledger.specs.Books.{transfer_at}
 use Rattle.tb_ledger.specs.Kept.{books_in}
 use Rattle.tb_ledger.proofs.Accepted.{new_transfer}

@@ -1,4 +1,4 @@
-use Rattle.std.proofs.Common.{sym, ap, ◌∙◌}
+use Rattle.std.proofs.Common.{sym, ◌∙◌}
 use Rattle.tb_ledger.specs.Kept.{books_in}
 use Rattle.tb_ledger.proofs.Accepted.{new_transfer}
 use Rattle.tb_ledger.proofs.VerdictLaws.{single_verdict, recorded_moves}

@@ -1,4 +1,4 @@
-use Rattle.std.proofs.Common.{◌≡◌, sym, ◌∙◌, drop}
+use Rattle.std.proofs.Common.{sym, ◌∙◌, drop}
 use Rattle.tbs.proofs.Digits.{beyond}
 use Rattle.tbs.proofs.arguments.number.Goals as goal
 

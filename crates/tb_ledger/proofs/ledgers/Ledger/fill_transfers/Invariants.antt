@@ -1,6 +1,5 @@
 use Rattle.std.proofs.Common.{◌≡◌, ◌+◌, ◌≤◌, ◌++◌, length, drop, vec_len, vec_capacity}
 use Rattle.tb_ledger.specs.Books.{found_transfers}
-use Rattle.tb_ledger.specs.Kept.{books_in}
 use Rattle.tb_ledger.proofs.ledgers.Ledger.fill_transfers.Given as goal
 
 abbrev pub invariant-loop-id : goal.invariant-loop-id
