@@ -1,10 +1,14 @@
 //! Scripts in memory, served: worked rows, byte for byte. The frames and records that are sent, and those that are
 //! wanted, are put together here from numbers.
-use crate::serving::{RunFault, run};
+use crate::serving::{RunFault, run, status_of};
+use crate::{Entry, Machine};
 use std::alloc::Global;
 use std::process::Abort;
 use std::test::Fail;
-use tb_records::{ClientsMax, Counting, FrameFault, Profile};
+use tb_records::{
+    ClientsMax, Counting, FrameFault, Profile, Reply, Request, RequestStream, write_reply,
+};
+use tb_sessions::Class;
 
 const MAX: u128 = u128::MAX;
 
@@ -344,9 +348,92 @@ fn expect(
     Ok(())
 }
 
+/// Applies the entry of a request that comes at a moment.
+fn apply(machine: &mut Machine<Global>, moment: u64, request: Request) -> Result<(), Fail> {
+    let events = request.body().event_count() as u64;
+    let time = machine.next_time(moment, events).ok_or("a time")?;
+    let entry = Entry {
+        commit: machine.commit() + 1,
+        time,
+        request,
+    };
+    if machine.fits(&entry) {
+        Ok(machine.apply(&entry)?)
+    } else {
+        Err("the entry may not come next".into())
+    }
+}
+
+/// Writes the stored reply of a client.
+fn put_stored(machine: &Machine<Global>, client: u128, replies: &mut Vec<u8>) -> Result<(), Fail> {
+    let reply = machine.reply_of(client).ok_or("a reply")?;
+    Ok(write_reply(reply, replies)?)
+}
+
+/// Answers a request that comes at a moment by the machine's own calls.
+fn answer(
+    machine: &mut Machine<Global>,
+    moment: u64,
+    request: Request,
+    replies: &mut Vec<u8>,
+) -> Result<(), Fail> {
+    let client = request.client();
+    match machine.class(&request) {
+        Class::New => apply(machine, moment, request)?,
+        Class::Repeat => {}
+        class => {
+            let refusal = Reply::refusal(&request, status_of(class));
+            return Ok(write_reply(&refusal, replies)?);
+        }
+    }
+    put_stored(machine, client, replies)
+}
+
+/// Hands so many pairs of a script to a machine, one after another.
+fn hand_over(
+    alloc: Global,
+    machine: &mut Machine<Global>,
+    script: &Script,
+    replies: &mut Vec<u8>,
+) -> Result<(), Fail> {
+    let mut stream = RequestStream::new(Counting::new(script.bytes.as_slice()));
+    for _ in 0..script.requests {
+        let (moment, request) = stream.next_timed(alloc)?.ok_or("a pair")?;
+        answer(machine, moment, request, replies)?;
+    }
+    Ok(())
+}
+
+/// The replies that a machine's own calls give to a script.
+fn replies_of_machine(
+    alloc: Global,
+    clients_max: u32,
+    profile: Profile,
+    script: &Script,
+) -> Result<Vec<u8>, Fail> {
+    let clients_max = ClientsMax::new(clients_max).ok_or("clients_max")?;
+    let mut machine = Machine::new_in(alloc, alloc, profile, clients_max)?;
+    let mut replies = Vec::new(alloc);
+    hand_over(alloc, &mut machine, script, &mut replies)?;
+    Ok(replies)
+}
+
+/// Serves a script to its end, for so many clients at most: by `run`, and by the machine's own calls.
+fn expect_whole(
+    rt: &impl Abort,
+    script: &Script,
+    clients_max: u32,
+    profile: Profile,
+) -> Result<(), Fail> {
+    expect(rt, script, clients_max, profile, Ok(script.requests))?;
+    let replies = replies_of_machine(script.alloc, clients_max, profile, script)?;
+    assert!(rt; replies.as_slice() == script.replies.as_slice());
+    Ok(())
+}
+
 /// Serves a script to its end, for two clients at most.
 fn expect_all(rt: &impl Abort, script: &Script, profile: Profile) -> Result<(), Fail> {
-    expect(rt, script, 2, profile, Ok(script.requests))
+    expect_whole(rt, script, 2, profile)
 }
 
 /// Serves a script to its end by each profile.
@@ -862,7 +949,8 @@ fn eviction_storm(rt: HostRuntime) -> Result<(), Fail> {
     script.register(1, 102)?;
     script.look(1, 1, 1, 2, 0)?;
     script.look(100, 100, 2, 1, 0)?;
-    expect(&rt, &script, 1, Profile::One, Ok(203))
+    assert_eq!(rt; script.requests, 203);
+    expect_whole(&rt, &script, 1, Profile::One)
 }
 
 /// The moment `2^63 - 1` can be the time of the first entry, and then of no second. A repeat needs no time.
