@@ -276,7 +276,7 @@ fn accounts_looked_up_in_order(rt: HostRuntime) -> Result<(), Fail> {
     expect_accounts(&rt, rt.alloc(), &mut machine)
 }
 
-/// A machine with two accounts, which client 7's request 2 looked up.
+/// A machine with two accounts, which client 7's second request looked up.
 fn looked_up(alloc: Global) -> Result<Machine<Global>, Fail> {
     let mut machine = two_accounts(alloc)?;
     let lookup = account_lookup(alloc, (7, 1, 2), &[2, 9, 1])?;
@@ -284,7 +284,7 @@ fn looked_up(alloc: Global) -> Result<Machine<Global>, Fail> {
     Ok(machine)
 }
 
-/// As `looked_up`, and client 7's request 3 then moved 100 from account 1 to account 2.
+/// As `looked_up`, and client 7's third request then moved 100 from account 1 to account 2.
 fn transferred(alloc: Global) -> Result<Machine<Global>, Fail> {
     let mut machine = looked_up(alloc)?;
     let transfer = new_transfer(alloc, (7, 1, 3), (11, 100, 0, 0))?;
@@ -325,7 +325,7 @@ fn transfer_repeated_and_older(rt: HostRuntime) -> Result<(), Fail> {
     expect_transfer(&rt, rt.alloc(), &machine)
 }
 
-/// Client 7's requests 2 to 7: three pending transfers, and posts of the whole, of 15 and of nothing.
+/// Client 7's second to seventh request: three pending transfers, and posts of the whole, of 15 and of nothing.
 fn post(alloc: Global, machine: &mut Machine<Global>) -> Result<(), Fail> {
     for (number, row) in [
         (2, (20, 40, 0, 2)),
@@ -372,7 +372,7 @@ fn expect_posts(rt: &impl Abort, alloc: Global, machine: &Machine<Global>) -> Re
     Ok(())
 }
 
-/// Client 7's request 8 looks two posts up.
+/// Client 7's eighth request looks two posts up.
 fn expect_lookup(
     rt: &impl Abort,
     alloc: Global,
@@ -426,7 +426,7 @@ fn expect_classes(
     Ok(())
 }
 
-/// Requests after client 7's request 3, which moved 100.
+/// Requests after client 7's third, which moved 100.
 fn expect_all_classes(
     rt: &impl Abort,
     alloc: Global,
@@ -465,7 +465,7 @@ fn session_of(machine: &Machine<Global>, client: u128) -> Option<u64> {
     Some(machine.reply_of(client)?.session())
 }
 
-/// How request 1 of client 8 stands, in the session that commit 2 began.
+/// How the first request of client 8 stands, in the session that its register began.
 fn late_class(machine: &Machine<Global>, alloc: Global) -> Result<Class, Fail> {
     let request = account_lookup(alloc, (8, 2, 1), &[])?;
     Ok(class_of(machine, request))
