@@ -135,9 +135,9 @@ module _ (profile : Profile) (clients_max : ℕ) where
 
   ends_by : (f : RunFault) (ps : List Pair) (T : State) (middle after : Input) (written next : Output) → Serves (Err f) (state_after profile clients_max ps) T middle after written next → EndsBy profile clients_max f ps middle after written next
   ends_by (fault.Frame f) ps T middle after written next (inl unread) = inl unread
-  ends_by (fault.Frame f) ps T middle after written next (inr n) = inr (n.turn.1, record { pair = n.pair; read = n.read; timely = n.turn.0; cut = n.turn.2 })
-  ends_by fault.NoMemory ps T middle after written next n = inr (record { pair = n.pair; read = n.read; new = n.turn.0; time = n.turn.1; silent = n.turn.2 })
-  ends_by fault.TimeExhausted ps T middle after written next n = record { pair = n.pair; read = n.read; new = n.turn.0; time = n.turn.1; silent = n.turn.2 }
+  ends_by (fault.Frame f) ps T middle after written next (inr n) = inr (n.turn.2, record { pair = n.pair; read = n.read; timely = n.turn.0; cut = n.turn.3 })
+  ends_by fault.NoMemory ps T middle after written next n = inr (record { pair = n.pair; read = n.read; new = n.turn.0; time = n.turn.1; silent = n.turn.3 })
+  ends_by fault.TimeExhausted ps T middle after written next n = record { pair = n.pair; read = n.read; new = n.turn.0; time = n.turn.1; silent = n.turn.3 }
   ends_by fault.TooLong ps T middle after written next n = absurd n.turn
 
   pub ran_into : (f : RunFault) (k : ℕ) (S T : State) (before middle after : Input) (first written next : Output) → Serving k S before middle first written → Serves (Err f) S T middle after written next → Ran profile clients_max (Err f) before after first next

@@ -133,7 +133,7 @@ entered_turn result S T p client a before after lawful class entered is told sen
         → Turns result S T p before after
     by (Ok done) sent = ((λ _. entered.0), entered.1 ∙ sym (moved_new S p new entered.0), subst (λ (b : Answer). Sends (reply_bytes b) before after) (sym answer_is) sent)
     by (Err f) sent = subst (λ (f : RunFault). Turns (Err f) S T p before after) (sym sent.0)
-        ((λ _. entered.0), refl, subst (λ (b : Answer). Breaks (reply_bytes b) before after) (sym answer_is) sent.1)
+        ((λ _. entered.0), entered.1 ∙ sym (moved_new S p new entered.0), refl, subst (λ (b : Answer). Breaks (reply_bytes b) before after) (sym answer_is) sent.1)
 
 pub known_turn : (result : Result (Unit {0}) RunFault) (S : State) (p : Pair) (before after : Output) → class_of S.rows p.1 ≢ New
     → Delivers result (reply_bytes (answer_to S p.1)) before after
@@ -158,4 +158,4 @@ known_turn result S p before after known sent = by result sent
         → Turns result S S p before after
     by (Ok done) sent = (timely, sym stays, subst (λ (U : State). Sends (reply_bytes (answer_to U p.1)) before after) (sym stays) sent)
     by (Err f) sent = subst (λ (f : RunFault). Turns (Err f) S S p before after) (sym sent.0)
-        (timely, refl, subst (λ (U : State). Breaks (reply_bytes (answer_to U p.1)) before after) (sym stays) sent.1)
+        (timely, sym stays, refl, subst (λ (U : State). Breaks (reply_bytes (answer_to U p.1)) before after) (sym stays) sent.1)

@@ -80,12 +80,13 @@ Enters (Err (fault.Frame f)) S T p = ⊥
 abbrev pub answer_bytes : State → Pair → List ℕ
 answer_bytes S p = reply_bytes (answer_to (moved S p) p.1)
 
--- a pair is answered: by the reply that its entry has once it is entered, or by the one that its request has as it stands
+-- a pair is answered: by the reply that its entry has once it is entered, or by the one that its request has as it stands;
+-- where the reply could not be written, the machine has moved on all the same, and a repeat gets that reply
 abbrev pub Turns : Result (Unit {0}) RunFault → State → State → Pair → Output → Output → Type 0
 Turns (Ok done) S T p before after = IsTimely S p × (T ≡ moved S p) × Sends (answer_bytes S p) before after
-Turns (Err (fault.Frame f)) S T p before after = IsTimely S p × (f ≡ Device) × Breaks (answer_bytes S p) before after
-Turns (Err fault.NoMemory) S T p before after = (is_new_in S p ≡ true) × (has_time S p ≡ true) × (after ≡ before)
-Turns (Err fault.TimeExhausted) S T p before after = (is_new_in S p ≡ true) × (has_time S p ≡ false) × (after ≡ before)
+Turns (Err (fault.Frame f)) S T p before after = IsTimely S p × (T ≡ moved S p) × (f ≡ Device) × Breaks (answer_bytes S p) before after
+Turns (Err fault.NoMemory) S T p before after = (is_new_in S p ≡ true) × (has_time S p ≡ true) × (T ≡ S) × (after ≡ before)
+Turns (Err fault.TimeExhausted) S T p before after = (is_new_in S p ≡ true) × (has_time S p ≡ false) × (T ≡ S) × (after ≡ before)
 Turns (Err fault.TooLong) S T p before after = ⊥
 
 -- the next pair is read and answered, where there is one

@@ -11,4 +11,4 @@ pub mod worked_rows;
 
 pub use entries::Entry;
 pub use machines::Machine;
-pub use serving::{RunFault, run, status_of};
+pub use serving::{RunFault, run, serve_pair, status_of};

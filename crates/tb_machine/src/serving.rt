@@ -126,8 +126,10 @@ fn answer_known<W: Sink>(
     }
 }
 
-/// Answers a request that comes at a moment; a new one is entered first.
-fn answer<W: Sink>(
+/// Serves a request that comes at a moment: a new one is entered first, and the reply is written. Where a new one finds no
+/// time or no memory, nothing is written and the machine is as it was; where the writer failed, a new one has been entered
+/// all the same, and sent again it is a repeat that gets its reply.
+pub fn serve_pair<W: Sink>(
     machine: &mut Machine<Global>,
     writer: &mut W,
     moment: u64,
@@ -151,7 +153,7 @@ fn serve_next<R: Source, W: Sink>(
     ensures { Serves result machine.old machine.new (input (R.left reader.old) (R.failed reader.old)) (input (R.left reader.new) (R.failed reader.new)) (output (W.written writer.old) (W.failed writer.old) (W.stalled writer.old)) (output (W.written writer.new) (W.failed writer.new) (W.stalled writer.new)) }
 {
     match read_timed_from(alloc, reader) {
-        Ok(Some((moment, request))) => match answer(machine, writer, moment, request) {
+        Ok(Some((moment, request))) => match serve_pair(machine, writer, moment, request) {
             Ok(()) => Ok(true),
             Err(fault) => Err(fault),
         },

@@ -8,7 +8,7 @@ returns-in-Ok g c = record {
   turn = c.in-Ok.ensures;
 }
 
-pub returns-in-Err-answer : goal.returns-in-Err-answer
-returns-in-Err-answer g c = served_fault c.in-Err-answer.fault c.args.machine.now c.answer.new.machine (c.in-Ok-Some.moment, c.in-Ok-Some.request) _ _ _ _
+pub returns-in-Err-serve_pair : goal.returns-in-Err-serve_pair
+returns-in-Err-serve_pair g c = served_fault c.in-Err-serve_pair.fault c.args.machine.now c.serve_pair.new.machine (c.in-Ok-Some.moment, c.in-Ok-Some.request) _ _ _ _
     (reads_one (c.in-Ok-Some.moment, c.in-Ok-Some.request) _ _ _ _ (rw c.in-Ok-Some.field-0-is at c.in-Ok-Some.ensures.answer) c.in-Ok-Some.ensures.counted)
-    c.in-Err-answer.ensures
+    c.in-Err-serve_pair.ensures
