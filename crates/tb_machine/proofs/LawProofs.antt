@@ -62,7 +62,7 @@ message_is r s client session number body = λ i. record { client = client i; se
 registers_are : (r s : Message) → r.client ≡ s.client → IsRegister r → IsRegister s → r ≡ s
 registers_are r s client a b = message_is r s client (a.session ∙ sym b.session) (a.number ∙ sym b.number) (a.body ∙ sym b.body)
 
-each_mid : {X : Type 0} (P : X → Type 0) (xs : List X) (x : X) (ys : List X) → Each P (xs ++ x ∷ ys) → P x
+pub each_mid : {X : Type 0} (P : X → Type 0) (xs : List X) (x : X) (ys : List X) → Each P (xs ++ x ∷ ys) → P x
 each_mid P [] x ys each = each.0
 each_mid P (z ∷ zs) x ys each = each_mid P zs x ys each.1
 

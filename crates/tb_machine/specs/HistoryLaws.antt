@@ -1,5 +1,5 @@
 -- The laws of legal histories.
-use Rattle.std.specs.Prelude.{ℕ, false, ◌≡◌, ◌≢◌, ◌+◌, ◌⊎◌, IsTrue, List, [], ◌∷◌, ◌++◌, length, Some}
+use Rattle.std.specs.Prelude.{ℕ, true, false, ◌≡◌, ◌≢◌, ◌+◌, ◌⊎◌, IsTrue, List, [], ◌∷◌, ◌++◌, length, Some, None}
 use Rattle.tb_records.specs.declared.records.Account.{Account}
 use Rattle.tb_records.specs.declared.limits.Profile.{Profile}
 use Rattle.tb_records.specs.Messages.{Message, is_register}
@@ -7,7 +7,7 @@ use Rattle.tb_records.specs.Ordered.{Each}
 use Rattle.tb_ledger.specs.Books.{account_now}
 use Rattle.tb_ledger.specs.Limits.{KeepsLimits, Balances}
 use Rattle.tb_sessions.specs.declared.rows.Row.{Row}
-use Rattle.tb_sessions.specs.declared.classes.Class.TheVariants.{Repeat, NoSession, SessionTooLow}
+use Rattle.tb_sessions.specs.declared.classes.Class.TheVariants.{New, Repeat, NoSession, SessionTooLow}
 use Rattle.tb_sessions.specs.Judged.{row_of, class_of}
 use Rattle.tb_machine.specs.declared.entries.Entry.{Entry}
 use Rattle.tb_machine.specs.Histories.{State, is_lawful, reply_at, IsLegal, after, key_of}
@@ -39,6 +39,14 @@ pub record IsStored (profile : Profile) (clients_max : ℕ) (h : List Entry) (r 
 abbrev pub FirstReply : Type 0
 FirstReply = (profile : Profile) (clients_max : ℕ) (h : List Entry) (r : Message) → IsLegal profile clients_max h → IsTrue (is_lawful r)
     → class_of (after profile clients_max h).rows r ≡ Repeat → IsStored profile clients_max h r
+
+-- a request that was entered is not new again
+
+-- unless it is a register, and its client has no row any more
+abbrev pub NotNewAgain : Type 0
+NotNewAgain = (profile : Profile) (clients_max : ℕ) (front : List Entry) (entry : Entry) (rest : List Entry) → IsLegal profile clients_max (front ++ entry ∷ rest)
+    → class_of (after profile clients_max (front ++ entry ∷ rest)).rows entry.request ≡ New
+    → (is_register entry.request.body ≡ true) × (row_of (after profile clients_max (front ++ entry ∷ rest)).rows entry.request.client ≡ None)
 
 -- a session that was taken out stays out
 

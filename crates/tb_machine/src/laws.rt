@@ -1,5 +1,5 @@
 //! The laws of legal histories, over the definitions alone. A call does nothing; its promise is the law.
-ghost use Rattle.tb_machine.specs.HistoryLaws.{OneKey, FirstReply, StaysOut, LimitsHold, LedgersBalance};
+ghost use Rattle.tb_machine.specs.HistoryLaws.{OneKey, FirstReply, NotNewAgain, StaysOut, LimitsHold, LedgersBalance};
 
 /// In a legal history no client, session and request number stand together twice, where a register counts with the
 /// session that its reply names.
@@ -11,6 +11,12 @@ pub fn one_key()
 /// number, and the stored reply is the one that was given there.
 pub fn first_reply()
     ensures { FirstReply }
+{}
+
+/// After a legal history the request of one of its entries is New only where it is a register, and its client has no row
+/// any more.
+pub fn not_new_again()
+    ensures { NotNewAgain }
 {}
 
 /// Once a session's row was taken out, a request of that session that is no register has the class NoSession or

@@ -2,6 +2,7 @@
 //! serving of a script.
 #![tactic(auto)]
 
+pub mod answering;
 pub mod entries;
 mod executing;
 pub mod laws;
@@ -9,6 +10,7 @@ pub mod machines;
 pub mod serving;
 pub mod worked_rows;
 
+pub use answering::answer_of;
 pub use entries::Entry;
 pub use machines::Machine;
 pub use serving::{RunFault, run, serve_pair, status_of};

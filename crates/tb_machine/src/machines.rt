@@ -151,20 +151,27 @@ impl<A: Allocator + Clone> Machine<A> {
         ensures { MatchResult result (λ _. self.new ≡ step self.old entry.now) (λ _. self.new ≡ self.old) }
     {
         let entry = entry.copy(self.global)?;
-        self.enter(entry)
+        match self.enter(entry) {
+            Ok(()) => Ok(()),
+            Err(_) => Err(AllocError),
+        }
     }
 
-    /// As `apply`, of an entry whose request moves into its client's row.
-    pub fn enter(&mut self, entry: Entry) -> Result<(), AllocError>
+    /// As `apply`, of an entry whose request moves into its client's row. A refusal, for want of memory, gives the entry
+    /// back.
+    pub fn enter(&mut self, entry: Entry) -> Result<(), Entry>
         requires { IsTrue (fits self.old entry) }
-        ensures { MatchResult result (λ _. self.new ≡ step self.old entry) (λ _. self.new ≡ self.old) }
+        ensures { MatchResult result (λ _. self.new ≡ step self.old entry) (λ back. (back ≡ entry) × (self.new ≡ self.old)) }
     {
-        let body = execute(
+        let body = match execute(
             self.global,
             &mut self.ledger,
             entry.time,
             entry.request.body(),
-        )?;
+        ) {
+            Ok(body) => body,
+            Err(AllocError) => return Err(entry),
+        };
         let reply = reply_with(&entry, body);
         let Entry {
             commit,

@@ -67,12 +67,12 @@ fn enter(machine: &mut Machine<Global>, moment: u64, request: Request) -> Result
         request,
     }) {
         Ok(()) => Ok(()),
-        Err(AllocError) => Err(RunFault::NoMemory),
+        Err(_) => Err(RunFault::NoMemory),
     }
 }
 
 /// The reply that a client's row keeps.
-fn stored(machine: &Machine<Global>, client: u128) -> &Reply
+pub(crate) fn stored(machine: &Machine<Global>, client: u128) -> &Reply
     requires { is_some (row_of machine.now.rows client) ≡ true }
     ensures { option_map (λ (row : Row). row.reply) (row_of machine.now.rows client) ≡ Some result.now }
 {

@@ -1,5 +1,5 @@
 //! Worked rows: entries, one after another, and what the machine answers then.
-use crate::{Entry, Machine};
+use crate::{Entry, Machine, answer_of};
 use std::alloc::{AllocError, Global};
 use std::process::Abort;
 use std::test::Fail;
@@ -122,7 +122,10 @@ fn class_of(machine: &Machine<Global>, request: Request) -> Class {
 /// Enters an entry, its request moved in.
 fn enter_entry(machine: &mut Machine<Global>, entry: Entry) -> Result<(), Fail> {
     if machine.fits(&entry) {
-        Ok(machine.enter(entry)?)
+        match machine.enter(entry) {
+            Ok(()) => Ok(()),
+            Err(_) => Err("no memory".into()),
+        }
     } else {
         Err("the entry may not come next".into())
     }
@@ -217,6 +220,16 @@ fn transfers_in(alloc: Global, reply: Option<&Reply>) -> Result<Vec<(u128, u128)
     }
 }
 
+/// The answer to a request: its status, session and commit number.
+fn answer_to(
+    alloc: Global,
+    machine: &Machine<Global>,
+    request: Request,
+) -> Result<(u8, u64, u64), Fail> {
+    let reply = answer_of(alloc, machine, &request)?;
+    Ok((reply.status().code(), reply.session(), reply.commit()))
+}
+
 /// Client 7's register, twice.
 fn expect_repeat(rt: &impl Abort, machine: &mut Machine<Global>) -> Result<(), Fail> {
     assert!(rt; class_of(machine, register(7)?) == Class::New);
@@ -227,10 +240,20 @@ fn expect_repeat(rt: &impl Abort, machine: &mut Machine<Global>) -> Result<(), F
     Ok(())
 }
 
+/// The answers once client 7 is registered.
+fn expect_answers(rt: &impl Abort, alloc: Global, machine: &Machine<Global>) -> Result<(), Fail> {
+    assert!(rt; answer_to(alloc, machine, register(7)?)? == (0, 1, 1));
+    assert!(rt; answer_to(alloc, machine, register(8)?)? == (7, 0, 0));
+    let lookup = account_lookup(alloc, (7, 2, 1), &[])?;
+    assert!(rt; answer_to(alloc, machine, lookup)? == (3, 2, 0));
+    Ok(())
+}
+
 #[test]
 fn register_repeated(rt: HostRuntime) -> Result<(), Fail> {
     let mut machine = machine(rt.alloc(), 2)?;
-    expect_repeat(&rt, &mut machine)
+    expect_repeat(&rt, &mut machine)?;
+    expect_answers(&rt, rt.alloc(), &machine)
 }
 
 /// The reply that is stored for client 7 has these accounts.

@@ -9,7 +9,7 @@ use Rattle.tb_machine.proofs.machines.Machine.enter.Goals as goal
 pub reply_with-reply-requires : goal.reply_with-reply-requires
 reply_with-reply-requires g c =
     let S : State = record { clients_max = c.self.inside.sessions.clients_max; commit = c.self.inside.commit; books = c.self.inside.ledger; rows = c.self.inside.sessions.rows } in
-    rw (c.in_ok-body.ensures.1, c.body.ensures.value) (right_reply S c.args.entry c.self.invariant (subst (λ (T : State). IsTrue (fits T c.args.entry)) (sym c.self.view_is) c.requires))
+    rw (c.in-Ok.ensures.1, c.body.ensures.value) (right_reply S c.args.entry c.self.invariant (subst (λ (T : State). IsTrue (fits T c.args.entry)) (sym c.self.view_is) c.requires))
 
 pub record-left-requires-clause-later : goal.record-left-requires-clause-later
 record-left-requires-clause-later g c =
@@ -20,4 +20,4 @@ pub invariant_of-self-2 : goal.invariant_of-self-2
 invariant_of-self-2 g c =
     let S : State = record { clients_max = c.self.inside.sessions.clients_max; commit = c.self.inside.commit; books = c.self.inside.ledger; rows = c.self.inside.sessions.rows } in
     let row : Row = record { client = c.client.result; session = c.session.result; request = c.args.entry.request; reply = c.reply_with-reply.result; commit = c.args.entry.commit } in
-    sound_step S c.args.entry c.self.invariant (subst (λ (T : State). IsTrue (fits T c.args.entry)) (sym c.self.view_is) c.requires) row (c.session.ensures ∙ ap (λ (a : Answer). a.session) c.reply_with-reply.ensures) refl _ refl (rw c.body.ensures.value at c.in_ok-body.ensures.0) (ap (λ (t : Table). t.rows) c.record-left.ensures.table)
+    sound_step S c.args.entry c.self.invariant (subst (λ (T : State). IsTrue (fits T c.args.entry)) (sym c.self.view_is) c.requires) row (c.session.ensures ∙ ap (λ (a : Answer). a.session) c.reply_with-reply.ensures) refl _ refl (rw c.body.ensures.value at c.in-Ok.ensures.0) (ap (λ (t : Table). t.rows) c.record-left.ensures.table)
