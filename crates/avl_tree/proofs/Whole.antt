@@ -1,5 +1,5 @@
 -- What the fields of a map keep, through each change.
-use Rattle.std.proofs.Common.{◌≡◌, ℕ, ◌+◌, ◌-◌, ◌<◌, Bool, true, false, length, Option, None, Some, sym, ◌∙◌, subst, arith}
+use Rattle.std.proofs.Common.{◌≡◌, ℕ, ◌+◌, ◌<◌, Bool, true, false, length, Option, None, Some, sym, ap, ◌∙◌, subst, arith}
 use Rattle.std.specs.declared.cmp.Ordering.{Ordering}
 use Rattle.std.specs.Option.{IsSome, option_map}
 use Rattle.std.specs.Cmp.{IsTotalOrder}
@@ -7,9 +7,9 @@ use Rattle.std.specs.List.Sorted.{IsStrictlySortedBy}
 use Rattle.std.specs.Map.{lookup, remove_entry}
 use Rattle.std.specs.BTreeMap.{insert_entry, is_at}
 use Rattle.std.proofs.lemmas.Map.{keys-set_value, length-set_value}
-use Rattle.avl_tree.specs.Nodes.{entries, stored_height, IsAvl, IsWhole, Exchanges}
+use Rattle.avl_tree.specs.Nodes.{entries, with_first, stored_height, IsAvl, IsOrdered, IsWhole, Exchanges}
 use Rattle.avl_tree.specs.declared.tree.Tree.{Tree}
-use Rattle.avl_tree.proofs.Around.{ordered-insert_entry, ordered-remove_entry, length-insert_entry, length-remove_entry_found, remove_entry-absent}
+use Rattle.avl_tree.proofs.Around.{ordered_tail, ordered-insert_entry, ordered-remove_entry, length-insert_entry, length-remove_entry_found, remove_entry-absent}
 use Rattle.avl_tree.proofs.Shape.{low, least-le-length}
 
 module _ {K V A : Type 0} {cmp : K → K → Ordering} {root : Tree K V A} {len spare : ℕ} (w : IsWhole cmp root len spare) where
@@ -42,23 +42,36 @@ module _ {K V A : Type 0} {cmp : K → K → Ordering} {root : Tree K V A} {len 
         fits = omega (arith, f, one_less);
       }
 
-  removed : (k : K) (v : V) → {root' : Tree K V A} {spare' : ℕ} → lookup (is_at (cmp k)) (entries root) ≡ Some v → IsAvl root' → entries root' ≡ remove_entry (is_at (cmp k)) (entries root) → spare' ≡ spare + 1 → IsWhole cmp root' (len - 1) spare'
-  removed k v {root'} {spare'} found avl taken one_more =
+  removed : (k : K) (v : V) → {root' : Tree K V A} {len' spare' : ℕ} → lookup (is_at (cmp k)) (entries root) ≡ Some v → IsAvl root' → entries root' ≡ remove_entry (is_at (cmp k)) (entries root) → len' + 1 ≡ len → spare' ≡ spare + 1 → IsWhole cmp root' len' spare'
+  removed k v found avl taken one_less one_more =
       let n = length-remove_entry_found cmp k v (entries root) found in
       let c = w.counted in
       let f = w.fits in
       record {
         balanced = avl;
         sorted = rw taken (ordered-remove_entry cmp (is_at (cmp k)) (entries root) w.sorted);
-        counted = rw taken (omega (arith, n, c));
-        fits = omega (arith, n, c, f, one_more);
+        counted = rw taken (omega (arith, n, c, one_less));
+        fits = omega (arith, f, one_less, one_more);
       }
 
-  pub whole_remove : (k : K) {root' : Tree K V A} {spare' : ℕ} (e : Option (K × V)) → IsSome e → option_map (λ f. f.1) e ≡ lookup (is_at (cmp k)) (entries root) → IsAvl root' → entries root' ≡ remove_entry (is_at (cmp k)) (entries root) → spare' ≡ spare + 1 → IsWhole cmp root' (len - 1) spare'
-  whole_remove k None n found avl taken one_more = absurd (cc)
-  whole_remove k (Some f) n found avl taken one_more = removed k f.1 (sym found) avl taken one_more
+  pub whole_remove : (k : K) {root' : Tree K V A} {len' spare' : ℕ} (e : Option (K × V)) → IsSome e → option_map (λ f. f.1) e ≡ lookup (is_at (cmp k)) (entries root) → IsAvl root' → entries root' ≡ remove_entry (is_at (cmp k)) (entries root) → len' + 1 ≡ len → spare' ≡ spare + 1 → IsWhole cmp root' len' spare'
+  whole_remove k None n found avl taken one_less one_more = absurd (cc)
+  whole_remove k (Some f) n found avl taken one_less one_more = removed k f.1 (sym found) avl taken one_less one_more
 
   pub whole_absent : (k : K) {root' : Tree K V A} → lookup (is_at (cmp k)) (entries root) ≡ None → IsAvl root' → entries root' ≡ remove_entry (is_at (cmp k)) (entries root) → IsWhole cmp root' len spare
   whole_absent k {root'} absent avl taken =
       let same = taken ∙ remove_entry-absent cmp k (entries root) absent in
       record { balanced = avl; sorted = rw same w.sorted; counted = rw same w.counted; fits = w.fits }
+
+  pub whole_pop : {root' : Tree K V A} {len' spare' : ℕ} (e : Option (K × V)) → IsSome e → entries root ≡ with_first e (entries root') → IsAvl root' → len' + 1 ≡ len → spare' ≡ spare + 1 → IsWhole cmp root' len' spare'
+  whole_pop None n is avl one_less one_more = absurd (cc)
+  whole_pop {root'} (Some f) n is avl one_less one_more =
+      let c = w.counted in
+      let fits = w.fits in
+      let l = ap length is in
+      record {
+        balanced = avl;
+        sorted = ordered_tail cmp f (entries root') (subst (λ es. IsOrdered cmp es) is w.sorted);
+        counted = omega (arith, c, l, one_less);
+        fits = omega (arith, fits, one_less, one_more);
+      }

@@ -96,7 +96,7 @@ fn take_top<K, V, A: Allocator>(tree: &mut Tree<K, V, A>) -> Option<Box<Node<K, 
 }
 
 /// Takes the node of the least key off.
-fn take_first<K, V, A: Allocator>(tree: &mut Tree<K, V, A>) -> Option<Box<Node<K, V, A>, A>>
+pub fn take_first<K, V, A: Allocator>(tree: &mut Tree<K, V, A>) -> Option<Box<Node<K, V, A>, A>>
     requires balanced { IsAvl tree.old }
     requires height_fits { stored_height tree.old < 200 }
     ensures balanced { IsAvl tree.new }

@@ -1,5 +1,5 @@
 // The map.
-ghost use Rattle.std.specs.Prelude.{◌≡◌, ◌+◌, ◌<◌, ◌≤◌, [], length, max, IfOk, IfErr, if◌then◌else◌};
+ghost use Rattle.std.specs.Prelude.{◌≡◌, ◌+◌, ◌<◌, ◌≤◌, ◌^◌, [], length, max, IfOk, IfErr, if◌then◌else◌};
 ghost use Rattle.std.specs.Option.{option_copied, option_map, is_some};
 ghost use Rattle.std.specs.List.{slice_get};
 ghost use Rattle.std.specs.List.Sorted.{IsStrictlySortedBy};
@@ -7,6 +7,7 @@ ghost use Rattle.std.specs.Map.{keys_of, set_value, remove_entry};
 ghost use Rattle.std.specs.BTreeMap.{insert_entry, is_at};
 ghost use Rattle.std.specs.declared.option.Option.TheVariants.{None, Some};
 ghost use Rattle.avl_tree.specs.Map.{entries, get, IsShallow};
+ghost use Rattle.avl_tree.specs.Nodes.{with_first, IsBare};
 ghost use Rattle.avl_tree.specs.Search.{path_length};
 ghost use Rattle.avl_tree.specs.Visits.{between, VisitsTo};
 
@@ -57,17 +58,30 @@ fn fill<K, V, A: Allocator>(node: &mut Node<K, V, A>, key: K, value: V)
     }
 }
 
-/// Takes the value out of a node.
-fn empty<K: Copy, V, A: Allocator>(node: &mut Node<K, V, A>) -> Option<V>
-    ensures left { node.new.left ≡ node.old.left }
-    ensures right { node.new.right ≡ node.old.right }
-    ensures entry { node.new.entry ≡ None }
-    ensures value { result ≡ option_map (λ e. e.1) node.old.entry }
+/// Counts out a node that was taken off the tree, makes it spare, and answers its pair.
+fn retire<K, V, A: Allocator>(
+    mut node: Box<Node<K, V, A>, A>,
+    len: &mut usize,
+    spare: &mut SpareNodes<K, V, A>,
+) -> Option<(K, V)>
+    requires bare { IsBare node.value }
+    requires counted { 0 < len.old }
+    requires fits { spare.old + 1 < 2 ^ 64 }
+    ensures pair { result ≡ node.value.entry }
+    ensures one_less { len.new + 1 ≡ len.old }
+    ensures one_more { spare.new ≡ spare.old + 1 }
 {
-    match mem::replace(&mut node.entry, None) {
-        None => None,
-        Some((_, value)) => Some(value),
-    }
+    let pair = mem::replace(&mut node.entry, None);
+    *len -= 1;
+    spare.push(node);
+    pair
+}
+
+/// The value of a pair.
+fn value_of<K: Copy, V>(pair: Option<(K, V)>) -> Option<V>
+    ensures { result ≡ option_map (λ e. e.1) pair }
+{
+    pair.map(|(_, value)| value)
 }
 
 impl<K: Ord + Copy, V, A: Allocator + Clone> AvlMap<K, V, A> {
@@ -108,7 +122,8 @@ impl<K: Ord + Copy, V, A: Allocator + Clone> AvlMap<K, V, A> {
 
     /// The pair of the least key.
     pub fn first(&self) -> Option<(&K, &V)>
-        ensures { option_map (λ p. (p.0.now, p.1.now)) result ≡ slice_get (entries self.now) 0 }
+        ensures pair { option_map (λ p. (p.0.now, p.1.now)) result ≡ slice_get (entries self.now) 0 }
+        ensures ordered { IsStrictlySortedBy K.cmp (keys_of (entries self.now)) }
     {
         walks::first(&self.root)
     }
@@ -131,6 +146,7 @@ impl<K: Ord + Copy, V, A: Allocator + Clone> AvlMap<K, V, A> {
         requires { F.IsAlwaysCallable f.old }
         ensures callable { F.IsAlwaysCallable f.new }
         ensures visited { VisitsTo F.FnMut f.old (between K.cmp low.now high.now (entries self.now)) f.new }
+        ensures ordered { IsStrictlySortedBy K.cmp (keys_of (entries self.now)) }
     {
         range::visit(&self.root, low, high, f);
     }
@@ -157,11 +173,19 @@ impl<K: Ord + Copy, V, A: Allocator + Clone> AvlMap<K, V, A> {
         ensures entries { entries self.new ≡ remove_entry (is_at (K.cmp key.now)) (entries self.old) }
         ensures spare { self.new.spare ≡ self.old.spare + (if is_some result then 1 else 0) }
     {
-        let mut node = edits::remove(&mut self.root, key)?;
-        let value = empty(&mut node);
-        self.len -= 1;
-        self.spare.push(node);
-        value
+        let node = edits::remove(&mut self.root, key)?;
+        value_of(retire(node, &mut self.len, &mut self.spare))
+    }
+
+    /// Takes the pair of the least key out, and answers it. Its node becomes spare.
+    pub fn pop_first(&mut self) -> Option<(K, V)>
+        ensures pair { result ≡ slice_get (entries self.old) 0 }
+        ensures rest { entries self.old ≡ with_first result (entries self.new) }
+        ensures ordered { IsStrictlySortedBy K.cmp (keys_of (entries self.old)) }
+        ensures spare { self.new.spare ≡ self.old.spare + (if is_some result then 1 else 0) }
+    {
+        let node = edits::take_first(&mut self.root)?;
+        retire(node, &mut self.len, &mut self.spare)
     }
 
     /// Makes spare nodes until there are `n`: the one call that takes memory. Where memory is refused, the pairs and

@@ -172,6 +172,13 @@ fn pairs_come_by_both_parts(rt: HostRuntime) -> Result<(), Fail> {
     assert_eq!(rt; map.first().map(|(key, _)| *key), Some((1, 8)));
     assert_eq!(rt; map.remove(&(1, 8)), Some(()));
     assert_eq!(rt; map.first().map(|(key, _)| *key), Some((1, 9)));
+
+    let before = map.spare();
+    assert_eq!(rt; map.pop_first(), Some(((1, 9), ())));
+    assert_eq!(rt; map.pop_first(), Some(((2, 1), ())));
+    assert_eq!(rt; map.pop_first(), None);
+    assert_eq!(rt; map.len(), 0);
+    assert_eq!(rt; map.spare().checked_sub(before), Some(2));
     Ok(())
 }
 

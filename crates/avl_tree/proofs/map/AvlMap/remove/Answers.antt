@@ -25,13 +25,13 @@ returns-in_err-node-clause-entries g c =
 pub invariant_of-self-2 : goal.invariant_of-self-2
 invariant_of-self-2 g c =
     let r = c.in_ok-node.ensures in
-    whole_remove c.self.invariant c.args.key.now c.in_ok-node.node.value.entry r.taken.1 r.value r.balanced r.entries c.push.ensures
+    whole_remove c.self.invariant c.args.key.now c.in_ok-node.node.value.entry r.taken.1 r.value r.balanced r.entries c.retire.ensures.one_less c.retire.ensures.one_more
 
 pub returns-clause-value : goal.returns-clause-value
 returns-clause-value g c =
     let e = entries-search_of c.self.inside.root c.self.invariant.balanced in
-    let taken = rw c.deref_mut.ensures.value at c.empty-value.ensures.value in
-    rw (← c.self.view_is, e) (taken ∙ c.in_ok-node.ensures.value)
+    let pair = c.retire.ensures.pair in
+    rw (← c.self.view_is, e) (c.value_of.ensures ∙ rw pair c.in_ok-node.ensures.value)
 
 pub returns-clause-entries : goal.returns-clause-entries
 returns-clause-entries g c =
