@@ -5,12 +5,13 @@ use Rattle.std.specs.Io.KnownBytes.{Appends}
 use Rattle.tb_records.specs.declared.limits.Profile.{Profile}
 use Rattle.tb_records.specs.ReplyFrames.{reply_bytes}
 use Rattle.tb_records.specs.Inputs.{timed_bytes, TimedAnswers}
+use Rattle.tb_records.specs.Transport.{Input, Output}
 use Rattle.tb_machine.specs.declared.entries.Entry.{Entry}
 use Rattle.tb_machine.specs.declared.serving.RunFault.{RunFault}
 use Rattle.tb_machine.specs.declared.serving.RunFault.TheVariants as fault
 use Rattle.tb_machine.specs.Histories.{State, start, step, after, answer_to}
 use Rattle.tb_machine.specs.Scripts.{Pair, entry_of, is_entered, moved, with_pair, accepted, replies_from, replies_to}
-use Rattle.tb_machine.specs.Runs.{Input, input, Output, Sends, IsPair, Spell, Reads, IsTimely, answer_bytes, Turns, Serves, HasTimes, state_after, Served, EndsBy, Ran}
+use Rattle.tb_machine.specs.Runs.{Sends, IsPair, Spell, Reads, IsTimely, answer_bytes, Turns, Serves, HasTimes, state_after, Served, EndsBy, Ran}
 use Rattle.tb_machine.proofs.Rows.{each_snoc}
 use Rattle.tb_machine.proofs.Legal.{fold_snoc, after_snoc}
 
@@ -40,8 +41,8 @@ spell_one p None after answer = tt
 spell_one p (Some b) None answer = absurd answer
 spell_one p (Some b) (Some a) answer = (answer.0 ∙ ap (λ l. l ++ a) (sym (append-nil (timed_bytes p))), ((answer.1, answer.2), tt))
 
-pub reads_one : (p : Pair) (before after : Option (List ℕ)) (was is : ℕ) → TimedAnswers (Ok (Some p)) before after → is ≡ was → Reads (p ∷ []) (input before was) (input after is)
-reads_one p before after was is answer counted = record { spelled = spell_one p before after answer; counted = counted }
+pub reads_one : (p : Pair) (before after : Input) → TimedAnswers (Ok (Some p)) before.left after.left → after.failed ≡ before.failed → Reads (p ∷ []) before after
+reads_one p before after answer counted = record { spelled = spell_one p before.left after.left answer; counted = counted }
 
 pub reads_none : (i : Input) → Reads [] i i
 reads_none i = record { spelled = none i.left; counted = refl }

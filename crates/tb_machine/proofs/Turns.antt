@@ -16,8 +16,9 @@ use Rattle.tb_machine.specs.declared.entries.Entry.{Entry}
 use Rattle.tb_machine.specs.Histories.{State, is_new, session_of, row_at, reply_at, step, status_of, refusal, answer_by, answer_to}
 use Rattle.tb_machine.specs.Scripts.{Pair, entry_of, has_time, moved}
 use Rattle.tb_records.specs.ReplyFrames.{reply_bytes}
+use Rattle.tb_records.specs.Transport.{Output}
 use Rattle.tb_machine.specs.declared.serving.RunFault.{RunFault}
-use Rattle.tb_machine.specs.Runs.{Output, Sends, Breaks, Delivers, is_new_in, Enters, Turns}
+use Rattle.tb_machine.specs.Runs.{Sends, Breaks, Delivers, is_new_in, Enters, Turns}
 use Rattle.tb_machine.proofs.Lawful.{lawful_numbers}
 
 -- the row that was admitted is found

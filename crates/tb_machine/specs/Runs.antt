@@ -8,7 +8,7 @@ use Rattle.tb_records.specs.Ordered.{Each}
 use Rattle.tb_records.specs.Frames.{IsRequest}
 use Rattle.tb_records.specs.ReplyFrames.{reply_bytes}
 use Rattle.tb_records.specs.Inputs.{timed_bytes, TimedAnswers}
-use Rattle.tb_records.specs.Transport.{Rose, Sent, CutOff}
+use Rattle.tb_records.specs.Transport.{Input, Output, FaultCounts, Sent, CutOff}
 use Rattle.tb_sessions.specs.Judged.{class_of}
 use Rattle.tb_machine.specs.declared.entries.Entry.{Entry}
 use Rattle.tb_machine.specs.declared.serving.RunFault.{RunFault}
@@ -16,30 +16,13 @@ use Rattle.tb_machine.specs.declared.serving.RunFault.TheVariants as fault
 use Rattle.tb_machine.specs.Histories.{State, is_new, step, after, answer_to}
 use Rattle.tb_machine.specs.Scripts.{Pair, entry_of, has_time, moved, with_pair, accepted, replies_to}
 
--- a reader: the bytes that are left, where it tells them, and the number of its errors
-pub record Input : Type 0 where
-  pub left : Option (List ℕ)
-  pub failed : ℕ
-
-abbrev pub input : Option (List ℕ) → ℕ → Input
-input left failed = record { left = left; failed = failed }
-
--- a writer: the bytes written, where it tells them, the number of its errors, and how often it took nothing
-pub record Output : Type 0 where
-  pub written : Option (List ℕ)
-  pub failed : ℕ
-  pub stalled : ℕ
-
-abbrev pub output : Option (List ℕ) → ℕ → ℕ → Output
-output written failed stalled = record { written = written; failed = failed; stalled = stalled }
-
 -- all bytes were written, and no error was counted
 abbrev pub Sends : List ℕ → Output → Output → Type 0
-Sends bytes before after = Sent bytes before.written after.written before.failed after.failed before.stalled after.stalled
+Sends bytes before after = Sent bytes before after
 
 -- a beginning of the bytes was written, and the writer failed, or took nothing
 abbrev pub Breaks : List ℕ → Output → Output → Type 0
-Breaks bytes before after = CutOff bytes before.written after.written before.failed after.failed before.stalled after.stalled
+Breaks bytes before after = CutOff bytes before after
 
 -- the bytes were written, or the writer's fault left a beginning of them
 abbrev pub Delivers : Result (Unit {0}) RunFault → List ℕ → Output → Output → Type 0
@@ -95,10 +78,10 @@ pub record Next (result : Result (Unit {0}) RunFault) (S T : State) (before midd
   pub read : Reads (pair ∷ []) before middle
   pub turn : Turns result S T pair start written
 
--- a reader's fault: nothing was written
+-- a fault in reading: nothing was written
 pub record Unread (f : FrameFault) (before after : Input) (start written : Output) : Type 0 where
   pub answer : TimedAnswers (Err f) before.left after.left
-  pub device : f ≡ Device → Rose before.failed after.failed
+  pub counted : FaultCounts f before after
   pub silent : written ≡ start
 
 -- the end of the input

@@ -5,7 +5,7 @@ ghost use Rattle.tb_records.specs.Messages.{IsLawful};
 ghost use Rattle.tb_records.specs.ReplyFrames.{reply_bytes};
 ghost use Rattle.tb_sessions.specs.Judged.{class_of, row_of};
 ghost use Rattle.tb_machine.specs.Histories.{status_of, answer_to};
-ghost use Rattle.tb_machine.specs.Runs.{input, output, is_new_in, Enters, Delivers, Turns, Serves, Ran};
+ghost use Rattle.tb_machine.specs.Runs.{is_new_in, Enters, Delivers, Turns, Serves, Ran};
 
 use crate::entries::Entry;
 use crate::machines::Machine;
@@ -84,7 +84,7 @@ pub(crate) fn stored(machine: &Machine<Global>, client: u128) -> &Reply
 
 /// Writes a reply.
 fn send<W: Sink>(writer: &mut W, reply: &Reply) -> Result<(), RunFault>
-    ensures { Delivers result (reply_bytes reply.now) (output (W.written writer.old) (W.failed writer.old) (W.stalled writer.old)) (output (W.written writer.new) (W.failed writer.new) (W.stalled writer.new)) }
+    ensures { Delivers result (reply_bytes reply.now) (W.output writer.old) (W.output writer.new) }
 {
     match send_reply(writer, reply) {
         Ok(()) => Ok(()),
@@ -100,7 +100,7 @@ fn answer_new<W: Sink>(
     request: Request,
 ) -> Result<(), RunFault>
     requires { class_of machine.old.rows request ≡ Class.New }
-    ensures { Turns result machine.old machine.new (moment, request) (output (W.written writer.old) (W.failed writer.old) (W.stalled writer.old)) (output (W.written writer.new) (W.failed writer.new) (W.stalled writer.new)) }
+    ensures { Turns result machine.old machine.new (moment, request) (W.output writer.old) (W.output writer.new) }
 {
     let client = request.client();
     match enter(machine, moment, request) {
@@ -118,7 +118,7 @@ fn answer_known<W: Sink>(
 ) -> Result<(), RunFault>
     requires class { class ≡ class_of machine.now.rows request.now }
     requires known { class ≢ Class.New }
-    ensures { Delivers result (reply_bytes (answer_to machine.now request.now)) (output (W.written writer.old) (W.failed writer.old) (W.stalled writer.old)) (output (W.written writer.new) (W.failed writer.new) (W.stalled writer.new)) }
+    ensures { Delivers result (reply_bytes (answer_to machine.now request.now)) (W.output writer.old) (W.output writer.new) }
 {
     match class {
         Class::Repeat => send(writer, stored(machine, request.client())),
@@ -135,7 +135,7 @@ pub fn serve_pair<W: Sink>(
     moment: u64,
     request: Request,
 ) -> Result<(), RunFault>
-    ensures { Turns result machine.old machine.new (moment, request) (output (W.written writer.old) (W.failed writer.old) (W.stalled writer.old)) (output (W.written writer.new) (W.failed writer.new) (W.stalled writer.new)) }
+    ensures { Turns result machine.old machine.new (moment, request) (W.output writer.old) (W.output writer.new) }
 {
     match machine.class(&request) {
         Class::New => answer_new(machine, writer, moment, request),
@@ -150,7 +150,7 @@ fn serve_next<R: Source, W: Sink>(
     reader: &mut R,
     writer: &mut W,
 ) -> Result<bool, RunFault>
-    ensures { Serves result machine.old machine.new (input (R.left reader.old) (R.failed reader.old)) (input (R.left reader.new) (R.failed reader.new)) (output (W.written writer.old) (W.failed writer.old) (W.stalled writer.old)) (output (W.written writer.new) (W.failed writer.new) (W.stalled writer.new)) }
+    ensures { Serves result machine.old machine.new (R.input reader.old) (R.input reader.new) (W.output writer.old) (W.output writer.new) }
 {
     match read_timed_from(alloc, reader) {
         Ok(Some((moment, request))) => match serve_pair(machine, writer, moment, request) {
@@ -172,7 +172,7 @@ pub fn run<R: Source, W: Sink>(
     reader: &mut R,
     writer: &mut W,
 ) -> Result<u64, RunFault>
-    ensures { Ran profile clients_max result (input (R.left reader.old) (R.failed reader.old)) (input (R.left reader.new) (R.failed reader.new)) (output (W.written writer.old) (W.failed writer.old) (W.stalled writer.old)) (output (W.written writer.new) (W.failed writer.new) (W.stalled writer.new)) }
+    ensures { Ran profile clients_max result (R.input reader.old) (R.input reader.new) (W.output writer.old) (W.output writer.new) }
 {
     let mut machine = match Machine::new_in(alloc, alloc, profile, clients_max) {
         Ok(machine) => machine,

@@ -1,5 +1,5 @@
 -- Buffers that are filled or emptied piece by piece, and counts that rise.
-use Rattle.std.proofs.Common.{◌≡◌, ℕ, ◌*◌, [], ◌∷◌, get_or, flat_map, subst, Option, ◌+◌, ◌-◌, ◌^◌, ◌<◌, ◌≤◌, inl, inr, min, List, ◌++◌, length, take, drop, cond, not, ◌&&◌, ◌==◌, sym, ap, ◌∙◌, arith, length-take, length-append, length-drop}
+use Rattle.std.proofs.Common.{◌≡◌, ℕ, ◌*◌, [], ◌∷◌, get_or, flat_map, subst, Option, true, ◌+◌, ◌-◌, ◌<◌, ◌≤◌, inl, inr, min, List, ◌++◌, length, take, drop, cond, not, ◌&&◌, ◌==◌, sym, ap, ◌∙◌, arith, length-take, length-append, length-drop}
 use Rattle.std.proofs.lemmas.List.{take-append-le, take-append-drop, take_min, drop_more}
 use Rattle.std.proofs.lemmas.Grind.{flat_map-append}
 use Rattle.std.proofs.KnownBytes.{Appends-trans, Consumes-trans}
@@ -8,11 +8,11 @@ use Rattle.std.proofs.Math.Nat.{mul-le-mul_right}
 use Rattle.tb_records.specs.declared.faults.FrameFault.{FrameFault}
 use Rattle.tb_records.specs.declared.faults.FrameFault.TheVariants.{Short, Device}
 use Rattle.std.proofs.Math.Seq.{take-add, take-append-add}
-use Rattle.std.proofs.lemmas.Bool.{cases_lt, ne_eqb}
+use Rattle.std.proofs.lemmas.Bool.{ne_eqb}
 use Rattle.std.proofs.lemmas.Slice.{between_to_end}
 use Rattle.std.specs.List.{between}
 use borrow.Rule.Slice.PartMut.{put_mid, post_of}
-use Rattle.tb_records.specs.Transport.{ReadFault, risen, Rose, stalls_after, CutOff, BodyFault}
+use Rattle.tb_records.specs.Transport.{Input, Output, risen, Fails, FaultCounts, is_stall, Takes, Errs, Refuses, CutOff, ReadFault, BodyFault}
 
 -- a beginning that was filled, and then a part of the rest
 pub filled : (at n k : ℕ) (xs ys : List ℕ) → at ≤ length xs → n ≤ length ys → take (at + n) (put_mid at k xs ys) ≡ take at xs ++ take n ys
@@ -27,14 +27,37 @@ pub taken : (at n end : ℕ) (xs : List ℕ) → length xs ≤ end → take (at 
 taken at n end xs h =
     take-add at n xs ∙ ap (λ (l : List ℕ). take at xs ++ take n l) (sym (between_to_end xs at end h))
 
--- an error raises the count
-pub rose_by_error : (was n is : ℕ) → n ≡ was → is ≡ risen n → Rose was is
-rose_by_error was n is e r =
-    elim (cases_lt n (2 ^ 64 - 1)) [ inl h ↦ inl (omega arith) | inr h ↦ inr (omega arith) ]
+-- an error behind answers that were none
+pub fails_since : (old mid new : Input) → mid.failed ≡ old.failed → Fails mid new → Fails old new
+fails_since old mid new same fails = record { rose = fails.rose ∙ ap risen same; last = fails.last }
+
+-- what a fault behind answers that were no errors counts
+pub fault_since : (fault : FrameFault) (old mid new : Input) → mid.failed ≡ old.failed → FaultCounts fault mid new → FaultCounts fault old new
+fault_since Device old mid new same counts = fails_since old mid new same counts
+fault_since fault old mid new same counts = counts ∙ same
 
 -- a writer that takes something does not stall
-pub flows : (n was is : ℕ) (rest : List ℕ) → (n ≡ 0 → ⊥) → is ≡ stalls_after n rest was → is ≡ was
-flows n was is rest h e = e ∙ ap (λ b. cond (b && not (length rest == 0)) (risen was) was) (ne_eqb n 0 h)
+pub flows : (n : ℕ) (bytes : List ℕ) (mid new : Output) → (n ≡ 0 → ⊥) → Takes n bytes mid new → new.stalled ≡ mid.stalled
+flows n bytes mid new h takes = takes.stalls ∙ ap (λ b. cond (b && not (length bytes == 0)) (risen mid.stalled) mid.stalled) (ne_eqb n 0 h)
+
+-- a writer that takes nothing of bytes that are some stalls
+pub stalls : (n : ℕ) (bytes : List ℕ) (mid new : Output) → n ≡ 0 → 0 < length bytes → Takes n bytes mid new → Refuses mid new
+stalls n bytes mid new none some takes =
+    let stalled : is_stall n bytes ≡ true = ap (λ k. k == 0 && not (length bytes == 0)) none ∙ ap not (ne_eqb (length bytes) 0 (omega arith)) in
+    record {
+      rose = inr (takes.counted, takes.stalls ∙ ap (λ b. cond b (risen mid.stalled) mid.stalled) stalled);
+      last = takes.last ∙ stalled;
+    }
+
+pub errs : (mid new : Output) → Errs mid new → Refuses mid new
+errs mid new error = record { rose = inl (error.rose, error.flowed); last = error.last }
+
+-- a refusal behind answers that were none
+pub refuses_since : (old mid new : Output) → mid.failed ≡ old.failed → mid.stalled ≡ old.stalled → Refuses mid new → Refuses old new
+refuses_since old mid new counted flowed refuses = record {
+  rose = elim refuses.rose [ inl r ↦ inl (r.0 ∙ ap risen counted, r.1 ∙ flowed) | inr r ↦ inr (r.0 ∙ counted, r.1 ∙ ap risen flowed) ];
+  last = refuses.last;
+}
 
 -- the buffer holds what was read into its rest
 pub put_mid-long : (at n : ℕ) (xs ys : List ℕ) → at ≤ length xs → n ≤ length ys → at + n ≤ length (put_mid at (length xs - at) xs ys)
@@ -46,10 +69,6 @@ pub between-long : (at n : ℕ) (xs : List ℕ) → at ≤ length xs → n ≤ l
 between-long at n xs h hn =
     omega (arith, ap length (between_to_end xs at (length xs) (omega arith)), length-drop at xs)
 
--- a count that rose since it was the same
-pub rose_since : (start was is : ℕ) → was ≡ start → Rose was is → Rose start is
-rose_since start was is e r = subst (λ (n : ℕ). Rose n is) e r
-
 -- what an item adds to the spellings of those before it
 pub spellings_at : {X : Type 0} (spelling : X → List ℕ) (items : List X) (k : ℕ) (x : X) → k < length items → x ≡ get_or items k x
     → flat_map spelling items ≡ flat_map spelling (take k items) ++ (spelling x ++ flat_map spelling (drop (k + 1) items))
@@ -59,10 +78,10 @@ spellings_at spelling items k x h e =
     ∙ ap (λ l. flat_map spelling (take k items) ++ flat_map spelling l) (drop_more items k x h ∙ ap (λ y. y ∷ drop (k + 1) items) (sym e))
 
 -- a row of items was cut off in one of them
-pub cut_off_at : {X : Type 0} (spelling : X → List ℕ) (items : List X) (k : ℕ) (x : X) (bytes : List ℕ) (a b c : Option (List ℕ)) (start was is begun stalled stalls : ℕ)
-    → k < length items → x ≡ get_or items k x → bytes ≡ spelling x → Appends a b (flat_map spelling (take k items)) → was ≡ start → stalled ≡ begun
-    → CutOff bytes b c was is stalled stalls → CutOff (flat_map spelling items) a c start is begun stalls
-cut_off_at spelling items k x bytes a b c start was is begun stalled stalls h at spelled grown counted flowed cut =
+pub cut_off_at : {X : Type 0} (spelling : X → List ℕ) (items : List X) (k : ℕ) (x : X) (bytes : List ℕ) (old mid new : Output)
+    → k < length items → x ≡ get_or items k x → bytes ≡ spelling x → Appends old.written mid.written (flat_map spelling (take k items)) → mid.failed ≡ old.failed → mid.stalled ≡ old.stalled
+    → CutOff bytes mid new → CutOff (flat_map spelling items) old new
+cut_off_at spelling items k x bytes old mid new h at spelled grown counted flowed cut =
     let front = flat_map spelling (take k items) in
     let rest = flat_map spelling (drop (k + 1) items) in
     let n = min cut.count (length (spelling x)) in
@@ -72,8 +91,8 @@ cut_off_at spelling items k x bytes a b c start was is begun stalled stalls h at
     ∙ ap (λ l. front ++ l) (take-append-le n (spelling x) rest (omega arith) ∙ take_min cut.count (spelling x) ∙ ap (take cut.count) (sym spelled)) in
     record {
       count = length front + n;
-      grown = subst (Appends a c) (sym here) (Appends-trans a b c front (take cut.count bytes) grown cut.grown);
-      rose = elim cut.rose [ inl r ↦ inl (rose_since start was is counted r) | inr r ↦ inr (rose_since begun stalled stalls flowed r) ];
+      grown = subst (Appends old.written new.written) (sym here) (Appends-trans old.written mid.written new.written front (take cut.count bytes) grown cut.grown);
+      refused = refuses_since old mid new counted flowed cut.refused;
     }
 
 -- items of one size
@@ -84,10 +103,10 @@ length-items spelling size (x ∷ items) each =
     omega (arith, length-append (spelling x) (flat_map spelling items), each x)
 
 -- a row of items, of which one could not be read
-pub items_cut : {X : Type 0} (fault : FrameFault) (spelling : X → List ℕ) (count size : ℕ) (items : List X) (a b c : Option (List ℕ)) (start was is : ℕ)
-    → length items < count → ((x : X) → length (spelling x) ≡ size) → Consumes a b (flat_map spelling items) → was ≡ start
-    → ReadFault fault size b c was is → BodyFault fault (count * size) a c start is
-items_cut Short spelling count size items a b c start was is h each bytes counted cut =
+pub items_cut : {X : Type 0} (fault : FrameFault) (spelling : X → List ℕ) (count size : ℕ) (items : List X) (a b c : Option (List ℕ))
+    → length items < count → ((x : X) → length (spelling x) ≡ size) → Consumes a b (flat_map spelling items)
+    → ReadFault fault size b c → BodyFault fault (count * size) a c
+items_cut Short spelling count size items a b c h each bytes cut =
     let front = flat_map spelling items in
     let fits : (length items + 1) * size ≤ count * size = mul-le-mul_right size (omega arith) in
     record {
@@ -96,13 +115,12 @@ items_cut Short spelling count size items a b c start was is h each bytes counte
       bytes = Consumes-trans a b c front cut.rest bytes cut.bytes;
       end = cut.end;
     }
-items_cut Device spelling count size items a b c start was is h each bytes counted cut =
+items_cut Device spelling count size items a b c h each bytes cut =
     let front = flat_map spelling items in
     let fits : (length items + 1) * size ≤ count * size = mul-le-mul_right size (omega arith) in
     record {
       front = front ++ cut.front;
       short = omega (arith, length-append front cut.front, length-items spelling size items each, cut.short);
       bytes = Consumes-trans a b c front cut.front bytes cut.bytes;
-      rose = rose_since start was is counted cut.rose;
     }
-items_cut fault spelling count size items a b c start was is h each bytes counted cut = absurd cut
+items_cut fault spelling count size items a b c h each bytes cut = absurd cut

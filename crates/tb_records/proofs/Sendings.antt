@@ -1,5 +1,5 @@
 -- Bytes that are sent in two parts.
-use Rattle.std.proofs.Common.{◌≡◌, ℕ, ◌+◌, ◌⊎◌, min, List, ◌++◌, length, take, Option, Result, Ok, Err, MatchResult, sym, subst, ap, ◌∙◌, inl, inr, arith}
+use Rattle.std.proofs.Common.{◌≡◌, ℕ, ◌+◌, min, List, ◌++◌, length, take, Result, Ok, Err, MatchResult, sym, subst, ap, ◌∙◌, inl, inr, arith}
 use Rattle.std.proofs.lemmas.List.{take-append-le, take_all}
 use Rattle.std.proofs.lemmas.Bool.{cases_lt}
 use Rattle.std.proofs.Math.Seq.{take-append-add, take-append_seam}
@@ -10,32 +10,33 @@ use Rattle.tb_records.specs.declared.faults.FrameFault.{FrameFault}
 use Rattle.tb_records.specs.declared.faults.FrameFault.TheVariants.{Device}
 use Rattle.tb_records.specs.Messages.{Answer}
 use Rattle.tb_records.specs.ReplyFrames.{header_of_reply, reply_body_bytes, reply_bytes}
-use Rattle.tb_records.specs.Transport.{Sent, CutOff, Rose}
+use Rattle.tb_records.specs.Transport.{Output, Sent, CutOff}
+use Rattle.tb_records.proofs.Pieces.{refuses_since}
 
-module _ (xs ys : List ℕ) (a b c : Option (List ℕ)) (f g h s t u : ℕ) where
+module _ (xs ys : List ℕ) (old mid new : Output) where
   -- both parts were sent
-  sent_both : Sent xs a b f g s t → Sent ys b c g h t u → Sent (xs ++ ys) a c f h s u
+  sent_both : Sent xs old mid → Sent ys mid new → Sent (xs ++ ys) old new
   sent_both one two = record {
-    grown = Appends-trans a b c xs ys one.grown two.grown;
+    grown = Appends-trans old.written mid.written new.written xs ys one.grown two.grown;
     counted = two.counted ∙ one.counted;
     flowed = two.flowed ∙ one.flowed;
   }
 
   -- the first part was sent, and a beginning of the second
-  sent_some : Sent xs a b f g s t → CutOff ys b c g h t u → CutOff (xs ++ ys) a c f h s u
+  sent_some : Sent xs old mid → CutOff ys mid new → CutOff (xs ++ ys) old new
   sent_some one two = record {
     count = length xs + two.count;
-    grown = subst (Appends a c) (sym (take-append-add xs ys two.count)) (Appends-trans a b c xs (take two.count ys) one.grown two.grown);
-    rose = subst (λ (n : ℕ). Rose n h ⊎ Rose s u) one.counted (subst (λ (n : ℕ). Rose g h ⊎ Rose n u) one.flowed two.rose);
+    grown = subst (Appends old.written new.written) (sym (take-append-add xs ys two.count)) (Appends-trans old.written mid.written new.written xs (take two.count ys) one.grown two.grown);
+    refused = refuses_since old mid new one.counted one.flowed two.refused;
   }
 
   -- the first part was sent, and the second as the result says
-  pub sent_rest : (whole : List ℕ) → xs ++ ys ≡ whole → Sent xs a b f g s t
+  pub sent_rest : (whole : List ℕ) → xs ++ ys ≡ whole → Sent xs old mid
       → (r : Result (Unit {0}) FrameFault)
-      → MatchResult r (λ _. Sent ys b c g h t u) (λ e. (e ≡ Device) × CutOff ys b c g h t u)
-      → MatchResult r (λ _. Sent whole a c f h s u) (λ e. (e ≡ Device) × CutOff whole a c f h s u)
-  sent_rest whole e one (Ok x) two = subst (λ (l : List ℕ). Sent l a c f h s u) e (sent_both one two)
-  sent_rest whole e one (Err fault) two = (two.0, subst (λ (l : List ℕ). CutOff l a c f h s u) e (sent_some one two.1))
+      → MatchResult r (λ _. Sent ys mid new) (λ e. (e ≡ Device) × CutOff ys mid new)
+      → MatchResult r (λ _. Sent whole old new) (λ e. (e ≡ Device) × CutOff whole old new)
+  sent_rest whole e one (Ok x) two = subst (λ (l : List ℕ). Sent l old new) e (sent_both one two)
+  sent_rest whole e one (Err fault) two = (two.0, subst (λ (l : List ℕ). CutOff l old new) e (sent_some one two.1))
 
 beginning : (n : ℕ) (xs ys : List ℕ) → take (min n (length xs)) (xs ++ ys) ≡ take n xs
 beginning n xs ys =
@@ -49,11 +50,11 @@ beginning n xs ys =
     ]
 
 -- a beginning of the first part was sent
-pub sent_few : (xs ys whole : List ℕ) (a b : Option (List ℕ)) (f g s t : ℕ) → xs ++ ys ≡ whole → CutOff xs a b f g s t → CutOff whole a b f g s t
-sent_few xs ys whole a b f g s t e one = subst (λ (l : List ℕ). CutOff l a b f g s t) e (record {
+pub sent_few : (xs ys whole : List ℕ) (old new : Output) → xs ++ ys ≡ whole → CutOff xs old new → CutOff whole old new
+sent_few xs ys whole old new e one = subst (λ (l : List ℕ). CutOff l old new) e (record {
   count = min one.count (length xs);
-  grown = subst (Appends a b) (sym (beginning one.count xs ys)) one.grown;
-  rose = one.rose;
+  grown = subst (Appends old.written new.written) (sym (beginning one.count xs ys)) one.grown;
+  refused = one.refused;
 })
 
 -- the header before the length of the body, and the body

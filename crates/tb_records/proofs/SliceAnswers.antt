@@ -34,13 +34,13 @@ empty [] h = refl
 empty (x ∷ xs) h = absurd (omega arith)
 
 -- a request was read
-pub slice_request : (bytes part : List ℕ) (h : Header) (r : Message) (new : Option (List ℕ)) (was is : ℕ) → 48 ≤ length bytes → HeaderOf bytes h → HeaderSpelled bytes → h.length ≤ length bytes - 48
-    → part ≡ between 48 (48 + h.length) bytes → ReadsRequest h r (Some part) new was is → (48 + h.length ≤ length bytes) × Spells (take (48 + h.length) bytes) r
-slice_request bytes part h r None was is long of spelled whole at read = absurd read.bytes
-slice_request bytes part h r (Some rest) was is long of spelled whole at read =
+pub slice_request : (bytes part : List ℕ) (h : Header) (r : Message) (new : Option (List ℕ)) → 48 ≤ length bytes → HeaderOf bytes h → HeaderSpelled bytes → h.length ≤ length bytes - 48
+    → part ≡ between 48 (48 + h.length) bytes → ReadsRequest h r (Some part) new → (48 + h.length ≤ length bytes) × Spells (take (48 + h.length) bytes) r
+slice_request bytes part h r None long of spelled whole at read = absurd read.bytes
+slice_request bytes part h r (Some rest) long of spelled whole at read =
     let body = body_bytes r.body in
     let split : part ≡ body ++ rest = read.bytes in
-    let len : length body ≡ h.length = read_length bytes h r (Some part) (Some rest) was is of read ∙ sym of.length in
+    let len : length body ≡ h.length = read_length bytes h r (Some part) (Some rest) of read ∙ sym of.length in
     let slice : length (between 48 (48 + h.length) bytes) ≡ h.length = simp (length-take, length-drop) (omega arith) in
     let size : length part ≡ h.length = ap length at ∙ slice in
     let none : rest ≡ [] = empty rest (omega (arith, ap length split, length-append body rest, len, size)) in
@@ -49,7 +49,7 @@ slice_request bytes part h r (Some rest) was is long of spelled whole at read =
       omega arith,
       record {
         bytes_are = take-add 48 h.length bytes
-            ∙ ap (λ l. l ++ take h.length (drop 48 bytes)) (sym (header_of_request bytes h r (Some part) (Some rest) was is of spelled read))
+            ∙ ap (λ l. l ++ take h.length (drop 48 bytes)) (sym (header_of_request bytes h r (Some part) (Some rest) of spelled read))
             ∙ ap (λ l. header_bytes r.client r.session r.request (operation r.body) (length body) ++ l) same;
         is = read.is;
       },

@@ -10,39 +10,39 @@ use Rattle.tb_records.specs.Messages.{Message, operation, item_count}
 use Rattle.tb_records.specs.Frames.{header_bytes, body_bytes, request_fault, header_fault, operation_at, length_at, header_tests, item_size}
 use Rattle.tb_records.specs.HeaderFields.{HeaderOf, HeaderSpelled, ReadsHeader, ReadsRequest, body_length}
 use Rattle.tb_records.specs.Inputs.{Faulted, TimedFaulted, Answers, TimedAnswers, ReadsMoment}
-use Rattle.tb_records.specs.Transport.{Rose, Filled, Lost, BodyFault}
+use Rattle.tb_records.specs.Transport.{Input, FaultCounts, Filled, Lost, BodyFault}
 use Rattle.tb_records.specs.Numbers.{le_bytes}
 use Rattle.tb_records.specs.RecordBytes.{account_bytes, transfer_bytes}
 use Rattle.tb_records.specs.Sizes.{length-le_bytes, length-account, length-transfer, length-id}
-use Rattle.tb_records.proofs.Pieces.{length-items, rose_since}
+use Rattle.tb_records.proofs.Pieces.{length-items}
 use Rattle.tb_records.proofs.HeaderBytes.{right_length}
 use Rattle.tb_records.proofs.FirstFaults.{none_each}
 use Rattle.tb_records.proofs.FrameFaults.{IsOfHeader, is_of_header, cut_header, cut_body, header_first, header_fault-append, length_at-append}
 
 -- the input was at its end
-pub at_end : (buf : List ℕ) (n : ℕ) (old new : Option (List ℕ)) (was is : ℕ) → n ≡ 0 → 0 < length buf → Filled n buf old new was is → Answers (Ok None) old new
-at_end buf n None new was is e h f = tt
-at_end buf n (Some old) None was is e h f = absurd f.bytes
-at_end buf n (Some old) (Some new) was is e h f =
+pub at_end : (buf : List ℕ) (n : ℕ) (old new : Option (List ℕ)) → n ≡ 0 → 0 < length buf → Filled n buf old new → Answers (Ok None) old new
+at_end buf n None new e h f = tt
+at_end buf n (Some old) None e h f = absurd f.bytes
+at_end buf n (Some old) (Some new) e h f =
     let left : old ≡ take n buf ++ new = f.bytes in
     let none : new ≡ [] = f.end (omega arith) in
     (left ∙ ap (λ k. take k buf ++ new) e ∙ none, none)
 
 -- the header is cut
-pub short_header : (buf : List ℕ) (n : ℕ) (old new : Option (List ℕ)) (was is : ℕ) → (n ≡ 0 → ⊥) → n < 48 → length buf ≡ 48 → Filled n buf old new was is → Answers (Err Short) old new
-short_header buf n None new was is some h long f = tt
-short_header buf n (Some old) None was is some h long f = absurd f.bytes
-short_header buf n (Some old) (Some new) was is some h long f =
+pub short_header : (buf : List ℕ) (n : ℕ) (old new : Option (List ℕ)) → (n ≡ 0 → ⊥) → n < 48 → length buf ≡ 48 → Filled n buf old new → Answers (Err Short) old new
+short_header buf n None new some h long f = tt
+short_header buf n (Some old) None some h long f = absurd f.bytes
+short_header buf n (Some old) (Some new) some h long f =
     let left : old ≡ take n buf ++ new = f.bytes in
     let none : new ≡ [] = f.end (omega arith) in
     let size : length old ≡ n = omega (arith, ap length left, ap length none, length-append (take n buf) new, length-take n buf) in
     (omega arith, cut_header old (omega arith), none)
 
 -- the reader failed in the header
-pub lost_header : (old new : Option (List ℕ)) (was is : ℕ) → Lost 48 old new was is → Answers (Err Device) old new
-lost_header None new was is l = tt
-lost_header (Some old) None was is l = absurd l.bytes
-lost_header (Some old) (Some new) was is l = (l.front, omega (arith, l.short), l.bytes)
+pub lost_header : (old new : Option (List ℕ)) → Lost 48 old new → Answers (Err Device) old new
+lost_header None new l = tt
+lost_header (Some old) None l = absurd l.bytes
+lost_header (Some old) (Some new) l = (l.front, omega (arith, l.short), l.bytes)
 
 -- a fault of the header, by cases on the faults that a header can have
 bad_header : (fault : FrameFault) (old new : List ℕ) → IsOfHeader fault → request_fault old ≡ Some fault → new ≡ drop 48 old → Faulted fault old new
@@ -62,9 +62,14 @@ faulty_header fault header (Some old) (Some new) long read e =
     bad_header fault old new (is_of_header header fault e) (header_first old fault (omega arith) same)
     (sym (drop_at header new 48 long) ∙ ap (drop 48) (sym left))
 
+-- a fault of the header is none of the reader
+pub header_counts : (fault : FrameFault) (old new : Input) → IsOfHeader fault → new.failed ≡ old.failed → FaultCounts fault old new
+header_counts Device old new is same = absurd is
+header_counts fault old new is same = same
+
 -- the buffer was filled
-pub whole_buffer : (buf : List ℕ) (n : ℕ) (old new : Option (List ℕ)) (was is : ℕ) → 48 ≤ n → length buf ≡ 48 → Filled n buf old new was is → Consumes old new buf
-whole_buffer buf n old new was is h long f = subst (Consumes old new) (take_all n buf (omega arith)) f.bytes
+pub whole_buffer : (buf : List ℕ) (n : ℕ) (old new : Option (List ℕ)) → 48 ≤ n → length buf ≡ 48 → Filled n buf old new → Consumes old new buf
+whole_buffer buf n old new h long f = subst (Consumes old new) (take_all n buf (omega arith)) f.bytes
 
 -- the length of the body behind a header
 pub length_of : (b : List ℕ) (h : Header) → HeaderOf b h → body_length h ≡ length_at b
@@ -75,20 +80,20 @@ length_of b h of =
     same ∙ right_length (operation_at b) (length_at b) tests.1.1.1.1.1
 
 -- the body was not read
-pub faulty_body : (fault : FrameFault) (h : Header) (old mid new : Option (List ℕ)) (was start is : ℕ) → ReadsHeader h old mid start was → BodyFault fault (body_length h) mid new was is → Answers (Err fault) old new
-faulty_body fault h None mid new was start is header body = tt
-faulty_body fault h (Some old) None new was start is header body = absurd header.bytes
-faulty_body NoMemory h (Some old) (Some mid) None was start is header body = absurd body
-faulty_body Short h (Some old) (Some mid) None was start is header body = absurd body.bytes
-faulty_body Device h (Some old) (Some mid) None was start is header body = absurd body.bytes
-faulty_body fault h (Some old) (Some mid) None was start is header body = absurd body
-faulty_body NoMemory h (Some old) (Some mid) (Some new) was start is header body =
+pub faulty_body : (fault : FrameFault) (h : Header) (old mid new : Option (List ℕ)) → ReadsHeader h old mid → BodyFault fault (body_length h) mid new → Answers (Err fault) old new
+faulty_body fault h None mid new header body = tt
+faulty_body fault h (Some old) None new header body = absurd header.bytes
+faulty_body NoMemory h (Some old) (Some mid) None header body = absurd body
+faulty_body Short h (Some old) (Some mid) None header body = absurd body.bytes
+faulty_body Device h (Some old) (Some mid) None header body = absurd body.bytes
+faulty_body fault h (Some old) (Some mid) None header body = absurd body
+faulty_body NoMemory h (Some old) (Some mid) (Some new) header body =
     let b = header.header in
     let left : old ≡ b ++ mid = header.bytes in
     let same : header_fault old ≡ None = ap header_fault left ∙ header_fault-append b mid (omega (arith, header.long)) ∙ header.fields.sound in
     let kept : new ≡ mid = body in
     (omega (arith, ap length left, length-append b mid, header.long), same, kept ∙ sym (drop_at b mid 48 header.long) ∙ ap (drop 48) (sym left))
-faulty_body Short h (Some old) (Some mid) (Some new) was start is header body =
+faulty_body Short h (Some old) (Some mid) (Some new) header body =
     let b = header.header in
     let left : old ≡ b ++ mid = header.bytes in
     let same : header_fault old ≡ None = ap header_fault left ∙ header_fault-append b mid (omega (arith, header.long)) ∙ header.fields.sound in
@@ -97,13 +102,13 @@ faulty_body Short h (Some old) (Some mid) (Some new) was start is header body =
     let none : new ≡ [] = body.end in
     let size : length old ≡ 48 + length body.rest = omega (arith, ap length left, length-append b mid, header.long, ap length behind, length-append body.rest new, ap length none) in
     (omega (arith, size), cut_body old (omega (arith, size)) same (omega (arith, size, len, body.short)), none)
-faulty_body Device h (Some old) (Some mid) (Some new) was start is header body =
+faulty_body Device h (Some old) (Some mid) (Some new) header body =
     let b = header.header in
     let left : old ≡ b ++ mid = header.bytes in
     let len : length_at old ≡ body_length h = ap length_at left ∙ length_at-append b mid (omega (arith, header.long)) ∙ sym (length_of b h header.fields) in
     let behind : mid ≡ body.front ++ new = body.bytes in
     (b ++ body.front, omega (arith, length-append b body.front, header.long, len, body.short), left ∙ ap (λ l. b ++ l) behind ∙ sym (append_assoc b body.front new))
-faulty_body fault h (Some old) (Some mid) (Some new) was start is header body = absurd body
+faulty_body fault h (Some old) (Some mid) (Some new) header body = absurd body
 
 -- the length of a body, by its items
 pub length-body : (body : Body) → length (body_bytes body) ≡ item_count body * item_size (operation body)
@@ -115,16 +120,16 @@ length-body (LookupAccounts ids) = length-items (le_bytes 16) 16 ids length-id
 length-body (LookupTransfers ids) = length-items (le_bytes 16) 16 ids length-id
 
 -- the length of the body that was read
-pub read_length : (b : List ℕ) (h : Header) (r : Message) (mid new : Option (List ℕ)) (was is : ℕ) → HeaderOf b h → ReadsRequest h r mid new was is → length (body_bytes r.body) ≡ length_at b
-read_length b h r mid new was is of read =
+pub read_length : (b : List ℕ) (h : Header) (r : Message) (mid new : Option (List ℕ)) → HeaderOf b h → ReadsRequest h r mid new → length (body_bytes r.body) ≡ length_at b
+read_length b h r mid new of read =
     length-body r.body ∙ (λ i. read.count i * item_size (read.operation i)) ∙ length_of b h of
 
 -- the header that was read is that of the request
-pub header_of_request : (b : List ℕ) (h : Header) (r : Message) (mid new : Option (List ℕ)) (was is : ℕ) → HeaderOf b h → HeaderSpelled b → ReadsRequest h r mid new was is
+pub header_of_request : (b : List ℕ) (h : Header) (r : Message) (mid new : Option (List ℕ)) → HeaderOf b h → HeaderSpelled b → ReadsRequest h r mid new
     → header_bytes r.client r.session r.request (operation r.body) (length (body_bytes r.body)) ≡ take 48 b
-header_of_request b h r mid new was is of spelled read =
+header_of_request b h r mid new of spelled read =
     let body = r.body in
-    let len : length (body_bytes body) ≡ length_at b = read_length b h r mid new was is of read in
+    let len : length (body_bytes body) ≡ length_at b = read_length b h r mid new of read in
     let client = read.client ∙ of.client in
     let session = read.session ∙ of.session in
     let request = read.request ∙ of.request in
@@ -132,51 +137,46 @@ header_of_request b h r mid new was is of spelled read =
     (λ i. header_bytes (client i) (session i) (request i) (code i) (len i)) ∙ sym spelled.bytes
 
 -- a request was read
-pub whole_request : (h : Header) (r : Message) (old mid new : Option (List ℕ)) (start was is : ℕ) → ReadsHeader h old mid start was → ReadsRequest h r mid new was is → Answers (Ok (Some r)) old new
-whole_request h r None mid new start was is header read = tt
-whole_request h r (Some old) None new start was is header read = absurd header.bytes
-whole_request h r (Some old) (Some mid) None start was is header read = absurd read.bytes
-whole_request h r (Some old) (Some mid) (Some new) start was is header read =
+pub whole_request : (h : Header) (r : Message) (old mid new : Option (List ℕ)) → ReadsHeader h old mid → ReadsRequest h r mid new → Answers (Ok (Some r)) old new
+whole_request h r None mid new header read = tt
+whole_request h r (Some old) None new header read = absurd header.bytes
+whole_request h r (Some old) (Some mid) None header read = absurd read.bytes
+whole_request h r (Some old) (Some mid) (Some new) header read =
     let b = header.header in
     let body = body_bytes r.body in
     let left : old ≡ b ++ mid = header.bytes in
     let behind : mid ≡ body ++ new = read.bytes in (
       left ∙ ap (λ l. b ++ l) behind ∙ sym (append_assoc b body new)
-          ∙ ap (λ l. (l ++ body) ++ new) (sym (header_of_request b h r (Some mid) (Some new) was is header.fields header.spelled read ∙ take_all 48 b (omega (arith, header.long)))),
+          ∙ ap (λ l. (l ++ body) ++ new) (sym (header_of_request b h r (Some mid) (Some new) header.fields header.spelled read ∙ take_all 48 b (omega (arith, header.long)))),
       read.is,
     )
 
--- the reader failed in the body
-pub lost_body : (fault : FrameFault) (n : ℕ) (mid new : Option (List ℕ)) (start was is : ℕ) → was ≡ start → BodyFault fault n mid new was is → fault ≡ Device → Rose start is
-lost_body Device n mid new start was is same body e = rose_since start was is same body.rose
-lost_body fault n mid new start was is same body e = cc
-
 -- the moment is cut
-pub short_moment : (buf : List ℕ) (n : ℕ) (old new : Option (List ℕ)) (was is : ℕ) → (n ≡ 0 → ⊥) → n < 8 → length buf ≡ 8 → Filled n buf old new was is → TimedAnswers (Err Short) old new
-short_moment buf n None new was is some h long f = tt
-short_moment buf n (Some old) None was is some h long f = absurd f.bytes
-short_moment buf n (Some old) (Some new) was is some h long f =
+pub short_moment : (buf : List ℕ) (n : ℕ) (old new : Option (List ℕ)) → (n ≡ 0 → ⊥) → n < 8 → length buf ≡ 8 → Filled n buf old new → TimedAnswers (Err Short) old new
+short_moment buf n None new some h long f = tt
+short_moment buf n (Some old) None some h long f = absurd f.bytes
+short_moment buf n (Some old) (Some new) some h long f =
     let left : old ≡ take n buf ++ new = f.bytes in
     let none : new ≡ [] = f.end (omega arith) in
     let size : length old ≡ n = omega (arith, ap length left, ap length none, length-append (take n buf) new, length-take n buf) in
     (omega arith, cut_header (drop 8 old) (omega (arith, length-drop 8 old, size)), none)
 
 -- there is no frame behind the moment
-pub no_frame : (moment : ℕ) (old mid new : Option (List ℕ)) (was is : ℕ) → ReadsMoment moment old mid was is → Answers (Ok None) mid new → TimedAnswers (Err Short) old new
-no_frame moment None mid new was is read rest = tt
-no_frame moment (Some old) None new was is read rest = absurd read.bytes
-no_frame moment (Some old) (Some mid) None was is read rest = absurd rest
-no_frame moment (Some old) (Some mid) (Some new) was is read rest =
+pub no_frame : (moment : ℕ) (old mid new : Option (List ℕ)) → ReadsMoment moment old mid → Answers (Ok None) mid new → TimedAnswers (Err Short) old new
+no_frame moment None mid new read rest = tt
+no_frame moment (Some old) None new read rest = absurd read.bytes
+no_frame moment (Some old) (Some mid) None read rest = absurd rest
+no_frame moment (Some old) (Some mid) (Some new) read rest =
     let left : old ≡ le_bytes 8 moment ++ mid = read.bytes in
     let size : length old ≡ 8 = omega (arith, ap length left, ap length rest.0, length-append (le_bytes 8 moment) mid, length-le_bytes 8 moment) in
     (omega arith, cut_header (drop 8 old) (omega (arith, length-drop 8 old, size)), rest.1)
 
 -- the frame behind the moment has a fault
-pub bad_frame : (fault : FrameFault) (moment : ℕ) (old mid new : Option (List ℕ)) (was is : ℕ) → ReadsMoment moment old mid was is → Answers (Err fault) mid new → TimedAnswers (Err fault) old new
-bad_frame fault moment None mid new was is read rest = tt
-bad_frame fault moment (Some old) None new was is read rest = absurd read.bytes
-bad_frame fault moment (Some old) (Some mid) None was is read rest = absurd rest
-bad_frame fault moment (Some old) (Some mid) (Some new) was is read rest =
+pub bad_frame : (fault : FrameFault) (moment : ℕ) (old mid new : Option (List ℕ)) → ReadsMoment moment old mid → Answers (Err fault) mid new → TimedAnswers (Err fault) old new
+bad_frame fault moment None mid new read rest = tt
+bad_frame fault moment (Some old) None new read rest = absurd read.bytes
+bad_frame fault moment (Some old) (Some mid) None read rest = absurd rest
+bad_frame fault moment (Some old) (Some mid) (Some new) read rest =
     let left : old ≡ le_bytes 8 moment ++ mid = read.bytes in
     let behind : drop 8 old ≡ mid = ap (drop 8) left ∙ drop_at (le_bytes 8 moment) mid 8 (length-le_bytes 8 moment) in
     later fault moment old mid new left behind rest

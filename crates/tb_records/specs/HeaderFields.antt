@@ -62,15 +62,14 @@ abbrev pub body_length : Header → ℕ
 body_length h = h.count * item_size (code_of h.operation)
 
 -- a body was read: count items of the operation, whose numbers fit
-pub record ReadsBody (code n : ℕ) (body : Body) (before after : Option (List ℕ)) (was now : ℕ) : Type 0 where
+pub record ReadsBody (code n : ℕ) (body : Body) (before after : Option (List ℕ)) : Type 0 where
   pub operation : operation body ≡ code
   pub count : item_count body ≡ n
   pub bytes : Consumes before after (body_bytes body)
   pub fit : BodyFits body
-  pub counted : now ≡ was
 
 -- the request of a header was read, of which the body was left
-pub record ReadsRequest (h : Header) (r : Message) (before after : Option (List ℕ)) (was now : ℕ) : Type 0 where
+pub record ReadsRequest (h : Header) (r : Message) (before after : Option (List ℕ)) : Type 0 where
   pub client : r.client ≡ h.client
   pub session : r.session ≡ h.session
   pub request : r.request ≡ h.request
@@ -78,19 +77,17 @@ pub record ReadsRequest (h : Header) (r : Message) (before after : Option (List 
   pub count : item_count r.body ≡ h.count
   pub bytes : Consumes before after (body_bytes r.body)
   pub is : IsRequest r
-  pub counted : now ≡ was
 
 -- 48 bytes were read, the spelling of a header without a fault
-pub record ReadsHeader (h : Header) (before after : Option (List ℕ)) (was now : ℕ) : Type 0 where
+pub record ReadsHeader (h : Header) (before after : Option (List ℕ)) : Type 0 where
   pub header : List ℕ
   pub long : length header ≡ 48
   pub fields : HeaderOf header h
   pub spelled : HeaderSpelled header
   pub bytes : Consumes before after header
-  pub counted : now ≡ was
 
 -- what a stream answers as far as the header
-abbrev pub HeaderAnswers : Result (Option Header) FrameFault → Option (List ℕ) → Option (List ℕ) → ℕ → ℕ → Type 0
-HeaderAnswers (Ok None) before after was now = Answers (Ok None) before after × (now ≡ was)
-HeaderAnswers (Ok (Some h)) before after was now = ReadsHeader h before after was now
-HeaderAnswers (Err fault) before after was now = Answers (Err fault) before after
+abbrev pub HeaderAnswers : Result (Option Header) FrameFault → Option (List ℕ) → Option (List ℕ) → Type 0
+HeaderAnswers (Ok None) before after = Answers (Ok None) before after
+HeaderAnswers (Ok (Some h)) before after = ReadsHeader h before after
+HeaderAnswers (Err fault) before after = Answers (Err fault) before after

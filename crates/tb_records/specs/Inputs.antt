@@ -77,13 +77,12 @@ TimedAnswers result (Some before) None = ⊥
 TimedAnswers result (Some before) (Some after) = TimedAnswered result before after
 
 -- a moment was read
-pub record ReadsMoment (moment : ℕ) (before after : Option (List ℕ)) (was now : ℕ) : Type 0 where
+pub record ReadsMoment (moment : ℕ) (before after : Option (List ℕ)) : Type 0 where
   pub bytes : Consumes before after (le_bytes 8 moment)
   pub fits : moment < 2 ^ 64
-  pub counted : now ≡ was
 
 -- what a stream answers as far as the moment
-abbrev pub MomentAnswers : Result (Option ℕ) FrameFault → Option (List ℕ) → Option (List ℕ) → ℕ → ℕ → Type 0
-MomentAnswers (Ok None) before after was now = TimedAnswers (Ok None) before after × (now ≡ was)
-MomentAnswers (Ok (Some moment)) before after was now = ReadsMoment moment before after was now
-MomentAnswers (Err fault) before after was now = TimedAnswers (Err fault) before after
+abbrev pub MomentAnswers : Result (Option ℕ) FrameFault → Option (List ℕ) → Option (List ℕ) → Type 0
+MomentAnswers (Ok None) before after = TimedAnswers (Ok None) before after
+MomentAnswers (Ok (Some moment)) before after = ReadsMoment moment before after
+MomentAnswers (Err fault) before after = TimedAnswers (Err fault) before after

@@ -1,44 +1,71 @@
 -- What readers and writers do to the bytes that they tell, and how their failures are counted.
-use Rattle.std.specs.Prelude.{ℕ, ◌≡◌, ◌<◌, ◌≤◌, ◌+◌, ◌-◌, ◌^◌, ◌⊎◌, ◌&&◌, ◌==◌, not, min, List, length, take, flat_map, All, Option, if◌then◌else◌}
+use Rattle.std.specs.Prelude.{ℕ, Bool, true, false, ◌≡◌, ◌<◌, ◌≤◌, ◌+◌, ◌-◌, ◌^◌, ◌⊎◌, ◌&&◌, ◌==◌, not, min, List, length, take, flat_map, All, Option, Result, Ok, Err, if◌then◌else◌}
 use Rattle.std.specs.Io.KnownBytes.{Consumes, Appends, Keeps, IsAtEnd}
 use Rattle.tb_records.specs.declared.faults.FrameFault.{FrameFault}
 use Rattle.tb_records.specs.declared.faults.FrameFault.TheVariants.{Short, Device, NoMemory}
 
--- a reader or writer, with the counts of its errors and of the times that it took nothing
+-- a reader: the bytes that are left, where it tells them, the number of its errors, and whether its last answer was one
+pub record Input : Type 0 where
+  pub left : Option (List ℕ)
+  pub failed : ℕ
+  pub halted : Bool
+
+-- a writer: the bytes written, where it tells them, the number of its errors, how often it took nothing of what it was
+-- offered, and whether its last answer was one of these
+pub record Output : Type 0 where
+  pub written : Option (List ℕ)
+  pub failed : ℕ
+  pub stalled : ℕ
+  pub halted : Bool
+
+-- a std reader or writer, with its counts
 pub record Counted (T : Type 0) : Type 0 where
   pub inner : T
   pub failures : ℕ
   pub stalls : ℕ
+  pub halted : Bool
 
 -- nothing was counted yet
 abbrev pub uncounted : {T : Type 0} → T → Counted T
-uncounted inner = record { inner = inner; failures = 0; stalls = 0 }
+uncounted inner = record { inner = inner; failures = 0; stalls = 0; halted = false }
 
 -- a count that is raised by one, and stays at its greatest
 abbrev pub risen : ℕ → ℕ
 risen n = min (n + 1) (2 ^ 64 - 1)
 
--- a count rose; at its greatest it counts as risen
-abbrev pub Rose : ℕ → ℕ → Type 0
-Rose was is = (was < is) ⊎ (is ≡ 2 ^ 64 - 1)
+-- readers
 
--- a writer that took nothing of a rest that is not empty
-abbrev pub stalls_after : ℕ → List ℕ → ℕ → ℕ
-stalls_after taken rest was = if taken == 0 && not (length rest == 0) then risen was else was
+-- one error was counted, and the reader was not asked again: it is as it was when the count rose
+pub record Fails (before after : Input) : Type 0 where
+  pub rose : after.failed ≡ risen before.failed
+  pub last : after.halted ≡ true
+
+-- one answer that is no error
+pub record Gives (before after : Input) : Type 0 where
+  pub counted : after.failed ≡ before.failed
+  pub last : after.halted ≡ false
+
+-- what a fault says of the reader's errors: Device that there was one, any other that there was none
+abbrev pub FaultCounts : FrameFault → Input → Input → Type 0
+FaultCounts Device before after = Fails before after
+FaultCounts fault before after = after.failed ≡ before.failed
+
+-- an answer that is no fault says that there was none
+abbrev pub Counts : {X : Type 0} → Result X FrameFault → Input → Input → Type 0
+Counts (Ok x) before after = after.failed ≡ before.failed
+Counts (Err fault) before after = FaultCounts fault before after
 
 -- the first n bytes of a buffer came from the reader: all of it, or all that was left
-pub record Filled (n : ℕ) (buf : List ℕ) (before after : Option (List ℕ)) (was is : ℕ) : Type 0 where
+pub record Filled (n : ℕ) (buf : List ℕ) (before after : Option (List ℕ)) : Type 0 where
   pub within : n ≤ length buf
   pub bytes : Consumes before after (take n buf)
   pub end : n < length buf → IsAtEnd after
-  pub counted : is ≡ was
 
 -- the reader failed, with at most n bytes gone
-pub record Lost (n : ℕ) (before after : Option (List ℕ)) (was is : ℕ) : Type 0 where
+pub record Lost (n : ℕ) (before after : Option (List ℕ)) : Type 0 where
   pub front : List ℕ
   pub short : length front ≤ n
   pub bytes : Consumes before after front
-  pub rose : Rose was is
 
 -- fewer than n bytes were left, and none is
 pub record RunsOut (n : ℕ) (before after : Option (List ℕ)) : Type 0 where
@@ -48,37 +75,59 @@ pub record RunsOut (n : ℕ) (before after : Option (List ℕ)) : Type 0 where
   pub end : IsAtEnd after
 
 -- one item was read, of numbers that fit
-pub record ReadsItem {X : Type 0} (spelling : X → List ℕ) (Fits : X → Type 0) (item : X) (before after : Option (List ℕ)) (was is : ℕ) : Type 0 where
+pub record ReadsItem {X : Type 0} (spelling : X → List ℕ) (Fits : X → Type 0) (item : X) (before after : Option (List ℕ)) : Type 0 where
   pub bytes : Consumes before after (spelling item)
   pub fit : Fits item
-  pub counted : is ≡ was
 
 -- count items were read, each of numbers that fit
-pub record ReadsItems {X : Type 0} (spelling : X → List ℕ) (Fits : X → Type 0) (count : ℕ) (items : List X) (before after : Option (List ℕ)) (was is : ℕ) : Type 0 where
+pub record ReadsItems {X : Type 0} (spelling : X → List ℕ) (Fits : X → Type 0) (count : ℕ) (items : List X) (before after : Option (List ℕ)) : Type 0 where
   pub long : length items ≡ count
   pub bytes : Consumes before after (flat_map spelling items)
   pub fit : All Fits items
-  pub counted : is ≡ was
 
 -- what a fault in reading n bytes leaves: there were too few, or the reader failed
-abbrev pub ReadFault : FrameFault → ℕ → Option (List ℕ) → Option (List ℕ) → ℕ → ℕ → Type 0
-ReadFault Short n before after was is = RunsOut n before after
-ReadFault Device n before after was is = Lost n before after was is
-ReadFault fault n before after was is = ⊥
+abbrev pub ReadFault : FrameFault → ℕ → Option (List ℕ) → Option (List ℕ) → Type 0
+ReadFault Short n before after = RunsOut n before after
+ReadFault Device n before after = Lost n before after
+ReadFault fault n before after = ⊥
 
 -- the same for a body of n bytes, for which there may be no room: then none of them was read
-abbrev pub BodyFault : FrameFault → ℕ → Option (List ℕ) → Option (List ℕ) → ℕ → ℕ → Type 0
-BodyFault NoMemory n before after was is = Keeps before after
-BodyFault fault n before after was is = ReadFault fault n before after was is
+abbrev pub BodyFault : FrameFault → ℕ → Option (List ℕ) → Option (List ℕ) → Type 0
+BodyFault NoMemory n before after = Keeps before after
+BodyFault fault n before after = ReadFault fault n before after
+
+-- writers
+
+-- a writer that takes nothing of bytes that are some
+abbrev pub is_stall : ℕ → List ℕ → Bool
+is_stall taken bytes = taken == 0 && not (length bytes == 0)
+
+-- one error was counted, or one time that the writer took nothing, and it was offered nothing more: it is as it was when
+-- the count rose
+pub record Refuses (before after : Output) : Type 0 where
+  pub rose : ((after.failed ≡ risen before.failed) × (after.stalled ≡ before.stalled)) ⊎ ((after.failed ≡ before.failed) × (after.stalled ≡ risen before.stalled))
+  pub last : after.halted ≡ true
+
+-- one answer: the writer took so many of the bytes
+pub record Takes (taken : ℕ) (bytes : List ℕ) (before after : Output) : Type 0 where
+  pub counted : after.failed ≡ before.failed
+  pub stalls : after.stalled ≡ (if is_stall taken bytes then risen before.stalled else before.stalled)
+  pub last : after.halted ≡ is_stall taken bytes
+
+-- one answer that is an error
+pub record Errs (before after : Output) : Type 0 where
+  pub rose : after.failed ≡ risen before.failed
+  pub flowed : after.stalled ≡ before.stalled
+  pub last : after.halted ≡ true
 
 -- all bytes were written
-pub record Sent (bytes : List ℕ) (before after : Option (List ℕ)) (was is stalled stalls : ℕ) : Type 0 where
-  pub grown : Appends before after bytes
-  pub counted : is ≡ was
-  pub flowed : stalls ≡ stalled
+pub record Sent (bytes : List ℕ) (before after : Output) : Type 0 where
+  pub grown : Appends before.written after.written bytes
+  pub counted : after.failed ≡ before.failed
+  pub flowed : after.stalled ≡ before.stalled
 
--- a beginning of the bytes was written, and the writer failed, or took nothing
-pub record CutOff (bytes : List ℕ) (before after : Option (List ℕ)) (was is stalled stalls : ℕ) : Type 0 where
+-- a beginning of the bytes was written, and then the writer failed, or took nothing
+pub record CutOff (bytes : List ℕ) (before after : Output) : Type 0 where
   pub count : ℕ
-  pub grown : Appends before after (take count bytes)
-  pub rose : Rose was is ⊎ Rose stalled stalls
+  pub grown : Appends before.written after.written (take count bytes)
+  pub refused : Refuses before after

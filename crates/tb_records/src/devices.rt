@@ -2,7 +2,7 @@
 ghost use Rattle.std.specs.Prelude.{◌≡◌, ◌≤◌, ◌<◌, ◌+◌, ◌*◌, ℕ, List, Option, MatchResult, IfOk, length, flat_map};
 ghost use Rattle.std.specs.Io.{ReadsAtMost, WritesAtMost};
 ghost use Rattle.std.specs.Io.KnownBytes.{ReadConsumes, WriteAppends};
-ghost use Rattle.tb_records.specs.Transport.{risen, stalls_after, uncounted, Filled, Lost, ReadsItem, ReadsItems, ReadFault, BodyFault, Sent, CutOff};
+ghost use Rattle.tb_records.specs.Transport.{uncounted, Input, Output, Fails, Gives, Counts, Takes, Errs, Filled, Lost, ReadsItem, ReadsItems, ReadFault, BodyFault, Sent, CutOff};
 
 use crate::faults::FrameFault;
 use crate::layout::Item;
@@ -13,45 +13,35 @@ use std::marker::Model;
 
 /// A reader that counts the errors that it answers.
 pub trait Source {
-    // The bytes that are left, where the reader tells them.
-    ghost left: { Self → Option (List ℕ) };
-
-    // The number of errors answered.
-    ghost failed: { Self → ℕ };
+    // The bytes that are left, where the reader tells them, and its errors.
+    ghost input: { Self → Input };
 
     /// Reads into the buffer, in the manner of std's `read`. Ok(0) where the buffer has room says that the input is
     /// at its end.
     fn pull(&mut self, buf: &mut [u8]) -> io::Result<usize>
         ensures bound { ReadsAtMost result buf.new }
-        ensures bytes { ReadConsumes (left self.old) (left self.new) result buf.new }
-        ensures counted { MatchResult result (λ _. failed self.new ≡ failed self.old) (λ _. failed self.new ≡ risen (failed self.old)) };
+        ensures bytes { ReadConsumes (input self.old).left (input self.new).left result buf.new }
+        ensures counted { MatchResult result (λ _. Gives (input self.old) (input self.new)) (λ _. Fails (input self.old) (input self.new)) };
 
     /// The number of errors answered. It stays at `2^64 - 1`.
     fn failures(&self) -> u64
-        ensures { result ≡ failed self.now };
+        ensures { result ≡ (input self.now).failed };
 }
 
 /// A writer that counts the errors that it answers.
 pub trait Sink {
-    // The bytes written, where the writer tells them.
-    ghost written: { Self → Option (List ℕ) };
-
-    // The number of errors answered.
-    ghost failed: { Self → ℕ };
-
-    // How often nothing was taken of bytes that were offered.
-    ghost stalled: { Self → ℕ };
+    // The bytes written, where the writer tells them, its errors, and how often it took nothing of bytes that were offered.
+    ghost output: { Self → Output };
 
     /// Writes a beginning of the bytes, in the manner of std's `write`.
     fn put(&mut self, bytes: &[u8]) -> io::Result<usize>
         ensures bound { WritesAtMost result bytes.now }
-        ensures bytes { WriteAppends (written self.old) (written self.new) result bytes.now }
-        ensures counted { MatchResult result (λ _. failed self.new ≡ failed self.old) (λ _. failed self.new ≡ risen (failed self.old)) }
-        ensures stalls { MatchResult result (λ n. stalled self.new ≡ stalls_after n bytes.now (stalled self.old)) (λ _. stalled self.new ≡ stalled self.old) };
+        ensures bytes { WriteAppends (output self.old).written (output self.new).written result bytes.now }
+        ensures counted { MatchResult result (λ n. Takes n bytes.now (output self.old) (output self.new)) (λ _. Errs (output self.old) (output self.new)) };
 
     /// The number of errors answered. It stays at `2^64 - 1`.
     fn failures(&self) -> u64
-        ensures { result ≡ failed self.now };
+        ensures { result ≡ (output self.now).failed };
 }
 
 /// A std reader or writer, with a count of its errors.
@@ -61,6 +51,8 @@ pub struct Counting<T> {
     failures: u64,
     // How often nothing was taken of bytes that were offered.
     stalls: u64,
+    // Says that the last answer was an error, or that nothing was taken.
+    halted: bool,
 }
 
 impl<T> Model for Counting<T> {
@@ -68,7 +60,7 @@ impl<T> Model for Counting<T> {
 
     ghost Value = { Counted T };
 
-    ghost view = { λ s. record { inner = s.inner; failures = s.failures; stalls = s.stalls } };
+    ghost view = { λ s. record { inner = s.inner; failures = s.failures; stalls = s.stalls; halted = s.halted } };
 }
 
 impl<T> Counting<T> {
@@ -80,6 +72,7 @@ impl<T> Counting<T> {
             inner,
             failures: 0,
             stalls: 0,
+            halted: false,
         }
     }
 
@@ -87,23 +80,18 @@ impl<T> Counting<T> {
     pub fn into_inner(self) -> T
         ensures { result ≡ self.inner }
     {
-        let Counting {
-            inner,
-            failures: _,
-            stalls: _,
-        } = self;
+        let Counting { inner, .. } = self;
         inner
     }
 }
 
 impl<T: Read> Source for Counting<T> {
-    ghost left = { λ s. T.remaining s.inner };
-
-    ghost failed = { λ s. s.failures };
+    ghost input = { λ s. record { left = T.remaining s.inner; failed = s.failures; halted = s.halted } };
 
     fn pull(&mut self, buf: &mut [u8]) -> io::Result<usize> {
         let answer = self.inner.read(buf);
-        if answer.is_err() {
+        self.halted = answer.is_err();
+        if self.halted {
             self.failures = self.failures.saturating_add(1);
         }
         answer
@@ -115,17 +103,14 @@ impl<T: Read> Source for Counting<T> {
 }
 
 impl<T: Write> Sink for Counting<T> {
-    ghost written = { λ s. T.contents s.inner };
-
-    ghost failed = { λ s. s.failures };
-
-    ghost stalled = { λ s. s.stalls };
+    ghost output = { λ s. record { written = T.contents s.inner; failed = s.failures; stalled = s.stalls; halted = s.halted } };
 
     fn put(&mut self, bytes: &[u8]) -> io::Result<usize> {
         let answer = self.inner.write(bytes);
+        self.halted = true;
         match &answer {
             Ok(0) if !bytes.is_empty() => self.stalls = self.stalls.saturating_add(1),
-            Ok(_) => {}
+            Ok(_) => self.halted = false,
             Err(_) => self.failures = self.failures.saturating_add(1),
         }
         answer
@@ -138,9 +123,10 @@ impl<T: Write> Sink for Counting<T> {
 
 /// Fills the buffer, and answers how many of its bytes were filled: fewer than all only at the end of the input.
 pub(crate) fn fill<S: Source>(source: &mut S, buf: &mut [u8]) -> Result<usize, FrameFault>
-    ensures { MatchResult result
-        (λ n. Filled n buf.new (S.left source.old) (S.left source.new) (S.failed source.old) (S.failed source.new))
-        (λ f. (f ≡ FrameFault.Device) × Lost (length buf.old) (S.left source.old) (S.left source.new) (S.failed source.old) (S.failed source.new)) }
+    ensures bytes { MatchResult result
+        (λ n. Filled n buf.new (S.input source.old).left (S.input source.new).left)
+        (λ f. (f ≡ FrameFault.Device) × Lost (length buf.old) (S.input source.old).left (S.input source.new).left) }
+    ensures counted { Counts result (S.input source.old) (S.input source.new) }
 {
     let mut at = 0;
     while at < buf.len() {
@@ -156,8 +142,8 @@ pub(crate) fn fill<S: Source>(source: &mut S, buf: &mut [u8]) -> Result<usize, F
 /// Writes all the bytes, or stops where the writer fails or takes nothing.
 pub(crate) fn put_all<W: Sink>(sink: &mut W, bytes: &[u8]) -> Result<(), FrameFault>
     ensures { MatchResult result
-        (λ _. Sent bytes.now (W.written sink.old) (W.written sink.new) (W.failed sink.old) (W.failed sink.new) (W.stalled sink.old) (W.stalled sink.new))
-        (λ f. (f ≡ FrameFault.Device) × CutOff bytes.now (W.written sink.old) (W.written sink.new) (W.failed sink.old) (W.failed sink.new) (W.stalled sink.old) (W.stalled sink.new)) }
+        (λ _. Sent bytes.now (W.output sink.old) (W.output sink.new))
+        (λ f. (f ≡ FrameFault.Device) × CutOff bytes.now (W.output sink.old) (W.output sink.new)) }
 {
     let mut at = 0;
     while at < bytes.len() {
@@ -172,9 +158,10 @@ pub(crate) fn put_all<W: Sink>(sink: &mut W, bytes: &[u8]) -> Result<(), FrameFa
 
 /// Reads one item. The buffer is the caller's, so that a row of items needs only one.
 fn item_from<S: Source, T: Item>(source: &mut S, buf: &mut [u8; 128]) -> Result<T, FrameFault>
-    ensures { MatchResult result
-        (λ x. ReadsItem T.spelling T.Fits x (S.left source.old) (S.left source.new) (S.failed source.old) (S.failed source.new))
-        (λ f. ReadFault f T.SIZE (S.left source.old) (S.left source.new) (S.failed source.old) (S.failed source.new)) }
+    ensures bytes { MatchResult result
+        (λ x. ReadsItem T.spelling T.Fits x (S.input source.old).left (S.input source.new).left)
+        (λ f. ReadFault f T.SIZE (S.input source.old).left (S.input source.new).left) }
+    ensures counted { Counts result (S.input source.old) (S.input source.new) }
 {
     let buf: &mut [u8] = buf;
     let buf = &mut buf[..T::SIZE];
@@ -191,9 +178,10 @@ pub(crate) fn items_from<S: Source, T: Item>(
     source: &mut S,
     count: usize,
 ) -> Result<Vec<T>, FrameFault>
-    ensures { MatchResult result
-        (λ v. ReadsItems T.spelling T.Fits count v.items (S.left source.old) (S.left source.new) (S.failed source.old) (S.failed source.new))
-        (λ f. BodyFault f (count * T.SIZE) (S.left source.old) (S.left source.new) (S.failed source.old) (S.failed source.new)) }
+    ensures bytes { MatchResult result
+        (λ v. ReadsItems T.spelling T.Fits count v.items (S.input source.old).left (S.input source.new).left)
+        (λ f. BodyFault f (count * T.SIZE) (S.input source.old).left (S.input source.new).left) }
+    ensures counted { Counts result (S.input source.old) (S.input source.new) }
 {
     let mut items = match Vec::with_capacity(alloc, count) {
         Ok(items) => items,
@@ -215,8 +203,8 @@ pub(crate) fn items_from<S: Source, T: Item>(
 /// Writes a row of items, or stops where the writer fails or takes nothing.
 pub(crate) fn put_items<W: Sink, T: Item>(sink: &mut W, items: &[T]) -> Result<(), FrameFault>
     ensures { MatchResult result
-        (λ _. Sent (flat_map T.spelling items.now) (W.written sink.old) (W.written sink.new) (W.failed sink.old) (W.failed sink.new) (W.stalled sink.old) (W.stalled sink.new))
-        (λ f. (f ≡ FrameFault.Device) × CutOff (flat_map T.spelling items.now) (W.written sink.old) (W.written sink.new) (W.failed sink.old) (W.failed sink.new) (W.stalled sink.old) (W.stalled sink.new)) }
+        (λ _. Sent (flat_map T.spelling items.now) (W.output sink.old) (W.output sink.new))
+        (λ f. (f ≡ FrameFault.Device) × CutOff (flat_map T.spelling items.now) (W.output sink.old) (W.output sink.new)) }
 {
     let mut buf = [0; 128];
     for item in items {

@@ -1,9 +1,9 @@
 //! Requests that are read from a stream, one by one.
-ghost use Rattle.std.specs.Prelude.{◌≡◌, ◌*◌, Some, None, Ok, Err, IfErr, OnOk, MatchResult};
+ghost use Rattle.std.specs.Prelude.{◌≡◌, ◌*◌, Some, None, Ok, Err, MatchResult};
 ghost use Rattle.tb_records.specs.Frames.{item_size};
 ghost use Rattle.tb_records.specs.HeaderFields.{code_of, body_length, HeaderAnswers, IsHeader, ReadsBody, ReadsRequest};
 ghost use Rattle.tb_records.specs.Inputs.{opened, fault_in, Answers, MomentAnswers, TimedAnswers};
-ghost use Rattle.tb_records.specs.Transport.{BodyFault, Rose};
+ghost use Rattle.tb_records.specs.Transport.{BodyFault, Counts};
 
 use crate::bodies::Body;
 use crate::devices::{Source, fill, items_from};
@@ -45,9 +45,8 @@ impl<R: Source + Drop> RequestStream<R> {
     /// after a fault of the header the body is unread. Device comes only where the reader answered an error.
     pub fn next_request(&mut self, alloc: Global) -> Result<Option<Request>, FrameFault>
         ensures again { (f : FrameFault) → self.old.fault ≡ Some f → (result ≡ Err f) × (self.new ≡ self.old) }
-        ensures answer { self.old.fault ≡ None → Answers result (R.left self.old.source) (R.left self.new.source) }
-        ensures counted { self.old.fault ≡ None → OnOk result (R.failed self.new.source ≡ R.failed self.old.source) }
-        ensures device { self.old.fault ≡ None → IfErr result (λ f. f ≡ FrameFault.Device → Rose (R.failed self.old.source) (R.failed self.new.source)) }
+        ensures answer { self.old.fault ≡ None → Answers result (R.input self.old.source).left (R.input self.new.source).left }
+        ensures counted { self.old.fault ≡ None → Counts result (R.input self.old.source) (R.input self.new.source) }
         ensures keeps { self.old.fault ≡ None → self.new.fault ≡ fault_in result }
     {
         if let Some(fault) = self.fault {
@@ -64,9 +63,8 @@ impl<R: Source + Drop> RequestStream<R> {
     /// where it ends in the moment or in the frame, or between the two.
     pub fn next_timed(&mut self, alloc: Global) -> Result<Option<(u64, Request)>, FrameFault>
         ensures again { (f : FrameFault) → self.old.fault ≡ Some f → (result ≡ Err f) × (self.new ≡ self.old) }
-        ensures answer { self.old.fault ≡ None → TimedAnswers result (R.left self.old.source) (R.left self.new.source) }
-        ensures counted { self.old.fault ≡ None → OnOk result (R.failed self.new.source ≡ R.failed self.old.source) }
-        ensures device { self.old.fault ≡ None → IfErr result (λ f. f ≡ FrameFault.Device → Rose (R.failed self.old.source) (R.failed self.new.source)) }
+        ensures answer { self.old.fault ≡ None → TimedAnswers result (R.input self.old.source).left (R.input self.new.source).left }
+        ensures counted { self.old.fault ≡ None → Counts result (R.input self.old.source) (R.input self.new.source) }
         ensures keeps { self.old.fault ≡ None → self.new.fault ≡ fault_in result }
     {
         if let Some(fault) = self.fault {
@@ -97,9 +95,10 @@ fn body_from<S: Source>(
     count: usize,
 ) -> Result<Body, FrameFault>
     requires { code_of operation ≡ 2 → count ≡ 0 }
-    ensures { MatchResult result
-        (λ b. ReadsBody (code_of operation) count b (S.left source.old) (S.left source.new) (S.failed source.old) (S.failed source.new))
-        (λ f. BodyFault f (count * item_size (code_of operation)) (S.left source.old) (S.left source.new) (S.failed source.old) (S.failed source.new)) }
+    ensures bytes { MatchResult result
+        (λ b. ReadsBody (code_of operation) count b (S.input source.old).left (S.input source.new).left)
+        (λ f. BodyFault f (count * item_size (code_of operation)) (S.input source.old).left (S.input source.new).left) }
+    ensures counted { Counts result (S.input source.old) (S.input source.new) }
 {
     match operation {
         Operation::Register => Ok(Body::Register),
@@ -129,9 +128,10 @@ pub(crate) fn request_behind<S: Source>(
     header: &Header,
 ) -> Result<Request, FrameFault>
     requires { IsHeader header.now }
-    ensures { MatchResult result
-        (λ r. ReadsRequest header.now r (S.left source.old) (S.left source.new) (S.failed source.old) (S.failed source.new))
-        (λ f. BodyFault f (body_length header.now) (S.left source.old) (S.left source.new) (S.failed source.old) (S.failed source.new)) }
+    ensures bytes { MatchResult result
+        (λ r. ReadsRequest header.now r (S.input source.old).left (S.input source.new).left)
+        (λ f. BodyFault f (body_length header.now) (S.input source.old).left (S.input source.new).left) }
+    ensures counted { Counts result (S.input source.old) (S.input source.new) }
 {
     let body = match body_from(alloc, source, header.operation, header.count) {
         Ok(body) => body,
@@ -142,8 +142,8 @@ pub(crate) fn request_behind<S: Source>(
 
 /// Reads a header and tests it. None where the input ends before the first byte.
 fn header_from<S: Source>(source: &mut S) -> Result<Option<Header>, FrameFault>
-    ensures answer { HeaderAnswers result (S.left source.old) (S.left source.new) (S.failed source.old) (S.failed source.new) }
-    ensures device { IfErr result (λ f. f ≡ FrameFault.Device → Rose (S.failed source.old) (S.failed source.new)) }
+    ensures answer { HeaderAnswers result (S.input source.old).left (S.input source.new).left }
+    ensures counted { Counts result (S.input source.old) (S.input source.new) }
 {
     let mut bytes = [0; 48];
     let bytes: &mut [u8] = &mut bytes;
@@ -161,9 +161,8 @@ fn header_from<S: Source>(source: &mut S) -> Result<Option<Header>, FrameFault>
 
 /// Reads one request. None where the input ends before the first byte.
 fn request_from<S: Source>(alloc: Global, source: &mut S) -> Result<Option<Request>, FrameFault>
-    ensures answer { Answers result (S.left source.old) (S.left source.new) }
-    ensures counted { OnOk result (S.failed source.new ≡ S.failed source.old) }
-    ensures device { IfErr result (λ f. f ≡ FrameFault.Device → Rose (S.failed source.old) (S.failed source.new)) }
+    ensures answer { Answers result (S.input source.old).left (S.input source.new).left }
+    ensures counted { Counts result (S.input source.old) (S.input source.new) }
 {
     let header = match header_from(source) {
         Ok(Some(header)) => header,
@@ -183,9 +182,8 @@ pub fn read_timed_from<R: Source>(
     alloc: Global,
     source: &mut R,
 ) -> Result<Option<(u64, Request)>, FrameFault>
-    ensures answer { TimedAnswers result (R.left source.old) (R.left source.new) }
-    ensures counted { OnOk result (R.failed source.new ≡ R.failed source.old) }
-    ensures device { IfErr result (λ f. f ≡ FrameFault.Device → Rose (R.failed source.old) (R.failed source.new)) }
+    ensures answer { TimedAnswers result (R.input source.old).left (R.input source.new).left }
+    ensures counted { Counts result (R.input source.old) (R.input source.new) }
 {
     let moment = match moment_from(source) {
         Ok(Some(moment)) => moment,
@@ -201,8 +199,8 @@ pub fn read_timed_from<R: Source>(
 
 /// Reads a moment. None where the input ends before the first byte.
 fn moment_from<S: Source>(source: &mut S) -> Result<Option<u64>, FrameFault>
-    ensures answer { MomentAnswers result (S.left source.old) (S.left source.new) (S.failed source.old) (S.failed source.new) }
-    ensures device { IfErr result (λ f. f ≡ FrameFault.Device → Rose (S.failed source.old) (S.failed source.new)) }
+    ensures answer { MomentAnswers result (S.input source.old).left (S.input source.new).left }
+    ensures counted { Counts result (S.input source.old) (S.input source.new) }
 {
     let mut bytes = [0; 8];
     let bytes: &mut [u8] = &mut bytes;

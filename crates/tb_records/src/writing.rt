@@ -158,8 +158,8 @@ pub fn write_reply(reply: &Reply, out: &mut Vec<u8>) -> Result<(), AllocError>
 #[tactic(auto, unfolding(crate::specs::ReplyFrames::reply_body_bytes))]
 fn send_body<W: Sink>(sink: &mut W, body: &ReplyBody) -> Result<(), FrameFault>
     ensures { MatchResult result
-        (λ _. Sent (reply_body_bytes body.now) (W.written sink.old) (W.written sink.new) (W.failed sink.old) (W.failed sink.new) (W.stalled sink.old) (W.stalled sink.new))
-        (λ f. (f ≡ FrameFault.Device) × CutOff (reply_body_bytes body.now) (W.written sink.old) (W.written sink.new) (W.failed sink.old) (W.failed sink.new) (W.stalled sink.old) (W.stalled sink.new)) }
+        (λ _. Sent (reply_body_bytes body.now) (W.output sink.old) (W.output sink.new))
+        (λ f. (f ≡ FrameFault.Device) × CutOff (reply_body_bytes body.now) (W.output sink.old) (W.output sink.new)) }
 {
     match body {
         ReplyBody::Empty => Ok(()),
@@ -173,8 +173,8 @@ fn send_body<W: Sink>(sink: &mut W, body: &ReplyBody) -> Result<(), FrameFault>
 /// beginning of the frame went out.
 pub fn send_reply<W: Sink>(sink: &mut W, reply: &Reply) -> Result<(), FrameFault>
     ensures { MatchResult result
-        (λ _. Sent (reply_bytes reply.now) (W.written sink.old) (W.written sink.new) (W.failed sink.old) (W.failed sink.new) (W.stalled sink.old) (W.stalled sink.new))
-        (λ f. (f ≡ FrameFault.Device) × CutOff (reply_bytes reply.now) (W.written sink.old) (W.written sink.new) (W.failed sink.old) (W.failed sink.new) (W.stalled sink.old) (W.stalled sink.new)) }
+        (λ _. Sent (reply_bytes reply.now) (W.output sink.old) (W.output sink.new))
+        (λ f. (f ≡ FrameFault.Device) × CutOff (reply_bytes reply.now) (W.output sink.old) (W.output sink.new)) }
 {
     let body = reply.body();
     let len = reply_body_len(body);

@@ -2,9 +2,10 @@
 use Rattle.std.specs.Prelude.{ℕ, ◌≡◌, Result, Ok, Err}
 use Rattle.tb_records.specs.declared.faults.FrameFault.{FrameFault}
 use Rattle.tb_records.specs.declared.faults.FrameFault.TheVariants as frame
+use Rattle.tb_records.specs.Transport.{Input, Output}
 use Rattle.tb_machine.specs.declared.serving.RunFault.{RunFault}
 use Rattle.tb_machine.specs.declared.serving.RunFault.TheVariants.{Frame, NoMemory, TimeExhausted, TooLong}
-use Rattle.tb_machine.specs.Runs.{Input, Output, Ran}
+use Rattle.tb_machine.specs.Runs.{Ran}
 use Rattle.tbs.specs.declared.arguments.Order.{Order}
 use Rattle.tbs.specs.declared.arguments.Order.TheVariants.{Run}
 use Rattle.tbs.specs.declared.commands.Fault.{Fault}

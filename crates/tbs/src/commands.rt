@@ -1,6 +1,5 @@
 //! The program's forms, over any reader and writer, and the exit status of each outcome.
 ghost use Rattle.std.specs.Prelude.{◌≡◌, ◌<◌, None, Some, map, string_bytes};
-ghost use Rattle.tb_machine.specs.Runs.{input, output};
 ghost use Rattle.tbs.specs.declared.arguments.Order.{Order};
 ghost use Rattle.tbs.specs.Orders.{order_of};
 ghost use Rattle.tbs.specs.Statuses.{fault_status, Performs, Exits};
@@ -65,7 +64,7 @@ fn perform<R: Source, W: Sink>(
     reader: &mut R,
     writer: &mut W,
 ) -> Result<u64, RunFault>
-    ensures { Performs order result (input (R.left reader.old) (R.failed reader.old)) (input (R.left reader.new) (R.failed reader.new)) (output (W.written writer.old) (W.failed writer.old) (W.stalled writer.old)) (output (W.written writer.new) (W.failed writer.new) (W.stalled writer.new)) }
+    ensures { Performs order result (R.input reader.old) (R.input reader.new) (W.output writer.old) (W.output writer.new) }
 {
     match order {
         Order::Run(clients_max, profile) => run(alloc, profile, clients_max, reader, writer),
@@ -83,7 +82,7 @@ pub fn command<R: Source, W: Sink, E: Sink>(
 ) -> u8
     ensures usage { order_of (map string_bytes words.now) ≡ None → (result ≡ 2) × (reader.new ≡ reader.old) × (writer.new ≡ writer.old) }
     ensures quiet { result ≡ 0 → faults.new ≡ faults.old }
-    ensures served { (order : Order) → order_of (map string_bytes words.now) ≡ Some order → Exits order result (input (R.left reader.old) (R.failed reader.old)) (input (R.left reader.new) (R.failed reader.new)) (output (W.written writer.old) (W.failed writer.old) (W.stalled writer.old)) (output (W.written writer.new) (W.failed writer.new) (W.stalled writer.new)) }
+    ensures served { (order : Order) → order_of (map string_bytes words.now) ≡ Some order → Exits order result (R.input reader.old) (R.input reader.new) (W.output writer.old) (W.output writer.new) }
 {
     let Some(order) = read_order(words) else {
         tell(Fault::Usage, faults);

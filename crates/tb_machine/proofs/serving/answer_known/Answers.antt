@@ -3,15 +3,15 @@ use Rattle.tb_records.specs.declared.replies.Status.{Status}
 use Rattle.tb_records.specs.Messages.{Answer}
 use Rattle.tb_records.specs.ReplyFrames.{reply_bytes}
 use Rattle.tb_machine.specs.Histories.{refusal}
-use Rattle.tb_machine.specs.Runs.{output, Delivers}
+use Rattle.tb_machine.specs.Runs.{Delivers}
 use Rattle.tb_machine.proofs.Turns.{refused}
 use Rattle.tb_machine.proofs.serving.answer_known.Goals as goal
 
 pub returns-in_default : goal.returns-in_default
 returns-in_default g c =
     subst (λ (a : Answer). Delivers c.send-in_default-2.result (reply_bytes a)
-    (output (g.W.Sink.written c.args.writer.now) (g.W.Sink.failed c.args.writer.now) (g.W.Sink.stalled c.args.writer.now))
-    (output (g.W.Sink.written c.send-in_default-2.new.writer) (g.W.Sink.failed c.send-in_default-2.new.writer) (g.W.Sink.stalled c.send-in_default-2.new.writer)))
+    (g.W.Sink.output c.args.writer.now)
+    (g.W.Sink.output c.send-in_default-2.new.writer))
     (sym (refused c.args.machine.now c.args.request.now c.args.class c.refusal.result c.requires.class c.in_default.not-Repeat
     (c.refusal.ensures ∙ ap (λ (status : Status). refusal status c.args.request.now) c.status_of.ensures)))
     c.send-in_default-2.ensures

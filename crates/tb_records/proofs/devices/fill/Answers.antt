@@ -1,7 +1,7 @@
 use Rattle.std.proofs.Common.{◌∙◌, ◌≤◌, length, take, sym, subst, refl, arith, length-take}
 use Rattle.std.proofs.KnownBytes.{Consumes-trans, Consumes-kept}
 use Rattle.std.specs.Io.KnownBytes.{Consumes}
-use Rattle.tb_records.proofs.Pieces.{filled, rose_by_error, put_mid-long}
+use Rattle.tb_records.proofs.Pieces.{filled, fails_since, put_mid-long}
 use Rattle.tb_records.proofs.devices.fill.Goals as goal
 
 pub loop-at-preserved : goal.loop-at-preserved
@@ -11,19 +11,21 @@ loop-at-preserved g c =
     let bound : c.in-Ok.n ≤ length part = c.in-Ok.ensures.bound.0 in
     record {
       within = put_mid-long c.loop-at.at c.in-Ok.n old part c.loop-at.invariant.within bound;
-      bytes = subst (Consumes (g.S.Source.left c.args.source.now) (g.S.Source.left c.pull.new.self))
+      bytes = subst (Consumes (g.S.Source.input c.args.source.now).left (g.S.Source.input c.pull.new.self).left)
           (sym (filled c.loop-at.at c.in-Ok.n _ old part c.loop-at.invariant.within bound))
           (Consumes-trans _ _ _ _ _ c.loop-at.invariant.bytes c.in-Ok.ensures.bytes.0);
-      counted = c.in-Ok.ensures.counted ∙ c.loop-at.invariant.counted;
+      counted = c.in-Ok.ensures.counted.counted ∙ c.loop-at.invariant.counted;
     }
 
-pub returns-in-Err : goal.returns-in-Err
-returns-in-Err g c = (
+pub returns-in-Err-clause-bytes : goal.returns-in-Err-clause-bytes
+returns-in-Err-clause-bytes g c = (
   refl,
   record {
     front = take c.loop-at.at c.loop-at.buf;
     short = omega (arith, length-take c.loop-at.at c.loop-at.buf);
     bytes = Consumes-kept _ _ _ _ c.loop-at.invariant.bytes c.in-Err.ensures.bytes;
-    rose = rose_by_error _ _ _ c.loop-at.invariant.counted c.in-Err.ensures.counted;
   },
 )
+
+pub returns-in-Err-clause-counted : goal.returns-in-Err-clause-counted
+returns-in-Err-clause-counted g c = fails_since _ _ _ c.loop-at.invariant.counted c.in-Err.ensures.counted

@@ -5,8 +5,8 @@ use Rattle.tb_records.proofs.devices.fill.Given as goal
 abbrev pub invariant-loop-at : goal.invariant-loop-at
 invariant-loop-at g l = record {
   within : l.at ≤ length l.buf;
-  bytes : Consumes (g.S.Source.left l.initial.source) (g.S.Source.left l.source) (take l.at l.buf);
-  counted : g.S.Source.failed l.source ≡ g.S.Source.failed l.initial.source;
+  bytes : Consumes (g.S.Source.input l.initial.source).left (g.S.Source.input l.source).left (take l.at l.buf);
+  counted : (g.S.Source.input l.source).failed ≡ (g.S.Source.input l.initial.source).failed;
 }
 
 abbrev pub decreases-loop-at : goal.decreases-loop-at

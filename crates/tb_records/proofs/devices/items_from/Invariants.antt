@@ -6,7 +6,7 @@ abbrev pub invariant-loop : goal.invariant-loop
 invariant-loop g l = record {
   long : length l.items.items ≡ l.counter;
   room : l.count ≤ vec_capacity l.items;
-  bytes : Consumes (g.S.Source.left l.initial.source) (g.S.Source.left l.source) (flat_map g.T.Item.spelling l.items.items);
+  bytes : Consumes (g.S.Source.input l.initial.source).left (g.S.Source.input l.source).left (flat_map g.T.Item.spelling l.items.items);
   fit : All g.T.Item.Fits l.items.items;
-  counted : g.S.Source.failed l.source ≡ g.S.Source.failed l.initial.source;
+  counted : (g.S.Source.input l.source).failed ≡ (g.S.Source.input l.initial.source).failed;
 }

@@ -5,9 +5,9 @@ use Rattle.tb_records.proofs.devices.put_all.Given as goal
 abbrev pub invariant-loop-at : goal.invariant-loop-at
 invariant-loop-at g l = record {
   within : l.at ≤ length l.bytes;
-  grown : Appends (g.W.Sink.written l.initial.sink) (g.W.Sink.written l.sink) (take l.at l.bytes);
-  counted : g.W.Sink.failed l.sink ≡ g.W.Sink.failed l.initial.sink;
-  flowed : g.W.Sink.stalled l.sink ≡ g.W.Sink.stalled l.initial.sink;
+  grown : Appends (g.W.Sink.output l.initial.sink).written (g.W.Sink.output l.sink).written (take l.at l.bytes);
+  counted : (g.W.Sink.output l.sink).failed ≡ (g.W.Sink.output l.initial.sink).failed;
+  flowed : (g.W.Sink.output l.sink).stalled ≡ (g.W.Sink.output l.initial.sink).stalled;
 }
 
 abbrev pub decreases-loop-at : goal.decreases-loop-at

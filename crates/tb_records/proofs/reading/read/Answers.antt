@@ -19,8 +19,8 @@ request_behind-requires c = is_header c.args.bytes.now c.in-Ok.header c.in-Ok.en
 
 pub returns-in-Ok-request_behind : goal.returns-in-Ok-request_behind
 returns-in-Ok-request_behind c =
-    slice_request c.args.bytes.now _ c.in-Ok.header c.in-Ok-request_behind.request _ _ _ c.if-bytes-lt48.false c.in-Ok.ensures.fields c.in-Ok.ensures.spelled c.if-bytes-header.false
-    (ap (λ (s : Counted (Bor (List ℕ))). s.inner.now) c.new-body.ensures) c.in-Ok-request_behind.ensures
+    slice_request c.args.bytes.now _ c.in-Ok.header c.in-Ok-request_behind.request _ c.if-bytes-lt48.false c.in-Ok.ensures.fields c.in-Ok.ensures.spelled c.if-bytes-header.false
+    (ap (λ (s : Counted (Bor (List ℕ))). s.inner.now) c.new-body.ensures) c.in-Ok-request_behind.ensures.bytes
 
 pub returns-in-Err-request_behind : goal.returns-in-Err-request_behind
 returns-in-Err-request_behind c = whole_slice c.args.bytes.now c.in-Ok.header c.if-bytes-lt48.false c.in-Ok.ensures.fields c.if-bytes-header.false
