@@ -1,6 +1,7 @@
 pub mod Around
 pub mod Exchange
 pub mod Firsts
+pub mod InPlace
 pub mod Inserts
 pub mod Ranges
 pub mod Shape

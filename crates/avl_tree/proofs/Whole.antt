@@ -4,13 +4,16 @@ use Rattle.std.specs.declared.cmp.Ordering.{Ordering}
 use Rattle.std.specs.Option.{IsSome, option_map}
 use Rattle.std.specs.Cmp.{IsTotalOrder}
 use Rattle.std.specs.List.Sorted.{IsStrictlySortedBy}
-use Rattle.std.specs.Map.{lookup, remove_entry}
+use Rattle.std.specs.Fn.{Mut}
+use Rattle.std.specs.Map.{lookup, set_value, remove_entry}
 use Rattle.std.specs.BTreeMap.{insert_entry, is_at}
 use Rattle.std.proofs.lemmas.Map.{keys-set_value, length-set_value}
 use Rattle.avl_tree.specs.Nodes.{entries, with_first, stored_height, IsAvl, IsOrdered, IsWhole, Exchanges}
+use Rattle.avl_tree.specs.Changes.{Changes}
 use Rattle.avl_tree.specs.declared.tree.Tree.{Tree}
 use Rattle.avl_tree.proofs.Around.{ordered_tail, ordered-insert_entry, ordered-remove_entry, length-insert_entry, length-remove_entry_found, remove_entry-absent}
 use Rattle.avl_tree.proofs.Shape.{low, least-le-length}
+use denote.Ref.{MutBor}
 
 module _ {K V A : Type 0} {cmp : K → K → Ordering} {root : Tree K V A} {len spare : ℕ} (w : IsWhole cmp root len spare) where
   pub low_height : stored_height root < 130
@@ -19,16 +22,18 @@ module _ {K V A : Type 0} {cmp : K → K → Ordering} {root : Tree K V A} {len 
       let f = w.fits in
       low (stored_height root) (length (entries root)) (least-le-length root w.balanced) (omega (arith, n, f))
 
-  pub whole_exchange : (k : K) (v v' : V) (b : Bool) (root' : Tree K V A) → Exchanges (is_at (cmp k)) root v b root' v' → IsWhole cmp root' len spare
-  whole_exchange k v v' true root' x =
+  whole_kept : (k : K) (v : V) {root' : Tree K V A} → entries root' ≡ set_value (is_at (cmp k)) (entries root) v → IsAvl root' → IsWhole cmp root' len spare
+  whole_kept k v written avl =
       let t = is_at (cmp k) in
-      let written = x.written in
       record {
-        balanced = x.balanced;
+        balanced = avl;
         sorted = rw written (subst (λ ks. IsStrictlySortedBy cmp ks) (sym (keys-set_value t (entries root) v)) w.sorted);
         counted = rw written (w.counted ∙ sym (length-set_value t (entries root) v));
         fits = w.fits;
       }
+
+  pub whole_exchange : (k : K) (v v' : V) (b : Bool) (root' : Tree K V A) → Exchanges (is_at (cmp k)) root v b root' v' → IsWhole cmp root' len spare
+  whole_exchange k v v' true root' x = whole_kept k v x.written x.balanced
   whole_exchange k v v' false root' x = subst (λ t. IsWhole cmp t len spare) (sym x.1) w
 
   pub whole_insert : IsTotalOrder cmp → (k : K) (v : V) → {root' : Tree K V A} {spare' : ℕ} → lookup (is_at (cmp k)) (entries root) ≡ None → IsAvl root' → entries root' ≡ insert_entry cmp (entries root) k v → spare' + 1 ≡ spare → IsWhole cmp root' (len + 1) spare'
@@ -75,3 +80,7 @@ module _ {K V A : Type 0} {cmp : K → K → Ordering} {root : Tree K V A} {len 
         counted = omega (arith, c, l, one_less);
         fits = omega (arith, fits, one_less, one_more);
       }
+
+  pub whole_changes : {F R : Type 0} (c : Mut F (MutBor V × Unit {0}) (R × (MutBor V × Unit {0}))) (k : K) (o : Option R) (f f' : F) (root' : Tree K V A) → Changes c (is_at (cmp k)) root f o f' root' → IsWhole cmp root' len spare
+  whole_changes c k (Some r) f f' root' x = whole_kept k x.0.left x.0.written x.1.balanced
+  whole_changes c k None f f' root' x = subst (λ t. IsWhole cmp t len spare) (sym x.2) w

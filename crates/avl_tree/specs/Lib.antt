@@ -1,3 +1,4 @@
+pub mod Changes
 pub mod Map
 pub mod Nodes
 pub mod Search

@@ -6,6 +6,7 @@ mod map;
 mod range;
 mod spare;
 mod tree;
+mod updates;
 mod walks;
 
 pub use map::AvlMap;

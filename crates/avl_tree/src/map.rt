@@ -1,11 +1,12 @@
 // The map.
 ghost use Rattle.std.specs.Prelude.{◌≡◌, ◌+◌, ◌<◌, ◌≤◌, ◌^◌, [], length, max, IfOk, IfErr, if◌then◌else◌};
-ghost use Rattle.std.specs.Option.{option_copied, option_map, is_some};
+ghost use Rattle.std.specs.Option.{option_copied, option_map, is_some, IfNone, IfSome};
 ghost use Rattle.std.specs.List.{slice_get};
 ghost use Rattle.std.specs.List.Sorted.{IsStrictlySortedBy};
 ghost use Rattle.std.specs.Map.{keys_of, set_value, remove_entry};
 ghost use Rattle.std.specs.BTreeMap.{insert_entry, is_at};
 ghost use Rattle.std.specs.declared.option.Option.TheVariants.{None, Some};
+ghost use Rattle.avl_tree.specs.Changes.{Changed};
 ghost use Rattle.avl_tree.specs.Map.{entries, get, IsShallow};
 ghost use Rattle.avl_tree.specs.Nodes.{with_first, IsBare};
 ghost use Rattle.avl_tree.specs.Search.{path_length};
@@ -13,7 +14,7 @@ ghost use Rattle.avl_tree.specs.Visits.{between, VisitsTo};
 
 use crate::spare::SpareNodes;
 use crate::tree::{Node, Tree};
-use crate::{edits, range, walks};
+use crate::{edits, range, updates, walks};
 use std::alloc::{AllocError, Allocator};
 use std::marker::Model;
 use std::mem;
@@ -165,6 +166,18 @@ impl<K: Ord + Copy, V, A: Allocator + Clone> AvlMap<K, V, A> {
         } else {
             Err(value)
         }
+    }
+
+    /// Calls the closure at the value of the key, which it may change where it stands, and answers what the closure
+    /// answered. Where the key is absent there is no call, and nothing changes.
+    pub fn update<R, F: FnMut(&mut V) -> R>(&mut self, key: &K, f: &mut F) -> Option<R>
+        requires { F.IsAlwaysCallable f.old }
+        ensures callable { F.IsAlwaysCallable f.new }
+        ensures changed { IfSome result (λ r. Changed F.FnMut (is_at (K.cmp key.now)) (entries self.old) f.old r f.new (entries self.new)) }
+        ensures absent { IfNone result ((get K.cmp self.old key.now ≡ None) × (f.new ≡ f.old) × (self.new ≡ self.old)) }
+        ensures spare { self.new.spare ≡ self.old.spare }
+    {
+        updates::update(&mut self.root, key, f)
     }
 
     /// Takes the key out, and answers its value. Its node becomes spare.

@@ -93,6 +93,32 @@ fn spare_nodes_are_kept(rt: HostRuntime) -> Result<(), Fail> {
     Ok(())
 }
 
+/// Doubles the value of the key where it stands, and answers what it was.
+fn double<A: Allocator + Clone>(map: &mut AvlMap<u64, u128, A>, key: u64) -> Option<u128> {
+    map.update(
+        &key,
+        &mut |value: &mut u128| {
+            let before = *value;
+            *value = before.wrapping_mul(2);
+            before
+        },
+    )
+}
+
+#[test]
+fn values_change_in_place(rt: HostRuntime) -> Result<(), Fail> {
+    let mut map = AvlMap::new_in(rt.alloc());
+    map.reserve(3)?;
+    put_all(&rt, &mut map, 1, 3);
+    assert_eq!(rt; double(&mut map, 3), Some(30));
+    assert_eq!(rt; double(&mut map, 3), Some(60));
+    assert_eq!(rt; double(&mut map, 4), None);
+    assert_eq!(rt; map.get(&3).copied(), Some(120));
+    look_up_all(&rt, &map, 1, 2);
+    assert_eq!(rt; map.len(), 3);
+    Ok(())
+}
+
 /// A number that looks like chance, different for each `n`.
 fn mixed(n: u64) -> u128 {
     let a = n.wrapping_mul(0x9E37_79B9_7F4A_7C15);

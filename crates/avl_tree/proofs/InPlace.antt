@@ -1,0 +1,80 @@
+-- A change of a value in one side of a tree is a change in the tree.
+use Rattle.std.proofs.Common.{◌≡◌, ℕ, ◌++◌, Bool, Option, None, Some, sym, ap, ◌∙◌, refl}
+use Rattle.std.specs.declared.cmp.Ordering.{Ordering}
+use Rattle.std.specs.Fn.{Mut}
+use Rattle.std.specs.Option.{IsSome, IfSome, IfNone}
+use Rattle.std.specs.Map.{lookup}
+use Rattle.std.specs.BTreeMap.{is_at}
+use Rattle.avl_tree.specs.Nodes.{entries, with_first, IsAvl}
+use Rattle.avl_tree.specs.Changes.{Changed, CalledAtValue, KeepsLinks, Changes}
+use Rattle.avl_tree.specs.declared.tree.Tree.{Tree}
+use Rattle.avl_tree.specs.declared.tree.Tree.TheVariants.{Fork'}
+use Rattle.avl_tree.proofs.Steps.{GoesLeft, GoesRight, StandsHere}
+use denote.Ref.{MutBor}
+
+module _ {K V A : Type 0} where
+  pub keeps_left : {h : ℕ} {p : _} {l l' r : Tree K V A} {e : Option (K × V)} → IsAvl (Fork' h p l r e) → KeepsLinks l l' → KeepsLinks (Fork' h p l r e) (Fork' h p l' r e)
+  keeps_left avl k =
+      let height = k.height in
+      record { balanced = (avl.0, k.balanced, avl.2, rw height avl.3, rw height avl.4); height = refl }
+
+  pub keeps_right : {h : ℕ} {p : _} {l r r' : Tree K V A} {e : Option (K × V)} → IsAvl (Fork' h p l r e) → KeepsLinks r r' → KeepsLinks (Fork' h p l r e) (Fork' h p l r' e)
+  keeps_right avl k =
+      let height = k.height in
+      record { balanced = (avl.0, avl.1, k.balanced, rw height avl.3, rw height avl.4); height = refl }
+
+module _ {F K V A R : Type 0} (c : Mut F (MutBor V × Unit {0}) (R × (MutBor V × Unit {0}))) {cmp : K → K → Ordering} {k : K} where
+  pub changes_left : {h : ℕ} {p : _} {t l r : Tree K V A} {e : Option (K × V)} → t ≡ Fork' h p l r e → GoesLeft cmp k (entries l) e (entries r) → IsAvl (Fork' h p l r e) → (o : Option R) (l' : Tree K V A) (f f' : F) → Changes c (is_at (cmp k)) l f o f' l' → Changes c (is_at (cmp k)) t f o f' (Fork' h p l' r e)
+  changes_left {r = r} {e = e} is w avl (Some v) l' f f' x =
+      rw is (
+        record {
+          value = x.0.value;
+          left = x.0.left;
+          found = w.found ∙ x.0.found;
+          called = x.0.called;
+          written = ap (λ m. m ++ with_first e (entries r)) x.0.written ∙ sym (w.written x.0.left);
+        },
+        keeps_left avl x.1,
+      )
+  changes_left {h = h} {p = p} {r = r} {e = e} is w avl None l' f f' x =
+      rw is (w.found ∙ x.0, x.1, ap (λ m. Fork' h p m r e) x.2)
+
+  pub changes_right : {h : ℕ} {p : _} {t l r : Tree K V A} {e : Option (K × V)} → t ≡ Fork' h p l r e → GoesRight cmp k (entries l) e (entries r) → IsAvl (Fork' h p l r e) → (o : Option R) (r' : Tree K V A) (f f' : F) → Changes c (is_at (cmp k)) r f o f' r' → Changes c (is_at (cmp k)) t f o f' (Fork' h p l r' e)
+  changes_right {l = l} {e = e} is w avl (Some v) r' f f' x =
+      rw is (
+        record {
+          value = x.0.value;
+          left = x.0.left;
+          found = w.found ∙ x.0.found;
+          called = x.0.called;
+          written = ap (λ m. entries l ++ with_first e m) x.0.written ∙ sym (w.written x.0.left);
+        },
+        keeps_right avl x.1,
+      )
+  changes_right {h = h} {p = p} {l = l} {e = e} is w avl None r' f f' x =
+      rw is (w.found ∙ x.0, x.1, ap (λ m. Fork' h p l m e) x.2)
+
+  pub changes_here : {h : ℕ} {p : _} {t l r : Tree K V A} (e e' : Option (K × V)) → t ≡ Fork' h p l r e → StandsHere cmp k (entries l) e (entries r) → IsAvl (Fork' h p l r e) → (v : R) (f f' : F) → IfSome e (λ x. CalledAtValue c f x v f' e') → Changes c (is_at (cmp k)) t f (Some v) f' (Fork' h p l r e')
+  changes_here None e' is w avl v f f' x = let none : IsSome {T = K × V} None = avl.0 in absurd (cc)
+  changes_here (Some y) e' is w avl v f f' x =
+      let put = x.written in
+      rw is (rw put (
+        record {
+          value = y.1;
+          left = x.left;
+          found = w.found;
+          called = x.called;
+          written = sym (w.written x.left);
+        },
+        record { balanced = (refl, avl.1, avl.2, avl.3, avl.4); height = refl },
+      ))
+
+-- what the two answers say
+module _ {F K V A R : Type 0} (c : Mut F (MutBor V × Unit {0}) (R × (MutBor V × Unit {0}))) (test : K → Bool) (t t' : Tree K V A) (f f' : F) where
+  pub changed : (o : Option R) → Changes c test t f o f' t' → IfSome o (λ r. Changed c test (entries t) f r f' (entries t'))
+  changed None x = tt
+  changed (Some r) x = x.0
+
+  pub unchanged : {P : Type 0} (o : Option R) → Changes c test t f o f' t' → ((lookup test (entries t) ≡ None) × (f' ≡ f) × (t' ≡ t) → P) → IfNone o P
+  unchanged None x then = then x
+  unchanged (Some r) x then = tt

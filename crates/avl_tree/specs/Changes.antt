@@ -1,0 +1,31 @@
+-- What a closure leaves that was called at values of a map.
+use Rattle.std.specs.Prelude.{◌≡◌, Bool, List, Option, None, Some}
+use Rattle.std.specs.Fn.{Mut, CalledAtMut}
+use Rattle.std.specs.Map.{lookup, set_value}
+use Rattle.avl_tree.specs.Nodes.{entries, stored_height, IsAvl}
+use Rattle.avl_tree.specs.declared.tree.Tree.{Tree}
+use denote.Ref.{MutBor}
+
+-- a call of f at the value of the key that passes the test gave r, left f', and left another value there
+pub record Changed {F K V R : Type 0} (c : Mut F (MutBor V × Unit {0}) (R × (MutBor V × Unit {0}))) (test : K → Bool) (es : List (K × V)) (f : F) (r : R) (f' : F) (es' : List (K × V)) : Type 0 where
+  pub value : V
+  pub left : V
+  pub found : lookup test es ≡ Some value
+  pub called : CalledAtMut c f value r f' left
+  pub written : es' ≡ set_value test es left
+
+-- a call of f at the value of the entry e gave r, left f', and left the entry as o has it
+pub record CalledAtValue {F K V R : Type 0} (c : Mut F (MutBor V × Unit {0}) (R × (MutBor V × Unit {0}))) (f : F) (e : K × V) (r : R) (f' : F) (o : Option (K × V)) : Type 0 where
+  pub left : V
+  pub called : CalledAtMut c f e.1 r f' left
+  pub written : o ≡ Some (e.0, left)
+
+-- t' has the links of t, and is as balanced
+pub record KeepsLinks {K V A : Type 0} (t t' : Tree K V A) : Type 0 where
+  pub balanced : IsAvl t'
+  pub height : stored_height t' ≡ stored_height t
+
+-- f was called at the value in the tree t, or nothing changed where no key passes the test
+abbrev pub Changes : {F K V A R : Type 0} → Mut F (MutBor V × Unit {0}) (R × (MutBor V × Unit {0})) → (K → Bool) → Tree K V A → F → Option R → F → Tree K V A → Type 0
+Changes c test t f (Some r) f' t' = Changed c test (entries t) f r f' (entries t') × KeepsLinks t t'
+Changes c test t f None f' t' = (lookup test (entries t) ≡ None) × (f' ≡ f) × (t' ≡ t)

@@ -1,0 +1,50 @@
+// Changes of values where they stand.
+ghost use Rattle.std.specs.Prelude.{◌≡◌, IsSome, IfSome};
+ghost use Rattle.std.specs.BTreeMap.{is_at};
+ghost use Rattle.avl_tree.specs.Nodes.{entries, IsAvl, IsOrdered};
+ghost use Rattle.avl_tree.specs.Changes.{CalledAtValue, Changes};
+
+use crate::tree::{Node, Tree};
+use crate::walks::compare;
+use std::alloc::Allocator;
+use std::cmp::Ordering;
+
+/// Calls the closure at the value of a node.
+fn update_value<K, V, A: Allocator, R, F: FnMut(&mut V) -> R>(
+    node: &mut Node<K, V, A>,
+    f: &mut F,
+) -> R
+    requires entry { IsSome node.old.entry }
+    requires callable { F.IsAlwaysCallable f.old }
+    ensures callable { F.IsAlwaysCallable f.new }
+    ensures left { node.new.left ≡ node.old.left }
+    ensures right { node.new.right ≡ node.old.right }
+    ensures called { IfSome node.old.entry (λ e. CalledAtValue F.FnMut f.old e result f.new node.new.entry) }
+{
+    match &mut node.entry {
+        Some((_, value)) => f(value),
+        None => unreachable!(),
+    }
+}
+
+/// Calls the closure at the value of the key that compares equal, where there is one.
+pub fn update<K: Ord, V, A: Allocator, R, F: FnMut(&mut V) -> R>(
+    tree: &mut Tree<K, V, A>,
+    key: &K,
+    f: &mut F,
+) -> Option<R>
+    requires balanced { IsAvl tree.old }
+    requires sorted { IsOrdered K.cmp (entries tree.old) }
+    requires callable { F.IsAlwaysCallable f.old }
+    ensures callable { F.IsAlwaysCallable f.new }
+    ensures changes { Changes F.FnMut (is_at (K.cmp key.now)) tree.old f.old result f.new tree.new }
+{
+    match tree {
+        Tree::Empty => None,
+        Tree::Fork(_, node) => match compare(key, node) {
+            Ordering::Less => update(&mut node.left, key, f),
+            Ordering::Greater => update(&mut node.right, key, f),
+            Ordering::Equal => Some(update_value(node, f)),
+        },
+    }
+}
