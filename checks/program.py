@@ -9,6 +9,7 @@ Prints a line for each case, and 'N passed, M failed'. Frames and faults are tho
 """
 import os
 import resource
+import select
 import signal
 import struct
 import subprocess
@@ -116,6 +117,38 @@ def inputs():
     folder = os.open(TOP, os.O_RDONLY)
     read_folder = subprocess.run([PROGRAM, *RUN], stdin=folder, capture_output=True)
     case("a directory as input", (read_folder.returncode, read_folder.stdout, read_folder.stderr), (1, b"", line("Device")))
+
+
+def taken(program, length):
+    """So many bytes of the program's replies, or those that come within ten seconds."""
+    got, end = b"", time.monotonic() + 10
+    while len(got) < length:
+        ready, _, _ = select.select([program.stdout], [], [], max(0, end - time.monotonic()))
+        more = os.read(program.stdout.fileno(), length - len(got)) if ready else b""
+        if not more:
+            break
+        got += more
+    return got
+
+
+def conversation(sendings):
+    """Sends the bytes of each sending and waits for its reply before the next one; answers the replies and the end."""
+    program = subprocess.Popen([PROGRAM, *RUN], stdin=subprocess.PIPE, stdout=subprocess.PIPE, stderr=subprocess.PIPE, bufsize=0)
+    got = []
+    for sent, length in sendings:
+        program.stdin.write(sent)
+        got.append(taken(program, length))
+    rest, fault = program.communicate(timeout=10)
+    return got, rest, fault, program.returncode
+
+
+def conversations():
+    pairs = [SCRIPT[start:end] for start, end in zip(PAIR_ENDS, PAIR_ENDS[1:])]
+    replies = [REPLIES[start:end] for start, end in zip(REPLY_ENDS, REPLY_ENDS[1:])]
+    case("request by request over two pipes", conversation([(sent, len(wanted)) for sent, wanted in zip(pairs, replies)]), (replies, b"", b"", 0))
+    case("each reply lost, and each request sent again", conversation([(sent * 2, 2 * len(wanted)) for sent, wanted in zip(pairs, replies)]), ([it * 2 for it in replies], b"", b"", 0))
+    cut = conversation([(SCRIPT[:60], 48), (SCRIPT[60:380], 48), (SCRIPT[380:], 304)])
+    case("replies come while the next frame is cut", cut, (replies, b"", b"", 0))
 
 
 def cuts():
@@ -254,6 +287,7 @@ def main():
     if not os.access(PROGRAM, os.X_OK):
         sys.exit(f"{PROGRAM} is not there: build it first, as the head of this file says")
     inputs()
+    conversations()
     cuts()
     frames()
     sessions()

@@ -129,6 +129,20 @@ module _ (profile : Profile) (clients_max : ℕ) where
         };
       }
 
+  -- nothing more was written, however far it moved on
+  pub serving_passed : (k : ℕ) (S : State) (before middle : Input) (first written passed : Output) → Serving k S before middle first written → Sends [] written passed → Serving k S before middle first passed
+  serving_passed k S before middle first written passed s on = record {
+    pairs = s.pairs;
+    long = s.long;
+    state = s.state;
+    served = record {
+      read = s.served.read;
+      times = s.served.times;
+      replied = subst (λ bytes. Sends bytes first passed) (append-nil (flat_map reply_bytes (replies_to profile clients_max s.pairs)))
+          (sends_then (flat_map reply_bytes (replies_to profile clients_max s.pairs)) [] first written passed s.served.replied on);
+    };
+  }
+
   -- what ends a run
 
   pub ran_out : (k : ℕ) (S T : State) (before middle after : Input) (first written next : Output) → Serving k S before middle first written → Serves (Ok false) S T middle after written next → Ran profile clients_max (Ok k) before after first next

@@ -1,8 +1,9 @@
 //! The serving of a script: moments and requests are read, executed and answered, one after another.
-ghost use Rattle.std.specs.Prelude.{◌≡◌, ◌≢◌, true, MatchResult, Some};
+ghost use Rattle.std.specs.Prelude.{◌≡◌, ◌≢◌, true, [], MatchResult, Some};
 ghost use Rattle.std.specs.Option.{is_some, option_map};
 ghost use Rattle.tb_records.specs.Messages.{IsLawful};
 ghost use Rattle.tb_records.specs.ReplyFrames.{reply_bytes};
+ghost use Rattle.tb_records.specs.Transport.{Sent};
 ghost use Rattle.tb_sessions.specs.Judged.{class_of, row_of};
 ghost use Rattle.tb_machine.specs.Histories.{status_of, answer_to};
 ghost use Rattle.tb_machine.specs.Runs.{is_new_in, Enters, Delivers, Turns, Serves, Ran};
@@ -12,7 +13,7 @@ use crate::machines::Machine;
 use std::alloc::{AllocError, Global};
 use tb_records::streams::read_timed_from;
 use tb_records::{
-    ClientsMax, FrameFault, Profile, Reply, Request, Sink, Source, Status, send_reply,
+    ClientsMax, FrameFault, Profile, Reply, Request, Sink, Source, Status, holds_frame, send_reply,
 };
 use tb_sessions::{Class, Row};
 use thiserror::Error;
@@ -162,6 +163,21 @@ fn serve_next<R: Source, W: Sink>(
     }
 }
 
+/// Says that bytes begin with a whole pair of a moment and a request frame.
+fn holds_pair(bytes: &[u8]) -> bool {
+    bytes.len() >= 8 && holds_frame(&bytes[8..])
+}
+
+/// Gives out what is answered where the next pair may have to be waited for, so that a client that waits for its reply
+/// has it.
+fn pass_on_before_waiting<R: Source, W: Sink>(reader: &R, writer: &mut W)
+    ensures { Sent [] (W.output writer.old) (W.output writer.new) }
+{
+    if !holds_pair(reader.at_hand()) {
+        writer.pass_on();
+    }
+}
+
 /// Serves a script of pairs, a moment and the frame of a request each, until it ends, and answers the number of replies
 /// written. On a fault the replies to all earlier pairs are written, and the rest of the script is unread; where the
 /// writer failed, a beginning of the next reply was written too.
@@ -179,6 +195,7 @@ pub fn run<R: Source, W: Sink>(
         Err(AllocError) => return Err(RunFault::NoMemory),
     };
     for k in 0..u64::MAX {
+        pass_on_before_waiting(reader, writer);
         match serve_next(alloc, &mut machine, reader, writer) {
             Ok(true) => {}
             Ok(false) => return Ok(k),

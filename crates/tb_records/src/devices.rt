@@ -1,6 +1,7 @@
 //! Readers and writers that count their failures, and the loops that fill and empty buffers.
-ghost use Rattle.std.specs.Prelude.{◌≡◌, ◌≤◌, ◌<◌, ◌+◌, ◌*◌, ℕ, List, Option, MatchResult, IfOk, length, flat_map};
-ghost use Rattle.std.specs.Io.{ReadsAtMost, WritesAtMost};
+ghost use Rattle.std.specs.Prelude.{◌≡◌, ◌≤◌, ◌<◌, ◌+◌, ◌*◌, ℕ, [], List, Option, MatchResult, IfOk, IfSome, length, flat_map};
+ghost use Rattle.std.specs.Io.{ReadsAtMost, WritesAtMost, StartsWith};
+ghost use Rattle.std.specs.Io.Buffered.{reader_remaining};
 ghost use Rattle.std.specs.Io.KnownBytes.{ReadConsumes, WriteAppends};
 ghost use Rattle.tb_records.specs.Transport.{uncounted, Input, Output, Fails, Gives, Counts, Takes, Errs, Filled, Lost, ReadsItem, ReadsItems, ReadFault, BodyFault, Sent, CutOff};
 
@@ -8,7 +9,7 @@ use crate::faults::FrameFault;
 use crate::layout::Item;
 use std::alloc::Global;
 use std::io;
-use std::io::{Read, Write};
+use std::io::{BufReader, Read, Write};
 use std::marker::Model;
 
 /// A reader that counts the errors that it answers.
@@ -26,6 +27,13 @@ pub trait Source {
     /// The number of errors answered. It stays at `2^64 - 1`.
     fn failures(&self) -> u64
         ensures { result ≡ (input self.now).failed };
+
+    /// The bytes that the next pulls give without waiting for more; none of a reader that does not know.
+    fn at_hand(&self) -> &[u8]
+        ensures { IfSome (input self.now).left (λ bytes. StartsWith bytes result.now) }
+    {
+        &[]
+    }
 }
 
 /// A writer that counts the errors that it answers.
@@ -42,6 +50,12 @@ pub trait Sink {
     /// The number of errors answered. It stays at `2^64 - 1`.
     fn failures(&self) -> u64
         ensures { result ≡ (output self.now).failed };
+
+    /// Moves on what was put, as far as it goes now, to whoever waits for it. Nothing more is written, and no error is
+    /// counted: one that comes up shows at a later put, or where the writer is flushed at its end.
+    fn pass_on(&mut self)
+        ensures { Sent [] (output self.old) (output self.new) }
+    {}
 }
 
 /// A std reader or writer, with a count of its errors.
@@ -118,6 +132,53 @@ impl<T: Write> Sink for Counting<T> {
 
     fn failures(&self) -> u64 {
         self.failures
+    }
+
+    fn pass_on(&mut self) {
+        let _ = self.inner.flush();
+    }
+}
+
+/// A std reader behind a buffer, with a count of its errors. It knows which bytes are at hand.
+#[derive(Drop)]
+pub struct Buffered<R> {
+    inner: Counting<BufReader<R>>,
+}
+
+impl<R> Model for Buffered<R> {
+    ghost use Rattle.tb_records.specs.Transport.{Counted};
+    ghost use Rattle.std.specs.declared.io.buffered.BufReader.{BufReader};
+    ghost use Rattle.std.specs.declared.alloc.Global.{Global};
+
+    ghost Value = { Counted (BufReader R Global) };
+
+    ghost view = { λ s. s.inner };
+}
+
+impl<R: Read> Buffered<R> {
+    /// The reader behind its buffer, of which nothing was counted yet.
+    pub fn new(inner: BufReader<R>) -> Buffered<R>
+        ensures { result ≡ uncounted inner }
+    {
+        Buffered {
+            inner: Counting::new(inner),
+        }
+    }
+}
+
+impl<R: Read> Source for Buffered<R> {
+    ghost input = { λ s. record { left = reader_remaining R.remaining s.inner; failed = s.failures; halted = s.halted } };
+
+    fn pull(&mut self, buf: &mut [u8]) -> io::Result<usize> {
+        self.inner.pull(buf)
+    }
+
+    fn failures(&self) -> u64 {
+        self.inner.failures()
+    }
+
+    fn at_hand(&self) -> &[u8] {
+        self.inner.inner.buffer()
     }
 }
 

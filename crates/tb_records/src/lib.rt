@@ -27,7 +27,7 @@ pub mod writing;
 
 pub use answering::read_reply;
 pub use bodies::{Body, ReplyBody};
-pub use devices::{Counting, Sink, Source};
+pub use devices::{Buffered, Counting, Sink, Source};
 pub use faults::FrameFault;
 pub use limits::{ClientsMax, Profile};
 pub use lists::Items;
@@ -35,5 +35,5 @@ pub use reading::read_request;
 pub use records::{Account, EventResult, Transfer};
 pub use replies::{Reply, Status};
 pub use requests::Request;
-pub use streams::RequestStream;
+pub use streams::{RequestStream, holds_frame};
 pub use writing::{send_reply, write_reply, write_request};

@@ -1,13 +1,13 @@
 //! Requests that are read from a stream, one by one.
-ghost use Rattle.std.specs.Prelude.{◌≡◌, ◌*◌, Some, None, Ok, Err, MatchResult};
-ghost use Rattle.tb_records.specs.Frames.{item_size};
+ghost use Rattle.std.specs.Prelude.{◌≡◌, ◌*◌, ◌+◌, ◌&&◌, nat_le, length, Some, None, Ok, Err, MatchResult};
+ghost use Rattle.tb_records.specs.Frames.{item_size, length_at};
 ghost use Rattle.tb_records.specs.HeaderFields.{code_of, body_length, HeaderAnswers, IsHeader, ReadsBody, ReadsRequest};
 ghost use Rattle.tb_records.specs.Inputs.{opened, fault_in, Answers, MomentAnswers, TimedAnswers};
 ghost use Rattle.tb_records.specs.Transport.{BodyFault, Counts};
 
 use crate::bodies::Body;
 use crate::devices::{Source, fill, items_from};
-use crate::encoding::u64_at;
+use crate::encoding::{u32_at, u64_at};
 use crate::faults::FrameFault;
 use crate::headers::{Header, Operation, request_header};
 use crate::lists::Items;
@@ -84,6 +84,13 @@ impl<R: Source + Drop> RequestStream<R> {
         let RequestStream { source, fault: _ } = self;
         source
     }
+}
+
+/// Says that bytes begin with a whole request frame, as far as its header tells its length.
+pub fn holds_frame(bytes: &[u8]) -> bool
+    ensures { result ≡ (nat_le 48 (length bytes.now) && nat_le (48 + length_at bytes.now) (length bytes.now)) }
+{
+    bytes.len() >= 48 && bytes.len() - 48 >= u32_at(bytes, 32) as usize
 }
 
 /// Reads the items of a body. The room for them is made before the first byte is read.

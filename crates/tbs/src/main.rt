@@ -14,7 +14,7 @@ use std::env;
 use std::io::{self, BufReader, BufWriter, Write};
 use std::process::ExitCode;
 use tb_machine::RunFault;
-use tb_records::{Counting, FrameFault, Sink};
+use tb_records::{Buffered, Counting, FrameFault, Sink};
 
 /// The bytes of input and of output that are held at a time.
 const BUFFER: usize = 65536;
@@ -28,7 +28,8 @@ fn words(rt: &HostRuntime) -> io::Result<Vec<String>> {
     Ok(words)
 }
 
-/// Serves the command that the words are, between standard input and standard output.
+/// Serves the command that the words are, between standard input and standard output. Replies are held back only while
+/// more requests are at hand.
 fn serve<E: Sink>(rt: &HostRuntime, words: &[String], faults: &mut E) -> u8 {
     let Ok(input) = BufReader::with_capacity(rt.alloc(), BUFFER, rt.stdin()) else {
         return refuse(Fault::Serving(RunFault::NoMemory), faults);
@@ -36,7 +37,7 @@ fn serve<E: Sink>(rt: &HostRuntime, words: &[String], faults: &mut E) -> u8 {
     let Ok(output) = BufWriter::with_capacity(rt.alloc(), BUFFER, rt.stdout()) else {
         return refuse(Fault::Serving(RunFault::NoMemory), faults);
     };
-    let mut reader = Counting::new(input);
+    let mut reader = Buffered::new(input);
     let mut writer = Counting::new(output);
     let mut line = Counting::new(Vec::new(rt.alloc()));
     let status = command(rt.alloc(), words, &mut reader, &mut writer, &mut line);
