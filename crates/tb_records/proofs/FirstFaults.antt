@@ -48,6 +48,12 @@ first_fault-none [] more e = refl
 first_fault-none ((true, g) ∷ tests) more e = cc
 first_fault-none ((false, g) ∷ tests) more e = first_fault-none tests more e
 
+-- a last test that does not hold decides nothing
+pub first_fault-last : (tests : List (Bool × FrameFault)) (f : FrameFault) → first_fault (tests ++ (false, f) ∷ []) ≡ first_fault tests
+first_fault-last [] f = refl
+first_fault-last ((true, g) ∷ tests) f = refl
+first_fault-last ((false, g) ∷ tests) f = first_fault-last tests f
+
 -- what each fault of a list has
 abbrev pub EachFault : (FrameFault → Type 0) → List (Bool × FrameFault) → Type 0
 EachFault P [] = Unit {0}

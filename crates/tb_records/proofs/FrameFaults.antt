@@ -6,7 +6,7 @@ use Rattle.tb_records.specs.declared.faults.FrameFault.TheVariants.{Short, Clien
 use Rattle.tb_records.specs.Frames.{request_fault, header_fault, header_tests, length_tests, length_at}
 use Rattle.tb_records.specs.Messages.{first_fault, is_operation}
 use Rattle.tb_records.proofs.NumberBytes.{le_at-append}
-use Rattle.tb_records.proofs.FirstFaults.{first_fault-some, first_fault-none, first_fault_is}
+use Rattle.tb_records.proofs.FirstFaults.{first_fault-some, first_fault-none, first_fault-last, first_fault_is}
 
 -- the tests of a header, by its fields
 abbrev pub tests_of : ℕ → ℕ → ℕ → ℕ → ℕ → ℕ → ℕ → List (Bool × FrameFault)
@@ -72,10 +72,13 @@ pub cut_body : (b : List ℕ) → 48 ≤ length b → header_fault b ≡ None �
 cut_body b h e short =
     body_then b h e ∙ ap (λ t. first_fault ((t, Short) ∷ [])) (lt-ltb (length b) (48 + length_at b) short)
 
--- a frame without a fault
-pub whole_frame : (b : List ℕ) → 48 ≤ length b → header_fault b ≡ None → 48 + length_at b ≤ length b → request_fault b ≡ None
-whole_frame b h e long =
-    body_then b h e ∙ ap (λ t. first_fault ((t, Short) ∷ [])) (le-ltb (length b) (48 + length_at b) long)
+-- a whole frame has the fault of its header
+pub whole_frame : (b : List ℕ) → 48 ≤ length b → 48 + length_at b ≤ length b → request_fault b ≡ header_fault b
+unfolding header_fault
+whole_frame b h long =
+    whole_header b h
+    ∙ ap (λ t. first_fault (header_tests b ++ (t, Short) ∷ [])) (le-ltb (length b) (48 + length_at b) long)
+    ∙ first_fault-last (header_tests b) Short
 
 -- the faults that a header can have
 abbrev pub IsOfHeader : FrameFault → Type 0

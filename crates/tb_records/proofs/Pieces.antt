@@ -1,7 +1,8 @@
 -- Buffers that are filled or emptied piece by piece, and counts that rise.
-use Rattle.std.proofs.Common.{◌≡◌, ℕ, ◌*◌, [], ◌∷◌, get_or, flat_map, subst, Option, true, ◌+◌, ◌-◌, ◌<◌, ◌≤◌, inl, inr, min, List, ◌++◌, length, take, drop, cond, not, ◌&&◌, ◌==◌, sym, ap, ◌∙◌, arith, length-take, length-append, length-drop}
+use Rattle.std.proofs.Common.{◌≡◌, ℕ, ◌*◌, [], ◌∷◌, get_or, flat_map, All, subst, Option, true, ◌+◌, ◌-◌, ◌<◌, ◌≤◌, inl, inr, min, List, ◌++◌, length, take, drop, cond, not, ◌&&◌, ◌==◌, sym, ap, ◌∙◌, arith, length-take, length-append, length-drop}
 use Rattle.std.proofs.lemmas.List.{take-append-le, take-append-drop, take_min, drop_more}
 use Rattle.std.proofs.lemmas.Grind.{flat_map-append}
+use Rattle.std.proofs.lemmas.List.Elements.{All-append, All-cons, All-nil}
 use Rattle.std.proofs.KnownBytes.{Appends-trans, Consumes-trans}
 use Rattle.std.specs.Io.KnownBytes.{Appends, Consumes}
 use Rattle.std.proofs.Math.Nat.{mul-le-mul_right}
@@ -76,6 +77,13 @@ spellings_at spelling items k x h e =
     ap (flat_map spelling) (sym (take-append-drop k items))
     ∙ flat_map-append spelling (take k items) (drop k items)
     ∙ ap (λ l. flat_map spelling (take k items) ++ flat_map spelling l) (drop_more items k x h ∙ ap (λ y. y ∷ drop (k + 1) items) (sym e))
+
+-- one item more fits
+pub fit_more : {X : Type 0} (Fits : X → Type 0) (items : List X) (k : ℕ) (x : X) → k < length items → x ≡ get_or items k x → Fits x → All Fits (take k items) → All Fits (take (k + 1) items)
+fit_more Fits items k x h e fits all =
+    let next : take 1 (drop k items) ≡ x ∷ [] = ap (take 1) (drop_more items k x h ∙ ap (λ y. y ∷ drop (k + 1) items) (sym e)) in
+    subst (All Fits) (sym (take-add k 1 items ∙ ap (λ l. take k items ++ l) next))
+    (All-append Fits (take k items) (x ∷ []) all (All-cons Fits x [] fits (All-nil Fits)))
 
 -- a row of items was cut off in one of them
 pub cut_off_at : {X : Type 0} (spelling : X → List ℕ) (items : List X) (k : ℕ) (x : X) (bytes : List ℕ) (old mid new : Output)

@@ -6,7 +6,7 @@ use Rattle.tb_records.specs.declared.faults.FrameFault.TheVariants.{Short, Clien
 use Rattle.tb_records.specs.Frames.{length_at}
 use Rattle.tb_records.specs.Messages.{first_fault, is_operation, has_register_numbers, has_reply_numbers, items_max}
 use Rattle.tb_records.specs.ReplyFrames.{reply_fault, reply_header_fault, reply_header_tests, reply_item_size, has_reply_length, FoundReply}
-use Rattle.tb_records.proofs.FirstFaults.{first_fault-some, first_fault-none, first_fault_is}
+use Rattle.tb_records.proofs.FirstFaults.{first_fault-some, first_fault-none, first_fault-last, first_fault_is}
 
 -- the tests of a header, by its fields
 abbrev pub reply_tests_of : ℕ → ℕ → ℕ → ℕ → ℕ → ℕ → ℕ → ℕ → ℕ → List (Bool × FrameFault)
@@ -50,10 +50,13 @@ pub cut_reply_body : (b : List ℕ) → 48 ≤ length b → reply_header_fault b
 cut_reply_body b h e short =
     body_then b h e ∙ ap (λ t. first_fault ((t, Short) ∷ [])) (lt-ltb (length b) (48 + length_at b) short)
 
--- a frame without a fault
-pub whole_reply : (b : List ℕ) → 48 ≤ length b → reply_header_fault b ≡ None → 48 + length_at b ≤ length b → reply_fault b ≡ None
-whole_reply b h e long =
-    body_then b h e ∙ ap (λ t. first_fault ((t, Short) ∷ [])) (le-ltb (length b) (48 + length_at b) long)
+-- a whole frame has the fault of its header
+pub whole_reply : (b : List ℕ) → 48 ≤ length b → 48 + length_at b ≤ length b → reply_fault b ≡ reply_header_fault b
+unfolding reply_header_fault
+whole_reply b h long =
+    whole_header b h
+    ∙ ap (λ t. first_fault (reply_header_tests b ++ (t, Short) ∷ [])) (le-ltb (length b) (48 + length_at b) long)
+    ∙ first_fault-last (reply_header_tests b) Short
 
 -- the faults that a header can have
 abbrev IsOfHeader : FrameFault → Type 0

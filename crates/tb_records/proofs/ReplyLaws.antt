@@ -1,6 +1,6 @@
 -- What is spelled as a reply has no fault, and is read one way only.
 use Rattle.std.proofs.Common.{◌≡◌, ℕ, ◌+◌, ◌*◌, ◌/◌, ◌^◌, ◌<◌, ◌≤◌, Bool, true, false, not, ◌&&◌, ◌||◌, ◌==◌, nat_lt, List, [], ◌∷◌, ◌++◌, length, drop, None, Result, Ok, Err, inl, inr, refl, sym, ap, ◌∙◌, arith, append_assoc, length-append, if◌then◌else◌}
-use Rattle.std.proofs.lemmas.Bool.{ltb-false, eqb-true}
+use Rattle.std.proofs.lemmas.Bool.{ltb-false, eqb-true, eq-eqb}
 use Rattle.std.proofs.lemmas.Bool.Decides.{nat_tests}
 use Rattle.std.proofs.lemmas.List.{take-append-drop, length-take-le}
 use Rattle.std.proofs.lemmas.List.Elements.{All-head, All-tail}
@@ -8,13 +8,13 @@ use Rattle.std.specs.List.{All, flat_map}
 use Rattle.tb_records.specs.declared.bodies.ReplyBody.{ReplyBody}
 use Rattle.tb_records.specs.declared.bodies.ReplyBody.TheVariants.{Empty, Results, Accounts, Transfers}
 use Rattle.tb_records.specs.declared.faults.FrameFault.{FrameFault}
-use Rattle.tb_records.specs.declared.faults.FrameFault.TheVariants.{NoMemory}
+use Rattle.tb_records.specs.declared.faults.FrameFault.TheVariants.{ClientZero, UnknownOperation, Reserved, BadLength, TooMany, RegisterNumbers, RequestZero, NoMemory, ReplyNumbers}
 use Rattle.tb_records.specs.declared.replies.Status.{Status}
 use Rattle.tb_records.specs.declared.replies.Status.TheVariants.{Reply, NoSession, SessionTooLow, NewerSession, Older, Collision, NewerRequest, NotYet}
 use Rattle.tb_records.specs.Frames.{client_at, session_at, request_at, operation_at, length_at}
-use Rattle.tb_records.specs.Messages.{Answer, status_code, answer_count, first_fault, is_operation, kind_of, kind_for, items_max}
+use Rattle.tb_records.specs.Messages.{Answer, status_code, answer_count, answer_fault, first_fault, is_operation, has_register_numbers, has_reply_numbers, kind_of, kind_for, items_max}
 use Rattle.tb_records.specs.RecordBytes.{account_bytes, transfer_bytes, result_bytes, IsAccount, IsTransfer, IsResult}
-use Rattle.tb_records.specs.ReplyFrames.{header_of_reply, reply_body_bytes, reply_bytes, reply_fault, reply_header_fault, reply_header_tests, reply_item_size, status_at, commit_at, ReplyBodyFits, IsReply, SpellsReply, FoundReply, OnlyThisReply}
+use Rattle.tb_records.specs.ReplyFrames.{header_of_reply, reply_body_bytes, reply_bytes, reply_fault, reply_header_fault, reply_header_tests, reply_item_size, has_reply_length, status_at, commit_at, ReplyBodyFits, FitsFrame, HasKind, IsReply, SpellsReply, FoundReply, OnlyThisReply}
 use Rattle.tb_records.specs.Sizes.{length-account, length-transfer, length-result}
 use Rattle.tb_records.proofs.NumberBytes.{split_at}
 use Rattle.tb_records.proofs.OneSpelling.{one_account, one_transfer, one_result}
@@ -22,7 +22,7 @@ use Rattle.tb_records.proofs.ReplyFaults.{reply_tests_of, whole_reply}
 use Rattle.tb_records.proofs.ReplyHeaderBytes.{answer_tests_of, is_true}
 use Rattle.tb_records.proofs.ReplyPlaces.{ReplyPlaces, reply_places, length-reply_header}
 use Rattle.tb_records.proofs.ReplyRows.{IsRow, is_row, row_length, row_count}
-use Rattle.tb_records.proofs.FirstFaults.{NoneHolds, none_each, all_none}
+use Rattle.tb_records.proofs.FirstFaults.{NoneHolds, none_each}
 
 -- the numbers of operations and statuses are small
 operation_small : (n : ℕ) → is_operation n ≡ true → n < 2 ^ 8
@@ -102,44 +102,79 @@ row_right r is = is_row r.operation (status_code r.status) r.body (kind_right r 
 len_right : (r : Answer) → IsReply r → length (reply_body_bytes r.body) < 2 ^ 32
 len_right r is = row_small r.operation (status_code r.status) _ (answer_count r.body) (row_right r is) (right_each r is).1.1.1.1.1.1.0
 
--- the fields of a spelled reply stand in its header
-places : (r : Answer) (more : List ℕ) → IsReply r
-    → ReplyPlaces (header_of_reply r (length (reply_body_bytes r.body)) ++ more) r.client r.session r.request r.operation (status_code r.status) (length (reply_body_bytes r.body)) r.commit
-places r more is =
-    reply_places r.client r.session r.request r.operation (status_code r.status) (length (reply_body_bytes r.body)) r.commit more
-    is.client is.session is.request (operation_small r.operation (is_true _ (right_each r is).1.0)) (status_small r.status) (len_right r is) is.commit
+-- what fits, of a reply that has a frame
+fits_frame : (r : Answer) → IsReply r → FitsFrame r
+fits_frame r is = record {
+  client = is.client;
+  session = is.session;
+  request = is.request;
+  operation = operation_small r.operation (is_true _ (right_each r is).1.0);
+  commit = is.commit;
+  body = len_right r is;
+}
 
--- the header of a spelled reply has no fault
-spelled_header : (r : Answer) (more : List ℕ) → IsReply r → reply_header_fault (header_of_reply r (length (reply_body_bytes r.body)) ++ more) ≡ None
-unfolding reply_header_fault
-spelled_header r more is =
+-- the fields of a reply stand in its header
+places : (r : Answer) (more : List ℕ) → FitsFrame r
+    → ReplyPlaces (header_of_reply r (length (reply_body_bytes r.body)) ++ more) r.client r.session r.request r.operation (status_code r.status) (length (reply_body_bytes r.body)) r.commit
+places r more fits =
+    reply_places r.client r.session r.request r.operation (status_code r.status) (length (reply_body_bytes r.body)) r.commit more
+    fits.client fits.session fits.request fits.operation (status_small r.status) fits.body fits.commit
+
+-- the tests of a header by its fields, with three of them given
+tests_with : Answer → Bool → Bool → Bool → List (Bool × FrameFault)
+tests_with r reserved bad many =
+    (r.client == 0, ClientZero)
+    ∷ (not (is_operation r.operation), UnknownOperation)
+    ∷ (reserved, Reserved)
+    ∷ (r.operation == 2 && not (has_register_numbers (status_code r.status) r.session r.request), RegisterNumbers)
+    ∷ (not (r.operation == 2) && r.request == 0, RequestZero)
+    ∷ (not (has_reply_numbers r.operation (status_code r.status) r.session r.commit), ReplyNumbers)
+    ∷ (bad, BadLength)
+    ∷ (many, TooMany)
+    ∷ []
+
+-- a reply's values, by the tests of a header
+answer_by_tests : (r : Answer) (bad : Bool) → not (kind_of r.body == (if status_code r.status == 0 then kind_for r.operation else 0)) ≡ bad
+    → first_fault (tests_with r false bad (nat_lt items_max (answer_count r.body))) ≡ answer_fault r
+unfolding tests_with
+answer_by_tests r bad e = ap (λ b. first_fault (tests_with r false b (nat_lt items_max (answer_count r.body)))) (sym e)
+
+-- the first fault of a header, where the body is of its kind, is that of the values
+header_fault_is : (r : Answer) (more : List ℕ) → FitsFrame r → HasKind r → reply_header_fault (header_of_reply r (length (reply_body_bytes r.body)) ++ more) ≡ answer_fault r
+unfolding reply_header_fault tests_with
+header_fault_is r more fits kind =
     let len = length (reply_body_bytes r.body) in
     let code = status_code r.status in
-    let p = places r more is in
-    let t = right_each r is in
-    let row = row_right r is in
+    let p = places r more fits in
+    let row = is_row r.operation code r.body kind in
     let same : reply_header_tests (header_of_reply r len ++ more) ≡ reply_tests_of r.client r.session r.request r.operation code 0 len r.commit 0 =
     λ i. reply_tests_of (p.client_is i) (p.session_is i) (p.request_is i) (p.operation_is i) (p.status_is i) (p.low_is i) (p.len_is i) (p.commit_is i) (p.high_is i) in
     let known : not (nat_lt code 8 && true && true) ≡ false = ap (λ x. not (x && true && true)) (status_known r.status) in
-    let few : nat_lt items_max (len / reply_item_size r.operation) ≡ false =
-    ap (λ n. nat_lt items_max n) (row_count r.operation code len (answer_count r.body) row) ∙ t.1.1.1.1.1.1.0 in
+    let right : not (has_reply_length r.operation code len) ≡ false = ap not (row_length r.operation code len (answer_count r.body) row) in
+    let count : nat_lt items_max (len / reply_item_size r.operation) ≡ nat_lt items_max (answer_count r.body) =
+    ap (λ n. nat_lt items_max n) (row_count r.operation code len (answer_count r.body) row) in
     ap first_fault same
-    ∙ all_none (reply_tests_of r.client r.session r.request r.operation code 0 len r.commit 0)
-    (t.0, (t.1.0, (known, (t.1.1.0, (t.1.1.1.0, (t.1.1.1.1.0, (ap not (row_length r.operation code len (answer_count r.body) row), (few, tt))))))))
+    ∙ (λ i. first_fault (tests_with r (known i) (right i) (count i)))
+    ∙ answer_by_tests r false (ap not (eq-eqb _ _ kind))
 
--- what is spelled has no fault, whatever stands behind it
-pub spelled_whole : (r : Answer) (more : List ℕ) → IsReply r → reply_fault (reply_bytes r ++ more) ≡ None
-spelled_whole r more is =
+-- a reply's values have the first fault that their frame has, whatever stands behind it
+pub one_fault : (r : Answer) (more : List ℕ) → FitsFrame r → HasKind r → reply_fault (reply_bytes r ++ more) ≡ answer_fault r
+one_fault r more fits kind =
     let len = length (reply_body_bytes r.body) in
     let rest = reply_body_bytes r.body ++ more in
     let b = header_of_reply r len ++ rest in
-    let p = places r rest is in
+    let p = places r rest fits in
     let long : length b ≡ 48 + (len + length more) =
     length-append (header_of_reply r len) rest
     ∙ ap (λ (n : ℕ). n + length rest) (length-reply_header r.client r.session r.request r.operation (status_code r.status) len r.commit)
     ∙ ap (λ (n : ℕ). 48 + n) (length-append (reply_body_bytes r.body) more) in
     ap reply_fault (append_assoc (header_of_reply r len) (reply_body_bytes r.body) more)
-    ∙ whole_reply b (omega arith) (spelled_header r rest is) (omega (arith, p.len_is))
+    ∙ whole_reply b (omega arith) (omega (arith, p.len_is))
+    ∙ header_fault_is r rest fits kind
+
+-- what is spelled has no fault, whatever stands behind it
+pub spelled_whole : (r : Answer) (more : List ℕ) → IsReply r → reply_fault (reply_bytes r ++ more) ≡ None
+spelled_whole r more is = one_fault r more (fits_frame r is) (kind_right r is) ∙ is.right
 
 -- items of one size, each of which has one spelling
 items_one : {X : Type 0} (spelling : X → List ℕ) (Fits : X → Type 0) (size : ℕ) → ((x : X) → length (spelling x) ≡ size) → 0 < size
@@ -174,8 +209,8 @@ one_reading r s x y ir is e =
     let bs = reply_body_bytes s.body in
     let all : header_of_reply r lr ++ (br ++ x) ≡ header_of_reply s ls ++ (bs ++ y) =
     sym (append_assoc (header_of_reply r lr) br x) ∙ e ∙ append_assoc (header_of_reply s ls) bs y in
-    let p = places r (br ++ x) ir in
-    let q = places s (bs ++ y) is in
+    let p = places r (br ++ x) (fits_frame r ir) in
+    let q = places s (bs ++ y) (fits_frame s is) in
     let client : r.client ≡ s.client = sym p.client_is ∙ ap client_at all ∙ q.client_is in
     let session : r.session ≡ s.session = sym p.session_is ∙ ap session_at all ∙ q.session_is in
     let request : r.request ≡ s.request = sym p.request_is ∙ ap request_at all ∙ q.request_is in

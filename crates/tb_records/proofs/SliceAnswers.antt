@@ -26,7 +26,7 @@ cut_slice bytes h long of short = cut_body bytes long of.sound (omega (arith, of
 
 -- the body is there
 pub whole_slice : (bytes : List ℕ) (h : Header) → 48 ≤ length bytes → HeaderOf bytes h → h.length ≤ length bytes - 48 → request_fault bytes ≡ None
-whole_slice bytes h long of whole = whole_frame bytes long of.sound (omega (arith, of.length))
+whole_slice bytes h long of whole = whole_frame bytes long (omega (arith, of.length)) ∙ of.sound
 
 -- a list without items
 empty : (xs : List ℕ) → length xs ≡ 0 → xs ≡ []

@@ -1,23 +1,23 @@
 -- What is spelled is read: the fields of a spelling, and that a spelling has no fault and begins no other.
-use Rattle.std.proofs.Common.{◌≡◌, ℕ, suc, ◌+◌, ◌*◌, ◌/◌, ◌%◌, ◌^◌, ◌<◌, ◌≤◌, false, not, ◌==◌, nat_lt, List, [], ◌∷◌, ◌++◌, length, take, drop, flat_map, All, None, Result, Ok, Err, refl, sym, ap, ◌∙◌, arith, length-append, length-take, append_assoc, take-append-drop}
+use Rattle.std.proofs.Common.{◌≡◌, ℕ, suc, ◌+◌, ◌*◌, ◌/◌, ◌%◌, ◌^◌, ◌<◌, ◌≤◌, Bool, false, not, ◌&&◌, if◌then◌else◌, ◌==◌, nat_lt, List, [], ◌∷◌, ◌++◌, length, take, drop, flat_map, All, None, Result, Ok, Err, refl, sym, ap, ◌∙◌, arith, length-append, length-take, append_assoc, take-append-drop}
 use Rattle.std.proofs.Math.Nat.{mul-mod_left, mul-div_left}
 use Rattle.std.proofs.lemmas.Bool.{ltb-false}
 use Rattle.tb_records.specs.declared.bodies.Body.{Body}
 use Rattle.tb_records.specs.declared.bodies.Body.TheVariants.{Register, CreateAccounts, CreateTransfers, LookupAccounts, LookupTransfers}
 use Rattle.tb_records.specs.declared.faults.FrameFault.{FrameFault}
-use Rattle.tb_records.specs.declared.faults.FrameFault.TheVariants.{NoMemory}
-use Rattle.tb_records.specs.Messages.{Message, operation, item_count, is_operation, IsLawful, first_fault}
+use Rattle.tb_records.specs.declared.faults.FrameFault.TheVariants.{ClientZero, UnknownOperation, BadLength, TooMany, RegisterNumbers, RequestZero, NoMemory}
+use Rattle.tb_records.specs.Messages.{Message, operation, item_count, is_operation, number_fault, IsLawful, first_fault}
 use Rattle.tb_records.specs.Numbers.{le_bytes, le_at}
 use Rattle.tb_records.specs.RecordBytes.{account_bytes, transfer_bytes, IsAccount, IsTransfer}
 use Rattle.tb_records.specs.Sizes.{length-le_bytes, length-account, length-transfer, length-id}
-use Rattle.tb_records.specs.Frames.{header_bytes, body_bytes, request_bytes, request_fault, header_fault, header_tests, length_tests, length_at, IsRequest, Spells, BodyFits, IsId}
+use Rattle.tb_records.specs.Frames.{header_bytes, body_bytes, request_bytes, request_fault, header_fault, header_tests, length_at, item_size, FitsFrame, IsRequest, Spells, BodyFits, IsId}
 use Rattle.tb_records.specs.HeaderFields.{numbers_tests}
 use Rattle.tb_records.specs.Inputs.{Found, OnlyThis}
 use Rattle.tb_records.proofs.NumberBytes.{le_at-append, le_at-last, le_bytes-one, split_at}
 use Rattle.tb_records.proofs.OneSpelling.{one_account, one_transfer}
 use Rattle.tb_records.proofs.StreamAnswers.{length-body}
 use Rattle.tb_records.proofs.FrameFaults.{tests_of, header_fault-append, length_at-append, whole_frame}
-use Rattle.tb_records.proofs.FirstFaults.{NoneHolds, none_each, all_none}
+use Rattle.tb_records.proofs.FirstFaults.{none_each}
 
 -- the fields that stand in the bytes of a header
 record Fields (b : List ℕ) (client session request code len : ℕ) : Type 0 where
@@ -112,53 +112,75 @@ short_body (LookupTransfers ids) h = omega (arith, length-body (LookupTransfers 
 abbrev header_of : Message → List ℕ
 header_of r = header_bytes r.client r.session r.request (operation r.body) (length (body_bytes r.body))
 
-fields_of : (r : Message) → IsRequest r → Fields (header_of r) r.client r.session r.request (operation r.body) (length (body_bytes r.body))
-fields_of r is =
-    fields r.client r.session r.request (operation r.body) (length (body_bytes r.body)) is.client is.session is.request (code_small r.body)
-    (short_body r.body (few r is.lawful))
+-- what fits, of a request that has a frame
+fits_frame : (r : Message) → IsRequest r → FitsFrame r
+fits_frame r is = record { client = is.client; session = is.session; request = is.request; body = short_body r.body (few r is.lawful) }
 
--- a row of few items has a right length
-row_passes : (count size len : ℕ) → 0 < size → len ≡ count * size → nat_lt 8190 count ≡ false → (not (len % size == 0) ≡ false) × (nat_lt 8190 (len / size) ≡ false)
-row_passes count size len pos e few =
+fields_of : (r : Message) → FitsFrame r → Fields (header_of r) r.client r.session r.request (operation r.body) (length (body_bytes r.body))
+fields_of r fits = fields r.client r.session r.request (operation r.body) (length (body_bytes r.body)) fits.client fits.session fits.request (code_small r.body) fits.body
+
+-- a row of items has a right length, which tells their number
+row_passes : (count size len : ℕ) → 0 < size → len ≡ count * size → (not (len % size == 0) ≡ false) × (nat_lt 8190 (len / size) ≡ nat_lt 8190 count)
+row_passes count size len pos e =
     let rest : len % size ≡ 0 = ap (λ n. n % size) e ∙ mul-mod_left count size in
     let whole : len / size ≡ count = ap (λ n. n / size) e ∙ mul-div_left count pos in
-    (ap (λ n. not (n == 0)) rest, ap (nat_lt 8190) whole ∙ few)
+    (ap (λ n. not (n == 0)) rest, ap (nat_lt 8190) whole)
 
-length_passes : (body : Body) → nat_lt 8190 (item_count body) ≡ false → NoneHolds (length_tests (operation body) (length (body_bytes body)))
-length_passes Register few = let e : length (body_bytes Register) ≡ 0 = length-body Register in
-    (ap (λ n. not (n == 0)) e, (ap (λ n. nat_lt 8190 (n / 16)) e, tt))
-length_passes (CreateAccounts events) few = let t = row_passes (length events) 128 _ (omega arith) (length-body (CreateAccounts events)) few in (t.0, (t.1, tt))
-length_passes (CreateTransfers events) few = let t = row_passes (length events) 128 _ (omega arith) (length-body (CreateTransfers events)) few in (t.0, (t.1, tt))
-length_passes (LookupAccounts ids) few = let t = row_passes (length ids) 16 _ (omega arith) (length-body (LookupAccounts ids)) few in (t.0, (t.1, tt))
-length_passes (LookupTransfers ids) few = let t = row_passes (length ids) 16 _ (omega arith) (length-body (LookupTransfers ids)) few in (t.0, (t.1, tt))
+-- the tests of a length
+abbrev is_bad : ℕ → ℕ → Bool
+is_bad operation len = not ((if operation == 2 then len else len % item_size operation) == 0)
 
--- the header of a request has no fault
-header_sound : (r : Message) → IsRequest r → header_fault (header_of r) ≡ None
-unfolding header_fault
-header_sound r is =
-    let b = header_of r in
-    let f = fields_of r is in
-    let law = none_each (numbers_tests r.client r.session r.request (operation r.body) (item_count r.body)) is.lawful in
-    let code = operation r.body in
+abbrev is_many : ℕ → ℕ → Bool
+is_many operation len = nat_lt 8190 (len / item_size operation)
+
+length_passes : (body : Body) → (is_bad (operation body) (length (body_bytes body)) ≡ false) × (is_many (operation body) (length (body_bytes body)) ≡ nat_lt 8190 (item_count body))
+length_passes Register = let e : length (body_bytes Register) ≡ 0 = length-body Register in
+    (ap (λ n. not (n == 0)) e, ap (λ n. nat_lt 8190 (n / 16)) e)
+length_passes (CreateAccounts events) = row_passes (length events) 128 _ (omega arith) (length-body (CreateAccounts events))
+length_passes (CreateTransfers events) = row_passes (length events) 128 _ (omega arith) (length-body (CreateTransfers events))
+length_passes (LookupAccounts ids) = row_passes (length ids) 16 _ (omega arith) (length-body (LookupAccounts ids))
+length_passes (LookupTransfers ids) = row_passes (length ids) 16 _ (omega arith) (length-body (LookupTransfers ids))
+
+-- the tests of a header by its fields, with three of them given
+tests_with : Message → Bool → Bool → Bool → List (Bool × FrameFault)
+tests_with r unknown bad many =
+    (r.client == 0, ClientZero)
+    ∷ (unknown, UnknownOperation)
+    ∷ (operation r.body == 2 && not (r.session == 0 && r.request == 0), RegisterNumbers)
+    ∷ (not (operation r.body == 2) && r.request == 0, RequestZero)
+    ∷ (bad, BadLength)
+    ∷ (many, TooMany)
+    ∷ []
+
+-- the first fault of a header is that of the values
+header_fault_is : (r : Message) → FitsFrame r → header_fault (header_of r) ≡ number_fault r
+unfolding header_fault tests_with
+header_fault_is r fits =
+    let f = fields_of r fits in
     let len = length (body_bytes r.body) in
-    let same : header_tests b ≡ tests_of r.client r.session r.request code 0 len 0 =
+    let known = code_known r.body in
+    let passes = length_passes r.body in
+    let same : header_tests (header_of r) ≡ tests_of r.client r.session r.request (operation r.body) 0 len 0 =
     λ i. tests_of (f.client_is i) (f.session_is i) (f.request_is i) (f.code_is i) (f.low_is i) (f.len_is i) (f.high_is i) in
-    let tests : NoneHolds (tests_of r.client r.session r.request code 0 len 0) =
-    (law.0, (code_known r.body, (refl, (law.1.0, (law.1.1.0, length_passes r.body law.1.1.1.0))))) in
-    ap first_fault same ∙ all_none (tests_of r.client r.session r.request code 0 len 0) tests
+    ap first_fault same ∙ (λ i. first_fault (tests_with r (known i) (passes.0 i) (passes.1 i)))
 
--- what is spelled has no fault, whatever stands behind it
-pub spelled_sound : (r : Message) (more : List ℕ) → IsRequest r → request_fault (request_bytes r ++ more) ≡ None
-spelled_sound r more is =
+-- a request's values have the first fault that their frame has, whatever stands behind it
+pub one_fault : (r : Message) (more : List ℕ) → FitsFrame r → request_fault (request_bytes r ++ more) ≡ number_fault r
+one_fault r more fits =
     let b = header_of r in
     let body = body_bytes r.body in
-    let f = fields_of r is in
-    let split : (b ++ body) ++ more ≡ b ++ (body ++ more) = append_assoc b body more in
-    let sound : header_fault (b ++ (body ++ more)) ≡ None = header_fault-append b (body ++ more) (omega (arith, f.long)) ∙ header_sound r is in
+    let f = fields_of r fits in
     let len : length_at (b ++ (body ++ more)) ≡ length body = length_at-append b (body ++ more) (omega (arith, f.long)) ∙ f.len_is in
     let long : length (b ++ (body ++ more)) ≡ 48 + (length body + length more) =
     omega (arith, length-append b (body ++ more), length-append body more, f.long) in
-    ap request_fault split ∙ whole_frame (b ++ (body ++ more)) (omega (arith, long)) sound (omega (arith, long, len))
+    ap request_fault (append_assoc b body more)
+    ∙ whole_frame (b ++ (body ++ more)) (omega (arith, long)) (omega (arith, long, len))
+    ∙ header_fault-append b (body ++ more) (omega (arith, f.long))
+    ∙ header_fault_is r fits
+
+-- what is spelled has no fault, whatever stands behind it
+pub spelled_sound : (r : Message) (more : List ℕ) → IsRequest r → request_fault (request_bytes r ++ more) ≡ None
+spelled_sound r more is = one_fault r more (fits_frame r is) ∙ is.lawful
 
 -- rows of items of one size that are spelled alike
 items_one : {X : Type 0} (spelling : X → List ℕ) (Fits : X → Type 0) (size : ℕ) → 0 < size → ((x : X) → length (spelling x) ≡ size)
@@ -193,8 +215,8 @@ body_one a b o fa fb e = absurd (omega (arith, o))
 -- no spelling begins another, and each request has one
 pub spelled_once : (r s : Message) (x y : List ℕ) → IsRequest r → IsRequest s → request_bytes r ++ x ≡ request_bytes s ++ y → (r ≡ s) × (x ≡ y)
 spelled_once r s x y ir is e =
-    let fr = fields_of r ir in
-    let fs = fields_of s is in
+    let fr = fields_of r (fits_frame r ir) in
+    let fs = fields_of s (fits_frame s is) in
     let heads = split_at (header_of r) (header_of s) (body_bytes r.body ++ x) (body_bytes s.body ++ y) (fr.long ∙ sym fs.long)
     (sym (append_assoc (header_of r) (body_bytes r.body) x) ∙ e ∙ append_assoc (header_of s) (body_bytes s.body) y) in
     let head : header_of r ≡ header_of s = heads.0 in

@@ -51,6 +51,13 @@ pub record IsRequest (r : Message) : Type 0 where
   pub items : BodyFits r.body
   pub lawful : IsLawful r
 
+-- the numbers of a request and the length of its body fit the fields of a frame
+pub record FitsFrame (r : Message) : Type 0 where
+  pub client : r.client < 2 ^ 128
+  pub session : r.session < 2 ^ 64
+  pub request : r.request < 2 ^ 32
+  pub body : length (body_bytes r.body) < 2 ^ 32
+
 -- the bytes are the frame of the request
 pub record Spells (bytes : List ℕ) (r : Message) : Type 0 where
   pub bytes_are : bytes ≡ request_bytes r

@@ -5,7 +5,7 @@ use Rattle.tb_records.specs.declared.bodies.ReplyBody.{ReplyBody}
 use Rattle.tb_records.specs.declared.bodies.ReplyBody.TheVariants.{Empty, Results, Accounts, Transfers}
 use Rattle.tb_records.specs.declared.faults.FrameFault.{FrameFault}
 use Rattle.tb_records.specs.declared.faults.FrameFault.TheVariants.{Short, ClientZero, UnknownOperation, Reserved, BadLength, TooMany, RegisterNumbers, RequestZero, NoMemory, ReplyNumbers}
-use Rattle.tb_records.specs.Messages.{Answer, IsRight, status_code, first_fault, items_max, is_operation, has_register_numbers, has_reply_numbers}
+use Rattle.tb_records.specs.Messages.{Answer, IsRight, kind_of, kind_for, status_code, first_fault, items_max, is_operation, has_register_numbers, has_reply_numbers}
 use Rattle.tb_records.specs.Numbers.{le_bytes, le_at}
 use Rattle.tb_records.specs.RecordBytes.{account_bytes, transfer_bytes, result_bytes, IsAccount, IsTransfer, IsResult}
 use Rattle.tb_records.specs.Frames.{client_at, session_at, request_at, operation_at, length_at}
@@ -53,6 +53,19 @@ pub record IsReply (r : Answer) : Type 0 where
   pub commit : r.commit < 2 ^ 64
   pub body : ReplyBodyFits r.body
   pub right : IsRight r
+
+-- the numbers of a reply and the length of its body fit the fields of a frame
+pub record FitsFrame (r : Answer) : Type 0 where
+  pub client : r.client < 2 ^ 128
+  pub session : r.session < 2 ^ 64
+  pub request : r.request < 2 ^ 32
+  pub operation : r.operation < 2 ^ 8
+  pub commit : r.commit < 2 ^ 64
+  pub body : length (reply_body_bytes r.body) < 2 ^ 32
+
+-- the body is of the kind that the operation and the status ask for
+abbrev pub HasKind : Answer → Type 0
+HasKind r = kind_of r.body ≡ (if status_code r.status == 0 then kind_for r.operation else 0)
 
 -- the bytes are the frame of the reply
 pub record SpellsReply (bytes : List ℕ) (r : Answer) : Type 0 where

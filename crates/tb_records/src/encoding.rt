@@ -8,7 +8,8 @@ use byteorder::{ByteOrder, LittleEndian};
 /// apart into its bytes.
 pub(crate) fn put_u128(out: &mut [u8], at: usize, number: u128)
     requires { at + 16 ≤ length out.old }
-    ensures { take (at + 16) out.new ≡ take at out.old ++ le_bytes 16 number }
+    ensures written { take (at + 16) out.new ≡ take at out.old ++ le_bytes 16 number }
+    ensures fits { number < 2 ^ 128 }
 {
     let base = 0x1_0000_0000_0000_0000;
     put_u64(out, at, (number % base) as u64);
@@ -18,7 +19,8 @@ pub(crate) fn put_u128(out: &mut [u8], at: usize, number: u128)
 /// Writes 8 bytes at a place.
 pub(crate) fn put_u64(out: &mut [u8], at: usize, number: u64)
     requires { at + 8 ≤ length out.old }
-    ensures { take (at + 8) out.new ≡ take at out.old ++ le_bytes 8 number }
+    ensures written { take (at + 8) out.new ≡ take at out.old ++ le_bytes 8 number }
+    ensures fits { number < 2 ^ 64 }
 {
     LittleEndian::write_u64(&mut out[at..at + 8], number);
 }
@@ -26,7 +28,8 @@ pub(crate) fn put_u64(out: &mut [u8], at: usize, number: u64)
 /// Writes 4 bytes at a place.
 pub(crate) fn put_u32(out: &mut [u8], at: usize, number: u32)
     requires { at + 4 ≤ length out.old }
-    ensures { take (at + 4) out.new ≡ take at out.old ++ le_bytes 4 number }
+    ensures written { take (at + 4) out.new ≡ take at out.old ++ le_bytes 4 number }
+    ensures fits { number < 2 ^ 32 }
 {
     LittleEndian::write_u32(&mut out[at..at + 4], number);
 }
@@ -34,7 +37,8 @@ pub(crate) fn put_u32(out: &mut [u8], at: usize, number: u32)
 /// Writes 2 bytes at a place.
 pub(crate) fn put_u16(out: &mut [u8], at: usize, number: u16)
     requires { at + 2 ≤ length out.old }
-    ensures { take (at + 2) out.new ≡ take at out.old ++ le_bytes 2 number }
+    ensures written { take (at + 2) out.new ≡ take at out.old ++ le_bytes 2 number }
+    ensures fits { number < 2 ^ 16 }
 {
     LittleEndian::write_u16(&mut out[at..at + 2], number);
 }
@@ -42,7 +46,8 @@ pub(crate) fn put_u16(out: &mut [u8], at: usize, number: u16)
 /// Writes 1 byte at a place.
 pub(crate) fn put_u8(out: &mut [u8], at: usize, number: u8)
     requires { at + 1 ≤ length out.old }
-    ensures { take (at + 1) out.new ≡ take at out.old ++ le_bytes 1 number }
+    ensures written { take (at + 1) out.new ≡ take at out.old ++ le_bytes 1 number }
+    ensures fits { number < 2 ^ 8 }
 {
     out[at] = number;
 }

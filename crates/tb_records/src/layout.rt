@@ -29,7 +29,8 @@ pub(crate) trait Item: Copy + Drop {
 
     /// Writes the item to the beginning of the bytes.
     fn write(&self, out: &mut [u8; 128])
-        ensures { take SIZE out.new ≡ spelling self.now };
+        ensures spelled { take SIZE out.new ≡ spelling self.now }
+        ensures fits { Fits self.now };
 
     // No item has more bytes than a record.
     ghost small: { SIZE ≤ 128 };

@@ -36,7 +36,8 @@ pub struct Account {
 impl Account {
     /// The account's 128 bytes: its fields in their order, each number with its lowest byte first.
     pub fn to_bytes(&self) -> [u8; 128]
-        ensures { result ≡ account_bytes self.now }
+        ensures bytes { result ≡ account_bytes self.now }
+        ensures fits { IsAccount self.now }
     {
         let mut out = [0; 128];
         self.write(&mut out);
@@ -83,7 +84,8 @@ pub struct Transfer {
 impl Transfer {
     /// The transfer's 128 bytes: its fields in their order, each number with its lowest byte first.
     pub fn to_bytes(&self) -> [u8; 128]
-        ensures { result ≡ transfer_bytes self.now }
+        ensures bytes { result ≡ transfer_bytes self.now }
+        ensures fits { IsTransfer self.now }
     {
         let mut bytes = [0; 128];
         self.write(&mut bytes);

@@ -1,7 +1,7 @@
-//! Laws of the frames of replies, for every reply whose numbers go together and fit their fields. None makes a call.
+//! Laws of the frames of replies, for every reply whose numbers fit their fields. None makes a call.
 ghost use Rattle.std.specs.Prelude.{◌≡◌, ◌++◌, None, ℕ, List};
-ghost use Rattle.tb_records.specs.Messages.{Answer};
-ghost use Rattle.tb_records.specs.ReplyFrames.{reply_bytes, reply_fault, IsReply};
+ghost use Rattle.tb_records.specs.Messages.{Answer, answer_fault};
+ghost use Rattle.tb_records.specs.ReplyFrames.{reply_bytes, reply_fault, FitsFrame, HasKind, IsReply};
 
 /// The frame of a reply has no fault, whatever stands behind it.
 pub fn spelled_whole()
@@ -11,4 +11,10 @@ pub fn spelled_whole()
 /// Each reply has one frame, and no frame begins another one.
 pub fn one_reading()
     ensures { (r s : Answer) (x y : List ℕ) → IsReply r → IsReply s → reply_bytes r ++ x ≡ reply_bytes s ++ y → (r ≡ s) × (x ≡ y) }
+{}
+
+/// The first fault of a reply's values is the first fault of their frame, where the body is of the kind that the operation
+/// and the status ask for.
+pub fn one_fault()
+    ensures { (r : Answer) (more : List ℕ) → FitsFrame r → HasKind r → reply_fault (reply_bytes r ++ more) ≡ answer_fault r }
 {}

@@ -1,9 +1,9 @@
 //! Requests and replies written as frames, to a vector or to a sink.
-ghost use Rattle.std.specs.Prelude.{◌≡◌, ◌≤◌, ◌+◌, ◌*◌, ◌++◌, length, vec_len, vec_capacity, OnOk, OnErr, MatchResult};
+ghost use Rattle.std.specs.Prelude.{◌≡◌, ◌≤◌, ◌+◌, ◌*◌, ◌++◌, ◌<◌, ◌^◌, length, All, vec_len, vec_capacity, OnOk, OnErr, MatchResult};
 ghost use Rattle.std.specs.List.{flat_map};
-ghost use Rattle.tb_records.specs.Frames.{header_bytes, body_bytes, request_bytes};
+ghost use Rattle.tb_records.specs.Frames.{header_bytes, body_bytes, request_bytes, BodyFits, IsRequest};
 ghost use Rattle.tb_records.specs.Messages.{operation, item_count, answer_count};
-ghost use Rattle.tb_records.specs.ReplyFrames.{header_of_reply, reply_body_bytes, reply_bytes};
+ghost use Rattle.tb_records.specs.ReplyFrames.{header_of_reply, reply_body_bytes, reply_bytes, ReplyBodyFits, IsReply};
 ghost use Rattle.tb_records.specs.Transport.{Sent, CutOff};
 
 use crate::bodies::{Body, ReplyBody};
@@ -17,7 +17,8 @@ use std::alloc::AllocError;
 
 /// The header of a request before a body of this length.
 fn request_header(request: &Request, len: u32) -> [u8; 48]
-    ensures { result ≡ header_bytes request.now.client request.now.session request.now.request (operation request.now.body) len }
+    ensures header { result ≡ header_bytes request.now.client request.now.session request.now.request (operation request.now.body) len }
+    ensures fits { (request.now.client < 2 ^ 128) × (request.now.session < 2 ^ 64) × (request.now.request < 2 ^ 32) }
 {
     let mut header = [0; 48];
     put_u128(&mut header, 0, request.client());
@@ -34,7 +35,8 @@ fn request_header(request: &Request, len: u32) -> [u8; 48]
 
 /// The header of a reply before a body of this length.
 fn reply_header(reply: &Reply, len: u32) -> [u8; 48]
-    ensures { result ≡ header_of_reply reply.now len }
+    ensures header { result ≡ header_of_reply reply.now len }
+    ensures fits { (reply.now.client < 2 ^ 128) × (reply.now.session < 2 ^ 64) × (reply.now.request < 2 ^ 32) × (reply.now.commit < 2 ^ 64) }
 {
     let mut header = [0; 48];
     put_u128(&mut header, 0, reply.client());
@@ -52,7 +54,8 @@ fn reply_header(reply: &Reply, len: u32) -> [u8; 48]
 /// Appends the items to a vector that has room for them.
 fn append_items<T: Item>(items: &[T], out: &mut Vec<u8>)
     requires { vec_len out.old + length (flat_map T.spelling items.now) ≤ vec_capacity out.old }
-    ensures { out.new.items ≡ out.old.items ++ flat_map T.spelling items.now }
+    ensures appended { out.new.items ≡ out.old.items ++ flat_map T.spelling items.now }
+    ensures fit { All T.Fits items.now }
 {
     let mut bytes = [0; 128];
     for item in items {
@@ -102,7 +105,8 @@ fn items_len<T: Item>(items: &[T]) -> u32
 #[tactic(auto, unfolding(crate::specs::Frames::body_bytes))]
 fn append_body(body: &Body, out: &mut Vec<u8>)
     requires { vec_len out.old + length (body_bytes body.now) ≤ vec_capacity out.old }
-    ensures { out.new.items ≡ out.old.items ++ body_bytes body.now }
+    ensures appended { out.new.items ≡ out.old.items ++ body_bytes body.now }
+    ensures fits { BodyFits body.now }
 {
     match body {
         Body::Register => {}
@@ -117,7 +121,8 @@ fn append_body(body: &Body, out: &mut Vec<u8>)
 #[tactic(auto, unfolding(crate::specs::ReplyFrames::reply_body_bytes))]
 fn append_reply_body(body: &ReplyBody, out: &mut Vec<u8>)
     requires { vec_len out.old + length (reply_body_bytes body.now) ≤ vec_capacity out.old }
-    ensures { out.new.items ≡ out.old.items ++ reply_body_bytes body.now }
+    ensures appended { out.new.items ≡ out.old.items ++ reply_body_bytes body.now }
+    ensures fits { ReplyBodyFits body.now }
 {
     match body {
         ReplyBody::Empty => {}
@@ -130,6 +135,7 @@ fn append_reply_body(body: &ReplyBody, out: &mut Vec<u8>)
 /// Appends a request's frame. AllocError where there is no room for all of it: the vector keeps its bytes, and gets none.
 pub fn write_request(request: &Request, out: &mut Vec<u8>) -> Result<(), AllocError>
     ensures ok { OnOk result (out.new.items ≡ out.old.items ++ request_bytes request.now) }
+    ensures fits { OnOk result (IsRequest request.now) }
     ensures err { OnErr result (out.new.items ≡ out.old.items) }
 {
     let body = request.body();
@@ -144,6 +150,7 @@ pub fn write_request(request: &Request, out: &mut Vec<u8>) -> Result<(), AllocEr
 /// Appends a reply's frame. AllocError where there is no room for all of it: the vector keeps its bytes, and gets none.
 pub fn write_reply(reply: &Reply, out: &mut Vec<u8>) -> Result<(), AllocError>
     ensures ok { OnOk result (out.new.items ≡ out.old.items ++ reply_bytes reply.now) }
+    ensures fits { OnOk result (IsReply reply.now) }
     ensures err { OnErr result (out.new.items ≡ out.old.items) }
 {
     let body = reply.body();

@@ -27,7 +27,7 @@ body_in-requires c =
 pub returns-in-Err-body_in : goal.returns-in-Err-body_in
 returns-in-Err-body_in c =
     let long : 48 + length_at c.args.bytes.now ≤ length c.args.bytes.now = omega (arith, c.in-Ok.ensures.len) in
-    whole_reply c.args.bytes.now c.if-bytes-lt48.false c.in-Ok.ensures.none long
+    whole_reply c.args.bytes.now c.if-bytes-lt48.false long ∙ c.in-Ok.ensures.none
 
 pub lawful-requires : goal.lawful-requires
 lawful-requires c =

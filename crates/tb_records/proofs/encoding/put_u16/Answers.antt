@@ -2,5 +2,5 @@ use Rattle.std.proofs.Common.{arith}
 use Rattle.tb_records.proofs.NumberBytes.{put_number}
 use Rattle.tb_records.proofs.encoding.put_u16.Goals as goal
 
-pub returns : goal.returns
-returns c = put_number 2 c.args.at c.args.number c.args.out.now _ (omega arith) c.write_u16.ensures
+pub returns-clause-written : goal.returns-clause-written
+returns-clause-written c = put_number 2 c.args.at c.args.number c.args.out.now _ (omega arith) c.write_u16.ensures

@@ -3,10 +3,10 @@ use Rattle.tb_records.proofs.writing.send_reply.Goals as goal
 
 pub returns-in-Ok : goal.returns-in-Ok
 returns-in-Ok g c =
-    let whole = reply_frame c.args.reply.now c.reply_header.result c.reply_body_len-len.result c.body-body.result.now c.reply_header.ensures c.reply_body_len-len.ensures c.body-body.ensures.value in
+    let whole = reply_frame c.args.reply.now c.reply_header.result c.reply_body_len-len.result c.body-body.result.now c.reply_header.ensures.header c.reply_body_len-len.ensures c.body-body.ensures.value in
     sent_rest _ _ _ _ _ _ whole c.in-Ok.ensures c.send_body.result c.send_body.ensures
 
 pub returns-in-Err : goal.returns-in-Err
 returns-in-Err g c =
-    let whole = reply_frame c.args.reply.now c.reply_header.result c.reply_body_len-len.result c.body-body.result.now c.reply_header.ensures c.reply_body_len-len.ensures c.body-body.ensures.value in
+    let whole = reply_frame c.args.reply.now c.reply_header.result c.reply_body_len-len.result c.body-body.result.now c.reply_header.ensures.header c.reply_body_len-len.ensures c.body-body.ensures.value in
     (c.in-Err.ensures.0, sent_few _ _ _ _ _ whole c.in-Err.ensures.1)
