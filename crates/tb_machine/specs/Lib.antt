@@ -4,4 +4,5 @@ pub mod WorkedRows
 pub mod HistoryLaws
 pub mod Answering
 pub mod Sound
+pub mod RunFaults
 pub mod Runs

@@ -6,34 +6,71 @@ ghost use Rattle.tb_records.specs.ReplyFrames.{reply_bytes};
 ghost use Rattle.tb_records.specs.Transport.{Sent};
 ghost use Rattle.tb_sessions.specs.Judged.{class_of, row_of};
 ghost use Rattle.tb_machine.specs.Histories.{status_of, answer_to};
+ghost use Rattle.tb_machine.specs.RunFaults.{run_fault_number, run_fault_name};
 ghost use Rattle.tb_machine.specs.Runs.{is_new_in, Enters, Delivers, Turns, Serves, Ran};
 
 use crate::entries::Entry;
 use crate::machines::Machine;
 use std::alloc::{AllocError, Global};
+use std::error::Error;
+use std::fmt;
 use tb_records::streams::read_timed_from;
 use tb_records::{
     ClientsMax, FrameFault, Profile, Reply, Request, Sink, Source, Status, holds_frame, send_reply,
 };
 use tb_sessions::{Class, Row};
-use thiserror::Error;
 
 /// Why the serving of a script ends before the script does.
-#[derive(Clone, Copy, Debug, PartialEq, Eq, Error)]
+#[derive(Clone, Copy, Debug, PartialEq, Eq)]
 pub enum RunFault {
     /// The next pair can't be read, or the reply to it can't be written.
-    #[error("{0}")]
     Frame(FrameFault),
     /// There is no memory for the machine, or for the next entry.
-    #[error("NoMemory")]
     NoMemory,
     /// The next request is new, and the end of time leaves no time for it.
-    #[error("TimeExhausted")]
     TimeExhausted,
     /// `2^64 - 1` replies are written.
-    #[error("TooLong")]
     TooLong,
 }
+
+impl RunFault {
+    /// The fault's number, 1 to 4.
+    pub fn number(self) -> u8
+        ensures { result ≡ run_fault_number self }
+    {
+        match self {
+            RunFault::Frame(_) => 1,
+            RunFault::NoMemory => 2,
+            RunFault::TimeExhausted => 3,
+            RunFault::TooLong => 4,
+        }
+    }
+
+    /// The fault's name, as a message shows it: of a frame's fault that fault's own.
+    pub fn name(self) -> &'static str
+        ensures { result.now ≡ run_fault_name self }
+    {
+        match self {
+            RunFault::Frame(fault) => fault.name(),
+            RunFault::NoMemory => "NoMemory",
+            RunFault::TimeExhausted => "TimeExhausted",
+            RunFault::TooLong => "TooLong",
+        }
+    }
+}
+
+impl fmt::Display for RunFault {
+    ghost use Rattle.std.specs.Prelude.{Some};
+    ghost use Rattle.tb_machine.specs.RunFaults.{run_fault_name};
+
+    ghost output = { λ fault. Some (run_fault_name fault) };
+
+    fn fmt<W: fmt::Write>(&self, f: &mut fmt::Formatter<W>) -> fmt::Result {
+        f.write_str(self.name())
+    }
+}
+
+impl Error for RunFault {}
 
 /// The status of the answer to a request of a class: a repeat gets its reply, and a new request none yet.
 pub fn status_of(class: Class) -> Status

@@ -1,3 +1,4 @@
+pub mod Faults
 pub mod Frames
 pub mod HeaderFields
 pub mod Inputs

@@ -200,8 +200,8 @@ pub(crate) fn fill<S: Source>(source: &mut S, buf: &mut [u8]) -> Result<usize, F
     Ok(at)
 }
 
-/// Writes all the bytes, or stops where the writer fails or takes nothing.
-pub(crate) fn put_all<W: Sink>(sink: &mut W, bytes: &[u8]) -> Result<(), FrameFault>
+/// Writes all the bytes, or stops where the writer fails or takes nothing: Device.
+pub fn put_all<W: Sink>(sink: &mut W, bytes: &[u8]) -> Result<(), FrameFault>
     ensures { MatchResult result
         (λ _. Sent bytes.now (W.output sink.old) (W.output sink.new))
         (λ f. (f ≡ FrameFault.Device) × CutOff bytes.now (W.output sink.old) (W.output sink.new)) }

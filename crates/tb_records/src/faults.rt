@@ -1,40 +1,83 @@
 //! Why bytes are no frame, or values no request or reply.
-use thiserror::Error;
+ghost use Rattle.std.specs.Prelude.{◌≡◌, Some};
+ghost use Rattle.tb_records.specs.Faults.{fault_number, fault_name};
+
+use std::error::Error;
+use std::fmt;
 
 /// What is wrong with a frame, or with its reader, writer or memory.
-#[derive(Clone, Copy, Debug, PartialEq, Eq, Error)]
+#[derive(Clone, Copy, Debug, PartialEq, Eq)]
 pub enum FrameFault {
     /// The bytes end before the frame does.
-    #[error("Short")]
     Short,
     /// The client is 0.
-    #[error("ClientZero")]
     ClientZero,
     /// No operation has this number.
-    #[error("UnknownOperation")]
     UnknownOperation,
     /// A reserved byte is not 0, or the status of a reply is above 7.
-    #[error("Reserved")]
     Reserved,
     /// The length of the body is not one that its operation and status allow.
-    #[error("BadLength")]
     BadLength,
     /// There are more than 8190 items.
-    #[error("TooMany")]
     TooMany,
     /// A register has session and request 0, and its reply request 0, and session 0 where it is a refusal.
-    #[error("RegisterNumbers")]
     RegisterNumbers,
     /// A request that is no register has request 0.
-    #[error("RequestZero")]
     RequestZero,
     /// The reader or the writer failed, or the writer took nothing.
-    #[error("Device")]
     Device,
     /// There is no memory for the body.
-    #[error("NoMemory")]
     NoMemory,
     /// The session and the commit number of a reply do not go together.
-    #[error("ReplyNumbers")]
     ReplyNumbers,
 }
+
+impl FrameFault {
+    /// The fault's number, 1 to 11.
+    pub fn number(self) -> u8
+        ensures { result ≡ fault_number self }
+    {
+        match self {
+            FrameFault::Short => 1,
+            FrameFault::ClientZero => 2,
+            FrameFault::UnknownOperation => 3,
+            FrameFault::Reserved => 4,
+            FrameFault::BadLength => 5,
+            FrameFault::TooMany => 6,
+            FrameFault::RegisterNumbers => 7,
+            FrameFault::RequestZero => 8,
+            FrameFault::Device => 9,
+            FrameFault::NoMemory => 10,
+            FrameFault::ReplyNumbers => 11,
+        }
+    }
+
+    /// The fault's name, as a message shows it.
+    pub fn name(self) -> &'static str
+        ensures { result.now ≡ fault_name self }
+    {
+        match self {
+            FrameFault::Short => "Short",
+            FrameFault::ClientZero => "ClientZero",
+            FrameFault::UnknownOperation => "UnknownOperation",
+            FrameFault::Reserved => "Reserved",
+            FrameFault::BadLength => "BadLength",
+            FrameFault::TooMany => "TooMany",
+            FrameFault::RegisterNumbers => "RegisterNumbers",
+            FrameFault::RequestZero => "RequestZero",
+            FrameFault::Device => "Device",
+            FrameFault::NoMemory => "NoMemory",
+            FrameFault::ReplyNumbers => "ReplyNumbers",
+        }
+    }
+}
+
+impl fmt::Display for FrameFault {
+    ghost output = { λ fault. Some (fault_name fault) };
+
+    fn fmt<W: fmt::Write>(&self, f: &mut fmt::Formatter<W>) -> fmt::Result {
+        f.write_str(self.name())
+    }
+}
+
+impl Error for FrameFault {}

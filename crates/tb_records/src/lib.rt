@@ -27,7 +27,7 @@ pub mod writing;
 
 pub use answering::read_reply;
 pub use bodies::{Body, ReplyBody};
-pub use devices::{Buffered, Counting, Sink, Source};
+pub use devices::{Buffered, Counting, Sink, Source, put_all};
 pub use faults::FrameFault;
 pub use limits::{ClientsMax, Profile};
 pub use lists::Items;

@@ -1,4 +1,6 @@
 //! The vectors of replies, requests and replies as they are written, and what writers do that fail or take nothing.
+ghost use Rattle.std.specs.Prelude.{◌≡◌, MatchResult};
+
 use crate::answering::read_reply;
 use crate::bodies::{Body, ReplyBody};
 use crate::devices::{Counting, Sink};
@@ -400,6 +402,28 @@ fn frame_of(alloc: Global, reply: &Reply) -> Result<Vec<u8>, AllocError> {
     let mut out = Vec::new(alloc);
     write_reply(reply, &mut out)?;
     Ok(out)
+}
+
+/// Writes a reply and reads it back. That no other one is read follows of the contracts alone: what was written is the
+/// reply's own spelling, of which there is one reading.
+fn read_back(alloc: Global, reply: &Reply) -> Result<Reply, FrameFault>
+    ensures { MatchResult result (λ read. read ≡ reply.now) (λ fault. fault ≡ FrameFault.NoMemory) }
+{
+    let mut bytes = Vec::new(alloc);
+    match write_reply(reply, &mut bytes) {
+        Ok(()) => match read_reply(alloc, bytes.as_slice()) {
+            Ok((read, _)) => Ok(read),
+            Err(fault) => Err(fault),
+        },
+        Err(AllocError) => Err(FrameFault::NoMemory),
+    }
+}
+
+#[test]
+fn replies_come_back(rt: HostRuntime) {
+    let reply = found(rt.alloc()).expect(&rt, "a reply");
+    let read = read_back(rt.alloc(), &reply).expect(&rt, "memory");
+    assert!(rt; same(&read, &reply));
 }
 
 #[test]

@@ -2,24 +2,20 @@
 ghost use Rattle.std.specs.Prelude.{◌≡◌, ◌<◌, None, Some, map, string_bytes};
 ghost use Rattle.tbs.specs.declared.arguments.Order.{Order};
 ghost use Rattle.tbs.specs.Orders.{order_of};
-ghost use Rattle.tbs.specs.Statuses.{fault_status, Performs, Exits};
+ghost use Rattle.tbs.specs.Statuses.{fault_status, fault_name, fault_line, Told, Performs, Exits};
 
 use crate::arguments::{Order, read_order};
-use arrayvec::ArrayString;
+use arrayvec::ArrayVec;
 use std::alloc::Global;
-use std::fmt::Write;
 use tb_machine::{RunFault, run};
-use tb_records::{FrameFault, Sink, Source};
-use thiserror::Error;
+use tb_records::{FrameFault, Sink, Source, put_all};
 
 /// Why the program ends with a status other than 0; shown by its name alone.
-#[derive(Clone, Copy, Debug, PartialEq, Eq, Error)]
+#[derive(Clone, Copy, Debug, PartialEq, Eq)]
 pub enum Fault {
     /// The arguments are none of the program's forms.
-    #[error("Usage")]
     Usage,
     /// The script could not be served to its end.
-    #[error("{0}")]
     Serving(RunFault),
 }
 
@@ -36,25 +32,44 @@ impl Fault {
             _ => 2,
         }
     }
+
+    /// The fault's name, as its line shows it.
+    fn name(self) -> &'static str
+        ensures { result.now ≡ fault_name self }
+    {
+        match self {
+            Fault::Usage => "Usage",
+            Fault::Serving(fault) => fault.name(),
+        }
+    }
+}
+
+/// The bytes that a fault's line may have: `tbs: `, a name of at most 16 letters, and the line's end.
+pub const LINE: usize = 32;
+
+/// The line of a fault, in a buffer of its own, so that it needs no memory.
+fn line_of(fault: Fault) -> ArrayVec<u8, LINE>
+    ensures { result.items ≡ fault_line fault }
+{
+    let mut line = ArrayVec::new();
+    line.try_extend_from_slice(b"tbs: ").unwrap();
+    line.try_extend_from_slice(fault.name().as_bytes()).unwrap();
+    line.try_extend_from_slice(b"\n").unwrap();
+    line
 }
 
 /// Writes the line `tbs: ` and the fault's name. A failure to write it changes no status.
-pub fn tell<E: Sink>(fault: Fault, faults: &mut E) {
-    let mut line: ArrayString<64> = ArrayString::new();
-    let _ = writeln!(line, "tbs: {fault}");
-    put_line(line.as_bytes(), faults);
+pub fn tell<E: Sink>(fault: Fault, faults: &mut E)
+    ensures { Told (fault_line fault) (E.output faults.old) (E.output faults.new) }
+{
+    put_line(line_of(fault).as_slice(), faults);
 }
 
 /// Writes a line as far as the writer takes it.
-pub fn put_line<E: Sink>(line: &[u8], faults: &mut E) {
-    let mut at = 0;
-    while at < line.len() {
-        match faults.put(&line[at..]) {
-            Ok(0) => return,
-            Ok(n) => at += n,
-            Err(_) => return,
-        }
-    }
+pub fn put_line<E: Sink>(line: &[u8], faults: &mut E)
+    ensures { Told line.now (E.output faults.old) (E.output faults.new) }
+{
+    let _ = put_all(faults, line);
 }
 
 /// Serves what the order asks for.
@@ -80,9 +95,9 @@ pub fn command<R: Source, W: Sink, E: Sink>(
     writer: &mut W,
     faults: &mut E,
 ) -> u8
-    ensures usage { order_of (map string_bytes words.now) ≡ None → (result ≡ 2) × (reader.new ≡ reader.old) × (writer.new ≡ writer.old) }
+    ensures usage { order_of (map string_bytes words.now) ≡ None → (result ≡ 2) × (reader.new ≡ reader.old) × (writer.new ≡ writer.old) × Told (fault_line Fault.Usage) (E.output faults.old) (E.output faults.new) }
     ensures quiet { result ≡ 0 → faults.new ≡ faults.old }
-    ensures served { (order : Order) → order_of (map string_bytes words.now) ≡ Some order → Exits order result (R.input reader.old) (R.input reader.new) (W.output writer.old) (W.output writer.new) }
+    ensures served { (order : Order) → order_of (map string_bytes words.now) ≡ Some order → Exits order result (R.input reader.old) (R.input reader.new) (W.output writer.old) (W.output writer.new) (E.output faults.old) (E.output faults.new) }
 {
     let Some(order) = read_order(words) else {
         tell(Fault::Usage, faults);

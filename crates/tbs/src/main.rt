@@ -9,7 +9,8 @@ mod commands;
 #[cfg(test)]
 mod tests;
 
-use commands::{Fault, command, put_line, tell};
+use arrayvec::ArrayVec;
+use commands::{Fault, LINE, command, put_line, tell};
 use std::env;
 use std::io::{self, BufReader, BufWriter, Write};
 use std::process::ExitCode;
@@ -39,7 +40,7 @@ fn serve<E: Sink>(rt: &HostRuntime, words: &[String], faults: &mut E) -> u8 {
     };
     let mut reader = Buffered::new(input);
     let mut writer = Counting::new(output);
-    let mut line = Counting::new(Vec::new(rt.alloc()));
+    let mut line = Counting::new(ArrayVec::<u8, LINE>::new());
     let status = command(rt.alloc(), words, &mut reader, &mut writer, &mut line);
     // Replies that stay in the buffer are lost: that fault comes before any other.
     if writer.into_inner().flush().is_err() {

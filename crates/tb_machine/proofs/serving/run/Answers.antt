@@ -14,12 +14,12 @@ loop-k-preserved g c =
     (g.W.Sink.output c.pass_on_before_waiting.new.writer)
     (g.W.Sink.output c.serve_next.new.writer)
     (serving_passed c.args.profile c.args.clients_max c.loop-k.k c.loop-k.machine
-        (g.R.Source.input c.args.reader.now)
-        (g.R.Source.input c.loop-k.reader)
-        (g.W.Sink.output c.args.writer.now)
-        (g.W.Sink.output c.loop-k.writer)
-        (g.W.Sink.output c.pass_on_before_waiting.new.writer)
-        c.loop-k.invariant c.pass_on_before_waiting.ensures)
+    (g.R.Source.input c.args.reader.now)
+    (g.R.Source.input c.loop-k.reader)
+    (g.W.Sink.output c.args.writer.now)
+    (g.W.Sink.output c.loop-k.writer)
+    (g.W.Sink.output c.pass_on_before_waiting.new.writer)
+    c.loop-k.invariant c.pass_on_before_waiting.ensures)
     (rw c.in-Ok-true.field-0-test at c.in-Ok-true.ensures)
 
 pub returns-in-Err-serve_next : goal.returns-in-Err-serve_next
@@ -32,10 +32,10 @@ returns-in-Err-serve_next g c =
     (g.W.Sink.output c.pass_on_before_waiting.new.writer)
     (g.W.Sink.output c.serve_next.new.writer)
     (serving_passed c.args.profile c.args.clients_max c.loop-k.k c.loop-k.machine
-        (g.R.Source.input c.args.reader.now)
-        (g.R.Source.input c.loop-k.reader)
-        (g.W.Sink.output c.args.writer.now)
-        (g.W.Sink.output c.loop-k.writer)
-        (g.W.Sink.output c.pass_on_before_waiting.new.writer)
-        c.loop-k.invariant c.pass_on_before_waiting.ensures)
+    (g.R.Source.input c.args.reader.now)
+    (g.R.Source.input c.loop-k.reader)
+    (g.W.Sink.output c.args.writer.now)
+    (g.W.Sink.output c.loop-k.writer)
+    (g.W.Sink.output c.pass_on_before_waiting.new.writer)
+    c.loop-k.invariant c.pass_on_before_waiting.ensures)
     c.in-Err-serve_next.ensures
