@@ -125,7 +125,7 @@ pub ordered_tail : {K V : Type 0} (cmp : K → K → Ordering) (e : K × V) (m :
 unfolding IsStrictlySortedBy
 ordered_tail cmp e m s = s.1
 
-reversed_Greater : (r : Ordering) → ordering_reverse r ≡ Greater → r ≡ Less
+pub reversed_Greater : (r : Ordering) → ordering_reverse r ≡ Greater → r ≡ Less
 reversed_Greater Less h = refl
 reversed_Greater Equal h = absurd (cc)
 reversed_Greater Greater h = absurd (cc)

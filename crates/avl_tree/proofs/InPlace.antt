@@ -13,15 +13,14 @@ use Rattle.avl_tree.proofs.Steps.{GoesLeft, GoesRight, StandsHere}
 use denote.Ref.{MutBor}
 
 module _ {K V A : Type 0} where
-  pub keeps_left : {h : ℕ} {p : _} {l l' r : Tree K V A} {e : Option (K × V)} → IsAvl (Fork' h p l r e) → KeepsLinks l l' → KeepsLinks (Fork' h p l r e) (Fork' h p l' r e)
-  keeps_left avl k =
-      let height = k.height in
-      record { balanced = (avl.0, k.balanced, avl.2, rw height avl.3, rw height avl.4); height = refl }
+  pub keeps : {h : ℕ} {p : _} {l l' r r' : Tree K V A} {e e' : Option (K × V)} → IsAvl (Fork' h p l r e) → IsSome e' → KeepsLinks l l' → KeepsLinks r r' → KeepsLinks (Fork' h p l r e) (Fork' h p l' r' e')
+  keeps avl n k m =
+      let left = k.height in
+      let right = m.height in
+      record { balanced = (n, k.balanced, m.balanced, rw (left, right) avl.3, rw (left, right) avl.4); height = refl }
 
-  pub keeps_right : {h : ℕ} {p : _} {l r r' : Tree K V A} {e : Option (K × V)} → IsAvl (Fork' h p l r e) → KeepsLinks r r' → KeepsLinks (Fork' h p l r e) (Fork' h p l r' e)
-  keeps_right avl k =
-      let height = k.height in
-      record { balanced = (avl.0, avl.1, k.balanced, rw height avl.3, rw height avl.4); height = refl }
+  pub same : {t : Tree K V A} → IsAvl t → KeepsLinks t t
+  same avl = record { balanced = avl; height = refl }
 
 module _ {F K V A R : Type 0} (c : Mut F (MutBor V × Unit {0}) (R × (MutBor V × Unit {0}))) {cmp : K → K → Ordering} {k : K} where
   pub changes_left : {h : ℕ} {p : _} {t l r : Tree K V A} {e : Option (K × V)} → t ≡ Fork' h p l r e → GoesLeft cmp k (entries l) e (entries r) → IsAvl (Fork' h p l r e) → (o : Option R) (l' : Tree K V A) (f f' : F) → Changes c (is_at (cmp k)) l f o f' l' → Changes c (is_at (cmp k)) t f o f' (Fork' h p l' r e)
@@ -34,7 +33,7 @@ module _ {F K V A R : Type 0} (c : Mut F (MutBor V × Unit {0}) (R × (MutBor V 
           called = x.0.called;
           written = ap (λ m. m ++ with_first e (entries r)) x.0.written ∙ sym (w.written x.0.left);
         },
-        keeps_left avl x.1,
+        keeps avl avl.0 x.1 (same avl.2),
       )
   changes_left {h = h} {p = p} {r = r} {e = e} is w avl None l' f f' x =
       rw is (w.found ∙ x.0, x.1, ap (λ m. Fork' h p m r e) x.2)
@@ -49,7 +48,7 @@ module _ {F K V A R : Type 0} (c : Mut F (MutBor V × Unit {0}) (R × (MutBor V 
           called = x.0.called;
           written = ap (λ m. entries l ++ with_first e m) x.0.written ∙ sym (w.written x.0.left);
         },
-        keeps_right avl x.1,
+        keeps avl avl.0 (same avl.1) x.1,
       )
   changes_right {h = h} {p = p} {l = l} {e = e} is w avl None r' f f' x =
       rw is (w.found ∙ x.0, x.1, ap (λ m. Fork' h p l m e) x.2)
@@ -66,7 +65,7 @@ module _ {F K V A R : Type 0} (c : Mut F (MutBor V × Unit {0}) (R × (MutBor V 
           called = x.called;
           written = sym (w.written x.left);
         },
-        record { balanced = (refl, avl.1, avl.2, avl.3, avl.4); height = refl },
+        keeps avl refl (same avl.1) (same avl.2),
       ))
 
 -- what the two answers say

@@ -6,4 +6,5 @@ pub mod Inserts
 pub mod Ranges
 pub mod Shape
 pub mod Steps
+pub mod TwoInPlace
 pub mod Whole

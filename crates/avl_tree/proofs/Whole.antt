@@ -5,11 +5,13 @@ use Rattle.std.specs.Option.{IsSome, option_map}
 use Rattle.std.specs.Cmp.{IsTotalOrder}
 use Rattle.std.specs.List.Sorted.{IsStrictlySortedBy}
 use Rattle.std.specs.Fn.{Mut}
-use Rattle.std.specs.Map.{lookup, set_value, remove_entry}
+use Rattle.std.specs.Map.{keys_of, lookup, set_value, remove_entry}
 use Rattle.std.specs.BTreeMap.{insert_entry, is_at}
-use Rattle.std.proofs.lemmas.Map.{keys-set_value, length-set_value}
+use Rattle.std.proofs.lemmas.Map.{keys-set_value}
+use Rattle.std.proofs.lemmas.Map.Entries.{length-keys_of}
 use Rattle.avl_tree.specs.Nodes.{entries, with_first, stored_height, IsAvl, IsOrdered, IsWhole, Exchanges}
 use Rattle.avl_tree.specs.Changes.{Changes}
+use Rattle.avl_tree.specs.Pairs.{Taking, ChangesBoth}
 use Rattle.avl_tree.specs.declared.tree.Tree.{Tree}
 use Rattle.avl_tree.proofs.Around.{ordered_tail, ordered-insert_entry, ordered-remove_entry, length-insert_entry, length-remove_entry_found, remove_entry-absent}
 use Rattle.avl_tree.proofs.Shape.{low, least-le-length}
@@ -22,19 +24,28 @@ module _ {K V A : Type 0} {cmp : K → K → Ordering} {root : Tree K V A} {len 
       let f = w.fits in
       low (stored_height root) (length (entries root)) (least-le-length root w.balanced) (omega (arith, n, f))
 
-  whole_kept : (k : K) (v : V) {root' : Tree K V A} → entries root' ≡ set_value (is_at (cmp k)) (entries root) v → IsAvl root' → IsWhole cmp root' len spare
-  whole_kept k v written avl =
-      let t = is_at (cmp k) in
+  whole_kept : {root' : Tree K V A} → keys_of (entries root') ≡ keys_of (entries root) → IsAvl root' → IsWhole cmp root' len spare
+  whole_kept {root'} same avl =
       record {
         balanced = avl;
-        sorted = rw written (subst (λ ks. IsStrictlySortedBy cmp ks) (sym (keys-set_value t (entries root) v)) w.sorted);
-        counted = rw written (w.counted ∙ sym (length-set_value t (entries root) v));
+        sorted = subst (λ ks. IsStrictlySortedBy cmp ks) (sym same) w.sorted;
+        counted = w.counted ∙ sym (length-keys_of (entries root)) ∙ ap length (sym same) ∙ length-keys_of (entries root');
         fits = w.fits;
       }
 
   pub whole_exchange : (k : K) (v v' : V) (b : Bool) (root' : Tree K V A) → Exchanges (is_at (cmp k)) root v b root' v' → IsWhole cmp root' len spare
-  whole_exchange k v v' true root' x = whole_kept k v x.written x.balanced
+  whole_exchange k v v' true root' x = whole_kept (ap keys_of x.written ∙ keys-set_value (is_at (cmp k)) (entries root) v) x.balanced
   whole_exchange k v v' false root' x = subst (λ t. IsWhole cmp t len spare) (sym x.1) w
+
+  pub whole_changes : {F R : Type 0} (c : Mut F (MutBor V × Unit {0}) (R × (MutBor V × Unit {0}))) (k : K) (o : Option R) (f f' : F) (root' : Tree K V A) → Changes c (is_at (cmp k)) root f o f' root' → IsWhole cmp root' len spare
+  whole_changes c k (Some r) f f' root' x = whole_kept (ap keys_of x.0.written ∙ keys-set_value (is_at (cmp k)) (entries root) x.0.left) x.1.balanced
+  whole_changes c k None f f' root' x = subst (λ t. IsWhole cmp t len spare) (sym x.2) w
+
+  pub whole_changes_two : {F R : Type 0} (c : Taking F V R) (b : Bool) (low high : K) (o : Option R) (f f' : F) (root' : Tree K V A) → ChangesBoth c b (is_at (cmp low)) (is_at (cmp high)) root f o f' root' → IsWhole cmp root' len spare
+  whole_changes_two c b low high (Some r) f f' root' x =
+      let y = x.0 in
+      whole_kept (ap keys_of y.written ∙ keys-set_value (is_at (cmp high)) (set_value (is_at (cmp low)) (entries root) y.left) y.other_left ∙ keys-set_value (is_at (cmp low)) (entries root) y.left) x.1.balanced
+  whole_changes_two c b low high None f f' root' x = subst (λ t. IsWhole cmp t len spare) (sym x.2) w
 
   pub whole_insert : IsTotalOrder cmp → (k : K) (v : V) → {root' : Tree K V A} {spare' : ℕ} → lookup (is_at (cmp k)) (entries root) ≡ None → IsAvl root' → entries root' ≡ insert_entry cmp (entries root) k v → spare' + 1 ≡ spare → IsWhole cmp root' (len + 1) spare'
   whole_insert o k v {root'} {spare'} absent avl put one_less =
@@ -80,7 +91,3 @@ module _ {K V A : Type 0} {cmp : K → K → Ordering} {root : Tree K V A} {len 
         counted = omega (arith, c, l, one_less);
         fits = omega (arith, fits, one_less, one_more);
       }
-
-  pub whole_changes : {F R : Type 0} (c : Mut F (MutBor V × Unit {0}) (R × (MutBor V × Unit {0}))) (k : K) (o : Option R) (f f' : F) (root' : Tree K V A) → Changes c (is_at (cmp k)) root f o f' root' → IsWhole cmp root' len spare
-  whole_changes c k (Some r) f f' root' x = whole_kept k x.0.left x.0.written x.1.balanced
-  whole_changes c k None f f' root' x = subst (λ t. IsWhole cmp t len spare) (sym x.2) w

@@ -1,6 +1,6 @@
 -- What a closure leaves that was called at values of a map.
 use Rattle.std.specs.Prelude.{◌≡◌, Bool, List, Option, None, Some}
-use Rattle.std.specs.Fn.{Mut, CalledAtMut}
+use Rattle.std.specs.Fn.{Mut, CalledAtMut, CalledAtPairMut}
 use Rattle.std.specs.Map.{lookup, set_value}
 use Rattle.avl_tree.specs.Nodes.{entries, stored_height, IsAvl}
 use Rattle.avl_tree.specs.declared.tree.Tree.{Tree}
@@ -13,6 +13,17 @@ pub record Changed {F K V R : Type 0} (c : Mut F (MutBor V × Unit {0}) (R × (M
   pub found : lookup test es ≡ Some value
   pub called : CalledAtMut c f value r f' left
   pub written : es' ≡ set_value test es left
+
+-- a call of f at the values of the keys that pass two tests gave r, left f', and left other values there
+pub record ChangedTwo {F K V R : Type 0} (c : Mut F (MutBor V × (MutBor V × Unit {0})) (R × (MutBor V × (MutBor V × Unit {0})))) (test test' : K → Bool) (es : List (K × V)) (f : F) (r : R) (f' : F) (es' : List (K × V)) : Type 0 where
+  pub value : V
+  pub left : V
+  pub other : V
+  pub other_left : V
+  pub found : lookup test es ≡ Some value
+  pub other_found : lookup test' es ≡ Some other
+  pub called : CalledAtPairMut c f value other r f' left other_left
+  pub written : es' ≡ set_value test' (set_value test es left) other_left
 
 -- a call of f at the value of the entry e gave r, left f', and left the entry as o has it
 pub record CalledAtValue {F K V R : Type 0} (c : Mut F (MutBor V × Unit {0}) (R × (MutBor V × Unit {0}))) (f : F) (e : K × V) (r : R) (f' : F) (o : Option (K × V)) : Type 0 where

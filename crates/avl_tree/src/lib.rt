@@ -3,6 +3,7 @@
 
 mod edits;
 mod map;
+mod pairs;
 mod range;
 mod spare;
 mod tree;

@@ -1,12 +1,13 @@
 // The map.
-ghost use Rattle.std.specs.Prelude.{◌≡◌, ◌+◌, ◌<◌, ◌≤◌, ◌^◌, [], length, max, IfOk, IfErr, if◌then◌else◌};
+ghost use Rattle.std.specs.Prelude.{◌≡◌, ◌+◌, ◌<◌, ◌≤◌, ◌^◌, ◌⊎◌, false, [], length, max, IfOk, IfErr, if◌then◌else◌};
 ghost use Rattle.std.specs.Option.{option_copied, option_map, is_some, IfNone, IfSome};
 ghost use Rattle.std.specs.List.{slice_get};
 ghost use Rattle.std.specs.List.Sorted.{IsStrictlySortedBy};
+ghost use Rattle.std.specs.Ordering.{is_eq};
 ghost use Rattle.std.specs.Map.{keys_of, set_value, remove_entry};
 ghost use Rattle.std.specs.BTreeMap.{insert_entry, is_at};
 ghost use Rattle.std.specs.declared.option.Option.TheVariants.{None, Some};
-ghost use Rattle.avl_tree.specs.Changes.{Changed};
+ghost use Rattle.avl_tree.specs.Changes.{Changed, ChangedTwo};
 ghost use Rattle.avl_tree.specs.Map.{entries, get, IsShallow};
 ghost use Rattle.avl_tree.specs.Nodes.{with_first, IsBare};
 ghost use Rattle.avl_tree.specs.Search.{path_length};
@@ -14,8 +15,9 @@ ghost use Rattle.avl_tree.specs.Visits.{between, VisitsTo};
 
 use crate::spare::SpareNodes;
 use crate::tree::{Node, Tree};
-use crate::{edits, range, updates, walks};
+use crate::{edits, pairs, range, updates, walks};
 use std::alloc::{AllocError, Allocator};
+use std::cmp::Ordering;
 use std::marker::Model;
 use std::mem;
 
@@ -178,6 +180,28 @@ impl<K: Ord + Copy, V, A: Allocator + Clone> AvlMap<K, V, A> {
         ensures spare { self.new.spare ≡ self.old.spare }
     {
         updates::update(&mut self.root, key, f)
+    }
+
+    /// Calls the closure at the values of two keys, which it may change where they stand, and answers what the closure
+    /// answered. Where one of the keys is absent there is no call, and nothing changes.
+    pub fn update_two<R, F: FnMut(&mut V, &mut V) -> R>(
+        &mut self,
+        a: &K,
+        b: &K,
+        f: &mut F,
+    ) -> Option<R>
+        requires differ { is_eq (K.cmp a.now b.now) ≡ false }
+        requires callable { F.IsAlwaysCallable f.old }
+        ensures callable { F.IsAlwaysCallable f.new }
+        ensures changed { IfSome result (λ r. ChangedTwo F.FnMut (is_at (K.cmp a.now)) (is_at (K.cmp b.now)) (entries self.old) f.old r f.new (entries self.new)) }
+        ensures absent { IfNone result (((get K.cmp self.old a.now ≡ None) ⊎ (get K.cmp self.old b.now ≡ None)) × (f.new ≡ f.old) × (self.new ≡ self.old)) }
+        ensures spare { self.new.spare ≡ self.old.spare }
+    {
+        match a.cmp(b) {
+            Ordering::Less => pairs::update_two(&mut self.root, a, b, true, f),
+            Ordering::Equal => unreachable!(),
+            Ordering::Greater => pairs::update_two(&mut self.root, b, a, false, f),
+        }
     }
 
     /// Takes the key out, and answers its value. Its node becomes spare.

@@ -105,6 +105,57 @@ fn double<A: Allocator + Clone>(map: &mut AvlMap<u64, u128, A>, key: u64) -> Opt
     )
 }
 
+/// Moves an amount from one key to another where there is enough, and answers whether it was moved.
+fn transfer<A: Allocator + Clone>(
+    map: &mut AvlMap<u64, u128, A>,
+    from: u64,
+    to: u64,
+    amount: u128,
+) -> Option<bool> {
+    if from == to {
+        return None;
+    }
+    map.update_two(
+        &from,
+        &to,
+        &mut |source: &mut u128, target: &mut u128| match (
+            source.checked_sub(amount),
+            target.checked_add(amount),
+        ) {
+            (Some(less), Some(more)) => {
+                *source = less;
+                *target = more;
+                true
+            }
+            _ => false,
+        },
+    )
+}
+
+#[test]
+fn two_values_change_at_once(rt: HostRuntime) -> Result<(), Fail> {
+    let mut map = AvlMap::new_in(rt.alloc());
+    map.reserve(7)?;
+    put_all(&rt, &mut map, 1, 7);
+    for from in 1..=7 {
+        for to in 1..=7 {
+            let moved = transfer(&mut map, from, to, 10);
+            assert_eq!(rt; moved, (from != to).then_some(true), "{from} {to}");
+            let back = transfer(&mut map, to, from, 10);
+            assert_eq!(rt; back, moved, "{to} {from}");
+            look_up_all(&rt, &map, 1, 7);
+        }
+    }
+    assert_eq!(rt; transfer(&mut map, 1, 7, 11), Some(false));
+    assert_eq!(rt; transfer(&mut map, 1, 8, 1), None);
+    assert_eq!(rt; transfer(&mut map, 8, 1, 1), None);
+    look_up_all(&rt, &map, 1, 7);
+    assert_eq!(rt; transfer(&mut map, 7, 1, 70), Some(true));
+    assert_eq!(rt; map.get(&7).copied(), Some(0));
+    assert_eq!(rt; map.get(&1).copied(), Some(80));
+    Ok(())
+}
+
 #[test]
 fn values_change_in_place(rt: HostRuntime) -> Result<(), Fail> {
     let mut map = AvlMap::new_in(rt.alloc());
