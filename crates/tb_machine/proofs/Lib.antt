@@ -9,3 +9,4 @@ pub mod Lawful
 pub mod SoundSteps
 pub mod Turns
 pub mod Running
+pub mod Accepted

@@ -18,7 +18,7 @@ no_fault : (fault : Option FrameFault) → IsTrue (is_none fault) → fault ≡ 
 no_fault None lawful = refl
 no_fault (Some f) lawful = absurd cc
 
-lawful_of : (r : Message) → IsTrue (is_lawful r) → IsLawful r
+pub lawful_of : (r : Message) → IsTrue (is_lawful r) → IsLawful r
 lawful_of r lawful = no_fault (number_fault r) lawful
 
 -- the numbers of an entry's row

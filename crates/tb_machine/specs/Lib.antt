@@ -6,3 +6,4 @@ pub mod Answering
 pub mod Sound
 pub mod RunFaults
 pub mod Runs
+pub mod ScriptLaws

@@ -1,4 +1,5 @@
 //! The laws of legal histories, over the definitions alone. A call does nothing; its promise is the law.
+ghost use Rattle.tb_machine.specs.ScriptLaws.{AcceptedIsLegal, RepliesAreOfHistory, ServedAreLawful};
 ghost use Rattle.tb_machine.specs.HistoryLaws.{OneKey, FirstReply, NotNewAgain, StaysOut, LimitsHold, LedgersBalance};
 
 /// In a legal history no client, session and request number stand together twice, where a register counts with the
@@ -30,4 +31,21 @@ pub fn stays_out()
 pub fn sums_balance()
     ensures limits { LimitsHold }
     ensures ledgers { LedgersBalance }
+{}
+
+/// What is accepted of the pairs of a script, whose requests keep the rules, is a legal history, so that each law above
+/// holds of it.
+pub fn accepted_is_legal()
+    ensures { AcceptedIsLegal }
+{}
+
+/// The replies to a script are those of the history that it makes: each request is answered by the reply to the entry that
+/// holds it, or refused.
+pub fn replies_are_of_history()
+    ensures { RepliesAreOfHistory }
+{}
+
+/// The requests that `run` served keep the rules, where the reader tells its bytes.
+pub fn served_are_lawful()
+    ensures { ServedAreLawful }
 {}

@@ -1,0 +1,183 @@
+-- What is accepted of lawful pairs is a legal history, and the replies to a script are those of that history.
+use Rattle.std.proofs.Common.{◌≡◌, ◌≢◌, ℕ, ◌⊎◌, inl, inr, Bool, true, false, ◌&&◌, cond, List, [], ◌∷◌, ◌++◌, is_none, Option, Some, None, Result, refl, sym, ap, ◌∙◌, subst, IsTrue, arith, leb, leb-true, max, append_assoc, append-nil}
+use Rattle.tb_records.specs.declared.limits.Profile.{Profile}
+use Rattle.tb_records.specs.Messages.{Message, Answer}
+use Rattle.tb_records.specs.Ordered.{Each}
+use Rattle.tb_records.specs.Transport.{Input, Output}
+use Rattle.tb_sessions.specs.declared.rows.Row.{Row}
+use Rattle.tb_sessions.specs.declared.classes.Class.{Class}
+use Rattle.tb_sessions.specs.declared.classes.Class.TheVariants.{New, Repeat, NoSession, SessionTooLow, NewerSession, Older, Collision, NewerRequest}
+use Rattle.tb_sessions.specs.Judged.{row_of, class_of}
+use Rattle.tb_ledger.specs.Verdicts.{max_time}
+use Rattle.tb_machine.specs.declared.entries.Entry.{Entry}
+use Rattle.tb_machine.specs.declared.serving.RunFault.{RunFault}
+use Rattle.tb_machine.specs.Histories.{State, least_time, time_of, is_new, is_lawful, reply_at, IsLegal, after, answer_by, answer_to}
+use Rattle.tb_machine.specs.Scripts.{Pair, entry_of, has_time, is_entered, with_pair, accepted, replies_from}
+use Rattle.tb_machine.specs.Runs.{IsPair, Spell, Ran}
+use Rattle.tb_machine.specs.ScriptLaws.{AreLawful, AcceptedIsLegal, IsGiven, IsRefused, AreOf, RepliesAreOfHistory, ServedAreLawful}
+use Rattle.tb_machine.proofs.Legal.{after_snoc, legal_snoc}
+use Rattle.tb_machine.proofs.Judging.{MayCome, comes}
+use Rattle.tb_machine.proofs.LawProofs.{first_reply}
+use Rattle.tb_machine.proofs.Rows.{each_map}
+use Rattle.tb_machine.proofs.SoundSteps.{lawful_of}
+use Rattle.tb_machine.proofs.Turns.{answer_after, answer_refused}
+
+-- a pair that is entered makes an entry that may come next
+both_true : (a b : Bool) → (a && b) ≡ true → (a ≡ true) × (b ≡ true)
+both_true true b e = (refl, e)
+both_true false b e = absurd cc
+
+new_class : (class : Class) → is_new class ≡ true → class ≡ New
+new_class New e = refl
+new_class Repeat e = absurd cc
+new_class NoSession e = absurd cc
+new_class SessionTooLow e = absurd cc
+new_class NewerSession e = absurd cc
+new_class Older e = absurd cc
+new_class Collision e = absurd cc
+new_class NewerRequest e = absurd cc
+
+entry_comes : (S : State) (p : Pair) → IsTrue (is_lawful p.1) → is_entered S p ≡ true → MayCome S (entry_of S p)
+entry_comes S p lawful entered =
+    let parts = both_true (is_new (class_of S.rows p.1)) (has_time S p) entered in
+    record {
+      commit = refl;
+      late_enough = omega arith;
+      in_range = leb-true (time_of S p.0 p.1) max_time parts.1;
+      lawful = lawful;
+      new = new_class (class_of S.rows p.1) parts.0;
+    }
+
+module _ (profile : Profile) (clients_max : ℕ) where
+  legal_with : (h : List Entry) (p : Pair) → IsLegal profile clients_max h → IsTrue (is_lawful p.1) → IsLegal profile clients_max (with_pair profile clients_max h p)
+  legal_with h p legal lawful = parts (is_entered (after profile clients_max h) p) refl
+    where
+      parts : (b : Bool) → is_entered (after profile clients_max h) p ≡ b → IsLegal profile clients_max (cond b (h ++ entry_of (after profile clients_max h) p ∷ []) h)
+      parts true e = legal_snoc profile clients_max h (entry_of (after profile clients_max h) p) legal (comes (after profile clients_max h) (entry_of (after profile clients_max h) p) (entry_comes (after profile clients_max h) p lawful e))
+      parts false e = legal
+
+  legal_accepted : (h : List Entry) (ps : List Pair) → IsLegal profile clients_max h → AreLawful ps → IsLegal profile clients_max (accepted profile clients_max h ps)
+  legal_accepted h [] legal lawful = legal
+  legal_accepted h (p ∷ ps) legal lawful = legal_accepted (with_pair profile clients_max h p) ps (legal_with h p legal lawful.0) lawful.1
+
+  -- a history goes on
+  Goes : List Entry → List Entry → Type 0
+  Goes h m = (more : List Entry) × (m ≡ h ++ more)
+
+  goes_with : (h : List Entry) (p : Pair) → Goes h (with_pair profile clients_max h p)
+  unfolding Goes
+  goes_with h p = parts (is_entered (after profile clients_max h) p)
+    where
+      parts : (b : Bool) → (more : List Entry) × (cond b (h ++ entry_of (after profile clients_max h) p ∷ []) h ≡ h ++ more)
+      parts true = (entry_of (after profile clients_max h) p ∷ [], refl)
+      parts false = ([], sym (append-nil h))
+
+  goes_on : (h : List Entry) (ps : List Pair) → Goes h (accepted profile clients_max h ps)
+  unfolding Goes
+  goes_on h [] = ([], sym (append-nil h))
+  goes_on h (p ∷ ps) =
+      let one = goes_with h p in
+      let rest = goes_on (with_pair profile clients_max h p) ps in
+      (one.0 ++ rest.0, rest.1 ∙ ap (λ l. l ++ rest.0) one.1 ∙ append_assoc h one.0 rest.0)
+
+  -- what is given stays given
+  given_on : (h more : List Entry) (r : Message) (a : Answer) → IsGiven profile clients_max h r a → IsGiven profile clients_max (h ++ more) r a
+  given_on h more r a is = record {
+    front = is.front;
+    entry = is.entry;
+    rest = is.rest ++ more;
+    whole = ap (λ l. l ++ more) is.whole ∙ append_assoc is.front (is.entry ∷ is.rest) more;
+    request = is.request;
+    reply = is.reply;
+  }
+
+  -- the answer to one pair
+  answered_entered : (h : List Entry) (p : Pair) → IsTrue (is_lawful p.1)
+      → IsGiven profile clients_max (h ++ entry_of (after profile clients_max h) p ∷ []) p.1 (answer_to (after profile clients_max (h ++ entry_of (after profile clients_max h) p ∷ [])) p.1)
+  answered_entered h p lawful = record {
+    front = h;
+    entry = entry_of (after profile clients_max h) p;
+    rest = [];
+    whole = refl;
+    request = refl;
+    reply = ap (λ (S : State). answer_to S p.1) (after_snoc profile clients_max h (entry_of (after profile clients_max h) p))
+        ∙ answer_after (after profile clients_max h) (entry_of (after profile clients_max h) p) (lawful_of p.1 lawful);
+  }
+
+  answered_as_it_stands : (h : List Entry) (r : Message) → IsLegal profile clients_max h → IsTrue (is_lawful r)
+      → IsGiven profile clients_max h r (answer_to (after profile clients_max h) r) ⊎ IsRefused r (answer_to (after profile clients_max h) r)
+  answered_as_it_stands h r legal lawful = by (class_of (after profile clients_max h).rows r) refl
+    where
+      S : State
+      S = after profile clients_max h
+
+      given : class_of (after profile clients_max h).rows r ≡ Repeat → IsGiven profile clients_max h r (answer_to (after profile clients_max h) r)
+      given class =
+          let is = first_reply profile clients_max h r legal lawful class in
+          record {
+            front = is.front;
+            entry = is.entry;
+            rest = is.rest;
+            whole = is.whole;
+            request = is.request;
+            reply = ap (λ (k : Class). answer_by k (row_of (after profile clients_max h).rows r.client) r) class
+                ∙ ap (λ (o : Option Row). answer_by Repeat o r) is.stored ∙ is.reply;
+          }
+
+      refused : (class : Class) → class ≢ Repeat → class_of (after profile clients_max h).rows r ≡ class → IsRefused r (answer_to (after profile clients_max h) r)
+      refused class other e = record {
+        class = class;
+        no_repeat = other;
+        answer = ap (λ (k : Class). answer_by k (row_of (after profile clients_max h).rows r.client) r) e
+            ∙ answer_refused class (row_of (after profile clients_max h).rows r.client) r other;
+      }
+
+      by : (class : Class) → class_of (after profile clients_max h).rows r ≡ class
+          → IsGiven profile clients_max h r (answer_to (after profile clients_max h) r) ⊎ IsRefused r (answer_to (after profile clients_max h) r)
+      by Repeat e = inl (given e)
+      by New e = inr (refused New (λ same. cc) e)
+      by NoSession e = inr (refused NoSession (λ same. cc) e)
+      by SessionTooLow e = inr (refused SessionTooLow (λ same. cc) e)
+      by NewerSession e = inr (refused NewerSession (λ same. cc) e)
+      by Older e = inr (refused Older (λ same. cc) e)
+      by Collision e = inr (refused Collision (λ same. cc) e)
+      by NewerRequest e = inr (refused NewerRequest (λ same. cc) e)
+
+  answered_one : (h : List Entry) (p : Pair) → IsLegal profile clients_max h → IsTrue (is_lawful p.1)
+      → IsGiven profile clients_max (with_pair profile clients_max h p) p.1 (answer_to (after profile clients_max (with_pair profile clients_max h p)) p.1)
+      ⊎ IsRefused p.1 (answer_to (after profile clients_max (with_pair profile clients_max h p)) p.1)
+  answered_one h p legal lawful = parts (is_entered (after profile clients_max h) p)
+    where
+      parts : (b : Bool) → let m = cond b (h ++ entry_of (after profile clients_max h) p ∷ []) h in
+          IsGiven profile clients_max m p.1 (answer_to (after profile clients_max m) p.1) ⊎ IsRefused p.1 (answer_to (after profile clients_max m) p.1)
+      parts true = inl (answered_entered h p lawful)
+      parts false = answered_as_it_stands h p.1 legal lawful
+
+  answered_on : (h m : List Entry) (r : Message) (a : Answer) → Goes h m → IsGiven profile clients_max h r a ⊎ IsRefused r a → IsGiven profile clients_max m r a ⊎ IsRefused r a
+  unfolding Goes
+  answered_on h m r a goes (inl given) = inl (subst (λ l. IsGiven profile clients_max l r a) (sym goes.1) (given_on h goes.0 r a given))
+  answered_on h m r a goes (inr refused) = inr refused
+
+  replies_of : (h : List Entry) (ps : List Pair) → IsLegal profile clients_max h → AreLawful ps → AreOf profile clients_max (accepted profile clients_max h ps) ps (replies_from profile clients_max h ps)
+  replies_of h [] legal lawful = tt
+  replies_of h (p ∷ ps) legal lawful =
+      let m = with_pair profile clients_max h p in (
+        answered_on m (accepted profile clients_max m ps) p.1 (answer_to (after profile clients_max m) p.1) (goes_on m ps) (answered_one h p legal lawful.0),
+        replies_of m ps (legal_with h p legal lawful.0) lawful.1,
+      )
+
+pub accepted_is_legal : AcceptedIsLegal
+accepted_is_legal profile clients_max ps lawful = legal_accepted profile clients_max [] ps tt lawful
+
+pub replies_are_of_history : RepliesAreOfHistory
+replies_are_of_history profile clients_max ps lawful = replies_of profile clients_max [] ps tt lawful
+
+-- pairs that bytes spell are lawful
+spelled_lawful : (ps : List Pair) (before after : Option (List ℕ)) (bytes : List ℕ) → before ≡ Some bytes → Spell ps before after → AreLawful ps
+spelled_lawful ps None after bytes is spelled = absurd cc
+spelled_lawful ps (Some b) None bytes is spelled = absurd spelled
+spelled_lawful ps (Some b) (Some a) bytes is spelled = each_map IsPair (λ (p : Pair). IsTrue (is_lawful p.1)) (λ p pair. ap is_none pair.1.lawful) ps spelled.1
+
+pub served_are_lawful : ServedAreLawful
+served_are_lawful profile clients_max result before after start written bytes ran told =
+    spelled_lawful ran.pairs before.left ran.middle.left bytes told ran.served.read.spelled
