@@ -1,19 +1,16 @@
 -- What is accepted of lawful pairs is a legal history, and the replies to a script are those of that history.
-use Rattle.std.proofs.Common.{◌≡◌, ◌≢◌, ℕ, ◌⊎◌, inl, inr, Bool, true, false, ◌&&◌, cond, List, [], ◌∷◌, ◌++◌, is_none, Option, Some, None, Result, refl, sym, ap, ◌∙◌, subst, IsTrue, arith, leb, leb-true, max, append_assoc, append-nil}
+use Rattle.std.proofs.Common.{◌≡◌, ◌≢◌, ℕ, ◌⊎◌, inl, inr, Bool, true, false, ◌&&◌, cond, List, [], ◌∷◌, ◌++◌, is_none, Option, Some, None, refl, sym, ap, ◌∙◌, subst, IsTrue, arith, leb-true, append_assoc, append-nil}
 use Rattle.tb_records.specs.declared.limits.Profile.{Profile}
 use Rattle.tb_records.specs.Messages.{Message, Answer}
-use Rattle.tb_records.specs.Ordered.{Each}
-use Rattle.tb_records.specs.Transport.{Input, Output}
 use Rattle.tb_sessions.specs.declared.rows.Row.{Row}
 use Rattle.tb_sessions.specs.declared.classes.Class.{Class}
 use Rattle.tb_sessions.specs.declared.classes.Class.TheVariants.{New, Repeat, NoSession, SessionTooLow, NewerSession, Older, Collision, NewerRequest}
 use Rattle.tb_sessions.specs.Judged.{row_of, class_of}
 use Rattle.tb_ledger.specs.Verdicts.{max_time}
 use Rattle.tb_machine.specs.declared.entries.Entry.{Entry}
-use Rattle.tb_machine.specs.declared.serving.RunFault.{RunFault}
-use Rattle.tb_machine.specs.Histories.{State, least_time, time_of, is_new, is_lawful, reply_at, IsLegal, after, answer_by, answer_to}
+use Rattle.tb_machine.specs.Histories.{State, time_of, is_new, is_lawful, IsLegal, after, answer_by, answer_to}
 use Rattle.tb_machine.specs.Scripts.{Pair, entry_of, has_time, is_entered, with_pair, accepted, replies_from}
-use Rattle.tb_machine.specs.Runs.{IsPair, Spell, Ran}
+use Rattle.tb_machine.specs.Runs.{IsPair, Spell}
 use Rattle.tb_machine.specs.ScriptLaws.{AreLawful, AcceptedIsLegal, IsGiven, IsRefused, AreOf, RepliesAreOfHistory, ServedAreLawful}
 use Rattle.tb_machine.proofs.Legal.{after_snoc, legal_snoc}
 use Rattle.tb_machine.proofs.Judging.{MayCome, comes}

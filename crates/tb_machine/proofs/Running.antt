@@ -5,13 +5,14 @@ use Rattle.std.specs.Io.KnownBytes.{Appends}
 use Rattle.tb_records.specs.declared.limits.Profile.{Profile}
 use Rattle.tb_records.specs.ReplyFrames.{reply_bytes}
 use Rattle.tb_records.specs.Inputs.{timed_bytes, TimedAnswers}
-use Rattle.tb_records.specs.Transport.{Input, Output}
+use Rattle.tb_records.specs.Transport.{Input, Output, Sent}
 use Rattle.tb_machine.specs.declared.entries.Entry.{Entry}
 use Rattle.tb_machine.specs.declared.serving.RunFault.{RunFault}
 use Rattle.tb_machine.specs.declared.serving.RunFault.TheVariants as fault
 use Rattle.tb_machine.specs.Histories.{State, start, step, after, answer_to}
 use Rattle.tb_machine.specs.Scripts.{Pair, entry_of, is_entered, moved, with_pair, accepted, replies_from, replies_to}
-use Rattle.tb_machine.specs.Runs.{Sends, IsPair, Spell, Reads, IsTimely, answer_bytes, Turns, Serves, HasTimes, state_after, Served, EndsBy, Ran}
+use Rattle.tb_machine.specs.Runs.{IsPair, Spell, Reads, IsTimely, answer_bytes, Turns, HasTimes, state_after, Served, EndsBy, Ran}
+use Rattle.tb_machine.specs.Serving.{Serves}
 use Rattle.tb_machine.proofs.Rows.{each_snoc}
 use Rattle.tb_machine.proofs.Legal.{fold_snoc, after_snoc}
 
@@ -55,7 +56,7 @@ appends_none : (o : Option (List ℕ)) → Appends o o []
 appends_none None = tt
 appends_none (Some xs) = sym (append-nil xs)
 
-pub sends_none : (o : Output) → Sends [] o o
+pub sends_none : (o : Output) → Sent [] o o
 sends_none o = record { grown = appends_none o.written; counted = refl; flowed = refl }
 
 appends_then : (o p q : Option (List ℕ)) (xs ys : List ℕ) → Appends o p xs → Appends p q ys → Appends o q (xs ++ ys)
@@ -64,7 +65,7 @@ appends_then (Some a) None q xs ys first then_it = absurd first
 appends_then (Some a) (Some b) None xs ys first then_it = absurd then_it
 appends_then (Some a) (Some b) (Some d) xs ys first then_it = then_it ∙ ap (λ l. l ++ ys) first ∙ append_assoc a xs ys
 
-sends_then : (xs ys : List ℕ) (a b d : Output) → Sends xs a b → Sends ys b d → Sends (xs ++ ys) a d
+sends_then : (xs ys : List ℕ) (a b d : Output) → Sent xs a b → Sent ys b d → Sent (xs ++ ys) a d
 sends_then xs ys a b d first then_it = record {
   grown = appends_then a.written b.written d.written xs ys first.grown then_it.grown;
   counted = then_it.counted ∙ first.counted;
@@ -116,7 +117,7 @@ module _ (profile : Profile) (clients_max : ℕ) where
 
   pub serving_on : (k : ℕ) (S T : State) (before middle after : Input) (first written next : Output) → Serving k S before middle first written → Serves (Ok true) S T middle after written next → Serving (k + 1) T before after first next
   serving_on k S T before middle after first written next s n =
-      let turn = subst (λ (U : State). IsTimely U n.pair × (T ≡ moved U n.pair) × Sends (answer_bytes U n.pair) written next) s.state n.turn in
+      let turn = subst (λ (U : State). IsTimely U n.pair × (T ≡ moved U n.pair) × Sent (answer_bytes U n.pair) written next) s.state n.turn in
       record {
         pairs = s.pairs ++ n.pair ∷ [];
         long = omega (arith, s.long, length-append s.pairs (n.pair ∷ []));
@@ -124,13 +125,13 @@ module _ (profile : Profile) (clients_max : ℕ) where
         served = record {
           read = reads_snoc s.pairs n.pair before middle after s.served.read n.read;
           times = times_snoc [] s.pairs n.pair s.served.times turn.0;
-          replied = subst (λ bytes. Sends bytes first next) (sym (bytes_snoc s.pairs n.pair))
+          replied = subst (λ bytes. Sent bytes first next) (sym (bytes_snoc s.pairs n.pair))
               (sends_then (flat_map reply_bytes (replies_to profile clients_max s.pairs)) (answer_bytes (state_after profile clients_max s.pairs) n.pair) first written next s.served.replied turn.2);
         };
       }
 
   -- nothing more was written, however far it moved on
-  pub serving_passed : (k : ℕ) (S : State) (before middle : Input) (first written passed : Output) → Serving k S before middle first written → Sends [] written passed → Serving k S before middle first passed
+  pub serving_passed : (k : ℕ) (S : State) (before middle : Input) (first written passed : Output) → Serving k S before middle first written → Sent [] written passed → Serving k S before middle first passed
   serving_passed k S before middle first written passed s on = record {
     pairs = s.pairs;
     long = s.long;
@@ -138,7 +139,7 @@ module _ (profile : Profile) (clients_max : ℕ) where
     served = record {
       read = s.served.read;
       times = s.served.times;
-      replied = subst (λ bytes. Sends bytes first passed) (append-nil (flat_map reply_bytes (replies_to profile clients_max s.pairs)))
+      replied = subst (λ bytes. Sent bytes first passed) (append-nil (flat_map reply_bytes (replies_to profile clients_max s.pairs)))
           (sends_then (flat_map reply_bytes (replies_to profile clients_max s.pairs)) [] first written passed s.served.replied on);
     };
   }

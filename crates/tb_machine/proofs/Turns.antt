@@ -16,9 +16,10 @@ use Rattle.tb_machine.specs.declared.entries.Entry.{Entry}
 use Rattle.tb_machine.specs.Histories.{State, is_new, session_of, row_at, reply_at, step, status_of, refusal, answer_by, answer_to}
 use Rattle.tb_machine.specs.Scripts.{Pair, entry_of, has_time, moved}
 use Rattle.tb_records.specs.ReplyFrames.{reply_bytes}
-use Rattle.tb_records.specs.Transport.{Output}
+use Rattle.tb_records.specs.Transport.{Output, Sent, CutOff}
 use Rattle.tb_machine.specs.declared.serving.RunFault.{RunFault}
-use Rattle.tb_machine.specs.Runs.{Sends, Breaks, Delivers, is_new_in, Enters, Turns}
+use Rattle.tb_machine.specs.Runs.{is_new_in, Turns}
+use Rattle.tb_machine.specs.Serving.{Delivers, Enters}
 use Rattle.tb_machine.proofs.Lawful.{lawful_numbers}
 
 -- the row that was admitted is found
@@ -132,9 +133,9 @@ entered_turn result S T p client a before after lawful class entered is told sen
     by : (result : Result (Unit {0}) RunFault)
         → Delivers result (reply_bytes a) before after
         → Turns result S T p before after
-    by (Ok done) sent = ((λ _. entered.0), entered.1 ∙ sym (moved_new S p new entered.0), subst (λ (b : Answer). Sends (reply_bytes b) before after) (sym answer_is) sent)
+    by (Ok done) sent = ((λ _. entered.0), entered.1 ∙ sym (moved_new S p new entered.0), subst (λ (b : Answer). Sent (reply_bytes b) before after) (sym answer_is) sent)
     by (Err f) sent = subst (λ (f : RunFault). Turns (Err f) S T p before after) (sym sent.0)
-        ((λ _. entered.0), entered.1 ∙ sym (moved_new S p new entered.0), refl, subst (λ (b : Answer). Breaks (reply_bytes b) before after) (sym answer_is) sent.1)
+        ((λ _. entered.0), entered.1 ∙ sym (moved_new S p new entered.0), refl, subst (λ (b : Answer). CutOff (reply_bytes b) before after) (sym answer_is) sent.1)
 
 pub known_turn : (result : Result (Unit {0}) RunFault) (S : State) (p : Pair) (before after : Output) → class_of S.rows p.1 ≢ New
     → Delivers result (reply_bytes (answer_to S p.1)) before after
@@ -157,6 +158,6 @@ known_turn result S p before after known sent = by result sent
     by : (result : Result (Unit {0}) RunFault)
         → Delivers result (reply_bytes (answer_to S p.1)) before after
         → Turns result S S p before after
-    by (Ok done) sent = (timely, sym stays, subst (λ (U : State). Sends (reply_bytes (answer_to U p.1)) before after) (sym stays) sent)
+    by (Ok done) sent = (timely, sym stays, subst (λ (U : State). Sent (reply_bytes (answer_to U p.1)) before after) (sym stays) sent)
     by (Err f) sent = subst (λ (f : RunFault). Turns (Err f) S S p before after) (sym sent.0)
-        (timely, sym stays, refl, subst (λ (U : State). Breaks (reply_bytes (answer_to U p.1)) before after) (sym stays) sent.1)
+        (timely, sym stays, refl, subst (λ (U : State). CutOff (reply_bytes (answer_to U p.1)) before after) (sym stays) sent.1)

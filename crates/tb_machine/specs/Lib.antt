@@ -1,9 +1,12 @@
+-- what public contracts cite
 pub mod Histories
 pub mod Scripts
-pub mod WorkedRows
-pub mod HistoryLaws
 pub mod Answering
-pub mod Sound
 pub mod RunFaults
 pub mod Runs
+pub mod HistoryLaws
 pub mod ScriptLaws
+pub mod WorkedRows
+-- what private functions alone cite
+pub mod Serving
+pub mod Sound

@@ -1,5 +1,5 @@
 -- What a server makes of a script: the pairs that it read, the replies that it wrote, and what ended it.
-use Rattle.std.specs.Prelude.{ℕ, Bool, true, false, ◌≡◌, ◌⊎◌, ◌-◌, ◌^◌, ◌<◌, List, [], ◌∷◌, ◌++◌, length, Option, Some, None, Result, Ok, Err, MatchResult}
+use Rattle.std.specs.Prelude.{ℕ, Bool, true, false, ◌≡◌, ◌⊎◌, ◌-◌, ◌^◌, ◌<◌, List, [], ◌∷◌, ◌++◌, length, Option, Some, None, Result, Ok, Err}
 use Rattle.std.specs.List.{flat_map}
 use Rattle.tb_records.specs.declared.faults.FrameFault.{FrameFault}
 use Rattle.tb_records.specs.declared.faults.FrameFault.TheVariants.{Device}
@@ -13,20 +13,8 @@ use Rattle.tb_sessions.specs.Judged.{class_of}
 use Rattle.tb_machine.specs.declared.entries.Entry.{Entry}
 use Rattle.tb_machine.specs.declared.serving.RunFault.{RunFault}
 use Rattle.tb_machine.specs.declared.serving.RunFault.TheVariants as fault
-use Rattle.tb_machine.specs.Histories.{State, is_new, step, after, answer_to}
-use Rattle.tb_machine.specs.Scripts.{Pair, entry_of, has_time, moved, with_pair, accepted, replies_to}
-
--- all bytes were written, and no error was counted
-abbrev pub Sends : List ℕ → Output → Output → Type 0
-Sends bytes before after = Sent bytes before after
-
--- a beginning of the bytes was written, and the writer failed, or took nothing
-abbrev pub Breaks : List ℕ → Output → Output → Type 0
-Breaks bytes before after = CutOff bytes before after
-
--- the bytes were written, or the writer's fault left a beginning of them
-abbrev pub Delivers : Result (Unit {0}) RunFault → List ℕ → Output → Output → Type 0
-Delivers result bytes before after = MatchResult result (λ _. Sends bytes before after) (λ f. (f ≡ fault.Frame Device) × Breaks bytes before after)
+use Rattle.tb_machine.specs.Histories.{State, is_new, after, answer_to}
+use Rattle.tb_machine.specs.Scripts.{Pair, has_time, moved, with_pair, accepted, replies_to}
 
 -- pairs that a reader's bytes spell, one after another
 abbrev pub IsPair : Pair → Type 0
@@ -51,14 +39,6 @@ is_new_in S p = is_new (class_of S.rows p.1)
 abbrev pub IsTimely : State → Pair → Type 0
 IsTimely S p = is_new_in S p ≡ true → has_time S p ≡ true
 
--- a new pair is entered: the machine moves on by its entry, or stays
-abbrev pub Enters : Result (Unit {0}) RunFault → State → State → Pair → Type 0
-Enters (Ok done) S T p = (has_time S p ≡ true) × (T ≡ step S (entry_of S p))
-Enters (Err fault.NoMemory) S T p = (has_time S p ≡ true) × (T ≡ S)
-Enters (Err fault.TimeExhausted) S T p = (has_time S p ≡ false) × (T ≡ S)
-Enters (Err fault.TooLong) S T p = ⊥
-Enters (Err (fault.Frame f)) S T p = ⊥
-
 -- the spelling of the reply to a pair
 abbrev pub answer_bytes : State → Pair → List ℕ
 answer_bytes S p = reply_bytes (answer_to (moved S p) p.1)
@@ -66,35 +46,23 @@ answer_bytes S p = reply_bytes (answer_to (moved S p) p.1)
 -- a pair is answered: by the reply that its entry has once it is entered, or by the one that its request has as it stands;
 -- where the reply could not be written, the machine has moved on all the same, and a repeat gets that reply
 abbrev pub Turns : Result (Unit {0}) RunFault → State → State → Pair → Output → Output → Type 0
-Turns (Ok done) S T p before after = IsTimely S p × (T ≡ moved S p) × Sends (answer_bytes S p) before after
-Turns (Err (fault.Frame f)) S T p before after = IsTimely S p × (T ≡ moved S p) × (f ≡ Device) × Breaks (answer_bytes S p) before after
+Turns (Ok done) S T p before after = IsTimely S p × (T ≡ moved S p) × Sent (answer_bytes S p) before after
+Turns (Err (fault.Frame f)) S T p before after = IsTimely S p × (T ≡ moved S p) × (f ≡ Device) × CutOff (answer_bytes S p) before after
 Turns (Err fault.NoMemory) S T p before after = (is_new_in S p ≡ true) × (has_time S p ≡ true) × (T ≡ S) × (after ≡ before)
 Turns (Err fault.TimeExhausted) S T p before after = (is_new_in S p ≡ true) × (has_time S p ≡ false) × (T ≡ S) × (after ≡ before)
 Turns (Err fault.TooLong) S T p before after = ⊥
 
--- the next pair is read and answered, where there is one
-pub record Next (result : Result (Unit {0}) RunFault) (S T : State) (before middle : Input) (start written : Output) : Type 0 where
-  pub pair : Pair
-  pub read : Reads (pair ∷ []) before middle
-  pub turn : Turns result S T pair start written
-
 -- a fault in reading: nothing was written
-pub record Unread (f : FrameFault) (before after : Input) (start written : Output) : Type 0 where
-  pub answer : TimedAnswers (Err f) before.left after.left
-  pub counted : FaultCounts f before after
-  pub silent : written ≡ start
+pub record Unread (f : FrameFault) (middle after : Input) (replied written : Output) : Type 0 where
+  pub answer : TimedAnswers (Err f) middle.left after.left
+  pub counted : FaultCounts f middle after
+  pub silent : written ≡ replied
 
 -- the end of the input
-pub record Ends (before after : Input) (start written : Output) : Type 0 where
-  pub answer : TimedAnswers (Ok None) before.left after.left
-  pub counted : after.failed ≡ before.failed
-  pub silent : written ≡ start
-
-abbrev pub Serves : Result Bool RunFault → State → State → Input → Input → Output → Output → Type 0
-Serves (Ok true) S T before after start written = Next (Ok tt) S T before after start written
-Serves (Ok false) S T before after start written = Ends before after start written
-Serves (Err (fault.Frame f)) S T before after start written = Unread f before after start written ⊎ Next (Err (fault.Frame f)) S T before after start written
-Serves (Err f) S T before after start written = Next (Err f) S T before after start written
+pub record Ends (middle after : Input) (replied written : Output) : Type 0 where
+  pub answer : TimedAnswers (Ok None) middle.left after.left
+  pub counted : after.failed ≡ middle.failed
+  pub silent : written ≡ replied
 
 -- a script
 
@@ -109,36 +77,36 @@ module _ (profile : Profile) (clients_max : ℕ) where
   state_after ps = after profile clients_max (accepted profile clients_max [] ps)
 
   -- the pairs were read and answered, and nothing else was read or written
-  pub record Served (ps : List Pair) (before after : Input) (start written : Output) : Type 0 where
-    pub read : Reads ps before after
+  pub record Served (ps : List Pair) (before middle : Input) (start grown : Output) : Type 0 where
+    pub read : Reads ps before middle
     pub times : HasTimes [] ps
-    pub replied : Sends (flat_map reply_bytes (replies_to profile clients_max ps)) start written
+    pub replied : Sent (flat_map reply_bytes (replies_to profile clients_max ps)) start grown
 
   -- one more pair was read, of a new request, and nothing was written
-  pub record Halts (ps : List Pair) (has : Bool) (before after : Input) (start written : Output) : Type 0 where
+  pub record Halts (ps : List Pair) (has : Bool) (middle after : Input) (replied written : Output) : Type 0 where
     pub pair : Pair
-    pub read : Reads (pair ∷ []) before after
+    pub read : Reads (pair ∷ []) middle after
     pub new : is_new_in (state_after ps) pair ≡ true
     pub time : has_time (state_after ps) pair ≡ has
-    pub silent : written ≡ start
+    pub silent : written ≡ replied
 
   -- one more pair was read, and a beginning of the reply to it was written
-  pub record BreaksOff (ps : List Pair) (before after : Input) (start written : Output) : Type 0 where
+  pub record BreaksOff (ps : List Pair) (middle after : Input) (replied written : Output) : Type 0 where
     pub pair : Pair
-    pub read : Reads (pair ∷ []) before after
+    pub read : Reads (pair ∷ []) middle after
     pub timely : IsTimely (state_after ps) pair
-    pub cut : Breaks (answer_bytes (state_after ps) pair) start written
+    pub cut : CutOff (answer_bytes (state_after ps) pair) replied written
 
   -- what ended the script behind the pairs ps
   abbrev pub EndsBy : RunFault → List Pair → Input → Input → Output → Output → Type 0
-  EndsBy (fault.Frame f) ps before after start written = Unread f before after start written ⊎ ((f ≡ Device) × BreaksOff ps before after start written)
-  EndsBy fault.NoMemory ps before after start written = ((ps ≡ []) × (after ≡ before) × (written ≡ start)) ⊎ Halts ps true before after start written
-  EndsBy fault.TimeExhausted ps before after start written = Halts ps false before after start written
-  EndsBy fault.TooLong ps before after start written = (length ps ≡ 2 ^ 64 - 1) × (after ≡ before) × (written ≡ start)
+  EndsBy (fault.Frame f) ps middle after replied written = Unread f middle after replied written ⊎ ((f ≡ Device) × BreaksOff ps middle after replied written)
+  EndsBy fault.NoMemory ps middle after replied written = ((ps ≡ []) × (after ≡ middle) × (written ≡ replied)) ⊎ Halts ps true middle after replied written
+  EndsBy fault.TimeExhausted ps middle after replied written = Halts ps false middle after replied written
+  EndsBy fault.TooLong ps middle after replied written = (length ps ≡ 2 ^ 64 - 1) × (after ≡ middle) × (written ≡ replied)
 
   abbrev pub RanTo : Result ℕ RunFault → List Pair → Input → Input → Output → Output → Type 0
-  RanTo (Ok k) ps before after start written = (length ps ≡ k) × Ends before after start written
-  RanTo (Err f) ps before after start written = EndsBy f ps before after start written
+  RanTo (Ok k) ps middle after replied written = (length ps ≡ k) × Ends middle after replied written
+  RanTo (Err f) ps middle after replied written = EndsBy f ps middle after replied written
 
   -- a whole run: some pairs were served, and then the input was at its end, or a fault came
   pub record Ran (result : Result ℕ RunFault) (before after : Input) (start written : Output) : Type 0 where

@@ -7,7 +7,8 @@ ghost use Rattle.tb_records.specs.Transport.{Sent};
 ghost use Rattle.tb_sessions.specs.Judged.{class_of, row_of};
 ghost use Rattle.tb_machine.specs.Histories.{status_of, answer_to};
 ghost use Rattle.tb_machine.specs.RunFaults.{run_fault_number, run_fault_name};
-ghost use Rattle.tb_machine.specs.Runs.{is_new_in, Enters, Delivers, Turns, Serves, Ran};
+ghost use Rattle.tb_machine.specs.Runs.{is_new_in, Turns, Ran};
+ghost use Rattle.tb_machine.specs.Serving.{Enters, Delivers, Serves};
 
 use crate::entries::Entry;
 use crate::machines::Machine;

@@ -1,0 +1,34 @@
+-- What the steps of the server do with one pair: for private functions alone.
+use Rattle.std.specs.Prelude.{Bool, true, false, ◌≡◌, ◌⊎◌, ℕ, List, [], ◌∷◌, Result, Ok, Err, MatchResult}
+use Rattle.tb_records.specs.declared.faults.FrameFault.TheVariants.{Device}
+use Rattle.tb_records.specs.Transport.{Input, Output, Sent, CutOff}
+use Rattle.tb_machine.specs.declared.serving.RunFault.{RunFault}
+use Rattle.tb_machine.specs.declared.serving.RunFault.TheVariants as fault
+use Rattle.tb_machine.specs.Histories.{State, step}
+use Rattle.tb_machine.specs.Scripts.{Pair, entry_of, has_time}
+use Rattle.tb_machine.specs.Runs.{Reads, Turns, Unread, Ends}
+
+-- the bytes were written, or the writer's fault left a beginning of them
+abbrev pub Delivers : Result (Unit {0}) RunFault → List ℕ → Output → Output → Type 0
+Delivers result bytes before after = MatchResult result (λ _. Sent bytes before after) (λ f. (f ≡ fault.Frame Device) × CutOff bytes before after)
+
+-- a new pair is entered: the machine moves on by its entry, or stays
+abbrev pub Enters : Result (Unit {0}) RunFault → State → State → Pair → Type 0
+Enters (Ok done) S T p = (has_time S p ≡ true) × (T ≡ step S (entry_of S p))
+Enters (Err fault.NoMemory) S T p = (has_time S p ≡ true) × (T ≡ S)
+Enters (Err fault.TimeExhausted) S T p = (has_time S p ≡ false) × (T ≡ S)
+Enters (Err fault.TooLong) S T p = ⊥
+Enters (Err (fault.Frame f)) S T p = ⊥
+
+-- the next pair is read and answered, where there is one
+pub record Next (result : Result (Unit {0}) RunFault) (S T : State) (before middle : Input) (start written : Output) : Type 0 where
+  pub pair : Pair
+  pub read : Reads (pair ∷ []) before middle
+  pub turn : Turns result S T pair start written
+
+-- the next pair was served, or there is none, or a fault came
+abbrev pub Serves : Result Bool RunFault → State → State → Input → Input → Output → Output → Type 0
+Serves (Ok true) S T before after start written = Next (Ok tt) S T before after start written
+Serves (Ok false) S T before after start written = Ends before after start written
+Serves (Err (fault.Frame f)) S T before after start written = Unread f before after start written ⊎ Next (Err (fault.Frame f)) S T before after start written
+Serves (Err f) S T before after start written = Next (Err f) S T before after start written
