@@ -1,6 +1,7 @@
 -- What the boxed nodes hold, and when they are balanced.
 use Rattle.std.specs.Prelude.{◌≡◌, ℕ, ◌+◌, ◌≤◌, ◌<◌, max, List, [], ◌∷◌, ◌++◌, ◌^◌, length, Option, None, Some, IsSome, Bool, true, false}
 use Rattle.std.specs.Map.{keys_of, lookup, set_value}
+use Rattle.std.specs.BTreeMap.{is_at}
 use Rattle.std.specs.List.Sorted.{IsStrictlySortedBy}
 use Rattle.std.specs.declared.cmp.Ordering.{Ordering}
 use Rattle.avl_tree.specs.Search.{Search, leaf, fork}
@@ -73,6 +74,12 @@ IsBare n = (n.left ≡ Empty) × (n.right ≡ Empty)
 -- the keys rise
 abbrev pub IsOrdered : {K V : Type 0} → (K → K → Ordering) → List (K × V) → Type 0
 IsOrdered cmp es = IsStrictlySortedBy cmp (keys_of es)
+
+-- a search for k in t may go on in u
+pub record LeadsTo {K V A : Type 0} (cmp : K → K → Ordering) (k : K) (t u : Tree K V A) : Type 0 where
+  pub balanced : IsAvl u
+  pub sorted : IsOrdered cmp (entries u)
+  pub same : lookup (is_at (cmp k)) (entries u) ≡ lookup (is_at (cmp k)) (entries t)
 
 -- the shape of the tree, with its entries
 abbrev pub joined : {E : Type 0} → Search E → Option E → Search E → Search E

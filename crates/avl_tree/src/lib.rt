@@ -2,6 +2,7 @@
 #![tactic(auto)]
 
 mod edits;
+mod eight;
 mod map;
 mod pairs;
 mod range;

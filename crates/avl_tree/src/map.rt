@@ -1,5 +1,5 @@
 // The map.
-ghost use Rattle.std.specs.Prelude.{◌≡◌, ◌+◌, ◌<◌, ◌≤◌, ◌^◌, ◌⊎◌, false, [], length, max, IfOk, IfErr, if◌then◌else◌};
+ghost use Rattle.std.specs.Prelude.{◌≡◌, ◌+◌, ◌<◌, ◌≤◌, ◌^◌, ◌⊎◌, false, [], length, map, max, IfOk, IfErr, if◌then◌else◌};
 ghost use Rattle.std.specs.Option.{option_copied, option_map, is_some, IfNone, IfSome};
 ghost use Rattle.std.specs.List.{slice_get};
 ghost use Rattle.std.specs.List.Sorted.{IsStrictlySortedBy};
@@ -15,7 +15,7 @@ ghost use Rattle.avl_tree.specs.Visits.{between, VisitsTo};
 
 use crate::spare::SpareNodes;
 use crate::tree::{Node, Tree};
-use crate::{edits, pairs, range, updates, walks};
+use crate::{edits, eight, pairs, range, updates, walks};
 use std::alloc::{AllocError, Allocator};
 use std::cmp::Ordering;
 use std::marker::Model;
@@ -121,6 +121,14 @@ impl<K: Ord + Copy, V, A: Allocator + Clone> AvlMap<K, V, A> {
         ensures { option_copied result ≡ get K.cmp self.now key.now }
     {
         walks::find(&self.root, key)
+    }
+
+    /// The values of eight keys, each as `get` gives it. The eight searches go on by turns, a level of each, so that
+    /// their waits for memory overlap.
+    pub fn get_many(&self, keys: &[K; 8]) -> [Option<&V>; 8]
+        ensures { map option_copied result ≡ map (get K.cmp self.now) keys.now }
+    {
+        eight::find_eight(&self.root, keys)
     }
 
     /// The pair of the least key.

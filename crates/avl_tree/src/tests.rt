@@ -54,6 +54,22 @@ fn probes_stay_short(rt: HostRuntime) -> Result<(), Fail> {
     Ok(())
 }
 
+#[test]
+fn eight_are_looked_up_at_once(rt: HostRuntime) -> Result<(), Fail> {
+    let map = rising(&rt, rt.alloc(), 100)?;
+    let [a, b, c, d, e, f, g, h] = map.get_many(&[50, 1, 101, 100, 0, 7, 7, 64]);
+    assert_eq!(rt;
+        (a.copied(), b.copied(), c.copied()),
+        (Some(500), Some(10), None)
+    );
+    assert_eq!(rt;
+        (d.copied(), e.copied(), f.copied()),
+        (Some(1000), None, Some(70))
+    );
+    assert_eq!(rt; (g.copied(), h.copied()), (Some(70), Some(640)));
+    Ok(())
+}
+
 /// The keys from `low` to `high`, below 10, as the digits of a number in the order in which they come.
 fn digits<A: Allocator + Clone>(map: &AvlMap<u64, u128, A>, low: u64, high: u64) -> u64 {
     let mut digits = 0u64;

@@ -1,0 +1,63 @@
+// Eight searches down the tree, a level of each by turns.
+ghost use Rattle.std.specs.Prelude.{◌≡◌, map};
+ghost use Rattle.std.specs.Option.{option_copied};
+ghost use Rattle.std.specs.Map.{lookup};
+ghost use Rattle.std.specs.BTreeMap.{is_at};
+ghost use Rattle.avl_tree.specs.Nodes.{entries, IsAvl, IsOrdered, LeadsTo};
+
+use crate::tree::{Tree, height};
+use crate::walks::{compare, find};
+use std::alloc::Allocator;
+use std::cmp::Ordering;
+
+/// The side of the root that a search for the key goes on in, or the tree itself where the search ends.
+fn step<'a, K: Ord, V, A: Allocator>(tree: &'a Tree<K, V, A>, key: &K) -> &'a Tree<K, V, A>
+    requires balanced { IsAvl tree.now }
+    requires sorted { IsOrdered K.cmp (entries tree.now) }
+    ensures { LeadsTo K.cmp key.now tree.now result.now }
+{
+    let Tree::Fork(_, node) = tree else {
+        return tree;
+    };
+    match compare(key, node) {
+        Ordering::Less => &node.left,
+        Ordering::Greater => &node.right,
+        Ordering::Equal => tree,
+    }
+}
+
+/// The values at eight keys, each as `find` gives it.
+///
+/// A level of each search is taken by turns, so that their waits for memory overlap.
+pub fn find_eight<'a, K: Ord, V, A: Allocator>(
+    tree: &'a Tree<K, V, A>,
+    keys: &[K; 8],
+) -> [Option<&'a V>; 8]
+    requires balanced { IsAvl tree.now }
+    requires sorted { IsOrdered K.cmp (entries tree.now) }
+    ensures { map option_copied result ≡ map (λ k. lookup (is_at (K.cmp k)) (entries tree.now)) keys.now }
+{
+    let [ka, kb, kc, kd, ke, kf, kg, kh] = keys;
+    let (mut a, mut b, mut c, mut d) = (tree, tree, tree, tree);
+    let (mut e, mut f, mut g, mut h) = (tree, tree, tree, tree);
+    for _ in 0..height(tree) {
+        a = step(a, ka);
+        b = step(b, kb);
+        c = step(c, kc);
+        d = step(d, kd);
+        e = step(e, ke);
+        f = step(f, kf);
+        g = step(g, kg);
+        h = step(h, kh);
+    }
+    [
+        find(a, ka),
+        find(b, kb),
+        find(c, kc),
+        find(d, kd),
+        find(e, ke),
+        find(f, kf),
+        find(g, kg),
+        find(h, kh),
+    ]
+}
