@@ -13,7 +13,8 @@ use Rattle.std.proofs.lemmas.Bool.{ne_eqb}
 use Rattle.std.proofs.lemmas.Slice.{between_to_end}
 use Rattle.std.specs.List.{between}
 use borrow.Rule.Slice.PartMut.{put_mid, post_of}
-use Rattle.tb_records.specs.Transport.{Input, Output, risen, Fails, FaultCounts, is_stall, Takes, Errs, Refuses, CutOff, ReadFault, BodyFault}
+use Rattle.tb_records.specs.Transport.{Input, Output, risen, Fails, FaultCounts, is_stall, Takes, Errs, Refuses, CutOff}
+use Rattle.tb_records.specs.Reading.{ReadFault, BodyFault}
 
 -- a beginning that was filled, and then a part of the rest
 pub filled : (at n k : ℕ) (xs ys : List ℕ) → at ≤ length xs → n ≤ length ys → take (at + n) (put_mid at k xs ys) ≡ take at xs ++ take n ys

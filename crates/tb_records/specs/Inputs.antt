@@ -1,6 +1,5 @@
 -- What is read from bytes: a frame of a slice, and the frames of a stream one by one.
 use Rattle.std.specs.Prelude.{ℕ, ◌≡◌, ◌+◌, ◌<◌, ◌≤◌, ◌^◌, List, [], ◌++◌, length, take, drop, Option, Some, None, Result, Ok, Err}
-use Rattle.std.specs.Io.KnownBytes.{Consumes}
 use Rattle.tb_records.specs.declared.faults.FrameFault.{FrameFault}
 use Rattle.tb_records.specs.declared.faults.FrameFault.TheVariants.{Short, Device, NoMemory}
 use Rattle.tb_records.specs.Frames.{Spells, IsRequest, request_bytes, request_fault, header_fault, length_at}
@@ -33,9 +32,9 @@ abbrev pub fault_in : {X : Type 0} → Result X FrameFault → Option FrameFault
 fault_in (Ok x) = None
 fault_in (Err fault) = Some fault
 
--- a fault of a frame, before which the bytes were left and after which the others are: of a reader that failed, no more
--- than the frame is gone; without room for the body, just the header; what is cut is read to its end; of a header's
--- fault, just the header
+-- the bytes that are left before and after a frame's fault. Device comes at the read that failed: at most the frame is gone.
+-- NoMemory comes after the test of the number of items and before the body is read: just the header is gone. Short: the
+-- header or the body is cut, and what there is of it is gone. Any other fault is of the header: just that is gone
 abbrev pub Faulted : FrameFault → List ℕ → List ℕ → Type 0
 Faulted Device before after = (front : List ℕ) × (length front ≤ 48 + length_at before) × (before ≡ front ++ after)
 Faulted NoMemory before after = (48 ≤ length before) × (header_fault before ≡ None) × (after ≡ drop 48 before)
@@ -75,14 +74,3 @@ abbrev pub TimedAnswers : Result (Option (ℕ × Message)) FrameFault → Option
 TimedAnswers result None after = Unit {0}
 TimedAnswers result (Some before) None = ⊥
 TimedAnswers result (Some before) (Some after) = TimedAnswered result before after
-
--- a moment was read
-pub record ReadsMoment (moment : ℕ) (before after : Option (List ℕ)) : Type 0 where
-  pub bytes : Consumes before after (le_bytes 8 moment)
-  pub fits : moment < 2 ^ 64
-
--- what a stream answers as far as the moment
-abbrev pub MomentAnswers : Result (Option ℕ) FrameFault → Option (List ℕ) → Option (List ℕ) → Type 0
-MomentAnswers (Ok None) before after = TimedAnswers (Ok None) before after
-MomentAnswers (Ok (Some moment)) before after = ReadsMoment moment before after
-MomentAnswers (Err fault) before after = TimedAnswers (Err fault) before after

@@ -1,14 +1,17 @@
-pub mod Faults
-pub mod Frames
-pub mod HeaderFields
-pub mod Inputs
-pub mod Messages
+-- what public contracts cite
 pub mod Numbers
-pub mod Ordered
 pub mod RecordBytes
+pub mod Messages
+pub mod Same
+pub mod Frames
 pub mod ReplyFrames
+pub mod Faults
+pub mod Inputs
+pub mod Transport
+pub mod Ordered
+-- what private functions alone cite
+pub mod HeaderFields
 pub mod ReplyHeaders
 pub mod ReplyTests
-pub mod Same
+pub mod Reading
 pub mod Sizes
-pub mod Transport

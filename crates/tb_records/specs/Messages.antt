@@ -62,7 +62,8 @@ first_fault (test ∷ tests) = if test.0 then Some test.1 else first_fault tests
 abbrev pub items_max : ℕ
 items_max = 8190
 
--- what a request's numbers may have wrong, in the order of the tests
+-- what a request's numbers may have wrong; the first test that holds decides: the client is 0; a register has a session or a
+-- request that is not 0; another operation has request 0; there are more than 8190 items
 abbrev pub number_fault : Message → Option FrameFault
 number_fault r = first_fault (
     (r.client == 0, ClientZero)

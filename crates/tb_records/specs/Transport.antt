@@ -1,8 +1,8 @@
--- What readers and writers do to the bytes that they tell, and how their failures are counted.
-use Rattle.std.specs.Prelude.{ℕ, Bool, true, false, ◌≡◌, ◌<◌, ◌≤◌, ◌+◌, ◌-◌, ◌^◌, ◌⊎◌, ◌&&◌, ◌==◌, not, min, List, length, take, flat_map, All, Option, Result, Ok, Err, if◌then◌else◌}
-use Rattle.std.specs.Io.KnownBytes.{Consumes, Appends, Keeps, IsAtEnd}
+-- What readers and writers tell of their bytes, and how their failures are counted.
+use Rattle.std.specs.Prelude.{ℕ, Bool, true, false, ◌≡◌, ◌+◌, ◌-◌, ◌^◌, ◌⊎◌, ◌&&◌, ◌==◌, not, min, List, length, take, Option, Result, Ok, Err, if◌then◌else◌}
+use Rattle.std.specs.Io.KnownBytes.{Appends}
 use Rattle.tb_records.specs.declared.faults.FrameFault.{FrameFault}
-use Rattle.tb_records.specs.declared.faults.FrameFault.TheVariants.{Short, Device, NoMemory}
+use Rattle.tb_records.specs.declared.faults.FrameFault.TheVariants.{Device}
 
 -- a reader: the bytes that are left, where it tells them, the number of its errors, and whether its last answer was one
 pub record Input : Type 0 where
@@ -54,47 +54,6 @@ FaultCounts fault before after = after.failed ≡ before.failed
 abbrev pub Counts : {X : Type 0} → Result X FrameFault → Input → Input → Type 0
 Counts (Ok x) before after = after.failed ≡ before.failed
 Counts (Err fault) before after = FaultCounts fault before after
-
--- the first n bytes of a buffer came from the reader: all of it, or all that was left
-pub record Filled (n : ℕ) (buf : List ℕ) (before after : Option (List ℕ)) : Type 0 where
-  pub within : n ≤ length buf
-  pub bytes : Consumes before after (take n buf)
-  pub end : n < length buf → IsAtEnd after
-
--- the reader failed, with at most n bytes gone
-pub record Lost (n : ℕ) (before after : Option (List ℕ)) : Type 0 where
-  pub front : List ℕ
-  pub short : length front ≤ n
-  pub bytes : Consumes before after front
-
--- fewer than n bytes were left, and none is
-pub record RunsOut (n : ℕ) (before after : Option (List ℕ)) : Type 0 where
-  pub rest : List ℕ
-  pub short : length rest < n
-  pub bytes : Consumes before after rest
-  pub end : IsAtEnd after
-
--- one item was read, of numbers that fit
-pub record ReadsItem {X : Type 0} (spelling : X → List ℕ) (Fits : X → Type 0) (item : X) (before after : Option (List ℕ)) : Type 0 where
-  pub bytes : Consumes before after (spelling item)
-  pub fit : Fits item
-
--- count items were read, each of numbers that fit
-pub record ReadsItems {X : Type 0} (spelling : X → List ℕ) (Fits : X → Type 0) (count : ℕ) (items : List X) (before after : Option (List ℕ)) : Type 0 where
-  pub long : length items ≡ count
-  pub bytes : Consumes before after (flat_map spelling items)
-  pub fit : All Fits items
-
--- what a fault in reading n bytes leaves: there were too few, or the reader failed
-abbrev pub ReadFault : FrameFault → ℕ → Option (List ℕ) → Option (List ℕ) → Type 0
-ReadFault Short n before after = RunsOut n before after
-ReadFault Device n before after = Lost n before after
-ReadFault fault n before after = ⊥
-
--- the same for a body of n bytes, for which there may be no room: then none of them was read
-abbrev pub BodyFault : FrameFault → ℕ → Option (List ℕ) → Option (List ℕ) → Type 0
-BodyFault NoMemory n before after = Keeps before after
-BodyFault fault n before after = ReadFault fault n before after
 
 -- writers
 

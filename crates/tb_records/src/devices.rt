@@ -3,7 +3,8 @@ ghost use Rattle.std.specs.Prelude.{◌≡◌, ◌≤◌, ◌<◌, ◌+◌, ◌*
 ghost use Rattle.std.specs.Io.{ReadsAtMost, WritesAtMost, StartsWith};
 ghost use Rattle.std.specs.Io.Buffered.{reader_remaining};
 ghost use Rattle.std.specs.Io.KnownBytes.{ReadConsumes, WriteAppends};
-ghost use Rattle.tb_records.specs.Transport.{uncounted, Input, Output, Fails, Gives, Counts, Takes, Errs, Filled, Lost, ReadsItem, ReadsItems, ReadFault, BodyFault, Sent, CutOff};
+ghost use Rattle.tb_records.specs.Transport.{uncounted, Input, Output, Fails, Gives, Counts, Takes, Errs, Sent, CutOff};
+ghost use Rattle.tb_records.specs.Reading.{Filled, Lost, ReadsItem, ReadsItems, ReadFault, BodyFault};
 
 use crate::faults::FrameFault;
 use crate::layout::Item;

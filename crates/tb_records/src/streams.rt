@@ -2,8 +2,9 @@
 ghost use Rattle.std.specs.Prelude.{◌≡◌, ◌*◌, ◌+◌, ◌&&◌, nat_le, length, Some, None, Ok, Err, MatchResult};
 ghost use Rattle.tb_records.specs.Frames.{item_size, length_at};
 ghost use Rattle.tb_records.specs.HeaderFields.{code_of, body_length, HeaderAnswers, IsHeader, ReadsBody, ReadsRequest};
-ghost use Rattle.tb_records.specs.Inputs.{opened, fault_in, Answers, MomentAnswers, TimedAnswers};
-ghost use Rattle.tb_records.specs.Transport.{BodyFault, Counts};
+ghost use Rattle.tb_records.specs.Inputs.{opened, fault_in, Answers, TimedAnswers};
+ghost use Rattle.tb_records.specs.Transport.{Counts};
+ghost use Rattle.tb_records.specs.Reading.{BodyFault, MomentAnswers};
 
 use crate::bodies::Body;
 use crate::devices::{Source, fill, items_from};

@@ -1,0 +1,59 @@
+-- What is read on the way to the end of a frame: for private functions alone.
+use Rattle.std.specs.Prelude.{ℕ, ◌<◌, ◌≤◌, ◌^◌, List, length, take, flat_map, All, Option, Some, None, Result, Ok, Err, ◌≡◌}
+use Rattle.std.specs.Io.KnownBytes.{Consumes, Keeps, IsAtEnd}
+use Rattle.tb_records.specs.declared.faults.FrameFault.{FrameFault}
+use Rattle.tb_records.specs.declared.faults.FrameFault.TheVariants.{Short, Device, NoMemory}
+use Rattle.tb_records.specs.Inputs.{TimedAnswers}
+use Rattle.tb_records.specs.Numbers.{le_bytes}
+
+-- the first n bytes of a buffer came from the reader: all of it, or all that was left
+pub record Filled (n : ℕ) (buf : List ℕ) (before after : Option (List ℕ)) : Type 0 where
+  pub within : n ≤ length buf
+  pub bytes : Consumes before after (take n buf)
+  pub end : n < length buf → IsAtEnd after
+
+-- the reader failed, with at most n bytes gone
+pub record Lost (n : ℕ) (before after : Option (List ℕ)) : Type 0 where
+  pub front : List ℕ
+  pub short : length front ≤ n
+  pub bytes : Consumes before after front
+
+-- fewer than n bytes were left, and none is
+pub record RunsOut (n : ℕ) (before after : Option (List ℕ)) : Type 0 where
+  pub rest : List ℕ
+  pub short : length rest < n
+  pub bytes : Consumes before after rest
+  pub end : IsAtEnd after
+
+-- one item was read, of numbers that fit
+pub record ReadsItem {X : Type 0} (spelling : X → List ℕ) (Fits : X → Type 0) (item : X) (before after : Option (List ℕ)) : Type 0 where
+  pub bytes : Consumes before after (spelling item)
+  pub fit : Fits item
+
+-- count items were read, each of numbers that fit
+pub record ReadsItems {X : Type 0} (spelling : X → List ℕ) (Fits : X → Type 0) (count : ℕ) (items : List X) (before after : Option (List ℕ)) : Type 0 where
+  pub long : length items ≡ count
+  pub bytes : Consumes before after (flat_map spelling items)
+  pub fit : All Fits items
+
+-- what a fault in reading n bytes leaves: there were too few, or the reader failed
+abbrev pub ReadFault : FrameFault → ℕ → Option (List ℕ) → Option (List ℕ) → Type 0
+ReadFault Short n before after = RunsOut n before after
+ReadFault Device n before after = Lost n before after
+ReadFault fault n before after = ⊥
+
+-- the same for a body of n bytes, for which there may be no room: then none of them was read
+abbrev pub BodyFault : FrameFault → ℕ → Option (List ℕ) → Option (List ℕ) → Type 0
+BodyFault NoMemory n before after = Keeps before after
+BodyFault fault n before after = ReadFault fault n before after
+
+-- a moment was read
+pub record ReadsMoment (moment : ℕ) (before after : Option (List ℕ)) : Type 0 where
+  pub bytes : Consumes before after (le_bytes 8 moment)
+  pub fits : moment < 2 ^ 64
+
+-- what a stream answers as far as the moment
+abbrev pub MomentAnswers : Result (Option ℕ) FrameFault → Option (List ℕ) → Option (List ℕ) → Type 0
+MomentAnswers (Ok None) before after = TimedAnswers (Ok None) before after
+MomentAnswers (Ok (Some moment)) before after = ReadsMoment moment before after
+MomentAnswers (Err fault) before after = TimedAnswers (Err fault) before after
