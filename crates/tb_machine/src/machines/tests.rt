@@ -384,10 +384,49 @@ fn replies_transfers(
     Ok(replied.as_slice() == want)
 }
 
+/// Accounts 1 and 2 as the posts leave them, whole.
+fn posted_accounts() -> [Account; 2] {
+    let debited = Account {
+        debits_posted: 55,
+        timestamp: 11,
+        ..account_of(1)
+    };
+    let credited = Account {
+        credits_posted: 55,
+        timestamp: 12,
+        ..account_of(2)
+    };
+    [debited, credited]
+}
+
+/// The posts of the whole and of 15, whole.
+fn posts() -> [Transfer; 2] {
+    let whole = Transfer {
+        timestamp: 14,
+        ..transfer_between(1, 2, (21, 40, 20, 4))
+    };
+    let part = Transfer {
+        timestamp: 16,
+        ..transfer_between(1, 2, (23, 15, 22, 4))
+    };
+    [whole, part]
+}
+
+/// The machine's own lookups find these accounts and posts, field by field.
+fn finds_whole_records(machine: &Machine<Global>) -> Result<bool, Fail> {
+    let accounts = machine.lookup_accounts(&[1, 2])?;
+    let transfers = machine.lookup_transfers(&[21, 23])?;
+    Ok(
+        accounts.as_slice() == posted_accounts().as_slice()
+            && transfers.as_slice() == posts().as_slice(),
+    )
+}
+
 /// What the posts left, by the machine's own calls.
 fn expect_posts(rt: &impl Abort, alloc: Global, machine: &Machine<Global>) -> Result<(), Fail> {
     let want = [(21, 40), (23, 15), (25, 0)];
     assert!(rt; finds_transfers(alloc, machine, &[21, 23, 26, 25], &want)?);
+    assert!(rt; finds_whole_records(machine)?);
     assert!(rt; amount_and_time(machine, 23) == Some((15, 16)));
     assert!(rt; amount_and_time(machine, 26).is_none());
     assert!(rt; account_sums(machine, 1) == Some((1, 0, 55, 0, 0)));
