@@ -6,7 +6,8 @@ pub mod BatchLaws
 pub mod SoundLaws
 pub mod CuttingLaws
 pub mod MeaningLaws
-pub mod Places
+pub mod Entries
+pub mod Index
 pub mod Trails
 pub mod Parts
 pub mod Pairs

@@ -17,7 +17,7 @@ use std::alloc::Allocator;
 use tb_records::{Account, Transfer};
 
 /// The verdict on an account.
-pub(crate) fn account_code<A: Allocator>(rows: &Rows<A>, a: &Account) -> u32
+pub(crate) fn account_code<A: Allocator + Clone>(rows: &Rows<A>, a: &Account) -> u32
     requires { IsKept rows.now }
     ensures { result ≡ account_verdict (books_in rows.now) a.now }
 {
@@ -39,21 +39,21 @@ pub(crate) fn resolving(t: &Transfer) -> bool
 }
 
 /// By profile 2, whether the transfer's id has failed for good: 68, or 0.
-fn failed_code<A: Allocator>(rows: &Rows<A>, t: &Transfer) -> u32
+fn failed_code<A: Allocator + Clone>(rows: &Rows<A>, t: &Transfer) -> u32
     ensures { result ≡ first_of (failed_lines (books_in rows.now).failed t.now) }
 {
     if failed_before(rows, t) { 68 } else { 0 }
 }
 
 /// By profile 2: the transfer's id has failed for good.
-fn failed_before<A: Allocator>(rows: &Rows<A>, t: &Transfer) -> bool
+fn failed_before<A: Allocator + Clone>(rows: &Rows<A>, t: &Transfer) -> bool
     ensures { result ≡ option_map_or (list_any (λ id. id == t.now.id)) (books_in rows.now).failed false }
 {
     rows.keeps_failed && rows.failed.get(t.id).is_some()
 }
 
 /// How a transfer, filled, differs from the recorded one that has its id.
-fn repeated<A: Allocator>(rows: &Rows<A>, t: &Transfer, e: &Transfer) -> u32
+fn repeated<A: Allocator + Clone>(rows: &Rows<A>, t: &Transfer, e: &Transfer) -> u32
     ensures { result ≡ first_of (transfer_exists (Some e.now) (filled (books_in rows.now) t.now)) }
 {
     if resolving(t) {
@@ -67,7 +67,7 @@ fn repeated<A: Allocator>(rows: &Rows<A>, t: &Transfer, e: &Transfer) -> u32
 }
 
 /// What is wrong with a transfer of either kind, or with its id: a code, or 0.
-pub(crate) fn id_code<A: Allocator>(rows: &Rows<A>, t: &Transfer) -> u32
+pub(crate) fn id_code<A: Allocator + Clone>(rows: &Rows<A>, t: &Transfer) -> u32
     ensures { result ≡ id_verdict (books_in rows.now) t.now }
 {
     let code = transfer_own(t);
@@ -90,7 +90,7 @@ pub(crate) struct Exchange<'a> {
 
 /// The verdict on a transfer between two accounts, once its id is free: a code, or what it exchanges. Each account is looked
 /// up once, and neither where the transfer is wrong by itself.
-pub(crate) fn exchanged<'a, A: Allocator>(
+pub(crate) fn exchanged<'a, A: Allocator + Clone>(
     rows: &'a Rows<A>,
     t: &Transfer,
     time: u64,
@@ -135,7 +135,7 @@ pub(crate) struct Resolution<'a> {
 }
 
 /// The row of an account that a recorded transfer names.
-fn party<'a, A: Allocator>(rows: &'a Rows<A>, id: u128) -> &'a AccountRow
+fn party<'a, A: Allocator + Clone>(rows: &'a Rows<A>, id: u128) -> &'a AccountRow
     requires { IsSome (find (λ a. a.created.id == id) rows.now.accounts.0) }
     ensures { find (λ a. a.created.id == id) rows.now.accounts.0 ≡ Some result.now }
 {
@@ -162,7 +162,7 @@ fn closed_code(f: &Transfer, debit: &AccountRow, credit: &AccountRow) -> u32
 }
 
 /// The verdict on a post or void, once its id is free: a code, or what it resolves.
-pub(crate) fn resolved<'a, A: Allocator>(
+pub(crate) fn resolved<'a, A: Allocator + Clone>(
     rows: &'a Rows<A>,
     t: &Transfer,
 ) -> Result<Resolution<'a>, u32>
@@ -187,7 +187,7 @@ pub(crate) fn resolved<'a, A: Allocator>(
 
 /// The verdict on a post or void that is right by itself, by the pending transfer that it names. No account is looked up
 /// before the two fit, and then each once.
-fn resolved_by<'a, A: Allocator>(
+fn resolved_by<'a, A: Allocator + Clone>(
     rows: &'a Rows<A>,
     t: &Transfer,
     p: &'a TransferRow,

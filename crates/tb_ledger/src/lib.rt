@@ -9,10 +9,12 @@ mod expiry;
 mod judging;
 pub mod laws;
 mod ledgers;
+mod listing;
 mod recording;
 mod rows;
 mod settling;
 mod table;
+mod timeouts;
 mod undo;
 pub mod worked_rows;
 

@@ -18,7 +18,7 @@ use std::alloc::Allocator;
 use tb_records::{Account, Transfer};
 
 /// Judges an account, and records it with its timestamp where the verdict is 0.
-pub(crate) fn take_account<A: Allocator>(
+pub(crate) fn take_account<A: Allocator + Clone>(
     rows: &mut Rows<A>,
     trail: &mut Vec<Undo, A>,
     a: &Account,
@@ -44,7 +44,7 @@ pub(crate) fn take_account<A: Allocator>(
 }
 
 /// Judges a transfer between two accounts whose id is free, and records it, balanced and stamped, where the verdict is 0.
-fn take_single<A: Allocator>(
+fn take_single<A: Allocator + Clone>(
     rows: &mut Rows<A>,
     trail: &mut Vec<Undo, A>,
     t: &Transfer,
@@ -52,6 +52,7 @@ fn take_single<A: Allocator>(
 ) -> u32
     requires kept { IsKept rows.old }
     requires room { 0 < rows.old.transfers.1 }
+    requires timeouts_room { 0 < rows.old.timeouts.1 }
     requires trail_room { vec_len trail.old + TRAIL_PER_EVENT ≤ vec_capacity trail.old }
     requires stamped { rows.old.time < time + 1000000000 }
     requires free { id_verdict (books_in rows.old) t.now ≡ 0 }
@@ -61,6 +62,7 @@ fn take_single<A: Allocator>(
     ensures kept { IsKept rows.new }
     ensures step { IsStep TRAIL_PER_EVENT rows.old rows.new trail.old trail.new }
     ensures room { rows.old.transfers.1 ≤ rows.new.transfers.1 + 1 }
+    ensures timeouts_room { rows.old.timeouts.1 ≤ rows.new.timeouts.1 + 1 }
 {
     match exchanged(rows, t, time) {
         Ok(found) => {
@@ -82,7 +84,7 @@ fn take_single<A: Allocator>(
 }
 
 /// Judges a post or void whose id is free, and records it, filled and stamped, where the verdict is 0.
-fn take_resolving<A: Allocator>(
+fn take_resolving<A: Allocator + Clone>(
     rows: &mut Rows<A>,
     trail: &mut Vec<Undo, A>,
     t: &Transfer,
@@ -98,6 +100,7 @@ fn take_resolving<A: Allocator>(
     ensures kept { IsKept rows.new }
     ensures step { IsStep TRAIL_PER_EVENT rows.old rows.new trail.old trail.new }
     ensures room { rows.old.transfers.1 ≤ rows.new.transfers.1 + 1 }
+    ensures timeouts_room { rows.old.timeouts.1 ≤ rows.new.timeouts.1 + 1 }
 {
     match resolved(rows, t) {
         Ok(found) => {
@@ -119,7 +122,7 @@ fn take_resolving<A: Allocator>(
 }
 
 /// Judges a transfer, and records it where the verdict is 0.
-pub(crate) fn take_transfer<A: Allocator>(
+pub(crate) fn take_transfer<A: Allocator + Clone>(
     rows: &mut Rows<A>,
     trail: &mut Vec<Undo, A>,
     t: &Transfer,
@@ -127,6 +130,7 @@ pub(crate) fn take_transfer<A: Allocator>(
 ) -> u32
     requires kept { IsKept rows.old }
     requires room { 0 < rows.old.transfers.1 }
+    requires timeouts_room { 0 < rows.old.timeouts.1 }
     requires trail_room { vec_len trail.old + TRAIL_PER_EVENT ≤ vec_capacity trail.old }
     requires stamped { rows.old.time < time + 1000000000 }
     ensures code { result ≡ transfer_events.verdict (books_in rows.old) t.now time }
@@ -134,6 +138,7 @@ pub(crate) fn take_transfer<A: Allocator>(
     ensures kept { IsKept rows.new }
     ensures step { IsStep TRAIL_PER_EVENT rows.old rows.new trail.old trail.new }
     ensures room { rows.old.transfers.1 ≤ rows.new.transfers.1 + 1 }
+    ensures timeouts_room { rows.old.timeouts.1 ≤ rows.new.timeouts.1 + 1 }
 {
     let code = id_code(rows, t);
     if code != 0 {
@@ -154,7 +159,7 @@ fn final_code(code: u32) -> bool
 }
 
 /// By profile 2, notes the id of a transfer that has failed for good.
-pub(crate) fn note_failed<A: Allocator>(rows: &mut Rows<A>, t: &Transfer, code: u32)
+pub(crate) fn note_failed<A: Allocator + Clone>(rows: &mut Rows<A>, t: &Transfer, code: u32)
     requires kept { IsKept rows.old }
     requires ids { rows.old.keeps_failed ≡ true → 1 ≤ rows.old.failed.1 }
     requires fresh { is_final code ≡ true → option_map_or (list_any (λ id. id == t.now.id)) (books_in rows.old).failed false ≡ false }
@@ -162,6 +167,7 @@ pub(crate) fn note_failed<A: Allocator>(rows: &mut Rows<A>, t: &Transfer, code: 
     ensures kept { IsKept rows.new }
     ensures accounts { rows.new.accounts ≡ rows.old.accounts }
     ensures transfers { rows.new.transfers ≡ rows.old.transfers }
+    ensures timeouts { rows.new.timeouts ≡ rows.old.timeouts }
     ensures ids { (n : ℕ) → (rows.old.keeps_failed ≡ true → 1 + n ≤ rows.old.failed.1) → rows.new.keeps_failed ≡ true → n ≤ rows.new.failed.1 }
     ensures time { rows.new.time ≡ rows.old.time }
 {
