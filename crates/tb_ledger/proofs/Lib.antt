@@ -22,3 +22,4 @@ pub mod RowLaws
 pub mod VerdictLaws
 pub mod ReadLaws
 pub mod FailedLaws
+pub mod Profiles

@@ -20,6 +20,18 @@ abbrev pub empty_books : Profile → Books
 empty_books One = record { accounts = []; transfers = []; failed = None; time = 0 }
 empty_books Two = record { accounts = []; transfers = []; failed = Some []; time = 0 }
 
+-- the profile that books go by
+abbrev pub profile_by : Option (List ℕ) → Profile
+profile_by None = One
+profile_by (Some ids) = Two
+
+abbrev pub profile_of : Books → Profile
+profile_of B = profile_by B.failed
+
+-- from profile 1 to 2: the books stay, and no id has failed
+abbrev pub moved_to_two : Books → Books
+moved_to_two B = record B { failed = Some [] }
+
 -- flags
 
 -- one of the mask's bits is set

@@ -1,7 +1,7 @@
 //! The ledger: its books, kept in rows.
 ghost use Rattle.std.specs.Prelude.{◌≡◌, ◌+◌, ◌<◌, ◌≤◌, ◌++◌, max, true, length, IfOk, OnOk, OnErr, vec_len, vec_capacity};
 ghost use Rattle.tb_ledger.specs.Batches.{account_events, batch_after, results, transfer_events};
-ghost use Rattle.tb_ledger.specs.Books.{account_now, empty_books, found_accounts, found_transfers, transfer_at};
+ghost use Rattle.tb_ledger.specs.Books.{account_now, empty_books, found_accounts, found_transfers, moved_to_two, profile_of, transfer_at};
 ghost use Rattle.tb_ledger.specs.Kept.{books_in, IsKept, row_now};
 ghost use Rattle.tb_ledger.specs.Tables.{IsShortSearch};
 ghost use Rattle.tb_ledger.specs.Verdicts.{max_time};
@@ -116,6 +116,25 @@ impl<A: Allocator + Clone> Ledger<A> {
         ensures { result ≡ self.now.time }
     {
         self.rows.time
+    }
+
+    /// The profile that it goes by.
+    pub fn profile(&self) -> Profile
+        ensures { result ≡ profile_of self.now }
+    {
+        if self.rows.keeps_failed {
+            Profile::Two
+        } else {
+            Profile::One
+        }
+    }
+
+    /// Goes over from profile 1 to profile 2: the books stay as they are, and no id has failed yet. Takes no memory.
+    pub fn move_to_two(&mut self)
+        requires { profile_of self.old ≡ Profile.One }
+        ensures { self.new ≡ moved_to_two self.old }
+    {
+        self.rows.keeps_failed = true;
     }
 
     /// The account of an id as it stands: its four sums, and flag closed where it is closed. None where it isn't there.

@@ -231,6 +231,7 @@ enum Case {
     FailedIds,
     Outlived,
     Filled,
+    MovedToTwo,
 }
 
 // `again` is the code of a transfer whose id failed for good before, and which is right by now.
@@ -254,6 +255,7 @@ fn ask_case(rt: &impl Abort, run: &mut Run, case: Case, again: u32) -> Result<()
         Case::FailedIds => failed_ids(rt, run, again),
         Case::Outlived => outlived(rt, run),
         Case::Filled => filled(rt, run),
+        Case::MovedToTwo => moved_to_two(rt, run),
     }
 }
 
@@ -711,4 +713,35 @@ fn probes_stay_short(rt: HostRuntime) -> Result<(), Fail> {
     let (none, visits) = ledger.probe_account(9000);
     assert!(rt; none.is_none() && visits <= 18);
     Ok(())
+}
+
+fn go_to_two(rt: &impl Abort, run: &mut Run) {
+    assert!(rt; run.ledger.profile() == Profile::One);
+    run.ledger.move_to_two();
+    assert!(rt; run.ledger.profile() == Profile::Two);
+}
+
+// An id that failed before the step from profile 1 to 2 does not count, one that fails after it does; the books stay.
+fn moved_to_two(rt: &impl Abort, run: &mut Run) -> Result<(), Fail> {
+    ask_each(
+        rt,
+        run,
+        &[((70, 99, 2, 0, 1, 0), 21), ((71, 1, 2, 0, 5, 0), 0)],
+    )?;
+    go_to_two(rt, run);
+    expect_account(rt, run, 1, [0, 5, 0, 0], 0);
+    ask_each(
+        rt,
+        run,
+        &[
+            ((70, 1, 2, 0, 1, 0), 0),
+            ((72, 99, 2, 0, 1, 0), 21),
+            ((72, 1, 2, 0, 1, 0), 68),
+        ],
+    )
+}
+
+#[test]
+fn failed_ids_begin_at_profile_two(rt: HostRuntime) -> Result<(), Fail> {
+    by_profile(&rt, rt.alloc(), Profile::One, Case::MovedToTwo)
 }

@@ -9,7 +9,7 @@ use Rattle.tb_records.specs.declared.replies.Status.{Status}
 use Rattle.tb_records.specs.declared.replies.Status.TheVariants as status
 use Rattle.tb_records.specs.declared.limits.Profile.{Profile}
 use Rattle.tb_records.specs.Messages.{Message, Answer, operation, count, is_register, number_fault, answered}
-use Rattle.tb_ledger.specs.Books.{Books, empty_books, found_accounts, found_transfers}
+use Rattle.tb_ledger.specs.Books.{Books, empty_books, moved_to_two, found_accounts, found_transfers}
 use Rattle.tb_ledger.specs.Verdicts.{max_time}
 use Rattle.tb_ledger.specs.Batches.{account_events, transfer_events, batch_after, results}
 use Rattle.tb_sessions.specs.declared.rows.Row.{Row}
@@ -111,6 +111,10 @@ step S e = record {
   books = executed S.books e.request.body e.time;
   rows = admitted S.clients_max S.rows (row_at S e);
 }
+
+-- profile 2 from here on: all else stays
+abbrev pub to_two : State → State
+to_two S = record S { books = moved_to_two S.books }
 
 -- histories
 

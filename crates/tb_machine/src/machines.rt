@@ -2,10 +2,10 @@
 ghost use Rattle.std.specs.Prelude.{◌≡◌, ◌+◌, ◌≤◌, ◌<◌, max, IfOk, MatchOption, MatchResult, IsTrue, None, Some};
 ghost use Rattle.std.specs.Option.{option_map};
 ghost use Rattle.tb_records.specs.Messages.{IsLawful};
-ghost use Rattle.tb_ledger.specs.Books.{account_now, transfer_at, found_accounts, found_transfers};
+ghost use Rattle.tb_ledger.specs.Books.{account_now, profile_of, transfer_at, found_accounts, found_transfers};
 ghost use Rattle.tb_ledger.specs.Verdicts.{max_time};
 ghost use Rattle.tb_sessions.specs.Judged.{class_of, row_of};
-ghost use Rattle.tb_machine.specs.Histories.{start, step, fits, least_time};
+ghost use Rattle.tb_machine.specs.Histories.{start, step, to_two, fits, least_time};
 
 use crate::entries::Entry;
 use crate::executing::{execute, reply_with};
@@ -69,6 +69,28 @@ impl<A: Allocator + Clone> Machine<A> {
             return None;
         }
         Some(time)
+    }
+
+    /// The profile that it goes by.
+    pub fn profile(&self) -> Profile
+        ensures { result ≡ profile_of self.now.books }
+    {
+        self.ledger.profile()
+    }
+
+    /// Goes over from profile 1 to profile 2: all stays as it is, and no id has failed yet. Takes no memory.
+    pub fn move_to_two(&mut self)
+        requires { profile_of self.old.books ≡ Profile.One }
+        ensures { self.new ≡ to_two self.old }
+    {
+        self.ledger.move_to_two();
+    }
+
+    /// The time of the last entry, in nanoseconds; 0 before the first.
+    pub fn time(&self) -> u64
+        ensures { result ≡ self.now.books.time }
+    {
+        self.ledger.time()
     }
 
     /// The number of the last entry; 0 before the first.
