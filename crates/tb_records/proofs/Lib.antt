@@ -1,4 +1,5 @@
 pub mod ByKey
+pub mod DumpAnswers
 pub mod FirstFaults
 pub mod FrameFaults
 pub mod HeaderBytes

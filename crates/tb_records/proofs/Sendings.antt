@@ -8,7 +8,9 @@ use Rattle.std.specs.Io.KnownBytes.{Appends}
 use Rattle.tb_records.specs.declared.bodies.ReplyBody.{ReplyBody}
 use Rattle.tb_records.specs.declared.faults.FrameFault.{FrameFault}
 use Rattle.tb_records.specs.declared.faults.FrameFault.TheVariants.{Device}
-use Rattle.tb_records.specs.Messages.{Answer}
+use Rattle.tb_records.specs.declared.bodies.Body.{Body}
+use Rattle.tb_records.specs.Frames.{header_bytes, body_bytes, request_bytes}
+use Rattle.tb_records.specs.Messages.{Message, Answer, operation}
 use Rattle.tb_records.specs.ReplyFrames.{header_of_reply, reply_body_bytes, reply_bytes}
 use Rattle.tb_records.specs.Transport.{Output, Sent, CutOff}
 use Rattle.tb_records.proofs.Pieces.{refuses_since}
@@ -63,3 +65,9 @@ pub reply_frame : (r : Answer) (header : List ℕ) (len : ℕ) (body : ReplyBody
 reply_frame r header len body eh el eb =
     ap (λ (l : List ℕ). l ++ reply_body_bytes body) (eh ∙ ap (header_of_reply r) el)
     ∙ ap (λ (b : ReplyBody). header_of_reply r (length (reply_body_bytes b)) ++ reply_body_bytes b) eb
+
+pub request_frame : (r : Message) (header : List ℕ) (len : ℕ) (body : Body) → header ≡ header_bytes r.client r.session r.request (operation r.body) len → len ≡ length (body_bytes body) → body ≡ r.body
+    → header ++ body_bytes body ≡ request_bytes r
+request_frame r header len body eh el eb =
+    ap (λ (l : List ℕ). l ++ body_bytes body) (eh ∙ ap (header_bytes r.client r.session r.request (operation r.body)) el)
+    ∙ ap (λ (b : Body). header_bytes r.client r.session r.request (operation r.body) (length (body_bytes b)) ++ body_bytes b) eb

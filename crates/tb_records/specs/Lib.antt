@@ -7,6 +7,7 @@ pub mod Frames
 pub mod ReplyFrames
 pub mod Faults
 pub mod Inputs
+pub mod DumpBytes
 pub mod Transport
 pub mod Ordered
 -- what private functions alone cite

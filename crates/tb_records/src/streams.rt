@@ -168,7 +168,10 @@ fn header_from<S: Source>(source: &mut S) -> Result<Option<Header>, FrameFault>
 }
 
 /// Reads one request. None where the input ends before the first byte.
-fn request_from<S: Source>(alloc: Global, source: &mut S) -> Result<Option<Request>, FrameFault>
+pub(crate) fn request_from<S: Source>(
+    alloc: Global,
+    source: &mut S,
+) -> Result<Option<Request>, FrameFault>
     ensures answer { Answers result (S.input source.old).left (S.input source.new).left }
     ensures counted { Counts result (S.input source.old) (S.input source.new) }
 {

@@ -161,6 +161,37 @@ pub fn write_reply(reply: &Reply, out: &mut Vec<u8>) -> Result<(), AllocError>
     Ok(())
 }
 
+/// Writes the body of a request to a sink.
+#[tactic(auto, unfolding(crate::specs::Frames::body_bytes))]
+fn send_request_body<W: Sink>(sink: &mut W, body: &Body) -> Result<(), FrameFault>
+    ensures { MatchResult result
+        (λ _. Sent (body_bytes body.now) (W.output sink.old) (W.output sink.new))
+        (λ f. (f ≡ FrameFault.Device) × CutOff (body_bytes body.now) (W.output sink.old) (W.output sink.new)) }
+{
+    match body {
+        Body::Register => Ok(()),
+        Body::CreateAccounts(events) => put_items(sink, events.as_slice()),
+        Body::CreateTransfers(events) => put_items(sink, events.as_slice()),
+        Body::LookupAccounts(ids) => put_items(sink, ids.as_slice()),
+        Body::LookupTransfers(ids) => put_items(sink, ids.as_slice()),
+    }
+}
+
+/// Writes a request's frame to a sink. Device where the sink answers an error, or takes nothing of what is left: then a
+/// beginning of the frame went out.
+pub fn send_request<W: Sink>(sink: &mut W, request: &Request) -> Result<(), FrameFault>
+    ensures { MatchResult result
+        (λ _. Sent (request_bytes request.now) (W.output sink.old) (W.output sink.new))
+        (λ f. (f ≡ FrameFault.Device) × CutOff (request_bytes request.now) (W.output sink.old) (W.output sink.new)) }
+{
+    let body = request.body();
+    let len = body_len(body);
+    match put_all(sink, &request_header(request, len)) {
+        Ok(()) => send_request_body(sink, body),
+        Err(fault) => Err(fault),
+    }
+}
+
 /// Writes the body of a reply to a sink.
 #[tactic(auto, unfolding(crate::specs::ReplyFrames::reply_body_bytes))]
 fn send_body<W: Sink>(sink: &mut W, body: &ReplyBody) -> Result<(), FrameFault>

@@ -1,0 +1,153 @@
+-- What is read of a dump, by where its reading ended.
+use Rattle.std.proofs.Common.{◌≡◌, ◌≢◌, ℕ, ◌+◌, ◌^◌, ◌<◌, ◌≤◌, List, [], ◌∷◌, ◌++◌, length, take, drop, Option, Some, None, Ok, Err, inl, inr, refl, sym, ap, subst, ◌∙◌, arith, length-append, length-take, length-drop, drop_at, append_assoc, append-nil, take_all}
+use Rattle.std.proofs.lemmas.List.{drop_all}
+use Rattle.std.specs.Io.KnownBytes.{Consumes}
+use Rattle.tb_records.specs.declared.dumps.DumpFault.TheVariants.{Head, Mark, Frame}
+use Rattle.tb_records.specs.declared.dumps.DumpHead.{DumpHead}
+use Rattle.tb_records.specs.declared.dumps.DumpItem.TheVariants as item
+use Rattle.tb_records.specs.declared.faults.FrameFault.{FrameFault}
+use Rattle.tb_records.specs.declared.faults.FrameFault.TheVariants.{Short, Device}
+use Rattle.tb_records.specs.declared.limits.Profile.{Profile}
+use Rattle.tb_records.specs.declared.limits.Profile.TheVariants.{One, Two}
+use Rattle.tb_records.specs.DumpBytes.{signature, profile_number, head_bytes, numbers_bytes, IsClients, IsDumped, HasNoHead, HeadAnswers, ItemAnswers, ItemFaulted, Begins, FrameFaulted, ReadsNumbers}
+use Rattle.tb_records.specs.Frames.{request_bytes, request_fault, length_at, IsRequest}
+use Rattle.tb_records.specs.Inputs.{Answers, Faulted}
+use Rattle.tb_records.specs.Messages.{Message}
+use Rattle.tb_records.specs.Numbers.{le_bytes, le_at}
+use Rattle.tb_records.specs.Sizes.{length-le_bytes}
+use Rattle.tb_records.specs.Transport.{Filled, Lost}
+use Rattle.tb_records.proofs.FrameFaults.{cut_header}
+use Rattle.tb_records.proofs.NumberBytes.{le_at-append, le_at-last, le_bytes-one, split_at}
+
+-- heads
+
+-- the signature as a number
+pub signed : le_bytes 8 3553425134609187412 ≡ signature
+unfolding le_bytes
+signed = refl
+
+pub length-head : (profile : Profile) (clients_max : ℕ) → length (head_bytes profile clients_max) ≡ 16
+unfolding head_bytes
+length-head profile clients_max = simp (length-append, length-le_bytes)
+
+small_profile : (profile : Profile) → profile_number profile < 2 ^ 32
+small_profile One = omega arith
+small_profile Two = omega arith
+
+-- the fields of bytes that begin with a head
+pub record HeadFields (b : List ℕ) (profile : Profile) (clients_max : ℕ) : Type 0 where
+  pub signature_is : le_at 8 0 b ≡ 3553425134609187412
+  pub profile_is : le_at 4 8 b ≡ profile_number profile
+  pub clients_is : le_at 4 12 b ≡ clients_max
+
+pub head_fields : (profile : Profile) (clients_max : ℕ) (rest : List ℕ) → IsClients clients_max → HeadFields (head_bytes profile clients_max ++ rest) profile clients_max
+unfolding head_bytes
+head_fields profile clients_max rest few =
+    let p0 : List ℕ = signature in
+    let p1 : List ℕ = p0 ++ le_bytes 4 (profile_number profile) in
+    let l1 : length p1 ≡ 12 = omega (arith, length-append p0 (le_bytes 4 (profile_number profile)), length-le_bytes 4 (profile_number profile)) in
+    let p2 : List ℕ = p1 ++ le_bytes 4 clients_max in
+    let l2 : length p2 ≡ 16 = omega (arith, length-append p1 (le_bytes 4 clients_max), length-le_bytes 4 clients_max, l1) in
+    record {
+      signature_is = le_at-append 8 0 p2 rest (omega arith)
+          ∙ le_at-append 8 0 p1 (le_bytes 4 clients_max) (omega arith)
+          ∙ le_at-append 8 0 p0 (le_bytes 4 (profile_number profile)) (omega arith)
+          ∙ ap (le_at 8 0) (sym signed)
+          ∙ le_at-last 8 0 3553425134609187412 [] refl (omega arith);
+      profile_is = le_at-append 4 8 p2 rest (omega arith)
+          ∙ le_at-append 4 8 p1 (le_bytes 4 clients_max) (omega arith)
+          ∙ le_at-last 4 8 (profile_number profile) p0 refl (small_profile profile);
+      clients_is = le_at-append 4 12 p2 rest (omega arith)
+          ∙ le_at-last 4 12 clients_max p1 l1 (omega (arith, few.1));
+    }
+
+-- too few bytes for a head
+short_head : (b : List ℕ) → length b < 16 → HasNoHead b
+short_head b few profile clients_max rest is e = absurd (omega (arith, few, ap length e, length-append (head_bytes profile clients_max) rest, length-head profile clients_max))
+
+-- more bytes behind make no head
+no_head_more : (b more : List ℕ) → length b ≡ 16 → HasNoHead b → HasNoHead (b ++ more)
+no_head_more b more long none profile clients_max rest is e =
+    none profile clients_max [] is ((split_at b (head_bytes profile clients_max) more rest (long ∙ sym (length-head profile clients_max)) e).0 ∙ sym (append-nil (head_bytes profile clients_max)))
+
+-- the head is cut
+pub cut_head : (buf : List ℕ) (n : ℕ) (old new : Option (List ℕ)) → n < 16 → length buf ≡ 16 → Filled n buf old new → HeadAnswers (Err Head) old new
+cut_head buf n None new h long f = tt
+cut_head buf n (Some old) None h long f = absurd f.bytes
+cut_head buf n (Some old) (Some new) h long f =
+    let left : old ≡ take n buf ++ new = f.bytes in
+    let none : new ≡ [] = f.end (omega arith) in
+    let size : length old ≡ n = omega (arith, ap length left, ap length none, length-append (take n buf) new, length-take n buf) in
+    (short_head old (omega (arith, size)), none ∙ sym (drop_all 16 old (omega (arith, size))))
+
+-- 16 bytes that are no head
+pub other_head : (buf : List ℕ) (n : ℕ) (old new : Option (List ℕ)) → 16 ≤ n → length buf ≡ 16 → Filled n buf old new → HasNoHead buf → HeadAnswers (Err Head) old new
+other_head buf n None new h long f none = tt
+other_head buf n (Some old) None h long f none = absurd f.bytes
+other_head buf n (Some old) (Some new) h long f none =
+    let left : old ≡ buf ++ new = subst (λ l. old ≡ l ++ new) (take_all n buf (omega arith)) f.bytes in
+    (subst HasNoHead (sym left) (no_head_more buf new long none), sym (drop_at buf new 16 long) ∙ ap (drop 16) (sym left))
+
+-- marks and entries
+
+pub length-numbers : (first second : ℕ) → length (numbers_bytes first second) ≡ 16
+unfolding numbers_bytes
+length-numbers first second = simp (length-append, length-le_bytes)
+
+pub cut_numbers : (buf : List ℕ) (n : ℕ) (old new : Option (List ℕ)) → (n ≡ 0 → ⊥) → n < 16 → length buf ≡ 16 → Filled n buf old new → ItemAnswers (Err (Frame Short)) old new
+cut_numbers buf n None new some h long f = tt
+cut_numbers buf n (Some old) None some h long f = absurd f.bytes
+cut_numbers buf n (Some old) (Some new) some h long f =
+    let left : old ≡ take n buf ++ new = f.bytes in
+    let none : new ≡ [] = f.end (omega arith) in
+    let size : length old ≡ n = omega (arith, ap length left, ap length none, length-append (take n buf) new, length-take n buf) in
+    inl ((omega (arith, size), omega (arith, size)), none)
+
+-- an entry's numbers were read, and what stands behind them
+begins : (commit time : ℕ) (old mid : List ℕ) → (commit ≡ 0 → ⊥) → old ≡ numbers_bytes commit time ++ mid → Begins old mid
+begins commit time old mid some left = record { commit = commit; time = time; entry = omega arith; bytes = left }
+
+pub no_frame : (commit time : ℕ) (old mid new : Option (List ℕ)) → (commit ≡ 0 → ⊥) → ReadsNumbers commit time old mid → Answers (Ok None) mid new → ItemAnswers (Err (Frame Short)) old new
+no_frame commit time None mid new some read rest = tt
+no_frame commit time (Some old) None new some read rest = absurd read.bytes
+no_frame commit time (Some old) (Some mid) None some read rest = absurd rest
+no_frame commit time (Some old) (Some mid) (Some new) some read rest =
+    inr (mid, begins commit time old mid some read.bytes, (cut_header mid (omega (arith, ap length rest.0)), rest.1))
+
+pub bad_frame : (fault : FrameFault) (commit time : ℕ) (old mid new : Option (List ℕ)) → (commit ≡ 0 → ⊥) → ReadsNumbers commit time old mid → Answers (Err fault) mid new → ItemAnswers (Err (Frame fault)) old new
+bad_frame fault commit time None mid new some read rest = tt
+bad_frame fault commit time (Some old) None new some read rest = absurd read.bytes
+bad_frame fault commit time (Some old) (Some mid) None some read rest = absurd rest
+bad_frame fault commit time (Some old) (Some mid) (Some new) some read rest = by fault (begins commit time old mid some read.bytes) read.bytes rest
+  where
+    by : (fault : FrameFault) → Begins old mid → old ≡ numbers_bytes commit time ++ mid → Faulted fault mid new → ItemFaulted (Frame fault) old new
+    by Device begun left rest =
+        let behind : drop 16 old ≡ mid = ap (drop 16) left ∙ drop_at (numbers_bytes commit time) mid 16 (length-numbers commit time) in (
+          numbers_bytes commit time ++ rest.0,
+          omega (arith, length-append (numbers_bytes commit time) rest.0, length-numbers commit time, rest.1, ap length_at behind),
+          left ∙ ap (λ l. numbers_bytes commit time ++ l) rest.2 ∙ sym (append_assoc (numbers_bytes commit time) rest.0 new),
+        )
+    by Short begun left rest = inr (mid, begun, (rest.1, rest.2))
+    by fault begun left rest = (mid, begun, rest)
+
+-- the numbers that 16 bytes spell
+pub spelled_numbers : (buf : List ℕ) (first second : ℕ) → length buf ≡ 16 → take 8 buf ≡ take 0 buf ++ le_bytes 8 first → take 16 buf ≡ take 8 buf ++ le_bytes 8 second → buf ≡ numbers_bytes first second
+unfolding numbers_bytes
+spelled_numbers buf first second long e f = sym (take_all 16 buf (omega arith)) ∙ f ∙ ap (λ l. l ++ le_bytes 8 second) e
+
+pub two_numbers : (buf : List ℕ) (n : ℕ) (first second : ℕ) (old new : Option (List ℕ)) → 16 ≤ n → length buf ≡ 16 → Filled n buf old new
+    → take 8 buf ≡ take 0 buf ++ le_bytes 8 first → take 16 buf ≡ take 8 buf ++ le_bytes 8 second → first < 2 ^ 64 → second < 2 ^ 64 → ReadsNumbers first second old new
+two_numbers buf n first second old new h long f e1 e2 fits1 fits2 = record {
+  bytes = subst (Consumes old new) (take_all n buf (omega arith) ∙ spelled_numbers buf first second long e1 e2) f.bytes;
+  first_fits = fits1;
+  second_fits = fits2;
+}
+
+-- the head that 16 bytes spell
+pub spelled_head : (buf : List ℕ) (sign number clients_max : ℕ) (profile : Profile) → length buf ≡ 16 → sign ≡ 3553425134609187412 → number ≡ profile_number profile
+    → take 8 buf ≡ take 0 buf ++ le_bytes 8 sign → take 12 buf ≡ take 8 buf ++ le_bytes 4 number → take 16 buf ≡ take 12 buf ++ le_bytes 4 clients_max → buf ≡ head_bytes profile clients_max
+unfolding head_bytes
+spelled_head buf sign number clients_max profile long is_signed is_number e f g =
+    sym (take_all 16 buf (omega arith))
+    ∙ g
+    ∙ ap (λ l. l ++ le_bytes 4 clients_max) (f ∙ ap (λ l. l ++ le_bytes 4 number) (e ∙ ap (le_bytes 8) is_signed ∙ signed) ∙ ap (λ n. signature ++ le_bytes 4 n) is_number)

@@ -1,0 +1,123 @@
+-- The bytes of a dump: a head of 16 bytes, and behind it entries and at most one mark, one after another.
+use Rattle.std.specs.Prelude.{ℕ, ◌≡◌, ◌≢◌, ◌⊎◌, ◌+◌, ◌^◌, ◌<◌, ◌≤◌, List, [], ◌∷◌, ◌++◌, length, drop, Option, Some, None, Result, Ok, Err}
+use Rattle.std.specs.Io.KnownBytes.{Consumes}
+use Rattle.tb_records.specs.declared.dumps.DumpFault.{DumpFault}
+use Rattle.tb_records.specs.declared.dumps.DumpFault.TheVariants.{Head, Mark, Frame}
+use Rattle.tb_records.specs.declared.dumps.DumpHead.{DumpHead}
+use Rattle.tb_records.specs.declared.dumps.DumpItem.{DumpItem}
+use Rattle.tb_records.specs.declared.dumps.DumpItem.TheVariants as item
+use Rattle.tb_records.specs.declared.faults.FrameFault.{FrameFault}
+use Rattle.tb_records.specs.declared.faults.FrameFault.TheVariants.{Short, Device}
+use Rattle.tb_records.specs.declared.limits.Profile.{Profile}
+use Rattle.tb_records.specs.declared.limits.Profile.TheVariants.{One, Two}
+use Rattle.tb_records.specs.Frames.{request_bytes, request_fault, length_at, IsRequest}
+use Rattle.tb_records.specs.Inputs.{Faulted}
+use Rattle.tb_records.specs.Messages.{Message}
+use Rattle.tb_records.specs.Numbers.{le_bytes}
+use Rattle.tb_records.specs.Transport.{Input, FaultCounts}
+
+-- TBSDUMP1
+abbrev pub signature : List ℕ
+signature = 84 ∷ 66 ∷ 83 ∷ 68 ∷ 85 ∷ 77 ∷ 80 ∷ 49 ∷ []
+
+abbrev pub profile_number : Profile → ℕ
+profile_number One = 1
+profile_number Two = 2
+
+-- the head: the signature, the profile, and the number of clients that can have a session at one time
+unfoldable pub head_bytes : Profile → ℕ → List ℕ
+head_bytes profile clients_max = signature ++ le_bytes 4 (profile_number profile) ++ le_bytes 4 clients_max
+
+abbrev pub IsClients : ℕ → Type 0
+IsClients n = (0 < n) × (n ≤ 64)
+
+-- two numbers of 8 bytes: those of an entry, or a mark's
+unfoldable pub numbers_bytes : ℕ → ℕ → List ℕ
+numbers_bytes first second = le_bytes 8 first ++ le_bytes 8 second
+
+-- from a mark on the entries go by profile 2
+abbrev pub mark_bytes : List ℕ
+mark_bytes = numbers_bytes 0 2
+
+-- an entry: its commit number, its time, and the frame of its request
+abbrev pub entry_bytes : ℕ → ℕ → Message → List ℕ
+entry_bytes commit time r = numbers_bytes commit time ++ request_bytes r
+
+-- what the bytes of an entry can hold: commit number 0 says that a mark stands there
+pub record IsDumped (commit time : ℕ) (r : Message) : Type 0 where
+  pub entry : 0 < commit
+  pub commit_fits : commit < 2 ^ 64
+  pub time_fits : time < 2 ^ 64
+  pub request : IsRequest r
+
+-- what is read
+
+-- no head stands at the beginning of the bytes
+abbrev pub HasNoHead : List ℕ → Type 0
+HasNoHead b = (profile : Profile) (clients_max : ℕ) (rest : List ℕ) → IsClients clients_max → b ≡ head_bytes profile clients_max ++ rest → ⊥
+
+abbrev pub HeadAnswered : Result DumpHead DumpFault → List ℕ → List ℕ → Type 0
+HeadAnswered (Ok head) before after = (before ≡ head_bytes head.profile head.clients_max ++ after) × IsClients head.clients_max
+HeadAnswered (Err Head) before after = HasNoHead before × (after ≡ drop 16 before)
+HeadAnswered (Err (Frame Device)) before after = (front : List ℕ) × (length front ≤ 16) × (before ≡ front ++ after)
+HeadAnswered (Err fault) before after = ⊥
+
+-- the same of a reader that may not tell its bytes
+abbrev pub HeadAnswers : Result DumpHead DumpFault → Option (List ℕ) → Option (List ℕ) → Type 0
+HeadAnswers result None after = Unit {0}
+HeadAnswers result (Some before) None = ⊥
+HeadAnswers result (Some before) (Some after) = HeadAnswered result before after
+
+-- the first 16 bytes are those of an entry
+pub record Begins (before rest : List ℕ) : Type 0 where
+  pub commit : ℕ
+  pub time : ℕ
+  pub entry : 0 < commit
+  pub bytes : before ≡ numbers_bytes commit time ++ rest
+
+-- there are some bytes, and too few for two numbers
+abbrev pub IsCut : List ℕ → Type 0
+IsCut b = (0 < length b) × (length b < 16)
+
+-- behind an entry's numbers: no frame, or one with a fault
+abbrev pub FrameFaulted : FrameFault → List ℕ → List ℕ → Type 0
+FrameFaulted Short rest after = (request_fault rest ≡ Some Short) × (after ≡ [])
+FrameFaulted fault rest after = Faulted fault rest after
+
+-- of a reader that failed, no more than an entry's bytes are gone
+abbrev pub ItemFaulted : DumpFault → List ℕ → List ℕ → Type 0
+ItemFaulted Mark before after = (number : ℕ) × (before ≡ numbers_bytes 0 number ++ after) × (number < 2 ^ 64) × (number ≢ 2)
+ItemFaulted (Frame Device) before after = (front : List ℕ) × (length front ≤ 64 + length_at (drop 16 before)) × (before ≡ front ++ after)
+ItemFaulted (Frame Short) before after = (IsCut before × (after ≡ [])) ⊎ ((rest : List ℕ) × Begins before rest × FrameFaulted Short rest after)
+ItemFaulted (Frame fault) before after = (rest : List ℕ) × Begins before rest × FrameFaulted fault rest after
+ItemFaulted fault before after = ⊥
+
+-- what stands next in a dump: nothing at its end, else a mark or an entry, of which just the bytes are read, or a fault
+abbrev pub ItemAnswered : Result (Option DumpItem) DumpFault → List ℕ → List ℕ → Type 0
+ItemAnswered (Ok None) before after = (before ≡ []) × (after ≡ [])
+ItemAnswered (Ok (Some item.Mark)) before after = before ≡ mark_bytes ++ after
+ItemAnswered (Ok (Some (item.Entry commit time request))) before after = (before ≡ entry_bytes commit time request ++ after) × IsDumped commit time request
+ItemAnswered (Err fault) before after = ItemFaulted fault before after
+
+-- the same of a reader that may not tell its bytes
+abbrev pub ItemAnswers : Result (Option DumpItem) DumpFault → Option (List ℕ) → Option (List ℕ) → Type 0
+ItemAnswers result None after = Unit {0}
+ItemAnswers result (Some before) None = ⊥
+ItemAnswers result (Some before) (Some after) = ItemAnswered result before after
+
+-- what an answer says of the reader's errors
+abbrev pub DumpCounts : {X : Type 0} → Result X DumpFault → Input → Input → Type 0
+DumpCounts (Err (Frame fault)) before after = FaultCounts fault before after
+DumpCounts result before after = after.failed ≡ before.failed
+
+-- two numbers were read
+pub record ReadsNumbers (first second : ℕ) (before after : Option (List ℕ)) : Type 0 where
+  pub bytes : Consumes before after (numbers_bytes first second)
+  pub first_fits : first < 2 ^ 64
+  pub second_fits : second < 2 ^ 64
+
+-- what is read as far as the two numbers
+abbrev pub NumbersAnswers : Result (Option (ℕ × ℕ)) FrameFault → Option (List ℕ) → Option (List ℕ) → Type 0
+NumbersAnswers (Ok None) before after = ItemAnswers (Ok None) before after
+NumbersAnswers (Ok (Some numbers)) before after = ReadsNumbers numbers.0 numbers.1 before after
+NumbersAnswers (Err fault) before after = ItemAnswers (Err (Frame fault)) before after

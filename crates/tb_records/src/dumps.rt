@@ -1,0 +1,224 @@
+//! The bytes of a dump: its head, and behind it the entries of a history and at most one mark among them.
+ghost use Rattle.std.specs.Prelude.{◌≡◌, IfSome, MatchResult, None, length};
+ghost use Rattle.tb_records.specs.DumpBytes.{head_bytes, entry_bytes, mark_bytes, numbers_bytes, profile_number, DumpCounts, HasNoHead, HeadAnswers, IsClients, ItemAnswers, NumbersAnswers};
+ghost use Rattle.tb_records.specs.Transport.{Counts, CutOff, Sent};
+
+use crate::devices::{Sink, Source, fill, put_all};
+use crate::encoding::{put_u32, put_u64, u32_at, u64_at};
+use crate::faults::FrameFault;
+use crate::limits::{ClientsMax, Profile};
+use crate::requests::Request;
+use crate::streams::request_from;
+use crate::writing::send_request;
+use std::alloc::Global;
+use thiserror::Error;
+
+/// The bytes `TBSDUMP1`, as a number.
+const SIGNATURE: u64 = 0x3150_4d55_4453_4254;
+
+/// Why a dump is not replayed to its end.
+#[derive(Clone, Copy, Debug, PartialEq, Eq, Error)]
+pub enum DumpFault {
+    /// It does not begin with a head.
+    #[error("Head")]
+    Head,
+    /// Where a mark would stand there is another number than 2; or a mark stands behind another one, or under profile 2.
+    #[error("Mark")]
+    Mark,
+    /// The next entry can't be read, or the reply to it can't be written.
+    #[error("{0}")]
+    Frame(FrameFault),
+    /// The next entry doesn't follow from those before it: its commit number is not the next one, its time is too early
+    /// or too late, or its request is not new.
+    #[error("NotLegal")]
+    NotLegal,
+    /// There is no memory for the machine, or for the next entry.
+    #[error("NoMemory")]
+    NoMemory,
+}
+
+/// What a dump begins with.
+#[derive(Clone, Copy)]
+pub struct DumpHead {
+    /// The profile that its entries go by, as far as its mark where it has one.
+    pub profile: Profile,
+    /// The greatest number of clients with a session at one time.
+    pub clients_max: ClientsMax,
+}
+
+/// What stands behind the head of a dump.
+#[derive(Drop)]
+pub enum DumpItem {
+    /// From here on the entries go by profile 2.
+    Mark,
+    /// An entry of the history.
+    Entry {
+        /// Its number in the history.
+        commit: u64,
+        /// Its time, in nanoseconds.
+        time: u64,
+        /// Its request.
+        request: Request,
+    },
+}
+
+/// The profile of a number.
+fn profile_of(number: u32) -> Option<Profile>
+    ensures some { IfSome result (λ profile. number ≡ profile_number profile) }
+    ensures none { result ≡ None → (profile : Profile) → number ≡ profile_number profile → ⊥ }
+{
+    match number {
+        1 => Some(Profile::One),
+        2 => Some(Profile::Two),
+        _ => None,
+    }
+}
+
+/// The number of a profile.
+fn number_of(profile: Profile) -> u32
+    ensures { result ≡ profile_number profile }
+{
+    match profile {
+        Profile::One => 1,
+        Profile::Two => 2,
+    }
+}
+
+/// The head that 16 bytes spell.
+fn head_in(bytes: &[u8]) -> Option<DumpHead>
+    requires { length bytes.now ≡ 16 }
+    ensures some { IfSome result (λ head. (bytes.now ≡ head_bytes head.profile head.clients_max) × IsClients head.clients_max) }
+    ensures none { result ≡ None → HasNoHead bytes.now }
+{
+    if u64_at(bytes, 0) != SIGNATURE {
+        return None;
+    }
+    let profile = profile_of(u32_at(bytes, 8))?;
+    let clients_max = ClientsMax::new(u32_at(bytes, 12))?;
+    Some(DumpHead {
+        profile,
+        clients_max,
+    })
+}
+
+/// Reads the head of a dump, 16 bytes. Head where they are none.
+pub fn read_head_from<S: Source>(source: &mut S) -> Result<DumpHead, DumpFault>
+    ensures answer { HeadAnswers result (S.input source.old).left (S.input source.new).left }
+    ensures counted { DumpCounts result (S.input source.old) (S.input source.new) }
+{
+    let mut bytes = [0; 16];
+    let bytes: &mut [u8] = &mut bytes;
+    match fill(source, bytes) {
+        Ok(n) if n < 16 => Err(DumpFault::Head),
+        Ok(_) => match head_in(bytes) {
+            Some(head) => Ok(head),
+            None => Err(DumpFault::Head),
+        },
+        Err(fault) => Err(DumpFault::Frame(fault)),
+    }
+}
+
+/// Reads two numbers of 8 bytes. None where the input ends before the first byte; Short where it ends within them.
+fn numbers_from<S: Source>(source: &mut S) -> Result<Option<(u64, u64)>, FrameFault>
+    ensures answer { NumbersAnswers result (S.input source.old).left (S.input source.new).left }
+    ensures counted { Counts result (S.input source.old) (S.input source.new) }
+{
+    let mut bytes = [0; 16];
+    let bytes: &mut [u8] = &mut bytes;
+    match fill(source, bytes) {
+        Ok(0) => Ok(None),
+        Ok(n) if n < 16 => Err(FrameFault::Short),
+        Ok(_) => Ok(Some((u64_at(bytes, 0), u64_at(bytes, 8)))),
+        Err(fault) => Err(fault),
+    }
+}
+
+/// Reads what stands next behind the head of a dump: a mark or an entry; None where the input ends before the first byte.
+/// Mark where eight zero bytes and another number than 2 stand there; Short where the input ends in the 16 bytes of
+/// either, in the frame of an entry, or before it.
+pub fn read_item_from<S: Source>(
+    alloc: Global,
+    source: &mut S,
+) -> Result<Option<DumpItem>, DumpFault>
+    ensures answer { ItemAnswers result (S.input source.old).left (S.input source.new).left }
+    ensures counted { DumpCounts result (S.input source.old) (S.input source.new) }
+{
+    let (commit, time) = match numbers_from(source) {
+        Ok(Some(numbers)) => numbers,
+        Ok(None) => return Ok(None),
+        Err(fault) => return Err(DumpFault::Frame(fault)),
+    };
+    if commit == 0 {
+        return if time == 2 {
+            Ok(Some(DumpItem::Mark))
+        } else {
+            Err(DumpFault::Mark)
+        };
+    }
+    match request_from(alloc, source) {
+        Ok(Some(request)) => Ok(Some(DumpItem::Entry {
+            commit,
+            time,
+            request,
+        })),
+        Ok(None) => Err(DumpFault::Frame(FrameFault::Short)),
+        Err(fault) => Err(DumpFault::Frame(fault)),
+    }
+}
+
+/// The 16 bytes of a head.
+fn bytes_of_head(head: DumpHead) -> [u8; 16]
+    ensures { result ≡ head_bytes head.profile head.clients_max }
+{
+    let mut bytes = [0; 16];
+    put_u64(&mut bytes, 0, SIGNATURE);
+    put_u32(&mut bytes, 8, number_of(head.profile));
+    put_u32(&mut bytes, 12, head.clients_max.get());
+    bytes
+}
+
+/// The 16 bytes of two numbers.
+fn bytes_of_numbers(first: u64, second: u64) -> [u8; 16]
+    ensures { result ≡ numbers_bytes first second }
+{
+    let mut bytes = [0; 16];
+    put_u64(&mut bytes, 0, first);
+    put_u64(&mut bytes, 8, second);
+    bytes
+}
+
+/// Writes the head of a dump. Device where the sink answers an error, or takes nothing of what is left: then a beginning
+/// went out.
+pub fn send_head<W: Sink>(sink: &mut W, head: DumpHead) -> Result<(), FrameFault>
+    ensures { MatchResult result
+        (λ _. Sent (head_bytes head.profile head.clients_max) (W.output sink.old) (W.output sink.new))
+        (λ f. (f ≡ FrameFault.Device) × CutOff (head_bytes head.profile head.clients_max) (W.output sink.old) (W.output sink.new)) }
+{
+    put_all(sink, &bytes_of_head(head))
+}
+
+/// Writes a mark, in the way of [`send_head`].
+pub fn send_mark<W: Sink>(sink: &mut W) -> Result<(), FrameFault>
+    ensures { MatchResult result
+        (λ _. Sent mark_bytes (W.output sink.old) (W.output sink.new))
+        (λ f. (f ≡ FrameFault.Device) × CutOff mark_bytes (W.output sink.old) (W.output sink.new)) }
+{
+    put_all(sink, &bytes_of_numbers(0, 2))
+}
+
+/// Writes an entry, in the way of [`send_head`].
+pub fn send_entry<W: Sink>(
+    sink: &mut W,
+    commit: u64,
+    time: u64,
+    request: &Request,
+) -> Result<(), FrameFault>
+    ensures { MatchResult result
+        (λ _. Sent (entry_bytes commit time request.now) (W.output sink.old) (W.output sink.new))
+        (λ f. (f ≡ FrameFault.Device) × CutOff (entry_bytes commit time request.now) (W.output sink.old) (W.output sink.new)) }
+{
+    match put_all(sink, &bytes_of_numbers(commit, time)) {
+        Ok(()) => send_request(sink, request),
+        Err(fault) => Err(fault),
+    }
+}
