@@ -10,3 +10,7 @@ pub mod SoundSteps
 pub mod Turns
 pub mod Running
 pub mod Accepted
+pub mod Marked
+pub mod DumpReading
+pub mod DumpWriting
+pub mod DumpLaws

@@ -34,7 +34,7 @@ spell_snoc ps p (Some b) (Some m) (Some a) all one = (
   each_snoc IsPair ps p all.1 one.1.0,
 )
 
-reads_snoc : (ps : List Pair) (p : Pair) (before middle after : Input) → Reads ps before middle → Reads (p ∷ []) middle after → Reads (ps ++ p ∷ []) before after
+pub reads_snoc : (ps : List Pair) (p : Pair) (before middle after : Input) → Reads ps before middle → Reads (p ∷ []) middle after → Reads (ps ++ p ∷ []) before after
 reads_snoc ps p before middle after all one = record { spelled = spell_snoc ps p before.left middle.left after.left all.spelled one.spelled; counted = one.counted ∙ all.counted }
 
 spell_one : (p : Pair) (before after : Option (List ℕ)) → TimedAnswers (Ok (Some p)) before after → Spell (p ∷ []) before after
@@ -65,7 +65,7 @@ appends_then (Some a) None q xs ys first then_it = absurd first
 appends_then (Some a) (Some b) None xs ys first then_it = absurd then_it
 appends_then (Some a) (Some b) (Some d) xs ys first then_it = then_it ∙ ap (λ l. l ++ ys) first ∙ append_assoc a xs ys
 
-sends_then : (xs ys : List ℕ) (a b d : Output) → Sent xs a b → Sent ys b d → Sent (xs ++ ys) a d
+pub sends_then : (xs ys : List ℕ) (a b d : Output) → Sent xs a b → Sent ys b d → Sent (xs ++ ys) a d
 sends_then xs ys a b d first then_it = record {
   grown = appends_then a.written b.written d.written xs ys first.grown then_it.grown;
   counted = then_it.counted ∙ first.counted;

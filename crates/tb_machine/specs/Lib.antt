@@ -4,6 +4,9 @@ pub mod Scripts
 pub mod Answering
 pub mod RunFaults
 pub mod Runs
+pub mod Dumps
+pub mod DumpRuns
+pub mod Replays
 pub mod HistoryLaws
 pub mod ScriptLaws
 pub mod WorkedRows

@@ -1,4 +1,5 @@
 //! The laws of legal histories, over the definitions alone. A call does nothing; its promise is the law.
+ghost use Rattle.tb_machine.specs.Dumps.{OneDump};
 ghost use Rattle.tb_machine.specs.ScriptLaws.{AcceptedIsLegal, RepliesAreOfHistory, ServedAreLawful};
 ghost use Rattle.tb_machine.specs.HistoryLaws.{OneKey, FirstReply, NotNewAgain, StaysOut, LimitsHold, LedgersBalance};
 
@@ -48,4 +49,9 @@ pub fn replies_are_of_history()
 /// The requests that `run` served keep the rules, where the reader tells its bytes.
 pub fn served_are_lawful()
     ensures { ServedAreLawful }
+{}
+
+/// Each spelling of a dump has one reading: one profile, one number of clients, one history, and one place of a mark.
+pub fn one_dump()
+    ensures { OneDump }
 {}

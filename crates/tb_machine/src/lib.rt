@@ -1,16 +1,20 @@
-//! A ledger with sessions as one machine: entries, the state that they lead to, the laws of its histories, and the
-//! serving of a script.
+//! A ledger with sessions as one machine: entries, the state that they lead to, the laws of its histories, the serving of
+//! a script, and the dump of a history and its replay.
 #![tactic(auto)]
 
 pub mod answering;
+pub mod dumping;
 pub mod entries;
 mod executing;
 pub mod laws;
 pub mod machines;
+pub mod replaying;
 pub mod serving;
 pub mod worked_rows;
 
 pub use answering::answer_of;
+pub use dumping::dump;
 pub use entries::Entry;
 pub use machines::Machine;
+pub use replaying::replay;
 pub use serving::{RunFault, run, serve_pair, status_of};

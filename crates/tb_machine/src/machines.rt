@@ -118,6 +118,13 @@ impl<A: Allocator + Clone> Machine<A> {
         }
     }
 
+    /// The row of a client: its last request that was executed, and the reply to it.
+    pub(crate) fn row_of(&self, client: u128) -> Option<&Row>
+        ensures { MatchOption result (row_of self.now.rows client ≡ None) (λ row. row_of self.now.rows client ≡ Some row.now) }
+    {
+        self.sessions.stored(client)
+    }
+
     /// The account as it stands; None where there is none with this id.
     pub fn account(&self, id: u128) -> Option<Account>
         ensures { result ≡ account_now self.now.books id }

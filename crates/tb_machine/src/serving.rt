@@ -90,7 +90,11 @@ pub fn status_of(class: Class) -> Status
 }
 
 /// Enters a new request that comes at a moment. The time is found before any room is made.
-fn enter(machine: &mut Machine<Global>, moment: u64, request: Request) -> Result<(), RunFault>
+pub(crate) fn enter(
+    machine: &mut Machine<Global>,
+    moment: u64,
+    request: Request,
+) -> Result<(), RunFault>
     requires { is_new_in machine.old (moment, request) ≡ true }
     ensures entered { Enters result machine.old machine.new (moment, request) }
     ensures lawful { IsLawful request }
@@ -208,7 +212,7 @@ fn holds_pair(bytes: &[u8]) -> bool {
 
 /// Gives out what is answered where the next pair may have to be waited for, so that a client that waits for its reply
 /// has it.
-fn pass_on_before_waiting<R: Source, W: Sink>(reader: &R, writer: &mut W)
+pub(crate) fn pass_on_before_waiting<R: Source, W: Sink>(reader: &R, writer: &mut W)
     ensures { Sent [] (W.output writer.old) (W.output writer.new) }
 {
     if !holds_pair(reader.at_hand()) {

@@ -17,7 +17,7 @@ use Rattle.tb_records.specs.Numbers.{le_bytes, le_at}
 use Rattle.tb_records.specs.Sizes.{length-le_bytes}
 use Rattle.tb_records.specs.Transport.{Filled, Lost}
 use Rattle.tb_records.proofs.FrameFaults.{cut_header}
-use Rattle.tb_records.proofs.NumberBytes.{le_at-append, le_at-last, le_bytes-one, split_at}
+use Rattle.tb_records.proofs.NumberBytes.{le_at-append, le_at-last, le_bytes-one, split_at, last_field}
 
 -- heads
 
@@ -151,3 +151,26 @@ spelled_head buf sign number clients_max profile long is_signed is_number e f g 
     sym (take_all 16 buf (omega arith))
     ∙ g
     ∙ ap (λ l. l ++ le_bytes 4 clients_max) (f ∙ ap (λ l. l ++ le_bytes 4 number) (e ∙ ap (le_bytes 8) is_signed ∙ signed) ∙ ap (λ n. signature ++ le_bytes 4 n) is_number)
+
+-- one reading
+
+profile_one : (p q : Profile) → profile_number p ≡ profile_number q → p ≡ q
+profile_one One One e = refl
+profile_one Two Two e = refl
+profile_one One Two e = absurd (omega (arith, e))
+profile_one Two One e = absurd (omega (arith, e))
+
+pub one_head : (p q : Profile) (m n : ℕ) (xs ys : List ℕ) → IsClients m → IsClients n → head_bytes p m ++ xs ≡ head_bytes q n ++ ys → (p ≡ q) × (m ≡ n) × (xs ≡ ys)
+unfolding head_bytes
+one_head p q m n xs ys few_m few_n e =
+    let halves = split_at (head_bytes p m) (head_bytes q n) xs ys (length-head p m ∙ sym (length-head q n)) e in
+    let clients = last_field 4 m n (signature ++ le_bytes 4 (profile_number p)) (signature ++ le_bytes 4 (profile_number q)) (omega (arith, few_m.1)) (omega (arith, few_n.1)) halves.0 in
+    let profiles = last_field 4 (profile_number p) (profile_number q) signature signature (small_profile p) (small_profile q) clients.0 in
+    (profile_one p q profiles.1, clients.1, halves.1)
+
+pub one_numbers : (a b c d : ℕ) (xs ys : List ℕ) → a < 2 ^ 64 → b < 2 ^ 64 → c < 2 ^ 64 → d < 2 ^ 64 → numbers_bytes a b ++ xs ≡ numbers_bytes c d ++ ys → (a ≡ c) × (b ≡ d) × (xs ≡ ys)
+unfolding numbers_bytes
+one_numbers a b c d xs ys ha hb hc hd e =
+    let halves = split_at (numbers_bytes a b) (numbers_bytes c d) xs ys (length-numbers a b ∙ sym (length-numbers c d)) e in
+    let seconds = last_field 8 b d (le_bytes 8 a) (le_bytes 8 c) hb hd halves.0 in
+    (le_bytes-one 8 a c ha hc seconds.0, seconds.1, halves.1)

@@ -14,7 +14,7 @@ use Rattle.tb_records.specs.Frames.{request_bytes, request_fault, length_at, IsR
 use Rattle.tb_records.specs.Inputs.{Faulted}
 use Rattle.tb_records.specs.Messages.{Message}
 use Rattle.tb_records.specs.Numbers.{le_bytes}
-use Rattle.tb_records.specs.Transport.{Input, FaultCounts}
+use Rattle.tb_records.specs.Transport.{Input, Fails, FaultCounts}
 
 -- TBSDUMP1
 abbrev pub signature : List ℕ
@@ -105,10 +105,19 @@ ItemAnswers result None after = Unit {0}
 ItemAnswers result (Some before) None = ⊥
 ItemAnswers result (Some before) (Some after) = ItemAnswered result before after
 
--- what an answer says of the reader's errors
-abbrev pub DumpCounts : {X : Type 0} → Result X DumpFault → Input → Input → Type 0
-DumpCounts (Err (Frame fault)) before after = FaultCounts fault before after
-DumpCounts result before after = after.failed ≡ before.failed
+-- what an answer says of the reader's errors, and which faults it can be
+
+abbrev pub HeadCounts : Result DumpHead DumpFault → Input → Input → Type 0
+HeadCounts (Ok head) before after = after.failed ≡ before.failed
+HeadCounts (Err Head) before after = after.failed ≡ before.failed
+HeadCounts (Err (Frame Device)) before after = Fails before after
+HeadCounts (Err fault) before after = ⊥
+
+abbrev pub ItemCounts : Result (Option DumpItem) DumpFault → Input → Input → Type 0
+ItemCounts (Ok item) before after = after.failed ≡ before.failed
+ItemCounts (Err Mark) before after = after.failed ≡ before.failed
+ItemCounts (Err (Frame fault)) before after = FaultCounts fault before after
+ItemCounts (Err fault) before after = ⊥
 
 -- two numbers were read
 pub record ReadsNumbers (first second : ℕ) (before after : Option (List ℕ)) : Type 0 where

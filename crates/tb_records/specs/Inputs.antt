@@ -63,6 +63,10 @@ TimedFaulted fault before after = Faulted fault (drop 8 before) after
 abbrev pub timed_bytes : ℕ × Message → List ℕ
 timed_bytes pair = le_bytes 8 pair.0 ++ request_bytes pair.1
 
+-- the numbers of a moment and a request fit their fields, and keep the rules
+abbrev pub IsTimed : ℕ × Message → Type 0
+IsTimed pair = (pair.0 < 2 ^ 64) × IsRequest pair.1
+
 -- an answer of a stream of moments and requests
 abbrev pub TimedAnswered : Result (Option (ℕ × Message)) FrameFault → List ℕ → List ℕ → Type 0
 TimedAnswered (Ok None) before after = (before ≡ []) × (after ≡ [])

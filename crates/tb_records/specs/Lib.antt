@@ -8,6 +8,7 @@ pub mod ReplyFrames
 pub mod Faults
 pub mod Inputs
 pub mod DumpBytes
+pub mod DumpFaults
 pub mod Transport
 pub mod Ordered
 -- what private functions alone cite

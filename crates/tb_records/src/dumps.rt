@@ -1,6 +1,7 @@
 //! The bytes of a dump: its head, and behind it the entries of a history and at most one mark among them.
 ghost use Rattle.std.specs.Prelude.{◌≡◌, IfSome, MatchResult, None, length};
-ghost use Rattle.tb_records.specs.DumpBytes.{head_bytes, entry_bytes, mark_bytes, numbers_bytes, profile_number, DumpCounts, HasNoHead, HeadAnswers, IsClients, ItemAnswers, NumbersAnswers};
+ghost use Rattle.tb_records.specs.DumpBytes.{head_bytes, entry_bytes, mark_bytes, numbers_bytes, profile_number, HasNoHead, HeadAnswers, HeadCounts, IsClients, ItemAnswers, ItemCounts, NumbersAnswers};
+ghost use Rattle.tb_records.specs.DumpFaults.{dump_fault_name, dump_fault_number};
 ghost use Rattle.tb_records.specs.Transport.{Counts, CutOff, Sent};
 
 use crate::devices::{Sink, Source, fill, put_all};
@@ -11,31 +12,68 @@ use crate::requests::Request;
 use crate::streams::request_from;
 use crate::writing::send_request;
 use std::alloc::Global;
-use thiserror::Error;
+use std::error::Error;
+use std::fmt;
 
 /// The bytes `TBSDUMP1`, as a number.
 const SIGNATURE: u64 = 0x3150_4d55_4453_4254;
 
 /// Why a dump is not replayed to its end.
-#[derive(Clone, Copy, Debug, PartialEq, Eq, Error)]
+#[derive(Clone, Copy, Debug, PartialEq, Eq)]
 pub enum DumpFault {
     /// It does not begin with a head.
-    #[error("Head")]
     Head,
     /// Where a mark would stand there is another number than 2; or a mark stands behind another one, or under profile 2.
-    #[error("Mark")]
     Mark,
     /// The next entry can't be read, or the reply to it can't be written.
-    #[error("{0}")]
     Frame(FrameFault),
     /// The next entry doesn't follow from those before it: its commit number is not the next one, its time is too early
     /// or too late, or its request is not new.
-    #[error("NotLegal")]
     NotLegal,
     /// There is no memory for the machine, or for the next entry.
-    #[error("NoMemory")]
     NoMemory,
 }
+
+impl DumpFault {
+    /// The fault's number, 1 to 5.
+    pub fn number(self) -> u8
+        ensures { result ≡ dump_fault_number self }
+    {
+        match self {
+            DumpFault::Head => 1,
+            DumpFault::Mark => 2,
+            DumpFault::Frame(_) => 3,
+            DumpFault::NotLegal => 4,
+            DumpFault::NoMemory => 5,
+        }
+    }
+
+    /// The fault's name, as a message shows it: of a frame's fault that fault's own.
+    pub fn name(self) -> &'static str
+        ensures { result.now ≡ dump_fault_name self }
+    {
+        match self {
+            DumpFault::Head => "Head",
+            DumpFault::Mark => "Mark",
+            DumpFault::Frame(fault) => fault.name(),
+            DumpFault::NotLegal => "NotLegal",
+            DumpFault::NoMemory => "NoMemory",
+        }
+    }
+}
+
+impl fmt::Display for DumpFault {
+    ghost use Rattle.std.specs.Prelude.{Some};
+    ghost use Rattle.tb_records.specs.DumpFaults.{dump_fault_name};
+
+    ghost output = { λ fault. Some (dump_fault_name fault) };
+
+    fn fmt<W: fmt::Write>(&self, f: &mut fmt::Formatter<W>) -> fmt::Result {
+        f.write_str(self.name())
+    }
+}
+
+impl Error for DumpFault {}
 
 /// What a dump begins with.
 #[derive(Clone, Copy)]
@@ -104,7 +142,7 @@ fn head_in(bytes: &[u8]) -> Option<DumpHead>
 /// Reads the head of a dump, 16 bytes. Head where they are none.
 pub fn read_head_from<S: Source>(source: &mut S) -> Result<DumpHead, DumpFault>
     ensures answer { HeadAnswers result (S.input source.old).left (S.input source.new).left }
-    ensures counted { DumpCounts result (S.input source.old) (S.input source.new) }
+    ensures counted { HeadCounts result (S.input source.old) (S.input source.new) }
 {
     let mut bytes = [0; 16];
     let bytes: &mut [u8] = &mut bytes;
@@ -141,7 +179,7 @@ pub fn read_item_from<S: Source>(
     source: &mut S,
 ) -> Result<Option<DumpItem>, DumpFault>
     ensures answer { ItemAnswers result (S.input source.old).left (S.input source.new).left }
-    ensures counted { DumpCounts result (S.input source.old) (S.input source.new) }
+    ensures counted { ItemCounts result (S.input source.old) (S.input source.new) }
 {
     let (commit, time) = match numbers_from(source) {
         Ok(Some(numbers)) => numbers,
@@ -168,7 +206,8 @@ pub fn read_item_from<S: Source>(
 
 /// The 16 bytes of a head.
 fn bytes_of_head(head: DumpHead) -> [u8; 16]
-    ensures { result ≡ head_bytes head.profile head.clients_max }
+    ensures bytes { result ≡ head_bytes head.profile head.clients_max }
+    ensures right { IsClients head.clients_max }
 {
     let mut bytes = [0; 16];
     put_u64(&mut bytes, 0, SIGNATURE);
@@ -190,9 +229,10 @@ fn bytes_of_numbers(first: u64, second: u64) -> [u8; 16]
 /// Writes the head of a dump. Device where the sink answers an error, or takes nothing of what is left: then a beginning
 /// went out.
 pub fn send_head<W: Sink>(sink: &mut W, head: DumpHead) -> Result<(), FrameFault>
-    ensures { MatchResult result
+    ensures sent { MatchResult result
         (λ _. Sent (head_bytes head.profile head.clients_max) (W.output sink.old) (W.output sink.new))
         (λ f. (f ≡ FrameFault.Device) × CutOff (head_bytes head.profile head.clients_max) (W.output sink.old) (W.output sink.new)) }
+    ensures right { IsClients head.clients_max }
 {
     put_all(sink, &bytes_of_head(head))
 }

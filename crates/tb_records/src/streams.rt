@@ -1,8 +1,8 @@
 //! Requests that are read from a stream, one by one.
-ghost use Rattle.std.specs.Prelude.{◌≡◌, ◌*◌, ◌+◌, ◌&&◌, nat_le, length, Some, None, Ok, Err, MatchResult};
-ghost use Rattle.tb_records.specs.Frames.{item_size, length_at};
+ghost use Rattle.std.specs.Prelude.{◌≡◌, ◌*◌, ◌+◌, ◌&&◌, nat_le, length, Some, None, Ok, Err, IfOk, IfSome, MatchResult};
+ghost use Rattle.tb_records.specs.Frames.{item_size, length_at, IsRequest};
 ghost use Rattle.tb_records.specs.HeaderFields.{code_of, body_length, HeaderAnswers, IsHeader, ReadsBody, ReadsRequest};
-ghost use Rattle.tb_records.specs.Inputs.{opened, fault_in, Answers, TimedAnswers};
+ghost use Rattle.tb_records.specs.Inputs.{opened, fault_in, Answers, IsTimed, TimedAnswers};
 ghost use Rattle.tb_records.specs.Transport.{Counts};
 ghost use Rattle.tb_records.specs.Reading.{BodyFault, MomentAnswers};
 
@@ -173,6 +173,7 @@ pub(crate) fn request_from<S: Source>(
     source: &mut S,
 ) -> Result<Option<Request>, FrameFault>
     ensures answer { Answers result (S.input source.old).left (S.input source.new).left }
+    ensures right { IfOk result (λ read. IfSome read IsRequest) }
     ensures counted { Counts result (S.input source.old) (S.input source.new) }
 {
     let header = match header_from(source) {
@@ -194,6 +195,7 @@ pub fn read_timed_from<R: Source>(
     source: &mut R,
 ) -> Result<Option<(u64, Request)>, FrameFault>
     ensures answer { TimedAnswers result (R.input source.old).left (R.input source.new).left }
+    ensures right { IfOk result (λ read. IfSome read IsTimed) }
     ensures counted { Counts result (R.input source.old) (R.input source.new) }
 {
     let moment = match moment_from(source) {

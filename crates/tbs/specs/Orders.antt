@@ -1,11 +1,11 @@
 -- What the words of the command line ask for.
-use Rattle.std.specs.Prelude.{ℕ, Bool, ◌&&◌, ◌+◌, ◌-◌, ◌*◌, nat_le, nat_eq, List, [], ◌∷◌, Option, Some, None, if◌then◌else◌, codes}
+use Rattle.std.specs.Prelude.{ℕ, Bool, ◌&&◌, ◌+◌, ◌-◌, ◌*◌, ◌^◌, nat_le, nat_eq, List, [], ◌∷◌, Option, Some, None, if◌then◌else◌, codes}
 use Rattle.std.specs.Option.{option_and_then}
 use Rattle.std.specs.Cmp.Lexicographic.{pointwise}
 use Rattle.tb_records.specs.declared.limits.Profile.{Profile}
 use Rattle.tb_records.specs.declared.limits.Profile.TheVariants.{One, Two}
 use Rattle.tbs.specs.declared.arguments.Order.{Order}
-use Rattle.tbs.specs.declared.arguments.Order.TheVariants.{Run}
+use Rattle.tbs.specs.declared.arguments.Order.TheVariants.{Run, Dump, Replay}
 
 -- the value of a digit, 0 to 9
 abbrev pub digit_of : ℕ → Option ℕ
@@ -43,13 +43,49 @@ run_by None profile = None
 run_by (Some clients) None = None
 run_by (Some clients) (Some profile) = Some (Run clients profile)
 
+abbrev pub dump_by : Option ℕ → Option Order
+dump_by None = None
+dump_by (Some clients) = Some (Dump clients None)
+
+-- the number of a commit, 0 to 2^63 - 1
+abbrev pub commit_of : List ℕ → Option ℕ
+commit_of word = within 0 (2 ^ 63 - 1) (number_of word)
+
+abbrev pub dump_at_by : Option ℕ → Option ℕ → Option Order
+dump_at_by None at = None
+dump_at_by (Some clients) None = None
+dump_at_by (Some clients) (Some at) = Some (Dump clients (Some at))
+
 abbrev pub is_run : List ℕ → Bool
 is_run word = pointwise nat_eq word (codes "run")
 
--- `run CLIENTS_MAX` or `run CLIENTS_MAX PROFILE`
+abbrev pub is_dump : List ℕ → Bool
+is_dump word = pointwise nat_eq word (codes "dump")
+
+abbrev pub is_replay : List ℕ → Bool
+is_replay word = pointwise nat_eq word (codes "replay")
+
+-- `replay`
+abbrev pub order_alone : List ℕ → Option Order
+order_alone word = if is_replay word then Some Replay else None
+
+-- `run CLIENTS_MAX` or `dump CLIENTS_MAX`
+abbrev pub order_with : List ℕ → List ℕ → Option Order
+order_with word clients =
+    if is_run word then run_by (clients_of clients) (Some One)
+    else if is_dump word then dump_by (clients_of clients)
+    else None
+
+-- `run CLIENTS_MAX PROFILE` or `dump CLIENTS_MAX AT`
+abbrev pub order_with_two : List ℕ → List ℕ → List ℕ → Option Order
+order_with_two word clients last =
+    if is_run word then run_by (clients_of clients) (profile_of last)
+    else if is_dump word then dump_at_by (clients_of clients) (commit_of last)
+    else None
+
 abbrev pub order_of : List (List ℕ) → Option Order
 order_of [] = None
-order_of (word ∷ []) = None
-order_of (word ∷ clients ∷ []) = if is_run word then run_by (clients_of clients) (Some One) else None
-order_of (word ∷ clients ∷ profile ∷ []) = if is_run word then run_by (clients_of clients) (profile_of profile) else None
-order_of (word ∷ clients ∷ profile ∷ more ∷ rest) = None
+order_of (word ∷ []) = order_alone word
+order_of (word ∷ clients ∷ []) = order_with word clients
+order_of (word ∷ clients ∷ last ∷ []) = order_with_two word clients last
+order_of (word ∷ clients ∷ last ∷ more ∷ rest) = None

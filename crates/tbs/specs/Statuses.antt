@@ -4,14 +4,19 @@ use Rattle.std.specs.Prelude.{ℕ, ◌≡◌, ◌⊎◌, ◌++◌, List, Result,
 use Rattle.tb_records.specs.declared.faults.FrameFault.{FrameFault}
 use Rattle.tb_records.specs.declared.faults.FrameFault.TheVariants as frame
 use Rattle.tb_records.specs.Transport.{Input, Output, Sent, CutOff}
+use Rattle.tb_records.specs.declared.dumps.DumpFault.{DumpFault}
+use Rattle.tb_records.specs.declared.dumps.DumpFault.TheVariants as dump
+use Rattle.tb_records.specs.DumpFaults.{dump_fault_name}
 use Rattle.tb_machine.specs.declared.serving.RunFault.{RunFault}
 use Rattle.tb_machine.specs.declared.serving.RunFault.TheVariants.{Frame, NoMemory, TimeExhausted, TooLong}
 use Rattle.tb_machine.specs.RunFaults.{run_fault_name}
 use Rattle.tb_machine.specs.Runs.{Ran}
+use Rattle.tb_machine.specs.DumpRuns.{DumpRan}
+use Rattle.tb_machine.specs.Replays.{ReplayRan}
 use Rattle.tbs.specs.declared.arguments.Order.{Order}
-use Rattle.tbs.specs.declared.arguments.Order.TheVariants.{Run}
+use Rattle.tbs.specs.declared.arguments.Order.TheVariants.{Run, Dump, Replay}
 use Rattle.tbs.specs.declared.commands.Fault.{Fault}
-use Rattle.tbs.specs.declared.commands.Fault.TheVariants.{Usage, Serving}
+use Rattle.tbs.specs.declared.commands.Fault.TheVariants.{Usage, Serving, Replaying}
 
 abbrev pub frame_status : FrameFault → ℕ
 frame_status frame.Device = 1
@@ -24,19 +29,26 @@ run_status NoMemory = 1
 run_status TimeExhausted = 2
 run_status TooLong = 2
 
+abbrev pub dump_status : DumpFault → ℕ
+dump_status (dump.Frame fault) = frame_status fault
+dump_status dump.NoMemory = 1
+dump_status fault = 2
+
 abbrev pub fault_status : Fault → ℕ
 fault_status Usage = 2
 fault_status (Serving fault) = run_status fault
+fault_status (Replaying fault) = dump_status fault
 
--- the status of a script that was served, or not to its end
-abbrev pub outcome_status : Result ℕ RunFault → ℕ
-outcome_status (Ok replies) = 0
-outcome_status (Err fault) = run_status fault
+-- the status of an order that was done, or not to its end
+abbrev pub outcome_status : Result ℕ Fault → ℕ
+outcome_status (Ok count) = 0
+outcome_status (Err fault) = fault_status fault
 
 -- a fault's name, as its line shows it
 abbrev pub fault_name : Fault → List ℕ
 fault_name Usage = codes "Usage"
 fault_name (Serving fault) = run_fault_name fault
+fault_name (Replaying fault) = dump_fault_name fault
 
 abbrev pub fault_line : Fault → List ℕ
 fault_line fault = codes "tbs: " ++ fault_name fault ++ codes "\n"
@@ -45,18 +57,24 @@ fault_line fault = codes "tbs: " ++ fault_name fault ++ codes "\n"
 abbrev pub Told : List ℕ → Output → Output → Type 0
 Told line before after = Sent line before after ⊎ CutOff line before after
 
--- nothing is told of a script that was served, and of a fault its line
-abbrev pub Tells : Result ℕ RunFault → Output → Output → Type 0
-Tells (Ok replies) before after = after ≡ before
-Tells (Err fault) before after = Told (fault_line (Serving fault)) before after
+-- nothing is told of an order that was done, and of a fault its line
+abbrev pub Tells : Result ℕ Fault → Output → Output → Type 0
+Tells (Ok count) before after = after ≡ before
+Tells (Err fault) before after = Told (fault_line fault) before after
 
--- what an order was served with
-abbrev pub Performs : Order → Result ℕ RunFault → Input → Input → Output → Output → Type 0
-Performs (Run clients_max profile) outcome before after start written = Ran profile clients_max outcome before after start written
+-- what an order was served with: the number of replies, or of entries, or the fault that came
+abbrev pub Performs : Order → Result ℕ Fault → Input → Input → Output → Output → Type 0
+Performs (Run clients_max profile) (Ok count) before after start written = Ran profile clients_max (Ok count) before after start written
+Performs (Run clients_max profile) (Err (Serving fault)) before after start written = Ran profile clients_max (Err fault) before after start written
+Performs (Dump clients_max at) (Ok count) before after start written = DumpRan clients_max at (Ok count) before after start written
+Performs (Dump clients_max at) (Err (Serving fault)) before after start written = DumpRan clients_max at (Err fault) before after start written
+Performs Replay (Ok count) before after start written = ReplayRan (Ok count) before after start written
+Performs Replay (Err (Replaying fault)) before after start written = ReplayRan (Err fault) before after start written
+Performs order outcome before after start written = ⊥
 
 -- an order was served, and the exit status and the line are those of the outcome
 pub record Exits (order : Order) (status : ℕ) (before after : Input) (start written quiet told : Output) : Type 0 where
-  pub outcome : Result ℕ RunFault
+  pub outcome : Result ℕ Fault
   pub performed : Performs order outcome before after start written
   pub status_is : status ≡ outcome_status outcome
   pub line : Tells outcome quiet told

@@ -7,8 +7,8 @@ ghost use Rattle.tbs.specs.Statuses.{fault_status, fault_name, fault_line, Told,
 use crate::arguments::{Order, read_order};
 use arrayvec::ArrayVec;
 use std::alloc::Global;
-use tb_machine::{RunFault, run};
-use tb_records::{FrameFault, Sink, Source, put_all};
+use tb_machine::{RunFault, dump, replay, run};
+use tb_records::{DumpFault, FrameFault, Sink, Source, put_all};
 
 /// Why the program ends with a status other than 0; shown by its name alone.
 #[derive(Clone, Copy, Debug, PartialEq, Eq)]
@@ -17,6 +17,8 @@ pub enum Fault {
     Usage,
     /// The script could not be served to its end.
     Serving(RunFault),
+    /// The dump could not be replayed to its end.
+    Replaying(DumpFault),
 }
 
 impl Fault {
@@ -29,6 +31,9 @@ impl Fault {
             Fault::Serving(RunFault::NoMemory) => 1,
             Fault::Serving(RunFault::Frame(FrameFault::Device)) => 1,
             Fault::Serving(RunFault::Frame(FrameFault::NoMemory)) => 1,
+            Fault::Replaying(DumpFault::NoMemory) => 1,
+            Fault::Replaying(DumpFault::Frame(FrameFault::Device)) => 1,
+            Fault::Replaying(DumpFault::Frame(FrameFault::NoMemory)) => 1,
             _ => 2,
         }
     }
@@ -40,6 +45,7 @@ impl Fault {
         match self {
             Fault::Usage => "Usage",
             Fault::Serving(fault) => fault.name(),
+            Fault::Replaying(fault) => fault.name(),
         }
     }
 }
@@ -78,11 +84,20 @@ fn perform<R: Source, W: Sink>(
     order: Order,
     reader: &mut R,
     writer: &mut W,
-) -> Result<u64, RunFault>
+) -> Result<u64, Fault>
     ensures { Performs order result (R.input reader.old) (R.input reader.new) (W.output writer.old) (W.output writer.new) }
 {
-    match order {
+    let served = match order {
         Order::Run(clients_max, profile) => run(alloc, profile, clients_max, reader, writer),
+        Order::Dump(clients_max, at) => dump(alloc, clients_max, at, reader, writer),
+        Order::Replay => match replay(alloc, reader, writer) {
+            Ok(replies) => return Ok(replies),
+            Err(fault) => return Err(Fault::Replaying(fault)),
+        },
+    };
+    match served {
+        Ok(count) => Ok(count),
+        Err(fault) => Err(Fault::Serving(fault)),
     }
 }
 
@@ -106,7 +121,6 @@ pub fn command<R: Source, W: Sink, E: Sink>(
     match perform(alloc, order, reader, writer) {
         Ok(_) => 0,
         Err(fault) => {
-            let fault = Fault::Serving(fault);
             tell(fault, faults);
             fault.status()
         }

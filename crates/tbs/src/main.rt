@@ -1,4 +1,5 @@
-//! `tbs`: serves scripts of request frames, from standard input to standard output.
+//! `tbs`: serves scripts of request frames, dumps the histories that they make, and replays dumps, from standard input to
+//! standard output.
 #![tactic(auto)]
 
 ghost use Rattle.std.specs.Prelude.{◌≡◌};

@@ -1,0 +1,174 @@
+//! The dump of a script: its new requests are executed, and the history that they make is written.
+ghost use Rattle.std.specs.Prelude.{◌≡◌, ◌++◌, true, Some};
+ghost use Rattle.std.specs.Option.{is_some};
+ghost use Rattle.tb_records.specs.DumpBytes.{entry_bytes};
+ghost use Rattle.tb_ledger.specs.Books.{profile_of};
+ghost use Rattle.tb_sessions.specs.Judged.{class_of, row_of};
+ghost use Rattle.tb_machine.specs.DumpRuns.{mark_before, marks_at, turned, DumpRan, DumpsOn, DumpsPair, Written};
+
+use crate::machines::Machine;
+use crate::serving::{RunFault, enter, pass_on_before_waiting};
+use std::alloc::{AllocError, Global};
+use tb_records::dumps::{send_entry, send_head, send_mark};
+use tb_records::streams::read_timed_from;
+use tb_records::{ClientsMax, DumpHead, FrameFault, Profile, Request, Sink, Source};
+use tb_sessions::{Class, Row};
+
+/// Says that the mark stands directly before the entry behind `commit` others.
+fn marks_at(at: Option<u64>, commit: u64) -> bool
+    ensures { result ≡ marks_at at commit }
+{
+    match at {
+        Some(at) => at == commit,
+        None => false,
+    }
+}
+
+/// Goes over to profile 2 where a mark is due.
+fn turn(machine: &mut Machine<Global>, due: bool)
+    requires { due ≡ true → profile_of machine.old.books ≡ Profile.One }
+    ensures { machine.new ≡ turned due machine.old }
+{
+    if due {
+        machine.move_to_two();
+    }
+}
+
+/// The row of a client that has one.
+fn row_of(machine: &Machine<Global>, client: u128) -> &Row
+    requires { is_some (row_of machine.now.rows client) ≡ true }
+    ensures { row_of machine.now.rows client ≡ Some result.now }
+{
+    let Some(row) = machine.row_of(client) else {
+        unreachable!()
+    };
+    row
+}
+
+/// Writes a mark where one is due.
+fn write_mark<W: Sink>(writer: &mut W, due: bool) -> Result<(), FrameFault>
+    ensures { Written result (mark_before due) (W.output writer.old) (W.output writer.new) }
+{
+    if due { send_mark(writer) } else { Ok(()) }
+}
+
+/// Writes an entry, behind a mark where one is due.
+fn write_entry<W: Sink>(
+    writer: &mut W,
+    due: bool,
+    commit: u64,
+    time: u64,
+    request: &Request,
+) -> Result<(), FrameFault>
+    ensures { Written result (mark_before due ++ entry_bytes commit time request.now) (W.output writer.old) (W.output writer.new) }
+{
+    match write_mark(writer, due) {
+        Ok(()) => send_entry(writer, commit, time, request),
+        Err(fault) => Err(fault),
+    }
+}
+
+/// Enters a new request that comes at a moment, and writes its entry. A mark that stands before it is written with it, so
+/// that none is where there is no entry.
+fn dump_new<W: Sink>(
+    machine: &mut Machine<Global>,
+    at: Option<u64>,
+    writer: &mut W,
+    moment: u64,
+    request: Request,
+) -> Result<(), RunFault>
+    requires new { class_of machine.old.rows request ≡ Class.New }
+    requires by_one { marks_at at machine.old.commit ≡ true → profile_of machine.old.books ≡ Profile.One }
+    ensures { DumpsPair result at machine.old machine.new (moment, request) (W.output writer.old) (W.output writer.new) }
+{
+    let client = request.client();
+    let due = marks_at(at, machine.commit());
+    turn(machine, due);
+    match enter(machine, moment, request) {
+        Ok(()) => {}
+        Err(fault) => return Err(fault),
+    }
+    let row = row_of(machine, client);
+    match write_entry(writer, due, machine.commit(), machine.time(), &row.request) {
+        Ok(()) => Ok(()),
+        Err(fault) => Err(RunFault::Frame(fault)),
+    }
+}
+
+/// Enters a request that comes at a moment and writes its entry, where it is new.
+fn dump_pair<W: Sink>(
+    machine: &mut Machine<Global>,
+    at: Option<u64>,
+    writer: &mut W,
+    moment: u64,
+    request: Request,
+) -> Result<(), RunFault>
+    requires { marks_at at machine.old.commit ≡ true → profile_of machine.old.books ≡ Profile.One }
+    ensures { DumpsPair result at machine.old machine.new (moment, request) (W.output writer.old) (W.output writer.new) }
+{
+    match machine.class(&request) {
+        Class::New => dump_new(machine, at, writer, moment, request),
+        _ => Ok(()),
+    }
+}
+
+/// Dumps the next pair of a script: false where there is none.
+fn dump_next<R: Source, W: Sink>(
+    alloc: Global,
+    machine: &mut Machine<Global>,
+    at: Option<u64>,
+    reader: &mut R,
+    writer: &mut W,
+) -> Result<bool, RunFault>
+    requires { marks_at at machine.old.commit ≡ true → profile_of machine.old.books ≡ Profile.One }
+    ensures { DumpsOn result at machine.old machine.new (R.input reader.old) (R.input reader.new) (W.output writer.old) (W.output writer.new) }
+{
+    match read_timed_from(alloc, reader) {
+        Ok(Some((moment, request))) => match dump_pair(machine, at, writer, moment, request) {
+            Ok(()) => Ok(true),
+            Err(fault) => Err(fault),
+        },
+        Ok(None) => Ok(false),
+        Err(fault) => Err(RunFault::Frame(fault)),
+    }
+}
+
+/// Serves a script by profile 1, and writes the history that it makes as a dump: a head, and the entry of each new request.
+/// Where `at` is given, a mark is written directly before the first entry whose commit number is above it, and from that
+/// request on profile 2 serves. Answers the number of entries written. The head is written before the script is read. On a
+/// fault the entries of all earlier pairs are written, and the rest of the script is unread; where the writer failed, a
+/// beginning of what is next was written too.
+pub fn dump<R: Source, W: Sink>(
+    alloc: Global,
+    clients_max: ClientsMax,
+    at: Option<u64>,
+    reader: &mut R,
+    writer: &mut W,
+) -> Result<u64, RunFault>
+    ensures { DumpRan clients_max at result (R.input reader.old) (R.input reader.new) (W.output writer.old) (W.output writer.new) }
+{
+    let profile = Profile::One;
+    let mut machine = match Machine::new_in(alloc, alloc, profile, clients_max) {
+        Ok(machine) => machine,
+        Err(AllocError) => return Err(RunFault::NoMemory),
+    };
+    match send_head(
+        writer,
+        DumpHead {
+            profile,
+            clients_max,
+        },
+    ) {
+        Ok(()) => {}
+        Err(fault) => return Err(RunFault::Frame(fault)),
+    }
+    for _ in 0..u64::MAX {
+        pass_on_before_waiting(reader, writer);
+        match dump_next(alloc, &mut machine, at, reader, writer) {
+            Ok(true) => {}
+            Ok(false) => return Ok(machine.commit()),
+            Err(fault) => return Err(fault),
+        }
+    }
+    Err(RunFault::TooLong)
+}

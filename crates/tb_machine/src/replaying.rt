@@ -1,0 +1,145 @@
+//! The replay of a dump: its history is checked entry by entry, and the reply to each is written.
+ghost use Rattle.std.specs.Prelude.{◌≡◌, [], MatchResult};
+ghost use Rattle.tb_records.specs.Transport.{Sent};
+ghost use Rattle.tb_ledger.specs.Books.{profile_of};
+ghost use Rattle.tb_machine.specs.Histories.{to_two};
+ghost use Rattle.tb_machine.specs.Replays.{EntersNext, ReplayRan, ReplaysEntry, ReplaysOn};
+
+use crate::entries::Entry;
+use crate::machines::Machine;
+use crate::serving::stored;
+use std::alloc::{AllocError, Global};
+use tb_records::dumps::{read_head_from, read_item_from};
+use tb_records::{DumpFault, DumpItem, Profile, Sink, Source, holds_frame, send_reply};
+
+/// Enters an entry, where it may come next.
+fn enter_next(machine: &mut Machine<Global>, entry: Entry) -> Result<(), DumpFault>
+    ensures { EntersNext result machine.old machine.new entry }
+{
+    if !machine.fits(&entry) {
+        return Err(DumpFault::NotLegal);
+    }
+    match machine.enter(entry) {
+        Ok(()) => Ok(()),
+        Err(_) => Err(DumpFault::NoMemory),
+    }
+}
+
+/// Enters an entry, and writes the reply to it.
+fn replay_entry<W: Sink>(
+    machine: &mut Machine<Global>,
+    writer: &mut W,
+    entry: Entry,
+) -> Result<(), DumpFault>
+    ensures { ReplaysEntry result machine.old machine.new entry (W.output writer.old) (W.output writer.new) }
+{
+    let client = entry.request.client();
+    match enter_next(machine, entry) {
+        Ok(()) => match send_reply(writer, stored(machine, client)) {
+            Ok(()) => Ok(()),
+            Err(fault) => Err(DumpFault::Frame(fault)),
+        },
+        Err(fault) => Err(fault),
+    }
+}
+
+/// Goes over to profile 2, where that does not serve yet.
+fn replay_mark(machine: &mut Machine<Global>) -> Result<(), DumpFault>
+    ensures { MatchResult result
+        (λ _. (profile_of machine.old.books ≡ Profile.One) × (machine.new ≡ to_two machine.old))
+        (λ f. (f ≡ DumpFault.Mark) × (profile_of machine.old.books ≡ Profile.Two)) }
+{
+    match machine.profile() {
+        Profile::One => {
+            machine.move_to_two();
+            Ok(())
+        }
+        Profile::Two => Err(DumpFault::Mark),
+    }
+}
+
+/// Replays what stands next in a dump: false where nothing does.
+fn replay_next<R: Source, W: Sink>(
+    alloc: Global,
+    machine: &mut Machine<Global>,
+    reader: &mut R,
+    writer: &mut W,
+) -> Result<bool, DumpFault>
+    ensures { ReplaysOn result machine.old machine.new (R.input reader.old) (R.input reader.new) (W.output writer.old) (W.output writer.new) }
+{
+    match read_item_from(alloc, reader) {
+        Ok(
+            Some(
+                DumpItem::Entry {
+                    commit,
+                    time,
+                    request,
+                },
+            ),
+        ) => {
+            match replay_entry(
+                machine,
+                writer,
+                Entry {
+                    commit,
+                    time,
+                    request,
+                },
+            ) {
+                Ok(()) => Ok(true),
+                Err(fault) => Err(fault),
+            }
+        }
+        Ok(Some(DumpItem::Mark)) => match replay_mark(machine) {
+            Ok(()) => Ok(true),
+            Err(fault) => Err(fault),
+        },
+        Ok(None) => Ok(false),
+        Err(fault) => Err(fault),
+    }
+}
+
+/// Says that bytes begin with a whole mark or entry.
+fn holds_item(bytes: &[u8]) -> bool {
+    bytes.len() >= 16 && (bytes[..8] == [0; 8] || holds_frame(&bytes[16..]))
+}
+
+/// Gives out the replies where the next item of a dump may have to be waited for.
+fn pass_on_before_item<R: Source, W: Sink>(reader: &R, writer: &mut W)
+    ensures { Sent [] (W.output writer.old) (W.output writer.new) }
+{
+    if !holds_item(reader.at_hand()) {
+        writer.pass_on();
+    }
+}
+
+/// Replays a dump: reads its head and its entries one by one, enters each that may come next into a machine, writes the
+/// reply to it, and answers the number of replies written. On a fault the replies to all earlier entries are written, and
+/// the rest of the dump is unread; where the writer failed, a beginning of the next reply was written too.
+pub fn replay<R: Source, W: Sink>(
+    alloc: Global,
+    reader: &mut R,
+    writer: &mut W,
+) -> Result<u64, DumpFault>
+    ensures { ReplayRan result (R.input reader.old) (R.input reader.new) (W.output writer.old) (W.output writer.new) }
+{
+    let head = match read_head_from(reader) {
+        Ok(head) => head,
+        Err(fault) => return Err(fault),
+    };
+    let mut machine = match Machine::new_in(alloc, alloc, head.profile, head.clients_max) {
+        Ok(machine) => machine,
+        Err(AllocError) => return Err(DumpFault::NoMemory),
+    };
+    for _ in 0..u64::MAX {
+        pass_on_before_item(reader, writer);
+        match replay_next(alloc, &mut machine, reader, writer) {
+            Ok(true) => {}
+            Ok(false) => return Ok(machine.commit()),
+            Err(fault) => return Err(fault),
+        }
+    }
+    // Each entry takes a nanosecond of the time that there is: no history has so many.
+    let _entries = machine.commit();
+    unreachable!()
+}
