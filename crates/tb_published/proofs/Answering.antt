@@ -1,0 +1,43 @@
+-- What a class says of the answer after a legal history.
+use Rattle.std.proofs.Common.{◌≡◌, ℕ, List, Option, Some, refl, sym, ap, ◌∙◌, subst, IsTrue, Result, Ok, Err, IfOk, is_none}
+use Rattle.tb_records.specs.declared.replies.Status.TheVariants as status
+use Rattle.tb_records.specs.Messages.{Message, Answer, IsLawful}
+use Rattle.tb_sessions.specs.declared.rows.Row.{Row}
+use Rattle.tb_sessions.specs.declared.classes.Class.{Class}
+use Rattle.tb_sessions.specs.declared.classes.Class.TheVariants.{New, Repeat, NoSession, SessionTooLow, NewerSession, Older, Collision, NewerRequest}
+use Rattle.tb_sessions.specs.Judged.{row_of, class_of}
+use Rattle.tb_machine.specs.declared.entries.Entry.{Entry}
+use Rattle.tb_machine.specs.Histories.{State, answer_by, answer_to, status_of}
+use Rattle.tb_machine.proofs.Rows.{row_found}
+use Rattle.tb_machine.proofs.Judging.{repeat_by}
+use Rattle.tb_machine.proofs.Reached.{Stands, reached}
+use Rattle.tb_machine.proofs.Held.{answers}
+use Rattle.tb_published.specs.Lines.{Opening, LegalIn, AnswersIn, after_in}
+
+-- a row keeps a reply, so the answer to a repeat has that status, and any other the status of its class
+status_by : (class : Class) (o : Option Row) (r : Message) → (class ≡ Repeat → (row : Row) × (o ≡ Some row) × (row.reply.status ≡ status.Reply)) → status_of class ≡ (answer_by class o r).status
+status_by Repeat o r kept =
+    let row = kept refl in
+    sym row.2 ∙ ap (λ (o : Option Row). (answer_by Repeat o r).status) (sym row.1)
+status_by New o r kept = refl
+status_by NoSession o r kept = refl
+status_by SessionTooLow o r kept = refl
+status_by NewerSession o r kept = refl
+status_by Older o r kept = refl
+status_by Collision o r kept = refl
+status_by NewerRequest o r kept = refl
+
+pub status_is : (o : Opening) (h : List Entry) (r : Message) → LegalIn o h → status_of (class_of (after_in o h).rows r) ≡ (answer_to (after_in o h) r).status
+status_is o h r legal = status_by (class_of (after_in o h).rows r) (row_of (after_in o h).rows r.client) r kept
+  where
+    kept : class_of (after_in o h).rows r ≡ Repeat → (row : Row) × (row_of (after_in o h).rows r.client ≡ Some row) × (row.reply.status ≡ status.Reply)
+    kept class =
+        let by = repeat_by (row_of (after_in o h).rows r.client) r class in
+        let found = row_found (Stands o.profile o.clients_max h) (after_in o h).rows r.client by.0 (reached o.profile o.clients_max h legal).stands by.1 in
+        (by.0, by.1, ap (λ (row : Row). row.reply.status) found.0.is)
+
+-- an answer to a lawful request tells which entry holds it
+pub answers_ok : {E : Type 0} (o : Opening) (h : List Entry) (r : Message) (S : State) (result : Result Answer E) → S ≡ after_in o h → LegalIn o h → IsLawful r
+    → IfOk result (λ (a : Answer). a ≡ answer_to S r) → IfOk result (λ (a : Answer). AnswersIn o h r a)
+answers_ok o h r S (Ok a) state legal lawful is = answers o.profile o.clients_max h r a legal (ap is_none lawful) (is ∙ ap (λ (T : State). answer_to T r) state)
+answers_ok o h r S (Err e) state legal lawful is = tt

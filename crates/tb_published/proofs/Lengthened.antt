@@ -1,0 +1,30 @@
+-- A front with one entry more than another of its opening.
+use Rattle.std.proofs.Common.{◌≡◌, ℕ, ◌+◌, ◌≤◌, List, [], ◌∷◌, ◌++◌, length, refl, sym, ap, ◌∙◌, subst, arith, IsTrue, length-append}
+use mathlib.Core.List.{IsPrefix}
+use Rattle.tb_machine.specs.declared.entries.Entry.{Entry}
+use Rattle.tb_machine.specs.Histories.{State, fits, step}
+use Rattle.tb_machine.proofs.Legal.{after_snoc, legal_at}
+use Rattle.tb_published.specs.Lines.{Opening, LegalIn, after_in, Line, state_of, Begins, EndsWith}
+use Rattle.tb_published.proofs.Prefixes.{prefix_shorter, prefix_whole}
+
+pub one_more : (xs ys : List Entry) (e : Entry) → IsPrefix xs ys → EndsWith ys e → length ys ≡ length xs + 1 → ys ≡ xs ++ e ∷ []
+one_more xs ys e pre ends len =
+    let count : length ys ≡ length ends.0 + 1 = ap length ends.1 ∙ length-append ends.0 (e ∷ []) in
+    let before = prefix_shorter ends.0 xs ys (e ∷ [], sym ends.1) pre (omega arith) in
+    let same : ends.0 ≡ xs = prefix_whole ends.0 xs before (omega arith) in
+    ends.1 ∙ ap (λ (l : List Entry). l ++ e ∷ []) same
+
+pub next_fits : (o : Opening) (h m : List Entry) (e : Entry) → m ≡ h ++ e ∷ [] → LegalIn o m → IsTrue (fits (after_in o h) e)
+next_fits o h m e is legal = legal_at o.profile o.clients_max h e [] (subst (LegalIn o) is legal)
+
+pub next_state : (o : Opening) (h m : List Entry) (e : Entry) → m ≡ h ++ e ∷ [] → after_in o m ≡ step (after_in o h) e
+next_state o h m e is = ap (after_in o) is ∙ after_snoc o.profile o.clients_max h e
+
+pub comes : (l m both : Line) (e : Entry) → m.opening ≡ l.opening → LegalIn m.opening m.list → Begins l both → Begins m both → EndsWith m.list e
+    → length m.list ≡ length l.list + 1 → IsTrue (fits (state_of l) e) × (state_of m ≡ step (state_of l) e)
+comes l m both e same legal mine its ends len =
+    let pre = prefix_shorter l.list m.list both.list mine.1 its.1 (omega arith) in
+    let is = one_more l.list m.list e pre ends len in (
+      next_fits l.opening l.list m.list e is (subst (λ (o : Opening). LegalIn o m.list) same legal),
+      ap (λ (o : Opening). after_in o m.list) same ∙ next_state l.opening l.list m.list e is,
+    )

@@ -1,0 +1,5 @@
+pub mod Prefixes
+pub mod Adding
+pub mod Lengthened
+pub mod Shown
+pub mod Answering

@@ -1,0 +1,4 @@
+pub mod Lines
+pub mod Counting
+pub mod Orders
+pub mod Sharing

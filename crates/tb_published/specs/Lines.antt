@@ -1,0 +1,60 @@
+-- Beginnings of the history of an opening.
+use Rattle.std.specs.Prelude.{ℕ, ◌≡◌, List, [], ◌∷◌, ◌++◌, length, nat_lt, if◌then◌else◌}
+use mathlib.Core.List.{IsPrefix}
+use Rattle.logbook.specs.Pages.{Book}
+use Rattle.tb_records.specs.declared.limits.Profile.{Profile}
+use Rattle.tb_records.specs.Messages.{Message, Answer}
+use Rattle.tb_machine.specs.declared.entries.Entry.{Entry}
+use Rattle.tb_machine.specs.Histories.{State, IsLegal, after}
+use Rattle.tb_machine.specs.Answering.{Holds, Answers}
+
+-- which opening, and the rules that its history keeps
+pub record Opening : Type 0 where
+  pub book : Book  -- that counts the entries of its history
+  pub profile : Profile
+  pub clients_max : ℕ
+
+-- in an opening
+
+abbrev pub LegalIn : Opening → List Entry → Type 0
+LegalIn o h = IsLegal o.profile o.clients_max h
+
+abbrev pub after_in : Opening → List Entry → State
+after_in o h = after o.profile o.clients_max h
+
+-- entry c of its history holds the request
+abbrev pub HoldsIn : Opening → List Entry → Message → ℕ → Type 0
+HoldsIn o h r c = Holds o.profile o.clients_max h r c
+
+-- the answer to a request after its history; where it is a reply, the entry that it names holds the request
+abbrev pub AnswersIn : Opening → List Entry → Message → Answer → Type 0
+AnswersIn o h r reply = Answers o.profile o.clients_max h r reply
+
+-- a beginning of an opening's history
+pub record Line : Type 0 where
+  pub opening : Opening
+  pub list : List Entry
+
+abbrev pub line : Opening → List Entry → Line
+line o h = record { opening = o; list = h }
+
+abbrev pub state_of : Line → State
+state_of l = after_in l.opening l.list
+
+abbrev pub with_entry : Line → Entry → Line
+with_entry l e = line l.opening (l.list ++ e ∷ [])
+
+-- m begins with l
+abbrev pub Begins : Line → Line → Type 0
+Begins l m = (l.opening ≡ m.opening) × IsPrefix l.list m.list
+
+-- of two lists the longer
+abbrev pub longer_of : List Entry → List Entry → List Entry
+longer_of xs ys = if nat_lt (length xs) (length ys) then ys else xs
+
+abbrev pub longer : Line → Line → Line
+longer l m = if nat_lt (length l.list) (length m.list) then m else l
+
+-- the entry is the last
+abbrev pub EndsWith : List Entry → Entry → Type 0
+EndsWith h e = (before : List Entry) × (h ≡ before ++ e ∷ [])

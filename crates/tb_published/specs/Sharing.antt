@@ -1,0 +1,24 @@
+-- The rule that the copies and their readers keep.
+use Rattle.std.specs.Prelude.{ℕ, ◌≡◌, List, Option, Some, None, IfSome}
+use mathlib.Core.Option.{some}
+use lib.ListN.{get_elem?}
+use Rattle.tb_published.specs.Lines.{Opening, LegalIn, Line, Begins}
+
+-- what the copies show begins with all that any reader and the writer have seen
+abbrev pub Shows : Line → List (Option Line) → Type 0
+Shows x views = (seat : ℕ) (l : Line) → get_elem? views seat ≡ some (Some l) → Begins l x
+
+-- what a step tells: all that is shown after it was seen, and begins with what had been seen before
+abbrev pub Sees : Option Line → Line → Line → Option Line → Type 0
+Sees v x y w = (w ≡ Some y) × IfSome v (λ l. Begins l y)
+
+-- a reader or the writer that has seen no more than the front
+abbrev pub Knows : Option Line → Line → Type 0
+Knows v front = IfSome v (λ l. Begins l front)
+
+-- a look at what is shown: it begins with the front from before, and is legal
+pub record Looked (o : Opening) (v : Option Line) (front shown : Line) : Type 0 where
+  pub knows : Knows v shown
+  pub begins : Begins front shown
+  pub named : shown.opening ≡ o
+  pub legal : LegalIn o shown.list

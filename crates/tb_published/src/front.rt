@@ -1,0 +1,237 @@
+//! Beginnings of a history as tokens: each tells how many entries it has, and the entries themselves to proofs alone.
+ghost use Rattle.std.specs.Prelude.{◌≡◌, ◌<◌, ◌^◌, [], length, IsTrue, IfSome, MatchBool};
+ghost use Rattle.tb_published.specs.Lines.{LegalIn, state_of, line, with_entry, Begins, longer};
+ghost use Rattle.tb_published.specs.Counting.{head_of};
+ghost use Rattle.tb_machine.specs.Histories.{fits};
+
+use logbook::{Gain, Offer, Plain, Play, Rule, Seen, Start, Word};
+use std::marker::Model;
+use tb_machine::Entry;
+use tb_records::{ClientsMax, Profile};
+
+/// The rule of the book that counts the entries.
+pub struct Law;
+
+impl Rule<Entry, u64> for Law {
+    ghost use Rattle.std.specs.Prelude.{[]};
+    ghost use base.Fml.{ftrue};
+    ghost use Rattle.tb_published.specs.Counting.{IsKept};
+
+    ghost holds = { λ cells log. IsKept cells log };
+
+    ghost first = { [] };
+
+    ghost hinted = { λ n log. Unit {0} };
+
+    ghost shows = { λ log. [] };
+
+    ghost keeps = { λ names log. ftrue };
+
+    ghost moves = { λ ask before after answer. Unit {0} };
+}
+
+/// Who adds an entry trades nothing.
+struct Nothing;
+
+impl Gain<Entry, u64> for Nothing {
+    ghost use base.Fml.{ftrue};
+
+    ghost after = { λ names about answer. ftrue };
+}
+
+/// The step that adds an entry.
+struct Add;
+
+impl Play<Entry, u64> for Add {
+    ghost use Rattle.tb_published.specs.Counting.{Adds};
+
+    ghost then = { Adds };
+}
+
+impl Plain<Entry, Entry, u64> for Add {
+    ghost use Rattle.std.specs.Prelude.{None};
+
+    ghost ask = { λ entry. entry };
+
+    ghost state = { λ entry. None };
+}
+
+/// A beginning of a legal history.
+#[derive(Drop)]
+pub struct Front {
+    profile: Profile,
+    clients_max: ClientsMax,
+    count: u64,
+    seen: Seen<Entry, u64, Law>,
+}
+
+impl Model for Front {
+    ghost use Rattle.std.specs.Prelude.{◌≡◌, length};
+    ghost use Rattle.tb_machine.specs.Histories.{IsLegal};
+    ghost use Rattle.tb_published.specs.Lines.{Line};
+
+    ghost Value = { Line };
+
+    ghost view = { λ f. record { opening = record { book = f.seen.book; profile = f.profile; clients_max = f.clients_max }; list = f.seen.log } };
+
+    ghost invariant = { λ f. (f.count ≡ length f.seen.log) × IsLegal f.profile f.clients_max f.seen.log };
+}
+
+impl Front {
+    /// How many entries it has.
+    pub fn len(&self) -> u64
+        ensures count { result ≡ length self.now.list }
+        ensures legal { LegalIn self.now.opening self.now.list }
+    {
+        self.count
+    }
+
+    /// A copy. It has no bytes but the number.
+    pub fn again(&self) -> Front
+        ensures { result ≡ self.now }
+    {
+        Front {
+            profile: self.profile,
+            clients_max: self.clients_max,
+            count: self.count,
+            seen: self.seen.again(),
+        }
+    }
+
+    /// The longer of two fronts of one opening, which the other begins.
+    pub fn longer(&self, other: &Front) -> Front
+        requires { other.now.opening ≡ self.now.opening }
+        ensures longer { result ≡ longer self.now other.now }
+        ensures this { Begins self.now result }
+        ensures that { Begins other.now result }
+    {
+        let mut both = self.seen.again();
+        both.learn(&other.seen);
+        if self.count < other.count {
+            other.again()
+        } else {
+            self.again()
+        }
+    }
+
+    /// Counts an entry that may come next, and gives the front with it; None where another entry had been counted.
+    fn followed_by(&self, head: &Head, entry: &Entry) -> Option<Front>
+        requires counted { head.now ≡ head_of self.now.opening.book }
+        requires room { length self.now.list < 2 ^ 62 }
+        requires next { IsTrue (fits (state_of self.now) entry.now) }
+        ensures { IfSome result (λ front. front ≡ with_entry self.now entry.now) }
+    {
+        let mut seen = self.seen.again();
+        let mut offer: Offer<Entry, u64, Law, Nothing> = seen.plain::<Nothing, Entry, Add>(entry);
+        let mut pen = seen.no_pen();
+        let count = self.count;
+        let found = head.compare_exchange::<Add, Nothing>(
+            count,
+            count + 1,
+            &mut seen,
+            &mut offer,
+            &mut pen,
+        );
+        if found != count {
+            return None;
+        }
+        Some(Front {
+            profile: self.profile,
+            clients_max: self.clients_max,
+            count: count + 1,
+            seen,
+        })
+    }
+}
+
+/// The word that counts the entries of a history.
+type Head = Word<Entry, u64, Law>;
+
+/// The word that counts the entries of a history, and the front of all of them.
+#[derive(Drop)]
+pub struct Chronicle {
+    head: Head,
+    front: Front,
+}
+
+impl Model for Chronicle {
+    ghost use Rattle.std.specs.Prelude.{◌≡◌};
+    ghost use Rattle.tb_published.specs.Lines.{Line};
+    ghost use Rattle.tb_published.specs.Counting.{head_of};
+
+    ghost Value = { Line };
+
+    ghost view = { λ c. c.front };
+
+    ghost invariant = { λ c. c.head ≡ head_of c.front.opening.book };
+}
+
+impl Chronicle {
+    /// The front of all entries.
+    pub fn front(&self) -> &Front
+        ensures { result.now ≡ self.now }
+    {
+        &self.front
+    }
+
+    /// Adds an entry that may come next, and says whether it did: it did not where another had been added.
+    pub fn add(&mut self, entry: &Entry) -> bool
+        requires room { length self.old.list < 2 ^ 62 }
+        requires next { IsTrue (fits (state_of self.old) entry.now) }
+        ensures { MatchBool result (self.new ≡ with_entry self.old entry.now) (self.new ≡ self.old) }
+    {
+        match self.front.followed_by(&self.head, entry) {
+            Some(front) => {
+                self.front = front;
+                true
+            }
+            None => false,
+        }
+    }
+}
+
+/// An opening before it has its name: the rules that its history is to keep. Contracts see it as the opening.
+#[derive(Drop)]
+pub struct Opening {
+    chronicle: Chronicle,
+}
+
+impl Model for Opening {
+    ghost use Rattle.std.specs.Prelude.{◌≡◌, []};
+    ghost use Rattle.tb_published.specs.Lines.{Opening};
+
+    ghost Value = { Opening };
+
+    ghost view = { λ o. o.chronicle.opening };
+
+    ghost invariant = { λ o. o.chronicle.list ≡ [] };
+}
+
+impl Opening {
+    /// An opening by these rules. It takes no memory.
+    pub fn new(profile: Profile, clients_max: ClientsMax) -> Opening
+        ensures { (result.profile ≡ profile) × (result.clients_max ≡ clients_max) }
+    {
+        let (seen, mut first, _second) = Seen::open(Start::alone(), 0, 0);
+        let front = Front {
+            profile,
+            clients_max,
+            count: 0,
+            seen,
+        };
+        Opening {
+            chronicle: Chronicle {
+                head: Word::tracked(0, &mut first),
+                front,
+            },
+        }
+    }
+
+    /// The chronicle of its empty history.
+    pub(crate) fn into_chronicle(self) -> Chronicle
+        ensures { result ≡ line self [] }
+    {
+        let Opening { chronicle } = self;
+        chronicle
+    }
+}

@@ -1,0 +1,20 @@
+//! Published copies of a machine: one writer enters requests into a history, and client threads read replies and records
+//! from two copies of what follows it, each through a seat of its own, without a lock.
+#![tactic(auto)]
+
+pub mod faults;
+mod front;
+pub mod limits;
+mod looking;
+pub mod naming;
+mod replica;
+mod rule;
+pub mod seat;
+pub mod told;
+
+pub use faults::{OpenFault, SeatFault, TakeFault, Taken};
+pub use front::Opening;
+pub use limits::SeatCount;
+pub use naming::Naming;
+pub use seat::Seat;
+pub use told::Told;

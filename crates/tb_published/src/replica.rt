@@ -1,0 +1,149 @@
+//! A copy of the machine, and the orders that bring it entries.
+ghost use Rattle.std.specs.Prelude.{◌≡◌, ◌+◌, ◌==◌, length, IsTrue};
+ghost use Rattle.tb_machine.specs.Histories.{fits, step};
+ghost use Rattle.tb_published.specs.Lines.{line, state_of, with_entry, EndsWith};
+
+use crate::front::Front;
+use crate::naming::Naming;
+use left_right::Absorb;
+use std::alloc::{AllocError, Global};
+use std::marker::{Model, PhantomData};
+use tb_machine::{Entry, Machine};
+
+/// An order to the copies: an entry, and the front that ends with it.
+#[derive(Drop)]
+pub struct Posted<J: Naming> {
+    entry: Entry,
+    front: Front,
+    of: PhantomData<J>,
+}
+
+impl<J: Naming> Model for Posted<J> {
+    ghost use Rattle.std.specs.Prelude.{◌≡◌};
+    ghost use Rattle.tb_published.specs.Lines.{EndsWith};
+    ghost use Rattle.tb_published.specs.Orders.{Order};
+
+    ghost Value = { Order };
+
+    ghost view = { λ o. record { entry = o.entry; front = o.front } };
+
+    ghost invariant = { λ o. (o.front.opening ≡ J.opening) × EndsWith o.front.list o.entry };
+}
+
+impl<J: Naming> Posted<J> {
+    /// The order to take in an entry with which a front ends.
+    pub(crate) fn new(entry: Entry, front: Front) -> Posted<J>
+        requires named { front.opening ≡ J.opening }
+        requires last { EndsWith front.list entry }
+        ensures { (result.entry ≡ entry) × (result.front ≡ front) }
+    {
+        Posted {
+            entry,
+            front,
+            of: PhantomData,
+        }
+    }
+}
+
+/// A copy: the machine after the entries of a front. It keeps no list of them.
+#[derive(Drop)]
+pub struct Replica<J: Naming> {
+    machine: Machine<Global>,
+    front: Front,
+    of: PhantomData<J>,
+}
+
+impl<J: Naming> Model for Replica<J> {
+    ghost use Rattle.std.specs.Prelude.{◌≡◌};
+    ghost use Rattle.tb_published.specs.Lines.{Line, state_of};
+
+    ghost Value = { Line };
+
+    ghost view = { λ r. r.front };
+
+    ghost invariant = { λ r. (r.front.opening ≡ J.opening) × (r.machine ≡ state_of r.front) };
+}
+
+impl<J: Naming> Replica<J> {
+    /// The copy of a front with no entries.
+    pub(crate) fn new(machine: Machine<Global>, front: Front) -> Replica<J>
+        requires named { front.opening ≡ J.opening }
+        requires after { machine ≡ state_of front }
+        ensures { result ≡ front }
+    {
+        Replica {
+            machine,
+            front,
+            of: PhantomData,
+        }
+    }
+
+    /// The machine after the entries of the front.
+    pub(crate) fn machine(&self) -> &Machine<Global>
+        ensures { result.now ≡ state_of self.now }
+    {
+        &self.machine
+    }
+
+    /// The front of the entries that it has taken in.
+    pub(crate) fn front(&self) -> &Front
+        ensures front { result.now ≡ self.now }
+        ensures named { self.now.opening ≡ J.opening }
+    {
+        &self.front
+    }
+
+    /// Says that an order brings the entry behind the copy's. The writer sends no other.
+    fn comes_next(&self, order: &Posted<J>) -> bool
+        ensures one { result ≡ (length order.now.front.list == length self.now.list + 1) }
+        ensures fits { IsTrue result → IsTrue (fits (state_of self.now) order.now.entry) }
+        ensures leads { IsTrue result → state_of order.now.front ≡ step (state_of self.now) order.now.entry }
+    {
+        let its = order.front.len();
+        let mine = self.front.len();
+        let _both = self.front.longer(&order.front);
+        if its <= mine {
+            return false;
+        }
+        its - mine == 1
+    }
+}
+
+impl<J: Naming> Absorb<Posted<J>> for Replica<J> {
+    ghost use Rattle.tb_published.specs.Orders.{absorbed};
+
+    type State = Replica<J>;
+
+    ghost state = { λ x. x };
+
+    ghost applied = { absorbed };
+
+    /// The first copy takes in an entry by a copy of its own.
+    fn absorb_first(&mut self, order: &Posted<J>, _other: &Replica<J>) -> Result<(), AllocError> {
+        if !self.comes_next(order) {
+            return Ok(());
+        }
+        self.machine.apply(&order.entry)?;
+        self.front = order.front.again();
+        Ok(())
+    }
+
+    /// The second copy takes the order's entry itself.
+    fn absorb_second(&mut self, order: Posted<J>, _other: &Replica<J>) -> Result<(), Posted<J>> {
+        if !self.comes_next(&order) {
+            return Ok(());
+        }
+        let Posted {
+            entry,
+            front,
+            of: _,
+        } = order;
+        match self.machine.enter(entry) {
+            Ok(()) => {
+                self.front = front;
+                Ok(())
+            }
+            Err(entry) => Err(Posted::new(entry, front)),
+        }
+    }
+}

@@ -1,0 +1,46 @@
+//! The rule of the copies: each reader sees all that it had seen before.
+use crate::naming::Naming;
+use crate::replica::Replica;
+use atomic_table::{Join, Split};
+use crossbeam_utils::rule::{Outcome, Protocol};
+
+/// What a reader or the writer has seen. No value of it is made but the first, which has seen nothing.
+pub type View = Option<crate::front::Front>;
+
+/// The rule of the copies.
+pub struct Published;
+
+impl<J: Naming> Protocol<Replica<J>, View> for Published {
+    ghost use Rattle.std.specs.Prelude.{None};
+    ghost use Rattle.tb_published.specs.Sharing.{Shows};
+
+    ghost holds = { Shows };
+
+    ghost first = { None };
+}
+
+/// What a step of a reader or of the writer tells.
+pub struct Look;
+
+impl<J: Naming> Outcome<Replica<J>, View> for Look {
+    ghost use Rattle.tb_published.specs.Sharing.{Sees};
+
+    ghost then = { Sees };
+}
+
+/// What the writer has seen, told to a reader that has seen nothing.
+pub struct Notes;
+
+impl Split<View> for Notes {
+    ghost left = { λ v. v };
+
+    ghost right = { λ v. v };
+}
+
+impl Join<View> for Notes {
+    ghost use Rattle.std.specs.Prelude.{None};
+
+    ghost both = { λ v w. w };
+
+    ghost spent = { None };
+}

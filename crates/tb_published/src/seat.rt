@@ -1,0 +1,159 @@
+//! Seats: what a client thread reads by.
+ghost use Rattle.std.specs.Prelude.{◌≡◌, length, IfOk, IfErr};
+ghost use mathlib.Core.List.{IsPrefix};
+ghost use Rattle.left_right.specs.Sides.{view as known};
+ghost use Rattle.tb_ledger.specs.Books.{found_accounts, found_transfers};
+ghost use Rattle.tb_machine.specs.Histories.{answer_to};
+ghost use Rattle.tb_published.specs.declared.faults.SeatFault.TheVariants as seat_fault;
+ghost use Rattle.tb_published.specs.Lines.{LegalIn, AnswersIn, after_in, longer_of};
+ghost use Rattle.tb_published.specs.Sharing.{Knows};
+
+use crate::faults::SeatFault;
+use crate::front::Front;
+use crate::looking::{Place, look_accounts, look_answer, look_status, look_transfers};
+use crate::naming::Naming;
+use crate::told::Told;
+use core::mem::replace_with;
+use std::alloc::{AllocError, Global};
+use std::marker::Model;
+use tb_records::{Account, Reply, Request, Status, Transfer};
+
+/// A place at the copies from which one thread reads, without a lock and without waiting. Contracts see it as the
+/// beginning of the history that it has seen, which only grows.
+#[derive(Drop)]
+pub struct Seat<J: Naming> {
+    place: Place<J>,
+    front: Front,
+    global: Global,
+}
+
+impl<J: Naming> Model for Seat<J> {
+    ghost use Rattle.std.specs.Prelude.{◌≡◌, List};
+    ghost use Rattle.left_right.specs.Sides.{view as known};
+    ghost use Rattle.tb_machine.specs.declared.entries.Entry.{Entry};
+    ghost use Rattle.tb_published.specs.Sharing.{Knows};
+
+    ghost Value = { List Entry };
+
+    ghost view = { λ s. s.front.list };
+
+    ghost invariant = { λ s. Knows (known s.place.place) s.front × (s.front.opening ≡ J.opening) };
+}
+
+impl<J: Naming> Seat<J> {
+    /// The seat of a place that has seen no more than a front.
+    pub(crate) fn new(place: Place<J>, front: Front, global: Global) -> Seat<J>
+        requires knows { Knows (known place.place) front }
+        requires named { front.opening ≡ J.opening }
+        ensures { result ≡ front.list }
+    {
+        Seat {
+            place,
+            front,
+            global,
+        }
+    }
+
+    /// How a request fares after the entries that are shown: Reply where it is answered, NotYet where it is new, else
+    /// its refusal. It takes no memory.
+    pub fn status(&mut self, request: &Request) -> Result<Status, SeatFault>
+        ensures begins { IsPrefix self.old self.new }
+        ensures status { IfOk result (λ status. LegalIn J.opening self.new × (status ≡ (answer_to (after_in J.opening self.new) request.now).status)) }
+        ensures fault { IfErr result (λ f. (f ≡ seat_fault.NoCopy) × (self.new ≡ self.old)) }
+    {
+        let front = &self.front;
+        let found = replace_with(
+            &mut self.place,
+            (),
+            |place, _| look_status(place, front, request),
+        );
+        let Some((shown, status)) = found else {
+            return Err(SeatFault::NoCopy);
+        };
+        self.front = shown;
+        Ok(status)
+    }
+
+    /// The whole answer to a request after the entries that are shown: the stored reply, or a refusal. NoMemory where
+    /// the copy of a reply's body finds none; the seat has then seen what is shown all the same.
+    pub fn answer(&mut self, request: &Request) -> Result<Reply, SeatFault>
+        ensures begins { IsPrefix self.old self.new }
+        ensures answer { IfOk result (λ reply. LegalIn J.opening self.new × AnswersIn J.opening self.new request.now reply) }
+        ensures fault { IfErr result (λ f. f ≡ seat_fault.NoCopy → self.new ≡ self.old) }
+    {
+        let front = &self.front;
+        let found = replace_with(
+            &mut self.place,
+            self.global,
+            |place, global| look_answer(global, place, front, request),
+        );
+        let Some((shown, answer)) = found else {
+            return Err(SeatFault::NoCopy);
+        };
+        self.front = shown;
+        answer.map_err(|_| SeatFault::NoMemory)
+    }
+
+    /// The accounts that are found, in the order of the ids, as they stand after the entries that are shown, and the
+    /// number of those entries.
+    pub fn lookup_accounts(&mut self, ids: &[u128]) -> Result<(u64, Vec<Account>), SeatFault>
+        ensures begins { IsPrefix self.old self.new }
+        ensures found { IfOk result (λ t. LegalIn J.opening self.new × (t.0 ≡ length self.new) × (t.1.items ≡ found_accounts (after_in J.opening self.new).books ids.now)) }
+        ensures fault { IfErr result (λ f. f ≡ seat_fault.NoCopy → self.new ≡ self.old) }
+    {
+        let front = &self.front;
+        let found = replace_with(
+            &mut self.place,
+            (),
+            |place, _| look_accounts(place, front, ids),
+        );
+        let Some((shown, accounts)) = found else {
+            return Err(SeatFault::NoCopy);
+        };
+        self.front = shown;
+        match accounts {
+            Ok(accounts) => Ok((self.front.len(), accounts)),
+            Err(AllocError) => Err(SeatFault::NoMemory),
+        }
+    }
+
+    /// The transfers that are found, in the order of the ids, as they were recorded, and the number of the entries that
+    /// are shown.
+    pub fn lookup_transfers(&mut self, ids: &[u128]) -> Result<(u64, Vec<Transfer>), SeatFault>
+        ensures begins { IsPrefix self.old self.new }
+        ensures found { IfOk result (λ t. LegalIn J.opening self.new × (t.0 ≡ length self.new) × (t.1.items ≡ found_transfers (after_in J.opening self.new).books ids.now)) }
+        ensures fault { IfErr result (λ f. f ≡ seat_fault.NoCopy → self.new ≡ self.old) }
+    {
+        let front = &self.front;
+        let found = replace_with(
+            &mut self.place,
+            (),
+            |place, _| look_transfers(place, front, ids),
+        );
+        let Some((shown, transfers)) = found else {
+            return Err(SeatFault::NoCopy);
+        };
+        self.front = shown;
+        match transfers {
+            Ok(transfers) => Ok((self.front.len(), transfers)),
+            Err(AllocError) => Err(SeatFault::NoMemory),
+        }
+    }
+
+    /// Takes over what the publisher told, where that is more than was seen.
+    pub fn learn(&mut self, told: &Told<J>)
+        ensures longer { self.new ≡ longer_of self.old told.now }
+        ensures own { IsPrefix self.old self.new }
+        ensures told { IsPrefix told.now self.new }
+    {
+        self.front = self.front.longer(told.front());
+    }
+
+    /// The number of the entries that it has seen.
+    pub fn seen(&self) -> u64
+        ensures count { result ≡ length self.now }
+        ensures legal { LegalIn J.opening self.now }
+    {
+        self.front.len()
+    }
+}

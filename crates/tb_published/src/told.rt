@@ -1,0 +1,52 @@
+//! What the publisher tells seats.
+ghost use Rattle.std.specs.Prelude.{◌≡◌, length};
+
+use crate::front::Front;
+use crate::naming::Naming;
+use std::marker::{Model, PhantomData};
+
+/// A beginning of the history that was shown, for seats to learn. Contracts see it as its entries.
+#[derive(Drop)]
+pub struct Told<J: Naming> {
+    front: Front,
+    of: PhantomData<J>,
+}
+
+impl<J: Naming> Model for Told<J> {
+    ghost use Rattle.std.specs.Prelude.{◌≡◌, List};
+    ghost use Rattle.tb_machine.specs.declared.entries.Entry.{Entry};
+
+    ghost Value = { List Entry };
+
+    ghost view = { λ t. t.front.list };
+
+    ghost invariant = { λ t. t.front.opening ≡ J.opening };
+}
+
+impl<J: Naming> Told<J> {
+    /// What a front has seen.
+    pub(crate) fn new(front: Front) -> Told<J>
+        requires { front.opening ≡ J.opening }
+        ensures { result ≡ front.list }
+    {
+        Told {
+            front,
+            of: PhantomData,
+        }
+    }
+
+    /// The commit number of its last entry; 0 where there is none.
+    pub fn commit(&self) -> u64
+        ensures { result ≡ length self.now }
+    {
+        self.front.len()
+    }
+
+    /// Its front.
+    pub(crate) fn front(&self) -> &Front
+        ensures front { result.now.list ≡ self.now }
+        ensures named { result.now.opening ≡ J.opening }
+    {
+        &self.front
+    }
+}
