@@ -3,7 +3,7 @@ use Rattle.std.proofs.Common.{◌≡◌, ℕ, ◌+◌, ◌≤◌, List, [], ◌�
 use mathlib.Core.List.{IsPrefix}
 use Rattle.tb_machine.specs.declared.entries.Entry.{Entry}
 use Rattle.tb_machine.specs.Histories.{State, fits, step}
-use Rattle.tb_machine.proofs.Legal.{after_snoc, legal_at}
+use Rattle.tb_machine.proofs.Legal.{after_snoc, legal_front, legal_at}
 use Rattle.tb_published.specs.Lines.{Opening, LegalIn, after_in, Line, state_of, Begins, EndsWith}
 use Rattle.tb_published.proofs.Prefixes.{prefix_shorter, prefix_whole}
 
@@ -28,3 +28,7 @@ comes l m both e same legal mine its ends len =
       next_fits l.opening l.list m.list e is (subst (λ (o : Opening). LegalIn o m.list) same legal),
       ap (λ (o : Opening). after_in o m.list) same ∙ next_state l.opening l.list m.list e is,
     )
+
+-- a beginning of a legal history is legal
+pub legal_prefix : (o : Opening) (h m : List Entry) → IsPrefix h m → LegalIn o m → LegalIn o h
+legal_prefix o h m p legal = legal_front o.profile o.clients_max h p.0 (subst (LegalIn o) (sym p.1) legal)

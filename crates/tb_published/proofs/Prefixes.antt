@@ -1,5 +1,5 @@
 -- Beginnings of one list.
-use Rattle.std.proofs.Common.{◌≡◌, ℕ, ◌≤◌, List, [], ◌∷◌, ◌++◌, length, refl, ap, sym, ◌∙◌, arith, append_assoc, length-append}
+use Rattle.std.proofs.Common.{◌≡◌, ℕ, ◌<◌, ◌≤◌, List, [], ◌∷◌, ◌++◌, length, get_or, refl, ap, sym, ◌∙◌, arith, append_assoc, length-append}
 use mathlib.Core.List.{IsPrefix}
 
 -- each list begins with itself
@@ -30,3 +30,15 @@ prefix_whole (x ∷ xs) (y ∷ ys) p le =
 
 pub prefix_length : {A : Type 0} (xs ys : List A) → IsPrefix xs ys → length xs ≤ length ys
 prefix_length xs ys p = omega (arith, sym (ap length p.1) ∙ length-append xs p.0)
+
+-- the list goes on behind a beginning with the item that stands there
+next_at : {A : Type 0} (xs ys : List A) (x : A) → IsPrefix xs ys → length xs < length ys → x ≡ get_or ys (length xs) x → IsPrefix (xs ++ x ∷ []) ys
+next_at [] [] x p lt at = absurd (omega arith)
+next_at [] (y ∷ ys) x p lt at = (ys, ap (λ z. z ∷ ys) at)
+next_at (z ∷ zs) [] x p lt at = absurd (omega arith)
+next_at (z ∷ zs) (y ∷ ys) x p lt at =
+    let rest = next_at zs ys x (p.0, cc (p.1)) (omega arith) at in
+    (rest.0, cc (p.1, rest.1))
+
+pub next_by : {A : Type 0} (xs ys : List A) (x : A) (count : ℕ) → IsPrefix xs ys → count ≡ length xs → count < length ys → x ≡ get_or ys count x → IsPrefix (xs ++ x ∷ []) ys
+next_by xs ys x count p is lt at = next_at xs ys x p (omega arith) (at ∙ ap (λ k. get_or ys k x) is)

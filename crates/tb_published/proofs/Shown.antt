@@ -1,5 +1,5 @@
 -- The steps of readers and of the writer keep the rule of the copies.
-use Rattle.std.proofs.Common.{◌≡◌, ◌≢◌, ℕ, ◌+◌, ◌≤◌, ⊎_elim, true, cond, eq-eqb, List, [], ◌∷◌, ◌++◌, length, set, fold, Option, Some, None, IfSome, zero, suc, refl, sym, ap, ◌∙◌, subst, arith, length-append}
+use Rattle.std.proofs.Common.{◌≡◌, ◌≢◌, ℕ, ◌+◌, ◌≤◌, ⊎_elim, true, cond, eq-eqb, List, [], ◌∷◌, ◌++◌, length, set, fold, Option, Some, None, IfSome, Result, Ok, Err, MatchResult, zero, suc, refl, sym, ap, ◌∙◌, subst, arith, length-append}
 use mathlib.Core.Option.{some, some-injective}
 use lib.ListN.{get_elem?}
 use Rattle.crossbeam_utils.specs.Register.{Admits, Turns, TurnsAt, Forks, Merges}
@@ -96,3 +96,11 @@ line_begins l (o ∷ os) follows =
 -- a publish of them
 pub turns : (seat : ℕ) (v : Option Line) (l : Line) (os : List Order) → Follows l os → (next : Line) → next ≡ fold absorbed l os → TurnsAt Shows seat v l next Sees
 turns seat v l os follows next is = sees seat v l next (subst (λ (m : Line). Begins l m) (sym (is ∙ absorb_all l os follows)) (line_begins l os follows))
+
+-- what a publish leaves
+pub turned : {E : Type 0} (result : Result (Unit {0}) E) (v : Option Line) (l : Line) (os : List Order) (w : Option Line) (m : Line) (left : List Order) → Follows l os
+    → MatchResult result (λ _. (m ≡ fold absorbed l os) × (left ≡ [])) (λ _. (m ≡ l) × (left ≡ os))
+    → MatchResult result (λ _. Sees v l m w) (λ _. w ≡ v)
+    → MatchResult result (λ _. (m ≡ line_after l os) × (left ≡ []) × (w ≡ Some m)) (λ _. (m ≡ l) × (left ≡ os) × (w ≡ v))
+turned (Ok done) v l os w m left follows values rule = (values.0 ∙ absorb_all l os follows, values.1, rule.0)
+turned (Err e) v l os w m left follows values rule = (values.0, values.1, rule)

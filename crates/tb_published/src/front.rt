@@ -1,5 +1,5 @@
 //! Beginnings of a history as tokens: each tells how many entries it has, and the entries themselves to proofs alone.
-ghost use Rattle.std.specs.Prelude.{◌≡◌, ◌<◌, ◌^◌, [], length, IsTrue, IfSome, MatchBool};
+ghost use Rattle.std.specs.Prelude.{◌≡◌, ◌+◌, ◌<◌, ◌^◌, [], length, IsTrue, IfSome, MatchBool};
 ghost use Rattle.tb_published.specs.Lines.{LegalIn, state_of, line, with_entry, Begins, longer};
 ghost use Rattle.tb_published.specs.Counting.{head_of};
 ghost use Rattle.tb_machine.specs.Histories.{fits};
@@ -117,7 +117,7 @@ impl Front {
     /// Counts an entry that may come next, and gives the front with it; None where another entry had been counted.
     fn followed_by(&self, head: &Head, entry: &Entry) -> Option<Front>
         requires counted { head.now ≡ head_of self.now.opening.book }
-        requires room { length self.now.list < 2 ^ 62 }
+        requires room { length self.now.list + 1 < 2 ^ 64 }
         requires next { IsTrue (fits (state_of self.now) entry.now) }
         ensures { IfSome result (λ front. front ≡ with_entry self.now entry.now) }
     {
@@ -176,7 +176,7 @@ impl Chronicle {
 
     /// Adds an entry that may come next, and says whether it did: it did not where another had been added.
     pub fn add(&mut self, entry: &Entry) -> bool
-        requires room { length self.old.list < 2 ^ 62 }
+        requires room { length self.old.list + 1 < 2 ^ 64 }
         requires next { IsTrue (fits (state_of self.old) entry.now) }
         ensures { MatchBool result (self.new ≡ with_entry self.old entry.now) (self.new ≡ self.old) }
     {

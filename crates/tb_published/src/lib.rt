@@ -2,19 +2,24 @@
 //! from two copies of what follows it, each through a seat of its own, without a lock.
 #![tactic(auto)]
 
+mod entering;
 pub mod faults;
 mod front;
 pub mod limits;
 mod looking;
 pub mod naming;
+mod offering;
+pub mod publisher;
 mod replica;
 mod rule;
 pub mod seat;
 pub mod told;
+mod turning;
 
 pub use faults::{OpenFault, SeatFault, TakeFault, Taken};
 pub use front::Opening;
 pub use limits::SeatCount;
 pub use naming::Naming;
+pub use publisher::Publisher;
 pub use seat::Seat;
 pub use told::Told;

@@ -1,0 +1,55 @@
+//! How the writer judges a request by its machine, and enters it.
+ghost use Rattle.std.specs.Prelude.{◌≡◌, ◌++◌, ◌∷◌, [], true, false, IsTrue, MatchOption, MatchResult};
+ghost use Rattle.tb_records.specs.Messages.{IsLawful};
+ghost use Rattle.tb_sessions.specs.Judged.{class_of};
+ghost use Rattle.tb_sessions.specs.declared.classes.Class.TheVariants as class;
+ghost use Rattle.tb_machine.specs.Histories.{answer_to, fits, step};
+ghost use Rattle.tb_machine.specs.Scripts.{entry_of, has_time};
+
+use std::alloc::{AllocError, Global};
+use tb_machine::{Entry, Machine};
+use tb_records::Request;
+
+/// The commit number that the answer to a repeat names.
+pub(crate) fn stored_commit(machine: &Machine<Global>, request: &Request) -> u64
+    requires { class_of machine.now.rows request.now ≡ class.Repeat }
+    ensures commit { result ≡ (answer_to machine.now request.now).commit }
+    ensures lawful { IsLawful request.now }
+{
+    let _lawful = request.body();
+    let Some(reply) = machine.reply_of(request.client()) else {
+        unreachable!()
+    };
+    reply.commit()
+}
+
+/// The entry of a request that comes at a moment; None where there is no time for it.
+pub(crate) fn entry_for(machine: &Machine<Global>, request: Request, now: u64) -> Option<Entry>
+    ensures entry { MatchOption result (has_time machine.now (now, request) ≡ false) (λ e. (has_time machine.now (now, request) ≡ true) × (e ≡ entry_of machine.now (now, request))) }
+    ensures lawful { IsLawful request }
+{
+    let events = request.body().event_count() as u64;
+    let time = machine.next_time(now, events)?;
+    Some(Entry {
+        commit: machine.commit() + 1,
+        time,
+        request,
+    })
+}
+
+/// Puts an entry behind a history and into its machine, and answers its commit number. Where there is no memory, both
+/// are unchanged.
+pub(crate) fn add_to(
+    machine: &mut Machine<Global>,
+    history: &mut Vec<Entry>,
+    entry: Entry,
+) -> Result<u64, AllocError>
+    requires { IsTrue (fits machine.old entry) }
+    ensures { MatchResult result (λ c. (c ≡ entry.commit) × (machine.new ≡ step machine.old entry) × (history.new.items ≡ history.old.items ++ entry ∷ [])) (λ _. (machine.new ≡ machine.old) × (history.new.items ≡ history.old.items)) }
+{
+    history.reserve(1)?;
+    machine.apply(&entry)?;
+    let commit = entry.commit;
+    history.push_reserved(entry);
+    Ok(commit)
+}

@@ -1,0 +1,33 @@
+//! How the writer makes orders of the history's entries.
+ghost use Rattle.std.specs.Prelude.{◌≡◌, MatchOption};
+ghost use mathlib.Core.List.{IsPrefix};
+ghost use Rattle.tb_published.specs.Lines.{LegalIn, with_entry};
+
+use crate::front::Chronicle;
+use crate::naming::Naming;
+use crate::replica::Posted;
+use std::alloc::Global;
+use tb_machine::Entry;
+
+/// The order of the next entry that the chronicle has not counted, which is counted then. None where all are, or where
+/// there is no memory for the entry's copy.
+pub(crate) fn next_order<J: Naming>(
+    global: Global,
+    offered: &mut Chronicle,
+    history: &[Entry],
+) -> Option<Posted<J>>
+    requires named { offered.old.opening ≡ J.opening }
+    requires begins { IsPrefix offered.old.list history.now }
+    requires legal { LegalIn J.opening history.now }
+    ensures { MatchOption result (offered.new ≡ offered.old) (λ order. (order.front ≡ offered.new) × (offered.new ≡ with_entry offered.old order.entry) × IsPrefix offered.new.list history.now) }
+{
+    let count = offered.front().len();
+    let entry = history.get(count as usize)?;
+    let Ok(entry) = entry.copy(global) else {
+        return None;
+    };
+    if !offered.add(&entry) {
+        return None;
+    }
+    Some(Posted::new(entry, offered.front().again()))
+}

@@ -1,0 +1,209 @@
+//! The writer: it enters requests into the history, and has the copies show it.
+ghost use Rattle.std.specs.Prelude.{◌≡◌, ◌<◌, length, IsTrue, IsFalse};
+ghost use mathlib.Core.List.{IsPrefix};
+ghost use Rattle.tb_published.specs.Lines.{LegalIn, after_in};
+ghost use Rattle.tb_published.specs.Taking.{Enters, Takes, ShowsAll};
+
+use crate::entering::{add_to, entry_for, stored_commit};
+use crate::faults::{TakeFault, Taken};
+use crate::front::Chronicle;
+use crate::naming::Naming;
+use crate::offering::next_order;
+use crate::replica::{Posted, Replica};
+use crate::told::Told;
+use crate::turning::{Copies, publish};
+use left_right::Absorb;
+use std::alloc::{AllocError, Global};
+use std::marker::Model;
+use std::sync::Wait;
+use tb_machine::{Entry, Machine, status_of};
+use tb_records::Request;
+use tb_sessions::Class;
+
+/// The one writer of an opening. Contracts see its history, and what the copies show of it. It is not Drop: a `Held`
+/// closes it.
+pub struct Publisher<J: Naming>
+where
+    Replica<J>: Absorb<Posted<J>, State = Replica<J>>,
+{
+    copies: Copies<J>,
+    history: Vec<Entry>,
+    machine: Machine<Global>,
+    offered: Chronicle,
+    /// An order that the copies had no room for.
+    waiting: Option<Posted<J>>,
+    global: Global,
+}
+
+impl<J: Naming> Model for Publisher<J>
+where
+    Replica<J>: Absorb<Posted<J>, State = Replica<J>>,
+{
+    ghost use Rattle.std.specs.Prelude.{◌++◌, drop};
+    ghost use Rattle.std.specs.Option.{option_to_list};
+    ghost use Rattle.left_right.specs.Sides.{view as known};
+    ghost use Rattle.tb_published.specs.Ties.{Ends, Ties};
+
+    ghost Value = { Ends };
+
+    ghost view = { λ p. record { history = p.history.items; shown = p.copies.desk.shown.value.list } };
+
+    ghost invariant = { λ p. Ties J.opening p.history.items p.machine p.offered p.copies.desk.shown.value (known p.copies.desk.place) (drop p.copies.behind p.copies.log.items ++ option_to_list p.waiting) };
+}
+
+impl<J: Naming> Publisher<J> {
+    /// The history.
+    pub fn history(&self) -> &[Entry]
+        ensures value { result.now ≡ self.now.history }
+        ensures legal { LegalIn J.opening self.now.history }
+        ensures shown { IsPrefix self.now.shown self.now.history }
+    {
+        self.history.as_slice()
+    }
+
+    /// The machine after the history.
+    pub fn machine(&self) -> &Machine<Global>
+        ensures { result.now ≡ after_in J.opening self.now.history }
+    {
+        &self.machine
+    }
+
+    /// What the copies show, for seats to learn.
+    pub fn tell(&self) -> Told<J>
+        ensures { result ≡ self.now.shown }
+    {
+        Told::new(self.copies.published().front().again())
+    }
+
+    /// Enters a request that comes at a moment, and leaves what the copies show.
+    pub fn enter(&mut self, request: Request, now: u64) -> Result<Taken, TakeFault>
+        ensures history { Enters J.opening self.old.history request now result self.new.history }
+        ensures shown { self.new.shown ≡ self.old.shown }
+    {
+        match self.machine.class(&request) {
+            Class::New => {}
+            Class::Repeat => return Ok(Taken::Repeat(stored_commit(&self.machine, &request))),
+            class => return Ok(Taken::Refused(status_of(class))),
+        }
+        let Some(entry) = entry_for(&self.machine, request, now) else {
+            return Err(TakeFault::TimeExhausted);
+        };
+        match add_to(&mut self.machine, &mut self.history, entry) {
+            Ok(commit) => Ok(Taken::Committed(commit)),
+            Err(AllocError) => Err(TakeFault::NoMemory),
+        }
+    }
+
+    /// Has the copies show the whole history, and answers its last commit number. It waits for readers of the copy that
+    /// is not shown.
+    pub fn show<W: Wait>(&mut self, rt: &W) -> Result<u64, TakeFault>
+        ensures history { self.new.history ≡ self.old.history }
+        ensures shown { IsPrefix self.old.shown self.new.shown }
+        ensures ends { ShowsAll result self.new.history self.new.shown }
+    {
+        self.catch_up(rt);
+        let last = self.history.len() as u64;
+        if self.shows_all() {
+            Ok(last)
+        } else {
+            Err(TakeFault::Unpublished(last))
+        }
+    }
+
+    /// Takes a request that comes at a moment: shows what is not shown yet, enters the request, and shows the history
+    /// with it.
+    pub fn take<W: Wait>(&mut self, rt: &W, request: Request, now: u64) -> Result<Taken, TakeFault>
+        ensures history { Takes J.opening self.old.history request now result self.new.history self.new.shown }
+        ensures shown { IsPrefix self.old.shown self.new.shown }
+    {
+        self.show(rt)?;
+        let taken = self.enter(request, now)?;
+        self.show(rt)?;
+        Ok(taken)
+    }
+
+    /// Has the copies show what they do not yet, as far as there is memory.
+    fn catch_up<W: Wait>(&mut self, rt: &W)
+        ensures history { self.new.history ≡ self.old.history }
+        ensures shown { IsPrefix self.old.shown self.new.shown }
+    {
+        if self.shows_all() {
+            return;
+        }
+        self.offer_all();
+        self.turn(rt);
+    }
+
+    /// Says whether the copies show the whole history.
+    fn shows_all(&self) -> bool
+        ensures all { IsTrue result → self.now.shown ≡ self.now.history }
+        ensures less { IsFalse result → length self.now.shown < length self.now.history }
+    {
+        self.copies.published().front().len() == self.history.len() as u64
+    }
+
+    /// Offers the entries to the copies that were not offered yet, as far as there is memory.
+    fn offer_all(&mut self)
+        ensures { self.new ≡ self.old }
+    {
+        for _ in 0..=self.history.len() {
+            if !self.offer_next() {
+                break;
+            }
+        }
+    }
+
+    /// Offers the next entry; false where there is none, or no memory.
+    fn offer_next(&mut self) -> bool
+        ensures { self.new ≡ self.old }
+    {
+        self.pick_one();
+        self.hand_over()
+    }
+
+    /// Makes the order of the next entry, where none waits.
+    fn pick_one(&mut self)
+        ensures { self.new ≡ self.old }
+    {
+        if self.waiting.is_none() {
+            self.waiting = next_order(self.global, &mut self.offered, self.history.as_slice());
+        }
+    }
+
+    /// Hands over the order that waits; false where none does, or there is no room for it.
+    fn hand_over(&mut self) -> bool
+        ensures { self.new ≡ self.old }
+    {
+        let Some(order) = self.waiting.take() else {
+            return false;
+        };
+        match self.copies.append(order) {
+            Ok(()) => true,
+            Err(order) => {
+                self.waiting = Some(order);
+                false
+            }
+        }
+    }
+
+    /// Has the copies show what was offered, as far as there is memory.
+    fn turn<W: Wait>(&mut self, rt: &W)
+        ensures history { self.new.history ≡ self.old.history }
+        ensures shown { IsPrefix self.old.shown self.new.shown }
+    {
+        let _ = publish(&mut self.copies, rt);
+    }
+
+    /// Ends the opening. It waits for the seats that are reading.
+    pub fn close<W: Wait>(self, rt: &W) {
+        let Publisher {
+            copies,
+            history: _,
+            machine: _,
+            offered: _,
+            waiting: _,
+            global: _,
+        } = self;
+        let _shown = copies.take(rt);
+    }
+}

@@ -1,0 +1,35 @@
+//! How the writer shows the copies what they have taken in.
+ghost use Rattle.std.specs.Prelude.{◌≡◌, [], Some, drop, MatchResult};
+ghost use Rattle.left_right.specs.Sides.{view};
+ghost use Rattle.tb_published.specs.Orders.{Follows, line_after};
+
+use crate::naming::Naming;
+use crate::replica::{Posted, Replica};
+use crate::rule::{Look, Published, View};
+use core::mem::replace_with;
+use left_right::writer::Writer;
+use std::alloc::AllocError;
+use std::sync::Wait;
+
+/// The writer of the copies.
+pub(crate) type Copies<J> = Writer<Replica<J>, Posted<J>, View, Published>;
+
+/// Has the copies take in the orders that they have not, and shows what they have then. Where a copy finds no memory,
+/// they show what they showed, and the orders wait.
+pub(crate) fn turn<J: Naming, W: Wait>(
+    copies: Copies<J>,
+    rt: &W,
+) -> (Copies<J>, Result<(), AllocError>)
+    requires { Follows copies.desk.shown.value (drop copies.behind copies.log.items) }
+    ensures { MatchResult result.1 (λ _. (result.0.desk.shown.value ≡ line_after copies.desk.shown.value (drop copies.behind copies.log.items)) × (drop result.0.behind result.0.log.items ≡ []) × (view result.0.desk.place ≡ Some result.0.desk.shown.value)) (λ _. (result.0.desk.shown.value ≡ copies.desk.shown.value) × (drop result.0.behind result.0.log.items ≡ drop copies.behind copies.log.items) × (view result.0.desk.place ≡ view copies.desk.place)) }
+{
+    copies.publish_as::<Look, W>(rt)
+}
+
+/// As `turn`, in place.
+pub(crate) fn publish<J: Naming, W: Wait>(copies: &mut Copies<J>, rt: &W) -> Result<(), AllocError>
+    requires { Follows copies.old.desk.shown.value (drop copies.old.behind copies.old.log.items) }
+    ensures { MatchResult result (λ _. (copies.new.desk.shown.value ≡ line_after copies.old.desk.shown.value (drop copies.old.behind copies.old.log.items)) × (drop copies.new.behind copies.new.log.items ≡ []) × (view copies.new.desk.place ≡ Some copies.new.desk.shown.value)) (λ _. (copies.new.desk.shown.value ≡ copies.old.desk.shown.value) × (drop copies.new.behind copies.new.log.items ≡ drop copies.old.behind copies.old.log.items) × (view copies.new.desk.place ≡ view copies.old.desk.place)) }
+{
+    replace_with(copies, rt, |copies, rt| turn(copies, rt))
+}
