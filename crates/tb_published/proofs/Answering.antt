@@ -1,7 +1,7 @@
 -- What a class says of the answer after a legal history.
-use Rattle.std.proofs.Common.{◌≡◌, ℕ, List, Option, Some, refl, sym, ap, ◌∙◌, subst, IsTrue, Result, Ok, Err, IfOk, is_none}
+use Rattle.std.proofs.Common.{◌≡◌, true, List, ◌∷◌, ◌++◌, append_assoc, Option, Some, None, refl, sym, ap, ◌∙◌, subst, Result, Ok, Err, IfOk, is_none}
 use Rattle.tb_records.specs.declared.replies.Status.TheVariants as status
-use Rattle.tb_records.specs.Messages.{Message, Answer, IsLawful}
+use Rattle.tb_records.specs.Messages.{Message, Answer, IsLawful, is_register}
 use Rattle.tb_sessions.specs.declared.rows.Row.{Row}
 use Rattle.tb_sessions.specs.declared.classes.Class.{Class}
 use Rattle.tb_sessions.specs.declared.classes.Class.TheVariants.{New, Repeat, NoSession, SessionTooLow, NewerSession, Older, Collision, NewerRequest}
@@ -11,8 +11,9 @@ use Rattle.tb_machine.specs.Histories.{State, answer_by, answer_to, status_of}
 use Rattle.tb_machine.proofs.Rows.{row_found}
 use Rattle.tb_machine.proofs.Judging.{repeat_by}
 use Rattle.tb_machine.proofs.Reached.{Stands, reached}
-use Rattle.tb_machine.proofs.Held.{answers}
+use Rattle.tb_machine.proofs.Held.{answers, new_again}
 use Rattle.tb_published.specs.Lines.{Opening, LegalIn, AnswersIn, after_in}
+use Rattle.tb_published.specs.SeenLaws.{NeverNotYet}
 
 -- a row keeps a reply, so the answer to a repeat has that status, and any other the status of its class
 status_by : (class : Class) (o : Option Row) (r : Message) → (class ≡ Repeat → (row : Row) × (o ≡ Some row) × (row.reply.status ≡ status.Reply)) → status_of class ≡ (answer_by class o r).status
@@ -41,3 +42,23 @@ pub answers_ok : {E : Type 0} (o : Opening) (h : List Entry) (r : Message) (S : 
     → IfOk result (λ (a : Answer). a ≡ answer_to S r) → IfOk result (λ (a : Answer). AnswersIn o h r a)
 answers_ok o h r S (Ok a) state legal lawful is = answers o.profile o.clients_max h r a legal (ap is_none lawful) (is ∙ ap (λ (T : State). answer_to T r) state)
 answers_ok o h r S (Err e) state legal lawful is = tt
+
+-- only a new request is answered by NotYet
+new_of : (class : Class) → status_of class ≡ status.NotYet → class ≡ New
+new_of New is = refl
+new_of Repeat is = absurd cc
+new_of NoSession is = absurd cc
+new_of SessionTooLow is = absurd cc
+new_of NewerSession is = absurd cc
+new_of Older is = absurd cc
+new_of Collision is = absurd cc
+new_of NewerRequest is = absurd cc
+
+pub never_not_yet : NeverNotYet
+never_not_yet o h m r has seen legal not_yet =
+    let whole : m ≡ has.front ++ has.entry ∷ (has.rest ++ seen.0) = sym seen.1 ∙ (ap (λ (l : List Entry). l ++ seen.0) has.whole ∙ append_assoc has.front (has.entry ∷ has.rest) seen.0) in
+    let class : class_of (after_in o m).rows r ≡ New = new_of (class_of (after_in o m).rows r) (status_is o m r legal ∙ not_yet) in
+    let again = new_again o.profile o.clients_max has.front has.entry (has.rest ++ seen.0) (subst (LegalIn o) whole legal)
+    (subst (λ (l : List Entry). class_of (after_in o l).rows has.entry.request ≡ New) whole (subst (λ (s : Message). class_of (after_in o m).rows s ≡ New) (sym has.request) class)) in
+    subst (λ (s : Message). (is_register s.body ≡ true) × (row_of (after_in o m).rows s.client ≡ None)) has.request
+    (subst (λ (l : List Entry). (is_register has.entry.request.body ≡ true) × (row_of (after_in o l).rows has.entry.request.client ≡ None)) (sym whole) again)

@@ -1,6 +1,5 @@
 -- The table of a request that is entered, from what its calls answer.
-use Rattle.std.proofs.Common.{◌≡◌, ◌≢◌, ℕ, ◌+◌, ◌≤◌, max, true, false, List, [], ◌∷◌, ◌++◌, length, Option, Result, Ok, Err, MatchResult, is_none, refl, sym, ap, ◌∙◌, subst, arith, IsTrue, leb-true}
-use mathlib.Core.List.{IsPrefix}
+use Rattle.std.proofs.Common.{◌≡◌, ℕ, ◌+◌, max, true, List, [], ◌∷◌, ◌++◌, Option, Result, Ok, Err, MatchResult, is_none, refl, sym, ap, ◌∙◌, subst, arith, IsTrue, leb-true}
 use Rattle.tb_records.specs.Messages.{Message, IsLawful}
 use Rattle.tb_ledger.specs.Verdicts.{max_time}
 use Rattle.tb_sessions.specs.declared.classes.Class.TheVariants.{New, Repeat}

@@ -1,8 +1,8 @@
 -- A front with one entry more than another of its opening.
-use Rattle.std.proofs.Common.{◌≡◌, ℕ, ◌+◌, ◌≤◌, List, [], ◌∷◌, ◌++◌, length, refl, sym, ap, ◌∙◌, subst, arith, IsTrue, length-append}
+use Rattle.std.proofs.Common.{◌≡◌, ◌+◌, List, [], ◌∷◌, ◌++◌, length, sym, ap, ◌∙◌, subst, arith, IsTrue, length-append}
 use mathlib.Core.List.{IsPrefix}
 use Rattle.tb_machine.specs.declared.entries.Entry.{Entry}
-use Rattle.tb_machine.specs.Histories.{State, fits, step}
+use Rattle.tb_machine.specs.Histories.{fits, step}
 use Rattle.tb_machine.proofs.Legal.{after_snoc, legal_front, legal_at}
 use Rattle.tb_published.specs.Lines.{Opening, LegalIn, after_in, Line, state_of, Begins, EndsWith}
 use Rattle.tb_published.proofs.Prefixes.{prefix_shorter, prefix_whole}

@@ -1,10 +1,9 @@
 -- The steps of readers and of the writer keep the rule of the copies.
-use Rattle.std.proofs.Common.{◌≡◌, ◌≢◌, ℕ, ◌+◌, ◌≤◌, ⊎_elim, true, cond, eq-eqb, List, [], ◌∷◌, ◌++◌, length, set, fold, Option, Some, None, IfSome, Result, Ok, Err, MatchResult, zero, suc, refl, sym, ap, ◌∙◌, subst, arith, length-append}
+use Rattle.std.proofs.Common.{◌≡◌, ◌≢◌, ℕ, ◌+◌, ◌≤◌, ⊎_elim, cond, eq-eqb, List, [], ◌∷◌, length, set, fold, Option, Some, None, IfSome, Result, Ok, Err, MatchResult, zero, suc, refl, sym, ap, ◌∙◌, subst, length-append}
 use mathlib.Core.Option.{some, some-injective}
 use lib.ListN.{get_elem?}
 use Rattle.crossbeam_utils.specs.Register.{Admits, Turns, TurnsAt, Forks, Merges}
 use Rattle.atomic_table.proofs.Lists.{at_set, at_snoc}
-use Rattle.tb_machine.specs.declared.entries.Entry.{Entry}
 use Rattle.tb_published.specs.Lines.{Line, Begins, with_entry}
 use Rattle.tb_published.specs.Orders.{Order, absorbed, Follows, line_after}
 use Rattle.tb_published.specs.Sharing.{Shows, Sees}

@@ -1,11 +1,11 @@
 -- What a publisher keeps, through its calls.
-use Rattle.std.proofs.Common.{◌≡◌, ℕ, ◌≤◌, ◌<◌, false, List, [], ◌∷◌, ◌++◌, length, fold, is_some, Option, Some, None, MatchOption, Result, Ok, Err, MatchResult, refl, sym, ap, ◌∙◌, subst, arith, append_assoc, append-nil}
+use Rattle.std.proofs.Common.{◌≡◌, false, List, [], ◌∷◌, ◌++◌, is_some, Option, Some, None, MatchOption, Result, Ok, Err, MatchResult, sym, ap, ◌∙◌, subst, append-nil}
 use mathlib.Core.List.{IsPrefix}
 use Rattle.std.specs.Option.{option_to_list}
 use Rattle.tb_machine.specs.declared.entries.Entry.{Entry}
 use Rattle.tb_machine.specs.Histories.{State}
 use Rattle.tb_machine.proofs.Legal.{fold_append}
-use Rattle.tb_published.specs.Lines.{Opening, Line, Begins, with_entry}
+use Rattle.tb_published.specs.Lines.{Opening, Line, with_entry}
 use Rattle.tb_published.specs.Orders.{Order, Follows, line_after}
 use Rattle.tb_published.specs.Ties.{Ties}
 use Rattle.tb_published.proofs.Prefixes.{prefix_self, prefix_trans}

@@ -4,3 +4,4 @@ pub mod Orders
 pub mod Sharing
 pub mod Taking
 pub mod Ties
+pub mod SeenLaws

@@ -1,5 +1,5 @@
 -- Orders to the copies: each brings an entry, and the front that the copy has with it.
-use Rattle.std.specs.Prelude.{ℕ, ◌≡◌, ◌+◌, ◌==◌, List, [], ◌∷◌, length, if◌then◌else◌, fold}
+use Rattle.std.specs.Prelude.{◌≡◌, ◌+◌, ◌==◌, List, [], ◌∷◌, length, if◌then◌else◌, fold}
 use Rattle.tb_machine.specs.declared.entries.Entry.{Entry}
 use Rattle.tb_published.specs.Lines.{Line, with_entry}
 

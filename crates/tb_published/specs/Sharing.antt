@@ -1,5 +1,5 @@
 -- The rule that the copies and their readers keep.
-use Rattle.std.specs.Prelude.{ℕ, ◌≡◌, List, Option, Some, None, IfSome}
+use Rattle.std.specs.Prelude.{ℕ, ◌≡◌, List, Option, Some, IfSome}
 use mathlib.Core.Option.{some}
 use lib.ListN.{get_elem?}
 use Rattle.tb_published.specs.Lines.{Opening, LegalIn, Line, Begins}

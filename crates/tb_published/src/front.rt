@@ -86,7 +86,14 @@ impl Front {
         self.count
     }
 
-    /// A copy. It has no bytes but the number.
+    /// The rules of its opening.
+    fn rules(&self) -> (Profile, ClientsMax)
+        ensures { (result.0 ≡ self.now.opening.profile) × (result.1 ≡ self.now.opening.clients_max) }
+    {
+        (self.profile, self.clients_max)
+    }
+
+    /// A copy.
     pub fn again(&self) -> Front
         ensures { result ≡ self.now }
     {
@@ -225,6 +232,13 @@ impl Opening {
                 front,
             },
         }
+    }
+
+    /// The rules.
+    pub(crate) fn rules(&self) -> (Profile, ClientsMax)
+        ensures { (result.0 ≡ self.now.profile) × (result.1 ≡ self.now.clients_max) }
+    {
+        self.chronicle.front.rules()
     }
 
     /// The chronicle of its empty history.

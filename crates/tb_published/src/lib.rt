@@ -5,10 +5,13 @@
 mod entering;
 pub mod faults;
 mod front;
+pub mod holder;
+pub mod laws;
 pub mod limits;
 mod looking;
 pub mod naming;
 mod offering;
+pub mod opening;
 pub mod publisher;
 mod replica;
 mod rule;
@@ -18,8 +21,10 @@ mod turning;
 
 pub use faults::{OpenFault, SeatFault, TakeFault, Taken};
 pub use front::Opening;
+pub use holder::Held;
 pub use limits::SeatCount;
 pub use naming::Naming;
+pub use opening::open;
 pub use publisher::Publisher;
 pub use seat::Seat;
 pub use told::Told;

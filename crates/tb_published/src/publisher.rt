@@ -1,17 +1,19 @@
 //! The writer: it enters requests into the history, and has the copies show it.
-ghost use Rattle.std.specs.Prelude.{◌≡◌, ◌<◌, length, IsTrue, IsFalse};
+ghost use Rattle.std.specs.Prelude.{◌≡◌, ◌<◌, [], length, IsTrue, IsFalse, IfOk};
 ghost use mathlib.Core.List.{IsPrefix};
 ghost use Rattle.tb_published.specs.Lines.{LegalIn, after_in};
 ghost use Rattle.tb_published.specs.Taking.{Enters, Takes, ShowsAll};
 
 use crate::entering::{add_to, entry_for, stored_commit};
-use crate::faults::{TakeFault, Taken};
-use crate::front::Chronicle;
+use crate::faults::{OpenFault, TakeFault, Taken};
+use crate::front::{Chronicle, Opening};
+use crate::limits::SeatCount;
 use crate::naming::Naming;
 use crate::offering::next_order;
 use crate::replica::{Posted, Replica};
+use crate::seat::Seat;
 use crate::told::Told;
-use crate::turning::{Copies, publish};
+use crate::turning::{Copies, new_place, publish, turn};
 use left_right::Absorb;
 use std::alloc::{AllocError, Global};
 use std::marker::Model;
@@ -52,6 +54,54 @@ where
 }
 
 impl<J: Naming> Publisher<J> {
+    /// A publisher of an empty history, with room for so many seats.
+    pub(crate) fn start<W: Wait>(
+        alloc: Global,
+        rt: &W,
+        opening: Opening,
+        seats: SeatCount,
+    ) -> Result<Publisher<J>, AllocError>
+        requires { opening ≡ J.opening }
+        ensures { IfOk result (λ p. (p.history ≡ []) × (p.shown ≡ [])) }
+    {
+        let (profile, clients_max) = opening.rules();
+        let offered = opening.into_chronicle();
+        let machine = Machine::new_in(alloc, alloc, profile, clients_max)?;
+        let first = Machine::new_in(alloc, alloc, profile, clients_max)?;
+        let second = Machine::new_in(alloc, alloc, profile, clients_max)?;
+        let copies = Copies::new(
+            alloc,
+            Replica::new(first, offered.front().again()),
+            Replica::new(second, offered.front().again()),
+            seats.get() as usize,
+        )?;
+        let (copies, shown) = turn(copies, rt);
+        if let Err(AllocError) = shown {
+            let _shown = copies.take(rt);
+            return Err(AllocError);
+        }
+        Ok(Publisher {
+            copies,
+            history: Vec::new(alloc),
+            machine,
+            offered,
+            waiting: None,
+            global: alloc,
+        })
+    }
+
+    /// A seat that has seen what the copies show.
+    pub(crate) fn seat(&mut self) -> Result<Seat<J>, OpenFault>
+        ensures same { self.new ≡ self.old }
+        ensures seat { IfOk result (λ seat. seat ≡ self.old.shown) }
+    {
+        let front = self.copies.published().front().again();
+        let Ok(place) = new_place(&mut self.copies) else {
+            return Err(OpenFault::NoPlace);
+        };
+        Ok(Seat::new(place, front, self.global))
+    }
+
     /// The history.
     pub fn history(&self) -> &[Entry]
         ensures value { result.now ≡ self.now.history }

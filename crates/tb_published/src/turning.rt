@@ -1,11 +1,12 @@
 //! How the writer shows the copies what they have taken in.
-ghost use Rattle.std.specs.Prelude.{◌≡◌, [], Some, drop, MatchResult};
+ghost use Rattle.std.specs.Prelude.{◌≡◌, [], Some, drop, IfOk, MatchResult};
 ghost use Rattle.left_right.specs.Sides.{view};
 ghost use Rattle.tb_published.specs.Orders.{Follows, line_after};
 
+use crate::looking::Place;
 use crate::naming::Naming;
 use crate::replica::{Posted, Replica};
-use crate::rule::{Look, Published, View};
+use crate::rule::{Look, Notes, Published, View};
 use core::mem::replace_with;
 use left_right::writer::Writer;
 use std::alloc::AllocError;
@@ -32,4 +33,14 @@ pub(crate) fn publish<J: Naming, W: Wait>(copies: &mut Copies<J>, rt: &W) -> Res
     ensures { MatchResult result (λ _. (copies.new.desk.shown.value ≡ line_after copies.old.desk.shown.value (drop copies.old.behind copies.old.log.items)) × (drop copies.new.behind copies.new.log.items ≡ []) × (view copies.new.desk.place ≡ Some copies.new.desk.shown.value)) (λ _. (copies.new.desk.shown.value ≡ copies.old.desk.shown.value) × (drop copies.new.behind copies.new.log.items ≡ drop copies.old.behind copies.old.log.items) × (view copies.new.desk.place ≡ view copies.old.desk.place)) }
 {
     replace_with(copies, rt, |copies, rt| turn(copies, rt))
+}
+
+/// A reader's place at the copies, which has seen what they show.
+pub(crate) fn new_place<J: Naming>(copies: &mut Copies<J>) -> Result<Place<J>, AllocError>
+    ensures copies { (copies.new.desk.shown.value ≡ copies.old.desk.shown.value) × (copies.new.log ≡ copies.old.log) × (copies.new.behind ≡ copies.old.behind) × (view copies.new.desk.place ≡ view copies.old.desk.place) }
+    ensures place { IfOk result (λ p. view p.place ≡ view copies.old.desk.place) }
+{
+    let mut place = copies.factory().reader()?;
+    place.learn::<Notes>(copies.tell::<Notes>());
+    Ok(place)
 }

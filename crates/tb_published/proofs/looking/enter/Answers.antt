@@ -1,6 +1,5 @@
-use Rattle.std.proofs.Common.{arith, length, ap}
+use Rattle.std.proofs.Common.{arith}
 use Rattle.left_right.specs.Sides.{view}
-use Rattle.tb_published.specs.Lines.{Line}
 use Rattle.tb_published.proofs.Shown.{looks, shorter_begins}
 use Rattle.tb_published.proofs.looking.enter.Goals as goal
 

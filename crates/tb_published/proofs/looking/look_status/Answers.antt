@@ -1,5 +1,4 @@
-use Rattle.std.proofs.Common.{◌≡◌, ap, sym, ◌∙◌}
-use Rattle.tb_sessions.specs.declared.classes.Class.{Class}
+use Rattle.std.proofs.Common.{◌≡◌, ap, ◌∙◌}
 use Rattle.tb_sessions.specs.Judged.{class_of}
 use Rattle.tb_machine.specs.Histories.{State, status_of}
 use Rattle.tb_published.specs.Lines.{Opening, after_in, state_of}

@@ -1,4 +1,4 @@
-use Rattle.std.proofs.Common.{◌≡◌, ◌+◌, length, IsTrue, sym, ap, ◌∙◌, subst, arith, eqb-true}
+use Rattle.std.proofs.Common.{◌≡◌, ◌+◌, length, IsTrue, sym, ◌∙◌, subst, arith, eqb-true}
 use Rattle.tb_machine.specs.Histories.{fits, step}
 use Rattle.tb_published.specs.Lines.{Line, state_of}
 use Rattle.tb_published.specs.Orders.{Order}

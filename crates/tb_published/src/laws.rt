@@ -1,0 +1,8 @@
+//! What follows of what seats have seen, over the definitions alone. A call does nothing; its promise is the law.
+ghost use Rattle.tb_published.specs.SeenLaws.{NeverNotYet};
+
+/// A seat that learnt what was told after a request was committed never answers NotYet for it, but for a register whose
+/// session was driven out since.
+pub fn never_not_yet()
+    ensures { NeverNotYet }
+{}

@@ -1,0 +1,57 @@
+//! How an opening is made.
+ghost use Rattle.std.specs.Prelude.{◌≡◌, [], All, IfOk, vec_len};
+
+use crate::faults::OpenFault;
+use crate::front::Opening;
+use crate::limits::SeatCount;
+use crate::naming::Naming;
+use crate::publisher::Publisher;
+use crate::seat::Seat;
+use std::alloc::{AllocError, Global};
+use std::sync::Wait;
+
+/// Opens an empty history: its publisher, and so many seats. The caller names the opening: it calls a function that is
+/// generic in `J`. Where it is refused, nothing is left of it.
+pub fn open<J: Naming, W: Wait>(
+    alloc: Global,
+    rt: &W,
+    opening: Opening,
+    seats: SeatCount,
+) -> Result<(Publisher<J>, Vec<Seat<J>>), OpenFault>
+    requires { opening ≡ J.opening }
+    ensures publisher { IfOk result (λ t. (t.0.history ≡ []) × (t.0.shown ≡ [])) }
+    ensures seats { IfOk result (λ t. (vec_len t.1 ≡ seats) × All (λ s. s ≡ []) t.1.items) }
+{
+    let mut publisher = match Publisher::start(alloc, rt, opening, seats) {
+        Ok(publisher) => publisher,
+        Err(AllocError) => return Err(OpenFault::NoMemory),
+    };
+    match take_seats(alloc, &mut publisher, seats) {
+        Ok(seats) => Ok((publisher, seats)),
+        Err(fault) => {
+            publisher.close(rt);
+            Err(fault)
+        }
+    }
+}
+
+/// So many seats of a publisher.
+fn take_seats<J: Naming>(
+    alloc: Global,
+    publisher: &mut Publisher<J>,
+    count: SeatCount,
+) -> Result<Vec<Seat<J>>, OpenFault>
+    requires { publisher.old.shown ≡ [] }
+    ensures same { publisher.new ≡ publisher.old }
+    ensures seats { IfOk result (λ seats. (vec_len seats ≡ count) × All (λ s. s ≡ []) seats.items) }
+{
+    let count = count.get();
+    let Ok(mut seats) = Vec::with_capacity(alloc, count as usize) else {
+        return Err(OpenFault::NoMemory);
+    };
+    for _ in 0..count {
+        let seat = publisher.seat()?;
+        seats.push_reserved(seat);
+    }
+    Ok(seats)
+}
