@@ -87,7 +87,7 @@ impl Front {
     }
 
     /// The rules of its opening.
-    fn rules(&self) -> (Profile, ClientsMax)
+    pub fn rules(&self) -> (Profile, ClientsMax)
         ensures { (result.0 ≡ self.now.opening.profile) × (result.1 ≡ self.now.opening.clients_max) }
     {
         (self.profile, self.clients_max)
