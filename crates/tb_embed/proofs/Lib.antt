@@ -1,2 +1,5 @@
 pub mod AsBox
+pub mod Filled
+pub mod Frames
+pub mod Lengths
 pub mod Values

@@ -1,8 +1,17 @@
-//! The server inside another program: calls for C and whatever calls C, over a handle that the caller keeps.
+//! The server inside another program: calls for C, and for what calls C, over a handle that the caller keeps. embed/tb_embed.h
+//! declares them.
 #![tactic(auto)]
 
+pub mod calls;
 pub mod held;
+pub mod laws;
 pub mod loose;
+mod opening;
+pub mod outcomes;
+mod replies;
+mod rooms;
 pub mod servers;
+mod serving;
+mod showing;
 
 pub use servers::TbServer;

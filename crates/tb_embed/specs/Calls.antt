@@ -1,0 +1,80 @@
+-- What each call makes of a server, and what it answers.
+use Rattle.std.specs.Prelude.{ℕ, Bool, true, false, not, ◌≡◌, ◌==◌, ◌&&◌, ◌||◌, ◌⊎◌, ◌+◌, ◌*◌, ◌^◌, ◌<◌, ◌≤◌, nat_le, List, length, take, Option, Some, None, if◌then◌else◌}
+use Rattle.std.specs.Option.{option_map, is_none}
+use Rattle.tb_records.specs.declared.faults.FrameFault.{FrameFault}
+use Rattle.tb_records.specs.declared.limits.Profile.{Profile}
+use Rattle.tb_records.specs.declared.limits.Profile.TheVariants.{One, Two}
+use Rattle.tb_records.specs.Messages.{Message}
+use Rattle.tb_records.specs.Frames.{Spells, request_fault}
+use Rattle.tb_machine.specs.Histories.{State, start}
+use Rattle.tb_machine.specs.Scripts.{Pair, has_time, moved}
+use Rattle.tb_machine.specs.Runs.{is_new_in, IsTimely, answer_bytes}
+use Rattle.tb_embed.specs.declared.held.Server.{Server}
+use Rattle.tb_embed.specs.declared.outcomes.Outcome.{Outcome}
+use Rattle.tb_embed.specs.declared.outcomes.Outcome.TheVariants.{Done, Closed, Usage, NoMemory, Malformed, TimeExhausted, Absent, TooSmall}
+
+-- where the server of a handle stands; a closed handle has none
+abbrev pub standing : Option Server → Option State
+standing state = option_map (λ (server : Server). server.machine) state
+
+-- opening
+
+abbrev pub profile_of : ℕ → Profile
+profile_of n = if n == 2 then Two else One
+
+-- there are two profiles, and 1 to 64 clients can have a session at one time
+abbrev pub are_arguments : ℕ → ℕ → Bool
+are_arguments profile clients_max = (profile == 1 || profile == 2) && not (clients_max == 0) && nat_le clients_max 64
+
+-- a closed handle is opened at the empty history; wrong arguments and an open handle are refused; nothing else changes
+abbrev pub Opens : Outcome → ℕ → ℕ → Option State → Option State → Type 0
+Opens (Done n) profile clients_max before after = (are_arguments profile clients_max ≡ true) × (before ≡ None) × (after ≡ Some (start (profile_of profile) clients_max))
+Opens Usage profile clients_max before after = ((are_arguments profile clients_max && is_none before) ≡ false) × (after ≡ before)
+Opens NoMemory profile clients_max before after = (are_arguments profile clients_max ≡ true) × (before ≡ None) × (after ≡ None)
+Opens outcome profile clients_max before after = ⊥
+
+-- serving
+
+-- bytes that are not one frame of a request: they have a fault, or more bytes follow a frame
+abbrev pub IsMalformed : List ℕ → Type 0
+IsMalformed bytes = ((fault : FrameFault) × (request_fault bytes ≡ Some fault)) ⊎ ((n : ℕ) × (r : Message) × (n < length bytes) × Spells (take n bytes) r)
+
+-- what a request that comes at a moment makes of the machine, and of the room for its reply: it is answered, or its reply
+-- needs more room than there is and can be had by sending the request again; or the machine stands as it stood, since no
+-- time is left for a new request, or no memory
+abbrev pub Answers : Outcome → State → State → Pair → List ℕ → Type 0
+Answers (Done n) S T p room = IsTimely S p × (T ≡ moved S p) × (n ≤ length room) × (take n room ≡ answer_bytes S p)
+Answers (TooSmall n) S T p room = IsTimely S p × (T ≡ moved S p) × (length room < n) × (n ≡ length (answer_bytes S p))
+Answers TimeExhausted S T p room = (is_new_in S p ≡ true) × (has_time S p ≡ false) × (T ≡ S)
+Answers NoMemory S T p room = (is_new_in S p ≡ true) × (has_time S p ≡ true) × (T ≡ S)
+Answers outcome S T p room = ⊥
+
+-- the same of bytes: malformed ones change nothing, and neither does want of memory for reading them
+abbrev pub AnswersFrame : Outcome → State → State → ℕ → List ℕ → List ℕ → Type 0
+AnswersFrame Malformed S T moment bytes room = IsMalformed bytes × (T ≡ S)
+AnswersFrame NoMemory S T moment bytes room = (request_fault bytes ≡ None) × (T ≡ S)
+AnswersFrame outcome S T moment bytes room = (r : Message) × Spells bytes r × Answers outcome S T (moment, r) room
+
+abbrev pub Serves : Outcome → Option State → Option State → ℕ → List ℕ → List ℕ → Type 0
+Serves outcome (Some S) (Some T) moment bytes room = AnswersFrame outcome S T moment bytes room
+Serves outcome None None moment bytes room = outcome ≡ Closed
+Serves outcome before after moment bytes room = ⊥
+
+-- showing a record
+
+-- an id of two halves
+abbrev pub id_of : ℕ → ℕ → ℕ
+id_of low high = low + high * 2 ^ 64
+
+-- the 128 bytes of a record that is there are written; nothing changes
+abbrev pub ShowsOf : Outcome → Option (List ℕ) → List ℕ → Type 0
+ShowsOf (Done n) found room = (n ≡ 128) × (128 ≤ length room) × (found ≡ Some (take 128 room))
+ShowsOf Absent found room = (128 ≤ length room) × (found ≡ None)
+ShowsOf (TooSmall n) found room = (n ≡ 128) × (length room < 128)
+ShowsOf outcome found room = ⊥
+
+module _ (found_in : State → Option (List ℕ)) where
+  abbrev pub Shows : Outcome → Option State → Option State → List ℕ → Type 0
+  Shows outcome (Some S) (Some T) room = ShowsOf outcome (found_in S) room × (T ≡ S)
+  Shows outcome None None room = outcome ≡ Closed
+  Shows outcome before after room = ⊥

@@ -1,0 +1,94 @@
+//! The calls that C makes. Each takes the handle by reference, answers a status, and needs nothing of its caller but what
+//! embed/tb_embed.h says of pointers.
+ghost use Rattle.std.specs.Prelude.{◌≡◌, None};
+ghost use Rattle.std.specs.Option.{option_map};
+ghost use Rattle.tb_records.specs.RecordBytes.{account_bytes, transfer_bytes};
+ghost use Rattle.tb_ledger.specs.Books.{account_now, transfer_at};
+ghost use Rattle.tb_machine.specs.Histories.{State};
+ghost use Rattle.tb_embed.specs.Outcomes.{Tells, TellsLength};
+ghost use Rattle.tb_embed.specs.Calls.{standing, id_of, Opens, Serves, Shows};
+ghost use Rattle.tb_embed.specs.declared.outcomes.Outcome.{Outcome};
+
+use crate::opening::open;
+use crate::servers::TbServer;
+use crate::serving::serve;
+use crate::showing::{show_account, show_transfer};
+use std::alloc::Global;
+
+/// Opens a closed handle at the empty history: profile 1 or 2, and 1 to 64 clients with a session at one time. Statuses: 0
+/// opened, 2 wrong arguments or an open handle, 3 no memory.
+#[unsafe(no_mangle)]
+pub extern "C" fn tb_embed_open(
+    alloc: Global,
+    server: &mut TbServer,
+    profile: u32,
+    clients_max: u32,
+) -> u32
+    ensures { Tells result (λ outcome. Opens outcome profile clients_max (standing server.old.held.state) (standing server.new.held.state)) }
+{
+    open(alloc, server, profile, clients_max).status()
+}
+
+/// Serves the frame of a request that comes at a moment, in nanoseconds, and writes the frame of the reply into the room.
+/// Statuses: 0 answered, in so many bytes; 1 a closed handle; 3 no memory; 4 no frame of a request, or bytes behind it; 5
+/// no time is left; 7 answered, but the room is too small, and so many bytes are needed: the same request, sent next, gets
+/// the same reply.
+#[unsafe(no_mangle)]
+pub extern "C" fn tb_embed_serve(
+    alloc: Global,
+    server: &mut TbServer,
+    moment: u64,
+    request: &[u8],
+    reply: &mut [u8],
+    written: &mut usize,
+) -> u32
+    ensures { TellsLength result written.new (λ outcome. Serves outcome (standing server.old.held.state) (standing server.new.held.state) moment request.now reply.new) }
+{
+    let outcome = serve(alloc, server, moment, request, reply);
+    *written = outcome.length();
+    outcome.status()
+}
+
+/// Writes the 128 bytes of an account as it stands, its id in two halves. Statuses: 0 written, 1 a closed handle, 6 no such
+/// account, 7 the room is shorter than 128 bytes.
+#[unsafe(no_mangle)]
+pub extern "C" fn tb_embed_account(
+    alloc: Global,
+    server: &mut TbServer,
+    id_low: u64,
+    id_high: u64,
+    account: &mut [u8],
+) -> u32
+    ensures { Tells result (λ outcome. Shows (λ (S : State). option_map account_bytes (account_now S.books (id_of id_low id_high))) outcome (standing server.old.held.state) (standing server.new.held.state) account.new) }
+{
+    show_account(alloc, server, id(id_low, id_high), account).status()
+}
+
+/// Writes the 128 bytes of a transfer as it was recorded, its id in two halves. Statuses as of an account.
+#[unsafe(no_mangle)]
+pub extern "C" fn tb_embed_transfer(
+    alloc: Global,
+    server: &mut TbServer,
+    id_low: u64,
+    id_high: u64,
+    transfer: &mut [u8],
+) -> u32
+    ensures { Tells result (λ outcome. Shows (λ (S : State). option_map transfer_bytes (transfer_at S.books (id_of id_low id_high))) outcome (standing server.old.held.state) (standing server.new.held.state) transfer.new) }
+{
+    show_transfer(alloc, server, id(id_low, id_high), transfer).status()
+}
+
+/// Closes the handle, and frees its server where there is one.
+#[unsafe(no_mangle)]
+pub extern "C" fn tb_embed_close(alloc: Global, server: &mut TbServer)
+    ensures { standing server.new.held.state ≡ None }
+{
+    let _held = server.take(alloc);
+}
+
+/// An id of its two halves.
+fn id(low: u64, high: u64) -> u128
+    ensures { result ≡ id_of low high }
+{
+    u128::from(low) + u128::from(high) * 18_446_744_073_709_551_616
+}

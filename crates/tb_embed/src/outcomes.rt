@@ -1,0 +1,52 @@
+//! How a call fared, and the status that tells it to a caller in C.
+ghost use Rattle.std.specs.Prelude.{◌≡◌};
+ghost use Rattle.tb_embed.specs.Outcomes.{status_of, length_of};
+
+/// How a call fared.
+#[derive(Clone, Copy, Debug, PartialEq, Eq)]
+pub enum Outcome {
+    /// It did what it is for, and wrote so many bytes.
+    Done(usize),
+    /// The handle is closed.
+    Closed,
+    /// The arguments are wrong, or the handle that is to be opened is open.
+    Usage,
+    /// There was no memory, and nothing changed.
+    NoMemory,
+    /// The bytes are not one frame of a request.
+    Malformed,
+    /// The request is new, and the end of time leaves no time for it.
+    TimeExhausted,
+    /// No record has the id.
+    Absent,
+    /// The room is too small: so many bytes were to be written.
+    TooSmall(usize),
+}
+
+impl Outcome {
+    /// The status, as embed/tb_embed.h names it.
+    pub fn status(self) -> u32
+        ensures { result ≡ status_of self }
+    {
+        match self {
+            Outcome::Done(_) => 0,
+            Outcome::Closed => 1,
+            Outcome::Usage => 2,
+            Outcome::NoMemory => 3,
+            Outcome::Malformed => 4,
+            Outcome::TimeExhausted => 5,
+            Outcome::Absent => 6,
+            Outcome::TooSmall(_) => 7,
+        }
+    }
+
+    /// The number of bytes that were written, or that the room is to have.
+    pub fn length(self) -> usize
+        ensures { result ≡ length_of self }
+    {
+        match self {
+            Outcome::Done(length) | Outcome::TooSmall(length) => length,
+            _ => 0,
+        }
+    }
+}

@@ -1,0 +1,94 @@
+//! The serving of one request: its frame is read, and its reply written into the caller's room.
+ghost use Rattle.std.specs.Prelude.{◌≡◌};
+ghost use Rattle.tb_embed.specs.Calls.{standing, Answers, AnswersFrame, Serves};
+ghost use Rattle.tb_embed.specs.Filling.{Fills};
+
+use crate::outcomes::Outcome;
+use crate::replies::reply_length;
+use crate::rooms::Room;
+use crate::servers::TbServer;
+use std::alloc::Global;
+use tb_machine::{Machine, RunFault, serve_pair};
+use tb_records::{FrameFault, Request, read_request};
+
+/// Serves a request, and writes what there is room for of its reply. Answers the number of bytes written; where the room is
+/// too small, it is full.
+fn fill(
+    machine: &mut Machine<Global>,
+    moment: u64,
+    request: Request,
+    reply: &mut [u8],
+) -> Result<usize, RunFault>
+    ensures { Fills result machine.old machine.new (moment, request) reply.new }
+{
+    let mut room = Room::over(reply);
+    match serve_pair(machine, &mut room, moment, request) {
+        Ok(()) => Ok(room.at()),
+        Err(fault) => Err(fault),
+    }
+}
+
+/// Serves a request.
+fn serve_request(
+    machine: &mut Machine<Global>,
+    moment: u64,
+    request: Request,
+    reply: &mut [u8],
+) -> Outcome
+    ensures { Answers result machine.old machine.new (moment, request) reply.new }
+{
+    let _lawful = request.body();
+    let client = request.client();
+    let class = machine.class(&request);
+    match fill(machine, moment, request, reply) {
+        Ok(length) => Outcome::Done(length),
+        Err(RunFault::TimeExhausted) => Outcome::TimeExhausted,
+        Err(RunFault::Frame(_fault)) => {
+            let length = reply_length(machine, class, client);
+            if length <= reply.len() {
+                Outcome::Done(length)
+            } else {
+                Outcome::TooSmall(length)
+            }
+        },
+        Err(_) => Outcome::NoMemory,
+    }
+}
+
+/// Serves the request of a frame.
+fn serve_frame(
+    alloc: Global,
+    machine: &mut Machine<Global>,
+    moment: u64,
+    frame: &[u8],
+    reply: &mut [u8],
+) -> Outcome
+    ensures { AnswersFrame result machine.old machine.new moment frame.now reply.new }
+{
+    match read_request(alloc, frame) {
+        Ok((request, length)) if length == frame.len() => {
+            serve_request(machine, moment, request, reply)
+        }
+        Ok(_) => Outcome::Malformed,
+        Err(FrameFault::NoMemory) => Outcome::NoMemory,
+        Err(_) => Outcome::Malformed,
+    }
+}
+
+/// Serves the request of a frame by the server of a handle.
+pub(crate) fn serve(
+    alloc: Global,
+    server: &mut TbServer,
+    moment: u64,
+    frame: &[u8],
+    reply: &mut [u8],
+) -> Outcome
+    ensures { Serves result (standing server.old.held.state) (standing server.new.held.state) moment frame.now reply.new }
+{
+    let Some(mut held) = server.take(alloc) else {
+        return Outcome::Closed
+    };
+    let outcome = serve_frame(alloc, &mut held.machine, moment, frame, reply);
+    server.put(held);
+    outcome
+}
