@@ -32,10 +32,7 @@ impl TbServer {
         ensures left { self.new.held.state ≡ None }
         ensures taken { MatchOption result (self.old.held.state ≡ None) (λ server. self.old.held.state ≡ Some server.value) }
     {
-        let TbServer {
-            held,
-            is_open,
-        } = mem::replace(self, TbServer::closed(alloc));
+        let TbServer { held, is_open } = mem::replace(self, TbServer::closed(alloc));
         if !is_open {
             return None;
         }

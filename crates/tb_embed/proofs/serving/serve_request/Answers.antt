@@ -15,6 +15,9 @@ returns-then-length-reply c =
 pub returns-else-length-reply : goal.returns-else-length-reply
 returns-else-length-reply c =
     let p : Pair = (c.args.moment, c.args.request) in
-    let filled = rw c.in-Err-Frame.field-0-is at c.in-Err-Frame.ensures in
-    (filled.0, filled.1, c.if-length-reply.false,
-    c.reply_length-length.ensures ∙ answered_length c.args.machine.now p c.body-lawful.ensures.lawful filled.0 c.fill.new.machine c.class-class.result c.client-client.result c.class-class.ensures c.client-client.ensures filled.1)
+    let filled = rw c.in-Err-Frame.field-0-is at c.in-Err-Frame.ensures in (
+      filled.0,
+      filled.1,
+      c.if-length-reply.false,
+      c.reply_length-length.ensures ∙ answered_length c.args.machine.now p c.body-lawful.ensures.lawful filled.0 c.fill.new.machine c.class-class.result c.client-client.result c.class-class.ensures c.client-client.ensures filled.1,
+    )

@@ -1,0 +1,226 @@
+#!/usr/bin/env python3
+"""Tests of the client: its frames, its retries over transports that fail on purpose, and worked rows on the program itself.
+
+    python3 -m unittest        (in this folder; PROGRAM names another tbs than crates/tbs/out/tbs)
+"""
+import os
+import stat
+import sys
+import tempfile
+import time
+import unittest
+
+import tb_client as tb
+from tb_client import Account, AccountFlags, Direct, Faulty, Script, Session, Transfer, TransferFlags
+
+HERE = os.path.dirname(os.path.abspath(__file__))
+PROGRAM = os.environ.get("PROGRAM", os.path.join(HERE, "..", "..", "crates", "tbs", "out", "tbs"))
+has_program = unittest.skipUnless(os.access(PROGRAM, os.X_OK), f"{PROGRAM} is not built")
+
+# A server that converses: it serves each pair as it comes, by the program on the whole script so far. Where a file `slow`
+# stands beside it, it first takes that away and waits.
+STAND_IN = """#!{python}
+import os, struct, subprocess, sys, time
+slow = os.path.join(os.path.dirname(os.path.abspath(__file__)), "slow")
+script, seen = b"", 0
+while True:
+    head = sys.stdin.buffer.read(56)
+    if not head:
+        break
+    script += head + sys.stdin.buffer.read(struct.unpack_from("<I", head, 40)[0])
+    ran = subprocess.run(["{program}", *sys.argv[1:]], input=script, capture_output=True)
+    if ran.returncode:
+        sys.stderr.buffer.write(ran.stderr)
+        sys.exit(ran.returncode)
+    if os.path.exists(slow):
+        os.unlink(slow)
+        time.sleep(0.6)
+    sys.stdout.buffer.write(ran.stdout[seen:])
+    sys.stdout.buffer.flush()
+    seen = len(ran.stdout)
+"""
+
+
+def reply(frame, status=0, session=1, commit=1, body=b""):
+    """A reply to the request of a frame."""
+    header = frame[:16] + tb.struct.pack("<QIBB2xIQ4x", session, *tb.struct.unpack_from("<IB", frame, 24), status, len(body), commit)
+    return header + body
+
+
+def at_ten():
+    return 10
+
+
+def account(id, **more):
+    return Account(id, ledger=700, code=10, **more)
+
+
+def transfer(id, debit, credit, amount, **more):
+    return Transfer(id, debit, credit, amount, ledger=700, code=10, **more)
+
+
+def results(answers):
+    return [(it.index, it.result.name) for it in answers]
+
+
+class Frames(unittest.TestCase):
+    def test_request(self):
+        self.assertEqual(tb.request_frame(7, 0, 0, 2).hex(), "07" + "00" * 27 + "02" + "00" * 19)
+        body = account(1).to_bytes() + account(2).to_bytes()
+        header = "07" + "00" * 15 + "01" + "00" * 7 + "01000000" + "81000000" + "00010000" + "00" * 12
+        self.assertEqual(tb.request_frame(7, 1, 1, 129, body)[:48].hex(), header)
+        self.assertEqual(body[:128].hex(), "01" + "00" * 111 + "bc0200000a0000000000000000000000")
+
+    def test_records(self):
+        whole = Account(2**128 - 1, 1, 2, 3, 4, 5, 6, 7, 0, 700, 10, AccountFlags.linked | AccountFlags.closed, 9)
+        self.assertEqual(Account.from_bytes(whole.to_bytes()), whole)
+        moved = Transfer(1, 2, 3, tb.MAX, 4, 5, 6, 7, 8, 700, 10, TransferFlags.pending | TransferFlags.closing_debit, 9)
+        self.assertEqual(Transfer.from_bytes(moved.to_bytes()), moved)
+        self.assertEqual(moved.to_bytes()[118:120].hex(), "4200")
+
+    def test_reply(self):
+        frame = bytes.fromhex("07" + "00" * 15 + "01" + "00" * 7 + "01000000" + "8100" + "0000" + "08000000" + "0200000000000000" + "00" * 4 + "0100000015000000")
+        read = tb.Reply.from_bytes(frame)
+        self.assertEqual((read.client, read.session, read.number, read.operation, read.status, read.commit), (7, 1, 1, 129, 0, 2))
+        self.assertEqual(read.body, b"\1\0\0\0\x15\0\0\0")
+        for wrong in (frame[:47], frame[:-1], frame + b"\0"):
+            self.assertRaises(tb.BadReply, tb.Reply.from_bytes, wrong)
+
+
+class Retries(unittest.TestCase):
+    def session(self, serve, **options):
+        def exchange(moment, frame):
+            self.sent.append(frame)
+            return serve(frame)
+
+        self.sent = []
+        return Session(Direct(exchange), 7, session=1, **options)
+
+    def test_same_bytes_until_the_reply_comes(self):
+        session = self.session(lambda frame: reply(frame, commit=2))
+        session.transport = Faulty(session.transport, requests=[1], replies=[2, 3])
+        self.assertEqual(session.create_accounts([account(1)]), [])
+        self.assertEqual((len(self.sent), len(set(self.sent)), session.number), (3, 1, 1))
+
+    def test_in_doubt(self):
+        def lost(frame):
+            raise tb.ReplyLost("lost")
+
+        session = self.session(lost, attempts=2)
+        self.assertRaises(tb.ReplyLost, session.create_accounts, [account(1)])
+        self.assertRaises(tb.InDoubt, session.create_accounts, [account(2)])
+        saved = session.saved
+        again = Session.resumed(Direct(lambda moment, frame: reply(frame, commit=2)), saved)
+        self.assertEqual((again.retry(), again.number, again.pending), ([], 1, None))
+        self.assertEqual(again.saved, {"client": 7, "session": 1, "number": 1, "pending": ""})
+        self.assertRaises(ValueError, again.retry)
+
+    def test_each_refusal_by_its_name(self):
+        for status in tb.Status:
+            if status == tb.Status.Reply:
+                continue
+            session = self.session(lambda frame: reply(frame, status=status, commit=0))
+            with self.assertRaises(tb.Refused) as raised:
+                session.lookup_accounts([1])
+            self.assertEqual((type(raised.exception).__name__, raised.exception.status), (status.name, status))
+            self.assertEqual(isinstance(raised.exception, tb.Evicted), status in (tb.Status.NoSession, tb.Status.SessionTooLow))
+            self.assertEqual((session.number, session.pending), (0, None))
+
+    def test_replies_to_something_else(self):
+        other = tb.request_frame(7, 1, 2, 131)
+        for wrong in (lambda frame: reply(other), lambda frame: reply(frame, session=2), lambda frame: reply(frame, status=9), lambda frame: reply(frame, body=b"1234567")):
+            session = self.session(wrong)
+            self.assertRaises(tb.BadReply, session.lookup_accounts, [1])
+
+    def test_too_many(self):
+        self.assertRaises(ValueError, self.session(reply).lookup_accounts, [1] * 8191)
+
+
+@has_program
+class Worked(unittest.TestCase):
+    """Rows with the values that docs/RULES.md gives them, on the program."""
+
+    def registered(self, transport=None, client=7):
+        return Session.register(transport or Script(PROGRAM, 2), client, now=at_ten)
+
+    def begun(self, transport=None):
+        session = self.registered(transport)
+        self.assertEqual(session.create_accounts([account(1), account(2)]), [])
+        return session
+
+    def test_accounts(self):
+        session = self.begun()
+        self.assertEqual(session.session, 1)
+        self.assertEqual(session.lookup_accounts([2, 9, 1]), [account(2, timestamp=12), account(1, timestamp=11)])
+        again = session.create_accounts([account(0), account(1), Account(1, ledger=701, code=10), account(3, flags=AccountFlags(6))])
+        self.assertEqual(results(again), [(0, "id_must_not_be_zero"), (1, "exists"), (2, "exists_with_different_ledger"), (3, "flags_are_mutually_exclusive")])
+
+    def test_money_moves_once(self):
+        # exchanges 1 and 2 register and create; 3 loses the request, 4 and 5 the reply
+        session = self.begun(Faulty(Script(PROGRAM, 2), requests=[3], replies=[4, 5]))
+        self.assertEqual(session.create_transfers([transfer(11, 1, 2, 100)]), [])
+        self.assertEqual(session.transport.count, 6)
+        self.assertEqual([it.debits_posted for it in session.lookup_accounts([1])], [100])
+        self.assertEqual(session.lookup_transfers([11]), [transfer(11, 1, 2, 100, timestamp=13)])
+
+    def test_failed_events(self):
+        session = self.begun()
+        chain = [transfer(50, 1, 2, 1, flags=TransferFlags.linked), transfer(51, 99, 2, 1, flags=TransferFlags.linked), transfer(52, 1, 2, 1)]
+        with self.assertRaises(tb.EventsFailed) as raised:
+            tb.require_ok(session.create_transfers(chain))
+        self.assertEqual(str(raised.exception), "event 0: linked_event_failed, event 1: debit_account_not_found, event 2: linked_event_failed")
+        tb.require_ok(session.create_transfers([transfer(53, 1, 2, 1)]))
+
+    def test_refused(self):
+        transport = Script(PROGRAM, 1)
+        first = self.registered(transport)
+        second = self.registered(transport, client=8)  # one place: the first session ends
+        self.assertEqual(second.session, 2)
+        self.assertRaises(tb.NoSession, first.lookup_accounts, [1])
+        self.assertEqual(self.registered(transport).session, 3)
+        self.assertRaises(tb.SessionTooLow, first.lookup_accounts, [1])
+
+    def test_program_ends(self):
+        session = Session.register(Script(PROGRAM, 2), 7, now=lambda: 2**63 - 1)
+        with self.assertRaises(tb.ProgramEnded) as raised:
+            session.lookup_accounts([1])
+        self.assertEqual((raised.exception.fault, raised.exception.status), ("TimeExhausted", 2))
+
+    def test_conversation(self):
+        with tempfile.TemporaryDirectory() as folder:
+            path = os.path.join(folder, "tbs")
+            with open(path, "w") as out:
+                out.write(STAND_IN.format(python=sys.executable, program=os.path.abspath(PROGRAM)))
+            os.chmod(path, stat.S_IRWXU)
+            transport = tb.Program(path, 2, timeout=30)
+            session = self.begun(transport)
+            session.attempts = 100
+            # the reply comes too late: the request is sent again, and the first reply is passed over
+            open(os.path.join(folder, "slow"), "w").close()
+            transport.timeout = 0.2
+            self.assertEqual(session.create_transfers([transfer(11, 1, 2, 100)]), [])
+            self.assertGreater(transport.sent, 3)
+            transport.timeout = 30
+            self.assertEqual([it.credits_posted for it in session.lookup_accounts([2])], [100])
+            ids = list(range(1000, 9190))
+            self.assertEqual(session.create_accounts([account(id) for id in ids]), [])
+            self.assertEqual([it.id for it in session.lookup_accounts(ids)], ids)
+            session.now = lambda: 2**63
+            with self.assertRaises(tb.ProgramEnded) as raised:
+                session.lookup_accounts([1])
+            self.assertEqual(raised.exception.fault, "TimeExhausted")
+            transport.close()
+
+    def test_conversation_with_the_program(self):
+        transport = tb.Program(PROGRAM, 2, timeout=1)
+        try:
+            session = self.registered(Faulty(transport))
+        except tb.ReplyLost:
+            self.skipTest("this tbs writes replies at the end of its script alone")
+        finally:
+            transport.close()
+        self.assertEqual(session.session, 1)
+
+
+if __name__ == "__main__":
+    unittest.main()
