@@ -13,5 +13,7 @@ mod rooms;
 pub mod servers;
 mod serving;
 mod showing;
+#[cfg(test)]
+mod tests;
 
 pub use servers::TbServer;

@@ -18,7 +18,7 @@ pub struct TbServer {
 
 impl TbServer {
     /// A handle that holds no server.
-    fn closed(alloc: Global) -> TbServer
+    pub(crate) fn closed(alloc: Global) -> TbServer
         ensures { result.held.state ≡ None }
     {
         TbServer {

@@ -1,0 +1,183 @@
+#!/usr/bin/env python3
+"""Builds the server into programs in C, Rust and Python, and compares what they answer with the program's own replies. First
+build the library and the program:
+
+    (cd crates/tb_embed && rt lib) && (cd crates/tbs && rt run -- run 2) < examples/first.script > /dev/null
+    checks/embed.py
+
+Prints a line for each case, and 'N passed, M failed'. Needs cc, c++, rustc and Linux; what is not there is told and passed over.
+KIT is the toolchain's folder (else `rt doc` tells it).
+"""
+import os
+import shutil
+import subprocess
+import sys
+import tempfile
+import time
+
+TOP = os.path.dirname(os.path.dirname(os.path.abspath(__file__)))
+EMBED = f"{TOP}/embed"
+LIBRARY = f"{TOP}/crates/tb_embed/out/libtb_embed.a"
+PROGRAM = f"{TOP}/crates/tbs/out/tbs"
+sys.dont_write_bytecode = True
+sys.path[:0] = [f"{EMBED}/python", f"{TOP}/clients/python"]
+
+passed = failed = 0
+
+
+def case(name, holds, why=""):
+    global passed, failed
+    passed, failed = passed + bool(holds), failed + (not holds)
+    print(f"ok: {name}{why and ': ' + why}" if holds else f"FAILED: {name}: {why}", flush=True)
+    return holds
+
+
+def run(*command, **how):
+    return subprocess.run(command, capture_output=True, timeout=300, **how)
+
+
+def built(name, *command):
+    ran = run(*command)
+    return case(name, ran.returncode == 0 and not ran.stderr, ran.stderr.decode(errors="replace")[-2000:])
+
+
+def kit():
+    return os.environ.get("KIT") or os.path.dirname(run("rt", "doc").stdout.decode().strip())
+
+
+def has(tool):
+    if not shutil.which(tool):
+        print(f"passed over: {tool} is not there")
+    return shutil.which(tool) is not None
+
+
+def made(workload, size, seed, folder):
+    """The path of a script, and of the program's replies to it."""
+    script, replies = f"{folder}/{workload}", f"{folder}/{workload}.replies"
+    with open(script, "wb") as out:
+        subprocess.run([sys.executable, f"{TOP}/bench/make_script.py", workload, str(size), str(seed)], stdout=out, check=True)
+    with open(script, "rb") as source, open(replies, "wb") as out:
+        subprocess.run([PROGRAM, "run", "64"], stdin=source, stdout=out, check=True)
+    return script, replies
+
+
+def read(path):
+    with open(path, "rb") as it:
+        return it.read()
+
+
+def headers(folder):
+    for compiler, word in (("cc", "-std=c11"), ("c++", "-std=c++17")):
+        if has(compiler):
+            source = f"{folder}/header.{'c' if compiler == 'cc' else 'cc'}"
+            with open(source, "w") as out:
+                out.write(f'#include "{EMBED}/tb_embed.h"\n')
+            built(f"the header by {compiler}, its structs asserted", compiler, word, "-Wall", "-Wextra", "-Wpedantic", "-Werror", "-c", source, "-o", f"{folder}/header.o")
+
+
+def programs(folder):
+    """The examples, each as the words of its command before CLIENTS_MAX and PROFILE."""
+    heap = f"{kit()}/c/liblibc_c.a"
+    found, shared = {}, f"{folder}/libtb_embed.so"
+    flags = ["-O2", "-Wall", "-Wextra", "-Werror", "-std=gnu11"]
+    if built("the example in C", "cc", *flags, f"{EMBED}/c/first.c", LIBRARY, heap, "-o", f"{folder}/first_c"):
+        found["C"] = [f"{folder}/first_c"]
+    sanitizers = "-fsanitize=address,undefined"
+    if run("cc", sanitizers, "-x", "c", "-", "-o", f"{folder}/empty", input=b"int main(void) { return 0; }").returncode:
+        print("passed over: cc has no AddressSanitizer here")
+    elif built("the example in C under AddressSanitizer", "cc", *flags, "-g", sanitizers, f"{EMBED}/c/first.c", LIBRARY, heap, "-o", f"{folder}/first_asan"):
+        found["C under AddressSanitizer"] = [f"{folder}/first_asan"]
+    if has("rustc"):
+        words = ["rustc", "--edition", "2024", "-O", "-C", "target-cpu=x86-64-v2"]
+        wrapper = built("the wrapper in Rust", *words, "--crate-type", "lib", "--crate-name", "tb_embed", f"{EMBED}/rust/tb_embed.rs", "-o", f"{folder}/libtb_embed.rlib")
+        linked = ["--extern", f"tb_embed={folder}/libtb_embed.rlib", "-C", f"link-arg={LIBRARY}", "-C", f"link-arg={heap}"]
+        if wrapper and built("the example in Rust", *words, f"{EMBED}/rust/first.rs", *linked, "-o", f"{folder}/first_rs"):
+            found["Rust"] = [f"{folder}/first_rs"]
+    whole = ["-Wl,--whole-archive", LIBRARY, "-Wl,--no-whole-archive", heap, f"-Wl,--version-script={EMBED}/tb_embed.map", "-Wl,-z,defs"]
+    if built("the shared object", "cc", "-shared", *whole, "-o", shared):
+        names = run("nm", "-D", "--defined-only", shared).stdout.decode().split()[2::3]
+        calls = [f"tb_embed_{it}" for it in ("account", "close", "open", "serve", "transfer")]
+        case("the shared object shows the calls alone", sorted(names) == calls, " ".join(names))
+        found["Python"] = [sys.executable, f"{EMBED}/python/first.py", shared]
+    careful = ["cc", *flags, "-Wl,--wrap=malloc,--wrap=realloc", f"{TOP}/checks/embed/careful.c", LIBRARY, heap, "-o", f"{folder}/careful"]
+    built("the careful caller in C", *careful)
+    return found
+
+
+def served(found, script, replies, what, *words):
+    wanted = read(replies)
+    for language, command in found.items():
+        with open(script, "rb") as source:
+            ran = subprocess.run([*command, *words], stdin=source, capture_output=True, timeout=300)
+        case(f"{what} in {language}", (ran.returncode, ran.stdout, ran.stderr) == (0, wanted, b""), ran.stderr.decode(errors="replace")[-2000:])
+
+
+def careful(folder, mode, script, replies, what):
+    ran = run(f"{folder}/careful", mode, script, replies)
+    case(what, ran.returncode == 0, ran.stdout.decode().strip())
+
+
+def client(shared):
+    """The client of clients/python, over the embedded server: a lost request and a lost reply, and the money moved once."""
+    from tb_client import Account, Direct, Faulty, Session, Transfer, require_ok
+    from tb_embed import Refused, Server
+
+    with Server(shared, clients_max=2) as server:
+        session = Session.register(Faulty(Direct(server.serve), requests=[3], replies=[4]), 7, now=lambda: 10)
+        require_ok(session.create_accounts([Account(id, ledger=700, code=10) for id in (1, 2)]))
+        require_ok(session.create_transfers([Transfer(11, 1, 2, 100, ledger=700, code=10)]))
+        looked_up = session.lookup_accounts([1, 2])
+        shown = [Account.from_bytes(server.account(id)) for id in (1, 2)]
+        case("Python's client over the embedded server", looked_up == shown and shown[0].debits_posted == 100 and server.account(3) is None)
+        moved = Transfer.from_bytes(server.transfer(11))
+        case("the transfer as it was recorded", (moved.amount, moved.timestamp, server.transfer(12)) == (100, 13, None))
+        try:
+            server.serve(10, b"no frame")
+            case("bytes that are no frame", False)
+        except Refused as refused:
+            case("bytes that are no frame", str(refused) == "Malformed")
+    try:
+        Server(shared, clients_max=65)
+        case("wrong arguments", False)
+    except Refused as refused:
+        case("wrong arguments", str(refused) == "Usage")
+
+
+def calls_a_second(found, folder):
+    """Requests of one transfer; the processor of a busy machine makes these numbers low, so compare them with each other."""
+    script, replies = made("single", 100000, 1, folder)
+    careful(folder, "time", script, replies, "calls a second in C, replies compared")
+    count = 110000 + 61
+    for language, command in (("Rust, by pipes", found.get("Rust")), ("Python, by pipes", found.get("Python")), ("tbs run, by files", [PROGRAM, "run"])):
+        if command:
+            least = 1e9
+            for _ in range(3):
+                with open(script, "rb") as source, open(os.devnull, "wb") as sink:
+                    start = time.monotonic()
+                    subprocess.run([*command, "64"], stdin=source, stdout=sink, check=True)
+                    least = min(least, time.monotonic() - start)
+            print(f"calls a second in {language}, with starting and reading: {1e-6 * count / least:.2f} million")
+
+
+def main():
+    for path, how in ((LIBRARY, "`rt lib` in crates/tb_embed"), (PROGRAM, "`rt run` in crates/tbs")):
+        if not os.path.exists(path):
+            sys.exit(f"{path} is not there: {how} builds it")
+    with tempfile.TemporaryDirectory() as folder:
+        headers(folder)
+        found = programs(folder)
+        first = f"{TOP}/examples/first.script", f"{TOP}/examples/first.replies"
+        served(found, *first, "the first script", "2")
+        mixed = made("mixed", 20000, 7, folder)
+        served(found, *mixed, "a random script of everything, right and wrong,", "64")
+        careful(folder, "small", *mixed, "a room too small by one byte")
+        careful(folder, "memory", *first, "each allocation failing, in the first script")
+        careful(folder, "memory", *made("mixed", 120, 3, folder), "each allocation failing, in a random script")
+        client(f"{folder}/libtb_embed.so")
+        calls_a_second(found, folder)
+    print(f"{passed} passed, {failed} failed")
+    return 1 if failed else 0
+
+
+if __name__ == "__main__":
+    sys.exit(main())

@@ -1,0 +1,178 @@
+//! The calls, made as C makes them. The first two frames and their replies are those of examples/first.script.
+use crate::calls::{
+    tb_embed_account, tb_embed_close, tb_embed_open, tb_embed_serve, tb_embed_transfer,
+};
+use crate::servers::TbServer;
+use std::alloc::Global;
+use std::process::Abort;
+use std::test::Fail;
+use tb_records::{Account, Body, Items, Request, write_request};
+
+/// The frame by which client 7 registers.
+const REGISTER: [u8; 48] = [
+    7, 0, 0, 0, 0, 0, 0, 0, 0, 0, 0, 0, 0, 0, 0, 0, // client
+    0, 0, 0, 0, 0, 0, 0, 0, 0, 0, 0, 0, 2, 0, 0, 0, // session, request, operation
+    0, 0, 0, 0, 0, 0, 0, 0, 0, 0, 0, 0, 0, 0, 0, 0, // length
+];
+
+/// The reply: session 1, commit 1.
+const REGISTERED: [u8; 48] = [
+    7, 0, 0, 0, 0, 0, 0, 0, 0, 0, 0, 0, 0, 0, 0, 0, // client
+    1, 0, 0, 0, 0, 0, 0, 0, 0, 0, 0, 0, 2, 0, 0, 0, // session, request, operation, status
+    0, 0, 0, 0, 1, 0, 0, 0, 0, 0, 0, 0, 0, 0, 0, 0, // length, commit
+];
+
+/// What a serving answered: the status, and the length that it told.
+#[derive(Clone, Copy, Debug, PartialEq, Eq)]
+struct Told {
+    status: u32,
+    written: usize,
+}
+
+fn serve(alloc: Global, server: &mut TbServer, moment: u64, frame: &[u8], room: &mut [u8]) -> Told {
+    let mut written = 9;
+    let status = tb_embed_serve(alloc, server, moment, frame, room, &mut written);
+    Told { status, written }
+}
+
+fn expect_opened(rt: &impl Abort, alloc: Global, server: &mut TbServer) {
+    let mut room = [0; 48];
+    let closed = Told {
+        status: 1,
+        written: 0,
+    };
+    assert_eq!(rt; serve(alloc, server, 10, &REGISTER, &mut room), closed);
+    assert_eq!(rt; tb_embed_account(alloc, server, 1, 0, &mut room), 1);
+    for (profile, clients_max) in [(0, 2), (3, 2), (1, 0), (1, 65)] {
+        assert_eq!(rt; tb_embed_open(alloc, server, profile, clients_max), 2);
+    }
+    assert_eq!(rt; tb_embed_open(alloc, server, 2, 64), 0);
+    assert_eq!(rt; tb_embed_open(alloc, server, 1, 2), 2);
+    tb_embed_close(alloc, server);
+    tb_embed_close(alloc, server);
+    assert_eq!(rt; serve(alloc, server, 10, &REGISTER, &mut room), closed);
+    assert_eq!(rt; tb_embed_open(alloc, server, 1, 2), 0);
+}
+
+#[test]
+fn opened_and_closed(rt: HostRuntime) -> Result<(), Fail> {
+    let mut server = TbServer::closed(rt.alloc());
+    expect_opened(&rt, rt.alloc(), &mut server);
+    tb_embed_close(rt.alloc(), &mut server);
+    Ok(())
+}
+
+/// A room that is too small loses nothing: the request, sent again, gets its first reply. Malformed bytes are refused, and so
+/// is a new request that finds no time.
+fn expect_register(rt: &impl Abort, alloc: Global, server: &mut TbServer) {
+    let mut room = [9; 60];
+    let mut longer = [0; 49];
+    longer[..48].copy_from_slice(&REGISTER);
+    assert_eq!(rt; tb_embed_open(alloc, server, 1, 2), 0);
+    for frame in [&REGISTER[..47], &longer[..]] {
+        let refused = serve(alloc, server, 10, frame, &mut room);
+        assert_eq!(rt;
+            refused,
+            Told {
+                status: 4,
+                written: 0
+            }
+        );
+    }
+    let late = serve(
+        alloc,
+        server,
+        9_223_372_036_854_775_808,
+        &REGISTER,
+        &mut room,
+    );
+    assert_eq!(rt;
+        late,
+        Told {
+            status: 5,
+            written: 0
+        }
+    );
+    for room in [&mut room[..47], &mut []] {
+        let small = serve(alloc, server, 10, &REGISTER, room);
+        assert_eq!(rt;
+            small,
+            Told {
+                status: 7,
+                written: 48
+            }
+        );
+    }
+    let done = serve(alloc, server, 10, &REGISTER, &mut room);
+    assert_eq!(rt;
+        done,
+        Told {
+            status: 0,
+            written: 48
+        }
+    );
+    assert_eq!(rt; &room[..48], REGISTERED.as_slice());
+    assert_eq!(rt; room[48], 9);
+}
+
+#[test]
+fn first_register(rt: HostRuntime) -> Result<(), Fail> {
+    let mut server = TbServer::closed(rt.alloc());
+    expect_register(&rt, rt.alloc(), &mut server);
+    tb_embed_close(rt.alloc(), &mut server);
+    Ok(())
+}
+
+fn account_of(id: u128) -> Account {
+    Account {
+        id,
+        debits_pending: 0,
+        debits_posted: 0,
+        credits_pending: 0,
+        credits_posted: 0,
+        user_data_128: 0,
+        user_data_64: 0,
+        user_data_32: 0,
+        reserved: 0,
+        ledger: 700,
+        code: 10,
+        flags: 0,
+        timestamp: 0,
+    }
+}
+
+/// The frame of client 7's request 1 of session 1, to create this account.
+fn creation(alloc: Global, id: u128) -> Result<Vec<u8>, Fail> {
+    let mut events = Vec::new(alloc);
+    events.push(account_of(id))?;
+    let mut frame = Vec::new(alloc);
+    match Request::new(7, 1, 1, Body::CreateAccounts(Items::new(events))) {
+        Ok(request) => write_request(&request, &mut frame)?,
+        Err(_) => return Err("no request".into()),
+    }
+    Ok(frame)
+}
+
+/// The account has the first timestamp after the register's time; only it is there.
+fn expect_account(rt: &impl Abort, alloc: Global, server: &mut TbServer, frame: &[u8]) {
+    let mut room = [0; 128];
+    assert_eq!(rt; tb_embed_open(alloc, server, 1, 2), 0);
+    assert_eq!(rt; serve(alloc, server, 10, &REGISTER, &mut room).status, 0);
+    assert_eq!(rt; serve(alloc, server, 10, frame, &mut room).status, 0);
+    assert_eq!(rt; tb_embed_account(alloc, server, 5, 1, &mut room[..127]), 7);
+    assert_eq!(rt; tb_embed_account(alloc, server, 5, 1, &mut room), 0);
+    let mut shown = account_of(18_446_744_073_709_551_621);
+    shown.timestamp = 11;
+    assert_eq!(rt; room.as_slice(), shown.to_bytes().as_slice());
+    assert_eq!(rt; tb_embed_account(alloc, server, 5, 0, &mut room), 6);
+    assert_eq!(rt; tb_embed_transfer(alloc, server, 5, 1, &mut room), 6);
+}
+
+#[test]
+fn account_of_two_halves(rt: HostRuntime) -> Result<(), Fail> {
+    let frame = creation(rt.alloc(), 18_446_744_073_709_551_621)?;
+    let mut server = TbServer::closed(rt.alloc());
+    expect_account(&rt, rt.alloc(), &mut server, frame.as_slice());
+    tb_embed_close(rt.alloc(), &mut server);
+    Ok(())
+}

@@ -1,0 +1,41 @@
+//! Serves a script of pairs, a moment and the frame of a request each, from standard input, and writes the replies to standard
+//! output: what `tbs run CLIENTS_MAX [PROFILE]` does, in Rust.
+use std::io::{self, BufReader, BufWriter, Read, Write};
+
+use tb_embed::{REPLY_MAX, Server};
+
+/// The next pair: the request's frame goes into the buffer. None at the end of the script.
+fn read_pair(script: &mut impl Read, frame: &mut Vec<u8>) -> io::Result<Option<u64>> {
+    let mut moment = [0; 8];
+    if script.read(&mut moment[..1])? == 0 {
+        return Ok(None);
+    }
+    script.read_exact(&mut moment[1..])?;
+    frame.resize(48, 0);
+    script.read_exact(frame)?;
+    let length = u32::from_le_bytes([frame[32], frame[33], frame[34], frame[35]]) as usize;
+    if length > REPLY_MAX {
+        return Err(io::Error::other("a body is too long"));
+    }
+    frame.resize(48 + length, 0);
+    script.read_exact(&mut frame[48..])?;
+    Ok(Some(u64::from_le_bytes(moment)))
+}
+
+fn number(word: Option<String>, default: u32) -> u32 {
+    word.and_then(|word| word.parse().ok()).unwrap_or(default)
+}
+
+fn main() -> Result<(), Box<dyn std::error::Error>> {
+    let mut words = std::env::args().skip(1);
+    let clients_max = number(words.next(), 2);
+    let mut server = Server::open(number(words.next(), 1), clients_max)?;
+    let mut script = BufReader::new(io::stdin().lock());
+    let mut replies = BufWriter::new(io::stdout().lock());
+    let (mut frame, mut room) = (Vec::new(), vec![0; REPLY_MAX]);
+    while let Some(moment) = read_pair(&mut script, &mut frame)? {
+        replies.write_all(server.serve(moment, &frame, &mut room)?)?;
+    }
+    replies.flush()?;
+    Ok(())
+}
