@@ -4,8 +4,7 @@ A `Session` is a client that is registered: it numbers its requests, sends one a
 it has the reply. It works over any transport, an object with a call `exchange(moment, frame)` that gives back the frame of the
 reply or raises `ReplyLost`:
 
-    Program    `tbs run` as a process, over two pipes: one conversation (needs a program that writes before it waits)
-    Script     `tbs run` anew for each request, on the whole script so far: slow, and works with every `tbs`
+    Program    `tbs run` as a process, over two pipes; one that was killed is started anew, on what it had answered
     Direct     a function that serves one frame, as that of embed/python/tb_embed.py
     Faulty     another transport, of which it loses the requests and replies that it is told to lose
 
@@ -338,29 +337,42 @@ def _items(body, size, read):
 # Transports
 
 
-def _fault_in(line):
-    """The name of the fault in the program's line on standard error."""
-    return line.decode(errors="replace").strip().removeprefix("tbs: ") or "ended"
-
-
 class Program:
     """`tbs run` as a process, to which requests go one by one over a pipe, and from which replies come over another.
 
-    The replies come in the order of the requests. So the reply to the request that was sent as the nth is the nth, and one
-    that comes too late, when its request was sent again, is passed over."""
+    Replies come in the order of the requests. So the reply to the request that was sent as the nth is the nth, and one that
+    comes too late, when its request was sent again, is passed over.
 
-    def __init__(self, path, clients_max=64, profile=1, timeout=5.0):
-        self.timeout = timeout
-        self.process = subprocess.Popen([path, "run", str(clients_max), str(profile)], stdin=subprocess.PIPE, stdout=subprocess.PIPE, stderr=subprocess.PIPE)
+    The program keeps its history in memory. Where it was killed, the next exchange starts it anew, on the script of all that
+    it had answered: the same script makes the same history. With restarts=False nothing is kept for that."""
+
+    def __init__(self, path, clients_max=64, profile=1, timeout=5.0, restarts=True):
+        self.command = [path, "run", str(clients_max), str(profile)]
+        self.timeout, self.restarts = timeout, restarts
+        self.script = []
+        self._start()
+
+    def _start(self):
+        pipes = dict.fromkeys(("stdin", "stdout", "stderr"), subprocess.PIPE)
+        self.process = subprocess.Popen(self.command, **pipes)
         os.set_blocking(self.process.stdin.fileno(), False)
         os.set_blocking(self.process.stdout.fileno(), False)
-        self.sent = self.seen = 0
-        self.out, self.data = b"", b""
+        self.out, self.data = b"".join(self.script), b""
+        self.sent, self.seen = len(self.script), 0
 
     def exchange(self, moment, frame):
-        self.out += struct.pack("<Q", moment) + frame
+        if self.process is None:
+            self._start()
+        pair = struct.pack("<Q", moment) + frame
+        self.out += pair
         self.sent += 1
-        deadline = time.monotonic() + self.timeout
+        reply = self._awaited(time.monotonic() + self.timeout)
+        if self.restarts:
+            self.script.append(pair)
+        return reply
+
+    def _awaited(self, deadline):
+        """The reply to what was sent last. What is left to be sent goes out as the pipe takes it."""
         with selectors.DefaultSelector() as ready:
             ready.register(self.process.stdout, selectors.EVENT_READ)
             ready.register(self.process.stdin, selectors.EVENT_WRITE)
@@ -398,45 +410,19 @@ class Program:
             ready.unregister(self.process.stdin)
 
     def _ended(self):
-        return ProgramEnded(_fault_in(self.process.stderr.read()), self.process.wait())
+        """What to raise where the program is gone: it was killed, or ended by itself and says why."""
+        fault = self.process.stderr.read().decode(errors="replace").strip().removeprefix("tbs: ")
+        status = self.process.wait()
+        self.close()
+        return ReplyLost("the program was killed") if status < 0 else ProgramEnded(fault, status)
 
     def close(self):
         """Ends the script, and waits for the program's end."""
-        for pipe in (self.process.stdin, self.process.stdout, self.process.stderr):
-            pipe.close()
-        self.process.wait()
-
-
-class Script:
-    """`tbs run` anew for each request, on the script of all requests so far; the last reply is this request's.
-
-    A server is what its script makes of it, so each run stands where the last one ended. The time that a request takes grows
-    with the number of those before it."""
-
-    def __init__(self, path, clients_max=64, profile=1):
-        self.command = [path, "run", str(clients_max), str(profile)]
-        self.script = b""
-
-    def exchange(self, moment, frame):
-        script = self.script + struct.pack("<Q", moment) + frame
-        reply = self._replies(script)[-1]
-        self.script = script
-        return reply
-
-    def _replies(self, script):
-        """The replies to a whole script: requests are written, the input is closed, replies are read."""
-        ran = subprocess.run(self.command, input=script, capture_output=True)
-        if ran.returncode:
-            raise ProgramEnded(_fault_in(ran.stderr), ran.returncode)
-        frames, at = [], 0
-        while at < len(ran.stdout):
-            end = at + reply_length(ran.stdout[at : at + HEADER])
-            frames.append(ran.stdout[at:end])
-            at = end
-        return frames
-
-    def close(self):
-        pass
+        if self.process is not None:
+            for pipe in (self.process.stdin, self.process.stdout, self.process.stderr):
+                pipe.close()
+            self.process.wait()
+            self.process = None
 
 
 class Direct:

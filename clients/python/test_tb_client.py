@@ -4,46 +4,20 @@
     python3 -m unittest        (in this folder; PROGRAM names another tbs than crates/tbs/out/tbs)
 """
 import os
-import stat
-import sys
-import tempfile
-import time
+import signal
+import struct
 import unittest
 
 import tb_client as tb
-from tb_client import Account, AccountFlags, Direct, Faulty, Script, Session, Transfer, TransferFlags
+from tb_client import Account, AccountFlags, Direct, Faulty, Program, Session, Transfer, TransferFlags
 
 HERE = os.path.dirname(os.path.abspath(__file__))
 PROGRAM = os.environ.get("PROGRAM", os.path.join(HERE, "..", "..", "crates", "tbs", "out", "tbs"))
 has_program = unittest.skipUnless(os.access(PROGRAM, os.X_OK), f"{PROGRAM} is not built")
 
-# A server that converses: it serves each pair as it comes, by the program on the whole script so far. Where a file `slow`
-# stands beside it, it first takes that away and waits.
-STAND_IN = """#!{python}
-import os, struct, subprocess, sys, time
-slow = os.path.join(os.path.dirname(os.path.abspath(__file__)), "slow")
-script, seen = b"", 0
-while True:
-    head = sys.stdin.buffer.read(56)
-    if not head:
-        break
-    script += head + sys.stdin.buffer.read(struct.unpack_from("<I", head, 40)[0])
-    ran = subprocess.run(["{program}", *sys.argv[1:]], input=script, capture_output=True)
-    if ran.returncode:
-        sys.stderr.buffer.write(ran.stderr)
-        sys.exit(ran.returncode)
-    if os.path.exists(slow):
-        os.unlink(slow)
-        time.sleep(0.6)
-    sys.stdout.buffer.write(ran.stdout[seen:])
-    sys.stdout.buffer.flush()
-    seen = len(ran.stdout)
-"""
-
-
 def reply(frame, status=0, session=1, commit=1, body=b""):
     """A reply to the request of a frame."""
-    header = frame[:16] + tb.struct.pack("<QIBB2xIQ4x", session, *tb.struct.unpack_from("<IB", frame, 24), status, len(body), commit)
+    header = frame[:16] + struct.pack("<QIBB2xIQ4x", session, *struct.unpack_from("<IB", frame, 24), status, len(body), commit)
     return header + body
 
 
@@ -140,8 +114,13 @@ class Retries(unittest.TestCase):
 class Worked(unittest.TestCase):
     """Rows with the values that docs/RULES.md gives them, on the program."""
 
+    def program(self, clients_max=2, timeout=30):
+        transport = Program(PROGRAM, clients_max, timeout=timeout)
+        self.addCleanup(transport.close)
+        return transport
+
     def registered(self, transport=None, client=7):
-        return Session.register(transport or Script(PROGRAM, 2), client, now=at_ten)
+        return Session.register(transport or self.program(), client, now=at_ten)
 
     def begun(self, transport=None):
         session = self.registered(transport)
@@ -157,7 +136,7 @@ class Worked(unittest.TestCase):
 
     def test_money_moves_once(self):
         # exchanges 1 and 2 register and create; 3 loses the request, 4 and 5 the reply
-        session = self.begun(Faulty(Script(PROGRAM, 2), requests=[3], replies=[4, 5]))
+        session = self.begun(Faulty(self.program(), requests=[3], replies=[4, 5]))
         self.assertEqual(session.create_transfers([transfer(11, 1, 2, 100)]), [])
         self.assertEqual(session.transport.count, 6)
         self.assertEqual([it.debits_posted for it in session.lookup_accounts([1])], [100])
@@ -172,7 +151,7 @@ class Worked(unittest.TestCase):
         tb.require_ok(session.create_transfers([transfer(53, 1, 2, 1)]))
 
     def test_refused(self):
-        transport = Script(PROGRAM, 1)
+        transport = self.program(1)
         first = self.registered(transport)
         second = self.registered(transport, client=8)  # one place: the first session ends
         self.assertEqual(second.session, 2)
@@ -181,45 +160,45 @@ class Worked(unittest.TestCase):
         self.assertRaises(tb.SessionTooLow, first.lookup_accounts, [1])
 
     def test_program_ends(self):
-        session = Session.register(Script(PROGRAM, 2), 7, now=lambda: 2**63 - 1)
+        session = Session.register(self.program(), 7, now=lambda: 2**63 - 1)
         with self.assertRaises(tb.ProgramEnded) as raised:
             session.lookup_accounts([1])
         self.assertEqual((raised.exception.fault, raised.exception.status), ("TimeExhausted", 2))
 
-    def test_conversation(self):
-        with tempfile.TemporaryDirectory() as folder:
-            path = os.path.join(folder, "tbs")
-            with open(path, "w") as out:
-                out.write(STAND_IN.format(python=sys.executable, program=os.path.abspath(PROGRAM)))
-            os.chmod(path, stat.S_IRWXU)
-            transport = tb.Program(path, 2, timeout=30)
-            session = self.begun(transport)
-            session.attempts = 100
-            # the reply comes too late: the request is sent again, and the first reply is passed over
-            open(os.path.join(folder, "slow"), "w").close()
-            transport.timeout = 0.2
-            self.assertEqual(session.create_transfers([transfer(11, 1, 2, 100)]), [])
-            self.assertGreater(transport.sent, 3)
-            transport.timeout = 30
-            self.assertEqual([it.credits_posted for it in session.lookup_accounts([2])], [100])
-            ids = list(range(1000, 9190))
-            self.assertEqual(session.create_accounts([account(id) for id in ids]), [])
-            self.assertEqual([it.id for it in session.lookup_accounts(ids)], ids)
-            session.now = lambda: 2**63
-            with self.assertRaises(tb.ProgramEnded) as raised:
-                session.lookup_accounts([1])
-            self.assertEqual(raised.exception.fault, "TimeExhausted")
-            transport.close()
-
-    def test_conversation_with_the_program(self):
-        transport = tb.Program(PROGRAM, 2, timeout=1)
+    def test_reply_comes_too_late(self):
+        session = self.begun()
+        program = session.transport
+        program.timeout = 0.05
+        os.kill(program.process.pid, signal.SIGSTOP)
         try:
-            session = self.registered(Faulty(transport))
-        except tb.ReplyLost:
-            self.skipTest("this tbs writes replies at the end of its script alone")
+            self.assertRaises(tb.ReplyLost, session.create_transfers, [transfer(11, 1, 2, 100)])
         finally:
-            transport.close()
-        self.assertEqual(session.session, 1)
+            os.kill(program.process.pid, signal.SIGCONT)
+        program.timeout = 30
+        self.assertEqual(session.retry(), [])
+        self.assertEqual((program.sent, program.seen), (8, 8))
+        self.assertEqual([it.credits_posted for it in session.lookup_accounts([2])], [100])
+
+    def test_killed_program(self):
+        session = self.begun()
+        session.create_transfers([transfer(11, 1, 2, 100)])
+        for id in (12, 13):
+            session.transport.process.kill()
+            self.assertEqual(session.create_transfers([transfer(id, 1, 2, 1)]), [])
+        self.assertEqual([it.timestamp for it in session.lookup_transfers([11, 12, 13])], [13, 14, 15])
+        self.assertEqual([it.debits_posted for it in session.lookup_accounts([1])], [102])
+
+    def test_killed_without_restarts(self):
+        session = self.begun(Program(PROGRAM, 2, restarts=False))
+        self.addCleanup(session.transport.close)
+        session.transport.process.kill()
+        self.assertRaises(tb.NoSession, session.lookup_accounts, [1])
+
+    def test_bodies_past_every_buffer(self):
+        session = self.begun()
+        ids = list(range(1000, 9190))
+        self.assertEqual(session.create_accounts([account(id) for id in ids]), [])
+        self.assertEqual([it.id for it in session.lookup_accounts(ids)], ids)
 
 
 if __name__ == "__main__":
