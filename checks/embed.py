@@ -9,6 +9,7 @@ Prints a line for each case, and 'N passed, M failed'. Needs cc, c++, rustc and 
 KIT is the toolchain's folder (else `rt doc` tells it).
 """
 import os
+import random
 import shutil
 import subprocess
 import sys
@@ -93,6 +94,7 @@ def programs(folder):
         linked = ["--extern", f"tb_embed={folder}/libtb_embed.rlib", "-C", f"link-arg={LIBRARY}", "-C", f"link-arg={heap}"]
         if wrapper and built("the example in Rust", *words, f"{EMBED}/rust/first.rs", *linked, "-o", f"{folder}/first_rs"):
             found["Rust"] = [f"{folder}/first_rs"]
+            built("servers in threads, in Rust", *words, f"{TOP}/checks/embed/threads.rs", *linked, "-o", f"{folder}/threads")
     whole = ["-Wl,--whole-archive", LIBRARY, "-Wl,--no-whole-archive", heap, f"-Wl,--version-script={EMBED}/tb_embed.map", "-Wl,-z,defs"]
     if built("the shared object", "cc", "-shared", *whole, "-o", shared):
         names = run("nm", "-D", "--defined-only", shared).stdout.decode().split()[2::3]
@@ -115,6 +117,13 @@ def served(found, script, replies, what, *words):
 def careful(folder, mode, script, replies, what):
     ran = run(f"{folder}/careful", mode, script, replies)
     case(what, ran.returncode == 0, ran.stdout.decode().strip())
+
+
+def threads(folder, script, replies):
+    """Servers of their own in four threads, and one that four threads share under a mutex, each request sent twice."""
+    if os.path.exists(f"{folder}/threads"):
+        ran = run(f"{folder}/threads", script, replies)
+        case("servers in threads", (ran.returncode, ran.stdout) == (0, b"credits_posted of account 2: 800\n"), (ran.stdout + ran.stderr).decode(errors="replace")[-500:].strip())
 
 
 def client(shared):
@@ -141,6 +150,29 @@ def client(shared):
         case("wrong arguments", False)
     except Refused as refused:
         case("wrong arguments", str(refused) == "Usage")
+
+
+def damaged(shared):
+    """The second frame of the first script with bytes changed at random: malformed where `tbs` finds a fault in it, else the
+    reply that `tbs` gives. A wrong length is always malformed: the bytes are one frame, and no stream."""
+    from tb_embed import Refused, Server
+
+    script, chance, same, faults = read(f"{TOP}/examples/first.script"), random.Random(5), True, 0
+    for _ in range(300):
+        frame = bytearray(script[64:368])
+        for _ in range(chance.choice((1, 1, 2))):
+            frame[chance.randrange(56 if chance.random() < 0.7 else len(frame))] = chance.choice((0, 1, 2, 129, 130, 131, 255))
+        wrong_length = frame[32:36] != script[96:100]
+        ran = subprocess.run([PROGRAM, "run", "2"], input=script[:64] + bytes(frame), capture_output=True)
+        malformed = wrong_length or ran.returncode == 2
+        with Server(shared, clients_max=2) as server:
+            first = server.serve(10, script[8:56])
+            try:
+                got = first + server.serve(10, bytes(frame))
+                same = same and not malformed and got == ran.stdout
+            except Refused as refused:
+                same, faults = same and malformed and str(refused) == "Malformed", faults + 1
+    case("300 damaged frames", same and 0 < faults < 300, f"{faults} malformed")
 
 
 def calls_a_second(found, folder):
@@ -173,7 +205,9 @@ def main():
         careful(folder, "small", *mixed, "a room too small by one byte")
         careful(folder, "memory", *first, "each allocation failing, in the first script")
         careful(folder, "memory", *made("mixed", 120, 3, folder), "each allocation failing, in a random script")
+        threads(folder, *mixed)
         client(f"{folder}/libtb_embed.so")
+        damaged(f"{folder}/libtb_embed.so")
         calls_a_second(found, folder)
     print(f"{passed} passed, {failed} failed")
     return 1 if failed else 0

@@ -1,5 +1,5 @@
 -- A handle that holds a server, and the box taken apart, own what the server's box owns. Assumes `Logic`.
-use Rattle.std.proofs.Common.{◌≡◌, ℕ, Bool, true, false, ◌&&◌, List, [], ◌∷◌, Option, Some, None, is_some, refl, lit<}
+use Rattle.std.proofs.Common.{◌≡◌, true, ◌&&◌, List, [], ◌∷◌, Option, Some, None, is_some, refl, lit<}
 use lib.Dec.{T}
 use mir.Syntax.{impl, tnil, dnil, w64}
 use mir.Val.{Val, vint, has_ty, WT}

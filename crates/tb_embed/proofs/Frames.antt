@@ -1,10 +1,8 @@
 -- Frames that are whole, and bytes that are no frame.
-use Rattle.std.proofs.Common.{◌≡◌, ℕ, ◌<◌, List, [], ◌++◌, length, take, Some, None, Ok, inl, inr, sym, ap, ◌∙◌, subst, arith, append-nil}
+use Rattle.std.proofs.Common.{◌≡◌, ℕ, List, [], length, take, Some, None, Ok, inl, inr, sym, ap, ◌∙◌, subst, arith, append-nil}
 use Rattle.std.proofs.lemmas.List.{take_all}
-use Rattle.tb_records.specs.declared.faults.FrameFault.{FrameFault}
 use Rattle.tb_records.specs.Messages.{Message}
 use Rattle.tb_records.specs.Frames.{Spells, request_bytes, request_fault}
-use Rattle.tb_records.specs.Inputs.{Found}
 use Rattle.tb_records.proofs.Spellings.{spelled_sound, found_only}
 use Rattle.tb_machine.specs.Histories.{State}
 use Rattle.tb_embed.specs.declared.outcomes.Outcome.{Outcome}

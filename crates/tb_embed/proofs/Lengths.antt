@@ -1,8 +1,5 @@
 -- How long the frame of a reply is, and of the one that a request gets.
 use Rattle.std.proofs.Common.{true≢false, ◌≡◌, ℕ, ◌+◌, ◌*◌, true, false, length, Option, Some, None, refl, sym, ap, ◌∙◌, subst, length-append}
-use Rattle.tb_records.specs.declared.records.Account.{Account}
-use Rattle.tb_records.specs.declared.records.Transfer.{Transfer}
-use Rattle.tb_records.specs.declared.records.EventResult.{EventResult}
 use Rattle.tb_records.specs.declared.bodies.ReplyBody.{ReplyBody}
 use Rattle.tb_records.specs.declared.bodies.ReplyBody.TheVariants.{Empty, Results, Accounts, Transfers}
 use Rattle.tb_records.specs.declared.replies.Status.{Status}
@@ -16,7 +13,7 @@ use Rattle.tb_sessions.specs.declared.rows.Row.{Row}
 use Rattle.tb_sessions.specs.declared.classes.Class.{Class}
 use Rattle.tb_sessions.specs.declared.classes.Class.TheVariants.{New, Repeat, NoSession, SessionTooLow, NewerSession, Older, Collision, NewerRequest}
 use Rattle.tb_sessions.specs.Judged.{row_of, class_of}
-use Rattle.tb_machine.specs.Histories.{State, is_new, step, status_of, refusal, answer_by, answer_to}
+use Rattle.tb_machine.specs.Histories.{State, is_new, status_of, refusal, answer_by, answer_to}
 use Rattle.tb_machine.specs.Scripts.{Pair, entry_of, moved}
 use Rattle.tb_machine.specs.Runs.{is_new_in, IsTimely, answer_bytes}
 use Rattle.tb_machine.proofs.Turns.{row_after, answer_after, moved_new, moved_known}

@@ -1,5 +1,5 @@
 //! A room of the caller for the bytes of a reply.
-ghost use Rattle.std.specs.Prelude.{◌≡◌, ◌≤◌, ◌<◌, ◌∷◌, Some, length, take, []};
+ghost use Rattle.std.specs.Prelude.{◌≡◌, ◌≤◌, ◌∷◌, true, Some, length, take};
 
 use std::io;
 use tb_records::Sink;
@@ -11,20 +11,23 @@ pub(crate) struct Room<'a> {
     at: usize,
     // How often nothing was taken of bytes that were offered.
     stalls: u64,
+    // Says that nothing was taken the last time, of bytes that were offered.
+    halted: bool,
     ghost within: { at ≤ length bytes.now },
-    ghost full: { 0 < stalls → at ≡ length bytes.now },
+    ghost full: { halted ≡ true → at ≡ length bytes.now },
 }
 
 impl<'a> Room<'a> {
     /// The whole room, in which nothing is written yet.
     pub(crate) fn over(bytes: &'a mut [u8]) -> Room<'a>
         ensures same { result.bytes.ghost_name ≡ bytes.entry.ghost_name }
-        ensures empty { (result.at ≡ 0) × (result.stalls ≡ 0) }
+        ensures empty { result.at ≡ 0 }
     {
         Room {
             bytes,
             at: 0,
             stalls: 0,
+            halted: false,
         }
     }
 
@@ -38,16 +41,13 @@ impl<'a> Room<'a> {
 
 // What was written begins with the name of the caller's reference, so that a room after writing is known as the room before.
 impl Sink for Room<'_> {
-    ghost written = { λ r. Some (r.bytes.ghost_name ∷ take r.at r.bytes.now) };
-
-    ghost failed = { λ r. 0 };
-
-    ghost stalled = { λ r. r.stalls };
+    ghost output = { λ r. record { written = Some (r.bytes.ghost_name ∷ take r.at r.bytes.now); failed = 0; stalled = r.stalls; halted = r.halted } };
 
     fn put(&mut self, bytes: &[u8]) -> io::Result<usize> {
         let count = bytes.len().min(self.bytes.len() - self.at);
         self.bytes[self.at..self.at + count].copy_from_slice(&bytes[..count]);
-        if count == 0 && !bytes.is_empty() {
+        self.halted = count == 0 && !bytes.is_empty();
+        if self.halted {
             self.stalls = self.stalls.saturating_add(1);
         }
         self.at += count;
