@@ -305,9 +305,9 @@ def request_frame(client, session, number, operation, body=b""):
     return _u128(client) + struct.pack("<QIB3xI12x", session, number, operation, len(body)) + body
 
 
-def reply_length(header):
-    """The length of the frame that begins with these 48 bytes."""
-    return HEADER + struct.unpack_from("<I", header, 32)[0]
+def reply_length(data, at=0):
+    """The length of the frame whose header of 48 bytes stands at this place."""
+    return HEADER + struct.unpack_from("<I", data, at + 32)[0]
 
 
 @dataclasses.dataclass(frozen=True)
@@ -357,14 +357,16 @@ class Program:
         self.process = subprocess.Popen(self.command, **pipes)
         os.set_blocking(self.process.stdin.fileno(), False)
         os.set_blocking(self.process.stdout.fileno(), False)
-        self.out, self.data = b"".join(self.script), b""
+        # what is to be sent, what came and is not read yet, and how far each is done
+        self.out, self.out_at = b"".join(self.script), 0
+        self.data, self.data_at = b"", 0
         self.sent, self.seen = len(self.script), 0
 
     def exchange(self, moment, frame):
         if self.process is None:
             self._start()
         pair = struct.pack("<Q", moment) + frame
-        self.out += pair
+        self.out, self.out_at = self.out[self.out_at :] + pair, 0
         self.sent += 1
         reply = self._awaited(time.monotonic() + self.timeout)
         if self.restarts:
@@ -387,9 +389,11 @@ class Program:
                     self._read() if key.fileobj is self.process.stdout else self._write(ready)
 
     def _next_reply(self):
-        while len(self.data) >= HEADER and len(self.data) >= reply_length(self.data):
-            end = reply_length(self.data)
-            frame, self.data = self.data[:end], self.data[end:]
+        while len(self.data) >= self.data_at + HEADER:
+            end = self.data_at + reply_length(self.data, self.data_at)
+            if len(self.data) < end:
+                return None
+            frame, self.data_at = self.data[self.data_at : end], end
             self.seen += 1
             if self.seen == self.sent:
                 return frame
@@ -399,14 +403,14 @@ class Program:
         data = os.read(self.process.stdout.fileno(), 1 << 20)
         if not data:
             raise self._ended()
-        self.data += data
+        self.data, self.data_at = self.data[self.data_at :] + data, 0
 
     def _write(self, ready):
         try:
-            self.out = self.out[os.write(self.process.stdin.fileno(), self.out) :]
+            self.out_at += os.write(self.process.stdin.fileno(), memoryview(self.out)[self.out_at : self.out_at + (1 << 20)])
         except BrokenPipeError:
             raise self._ended() from None
-        if not self.out:
+        if self.out_at == len(self.out):
             ready.unregister(self.process.stdin)
 
     def _ended(self):

@@ -3,6 +3,7 @@
 
     python3 -m unittest        (in this folder; PROGRAM names another tbs than crates/tbs/out/tbs)
 """
+import json
 import os
 import signal
 import struct
@@ -187,6 +188,16 @@ class Worked(unittest.TestCase):
             self.assertEqual(session.create_transfers([transfer(id, 1, 2, 1)]), [])
         self.assertEqual([it.timestamp for it in session.lookup_transfers([11, 12, 13])], [13, 14, 15])
         self.assertEqual([it.debits_posted for it in session.lookup_accounts([1])], [102])
+
+    def test_killed_client(self):
+        """What was saved before the sending suffices to go on, whether the request had been sent or not."""
+        session = self.begun()
+        session.prepare(tb.Operation.create_transfers, [transfer(11, 1, 2, 100)])
+        saved = json.loads(json.dumps(session.saved))
+        for _ in range(2):
+            again = Session.resumed(session.transport, saved, now=at_ten)
+            self.assertEqual((again.retry(), again.number), ([], 2))
+        self.assertEqual([it.debits_posted for it in again.lookup_accounts([1])], [100])
 
     def test_killed_without_restarts(self):
         session = self.begun(Program(PROGRAM, 2, restarts=False))
