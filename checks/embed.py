@@ -114,6 +114,27 @@ def served(found, script, replies, what, *words):
         case(f"{what} in {language}", (ran.returncode, ran.stdout, ran.stderr) == (0, wanted, b""), ran.stderr.decode(errors="replace")[-2000:])
 
 
+FORGETFUL = """#include "{header}"
+#include <stdlib.h>
+int main(void) {{
+    tb_server *server = calloc(1, sizeof *server);
+    if (!server || tb_embed_open(server, 1, 2) != TB_DONE) return 2;
+    {close}
+    free(server);
+    return 0;
+}}
+"""
+
+
+def leaks(folder):
+    """AddressSanitizer tells a server that was not closed, and nothing where it was closed."""
+    for what, close, status in (("a server that is not closed leaks", "", 1), ("a closed one does not", "tb_embed_close(server);", 0)):
+        source = FORGETFUL.format(header=f"{EMBED}/tb_embed.h", close=close).encode()
+        run("cc", "-fsanitize=address", "-x", "c", "-", "-x", "none", LIBRARY, f"{kit()}/c/liblibc_c.a", "-o", f"{folder}/forgetful", input=source)
+        ran = run(f"{folder}/forgetful")
+        case(what, (ran.returncode != 0, b"leaked in" in ran.stderr) == (bool(status), bool(status)), ran.stderr.decode(errors="replace")[-300:] if not status else "")
+
+
 def careful(folder, mode, script, replies, what):
     ran = run(f"{folder}/careful", mode, script, replies)
     case(what, ran.returncode == 0, ran.stdout.decode().strip())
@@ -205,6 +226,8 @@ def main():
         careful(folder, "small", *mixed, "a room too small by one byte")
         careful(folder, "memory", *first, "each allocation failing, in the first script")
         careful(folder, "memory", *made("mixed", 120, 3, folder), "each allocation failing, in a random script")
+        if "C under AddressSanitizer" in found:
+            leaks(folder)
         threads(folder, *mixed)
         client(f"{folder}/libtb_embed.so")
         damaged(f"{folder}/libtb_embed.so")
