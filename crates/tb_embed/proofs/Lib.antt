@@ -1,3 +1,4 @@
+pub mod Again
 pub mod AsBox
 pub mod Filled
 pub mod Frames

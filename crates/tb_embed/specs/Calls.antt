@@ -55,6 +55,12 @@ AnswersFrame Malformed S T moment bytes room = IsMalformed bytes × (T ≡ S)
 AnswersFrame NoMemory S T moment bytes room = (request_fault bytes ≡ None) × (T ≡ S)
 AnswersFrame outcome S T moment bytes room = (r : Message) × Spells bytes r × Answers outcome S T (moment, r) room
 
+-- a request that was served at a moment and comes again at another one moves nothing, and is answered by the same bytes
+abbrev pub IsAnsweredAgain : State → ℕ → ℕ → Message → Type 0
+IsAnsweredAgain S moment again r =
+    (moved (moved S (moment, r)) (again, r) ≡ moved S (moment, r))
+    × (answer_bytes (moved S (moment, r)) (again, r) ≡ answer_bytes S (moment, r))
+
 abbrev pub Serves : Outcome → Option State → Option State → ℕ → List ℕ → List ℕ → Type 0
 Serves outcome (Some S) (Some T) moment bytes room = AnswersFrame outcome S T moment bytes room
 Serves outcome None None moment bytes room = outcome ≡ Closed
