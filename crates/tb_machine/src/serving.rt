@@ -13,16 +13,16 @@ ghost use Rattle.tb_machine.specs.Serving.{Enters, Delivers, Serves};
 use crate::entries::Entry;
 use crate::machines::Machine;
 use std::alloc::{AllocError, Global};
-use std::error::Error;
 use std::fmt;
 use tb_records::streams::read_timed_from;
 use tb_records::{
     ClientsMax, FrameFault, Profile, Reply, Request, Sink, Source, Status, holds_frame, send_reply,
 };
 use tb_sessions::{Class, Row};
+use thiserror::Error;
 
 /// Why the serving of a script ends before the script does.
-#[derive(Clone, Copy, Debug, PartialEq, Eq)]
+#[derive(Clone, Copy, Debug, PartialEq, Eq, Error)]
 pub enum RunFault {
     /// The next pair can't be read, or the reply to it can't be written.
     Frame(FrameFault),
@@ -70,8 +70,6 @@ impl fmt::Display for RunFault {
         f.write_str(self.name())
     }
 }
-
-impl Error for RunFault {}
 
 /// The status of the answer to a request of a class: a repeat gets its reply, and a new request none yet.
 pub fn status_of(class: Class) -> Status

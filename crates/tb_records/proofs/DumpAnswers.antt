@@ -15,7 +15,7 @@ use Rattle.tb_records.specs.Inputs.{Answers, Faulted}
 use Rattle.tb_records.specs.Messages.{Message}
 use Rattle.tb_records.specs.Numbers.{le_bytes, le_at}
 use Rattle.tb_records.specs.Sizes.{length-le_bytes}
-use Rattle.tb_records.specs.Transport.{Filled, Lost}
+use Rattle.tb_records.specs.Reading.{Filled, Lost}
 use Rattle.tb_records.proofs.FrameFaults.{cut_header}
 use Rattle.tb_records.proofs.NumberBytes.{le_at-append, le_at-last, le_bytes-one, split_at, last_field}
 

@@ -12,14 +12,14 @@ use crate::requests::Request;
 use crate::streams::request_from;
 use crate::writing::send_request;
 use std::alloc::Global;
-use std::error::Error;
 use std::fmt;
+use thiserror::Error;
 
 /// The bytes `TBSDUMP1`, as a number.
 const SIGNATURE: u64 = 0x3150_4d55_4453_4254;
 
 /// Why a dump is not replayed to its end.
-#[derive(Clone, Copy, Debug, PartialEq, Eq)]
+#[derive(Clone, Copy, Debug, PartialEq, Eq, Error)]
 pub enum DumpFault {
     /// It does not begin with a head.
     Head,
@@ -72,8 +72,6 @@ impl fmt::Display for DumpFault {
         f.write_str(self.name())
     }
 }
-
-impl Error for DumpFault {}
 
 /// What a dump begins with.
 #[derive(Clone, Copy)]

@@ -2,11 +2,11 @@
 ghost use Rattle.std.specs.Prelude.{◌≡◌, Some};
 ghost use Rattle.tb_records.specs.Faults.{fault_number, fault_name};
 
-use std::error::Error;
 use std::fmt;
+use thiserror::Error;
 
 /// What is wrong with a frame, or with its reader, writer or memory.
-#[derive(Clone, Copy, Debug, PartialEq, Eq)]
+#[derive(Clone, Copy, Debug, PartialEq, Eq, Error)]
 pub enum FrameFault {
     /// The bytes end before the frame does.
     Short,
@@ -79,5 +79,3 @@ impl fmt::Display for FrameFault {
         f.write_str(self.name())
     }
 }
-
-impl Error for FrameFault {}

@@ -19,3 +19,10 @@ loop-preserved g c =
 
 pub returns : goal.returns
 returns g c = dump_too_long c.args.clients_max c.args.at c.loop.counter c.loop.machine _ _ _ _ (omega (arith, c.loop-test.false, c.loop.auto.counter-end)) c.loop.invariant
+
+pub returns-in-Ok-false : goal.returns-in-Ok-false
+returns-in-Ok-false g c =
+    dump_ended c.args.clients_max c.args.at c.loop.counter c.commit.result c.loop.machine c.dump_next.new.machine _ _ _ _ _ _
+    (dumping_passed c.args.clients_max c.args.at c.loop.counter c.loop.machine _ _ _ _ _ c.loop.invariant c.pass_on_before_waiting.ensures)
+    c.commit.ensures.value
+    (rw c.in-Ok-false.field-0-test at c.in-Ok-false.ensures)
