@@ -9,6 +9,7 @@ use crate::bodies::ReplyBody;
 use crate::encoding::{u8_at, u16_at, u32_at, u64_at, u128_at};
 use crate::faults::FrameFault;
 use crate::layout::Item;
+use crate::limits::ITEMS_MAX;
 use crate::lists::Items;
 use crate::replies::{Reply, Status, is_known, numbers_fault};
 use std::alloc::{AllocError, Global};
@@ -65,7 +66,7 @@ fn length_fault(operation: u8, status: u8, len: u32) -> Option<FrameFault>
     if !is_long(operation, status, len) {
         return Some(FrameFault::BadLength);
     }
-    if len / item_size(operation) > 8190 {
+    if (len / item_size(operation)) as usize > ITEMS_MAX {
         return Some(FrameFault::TooMany);
     }
     None

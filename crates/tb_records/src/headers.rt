@@ -6,6 +6,7 @@ ghost use Rattle.tb_records.specs.Messages.{first_fault, is_operation};
 
 use crate::encoding::{u8_at, u24_at, u32_at, u64_at, u96_at, u128_at};
 use crate::faults::FrameFault;
+use crate::limits::ITEMS_MAX;
 
 /// What a request asks for.
 #[derive(Clone, Copy)]
@@ -69,7 +70,7 @@ fn count_of(operation: Operation, length: usize) -> Result<usize, FrameFault>
         return Err(FrameFault::BadLength);
     }
     let count = length / size;
-    if count > 8190 {
+    if count > ITEMS_MAX {
         return Err(FrameFault::TooMany);
     }
     Ok(count)

@@ -31,7 +31,7 @@ pub use bodies::{Body, ReplyBody};
 pub use devices::{Buffered, Counting, Sink, Source, put_all};
 pub use dumps::{DumpFault, DumpHead, DumpItem};
 pub use faults::FrameFault;
-pub use limits::{ClientsMax, Profile};
+pub use limits::{ClientsMax, ITEMS_MAX, Profile};
 pub use lists::Items;
 pub use reading::read_request;
 pub use records::{Account, EventResult, Transfer};

@@ -1,7 +1,10 @@
-//! Which rules a ledger goes by, and how many clients it serves.
+//! Which rules a ledger goes by, how many clients it serves, and how many items a body has.
 ghost use Rattle.std.specs.Prelude.{◌≡◌, ◌≤◌, ◌<◌, IfSome, IsSome, ◌↔◌};
 
 use std::marker::Model;
+
+/// The greatest number of items that a body has.
+pub const ITEMS_MAX: usize = 8190;
 
 /// The rules of the ledger.
 #[derive(Clone, Copy, Debug, PartialEq, Eq)]

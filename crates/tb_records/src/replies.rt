@@ -5,6 +5,7 @@ ghost use Rattle.tb_records.specs.ReplyTests.{reply_number_tests};
 
 use crate::bodies::ReplyBody;
 use crate::faults::FrameFault;
+use crate::limits::ITEMS_MAX;
 use crate::requests::Request;
 use std::alloc::{AllocError, Global};
 use std::marker::Model;
@@ -180,7 +181,7 @@ impl Reply {
         if body.kind() != kind_of_reply(operation, code) {
             return Err(FrameFault::BadLength);
         }
-        if body.len() > 8190 {
+        if body.len() > ITEMS_MAX {
             return Err(FrameFault::TooMany);
         }
         Ok(Reply {

@@ -4,6 +4,7 @@ ghost use Rattle.tb_records.specs.Messages.{asked, number_fault, operation, IsLa
 
 use crate::bodies::Body;
 use crate::faults::FrameFault;
+use crate::limits::ITEMS_MAX;
 use std::alloc::{AllocError, Global};
 use std::marker::Model;
 
@@ -42,7 +43,7 @@ impl Request {
         if !register && request == 0 {
             return Err(FrameFault::RequestZero);
         }
-        if body.len() > 8190 {
+        if body.len() > ITEMS_MAX {
             return Err(FrameFault::TooMany);
         }
         Ok(Request {

@@ -2,7 +2,7 @@
 ghost use Rattle.std.specs.Prelude.{◌≡◌, ◌≤◌, ◌+◌, ◌*◌, ◌++◌, ◌<◌, ◌^◌, length, All, vec_len, vec_capacity, OnOk, OnErr, MatchResult};
 ghost use Rattle.std.specs.List.{flat_map};
 ghost use Rattle.tb_records.specs.Frames.{header_bytes, body_bytes, request_bytes, BodyFits, IsRequest};
-ghost use Rattle.tb_records.specs.Messages.{operation, item_count, answer_count};
+ghost use Rattle.tb_records.specs.Messages.{operation, item_count, items_max, answer_count};
 ghost use Rattle.tb_records.specs.ReplyFrames.{header_of_reply, reply_body_bytes, reply_bytes, ReplyBodyFits, IsReply};
 ghost use Rattle.tb_records.specs.Transport.{Sent, CutOff};
 
@@ -64,10 +64,10 @@ fn append_items<T: Item>(items: &[T], out: &mut Vec<u8>)
     }
 }
 
-/// The number of bytes that a body of at most 8190 items has.
+/// The number of bytes that a body of a frame has.
 #[tactic(auto, unfolding(crate::specs::Frames::body_bytes))]
 fn body_len(body: &Body) -> u32
-    requires { item_count body.now ≤ 8190 }
+    requires { item_count body.now ≤ items_max }
     ensures { result ≡ length (body_bytes body.now) }
 {
     match body {
@@ -79,10 +79,10 @@ fn body_len(body: &Body) -> u32
     }
 }
 
-/// The number of bytes that the body of a reply with at most 8190 items has.
+/// The number of bytes that the body of a reply has.
 #[tactic(auto, unfolding(crate::specs::ReplyFrames::reply_body_bytes))]
 fn reply_body_len(body: &ReplyBody) -> u32
-    requires { answer_count body.now ≤ 8190 }
+    requires { answer_count body.now ≤ items_max }
     ensures { result ≡ length (reply_body_bytes body.now) }
 {
     match body {
@@ -93,9 +93,9 @@ fn reply_body_len(body: &ReplyBody) -> u32
     }
 }
 
-/// The number of bytes that at most 8190 items have.
+/// The number of bytes that the items of a body have.
 fn items_len<T: Item>(items: &[T]) -> u32
-    requires { length items.now ≤ 8190 }
+    requires { length items.now ≤ items_max }
     ensures { result ≡ length (flat_map T.spelling items.now) }
 {
     (items.len() * T::SIZE) as u32
