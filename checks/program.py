@@ -252,13 +252,91 @@ def outputs(long_script):
 def wrong_words():
     for words in [[], ["run"], ["run", "0"], ["run", "65"], ["run", "+2"], ["run", ""], ["run", " 2"], ["run", "2 "], ["run", "-1"],
                   ["run", "2", "0"], ["run", "2", "3"], ["run", "2", "1", "1"], ["run", "18446744073709551618"], ["serve", "2"],
-                  ["RUN", "2"], ["run", b"\xff"], ["--help"]]:
+                  ["RUN", "2"], ["run", b"\xff"], ["--help"], ["dump"], ["dump", "0"], ["dump", "2", "9223372036854775808"], ["dump", "2", "+1"],
+                  ["dump", "2", ""], ["dump", "2", "1", "1"], ["replay", "2"]]:
         got, at = with_file(SCRIPT, words)
         case(f"the arguments {words}", (*got, f"read {at}"), (2, b"", line("Usage"), "read 0"))
     closed = subprocess.run([PROGRAM, "run", "0"], capture_output=True, preexec_fn=closing(0))
     case("wrong arguments, and closed input", (closed.returncode, closed.stdout, closed.stderr), (2, b"", line("Usage")))
     for words in [["run", "2", "1"], ["run", "2", "2"], ["run", "002"], ["run", "1"], ["run", "64", "01"]]:
         case(f"the arguments {words}", with_file(SCRIPT, words)[0], (0, REPLIES, b""))
+
+
+HEAD = b"TBSDUMP1" + struct.pack("<II", 1, 2)
+MARK = struct.pack("<QQ", 0, 2)
+
+
+def entry(commit, time, timed):
+    """An entry of a dump, of the frame of a pair."""
+    return struct.pack("<QQ", commit, time) + timed[8:]
+
+
+# the register has the time 10, the two accounts the time 12, the look-up 13
+ENTRIES = [entry(1, 10, FIRST), entry(2, 12, SCRIPT[56:368]), entry(3, 13, SCRIPT[368:])]
+DUMP = HEAD + b"".join(ENTRIES)
+DUMPED, REPLAY = ["dump", "2"], ["replay"]
+
+
+def dumps(long_script):
+    """Dumps, marks, and replays: a dump of each kind, cut behind each of its bytes, and each fault."""
+    case("a dump, to a file", with_file(SCRIPT, DUMPED)[0], (0, DUMP, b""))
+    case("a dump, to a pipe", ended(SCRIPT, DUMPED), (0, DUMP, b""))
+    case("a dump of new requests and repeats", ended(FIRST + SCRIPT, DUMPED), (0, DUMP, b""))
+    case("a dump of nothing", ended(b"", DUMPED), (0, HEAD, b""))
+    case("a replay, of a file", with_file(DUMP, REPLAY)[0], (0, REPLIES, b""))
+    case("a replay, of a pipe", ended(DUMP, REPLAY), (0, REPLIES, b""))
+    case("a replay of nothing", ended(HEAD, REPLAY), (0, b"", b""))
+    case("a mark, and nothing behind it", ended(DUMP + MARK, REPLAY), (0, REPLIES, b""))
+    long_dump = ended(long_script, DUMPED)[1]
+    case("a long script, dumped and replayed", ended(long_dump, REPLAY), ended(long_script))
+
+    # transfer 77 of no account, and then of account 1: profile 2 has its id failed where the first is behind the mark
+    failing, again = (pair(10, 7, 1, number, 130, transfer(77, debit, 2, 1)) for number, debit in ((2, 99), (3, 1)))
+    entries = [*ENTRIES[:2], entry(3, 13, failing), entry(4, 14, again)]
+    failed = REPLIES[:96] + reply(7, 1, 2, 130, 0, 3, struct.pack("<II", 0, 21))
+    right, refused = reply(7, 1, 3, 130, 0, 4), reply(7, 1, 3, 130, 0, 4, struct.pack("<II", 0, 68))
+    for at, place, last in [([], None, right), (["4"], None, right), (["9223372036854775807"], None, right), (["3"], 3, right), (["2"], 2, refused)]:
+        marked = entries if place is None else [*entries[:place], MARK, *entries[place:]]
+        dump = HEAD + b"".join(marked)
+        case(f"a dump with the mark above {at}", ended(SCRIPT[:368] + failing + again, ["dump", "2", *at]), (0, dump, b""))
+        case(f"its replay, {len(dump)} bytes", ended(dump, REPLAY), (0, failed + last, b""))
+
+    ends = [16, 80, 400, 512]
+    for end in range(len(DUMP) + 1):
+        whole = max((k for k in range(4) if ends[k] <= end), default=None)
+        if whole is None:
+            wanted = (2, b"", line("Head"))
+        elif ends[whole] == end:
+            wanted = (0, REPLIES[: REPLY_ENDS[whole]], b"")
+        else:
+            wanted = (2, REPLIES[: REPLY_ENDS[whole]], line("Short"))
+        got = ended(DUMP[:end], REPLAY)
+        if got != wanted:
+            case(f"the dump cut behind {end} bytes", got, wanted)
+            return
+    case("the dump cut behind each of its bytes", (), ())
+
+    for name, head in [("another signature", b"TBSDUMP2" + HEAD[8:]), ("profile 0", HEAD[:8] + struct.pack("<II", 0, 2)), ("profile 3", HEAD[:8] + struct.pack("<II", 3, 2)),
+                       ("no clients", HEAD[:8] + struct.pack("<II", 1, 0)), ("65 clients", HEAD[:8] + struct.pack("<II", 1, 65))]:
+        case(f"a head with {name}", ended(head + DUMP[16:], REPLAY), (2, b"", line("Head")))
+    by_two = HEAD[:8] + struct.pack("<II", 2, 2)
+    for name, dump, replies in [("a commit 0 with the number 3", DUMP + struct.pack("<QQ", 0, 3), REPLIES), ("a mark under profile 2", by_two + ENTRIES[0] + MARK, FIRST_REPLY),
+                                ("a second mark", HEAD + MARK + ENTRIES[0] + MARK, FIRST_REPLY)]:
+        case(name, ended(dump, REPLAY), (2, replies, line("Mark")))
+    for name, dump, replies in [("a first entry with commit 2", HEAD + entry(2, 10, FIRST), b""), ("an entry again", DUMP + ENTRIES[2], REPLIES), ("a gap", HEAD + ENTRIES[0] + entry(3, 12, SCRIPT[56:368]), FIRST_REPLY),
+                                ("a time too early", HEAD + ENTRIES[0] + entry(2, 11, SCRIPT[56:368]), FIRST_REPLY), ("a time too late", HEAD + entry(1, 2**63, FIRST), b""),
+                                ("a repeat with the next numbers", HEAD + ENTRIES[0] + entry(2, 11, FIRST), FIRST_REPLY)]:
+        case(name, ended(dump, REPLAY), (2, replies, line("NotLegal")))
+    case("a wrong commit and a wrong frame", ended(HEAD + entry(7, 10, pair(0, 0, 0, 0, 2)), REPLAY), (2, b"", line("ClientZero")))
+    case("a script that is cut", ended(SCRIPT[:-1], DUMPED), (2, HEAD + b"".join(ENTRIES[:2]), line("Short")))
+    late = pair(MAX_TIME, 7, 0, 0, 2) + pair(0, 8, 0, 0, 2)
+    case("a mark without its entry", ended(late, ["dump", "2", "1"]), (2, HEAD + entry(1, MAX_TIME, FIRST), line("TimeExhausted")))
+    for name, script, words in [("a dump", b"", DUMPED), ("a replay", DUMP, REPLAY)]:
+        case(f"{name}, and closed output", ended(script, words, preexec_fn=closing(1)), (1, b"", line("Device")))
+        with open("/dev/full", "wb") as full:
+            case(f"{name}, and a full device", ended(script, words, stdout=full), (1, b"", line("Device")))
+        closed = subprocess.run([PROGRAM, *words], capture_output=True, preexec_fn=closing(0))
+        case(f"{name}, and closed input", (closed.returncode, closed.stderr), (1, line("Device")))
 
 
 def lines():
@@ -281,6 +359,8 @@ def memory():
         return
     script = FIRST + pair(10, 7, 1, 1, 129, b"", 8190 * 128)
     case("no memory for a body", ended(script, preexec_fn=limited(least + 128)), (1, FIRST_REPLY, line("NoMemory")))
+    dump = HEAD + ENTRIES[0] + entry(2, 10000, pair(10, 7, 1, 1, 129, b"", 8190 * 128))
+    case("no memory for a body of a dump", ended(dump, REPLAY, preexec_fn=limited(least + 128)), (1, FIRST_REPLY, line("NoMemory")))
 
 
 def main():
@@ -291,7 +371,9 @@ def main():
     cuts()
     frames()
     sessions()
-    outputs(many_items())
+    long_script = many_items()
+    outputs(long_script)
+    dumps(long_script)
     wrong_words()
     lines()
     memory()

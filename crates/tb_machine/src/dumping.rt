@@ -152,13 +152,11 @@ pub fn dump<R: Source, W: Sink>(
         Ok(machine) => machine,
         Err(AllocError) => return Err(RunFault::NoMemory),
     };
-    match send_head(
-        writer,
-        DumpHead {
-            profile,
-            clients_max,
-        },
-    ) {
+    let head = DumpHead {
+        profile,
+        clients_max,
+    };
+    match send_head(writer, head) {
         Ok(()) => {}
         Err(fault) => return Err(RunFault::Frame(fault)),
     }

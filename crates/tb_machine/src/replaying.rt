@@ -143,3 +143,6 @@ pub fn replay<R: Source, W: Sink>(
     let _entries = machine.commit();
     unreachable!()
 }
+
+#[cfg(test)]
+mod tests;

@@ -71,7 +71,7 @@ fn first_register(rt: HostRuntime) -> Result<(), Fail> {
 /// Words that are none of the forms are found before any input is read.
 #[test]
 fn usage(rt: HostRuntime) -> Result<(), Fail> {
-    let wrong: [&[&str]; 12] = [
+    let wrong: [&[&str]; 17] = [
         &[],
         &["run"],
         &["run", "0"],
@@ -84,6 +84,11 @@ fn usage(rt: HostRuntime) -> Result<(), Fail> {
         &["run", "2", "1", "1"],
         &["serve", "2"],
         &["run", "2", "0"],
+        &["dump"],
+        &["dump", "2", "9223372036854775808"],
+        &["dump", "2", "+1"],
+        &["dump", "2", "1", "1"],
+        &["replay", "2"],
     ];
     for words in wrong {
         let left = left_by(&rt, words, &REGISTER)?;
@@ -134,5 +139,26 @@ fn time_runs_out(rt: HostRuntime) -> Result<(), Fail> {
     assert_eq!(rt; left.status, 2);
     assert!(rt; left.replies.is_empty());
     assert_eq!(rt; left.line.as_slice(), b"tbs: TimeExhausted\n".as_slice());
+    Ok(())
+}
+
+/// The dump of a register has 80 bytes, and its replay is the reply; 10 bytes more are no entry.
+#[test]
+fn dump_and_replay(rt: HostRuntime) -> Result<(), Fail> {
+    for words in [["dump", "2", "1"], ["dump", "02", "9223372036854775807"]] {
+        let dump = left_by(&rt, &words, &REGISTER)?;
+        assert!(rt; dump.status == 0 && dump.replies.len() == 80 && dump.line.is_empty());
+        assert_eq!(rt;
+            &dump.replies[..16],
+            b"TBSDUMP1\x01\0\0\0\x02\0\0\0".as_slice()
+        );
+        let left = left_by(&rt, &["replay"], dump.replies.as_slice())?;
+        assert!(rt; left.status == 0 && left.replies.as_slice() == REGISTERED.as_slice());
+        let mut more = dump.replies;
+        more.extend_from_slice(&REGISTER[..10])?;
+        let left = left_by(&rt, &["replay"], more.as_slice())?;
+        assert!(rt; left.status == 2 && left.replies.as_slice() == REGISTERED.as_slice());
+        assert_eq!(rt; left.line.as_slice(), b"tbs: Short\n".as_slice());
+    }
     Ok(())
 }
