@@ -339,6 +339,18 @@ def dumps(long_script):
         case(f"{name}, and closed input", (closed.returncode, closed.stderr), (1, line("Device")))
 
 
+def storms():
+    """Many client threads at once: the totals are the same whatever their order was."""
+    for words, totals in [(["2", "3"], (2, 10, 6, 12)), (["1", "1"], (1, 4, 1, 1)), (["016", "1000"], (16, 16018, 16000, 8008000))]:
+        told = "clients %d\ncommits %d\ntransfers %d\ncredited %d\n" % totals
+        case(f"storm {words}", ended(b"", ["storm", *words]), (0, told.encode(), b""))
+    for words in [[], ["2"], ["0", "3"], ["17", "3"], ["2", "0"], ["2", "1001"], ["2", "-3"], ["", "3"], ["2", "3", "1"]]:
+        got, at = with_file(SCRIPT, ["storm", *words])
+        case(f"storm {words}", (*got, f"read {at}"), (2, b"", line("Usage"), "read 0"))
+    with open("/dev/full", "wb") as full:
+        case("storm, and a full device", ended(b"", ["storm", "2", "3"], stdout=full), (1, b"", line("Device")))
+
+
 def lines():
     """The line cannot be written: the status is the same."""
     with open("/dev/full", "wb") as full:
@@ -375,6 +387,7 @@ def main():
     outputs(long_script)
     dumps(long_script)
     wrong_words()
+    storms()
     lines()
     memory()
     print(f"{passed} passed, {failed} failed")

@@ -1,6 +1,6 @@
 //! What the words of the command line ask for.
-ghost use Rattle.std.specs.Prelude.{◌≡◌, ◌<◌, map, string_bytes, IfSome, Some};
-ghost use Rattle.tbs.specs.Orders.{digit_of, number_of, within, clients_of, profile_of, commit_of, run_by, dump_by, dump_at_by, order_alone, order_with, order_with_two, order_of};
+ghost use Rattle.std.specs.Prelude.{◌≡◌, ◌<◌, ◌≤◌, map, string_bytes, IfSome, Some, None, if◌then◌else◌};
+ghost use Rattle.tbs.specs.Orders.{digit_of, number_of, within, clients_of, profile_of, commit_of, run_by, dump_by, dump_at_by, order_alone, order_with, order_with_two, order_of, storm_of};
 
 use tb_records::{ClientsMax, Profile};
 
@@ -165,6 +165,23 @@ pub fn read_order(words: &[String]) -> Option<Order>
         [word, clients_max, last] => {
             order_with_two(word.as_str(), clients_max.as_str(), last.as_str())
         }
+        _ => None,
+    }
+}
+
+/// The number of clients and of transfers that `storm` is asked for, None where the words do not ask for a storm.
+pub fn read_storm(words: &[String]) -> Option<(u32, u32)>
+    ensures value { result ≡ storm_of (map string_bytes words.now) }
+    ensures limits { IfSome result (λ scale. (scale.0 ≤ 16) × (scale.1 ≤ 1000)) }
+{
+    let [word, clients, transfers] = words else {
+        return None;
+    };
+    if word.as_str() != "storm" {
+        return None;
+    }
+    match (number(clients.as_bytes(), 1, 16), number(transfers.as_bytes(), 1, 1000)) {
+        (Some(clients), Some(transfers)) => Some((clients as u32, transfers as u32)),
         _ => None,
     }
 }

@@ -5,6 +5,7 @@ ghost use Rattle.tbs.specs.Orders.{order_of};
 ghost use Rattle.tbs.specs.Statuses.{fault_status, fault_name, fault_line, Told, Performs, Exits};
 
 use crate::arguments::{Order, read_order};
+use crate::storm::faults::StormFault;
 use arrayvec::ArrayVec;
 use std::alloc::Global;
 use tb_machine::{RunFault, dump, replay, run};
@@ -19,10 +20,12 @@ pub enum Fault {
     Serving(RunFault),
     /// The dump could not be replayed to its end.
     Replaying(DumpFault),
+    /// The storm did not end well.
+    Storming(StormFault),
 }
 
 impl Fault {
-    /// 1 where a device or memory failed, 2 where the input or the arguments are wrong.
+    /// 1 where a device, memory or a copy failed, 2 where the input or the arguments are wrong, 3 where a client gave up.
     pub fn status(self) -> u8
         ensures value { result ≡ fault_status self }
         ensures failing { 0 < result }
@@ -34,6 +37,8 @@ impl Fault {
             Fault::Replaying(DumpFault::NoMemory) => 1,
             Fault::Replaying(DumpFault::Frame(FrameFault::Device)) => 1,
             Fault::Replaying(DumpFault::Frame(FrameFault::NoMemory)) => 1,
+            Fault::Storming(StormFault::GaveUp) => 3,
+            Fault::Storming(_) => 1,
             _ => 2,
         }
     }
@@ -46,6 +51,7 @@ impl Fault {
             Fault::Usage => "Usage",
             Fault::Serving(fault) => fault.name(),
             Fault::Replaying(fault) => fault.name(),
+            Fault::Storming(fault) => fault.name(),
         }
     }
 }

@@ -7,9 +7,11 @@ ghost use Rattle.tbs.specs.Statuses.{fault_status};
 
 mod arguments;
 mod commands;
+mod storm;
 #[cfg(test)]
 mod tests;
 
+use arguments::read_storm;
 use arrayvec::ArrayVec;
 use commands::{Fault, LINE, command, put_line, tell};
 use std::env;
@@ -70,7 +72,13 @@ fn refuse<E: Sink>(fault: Fault, faults: &mut E) -> u8
 fn main(rt: HostRuntime) -> ExitCode {
     let mut faults = Counting::new(rt.stderr());
     let status = match words(&rt) {
-        Ok(words) => serve(&rt, words.as_slice(), &mut faults),
+        Ok(words) => match read_storm(words.as_slice()) {
+            Some((clients, transfers)) => {
+                let mut writer = Counting::new(rt.stdout());
+                storm::storm(&rt, rt.alloc(), clients, transfers, &mut writer, &mut faults)
+            }
+            None => serve(&rt, words.as_slice(), &mut faults),
+        },
         Err(error) => refuse(fault_of(&error), &mut faults),
     };
     ExitCode::from(status)

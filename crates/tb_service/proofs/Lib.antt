@@ -1,0 +1,6 @@
+pub mod Lines
+pub mod Steps
+pub mod Flags
+pub mod Turns
+pub mod Serving
+pub mod Audit

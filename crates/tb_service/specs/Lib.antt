@@ -1,0 +1,10 @@
+pub mod Line
+pub mod Rule
+pub mod Places
+pub mod Names
+pub mod Ports
+pub mod History
+pub mod Clerks
+pub mod Desks
+pub mod Finished
+pub mod Servers

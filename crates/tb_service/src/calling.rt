@@ -1,0 +1,30 @@
+//! A call: a request is handed over, and a seat is asked for its reply.
+ghost use Rattle.std.specs.Prelude.{IfOk};
+ghost use mathlib.Core.List.{IsPrefix};
+ghost use Rattle.tb_published.specs.Lines.{LegalIn, AnswersIn};
+
+use std::thread;
+use tb_published::{Naming, Seat, SeatFault};
+use tb_records::{Reply, Request, Status};
+
+/// Asks so many times at most, until the request is answered.
+pub(crate) fn ask<J: Naming>(
+    seat: &mut Seat<J>,
+    request: &Request,
+    turns: u32,
+    mut reply: Reply,
+) -> Result<Reply, SeatFault>
+    requires legal { LegalIn J.opening seat.old }
+    requires answer { AnswersIn J.opening seat.old request.now reply }
+    ensures begins { IsPrefix seat.old seat.new }
+    ensures answer { IfOk result (λ reply. LegalIn J.opening seat.new × AnswersIn J.opening seat.new request.now reply) }
+{
+    for _ in 0..turns {
+        reply = seat.answer(request)?;
+        if reply.status() != Status::NotYet {
+            return Ok(reply);
+        }
+        thread::yield_now();
+    }
+    Ok(reply)
+}

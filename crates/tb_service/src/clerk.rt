@@ -1,0 +1,86 @@
+//! What the requests of an order do to the history, each in its turn.
+ghost use Rattle.std.specs.Prelude.{◌≡◌, ◌+◌, ◌≤◌, ◌<◌, [], ◌∷◌, ◌++◌, length, vec_len, vec_capacity, OnOk};
+
+use crate::gates::{Gate, Moments};
+use crate::orders::{Order, What};
+use std::alloc::AllocError;
+use std::sync::Wait;
+use tb_published::{Held, Naming, TakeFault};
+use tb_records::Request;
+
+/// An order has at most this many requests.
+const REQUESTS_MAX: usize = 8;
+
+/// Enters requests, and keeps the port of each place and the refusals.
+#[derive(Drop)]
+pub struct Clerk<J: Naming, W: Wait + Drop, M: Moments + Drop, G: Gate + Drop> {
+    pub held: Held<J, W>,
+    pub moments: M,
+    pub gate: G,
+    pub ports: Vec<u32>,
+    pub refused: Vec<(u64, TakeFault)>,
+}
+
+impl<J: Naming, W: Wait + Drop, M: Moments + Drop, G: Gate + Drop> Clerk<J, W, M, G> {
+    ghost use Rattle.std.specs.Prelude.{replicate};
+    ghost use Rattle.tb_service.specs.Line.{requests_in};
+    ghost use Rattle.tb_service.specs.History.{ServesOn};
+    ghost use Rattle.tb_service.specs.Clerks.{room_of, HasRoom, Uses};
+
+    /// Makes room for the requests of one order.
+    pub fn room(&mut self) -> Result<(), AllocError>
+        ensures room { OnOk result (HasRoom 8 self.new) }
+        ensures same { (room_of self.new ≡ room_of self.old) × (self.new.ports.items ≡ self.old.ports.items) × (self.new.refused.items ≡ self.old.refused.items) }
+    {
+        self.ports.reserve(REQUESTS_MAX)?;
+        self.refused.reserve(REQUESTS_MAX)
+    }
+
+    /// One request has its turn.
+    fn serve(&mut self, port: u32, request: Request)
+        requires { HasRoom 1 self.old }
+        ensures served { ServesOn J.opening M.tells G.passes (room_of self.old) (length self.old.ports.items + 1) (request ∷ []) self.old.refused.items self.new.refused.items (room_of self.new) }
+        ensures ports { self.new.ports.items ≡ self.old.ports.items ++ port ∷ [] }
+        ensures room { Uses 1 self.old self.new }
+    {
+        self.ports.push_reserved(port);
+        let place = self.ports.len() as u64;
+        self.gate.pass(place);
+        let now = self.moments.now();
+        if let Err(fault) = self.held.publisher.enter(request, now) {
+            self.refused.push_reserved((place, fault));
+        }
+    }
+
+    /// Requests have their turns, one after another.
+    fn serve_all(&mut self, port: u32, requests: Vec<Request>)
+        requires { HasRoom (length requests.items) self.old }
+        ensures served { ServesOn J.opening M.tells G.passes (room_of self.old) (length self.old.ports.items + 1) requests.items self.old.refused.items self.new.refused.items (room_of self.new) }
+        ensures ports { self.new.ports.items ≡ self.old.ports.items ++ replicate (length requests.items) port }
+    {
+        for request in requests {
+            self.serve(port, request);
+        }
+    }
+
+    /// The requests of an order have their turns.
+    pub fn serve_order(&mut self, order: Order)
+        requires { HasRoom 8 self.old }
+        ensures served { ServesOn J.opening M.tells G.passes (room_of self.old) (length self.old.ports.items + 1) (requests_in order.what) self.old.refused.items self.new.refused.items (room_of self.new) }
+        ensures ports { self.new.ports.items ≡ self.old.ports.items ++ replicate (length (requests_in order.what)) order.port }
+    {
+        let Order { port, what } = order;
+        match what {
+            What::One(request) => self.serve(port, request),
+            What::Many(batch) => self.serve_all(port, batch.requests),
+            What::Close => {}
+        }
+    }
+
+    /// Shows what was entered. Where there is no memory for it, a later call shows the rest.
+    pub fn show<R: Wait>(&mut self, rt: &R)
+        ensures { (room_of self.new ≡ room_of self.old) × (self.new.ports.items ≡ self.old.ports.items) × (self.new.refused.items ≡ self.old.refused.items) }
+    {
+        let _ = self.held.publisher.show(rt);
+    }
+}

@@ -1,0 +1,123 @@
+//! A run that has ended, and its audit.
+ghost use Rattle.std.specs.Prelude.{◌≡◌, ℕ, ◌<◌, true, IfOk};
+ghost use Rattle.std.proofs.Props.{props};
+ghost use Rattle.crossbeam_channel.specs.Claims.{view, IsSeatAt};
+ghost use Rattle.crossbeam_channel.specs.Ends.{sends_on};
+ghost use Rattle.tb_service.specs.declared.ends.Ended.TheVariants as way;
+ghost use Rattle.tb_service.specs.Line.{is_closed};
+ghost use Rattle.tb_service.specs.Places.{ports, places_from};
+
+use crate::ends::Ended;
+use crate::orders::Order;
+use crate::ports::Closed;
+use crate::rule::{Account, Sender, TakesIn, View};
+use crossbeam_channel::Pass;
+use std::alloc::{AllocError, Global};
+use std::sync::Wait;
+use tb_published::{Naming, Publisher, TakeFault};
+
+/// What a server leaves: the history, why it ended, and which requests were left out.
+pub struct Finished<J: Naming> {
+    /// The history, and what seats are shown of it.
+    pub publisher: Publisher<J>,
+    /// Why the run ended.
+    pub ended: Ended,
+    /// The places, from 1, of the requests that were not entered, though they were new: for want of memory, or of time.
+    pub refused: Vec<(u64, TakeFault)>,
+    places: Vec<u32>,
+    sender: Sender,
+    pass: Pass<Order, View>,
+    alloc: Global,
+    ghost seated: { IsSeatAt (sends_on sender) pass } by { Prim.hlevel props },
+    ghost serves: { (view pass).serves ≡ true },
+    ghost placed: { ports (view pass).taken ≡ places.items },
+    ghost over: { ended ≡ way.Closed → (p : ℕ) → p < (view pass).ports → is_closed p (view pass).taken ≡ true } by { Prim.hlevel props },
+}
+
+// The places of one port, from 1.
+fn places_of(alloc: Global, port: u32, ports: &[u32]) -> Result<Vec<u64>, AllocError>
+    ensures { IfOk result (λ places. places.items ≡ places_from port 1 ports.now) }
+{
+    let mut places = Vec::new(alloc);
+    for (at, owner) in ports.iter().enumerate() {
+        if *owner == port {
+            places.push(at as u64 + 1)?;
+        }
+    }
+    Ok(places)
+}
+
+impl<J: Naming> Finished<J> {
+    ghost use Rattle.std.specs.Prelude.{IfErr};
+    ghost use Rattle.tb_service.specs.Places.{requests};
+    ghost use Rattle.tb_service.specs.Names.{service_of};
+    ghost use Rattle.tb_service.specs.Ports.{offered_by, number_by, service_by};
+    ghost use Rattle.tb_service.specs.Finished.{taken, port_at, service_at, IsOffered};
+
+    pub(crate) fn new(
+        publisher: Publisher<J>,
+        ended: Ended,
+        refused: Vec<(u64, TakeFault)>,
+        places: Vec<u32>,
+        sender: Sender,
+        pass: Pass<Order, View>,
+        alloc: Global,
+    ) -> Finished<J>
+        requires seated { IsSeatAt (sends_on sender) pass }
+        requires serves { (view pass).serves ≡ true }
+        requires placed { ports (view pass).taken ≡ places.items }
+        requires over { ended ≡ way.Closed → (p : ℕ) → p < (view pass).ports → is_closed p (view pass).taken ≡ true }
+        ensures parts { (result.publisher ≡ publisher) × (result.ended ≡ ended) × (result.refused ≡ refused) }
+        ensures pass { (taken result ≡ requests (view pass).taken) × (service_at result ≡ service_of pass) }
+    {
+        Finished {
+            publisher,
+            ended,
+            refused,
+            places,
+            sender,
+            pass,
+            alloc,
+        }
+    }
+
+    /// Takes a closed port in, and answers the places of the requests that were taken from it. For want of memory the
+    /// same port comes back, and nothing has changed.
+    pub fn offered_by(&mut self, closed: Closed) -> Result<Vec<u64>, Closed>
+        requires service { service_by closed ≡ service_at self.old }
+        ensures places { IfOk result (λ places. places.items ≡ places_from (number_by closed) 1 (port_at self.old)) }
+        ensures offered { IfOk result (λ places. IsOffered (offered_by closed) (taken self.old) places.items self.old.ended) }
+        ensures back { IfErr result (λ back. (back ≡ closed) × (self.new ≡ self.old)) }
+        ensures same { (taken self.new ≡ taken self.old) × (port_at self.new ≡ port_at self.old) × (service_at self.new ≡ service_at self.old) }
+        ensures rest { (self.new.publisher ≡ self.old.publisher) × (self.new.ended ≡ self.old.ended) × (self.new.refused ≡ self.old.refused) }
+    {
+        let Ok(places) = places_of(self.alloc, closed.number(), &self.places) else {
+            return Err(closed);
+        };
+        self.sender
+            .absorb::<TakesIn>(&mut self.pass, closed.into_pass());
+        self.sender.learn_as::<Account>(&mut self.pass);
+        Ok(places)
+    }
+
+    /// The publisher alone, to be served again.
+    pub fn into_publisher(self) -> Publisher<J>
+        ensures { result ≡ self.publisher }
+    {
+        let Finished {
+            publisher,
+            ended: _,
+            refused: _,
+            places: _,
+            sender: _,
+            pass: _,
+            alloc: _,
+        } = self;
+        publisher
+    }
+
+    /// Closes the publisher: seats that ask from then on find no copy.
+    pub fn close<R: Wait>(self, rt: &R) {
+        self.into_publisher().close(rt);
+    }
+}

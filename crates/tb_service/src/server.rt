@@ -1,0 +1,118 @@
+//! The server: one thread that enters what all ports offer.
+ghost use Rattle.std.specs.Prelude.{◌≡◌, []};
+ghost use Rattle.crossbeam_channel.specs.Claims.{view};
+ghost use Rattle.tb_service.specs.Places.{ports};
+
+use crate::clerk::Clerk;
+use crate::ends::Ended;
+use crate::finished::Finished;
+use crate::gates::{Gate, Moments};
+use crate::inbox::Inbox;
+use std::alloc::Global;
+use std::sync::Wait;
+use tb_published::Naming;
+
+/// The inbox, and the clerk who serves what comes in.
+#[derive(Drop)]
+struct Desk<J: Naming, W: Wait + Drop, M: Moments + Drop, G: Gate + Drop> {
+    inbox: Inbox,
+    clerk: Clerk<J, W, M, G>,
+    ghost places: { ports (view inbox.pass).taken ≡ clerk.ports.items },
+}
+
+impl<J: Naming, W: Wait + Drop, M: Moments + Drop, G: Gate + Drop> Desk<J, W, M, G> {
+    ghost use Rattle.std.specs.Prelude.{ℕ, ◌+◌, ◌++◌, ◌<◌, true, length, List, IfSome, Some};
+    ghost use Rattle.tb_service.specs.declared.orders.Order.{Order};
+    ghost use Rattle.tb_service.specs.declared.ends.Ended.TheVariants as way;
+    ghost use Rattle.tb_service.specs.Line.{is_closed};
+    ghost use Rattle.tb_service.specs.Places.{requests};
+    ghost use Rattle.tb_service.specs.Names.{service_of};
+    ghost use Rattle.tb_service.specs.History.{ServesOn};
+    ghost use Rattle.tb_service.specs.Clerks.{room_of};
+    ghost use Rattle.tb_service.specs.Desks.{ServesOrders};
+
+    /// Takes one order and serves it; or says that all is over.
+    fn step<R: Wait>(&mut self, rt: &R) -> Option<Ended>
+        ensures served { ServesOrders J.opening M.tells G.passes self.old.inbox.pass self.old.clerk self.new.inbox.pass self.new.clerk }
+        ensures over { result ≡ Some way.Closed → (p : ℕ) → p < (view self.new.inbox.pass).ports → is_closed p (view self.new.inbox.pass).taken ≡ true }
+    {
+        if self.inbox.is_over() {
+            return Some(Ended::Closed);
+        }
+        if self.clerk.room().is_err() {
+            return Some(Ended::NoMemory);
+        }
+        let order = self.inbox.take(rt)?;
+        self.clerk.serve_order(order);
+        self.clerk.show(rt);
+        None
+    }
+
+    /// Serves orders until all is over.
+    fn serve<R: Wait>(&mut self, rt: &R) -> Ended
+        ensures served { ServesOrders J.opening M.tells G.passes self.old.inbox.pass self.old.clerk self.new.inbox.pass self.new.clerk }
+        ensures over { result ≡ way.Closed → (p : ℕ) → p < (view self.new.inbox.pass).ports → is_closed p (view self.new.inbox.pass).taken ≡ true }
+    {
+        for _ in rt.forever() {
+            if let Some(ended) = self.step(rt) {
+                return ended;
+            }
+        }
+        unreachable!()
+    }
+}
+
+/// A server that has not begun. Where it is dropped, what ports offer comes back.
+#[derive(Drop)]
+pub struct Server<J: Naming, W: Wait + Drop, M: Moments + Drop, G: Gate + Drop> {
+    desk: Desk<J, W, M, G>,
+    alloc: Global,
+    ghost fresh: { (view desk.inbox.pass).taken ≡ [] },
+    ghost blameless: { desk.clerk.refused.items ≡ [] },
+}
+
+impl<J: Naming, W: Wait + Drop, M: Moments + Drop, G: Gate + Drop> Server<J, W, M, G> {
+    ghost use Rattle.tb_service.specs.Names.{service_of};
+    ghost use Rattle.tb_service.specs.Clerks.{room_of};
+    ghost use Rattle.tb_service.specs.Servers.{room_at, service_on, Finishes};
+    ghost use Rattle.tb_service.specs.Finished.{taken, service_at};
+
+    pub(crate) fn new(inbox: Inbox, clerk: Clerk<J, W, M, G>, alloc: Global) -> Server<J, W, M, G>
+        requires fresh { (view inbox.pass).taken ≡ [] }
+        requires unused { clerk.ports.items ≡ [] }
+        requires blameless { clerk.refused.items ≡ [] }
+        ensures { (room_at result ≡ room_of clerk) × (service_on result ≡ service_of inbox.pass) }
+    {
+        Server {
+            desk: Desk { inbox, clerk },
+            alloc,
+        }
+    }
+
+    /// Serves what the ports offer, until each of them is closed, or there is no memory for the places of one order more.
+    pub fn run<R: Wait>(self, rt: &R) -> Finished<J>
+        ensures served { Finishes J.opening M.tells G.passes (room_at self) (taken result) result.refused.items result.publisher.history }
+        ensures same { service_at result ≡ service_on self }
+    {
+        let Server { mut desk, alloc } = self;
+        let ended = desk.serve(rt);
+        let Desk { inbox, clerk } = desk;
+        let (sender, pass) = inbox.stop();
+        let Clerk {
+            held,
+            moments: _,
+            gate: _,
+            ports: places,
+            refused,
+        } = clerk;
+        Finished::new(
+            held.into_publisher(),
+            ended,
+            refused,
+            places,
+            sender,
+            pass,
+            alloc,
+        )
+    }
+}

@@ -1,0 +1,56 @@
+//! A server and its ports.
+ghost use Rattle.std.specs.Prelude.{◌≡◌, length, IfOk};
+ghost use Rattle.crossbeam_channel.specs.Claims.{view};
+ghost use Rattle.tb_service.specs.Names.{service_of};
+ghost use Rattle.tb_service.specs.Ports.{AreNumbered};
+ghost use Rattle.tb_service.specs.Servers.{room_at, service_on};
+
+use crate::clerk::Clerk;
+use crate::gates::{Gate, Moments};
+use crate::inbox::Inbox;
+use crate::limits::PortCount;
+use crate::ports::Port;
+use crate::server::Server;
+use std::alloc::{AllocError, Global};
+use std::sync::Wait;
+use tb_published::{Held, Naming, Publisher};
+
+// The ports of a queue that has none, numbered from 0.
+fn make_ports(inbox: &mut Inbox, alloc: Global, count: u32) -> Result<Vec<Port>, AllocError>
+    requires { (view inbox.old.pass).ports ≡ 0 }
+    ensures ports { IfOk result (λ ports. AreNumbered (service_of inbox.old.pass) 0 ports.items × (length ports.items ≡ count)) }
+    ensures same { ((view inbox.new.pass).taken ≡ (view inbox.old.pass).taken) × (service_of inbox.new.pass ≡ service_of inbox.old.pass) }
+{
+    let mut ports = Vec::new(alloc);
+    for number in 0..count {
+        let port = inbox.port(alloc, number)?;
+        ports.push(port)?;
+    }
+    Ok(ports)
+}
+
+/// A server over a publisher, and its ports, numbered from 0. The publisher is closed, by the handle `rt`, where there is no
+/// memory for them, and where the server is dropped.
+pub fn service<J: Naming, W: Wait + Drop, M: Moments + Drop, G: Gate + Drop>(
+    alloc: Global,
+    publisher: Publisher<J>,
+    rt: W,
+    count: PortCount,
+    moments: M,
+    gate: G,
+) -> Result<(Server<J, W, M, G>, Vec<Port>), AllocError>
+    ensures begins { IfOk result (λ made. room_at made.0 ≡ record { history = publisher.history; moments = moments; gate = gate }) }
+    ensures ports { IfOk result (λ made. AreNumbered (service_on made.0) 0 made.1.items × (length made.1.items ≡ count)) }
+{
+    let held = Held::new(publisher, rt);
+    let mut inbox = Inbox::new(alloc)?;
+    let ports = make_ports(&mut inbox, alloc, count.get())?;
+    let clerk = Clerk {
+        held,
+        moments,
+        gate,
+        ports: Vec::new(alloc),
+        refused: Vec::new(alloc),
+    };
+    Ok((Server::new(inbox, clerk, alloc), ports))
+}

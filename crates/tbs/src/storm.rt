@@ -1,0 +1,214 @@
+//! `storm`: many client threads at once, each with a port and a seat of its own, beside one server thread.
+ghost use Rattle.std.specs.Prelude.{◌≡◌, ◌<◌, ◌≤◌};
+ghost use Rattle.tbs.specs.Statuses.{fault_line};
+
+mod clients;
+pub mod faults;
+
+use crate::commands::{Fault, tell};
+use arrayvec::ArrayString;
+use clients::{Client, Scale};
+use faults::StormFault;
+use std::alloc::Global;
+use std::fmt::Write;
+use std::marker::Brand;
+use std::sync::Wait;
+use std::thread::{self, Threads};
+use tb_published::{Naming, Opening, Publisher, Seat, SeatCount, open};
+use tb_records::{ClientsMax, Profile, Sink, put_all};
+use tb_service::{Ended, Finished, Moments, Open, Port, PortCount, service};
+
+/// Moments 1, 2, 3 and so on.
+#[derive(Drop)]
+struct Ticks(u64);
+
+impl Moments for Ticks {
+    ghost tells = { λ before moment after. moment ≡ after.0 };
+
+    fn now(&mut self) -> u64 {
+        self.0 = self.0.saturating_add(1);
+        self.0
+    }
+}
+
+/// What a storm leaves: the entries of the history, the transfers that are found, and what account 1000 was credited with.
+#[derive(Clone, Copy)]
+struct Totals {
+    commits: usize,
+    transfers: usize,
+    credited: u128,
+}
+
+/// The clients with numbers, each with a port and a seat.
+fn make_clients<J: Naming>(
+    alloc: Global,
+    scale: Scale,
+    ports: &mut Vec<Port>,
+    seats: &mut Vec<Seat<J>>,
+) -> Result<Vec<Client<J>>, StormFault> {
+    let mut made = Vec::new(alloc);
+    for number in 1..=scale.clients {
+        made.push(Client::new(alloc, number, ports, seats)?)?;
+    }
+    Ok(made)
+}
+
+/// The first fault of a seat, or else that a client gave up.
+fn first_fault(outcomes: &[Result<(), StormFault>]) -> Result<(), StormFault> {
+    let mut first = Ok(());
+    for outcome in outcomes {
+        match outcome {
+            Ok(()) => {}
+            Err(StormFault::GaveUp) => first = Err(StormFault::GaveUp),
+            Err(fault) => return Err(*fault),
+        }
+    }
+    first
+}
+
+/// All clients at once, each in a thread of its own.
+fn create_all<J: Naming + Send + Sync, R: Threads + Wait + Sync>(
+    rt: &R,
+    clients: Vec<Client<J>>,
+    scale: Scale,
+) -> Result<(), StormFault> {
+    let outcomes = thread::map_vec(rt, clients, &|client: Client<J>| {
+        client.create_transfers(rt, scale.transfers)
+    })?;
+    first_fault(outcomes.as_slice())
+}
+
+/// The first client makes the accounts, and then all others their transfers. Each closes its port.
+fn take_part<J: Naming + Send + Sync, R: Threads + Wait + Sync>(
+    rt: &R,
+    mut first: Client<J>,
+    others: Vec<Client<J>>,
+    scale: Scale,
+) -> (Seat<J>, Result<(), StormFault>) {
+    let made = first.create_accounts(rt, scale.clients);
+    let seat = first.close(rt);
+    match made {
+        Ok(()) => (seat, create_all(rt, others, scale)),
+        Err(fault) => {
+            for client in others {
+                client.close(rt);
+            }
+            (seat, Err(fault))
+        }
+    }
+}
+
+/// What the first client's seat finds once it has learnt all.
+fn totals_of<J: Naming>(
+    alloc: Global,
+    finished: &Finished<J>,
+    seat: &mut Seat<J>,
+    scale: Scale,
+) -> Result<Totals, StormFault> {
+    seat.learn(&finished.publisher.tell());
+    let (_, transfers) = seat.lookup_transfers(scale.ids(alloc)?.as_slice())?;
+    let (_, accounts) = seat.lookup_accounts(&[1000])?;
+    Ok(Totals {
+        commits: finished.publisher.history().len(),
+        transfers: transfers.len(),
+        credited: accounts.first().map_or(0, |account| account.credits_posted),
+    })
+}
+
+/// The storm over a publisher and its seats.
+fn storm_over<J: Naming + Send + Sync, R: Threads + Wait + Sync>(
+    rt: &R,
+    alloc: Global,
+    publisher: Publisher<J>,
+    mut seats: Vec<Seat<J>>,
+    count: PortCount,
+    scale: Scale,
+) -> Result<Totals, StormFault> {
+    let (server, mut ports) = service(alloc, publisher, rt, count, Ticks(0), Open)?;
+    let first = Client::new(alloc, 100, &mut ports, &mut seats)?;
+    let others = make_clients(alloc, scale, &mut ports, &mut seats)?;
+    let (finished, (mut seat, outcome)) = thread::join(
+        rt,
+        move || server.run(rt),
+        move || take_part(rt, first, others, scale),
+    );
+    let totals = totals_of(alloc, &finished, &mut seat, scale);
+    let ended = finished.ended;
+    finished.close(rt);
+    if ended == Ended::NoMemory {
+        return Err(StormFault::NoMemory);
+    }
+    outcome?;
+    totals
+}
+
+/// The storm of an opening.
+fn storm_in<J: Naming + Send + Sync, R: Threads + Wait + Sync>(
+    rt: &R,
+    alloc: Global,
+    opening: Opening,
+    scale: Scale,
+) -> Result<Totals, StormFault>
+    requires { opening ≡ J.opening }
+{
+    let count = scale.clients + 1;
+    let (Some(seats), Some(ports)) = (SeatCount::new(count), PortCount::new(count)) else {
+        return Err(StormFault::NoPlace);
+    };
+    let (publisher, seats) = open::<J, R>(alloc, rt, opening, seats)?;
+    storm_over(rt, alloc, publisher, seats, ports, scale)
+}
+
+/// The lines that tell of a storm.
+fn lines_of(scale: Scale, totals: Totals) -> ArrayString<256> {
+    let mut lines = ArrayString::new();
+    let _ = writeln!(lines, "clients {}", scale.clients);
+    let _ = writeln!(lines, "commits {}", totals.commits);
+    let _ = writeln!(lines, "transfers {}", totals.transfers);
+    let _ = writeln!(lines, "credited {}", totals.credited);
+    lines
+}
+
+/// The storm, and its lines.
+fn play<R: Threads + Wait + Sync, W: Sink>(
+    rt: &R,
+    alloc: Global,
+    scale: Scale,
+    writer: &mut W,
+) -> Result<(), StormFault> {
+    let Some(clients_max) = ClientsMax::new(64) else {
+        return Err(StormFault::NoPlace);
+    };
+    let opening = Opening::new(Profile::One, clients_max);
+    let totals = storm_in::<Brand, R>(rt, alloc, opening, scale)?;
+    let lines = lines_of(scale, totals);
+    match put_all(writer, lines.as_bytes()) {
+        Ok(()) => Ok(()),
+        Err(_) => Err(StormFault::Device),
+    }
+}
+
+/// So many clients at once create so many transfers each, and repeat requests that were answered. Answers the exit status: 0
+/// done, and four lines are written of what came of it; else that of the fault, whose line goes to `faults`.
+pub fn storm<R: Threads + Wait + Sync, W: Sink, E: Sink>(
+    rt: &R,
+    alloc: Global,
+    clients: u32,
+    transfers: u32,
+    writer: &mut W,
+    faults: &mut E,
+) -> u8
+    requires few { clients ≤ 16 }
+    requires short { transfers ≤ 1000 }
+    ensures quiet { result ≡ 0 → faults.new ≡ faults.old }
+{
+    let scale = Scale { clients, transfers };
+    match play(rt, alloc, scale, writer) {
+        Ok(()) => 0,
+        Err(fault) => {
+            let fault = Fault::Storming(fault);
+            tell(fault, faults);
+            fault.status()
+        }
+    }
+}
