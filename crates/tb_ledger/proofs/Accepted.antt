@@ -157,3 +157,7 @@ moves_of B t time is ok =
     by apart None c e f z = absurd (omega arith)
     by apart (Some d) None e f z = absurd (omega arith)
     by apart (Some d) (Some c) e f z = pair_of B t time d c e f apart z
+
+-- a transfer that is right by itself names two accounts
+pub accounts_apart : (t : Transfer) → first_of (single_own_lines t) ≡ 0 → t.debit_account_id ≢ t.credit_account_id
+accounts_apart t own = other_numbers t.debit_account_id t.credit_account_id (fail (single_own_lines t) refl own).1.1.1.1.0

@@ -1,16 +1,20 @@
 -- The pairs of a tree, as rows by a number that its keys stand for.
-use Rattle.std.proofs.Common.{◌≡◌, ℕ, ◌+◌, ◌*◌, ◌<◌, ◌≤◌, Bool, true, false, cond, eqb, ltb, ◌==◌, List, [], ◌∷◌, length, map, find, is_some, Option, Some, None, Result, Ok, Err, IfOk, IfErr, refl, sym, ap, ◌∙◌, arith}
+use Rattle.std.proofs.Common.{◌≡◌, ℕ, ◌+◌, ◌*◌, ◌<◌, ◌≤◌, Bool, true, false, cond, eqb, ltb, ◌==◌, List, [], ◌∷◌, length, map, find, is_some, Option, Some, None, IfSome, IfNone, ◌⊎◌, inl, inr, Result, Ok, Err, IfOk, IfErr, refl, sym, ap, subst, ◌∙◌, arith}
 use Rattle.std.proofs.lemmas.Bool.Decides.{nat_tests}
 use Rattle.std.specs.declared.cmp.Ordering.{Ordering}
 use Rattle.std.specs.declared.cmp.Ordering.TheVariants.{Less, Equal, Greater}
 use Rattle.std.specs.Ordering.{match_ordering, nat_cmp, is_eq, ordering_then}
 use Rattle.std.specs.Map.{lookup, set_value, remove_entry, values_of}
 use Rattle.std.specs.BTreeMap.{insert_entry, is_at}
-use Rattle.tb_records.specs.Ordered.{put, replaced, taken_out, Each}
+use Rattle.std.specs.Fn.{Mut}
+use denote.Ref.{MutBor}
+use Rattle.avl_tree.specs.Changes.{ChangedTwo}
+use Rattle.tb_records.specs.Ordered.{put, replaced, taken_out, Each, Rising}
+use Rattle.tb_ledger.specs.Tables.{IsTable, KeepsKeys, ChangedRows}
 use Rattle.std.specs.List.{slice_get}
 use Rattle.avl_tree.specs.Map.{Map, entries, get}
 use Rattle.avl_tree.specs.Search.{Search, leaf, fork, entries_of, path_length}
-use Rattle.tb_records.proofs.ByKey.{each-map, each-both, each-back}
+use Rattle.tb_records.proofs.ByKey.{each-map, each-both, each-back, found_key, rising-replaced}
 use Rattle.tb_ledger.specs.Verdicts.{max_id}
 use Rattle.tb_ledger.specs.Timeouts.{timeout_key, timeout_at, timeouts_of, AreTimeouts}
 
@@ -128,6 +132,66 @@ module _ {V : Type 0} (key : V → ℕ) where
       by : (b : Bool) → Each Own (remove_entry (is_at (nat_cmp k)) es) → Each Own (cond b es (e ∷ remove_entry (is_at (nat_cmp k)) es))
       by true later = own.1
       by false later = (own.0, later)
+
+pub some-leads : {X : Type 0} (o : Option X) (P Q : X → Type 0) → ((x : X) → P x → Q x) → IfSome o P → IfSome o Q
+some-leads None P Q leads is = tt
+some-leads (Some x) P Q leads is = leads x is
+
+pub none-leads : {X : Type 0} (o : Option X) (P Q : Type 0) → (P → Q) → IfNone o P → IfNone o Q
+none-leads None P Q leads is = leads is
+none-leads (Some x) P Q leads is = tt
+
+pub missing-rows : {V : Type 0} (key : V → ℕ) (a b : ℕ) (es : List (ℕ × V)) → Each (Own key) es → ((lookup (is_at (nat_cmp a)) es ≡ None) ⊎ (lookup (is_at (nat_cmp b)) es ≡ None)) → (find (λ x. key x == a) (values_of es) ≡ None) ⊎ (find (λ x. key x == b) (values_of es) ≡ None)
+missing-rows key a b es own (inl none) = inl (sym (found-row key a es own) ∙ none)
+missing-rows key a b es own (inr none) = inr (sym (found-row key b es own) ∙ none)
+
+-- two rows changed where they stand
+module _ {F V R : Type 0} (key : V → ℕ) (c : Mut F (MutBor V × (MutBor V × Unit {0})) (R × (MutBor V × (MutBor V × Unit {0})))) (keeps : KeepsKeys key c) (a b : ℕ) (es : List (ℕ × V)) (table : IsTable key es) where
+  module _ (f : F) (r : R) (f' : F) (later : List (ℕ × V)) (ch : ChangedTwo c (is_at (nat_cmp a)) (is_at (nat_cmp b)) es f r f' later) where
+    found_a : find (λ x. key x == a) (values_of es) ≡ Some ch.value
+    found_a = sym (found-row key a es table.own) ∙ ch.found
+
+    found_b : find (λ x. key x == b) (values_of es) ≡ Some ch.other
+    found_b = sym (found-row key b es table.own) ∙ ch.other_found
+
+    at_a : key ch.left ≡ a
+    at_a = (keeps f ch.value ch.other r f' ch.left ch.other_left ch.called).0 ∙ found_key key a ch.value (values_of es) found_a
+
+    at_b : key ch.other_left ≡ b
+    at_b = (keeps f ch.value ch.other r f' ch.left ch.other_left ch.called).1 ∙ found_key key b ch.other (values_of es) found_b
+
+    between : List (ℕ × V)
+    between = set_value (is_at (nat_cmp a)) es ch.left
+
+    own_between : Each (Own key) (set_value (is_at (nat_cmp a)) es ch.left)
+    own_between = own-replaced key ch.left a es at_a table.own
+
+    both_written : values_of later ≡ replaced key ch.other_left (replaced key ch.left (values_of es))
+    both_written =
+        ap values_of ch.written ∙ rows-replaced key ch.other_left b (set_value (is_at (nat_cmp a)) es ch.left) at_b own_between
+        ∙ ap (replaced key ch.other_left) (rows-replaced key ch.left a es at_a table.own)
+
+    pub changed-rows : ChangedRows key c a b (values_of es) f r f' (values_of later)
+    changed-rows = record {
+      row = ch.value;
+      left = ch.left;
+      other = ch.other;
+      other_left = ch.other_left;
+      found = found_a;
+      other_found = found_b;
+      called = ch.called;
+      written = both_written;
+    }
+
+    pub changed-table : IsTable key later
+    changed-table = record {
+      own = subst (Each (Own key)) (sym ch.written) (own-replaced key ch.other_left b (set_value (is_at (nat_cmp a)) es ch.left) at_b own_between);
+      rising = subst (Rising key) (sym both_written) (rising-replaced key ch.other_left (replaced key ch.left (values_of es)) (rising-replaced key ch.left (values_of es) table.rising));
+    }
+
+  pub changed-either : (m' : List (ℕ × V)) (o : Option R) (f f' : F) → IfSome o (λ r. ChangedTwo c (is_at (nat_cmp a)) (is_at (nat_cmp b)) es f r f' m') → IfNone o (m' ≡ es) → IsTable key m'
+  changed-either m' (Some r) f f' some none = changed-table f r f' m' some
+  changed-either m' None f f' some none = subst (IsTable key) (sym none) table
 
 -- the first of a tree's timeouts
 

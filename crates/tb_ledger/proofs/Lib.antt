@@ -14,6 +14,7 @@ pub mod Pairs
 pub mod States
 pub mod Standing
 pub mod Settled
+pub mod Passing
 pub mod Expiries
 pub mod CodeLaws
 pub mod BlockLaws

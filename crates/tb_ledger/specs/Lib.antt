@@ -9,5 +9,6 @@ pub mod Meanings
 pub mod WorkedRows
 pub mod Tables
 pub mod Timeouts
+pub mod Exchanges
 pub mod Kept
 pub mod Trail

@@ -1,8 +1,10 @@
 -- What a table keeps in a tree.
-use Rattle.std.specs.Prelude.{ℕ, ◌≡◌, ◌≤◌, List, [], Option}
+use Rattle.std.specs.Prelude.{ℕ, ◌≡◌, ◌≤◌, ◌==◌, find, List, [], Option, Some}
+use Rattle.std.specs.Fn.{Mut, CalledAtPairMut}
+use denote.Ref.{MutBor}
 use Rattle.std.specs.Option.{option_map_or}
 use Rattle.std.specs.Map.{values_of}
-use Rattle.tb_records.specs.Ordered.{Each, Rising}
+use Rattle.tb_records.specs.Ordered.{replaced, Each, Rising}
 use Rattle.avl_tree.specs.Map.{Map, entries}
 use Rattle.avl_tree.specs.Search.{least}
 
@@ -27,3 +29,18 @@ pub record IsShortSearch (rows visits : ℕ) : Type 0 where
   pub at_most : visits ≤ height
   pub enough : least height ≤ rows
   pub none : visits ≡ 0 → rows ≡ 0
+
+-- a call at two rows leaves the keys of both
+abbrev pub KeepsKeys : {F V R : Type 0} → (V → ℕ) → Mut F (MutBor V × (MutBor V × Unit {0})) (R × (MutBor V × (MutBor V × Unit {0}))) → Type 0
+KeepsKeys {F} {V} {R} key c = (f : F) (x y : V) (r : R) (f' : F) (x' y' : V) → CalledAtPairMut c f x y r f' x' y' → (key x' ≡ key x) × (key y' ≡ key y)
+
+-- a call of f at the rows of two keys gave r, left f', and left other rows there
+pub record ChangedRows {F V R : Type 0} (key : V → ℕ) (c : Mut F (MutBor V × (MutBor V × Unit {0})) (R × (MutBor V × (MutBor V × Unit {0})))) (a b : ℕ) (rows : List V) (f : F) (r : R) (f' : F) (later : List V) : Type 0 where
+  pub row : V
+  pub left : V
+  pub other : V
+  pub other_left : V
+  pub found : find (λ x. key x == a) rows ≡ Some row
+  pub other_found : find (λ x. key x == b) rows ≡ Some other
+  pub called : CalledAtPairMut c f row other r f' left other_left
+  pub written : later ≡ replaced key other_left (replaced key left rows)

@@ -9,8 +9,8 @@ ghost use Rattle.tb_ledger.specs.Kept.{books_in, IsKept};
 ghost use Rattle.tb_ledger.specs.Verdicts.{account_verdict, balanced_between, failed_lines, filled, filled_from, first_of, resolve_code, resolve_lines_of, single_code, transfer_exists};
 
 use crate::judging::{
-    account_new, account_own, account_there, between, closed, filled, resolve_named, resolve_own,
-    single_own, transfer_own, transfer_there,
+    account_new, account_own, account_there, closed, filled, resolve_named, resolve_own,
+    transfer_own, transfer_there,
 };
 use crate::rows::{AccountRow, Rows, TransferRow};
 use std::alloc::Allocator;
@@ -77,50 +77,6 @@ pub(crate) fn id_code<A: Allocator + Clone>(rows: &Rows<A>, t: &Transfer) -> u32
     match rows.transfers.get(t.id) {
         Some(e) => repeated(rows, t, &e.recorded),
         None => failed_code(rows, t),
-    }
-}
-
-/// A transfer between two accounts that passes: the rows of both, and the amount that it moves.
-#[derive(Clone, Copy)]
-pub(crate) struct Exchange<'a> {
-    pub debit: &'a AccountRow,
-    pub credit: &'a AccountRow,
-    pub amount: u128,
-}
-
-/// The verdict on a transfer between two accounts, once its id is free: a code, or what it exchanges. Each account is looked
-/// up once, and neither where the transfer is wrong by itself.
-pub(crate) fn exchanged<'a, A: Allocator + Clone>(
-    rows: &'a Rows<A>,
-    t: &Transfer,
-    time: u64,
-) -> Result<Exchange<'a>, u32>
-    requires { IsKept rows.now }
-    ensures code { MatchResult result (λ x. single_code (books_in rows.now) t.now time ≡ 0) (λ code. single_code (books_in rows.now) t.now time ≡ code) }
-    ensures refused { IfErr result (λ code. code ≢ 0) }
-    ensures debit { IfOk result (λ x. find (λ a. a.created.id == t.now.debit_account_id) rows.now.accounts.0 ≡ Some x.debit.now) }
-    ensures credit { IfOk result (λ x. find (λ a. a.created.id == t.now.credit_account_id) rows.now.accounts.0 ≡ Some x.credit.now) }
-    ensures amount { IfOk result (λ x. x.amount ≡ balanced_between (account_now (books_in rows.now) t.now.debit_account_id) (account_now (books_in rows.now) t.now.credit_account_id) t.now) }
-{
-    let code = single_own(t);
-    if code != 0 {
-        return Err(code);
-    }
-    let debit = match rows.accounts.get(t.debit_account_id) {
-        Some(d) => d,
-        None => return Err(21),
-    };
-    let credit = match rows.accounts.get(t.credit_account_id) {
-        Some(c) => c,
-        None => return Err(22),
-    };
-    match between(debit, credit, t, time) {
-        Ok(amount) => Ok(Exchange {
-            debit,
-            credit,
-            amount,
-        }),
-        Err(code) => Err(code),
     }
 }
 

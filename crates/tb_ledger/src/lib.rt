@@ -5,6 +5,7 @@ mod batching;
 mod chains;
 mod deciding;
 mod events;
+mod exchanging;
 mod expiry;
 mod judging;
 pub mod laws;

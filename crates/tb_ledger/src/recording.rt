@@ -8,11 +8,11 @@ ghost use Rattle.tb_ledger.specs.Groups.{id_verdict};
 ghost use Rattle.tb_ledger.specs.Kept.{books_in, IsKept};
 ghost use Rattle.tb_ledger.specs.Trail.{IsStep};
 
-use crate::deciding::{
-    Exchange, Resolution, account_code, exchanged, id_code, resolved, resolving,
-};
+use crate::deciding::{Resolution, account_code, id_code, resolved, resolving};
+use crate::exchanging::exchange;
+use crate::judging::single_own;
 use crate::rows::Rows;
-use crate::settling::{add_single, record_account, settle};
+use crate::settling::{add_row, record_account, row_of, settle};
 use crate::undo::{TRAIL_PER_EVENT, Undo};
 use std::alloc::Allocator;
 use tb_records::{Account, Transfer};
@@ -64,19 +64,20 @@ fn take_single<A: Allocator + Clone>(
     ensures room { rows.old.transfers.1 ≤ rows.new.transfers.1 + 1 }
     ensures timeouts_room { rows.old.timeouts.1 ≤ rows.new.timeouts.1 + 1 }
 {
-    match exchanged(rows, t, time) {
-        Ok(found) => {
-            let Exchange {
-                debit,
-                credit,
-                amount,
-            } = found;
-            let debit = *debit;
-            let credit = *credit;
+    let code = single_own(t);
+    if code != 0 {
+        return code;
+    }
+    match exchange(&mut rows.accounts, t, time) {
+        Ok(passed) => {
+            trail.push_reserved(Undo::Account(passed.debit));
+            trail.push_reserved(Undo::Account(passed.credit));
             let mut recorded = *t;
-            recorded.amount = amount;
+            recorded.amount = passed.amount;
             recorded.timestamp = time;
-            add_single(rows, trail, &debit, &credit, &recorded);
+            rows.timeouts.ordered();
+            let row = row_of(recorded);
+            add_row(&mut rows.transfers, &mut rows.timeouts, trail, &row);
             0
         }
         Err(code) => code,

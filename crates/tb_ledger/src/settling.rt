@@ -34,7 +34,7 @@ fn posted_part(t: &Transfer) -> u128
     }
 }
 
-fn gain_side(s: Side, t: &Transfer, closes: bool) -> Side
+pub(crate) fn gain_side(s: Side, t: &Transfer, closes: bool) -> Side
     requires { s.pending + s.posted + t.now.amount ≤ max_id }
     ensures { result ≡ gained (λ _. closes) t.now s }
 {
@@ -85,46 +85,6 @@ fn change<A: Allocator + Clone>(
     accounts.replace(new);
 }
 
-fn gain_debit<A: Allocator + Clone>(
-    accounts: &mut Table<AccountRow, A>,
-    trail: &mut Vec<Undo, A>,
-    old: &AccountRow,
-    t: &Transfer,
-)
-    requires room { vec_len trail.old < vec_capacity trail.old }
-    requires found { find (λ a. a.created.id == t.now.debit_account_id) accounts.old.0 ≡ Some old.now }
-    requires takes { old.now.debits.pending + old.now.debits.posted + t.now.amount ≤ max_id }
-    ensures accounts { accounts.new ≡ (changed account_row_key t.now.debit_account_id (on_debits (gained closing_debit t.now)) accounts.old.0, accounts.old.1) }
-    ensures noted { IsNoted 1 accounts.old.0 accounts.new.0 trail.old trail.new }
-{
-    let new = AccountRow {
-        created: old.created,
-        debits: gain_side(old.debits, t, t.flags & 64 != 0),
-        credits: old.credits,
-    };
-    change(accounts, trail, old, new);
-}
-
-fn gain_credit<A: Allocator + Clone>(
-    accounts: &mut Table<AccountRow, A>,
-    trail: &mut Vec<Undo, A>,
-    old: &AccountRow,
-    t: &Transfer,
-)
-    requires room { vec_len trail.old < vec_capacity trail.old }
-    requires found { find (λ a. a.created.id == t.now.credit_account_id) accounts.old.0 ≡ Some old.now }
-    requires takes { old.now.credits.pending + old.now.credits.posted + t.now.amount ≤ max_id }
-    ensures accounts { accounts.new ≡ (changed account_row_key t.now.credit_account_id (on_credits (gained closing_credit t.now)) accounts.old.0, accounts.old.1) }
-    ensures noted { IsNoted 1 accounts.old.0 accounts.new.0 trail.old trail.new }
-{
-    let new = AccountRow {
-        created: old.created,
-        debits: old.debits,
-        credits: gain_side(old.credits, t, t.flags & 128 != 0),
-    };
-    change(accounts, trail, old, new);
-}
-
 fn settle_debit<A: Allocator + Clone>(
     accounts: &mut Table<AccountRow, A>,
     trail: &mut Vec<Undo, A>,
@@ -172,7 +132,7 @@ fn settle_credit<A: Allocator + Clone>(
 }
 
 // The row of a transfer that is new: a pending one is open.
-fn row_of(recorded: Transfer) -> TransferRow
+pub(crate) fn row_of(recorded: Transfer) -> TransferRow
     ensures row { result ≡ new_transfer_row recorded }
     ensures fits { recorded.id ≤ max_id }
 {
@@ -183,7 +143,7 @@ fn row_of(recorded: Transfer) -> TransferRow
 }
 
 // Adds the row of a transfer, and its timeout where it has one.
-fn add_row<A: Allocator + Clone>(
+pub(crate) fn add_row<A: Allocator + Clone>(
     transfers: &mut Table<TransferRow, A>,
     timeouts: &mut Timeouts<A>,
     trail: &mut Vec<Undo, A>,
@@ -282,39 +242,6 @@ pub fn record_account<A: Allocator + Clone>(
     ensures timeouts_room { rows.new.timeouts.1 ≡ rows.old.timeouts.1 }
 {
     add_account_row(&mut rows.accounts, trail, a);
-}
-
-/// Records a transfer that is no post or void, as it is recorded: balanced and stamped. The rows of its accounts, as they
-/// stand before it, are handed in.
-pub fn add_single<A: Allocator + Clone>(
-    rows: &mut Rows<A>,
-    trail: &mut Vec<Undo, A>,
-    debit: &AccountRow,
-    credit: &AccountRow,
-    t: &Transfer,
-)
-    requires kept { IsKept rows.old }
-    requires room { 0 < rows.old.transfers.1 }
-    requires timeouts_room { 0 < rows.old.timeouts.1 }
-    requires trail_room { vec_len trail.old + TRAIL_PER_EVENT ≤ vec_capacity trail.old }
-    requires fresh { transfer_at (books_in rows.old) t.now.id ≡ None }
-    requires single { resolves t.now ≡ false }
-    requires stamped { rows.old.time < t.now.timestamp + 1000000000 }
-    requires moves { Moves (books_in rows.old) t.now }
-    requires debit { find (λ a. a.created.id == t.now.debit_account_id) rows.old.accounts.0 ≡ Some debit.now }
-    requires credit { find (λ a. a.created.id == t.now.credit_account_id) rows.old.accounts.0 ≡ Some credit.now }
-    ensures kept { IsKept rows.new }
-    ensures books { books_in rows.new ≡ record (books_in rows.old) { transfers = put transfer_key t.now (books_in rows.old).transfers } }
-    ensures step { IsStep TRAIL_PER_EVENT rows.old rows.new trail.old trail.new }
-    ensures accounts_room { rows.new.accounts.1 ≡ rows.old.accounts.1 }
-    ensures transfers_room { rows.new.transfers.1 + 1 ≡ rows.old.transfers.1 }
-    ensures timeouts_room { rows.old.timeouts.1 ≤ rows.new.timeouts.1 + 1 }
-{
-    gain_debit(&mut rows.accounts, trail, debit, t);
-    gain_credit(&mut rows.accounts, trail, credit, t);
-    rows.timeouts.ordered();
-    let row = row_of(*t);
-    add_row(&mut rows.transfers, &mut rows.timeouts, trail, &row);
 }
 
 /// Records a post or void, filled and stamped, of the pending transfer `p`. The rows of its accounts, as they stand before it,

@@ -1,10 +1,10 @@
 //! A finite map: rows by rising key, in a balanced tree.
-ghost use Rattle.std.specs.Prelude.{◌≡◌, ℕ, ◌+◌, ◌-◌, ◌<◌, ◌≤◌, ◌==◌, List, [], length, None, find, OnOk};
+ghost use Rattle.std.specs.Prelude.{◌≡◌, ◌≢◌, ◌⊎◌, ℕ, ◌+◌, ◌-◌, ◌<◌, ◌≤◌, ◌==◌, List, [], length, None, find, OnOk, IfSome, IfNone};
 ghost use Rattle.std.specs.Option.{option_copied};
 ghost use Rattle.std.specs.Map.{values_of};
 ghost use Rattle.tb_records.specs.Ordered.{put, replaced, taken_out, Rising};
 ghost use Rattle.avl_tree.specs.Map.{entries};
-ghost use Rattle.tb_ledger.specs.Tables.{IsTable, IsShortSearch};
+ghost use Rattle.tb_ledger.specs.Tables.{IsTable, IsShortSearch, KeepsKeys, ChangedRows};
 
 use avl_tree::AvlMap;
 use std::alloc::{AllocError, Allocator};
@@ -85,6 +85,25 @@ fn replace_row<V: Keyed, A: Allocator + Clone>(rows: &mut AvlMap<u128, V, A>, ro
     let _ = rows.set(row.key(), row);
 }
 
+// Calls the closure at the rows of two keys, where both are there.
+fn update_rows<V: Keyed, A: Allocator + Clone, R, F: FnMut(&mut V, &mut V) -> R>(
+    rows: &mut AvlMap<u128, V, A>,
+    a: u128,
+    b: u128,
+    f: &mut F,
+) -> Option<R>
+    requires table { IsTable V.key (entries rows.old) }
+    requires differ { a ≢ b }
+    requires callable { F.IsAlwaysCallable f.old }
+    requires keeps { KeepsKeys V.key F.FnMut }
+    ensures table { IsTable V.key (entries rows.new) }
+    ensures changed { IfSome result (λ r. ChangedRows V.key F.FnMut a b (values_of (entries rows.old)) f.old r f.new (values_of (entries rows.new))) }
+    ensures absent { IfNone result (((find (λ y. V.key y == a) (values_of (entries rows.old)) ≡ None) ⊎ (find (λ y. V.key y == b) (values_of (entries rows.old)) ≡ None)) × (values_of (entries rows.new) ≡ values_of (entries rows.old))) }
+    ensures room { rows.new.spare ≡ rows.old.spare }
+{
+    rows.update_two(&a, &b, f)
+}
+
 // Takes the row with the key out, if there is one. Its node becomes spare.
 fn remove_row<V: Keyed, A: Allocator + Clone>(rows: &mut AvlMap<u128, V, A>, id: u128)
     requires table { IsTable V.key (entries rows.old) }
@@ -162,6 +181,26 @@ impl<V: Keyed, A: Allocator + Clone> Table<V, A> {
         match &mut self.rows {
             Some(rows) => replace_row(rows, row),
             None => {}
+        }
+    }
+
+    /// Calls the closure at the rows of two keys, which it may change but for the keys. Where one has none, nothing happens.
+    pub fn update_two<R, F: FnMut(&mut V, &mut V) -> R>(
+        &mut self,
+        a: u128,
+        b: u128,
+        f: &mut F,
+    ) -> Option<R>
+        requires differ { a ≢ b }
+        requires callable { F.IsAlwaysCallable f.old }
+        requires keeps { KeepsKeys V.key F.FnMut }
+        ensures changed { IfSome result (λ r. ChangedRows V.key F.FnMut a b self.old.0 f.old r f.new self.new.0) }
+        ensures absent { IfNone result (((find (λ y. V.key y == a) self.old.0 ≡ None) ⊎ (find (λ y. V.key y == b) self.old.0 ≡ None)) × (self.new.0 ≡ self.old.0)) }
+        ensures room { self.new.1 ≡ self.old.1 }
+    {
+        match &mut self.rows {
+            Some(rows) => update_rows(rows, a, b, f),
+            None => None,
         }
     }
 
