@@ -20,6 +20,7 @@ import time
 
 MAX = 2**128 - 1  # as the amount of a post: all of the pending amount
 ITEMS_MAX = 8190
+NUMBER_MAX = 2**32 - 1
 HEADER = 48
 
 
@@ -516,6 +517,8 @@ class Session:
             raise InDoubt("the last request has no reply yet")
         if len(items) > ITEMS_MAX:
             raise ValueError(f"a request has at most {ITEMS_MAX} items")
+        if self.number == NUMBER_MAX:
+            raise ValueError("the session has used its last number: register anew")
         body = b"".join(_u128(it) if isinstance(it, int) else it.to_bytes() for it in items)
         number = 0 if operation == Operation.register else self.number + 1
         self.pending = request_frame(self.client, self.session, number, operation, body)
@@ -559,7 +562,10 @@ def _said(operation, body):
     if operation == Operation.lookup_transfers:
         return _items(body, 128, Transfer.from_bytes)
     names = CreateAccountResult if operation == Operation.create_accounts else CreateTransferResult
-    return [EventResult(index, names(result)) for index, result in _items(body, 8, struct.Struct("<II").unpack)]
+    try:
+        return [EventResult(index, names(result)) for index, result in _items(body, 8, struct.Struct("<II").unpack)]
+    except ValueError as unknown:
+        raise BadReply(str(unknown)) from None
 
 
 def require_ok(results):

@@ -106,9 +106,12 @@ class Retries(unittest.TestCase):
         for wrong in (lambda frame: reply(other), lambda frame: reply(frame, session=2), lambda frame: reply(frame, status=9), lambda frame: reply(frame, body=b"1234567")):
             session = self.session(wrong)
             self.assertRaises(tb.BadReply, session.lookup_accounts, [1])
+        session = self.session(lambda frame: reply(frame, body=struct.pack("<II", 0, 99)))
+        self.assertRaises(tb.BadReply, session.create_transfers, [transfer(1, 1, 2, 1)])
 
     def test_too_many(self):
         self.assertRaises(ValueError, self.session(reply).lookup_accounts, [1] * 8191)
+        self.assertRaises(ValueError, self.session(reply, number=2**32 - 1).lookup_accounts, [1])
 
 
 @has_program
