@@ -1,4 +1,4 @@
-//! The calls, made as C makes them. The first two frames and their replies are those of examples/first.script.
+//! The calls, made as C makes them. The frame of a register and its reply are those of examples/first.script.
 use crate::calls::{
     tb_embed_account, tb_embed_close, tb_embed_open, tb_embed_serve, tb_embed_transfer,
 };
