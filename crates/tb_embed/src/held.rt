@@ -63,6 +63,3 @@ impl Held {
         }
     }
 }
-
-// What a handle owns is its server's box alone.
-unsafe impl Send for Held {}
