@@ -1,14 +1,13 @@
 -- A request that was served, and comes again.
-use Rattle.std.proofs.Common.{true≢false, ◌≡◌, ◌≢◌, ℕ, Bool, true, false, refl, sym, ap, ◌∙◌, subst}
-use Rattle.tb_records.specs.declared.replies.Status.{Status}
+use Rattle.std.proofs.Common.{◌≡◌, ℕ, Bool, true, false, refl, sym, ap, ◌∙◌, subst}
 use Rattle.tb_records.specs.declared.replies.Status.TheVariants as status
 use Rattle.tb_records.specs.Messages.{Message, Answer, IsLawful}
 use Rattle.tb_records.specs.ReplyFrames.{reply_bytes}
 use Rattle.tb_sessions.specs.declared.classes.Class.{Class}
 use Rattle.tb_sessions.specs.declared.classes.Class.TheVariants.{New, Repeat, NoSession, SessionTooLow, NewerSession, Older, Collision, NewerRequest}
 use Rattle.tb_sessions.specs.Judged.{row_of, class_of}
-use Rattle.tb_machine.specs.Histories.{State, is_new, step, reply_at, answer_by, answer_to}
-use Rattle.tb_machine.specs.Scripts.{Pair, entry_of, moved}
+use Rattle.tb_machine.specs.Histories.{State, is_new, step, answer_by, answer_to}
+use Rattle.tb_machine.specs.Scripts.{entry_of, moved}
 use Rattle.tb_machine.specs.Runs.{is_new_in, IsTimely, answer_bytes}
 use Rattle.tb_machine.proofs.Turns.{answer_after, moved_new, moved_known}
 use Rattle.tb_embed.specs.Calls.{IsAnsweredAgain}
