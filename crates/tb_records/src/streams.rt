@@ -43,7 +43,8 @@ impl<R: Source + Drop> RequestStream<R> {
     }
 
     /// The next request; None where the input ends before the first byte. Just the frame of what is answered is read;
-    /// after a fault of the header the body is unread. Device comes only where the reader answered an error.
+    /// after a fault of the header the body is unread. Device comes only where the reader answered an error, behind which
+    /// nothing more is asked of it.
     pub fn next_request(&mut self, alloc: Global) -> Result<Option<Request>, FrameFault>
         ensures again { (f : FrameFault) → self.old.fault ≡ Some f → (result ≡ Err f) × (self.new ≡ self.old) }
         ensures answer { self.old.fault ≡ None → Answers result (R.input self.old.source).left (R.input self.new.source).left }

@@ -147,7 +147,8 @@ pub fn write_request(request: &Request, out: &mut Vec<u8>) -> Result<(), AllocEr
     Ok(())
 }
 
-/// Appends a reply's frame. AllocError where there is no room for all of it: the vector keeps its bytes, and gets none.
+/// Appends a reply's frame. AllocError where there is no room for all of it: the vector keeps its bytes, and gets none. That
+/// the reply's numbers fit, as the clause `only` of `read_reply` asks, is said of what was written.
 pub fn write_reply(reply: &Reply, out: &mut Vec<u8>) -> Result<(), AllocError>
     ensures ok { OnOk result (out.new.items ≡ out.old.items ++ reply_bytes reply.now) }
     ensures fits { OnOk result (IsReply reply.now) }
@@ -208,7 +209,7 @@ fn send_body<W: Sink>(sink: &mut W, body: &ReplyBody) -> Result<(), FrameFault>
 }
 
 /// Writes a reply's frame to a sink. Device where the sink answers an error, or takes nothing of what is left: then a
-/// beginning of the frame went out.
+/// beginning of the frame went out, and nothing more is offered.
 pub fn send_reply<W: Sink>(sink: &mut W, reply: &Reply) -> Result<(), FrameFault>
     ensures { MatchResult result
         (λ _. Sent (reply_bytes reply.now) (W.output sink.old) (W.output sink.new))
