@@ -9,13 +9,14 @@ use Rattle.tb_records.specs.declared.faults.FrameFault.{FrameFault}
 use Rattle.tb_records.specs.declared.faults.FrameFault.TheVariants.{Short, Device}
 use Rattle.tb_records.specs.declared.limits.Profile.{Profile}
 use Rattle.tb_records.specs.declared.limits.Profile.TheVariants.{One, Two}
-use Rattle.tb_records.specs.DumpBytes.{signature, profile_number, head_bytes, numbers_bytes, IsClients, IsDumped, HasNoHead, HeadAnswers, ItemAnswers, ItemFaulted, Begins, FrameFaulted, ReadsNumbers}
+use Rattle.tb_records.specs.DumpBytes.{signature, profile_number, head_bytes, numbers_bytes, IsClients, IsDumped, HasNoHead, HeadAnswers, ItemAnswers, ItemFaulted, Begins, FrameFaulted}
+use Rattle.tb_records.specs.DumpNumbers.{ReadsNumbers}
 use Rattle.tb_records.specs.Frames.{request_bytes, request_fault, length_at, IsRequest}
 use Rattle.tb_records.specs.Inputs.{Answers, Faulted}
 use Rattle.tb_records.specs.Messages.{Message}
 use Rattle.tb_records.specs.Numbers.{le_bytes, le_at}
 use Rattle.tb_records.specs.Sizes.{length-le_bytes}
-use Rattle.tb_records.specs.Reading.{Filled, Lost}
+use Rattle.tb_records.specs.Reading.{Filled}
 use Rattle.tb_records.proofs.FrameFaults.{cut_header}
 use Rattle.tb_records.proofs.NumberBytes.{le_at-append, le_at-last, le_bytes-one, split_at, last_field}
 

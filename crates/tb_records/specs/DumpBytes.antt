@@ -1,6 +1,5 @@
 -- The bytes of a dump: a head of 16 bytes, and behind it entries and at most one mark, one after another.
 use Rattle.std.specs.Prelude.{ℕ, ◌≡◌, ◌≢◌, ◌⊎◌, ◌+◌, ◌^◌, ◌<◌, ◌≤◌, List, [], ◌∷◌, ◌++◌, length, drop, Option, Some, None, Result, Ok, Err}
-use Rattle.std.specs.Io.KnownBytes.{Consumes}
 use Rattle.tb_records.specs.declared.dumps.DumpFault.{DumpFault}
 use Rattle.tb_records.specs.declared.dumps.DumpFault.TheVariants.{Head, Mark, Frame}
 use Rattle.tb_records.specs.declared.dumps.DumpHead.{DumpHead}
@@ -118,15 +117,3 @@ ItemCounts (Ok item) before after = after.failed ≡ before.failed
 ItemCounts (Err Mark) before after = after.failed ≡ before.failed
 ItemCounts (Err (Frame fault)) before after = FaultCounts fault before after
 ItemCounts (Err fault) before after = ⊥
-
--- two numbers were read
-pub record ReadsNumbers (first second : ℕ) (before after : Option (List ℕ)) : Type 0 where
-  pub bytes : Consumes before after (numbers_bytes first second)
-  pub first_fits : first < 2 ^ 64
-  pub second_fits : second < 2 ^ 64
-
--- what is read as far as the two numbers
-abbrev pub NumbersAnswers : Result (Option (ℕ × ℕ)) FrameFault → Option (List ℕ) → Option (List ℕ) → Type 0
-NumbersAnswers (Ok None) before after = ItemAnswers (Ok None) before after
-NumbersAnswers (Ok (Some numbers)) before after = ReadsNumbers numbers.0 numbers.1 before after
-NumbersAnswers (Err fault) before after = ItemAnswers (Err (Frame fault)) before after

@@ -16,4 +16,5 @@ pub mod HeaderFields
 pub mod ReplyHeaders
 pub mod ReplyTests
 pub mod Reading
+pub mod DumpNumbers
 pub mod Sizes

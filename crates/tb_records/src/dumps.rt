@@ -1,6 +1,7 @@
 //! The bytes of a dump: its head, and behind it the entries of a history and at most one mark among them.
 ghost use Rattle.std.specs.Prelude.{◌≡◌, IfSome, MatchResult, None, length};
-ghost use Rattle.tb_records.specs.DumpBytes.{head_bytes, entry_bytes, mark_bytes, numbers_bytes, profile_number, HasNoHead, HeadAnswers, HeadCounts, IsClients, ItemAnswers, ItemCounts, NumbersAnswers};
+ghost use Rattle.tb_records.specs.DumpBytes.{head_bytes, entry_bytes, mark_bytes, numbers_bytes, profile_number, HasNoHead, HeadAnswers, HeadCounts, IsClients, ItemAnswers, ItemCounts};
+ghost use Rattle.tb_records.specs.DumpNumbers.{NumbersAnswers};
 ghost use Rattle.tb_records.specs.DumpFaults.{dump_fault_name, dump_fault_number};
 ghost use Rattle.tb_records.specs.Transport.{Counts, CutOff, Sent};
 
