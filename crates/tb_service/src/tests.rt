@@ -9,10 +9,9 @@ use super::*;
 use std::alloc::Global;
 use std::marker::Brand;
 use std::process::Abort;
-use std::sync::Wait;
-use std::test::Fail;
-use std::sync::Arc;
 use std::sync::atomic::{AtomicU64, Ordering};
+use std::sync::{Arc, Wait};
+use std::test::Fail;
 use std::thread::{self, Threads, join};
 use tb_published::{Held, Naming, Opening, Publisher, Seat, SeatCount, TakeFault, open};
 use tb_records::{Account, Body, ClientsMax, Items, Profile, Request, Status, Transfer};
@@ -102,10 +101,7 @@ fn transfers(alloc: Global, number: u32, row: Transfer) -> Result<Request, Fail>
 }
 
 fn opening() -> Result<Opening, Fail> {
-    Ok(Opening::new(
-        Profile::One,
-        ClientsMax::new(2).ok_or("clients_max")?,
-    ))
+    Ok(Opening::new(Profile::One, ClientsMax::new(2).ok_or("clients_max")?))
 }
 
 /// A port that is sure to hand its request over.
@@ -182,11 +178,7 @@ fn places<J: Naming>(finished: &mut Finished<J>, closed: Closed) -> Option<Vec<u
 }
 
 /// Two ports offer by turns, and both are closed before the server runs.
-fn fill_two<J: Naming, R: Wait + Abort>(
-    rt: &R,
-    alloc: Global,
-    opening: Opening,
-) -> Result<(), Fail>
+fn fill_two<J: Naming, R: Wait + Abort>(rt: &R, alloc: Global, opening: Opening) -> Result<(), Fail>
     requires { opening ≡ J.opening }
 {
     let count = ports(2)?;
@@ -582,7 +574,7 @@ fn repeat_in_reverse<J: Naming + Send + Sync, R: Threads + Wait + Abort + Sync>(
     let (mut finished, ((first, settled), second)) = join(
         rt,
         move || -> Finished<J>
-            ensures { service_at result ≡ service_on server }
+            ensures { service_at result ≡ service_on server.entry }
         { server.run(rt) },
         move || -> ((Closed, bool), Closed)
             ensures { (service_by result.0.0 ≡ service first) × (service_by result.1 ≡ service second) }

@@ -180,7 +180,10 @@ pub fn read_storm(words: &[String]) -> Option<(u32, u32)>
     if word.as_str() != "storm" {
         return None;
     }
-    match (number(clients.as_bytes(), 1, 16), number(transfers.as_bytes(), 1, 1000)) {
+    match (
+        number(clients.as_bytes(), 1, 16),
+        number(transfers.as_bytes(), 1, 1000),
+    ) {
         (Some(clients), Some(transfers)) => Some((clients as u32, transfers as u32)),
         _ => None,
     }

@@ -75,7 +75,14 @@ fn main(rt: HostRuntime) -> ExitCode {
         Ok(words) => match read_storm(words.as_slice()) {
             Some((clients, transfers)) => {
                 let mut writer = Counting::new(rt.stdout());
-                storm::storm(&rt, rt.alloc(), clients, transfers, &mut writer, &mut faults)
+                storm::storm(
+                    &rt,
+                    rt.alloc(),
+                    clients,
+                    transfers,
+                    &mut writer,
+                    &mut faults,
+                )
             }
             None => serve(&rt, words.as_slice(), &mut faults),
         },

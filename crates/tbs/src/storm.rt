@@ -72,9 +72,11 @@ fn create_all<J: Naming + Send + Sync, R: Threads + Wait + Sync>(
     clients: Vec<Client<J>>,
     scale: Scale,
 ) -> Result<(), StormFault> {
-    let outcomes = thread::map_vec(rt, clients, &|client: Client<J>| {
-        client.create_transfers(rt, scale.transfers)
-    })?;
+    let outcomes = thread::map_vec(
+        rt,
+        clients,
+        &|client: Client<J>| { client.create_transfers(rt, scale.transfers) },
+    )?;
     first_fault(outcomes.as_slice())
 }
 
