@@ -1,0 +1,8 @@
+use Rattle.tb_bench.proofs.main.Given as goal
+
+-- the opening that was just made
+abbrev pub ghosts-measure : goal.ghosts-measure
+ghosts-measure g a = record { opening = a.opening }
+
+abbrev pub ghosts-measure-2 : goal.ghosts-measure-2
+ghosts-measure-2 g a = record { opening = a.opening }

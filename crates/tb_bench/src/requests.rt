@@ -1,0 +1,75 @@
+//! The requests of a measure: client 7 creates accounts 1 to 1000, and transfers between them with rising ids.
+use anyhow::Error;
+use std::alloc::Global;
+use tb_records::{Account, Body, Items, Request, Transfer};
+
+/// The number of accounts.
+const ACCOUNTS: u32 = 1000;
+
+fn account(id: u128) -> Account {
+    Account {
+        id,
+        debits_pending: 0,
+        debits_posted: 0,
+        credits_pending: 0,
+        credits_posted: 0,
+        user_data_128: 0,
+        user_data_64: 0,
+        user_data_32: 0,
+        reserved: 0,
+        ledger: 700,
+        code: 10,
+        flags: 0,
+        timestamp: 0,
+    }
+}
+
+fn transfer(id: u64) -> Transfer {
+    let debit = id % u64::from(ACCOUNTS);
+    Transfer {
+        id: u128::from(id),
+        debit_account_id: u128::from(debit) + 1,
+        credit_account_id: u128::from(u64::from(ACCOUNTS) - debit),
+        amount: 1,
+        pending_id: 0,
+        user_data_128: 0,
+        user_data_64: 0,
+        user_data_32: 0,
+        timeout: 0,
+        ledger: 700,
+        code: 10,
+        flags: 0,
+        timestamp: 0,
+    }
+}
+
+/// The two requests that come first: a register, and the accounts.
+pub fn first_requests(alloc: Global) -> Result<Vec<Request>, Error> {
+    let mut accounts = Vec::with_capacity(alloc, ACCOUNTS as usize)?;
+    for id in 1..=ACCOUNTS {
+        accounts.push(account(u128::from(id)))?;
+    }
+    let mut all = Vec::new(alloc);
+    all.push(Request::new(7, 0, 0, Body::Register)?)?;
+    all.push(Request::new(7, 1, 1, Body::CreateAccounts(Items::new(accounts)))?)?;
+    Ok(all)
+}
+
+/// Requests with the numbers from `number` on, of so many transfers each.
+pub fn round(alloc: Global, number: u32, requests: u32, each: u32) -> Result<Vec<Request>, Error> {
+    let mut all = Vec::with_capacity(alloc, requests as usize)?;
+    for k in number..number.saturating_add(requests) {
+        all.push(batch(alloc, k, each)?)?;
+    }
+    Ok(all)
+}
+
+/// The request of a number, of so many transfers.
+fn batch(alloc: Global, number: u32, each: u32) -> Result<Request, Error> {
+    let mut transfers = Vec::with_capacity(alloc, each as usize)?;
+    let first = u64::from(number) * u64::from(each);
+    for k in 0..each {
+        transfers.push(transfer(first.saturating_add(u64::from(k))))?;
+    }
+    Ok(Request::new(7, 1, number, Body::CreateTransfers(Items::new(transfers)))?)
+}
