@@ -140,7 +140,7 @@ fn storm_over<J: Naming + Send + Sync, R: Threads + Wait + Sync>(
     if ended == Ended::NoMemory {
         return Err(StormFault::NoMemory);
     }
-    outcome?;
+    first_fault(&[outcome, totals.map(|_| ())])?;
     totals
 }
 
