@@ -8,17 +8,17 @@ ghost use Rattle.tb_ledger.specs.Groups.{id_verdict};
 ghost use Rattle.tb_ledger.specs.Kept.{books_in, IsKept};
 ghost use Rattle.tb_ledger.specs.Trail.{IsStep};
 
-use crate::deciding::{Resolution, account_code, id_code, resolved, resolving};
-use crate::exchanging::exchange;
-use crate::judging::single_own;
+use crate::deciding::{
+    Exchange, Resolution, account_code, exchanged, id_code, resolved, resolving,
+};
 use crate::rows::Rows;
-use crate::settling::{add_row, record_account, row_of, settle};
+use crate::settling::{add_single, record_account, settle};
 use crate::undo::{TRAIL_PER_EVENT, Undo};
 use std::alloc::Allocator;
 use tb_records::{Account, Transfer};
 
 /// Judges an account, and records it with its timestamp where the verdict is 0.
-pub(crate) fn take_account<A: Allocator + Clone>(
+pub(crate) fn take_account<A: Allocator>(
     rows: &mut Rows<A>,
     trail: &mut Vec<Undo, A>,
     a: &Account,
@@ -44,7 +44,7 @@ pub(crate) fn take_account<A: Allocator + Clone>(
 }
 
 /// Judges a transfer between two accounts whose id is free, and records it, balanced and stamped, where the verdict is 0.
-fn take_single<A: Allocator + Clone>(
+fn take_single<A: Allocator>(
     rows: &mut Rows<A>,
     trail: &mut Vec<Undo, A>,
     t: &Transfer,
@@ -52,7 +52,6 @@ fn take_single<A: Allocator + Clone>(
 ) -> u32
     requires kept { IsKept rows.old }
     requires room { 0 < rows.old.transfers.1 }
-    requires timeouts_room { 0 < rows.old.timeouts.1 }
     requires trail_room { vec_len trail.old + TRAIL_PER_EVENT ≤ vec_capacity trail.old }
     requires stamped { rows.old.time < time + 1000000000 }
     requires free { id_verdict (books_in rows.old) t.now ≡ 0 }
@@ -62,22 +61,20 @@ fn take_single<A: Allocator + Clone>(
     ensures kept { IsKept rows.new }
     ensures step { IsStep TRAIL_PER_EVENT rows.old rows.new trail.old trail.new }
     ensures room { rows.old.transfers.1 ≤ rows.new.transfers.1 + 1 }
-    ensures timeouts_room { rows.old.timeouts.1 ≤ rows.new.timeouts.1 + 1 }
 {
-    let code = single_own(t);
-    if code != 0 {
-        return code;
-    }
-    match exchange(&mut rows.accounts, t, time) {
-        Ok(passed) => {
-            trail.push_reserved(Undo::Account(passed.debit));
-            trail.push_reserved(Undo::Account(passed.credit));
+    match exchanged(rows, t, time) {
+        Ok(found) => {
+            let Exchange {
+                debit,
+                credit,
+                amount,
+            } = found;
+            let debit = *debit;
+            let credit = *credit;
             let mut recorded = *t;
-            recorded.amount = passed.amount;
+            recorded.amount = amount;
             recorded.timestamp = time;
-            rows.timeouts.ordered();
-            let row = row_of(recorded);
-            add_row(&mut rows.transfers, &mut rows.timeouts, trail, &row);
+            add_single(rows, trail, &debit, &credit, &recorded);
             0
         }
         Err(code) => code,
@@ -85,7 +82,7 @@ fn take_single<A: Allocator + Clone>(
 }
 
 /// Judges a post or void whose id is free, and records it, filled and stamped, where the verdict is 0.
-fn take_resolving<A: Allocator + Clone>(
+fn take_resolving<A: Allocator>(
     rows: &mut Rows<A>,
     trail: &mut Vec<Undo, A>,
     t: &Transfer,
@@ -101,7 +98,6 @@ fn take_resolving<A: Allocator + Clone>(
     ensures kept { IsKept rows.new }
     ensures step { IsStep TRAIL_PER_EVENT rows.old rows.new trail.old trail.new }
     ensures room { rows.old.transfers.1 ≤ rows.new.transfers.1 + 1 }
-    ensures timeouts_room { rows.old.timeouts.1 ≤ rows.new.timeouts.1 + 1 }
 {
     match resolved(rows, t) {
         Ok(found) => {
@@ -123,7 +119,7 @@ fn take_resolving<A: Allocator + Clone>(
 }
 
 /// Judges a transfer, and records it where the verdict is 0.
-pub(crate) fn take_transfer<A: Allocator + Clone>(
+pub(crate) fn take_transfer<A: Allocator>(
     rows: &mut Rows<A>,
     trail: &mut Vec<Undo, A>,
     t: &Transfer,
@@ -131,7 +127,6 @@ pub(crate) fn take_transfer<A: Allocator + Clone>(
 ) -> u32
     requires kept { IsKept rows.old }
     requires room { 0 < rows.old.transfers.1 }
-    requires timeouts_room { 0 < rows.old.timeouts.1 }
     requires trail_room { vec_len trail.old + TRAIL_PER_EVENT ≤ vec_capacity trail.old }
     requires stamped { rows.old.time < time + 1000000000 }
     ensures code { result ≡ transfer_events.verdict (books_in rows.old) t.now time }
@@ -139,7 +134,6 @@ pub(crate) fn take_transfer<A: Allocator + Clone>(
     ensures kept { IsKept rows.new }
     ensures step { IsStep TRAIL_PER_EVENT rows.old rows.new trail.old trail.new }
     ensures room { rows.old.transfers.1 ≤ rows.new.transfers.1 + 1 }
-    ensures timeouts_room { rows.old.timeouts.1 ≤ rows.new.timeouts.1 + 1 }
 {
     let code = id_code(rows, t);
     if code != 0 {
@@ -160,7 +154,7 @@ fn final_code(code: u32) -> bool
 }
 
 /// By profile 2, notes the id of a transfer that has failed for good.
-pub(crate) fn note_failed<A: Allocator + Clone>(rows: &mut Rows<A>, t: &Transfer, code: u32)
+pub(crate) fn note_failed<A: Allocator>(rows: &mut Rows<A>, t: &Transfer, code: u32)
     requires kept { IsKept rows.old }
     requires ids { rows.old.keeps_failed ≡ true → 1 ≤ rows.old.failed.1 }
     requires fresh { is_final code ≡ true → option_map_or (list_any (λ id. id == t.now.id)) (books_in rows.old).failed false ≡ false }
@@ -168,7 +162,6 @@ pub(crate) fn note_failed<A: Allocator + Clone>(rows: &mut Rows<A>, t: &Transfer
     ensures kept { IsKept rows.new }
     ensures accounts { rows.new.accounts ≡ rows.old.accounts }
     ensures transfers { rows.new.transfers ≡ rows.old.transfers }
-    ensures timeouts { rows.new.timeouts ≡ rows.old.timeouts }
     ensures ids { (n : ℕ) → (rows.old.keeps_failed ≡ true → 1 + n ≤ rows.old.failed.1) → rows.new.keeps_failed ≡ true → n ≤ rows.new.failed.1 }
     ensures time { rows.new.time ≡ rows.old.time }
 {

@@ -1,4 +1,3 @@
-pub mod Entries
-pub mod Index
+pub mod Places
+pub mod RowPlaces
 pub mod LaterRows
-pub mod LookUps

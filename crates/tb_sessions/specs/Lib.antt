@@ -1,3 +1,2 @@
 pub mod Admission
-pub mod Indexed
 pub mod Judged
