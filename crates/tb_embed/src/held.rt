@@ -63,3 +63,6 @@ impl Held {
         }
     }
 }
+
+// What a handle owns is its server's box alone.
+unsafe impl Send for Held {}

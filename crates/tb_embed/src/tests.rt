@@ -54,9 +54,13 @@ fn expect_opened(rt: &impl Abort, alloc: Global, server: &mut TbServer) {
     assert_eq!(rt; tb_embed_open(alloc, server, 1, 2), 0);
 }
 
+/// Takes what may go to another thread.
+fn expect_send<T: Send>(_: &T) {}
+
 #[test]
 fn opened_and_closed(rt: HostRuntime) -> Result<(), Fail> {
     let mut server = TbServer::closed(rt.alloc());
+    expect_send(&server);
     expect_opened(&rt, rt.alloc(), &mut server);
     tb_embed_close(rt.alloc(), &mut server);
     Ok(())
