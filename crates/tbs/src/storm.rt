@@ -53,51 +53,48 @@ fn make_clients<J: Naming>(
     Ok(made)
 }
 
-/// The first fault of a seat, or else that a client gave up.
-fn first_fault(outcomes: &[Result<(), StormFault>]) -> Result<(), StormFault> {
+/// Of two outcomes the first fault; that a client gave up comes behind any other.
+fn first_fault(
+    first: Result<(), StormFault>,
+    next: Result<(), StormFault>,
+) -> Result<(), StormFault> {
+    match (first, next) {
+        (Ok(()), next) => next,
+        (Err(StormFault::GaveUp), Err(fault)) => Err(fault),
+        (first, _) => first,
+    }
+}
+
+/// Closes the ports, and tells the first fault of the clients.
+fn close_all<J: Naming, R: Wait>(rt: &R, clients: Vec<Client<J>>) -> Result<(), StormFault> {
     let mut first = Ok(());
-    for outcome in outcomes {
-        match outcome {
-            Ok(()) => {}
-            Err(StormFault::GaveUp) => first = Err(StormFault::GaveUp),
-            Err(fault) => return Err(*fault),
-        }
+    for client in clients {
+        let (_, outcome) = client.close(rt);
+        first = first_fault(first, outcome);
     }
     first
 }
 
-/// All clients at once, each in a thread of its own.
-fn create_all<J: Naming + Send + Sync, R: Threads + Wait + Sync>(
-    rt: &R,
-    clients: Vec<Client<J>>,
-    scale: Scale,
-) -> Result<(), StormFault> {
-    let outcomes = thread::map_vec(
-        rt,
-        clients,
-        &|client: Client<J>| { client.create_transfers(rt, scale.transfers) },
-    )?;
-    first_fault(outcomes.as_slice())
-}
-
-/// The first client makes the accounts, and then all others their transfers. Each closes its port.
+/// The first client makes the accounts, and then all others their transfers at once, each in a thread of its own. Then all
+/// ports are closed.
 fn take_part<J: Naming + Send + Sync, R: Threads + Wait + Sync>(
     rt: &R,
     mut first: Client<J>,
-    others: Vec<Client<J>>,
+    mut others: Vec<Client<J>>,
     scale: Scale,
 ) -> (Seat<J>, Result<(), StormFault>) {
-    let made = first.create_accounts(rt, scale.clients);
-    let seat = first.close(rt);
-    match made {
-        Ok(()) => (seat, create_all(rt, others, scale)),
-        Err(fault) => {
-            for client in others {
-                client.close(rt);
-            }
-            (seat, Err(fault))
-        }
+    first.create_accounts(rt, scale.clients);
+    if first.outcome().is_ok() {
+        let threads = others.len().max(1);
+        thread::for_each_mut(
+            rt,
+            others.as_mut_slice(),
+            threads,
+            &|_, client: &mut Client<J>| { client.create_transfers(rt, scale.transfers) },
+        );
     }
+    let (seat, made) = first.close(rt);
+    (seat, first_fault(made, close_all(rt, others)))
 }
 
 /// What the first client's seat finds once it has learnt all.
@@ -140,7 +137,7 @@ fn storm_over<J: Naming + Send + Sync, R: Threads + Wait + Sync>(
     if ended == Ended::NoMemory {
         return Err(StormFault::NoMemory);
     }
-    first_fault(&[outcome, totals.map(|_| ())])?;
+    first_fault(outcome, totals.map(|_| ()))?;
     totals
 }
 

@@ -1,6 +1,13 @@
 //! The program's forms over bytes in memory: statuses, lines and replies.
+ghost use Rattle.std.specs.Prelude.{◌≤◌};
+
 use crate::commands::command;
+use crate::storm::storm;
+use std::alloc::Global;
+use std::process::Abort;
+use std::sync::Wait;
 use std::test::Fail;
+use std::thread::Threads;
 use tb_records::Counting;
 
 /// The moment 10, then the frame by which client 7 registers.
@@ -161,4 +168,42 @@ fn dump_and_replay(rt: HostRuntime) -> Result<(), Fail> {
         assert_eq!(rt; left.line.as_slice(), b"tbs: Short\n".as_slice());
     }
     Ok(())
+}
+
+/// A storm ends well, and these are its lines.
+fn expect_totals<R: Threads + Wait + Sync + Abort>(
+    rt: &R,
+    alloc: Global,
+    clients: u32,
+    transfers: u32,
+    lines: &str,
+)
+    requires few { clients ≤ 16 }
+    requires short { transfers ≤ 1000 }
+{
+    let mut writer = Counting::new(Vec::new(alloc));
+    let mut faults = Counting::new(Vec::new(alloc));
+    let status = storm(rt, alloc, clients, transfers, &mut writer, &mut faults);
+    assert!(rt; status == 0);
+    assert!(rt; writer.into_inner().as_slice() == lines.as_bytes());
+    assert!(rt; faults.into_inner().is_empty());
+}
+
+#[test]
+fn storm_totals(rt: HostRuntime) {
+    let alloc = rt.alloc();
+    expect_totals(
+        &rt,
+        alloc,
+        2,
+        3,
+        "clients 2\ncommits 10\ntransfers 6\ncredited 12\n",
+    );
+    expect_totals(
+        &rt,
+        alloc,
+        16,
+        1000,
+        "clients 16\ncommits 16018\ntransfers 16000\ncredited 8008000\n",
+    );
 }

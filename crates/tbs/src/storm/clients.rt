@@ -82,13 +82,14 @@ fn transfer(client: u32, k: u32) -> Transfer {
     }
 }
 
-/// A client: its port and its seat.
+/// A client: its port and its seat, and how it fared.
 #[derive(Drop)]
 pub struct Client<J: Naming> {
     number: u32,
     port: Port,
     seat: Seat<J>,
     alloc: Global,
+    outcome: Result<(), StormFault>,
 }
 
 impl<J: Naming> Client<J> {
@@ -106,19 +107,21 @@ impl<J: Naming> Client<J> {
             port,
             seat,
             alloc,
+            outcome: Ok(()),
         })
     }
 
-    /// Closes the port.
-    pub fn close<R: Wait>(self, rt: &R) -> Seat<J> {
+    /// Closes the port, and tells how the client fared.
+    pub fn close<R: Wait>(self, rt: &R) -> (Seat<J>, Result<(), StormFault>) {
         let Client {
             number: _,
             port,
             seat,
             alloc: _,
+            outcome,
         } = self;
         let _ = port.close(rt);
-        seat
+        (seat, outcome)
     }
 
     /// A request of this client.
@@ -153,7 +156,7 @@ impl<J: Naming> Client<J> {
     }
 
     /// Creates an account for each client, and the one that all transfers credit.
-    pub fn create_accounts<R: Wait>(&mut self, rt: &R, clients: u32) -> Result<(), StormFault> {
+    fn create_all_accounts<R: Wait>(&mut self, rt: &R, clients: u32) -> Result<(), StormFault> {
         let session = self.register(rt)?;
         let mut accounts = Vec::new(self.alloc);
         for id in 1..=clients {
@@ -163,6 +166,11 @@ impl<J: Naming> Client<J> {
         let request = self.request(session, 1, Body::CreateAccounts(Items::new(accounts)))?;
         self.settle(rt, &request)?;
         Ok(())
+    }
+
+    /// Creates the accounts of so many clients.
+    pub fn create_accounts<R: Wait>(&mut self, rt: &R, clients: u32) {
+        self.outcome = self.create_all_accounts(rt, clients);
     }
 
     /// Offers the request of its kth transfer again.
@@ -186,10 +194,13 @@ impl<J: Naming> Client<J> {
         Ok(())
     }
 
-    /// Creates so many transfers, and closes the port.
-    pub fn create_transfers<R: Wait>(mut self, rt: &R, transfers: u32) -> Result<(), StormFault> {
-        let outcome = self.create(rt, transfers);
-        self.close(rt);
-        outcome
+    /// Creates so many transfers.
+    pub fn create_transfers<R: Wait>(&mut self, rt: &R, transfers: u32) {
+        self.outcome = self.create(rt, transfers);
+    }
+
+    /// How the client fared.
+    pub fn outcome(&self) -> Result<(), StormFault> {
+        self.outcome
     }
 }
