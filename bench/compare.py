@@ -31,7 +31,7 @@ with tempfile.TemporaryDirectory() as folder:
     subprocess.run(["rustc", "-O", "-C", "target-cpu=x86-64-v2", os.path.join(here, "plain.rs"), "-o", plain], check=True)
     print(f"{'workload':10} {'events':>8} {'tbs s':>8} {'plain s':>8} {'ratio':>6} {'tbs MiB':>8} {'plain MiB':>9}  replies")
     for name in WORKLOADS:
-        count = min(size, 20000) if name in ("random", "mixed") else size
+        count = size
         script = os.path.join(folder, name)
         with open(script, "wb") as out:
             subprocess.run([sys.executable, os.path.join(here, "make_script.py"), name, str(count), "1"], stdout=out, check=True)

@@ -1,5 +1,5 @@
 -- What a verdict of 0 tells: each line of its tables fails.
-use Rattle.std.proofs.Common.{◌≡◌, ◌≢◌, ℕ, ◌+◌, ◌≤◌, Bool, true, false, not, ◌&&◌, if◌then◌else◌, eqb, ltb, ◌==◌, List, [], ◌∷◌, Option, Some, None, option_map, bit_and, bit_or, refl, sym, ap, subst, ◌∙◌, arith, ltb-false}
+use Rattle.std.proofs.Common.{◌≡◌, ◌≢◌, ℕ, ◌+◌, ◌*◌, ◌≤◌, Bool, true, false, not, ◌&&◌, if◌then◌else◌, eqb, ltb, ◌==◌, List, [], ◌∷◌, Option, Some, None, option_map, bit_and, bit_or, refl, sym, ap, subst, ◌∙◌, arith, ltb-false}
 use Rattle.std.proofs.lemmas.Bool.Decides.{nat_tests}
 use Rattle.std.proofs.lemmas.Bool.{and_parts, and_from}
 use Rattle.std.proofs.lemmas.Nat.{and_or_apart, and_or_self}
@@ -10,7 +10,7 @@ use Rattle.tb_records.proofs.ByKey.{found_key}
 use Rattle.tb_ledger.specs.declared.rows.State.{State}
 use Rattle.tb_ledger.specs.declared.rows.State.TheVariants.{Open, Posted, Voided, Expired}
 use Rattle.tb_ledger.specs.Books.{Books, has, shut, debits_limited, credits_limited, pending, posts, voids, resolves, is_open, is_posted, is_voided, is_expired, state_of, is_closed, account_at, account_now, as_it_stands, transfer_at, debits_pending, debits_posted, credits_pending, credits_posted}
-use Rattle.tb_ledger.specs.Verdicts.{Line, first_of, first_code, is_not, max_id, account_own_lines, account_exists, account_new_lines, account_verdict, transfer_own_lines, transfer_exists, failed_lines, transfer_verdict, filled, resolve_own_lines, resolve_lines_of, resolve_code, single_own_lines, pair_lines, pair_code, amount_lines, single_code, balanced_amount, balanced_between}
+use Rattle.tb_ledger.specs.Verdicts.{Line, first_of, first_code, is_not, max_id, max_time, account_own_lines, account_exists, account_new_lines, account_verdict, transfer_own_lines, transfer_exists, failed_lines, transfer_verdict, filled, resolve_own_lines, resolve_lines_of, resolve_code, single_own_lines, pair_lines, pair_code, amount_lines, single_code, balanced_amount, balanced_between}
 use Rattle.tb_ledger.specs.Sound.{Moves, Resolves}
 
 -- no line's code is 0
@@ -141,6 +141,7 @@ pair_of B t time d c d_is c_is apart ok = by (balanced_amount (as_it_stands B d)
           credit_open = closed_flag B c pair.1.1.1.0;
           debits_fit = subst (λ k. debits_pending B k + debits_posted B k + amount ≤ max_id) d_id (ltb-false max_id (debits_pending B d.id + debits_posted B d.id + amount) room.1.1.1.1.0);
           credits_fit = subst (λ k. credits_pending B k + credits_posted B k + amount ≤ max_id) c_id (ltb-false max_id (credits_pending B c.id + credits_posted B c.id + amount) room.1.1.1.1.1.0);
+          in_time = ltb-false max_time (time + t.timeout * 1000000000) room.1.1.1.1.1.1.0;
           debits_within = λ limited. subst (λ k. debits_pending B k + debits_posted B k + amount ≤ credits_posted B k) d_id (limit (debits_limited d) (debits_limited (as_it_stands B d)) (credits_posted B d.id) (debits_pending B d.id + debits_posted B d.id + amount) limited (flag_stays 2 d.flags (is_closed B d) refl) room.1.1.1.1.1.1.1.0);
           credits_within = λ limited. subst (λ k. credits_pending B k + credits_posted B k + amount ≤ debits_posted B k) c_id (limit (credits_limited c) (credits_limited (as_it_stands B c)) (debits_posted B c.id) (credits_pending B c.id + credits_posted B c.id + amount) limited (flag_stays 4 c.flags (is_closed B c) refl) room.1.1.1.1.1.1.1.1.0);
         }
@@ -156,3 +157,7 @@ moves_of B t time is ok =
     by apart None c e f z = absurd (omega arith)
     by apart (Some d) None e f z = absurd (omega arith)
     by apart (Some d) (Some c) e f z = pair_of B t time d c e f apart z
+
+-- a transfer that is right by itself names two accounts
+pub accounts_apart : (t : Transfer) → first_of (single_own_lines t) ≡ 0 → t.debit_account_id ≢ t.credit_account_id
+accounts_apart t own = other_numbers t.debit_account_id t.credit_account_id (fail (single_own_lines t) refl own).1.1.1.1.0

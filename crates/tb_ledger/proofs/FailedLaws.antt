@@ -7,6 +7,7 @@ use Rattle.tb_records.specs.declared.records.Transfer.{Transfer}
 use Rattle.tb_records.specs.Ordered.{put}
 use Rattle.tb_ledger.specs.declared.rows.AccountRow.{AccountRow}
 use Rattle.tb_ledger.specs.declared.rows.TransferRow.{TransferRow}
+use Rattle.tb_ledger.specs.declared.timeouts.Timeout.{Timeout}
 use Rattle.tb_ledger.specs.Books.{Books, resolves, transfer_at}
 use Rattle.tb_ledger.specs.Batches.{is_final, transfer_events}
 use Rattle.tb_ledger.specs.Kept.{books_of, IsLedger}
@@ -86,11 +87,11 @@ pub refused_final : (accounts : List AccountRow) (transfers : List TransferRow) 
 refused_final accounts transfers failed keeps time t code kept final = rw (kept, final) refl
 
 -- the books stay sound
-pub kept_failed : (accounts : List AccountRow) (transfers : List TransferRow) (failed later : List ℕ) (keeps : Bool) (next time : ℕ) → keeps ≡ true
-    → IsLedger accounts transfers failed keeps next time → IsLedger accounts transfers later keeps next time
-kept_failed accounts transfers failed later keeps next time kept is = record {
+pub kept_failed : (accounts : List AccountRow) (transfers : List TransferRow) (failed later : List ℕ) (keeps : Bool) (timeouts : List Timeout) (time : ℕ) → keeps ≡ true
+    → IsLedger accounts transfers failed keeps timeouts time → IsLedger accounts transfers later keeps timeouts time
+kept_failed accounts transfers failed later keeps timeouts time kept is = record {
   kept = is.kept;
-  expiries = is.expiries;
+  index = is.index;
   unused = λ unkept. absurd (cc);
   sound = sound_failed (books_of accounts transfers failed keeps time) (if keeps then Some later else None) is.sound;
 }

@@ -6,13 +6,15 @@ pub mod BatchLaws
 pub mod SoundLaws
 pub mod CuttingLaws
 pub mod MeaningLaws
-pub mod Places
+pub mod Entries
+pub mod Index
 pub mod Trails
 pub mod Parts
 pub mod Pairs
 pub mod States
 pub mod Standing
 pub mod Settled
+pub mod Passing
 pub mod Expiries
 pub mod CodeLaws
 pub mod BlockLaws

@@ -4,11 +4,12 @@ use Rattle.tb_records.specs.declared.records.Account.{Account}
 use Rattle.tb_records.proofs.ByKey.{find-map, each-find}
 use Rattle.tb_ledger.specs.declared.rows.AccountRow.{AccountRow}
 use Rattle.tb_ledger.specs.declared.rows.TransferRow.{TransferRow}
+use Rattle.tb_ledger.specs.declared.timeouts.Timeout.{Timeout}
 use Rattle.tb_ledger.specs.Books.{Books, account_now, as_it_stands, transfer_at}
 use Rattle.tb_ledger.specs.Kept.{books_of, row_now, HasSums, IsLedger}
 use Rattle.tb_ledger.proofs.Standing.{row_stands}
 
-module _ (accounts : List AccountRow) (transfers : List TransferRow) (failed : List ℕ) (keeps_failed : Bool) (next_expiry time : ℕ) (kept : IsLedger accounts transfers failed keeps_failed next_expiry time) where
+module _ (accounts : List AccountRow) (transfers : List TransferRow) (failed : List ℕ) (keeps_failed : Bool) (timeouts : List Timeout) (time : ℕ) (kept : IsLedger accounts transfers failed keeps_failed timeouts time) where
   -- the account of a row, as it stands
   pub account_read : (books : Books) (id : ℕ) (row : AccountRow) (result : Account) → books_of accounts transfers failed keeps_failed time ≡ books → Some row ≡ find (λ a. a.created.id == id) accounts → result ≡ row_now row → Some result ≡ account_now books id
   account_read books id row result books_is found is =

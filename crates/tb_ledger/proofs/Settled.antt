@@ -1,20 +1,22 @@
 -- What the code of an accepted event makes of the rows.
-use Rattle.std.proofs.Common.{◌≡◌, ◌≢◌, ℕ, ◌+◌, ◌<◌, ◌≤◌, Bool, true, false, not, ◌&&◌, eqb, ◌==◌, List, [], ◌∷◌, map, find, if◌then◌else◌, Option, Some, None, option_map, refl, sym, ap, subst, ◌∙◌, arith}
+use Rattle.std.proofs.Common.{◌≡◌, ◌≢◌, ℕ, ◌+◌, ◌<◌, ◌≤◌, Bool, true, false, eqb, ◌==◌, List, [], ◌∷◌, map, find, if◌then◌else◌, Option, Some, None, option_map, refl, sym, ap, subst, ◌∙◌, arith}
 use Rattle.std.proofs.lemmas.Bool.Decides.{nat_tests}
 use Rattle.tb_records.specs.declared.records.Account.{Account}
 use Rattle.tb_records.specs.declared.records.Transfer.{Transfer}
 use Rattle.tb_records.specs.Ordered.{put, replaced, changed, Each, Rising}
-use Rattle.tb_records.proofs.ByKey.{found_key, changed_found, changed_absent, find-changed, found-changed, find-map, each-back, each-map, each-put, each-find, each-replaced_all, map-put, map-changed, map-replaced}
+use Rattle.tb_records.proofs.ByKey.{found_key, changed_found, changed_absent, find-changed, found-changed, find-map, each-back, each-map, each-put, each-find, map-put, map-changed, map-replaced}
 use Rattle.tb_ledger.specs.declared.rows.Side.{Side}
-use Rattle.tb_ledger.specs.declared.rows.State.{State}
 use Rattle.tb_ledger.specs.declared.rows.AccountRow.{AccountRow}
 use Rattle.tb_ledger.specs.declared.rows.TransferRow.{TransferRow}
+use Rattle.tb_ledger.specs.declared.timeouts.Timeout.{Timeout}
 use Rattle.tb_ledger.specs.declared.rows.State.TheVariants.{Posted, Voided}
-use Rattle.tb_ledger.specs.Books.{Books, posts, pending, resolves, holds, is_open, expires_at, account_at, transfer_at, closing_debit, closing_credit}
+use Rattle.tb_ledger.specs.Books.{Books, posts, resolves, holds, is_open, account_at, transfer_at, closing_debit, closing_credit}
 use Rattle.tb_ledger.specs.Verdicts.{max_id}
+use Rattle.tb_ledger.specs.Timeouts.{AreTimeouts}
 use Rattle.tb_ledger.specs.Sound.{account_key, transfer_key, debit, credit, ledger_at, Sound, Moves, Resolves}
-use Rattle.tb_ledger.specs.Kept.{account_row_key, transfer_row_key, books_of, row_holds, dated, ExpiresFrom, HasSide, HasSums, HasState, IsLedger, on_debits, on_credits, gained, resolved, settled, outcome_of, accounts_gained, accounts_resolved, new_row, new_transfer_row}
+use Rattle.tb_ledger.specs.Kept.{account_row_key, transfer_row_key, books_of, row_holds, dated, listed, unlisted, IsListed, IsIndex, HasSide, HasSums, HasState, IsLedger, on_debits, on_credits, gained, resolved, settled, outcome_of, accounts_gained, accounts_resolved, new_row, new_transfer_row}
 use Rattle.tb_ledger.proofs.Parts.{held_enough, no_sums}
+use Rattle.tb_ledger.proofs.Index.{index_added, index_closed}
 use Rattle.tb_ledger.proofs.Pairs.{sums_gained, sums_resolved}
 use Rattle.tb_ledger.proofs.States.{states_added, states_resolved}
 use Rattle.tb_ledger.proofs.Standing.{holds_stand, takes_debit, takes_credit}
@@ -77,22 +79,7 @@ no_row key g id xs none = none_mapped g (find (λ x. key (g x) == id) xs) (sym (
 unnamed : (side : Transfer → ℕ) (B : Books) (id : ℕ) → account_at B id ≡ None → (t : Transfer) → ledger_at B.accounts (side t) ≡ Some t.ledger → side t ≢ id
 unnamed side B id none t there same = let gone = subst (λ k. ledger_at B.accounts k ≡ Some t.ledger) same there in let nothing = ap (option_map (λ a. a.ledger)) none in cc
 
--- what is kept of the times at which transfers expire
-
-pub expires_added : (n later first : ℕ) (t : Transfer) (transfers : List TransferRow) → Each (ExpiresFrom n) transfers → later ≤ n → later ≤ first → (dated (new_transfer_row t) ≡ true → first ≤ expires_at t) → Each (ExpiresFrom later) (put transfer_row_key (new_transfer_row t) transfers)
-expires_added n later first t transfers all less less_t its =
-    each-put transfer_row_key (ExpiresFrom later) (new_transfer_row t) transfers (λ is. let at = its is in omega arith)
-    (each-map (ExpiresFrom n) (ExpiresFrom later) transfers (λ y from is. let at = from is in omega arith) all)
-
-pub expires_closed : (n : ℕ) (p : TransferRow) (s : State) (transfers : List TransferRow) → is_open s ≡ false → Each (ExpiresFrom n) transfers → Each (ExpiresFrom n) (replaced transfer_row_key (settled s p) transfers)
-expires_closed n p s transfers over all =
-    each-replaced_all transfer_row_key (ExpiresFrom n) (settled s p) transfers (λ is. absurd (let not_dated : dated (settled s p) ≡ false = by (pending p.recorded) (is_open s) over in cc)) all
-  where
-    by : (b o : Bool) → o ≡ false → ((b && o) && not (p.recorded.timeout == 0)) ≡ false
-    by true o e = rw e refl
-    by false o e = refl
-
-module _ (accounts : List AccountRow) (transfers : List TransferRow) (failed : List ℕ) (keeps_failed : Bool) (next time : ℕ) (ledger : IsLedger accounts transfers failed keeps_failed next time) where
+module _ (accounts : List AccountRow) (transfers : List TransferRow) (failed : List ℕ) (keeps_failed : Bool) (timeouts : List Timeout) (time : ℕ) (ledger : IsLedger accounts transfers failed keeps_failed timeouts time) where
   abbrev B : Books
   B = books_of accounts transfers failed keeps_failed time
 
@@ -104,10 +91,10 @@ module _ (accounts : List AccountRow) (transfers : List TransferRow) (failed : L
     pub books_with_account : books_of later transfers failed keeps_failed time ≡ record B { accounts = put account_key a B.accounts }
     books_with_account = rw (is, map-put account_key (λ a. a.created) (new_row a) accounts) refl
 
-    pub ledger_with_account : account_at B a.id ≡ None → Sound (record B { accounts = put account_key a B.accounts }) → IsLedger later transfers failed keeps_failed next time
+    pub ledger_with_account : account_at B a.id ≡ None → Sound (record B { accounts = put account_key a B.accounts }) → IsLedger later transfers failed keeps_failed timeouts time
     ledger_with_account fresh sound = record {
       kept = record { sums = subst (Each (HasSums transfers)) (sym is) (each-put account_row_key (HasSums transfers) (new_row a) accounts (new_sums a fresh) ledger.kept.sums); states = ledger.kept.states };
-      expiries = ledger.expiries;
+      index = ledger.index;
       unused = ledger.unused;
       sound = subst Sound (sym books_with_account) sound;
     }
@@ -123,13 +110,13 @@ module _ (accounts : List AccountRow) (transfers : List TransferRow) (failed : L
     pub books_with_single : books_of later more failed keeps_failed time ≡ record B { transfers = put transfer_key t B.transfers }
     books_with_single = rw (is, added, map-put transfer_key (λ t. t.recorded) (new_transfer_row t) transfers, map-changed account_row_key (λ a. a.created) t.credit_account_id (on_credits (gained closing_credit t)) (changed account_row_key t.debit_account_id (on_debits (gained closing_debit t)) accounts) (λ y. refl), map-changed account_row_key (λ a. a.created) t.debit_account_id (on_debits (gained closing_debit t)) accounts (λ y. refl)) refl
 
-    pub ledger_with_single : (earlier : ℕ) → transfer_at B t.id ≡ None → resolves t ≡ false → time < t.timestamp + 1000000000 → Moves B t → Each (ExpiresFrom earlier) more → IsLedger later more failed keeps_failed earlier time
-    ledger_with_single earlier fresh single stamped moves_t expiries = record {
+    pub ledger_with_single : (after : List Timeout) → transfer_at B t.id ≡ None → resolves t ≡ false → time < t.timestamp + 1000000000 → Moves B t → IsIndex more after → IsLedger later more failed keeps_failed after time
+    ledger_with_single after fresh single stamped moves_t index = record {
       kept = rw (is, added) (record {
         sums = sums_gained accounts transfers t rising_accounts (takes_debit accounts transfers failed keeps_failed time ledger.kept.states t moves_t ledger.kept.sums) (takes_credit accounts transfers failed keeps_failed time ledger.kept.states t moves_t ledger.kept.sums) ledger.kept.sums;
         states = states_added transfers time t ledger.kept.states (no_row transfer_key (λ t. t.recorded) t.id transfers fresh) single stamped;
       });
-      expiries = expiries;
+      index = index;
       unused = ledger.unused;
       sound = subst Sound (sym books_with_single) (sound_moved B t ledger.sound moves_t);
     }
@@ -186,23 +173,31 @@ module _ (accounts : List AccountRow) (transfers : List TransferRow) (failed : L
     fresh_still fresh = no_row transfer_key (λ t. t.recorded) r.id (replaced transfer_row_key (settled (outcome_of r) p) transfers)
         (ap (find (λ t. transfer_key t == r.id)) (map-replaced transfer_row_key (λ t. t.recorded) (settled (outcome_of r) p) p transfers by_key refl) ∙ fresh)
 
-    expiries_still : Each (ExpiresFrom next) (put transfer_row_key (new_transfer_row r) (replaced transfer_row_key (settled (outcome_of r) p) transfers))
-    expiries_still =
-        each-put transfer_row_key (ExpiresFrom next) (new_transfer_row r) (replaced transfer_row_key (settled (outcome_of r) p) transfers)
-        (λ is. absurd (let single = resolves_p.not_pending in let not_dated : dated (new_transfer_row r) ≡ false = rw single refl in cc))
-        (expires_closed next p (outcome_of r) transfers over ledger.expiries)
+    -- its timeout leaves the index
+    pub listed_before : dated p ≡ true → IsListed timeouts p
+    listed_before = each-find (λ t. dated t ≡ true → IsListed timeouts t) (λ q. q.recorded.id == r.pending_id) p transfers ledger.index.all_listed found
+
+    pub not_dated : dated (new_transfer_row r) ≡ false
+    not_dated = let single = resolves_p.not_pending in rw single refl
+
+    -- a post or void brings none
+    pub index_with_resolver : (room : ℕ) → transfer_at B r.id ≡ None → Rising transfer_row_key transfers → AreTimeouts timeouts
+        → IsIndex (put transfer_row_key (new_transfer_row r) (replaced transfer_row_key (settled (outcome_of r) p) transfers)) (listed (new_transfer_row r) (unlisted p (timeouts, room))).0
+    index_with_resolver room fresh rising ordered =
+        index_added (replaced transfer_row_key (settled (outcome_of r) p) transfers) (unlisted p (timeouts, room)) (index_closed transfers (timeouts, room) ledger.index p (outcome_of r) by_key over rising ordered)
+        (new_transfer_row r) (fresh_still fresh) (λ is. absurd (let never = not_dated in cc))
 
     module _ (later : List AccountRow) (more : List TransferRow) (is : later ≡ accounts_resolved p.recorded r accounts) (added : more ≡ put transfer_row_key (new_transfer_row r) (replaced transfer_row_key (settled (outcome_of r) p) transfers)) where
       pub books_with_resolver : books_of later more failed keeps_failed time ≡ record B { transfers = put transfer_key r B.transfers }
       books_with_resolver = rw (is, added, map-put transfer_key (λ t. t.recorded) (new_transfer_row r) (replaced transfer_row_key (settled (outcome_of r) p) transfers), map-replaced transfer_row_key (λ t. t.recorded) (settled (outcome_of r) p) p transfers by_key refl, map-changed account_row_key (λ a. a.created) r.credit_account_id (on_credits (resolved closing_credit p.recorded r)) (changed account_row_key r.debit_account_id (on_debits (resolved closing_debit p.recorded r)) accounts) (λ y. refl), map-changed account_row_key (λ a. a.created) r.debit_account_id (on_debits (resolved closing_debit p.recorded r)) accounts (λ y. refl)) refl
 
-      pub ledger_with_resolver : Rising transfer_row_key transfers → IsLedger later more failed keeps_failed next time
-      ledger_with_resolver rising = record {
+      pub ledger_with_resolver : (after : List Timeout) → IsIndex more after → Rising transfer_row_key transfers → IsLedger later more failed keeps_failed after time
+      ledger_with_resolver after index rising = record {
         kept = rw (is, added) (record {
           sums = sums_resolved accounts transfers p r (outcome_of r) rising_accounts by_key it_holds over resolves_p.not_pending same_debit same_credit at_most ledger.kept.sums;
           states = states_resolved transfers time p r ledger.kept.states by_key it_holds names is_resolver rising resolves_p.not_pending;
         });
-        expiries = rw added expiries_still;
+        index = index;
         unused = ledger.unused;
         sound = subst Sound (sym books_with_resolver) (sound_resolved B r ledger.sound is_resolver resolves_p);
       }

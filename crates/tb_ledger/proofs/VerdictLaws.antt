@@ -1,12 +1,12 @@
 -- The verdicts, by the rows that are found.
-use Rattle.std.proofs.Common.{◌≡◌, ℕ, suc, zero, ◌==◌, ◌||◌, Bool, true, false, List, [], ◌∷◌, find, is_some, IsSome, Option, Some, None, option_map, if◌then◌else◌, refl, sym, ap, subst, ◌∙◌, arith, Bor, not, ◌&&◌, ◌++◌, nat_lt}
+use Rattle.std.proofs.Common.{◌≡◌, ◌≢◌, ℕ, suc, zero, eqb, ◌==◌, ◌||◌, Bool, true, false, List, [], ◌∷◌, find, is_some, IsSome, Option, Some, None, option_map, if◌then◌else◌, refl, sym, ap, subst, ◌∙◌, arith, Bor, not, ◌&&◌, ◌++◌, nat_lt}
 use Rattle.std.proofs.lemmas.Bool.Decides.{nat_tests}
 use Rattle.std.specs.List.{list_any}
 use Rattle.std.specs.Option.{option_map_or, option_copied}
 use Rattle.tb_records.specs.declared.records.Account.{Account}
 use Rattle.tb_records.specs.declared.records.Transfer.{Transfer}
 use Rattle.tb_ledger.specs.Books.{Books, resolves, pending, posts, voids, is_posted, is_voided, is_expired, transfer_at, account_now, as_it_stands, is_closed, state_of}
-use Rattle.tb_ledger.specs.Verdicts.{Line, is_not, is_closed_at, resolve_own_lines, resolve_lines_of, resolve_code, transfer_verdict, first_of, first_code, account_own_lines, account_exists, account_new_lines, account_verdict, transfer_own_lines, transfer_exists, failed_lines, filled, filled_from, single_own_lines, pair_lines, amount_lines, balanced_amount, balanced_between, single_code, pair_code}
+use Rattle.tb_ledger.specs.Verdicts.{recorded_transfer, Line, is_not, is_closed_at, resolve_own_lines, resolve_lines_of, resolve_code, transfer_verdict, first_of, first_code, account_own_lines, account_exists, account_new_lines, account_verdict, transfer_own_lines, transfer_exists, failed_lines, filled, filled_from, single_own_lines, pair_lines, amount_lines, balanced_amount, balanced_between, single_code, pair_code}
 use Rattle.tb_ledger.specs.declared.rows.Rows.{Rows}
 use Rattle.tb_ledger.specs.Kept.{books_in, IsKept, row_now, row_closed, HasSums, HasState}
 use Rattle.tb_records.proofs.ByKey.{find-map, each-find}
@@ -70,12 +70,6 @@ pub id_free : (B : Books) (t : Transfer) → first_of (transfer_own_lines t) ≡
 id_free B t own found = rw (own, found) (sym (only (first_of (failed_lines B.failed t))))
 
 -- a transfer between two accounts
-pub no_debit : (B : Books) (t : Transfer) (time : ℕ) → first_of (single_own_lines t) ≡ 0 → account_now B t.debit_account_id ≡ None → single_code B t time ≡ 21
-no_debit B t time own d = rw (own, d) refl
-
-pub no_credit : (B : Books) (t : Transfer) (time : ℕ) (d : Account) → first_of (single_own_lines t) ≡ 0 → account_now B t.debit_account_id ≡ Some d → account_now B t.credit_account_id ≡ None → single_code B t time ≡ 22
-no_credit B t time d own d_is c_is = rw (own, d_is, c_is) refl
-
 pub two_accounts : (B : Books) (t : Transfer) (time : ℕ) (d c : Account) → first_of (single_own_lines t) ≡ 0 → account_now B t.debit_account_id ≡ Some d → account_now B t.credit_account_id ≡ Some c
     → single_code B t time ≡ pair_code (Some d) (Some c) t time
 two_accounts B t time d c own d_is c_is = rw (own, d_is, c_is) (only (pair_code (Some d) (Some c) t time))
@@ -281,3 +275,19 @@ stamped B f time found = record {
 
 pub recorded_resolves : (B : Books) (t f : Transfer) (time : ℕ) → resolves t ≡ true → transfer_verdict B t time ≡ 0 → f ≡ filled B t → Resolves B (record f { timestamp = time })
 recorded_resolves B t f time resolving ok is = stamped B f time (subst (λ f. Resolves B f) (sym is) (resolves_of B t time resolving ok))
+
+-- a transfer between two accounts that is wrong by itself, and one that isn't
+pub own_refused : (B : Books) (t : Transfer) (time code : ℕ) → code ≡ first_of (single_own_lines t) → code ≢ 0 → single_code B t time ≡ code
+own_refused B t time code is refused =
+    let some : eqb (first_of (single_own_lines t)) 0 ≡ false = let differs : first_of (single_own_lines t) ≢ 0 = λ e. refused (is ∙ e) in grind (arith, nat_tests) in
+    let here : single_code B t time ≡ first_of (single_own_lines t) = rw some refl in
+    here ∙ sym is
+
+pub pair_left : (B : Books) (t : Transfer) (time : ℕ) → first_of (single_own_lines t) ≡ 0 → single_code B t time ≡ pair_code (account_now B t.debit_account_id) (account_now B t.credit_account_id) t time
+pair_left B t time own = rw own (only (pair_code (account_now B t.debit_account_id) (account_now B t.credit_account_id) t time))
+
+pub recorded_single : (B : Books) (t : Transfer) (time amount : ℕ) → resolves t ≡ false → amount ≡ balanced_between (account_now B t.debit_account_id) (account_now B t.credit_account_id) t
+    → recorded_transfer B t time ≡ record t { amount = amount; timestamp = time }
+recorded_single B t time amount single is =
+    let balanced : recorded_transfer B t time ≡ record t { amount = balanced_between (account_now B t.debit_account_id) (account_now B t.credit_account_id) t; timestamp = time } = rw single refl in
+    balanced ∙ ap (λ n. record t { amount = n; timestamp = time }) (sym is)

@@ -1,5 +1,5 @@
 -- What the ledger keeps of the books, and that it is what the books say.
-use Rattle.std.specs.Prelude.{ℕ, Bool, true, false, not, ◌≡◌, ◌≤◌, ◌+◌, ◌-◌, ◌&&◌, ◌||◌, ◌==◌, List, [], map, sum_by, if◌then◌else◌, find, IsSome, bit_or, Some, None}
+use Rattle.std.specs.Prelude.{ℕ, Bool, true, false, not, ◌≡◌, ◌<◌, ◌≤◌, ◌+◌, ◌-◌, ◌&&◌, ◌||◌, ◌==◌, List, [], map, sum_by, if◌then◌else◌, find, IsSome, bit_or, Some, None}
 use Rattle.tb_records.specs.declared.records.Account.{Account}
 use Rattle.tb_records.specs.declared.records.Transfer.{Transfer}
 use Rattle.tb_records.specs.Ordered.{Each, changed}
@@ -9,8 +9,10 @@ use Rattle.tb_ledger.specs.declared.rows.Side.{Side}
 use Rattle.tb_ledger.specs.declared.rows.AccountRow.{AccountRow}
 use Rattle.tb_ledger.specs.declared.rows.TransferRow.{TransferRow}
 use Rattle.tb_ledger.specs.declared.rows.Rows.{Rows}
+use Rattle.tb_ledger.specs.declared.timeouts.Timeout.{Timeout}
 use Rattle.tb_ledger.specs.Books.{Books, shut, pending, posts, moves, resolves, is_open, is_due, state_of, expires_at, closing_debit, closing_credit}
-use Rattle.tb_ledger.specs.Verdicts.{max_id}
+use Rattle.tb_ledger.specs.Verdicts.{max_id, max_time}
+use Rattle.tb_ledger.specs.Timeouts.{timeout_key, with_timeout, without_timeout}
 use Rattle.tb_ledger.specs.Sound.{Sound, debit, credit}
 
 abbrev pub account_row_key : AccountRow → ℕ
@@ -95,25 +97,53 @@ pub record AreKept (accounts : List AccountRow) (transfers : List TransferRow) (
 abbrev pub dated : TransferRow → Bool
 dated t = row_holds t && not (t.recorded.timeout == 0)
 
--- it doesn't expire before the time n
-abbrev pub ExpiresFrom : ℕ → TransferRow → Type 0
-ExpiresFrom n t = dated t ≡ true → n ≤ expires_at t.recorded
+abbrev pub timeout_of : TransferRow → Timeout
+timeout_of t = record { at = expires_at t.recorded; id = t.recorded.id }
+
+-- its timeout stands among others
+pub record IsListed (timeouts : List Timeout) (t : TransferRow) : Type 0 where
+  pub in_range : expires_at t.recorded ≤ max_time
+  pub there : find (λ d. timeout_key d == timeout_key (timeout_of t)) timeouts ≡ Some (timeout_of t)
+
+-- d is the timeout of a transfer that is dated
+pub record IsTimeout (transfers : List TransferRow) (d : Timeout) : Type 0 where
+  pub t : TransferRow
+  pub there : find (λ t. t.recorded.id == d.id) transfers ≡ Some t
+  pub is_dated : dated t ≡ true
+  pub same : timeout_of t ≡ d
+
+-- the index of expiries: a timeout for each transfer that is dated, and for no other
+pub record IsIndex (transfers : List TransferRow) (timeouts : List Timeout) : Type 0 where
+  pub all_listed : Each (λ t. dated t ≡ true → IsListed timeouts t) transfers
+  pub all_dated : Each (IsTimeout transfers) timeouts
+
+-- timeouts and their room, with that of t where it is dated, and without it
+abbrev pub listed : TransferRow → List Timeout × ℕ → List Timeout × ℕ
+listed t ts = if dated t then with_timeout (timeout_of t) ts else ts
+
+abbrev pub unlisted : TransferRow → List Timeout × ℕ → List Timeout × ℕ
+unlisted t ts = if dated t then without_timeout (timeout_of t) ts else ts
+
+-- where t is dated, there is room for its timeout, which isn't there
+pub record CanList (t : TransferRow) (ts : List Timeout × ℕ) : Type 0 where
+  pub in_range : expires_at t.recorded ≤ max_time
+  pub room : 0 < ts.1
+  pub absent : find (λ d. timeout_key d == timeout_key (timeout_of t)) ts.0 ≡ None
 
 -- it holds, and its timeout has passed at T
 abbrev pub lapses : ℕ → TransferRow → Bool
 lapses T t = row_holds t && is_due T t.recorded
 
 -- what stays true of the ledger's rows
-pub record IsLedger (accounts : List AccountRow) (transfers : List TransferRow) (failed : List ℕ) (keeps_failed : Bool) (next_expiry time : ℕ) : Type 0 where
+pub record IsLedger (accounts : List AccountRow) (transfers : List TransferRow) (failed : List ℕ) (keeps_failed : Bool) (timeouts : List Timeout) (time : ℕ) : Type 0 where
   pub kept : AreKept accounts transfers time
-  -- no transfer expires before the time that is kept
-  pub expiries : Each (ExpiresFrom next_expiry) transfers
+  pub index : IsIndex transfers timeouts
   -- profile 1 keeps no failed ids
   pub unused : keeps_failed ≡ false → failed ≡ []
   pub sound : Sound (books_of accounts transfers failed keeps_failed time)
 
 abbrev pub IsKept : {A : Type 0} → Rows A → Type 0
-IsKept rows = IsLedger rows.accounts.0 rows.transfers.0 rows.failed.0 rows.keeps_failed rows.next_expiry rows.time
+IsKept rows = IsLedger rows.accounts.0 rows.transfers.0 rows.failed.0 rows.keeps_failed rows.timeouts.0 rows.time
 
 -- the changes of a side: a transfer comes, and the amount of a pending one leaves
 

@@ -8,5 +8,7 @@ pub mod Cuttings
 pub mod Meanings
 pub mod WorkedRows
 pub mod Tables
+pub mod Timeouts
+pub mod Exchanges
 pub mod Kept
 pub mod Trail

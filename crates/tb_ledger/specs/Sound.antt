@@ -4,8 +4,8 @@ use Rattle.std.specs.Option.{option_map}
 use Rattle.tb_records.specs.declared.records.Account.{Account}
 use Rattle.tb_records.specs.declared.records.Transfer.{Transfer}
 use Rattle.tb_records.specs.Ordered.{Each, Rising}
-use Rattle.tb_ledger.specs.Books.{Books, debits_limited, credits_limited, pending, posts, voids, holds, moves, is_closed, account_at, transfer_at, debits_pending, debits_posted, credits_pending, credits_posted}
-use Rattle.tb_ledger.specs.Verdicts.{max_id}
+use Rattle.tb_ledger.specs.Books.{Books, debits_limited, credits_limited, pending, posts, voids, holds, moves, is_closed, account_at, transfer_at, debits_pending, debits_posted, credits_pending, credits_posted, expires_at}
+use Rattle.tb_ledger.specs.Verdicts.{max_id, max_time}
 
 -- the keys by which accounts and transfers stand in order
 abbrev pub account_key : Account → ℕ
@@ -58,6 +58,7 @@ pub record Moves (B : Books) (t : Transfer) : Type 0 where
   pub credit_open : is_closed B c ≡ false
   pub debits_fit : debits_pending B t.debit_account_id + debits_posted B t.debit_account_id + t.amount ≤ max_id
   pub credits_fit : credits_pending B t.credit_account_id + credits_posted B t.credit_account_id + t.amount ≤ max_id
+  pub in_time : expires_at t ≤ max_time
   pub debits_within : debits_limited d ≡ true → debits_pending B t.debit_account_id + debits_posted B t.debit_account_id + t.amount ≤ credits_posted B t.debit_account_id
   pub credits_within : credits_limited c ≡ true → credits_pending B t.credit_account_id + credits_posted B t.credit_account_id + t.amount ≤ debits_posted B t.credit_account_id
 

@@ -1,28 +1,46 @@
--- Words on the places of a table.
-use Rattle.std.specs.Prelude.{ℕ, Bool, true, ◌≡◌, ◌<◌, ◌≤◌, nat_lt, List, length, slice_index_or, Option, Some, None}
-use Rattle.tb_records.specs.Ordered.{IsPlace}
+-- What a table keeps in a tree.
+use Rattle.std.specs.Prelude.{ℕ, ◌≡◌, ◌≤◌, ◌==◌, find, List, [], Option, Some}
+use Rattle.std.specs.Fn.{Mut, CalledAtPairMut}
+use denote.Ref.{MutBor}
+use Rattle.std.specs.Option.{option_map_or}
+use Rattle.std.specs.Map.{values_of}
+use Rattle.tb_records.specs.Ordered.{replaced, Each, Rising}
+use Rattle.avl_tree.specs.Map.{Map, entries}
+use Rattle.avl_tree.specs.Search.{least}
 
--- it comes after an id, or there is none that it must come after
-abbrev pub is_after : Option ℕ → ℕ → Bool
-is_after None key = true
-is_after (Some id) key = nat_lt id key
+-- of a map that is made once there is something to keep: its pairs, its rows, and the number of spare nodes
+abbrev pub entries_in : {K V : Type 0} → Option (Map K V) → List (K × V)
+entries_in m = option_map_or (λ m. entries m) m []
 
--- the place of an id, and the record that stands there has it
-pub record IsPlaceOf {X : Type 0} (key : X → ℕ) (xs : List X) (id i : ℕ) : Type 0 where
-  pub place : IsPlace key xs id i
-  pub in_bounds : i < length xs
-  pub has : (d : X) → key (slice_index_or xs i d) ≡ id
+abbrev pub rows_in : {K V : Type 0} → Option (Map K V) → List V
+rows_in m = values_of (entries_in m)
 
--- the keys of the first n records are below the id
-abbrev pub AreBelow : {X : Type 0} → (X → ℕ) → List X → ℕ → ℕ → Type 0
-AreBelow {X} key xs id n = (j : ℕ) (d : X) → j < n → key (slice_index_or xs j d) < id
+abbrev pub room_in : {K V : Type 0} → Option (Map K V) → ℕ
+room_in m = option_map_or (λ m. m.spare) m 0
 
--- those of the records from place n are not
-abbrev pub AreFrom : {X : Type 0} → (X → ℕ) → List X → ℕ → ℕ → Type 0
-AreFrom {X} key xs id n = (j : ℕ) (d : X) → n ≤ j → j < length xs → id ≤ key (slice_index_or xs j d)
+-- each row stands at its own key, and keys rise
+pub record IsTable {V : Type 0} (key : V → ℕ) (es : List (ℕ × V)) : Type 0 where
+  pub own : Each (λ e. key e.1 ≡ e.0) es
+  pub rising : Rising key (values_of es)
 
--- keys up to the id stand before place i, and none at it
-pub record IsPlaceAfter {X : Type 0} (key : X → ℕ) (xs : List X) (id i : ℕ) : Type 0 where
-  pub within : i ≤ length xs
-  pub before : (j : ℕ) (d : X) → j < i → key (slice_index_or xs j d) ≤ id
-  pub above : (d : X) → i < length xs → id < key (slice_index_or xs i d)
+-- a search among so many rows met so many nodes: no more than a balanced tree of them is high, and none only where there is no row
+pub record IsShortSearch (rows visits : ℕ) : Type 0 where
+  pub height : ℕ
+  pub at_most : visits ≤ height
+  pub enough : least height ≤ rows
+  pub none : visits ≡ 0 → rows ≡ 0
+
+-- a call at two rows leaves the keys of both
+abbrev pub KeepsKeys : {F V R : Type 0} → (V → ℕ) → Mut F (MutBor V × (MutBor V × Unit {0})) (R × (MutBor V × (MutBor V × Unit {0}))) → Type 0
+KeepsKeys {F} {V} {R} key c = (f : F) (x y : V) (r : R) (f' : F) (x' y' : V) → CalledAtPairMut c f x y r f' x' y' → (key x' ≡ key x) × (key y' ≡ key y)
+
+-- a call of f at the rows of two keys gave r, left f', and left other rows there
+pub record ChangedRows {F V R : Type 0} (key : V → ℕ) (c : Mut F (MutBor V × (MutBor V × Unit {0})) (R × (MutBor V × (MutBor V × Unit {0})))) (a b : ℕ) (rows : List V) (f : F) (r : R) (f' : F) (later : List V) : Type 0 where
+  pub row : V
+  pub left : V
+  pub other : V
+  pub other_left : V
+  pub found : find (λ x. key x == a) rows ≡ Some row
+  pub other_found : find (λ x. key x == b) rows ≡ Some other
+  pub called : CalledAtPairMut c f row other r f' left other_left
+  pub written : later ≡ replaced key other_left (replaced key left rows)

@@ -1,24 +1,27 @@
 -- A trail of changes, the oldest first, and what undoing them gives.
-use Rattle.std.specs.Prelude.{ℕ, ◌≡◌, ◌+◌, ◌≤◌, List, [], ◌∷◌, Vec, vec_len, vec_capacity}
+use Rattle.std.specs.Prelude.{ℕ, true, ◌≡◌, ◌+◌, ◌≤◌, List, [], ◌∷◌, Vec, vec_len, vec_capacity}
 use Rattle.tb_ledger.specs.declared.rows.AccountRow.{AccountRow}
 use Rattle.tb_ledger.specs.declared.rows.TransferRow.{TransferRow}
 use Rattle.tb_ledger.specs.declared.rows.Rows.{Rows}
+use Rattle.tb_ledger.specs.declared.timeouts.Timeout.{Timeout}
 use Rattle.tb_ledger.specs.declared.undo.Undo.{Undo}
 use Rattle.tb_ledger.specs.declared.undo.Undo.TheVariants.{Account, Transfer, AddedAccount, AddedTransfer}
 use Rattle.tb_records.specs.Ordered.{replaced, taken_out}
-use Rattle.tb_ledger.specs.Kept.{account_row_key, transfer_row_key}
+use Rattle.tb_ledger.specs.Kept.{account_row_key, transfer_row_key, dated, listed, unlisted, CanList}
+use Rattle.tb_ledger.specs.Books.{expires_at}
+use Rattle.tb_ledger.specs.Verdicts.{max_time}
 
 abbrev pub undo_account : Undo → List AccountRow → List AccountRow
 undo_account (Account row) rows = replaced account_row_key row rows
 undo_account (Transfer row) rows = rows
 undo_account (AddedAccount id) rows = taken_out account_row_key id rows
-undo_account (AddedTransfer id) rows = rows
+undo_account (AddedTransfer row) rows = rows
 
 abbrev pub undo_transfer : Undo → List TransferRow → List TransferRow
 undo_transfer (Account row) rows = rows
 undo_transfer (Transfer row) rows = replaced transfer_row_key row rows
 undo_transfer (AddedAccount id) rows = rows
-undo_transfer (AddedTransfer id) rows = taken_out transfer_row_key id rows
+undo_transfer (AddedTransfer row) rows = taken_out transfer_row_key row.recorded.id rows
 
 -- the accounts before the changes of a trail
 abbrev pub unwound_accounts : List Undo → List AccountRow → List AccountRow
@@ -30,17 +33,44 @@ abbrev pub unwound_transfers : List Undo → List TransferRow → List TransferR
 unwound_transfers [] rows = rows
 unwound_transfers (u ∷ us) rows = undo_transfer u (unwound_transfers us rows)
 
+-- of timeouts and their room
+abbrev pub undo_timeouts : Undo → List Timeout × ℕ → List Timeout × ℕ
+undo_timeouts (Account row) ts = ts
+undo_timeouts (Transfer row) ts = listed row ts
+undo_timeouts (AddedAccount id) ts = ts
+undo_timeouts (AddedTransfer row) ts = unlisted row ts
+
+-- the timeouts before the changes of a trail
+abbrev pub unwound_timeouts : List Undo → List Timeout × ℕ → List Timeout × ℕ
+unwound_timeouts [] ts = ts
+unwound_timeouts (u ∷ us) ts = undo_timeouts u (unwound_timeouts us ts)
+
+-- a timeout that comes back has room
+abbrev pub CanUndo : Undo → List Timeout × ℕ → Type 0
+CanUndo (Account row) ts = Unit {0}
+CanUndo (Transfer row) ts = dated row ≡ true → CanList row ts
+CanUndo (AddedAccount id) ts = Unit {0}
+CanUndo (AddedTransfer row) ts = dated row ≡ true → expires_at row.recorded ≤ max_time
+
+abbrev pub CanUnwind : List Undo → List Timeout × ℕ → Type 0
+CanUnwind [] ts = Unit {0}
+CanUnwind (u ∷ us) ts = CanUndo u (unwound_timeouts us ts) × CanUnwind us ts
+
 -- accounts changed, with n records more at most that lead back
 pub record IsNoted {A : Type 0} (n : ℕ) (accounts later : List AccountRow) (trail grown : Vec Undo A) : Type 0 where
   pub undo_accounts : unwound_accounts grown.items later ≡ unwound_accounts trail.items accounts
   pub undo_transfers : (transfers : List TransferRow) → unwound_transfers grown.items transfers ≡ unwound_transfers trail.items transfers
+  pub undo_timeouts : (ts : List Timeout × ℕ) → unwound_timeouts grown.items ts ≡ unwound_timeouts trail.items ts
+  pub can_unwind : (ts : List Timeout × ℕ) → CanUnwind trail.items ts → CanUnwind grown.items ts
   pub length : vec_len grown ≤ vec_len trail + n
   pub capacity : vec_capacity grown ≡ vec_capacity trail
 
--- a transfer's row changed or added, with n records more at most that lead back
-pub record IsMarked {A : Type 0} (n : ℕ) (transfers later : List TransferRow) (trail grown : Vec Undo A) : Type 0 where
+-- a transfer's row changed or added, and its timeout with it, with n records more at most that lead back
+pub record IsMarked {A : Type 0} (n : ℕ) (transfers later : List TransferRow) (ts moved : List Timeout × ℕ) (trail grown : Vec Undo A) : Type 0 where
   pub undo_accounts : (accounts : List AccountRow) → unwound_accounts grown.items accounts ≡ unwound_accounts trail.items accounts
   pub undo_transfers : unwound_transfers grown.items later ≡ unwound_transfers trail.items transfers
+  pub undo_timeouts : unwound_timeouts grown.items moved ≡ unwound_timeouts trail.items ts
+  pub can_unwind : CanUnwind trail.items ts → CanUnwind grown.items moved
   pub length : vec_len grown ≤ vec_len trail + n
   pub capacity : vec_capacity grown ≡ vec_capacity trail
 
@@ -48,9 +78,10 @@ pub record IsMarked {A : Type 0} (n : ℕ) (transfers later : List TransferRow) 
 pub record IsStep {A : Type 0} (n : ℕ) (rows later : Rows A) (trail grown : Vec Undo A) : Type 0 where
   pub undo_accounts : unwound_accounts grown.items later.accounts.0 ≡ unwound_accounts trail.items rows.accounts.0
   pub undo_transfers : unwound_transfers grown.items later.transfers.0 ≡ unwound_transfers trail.items rows.transfers.0
+  pub undo_timeouts : unwound_timeouts grown.items later.timeouts ≡ unwound_timeouts trail.items rows.timeouts
+  pub can_unwind : CanUnwind trail.items rows.timeouts → CanUnwind grown.items later.timeouts
   pub failed : later.failed ≡ rows.failed
   pub keeps_failed : later.keeps_failed ≡ rows.keeps_failed
-  pub next_expiry : later.next_expiry ≤ rows.next_expiry
   pub time : later.time ≡ rows.time
   pub length : vec_len grown ≤ vec_len trail + n
   pub capacity : vec_capacity grown ≡ vec_capacity trail

@@ -11,7 +11,7 @@ use std::alloc::Allocator;
 use tb_records::EventResult;
 
 /// Runs the chains of a batch, whose first event has the timestamp `time`. Each event that isn't accepted adds its result.
-pub(crate) fn run_batch<E: Event, A: Allocator, R: Allocator>(
+pub(crate) fn run_batch<E: Event, A: Allocator + Clone, R: Allocator>(
     rows: &mut Rows<A>,
     trail: &mut Vec<Undo, A>,
     results: &mut Vec<EventResult, R>,
@@ -21,6 +21,7 @@ pub(crate) fn run_batch<E: Event, A: Allocator, R: Allocator>(
     requires kept { IsKept rows.old }
     requires empty { trail.old.items ≡ [] }
     requires room { length events.now ≤ E.room rows.old.accounts.1 rows.old.transfers.1 }
+    requires timeouts_room { E.HasTimeoutRoom (length events.now) rows.old.timeouts.1 }
     requires ids { E.HasIdRoom (length events.now) rows.old.keeps_failed rows.old.failed.1 }
     requires trail_room { TRAIL_PER_EVENT * length events.now ≤ vec_capacity trail.old }
     requires results_room { vec_len results.old + length events.now ≤ vec_capacity results.old }

@@ -27,7 +27,7 @@ pub(crate) fn block_length<E: Event>(events: &[E]) -> usize
 }
 
 /// Takes an event of a chain. Linked with nothing after it, the chain is open: 2.
-fn take_in_chain<E: Event, A: Allocator>(
+fn take_in_chain<E: Event, A: Allocator + Clone>(
     event: &E,
     last: bool,
     rows: &mut Rows<A>,
@@ -36,6 +36,7 @@ fn take_in_chain<E: Event, A: Allocator>(
 ) -> u32
     requires kept { IsKept rows.old }
     requires room { 0 < E.room rows.old.accounts.1 rows.old.transfers.1 }
+    requires timeouts_room { E.HasTimeoutRoom 1 rows.old.timeouts.1 }
     requires stamped { rows.old.time < time + 1000000000 }
     requires trail_room { vec_len trail.old + TRAIL_PER_EVENT ≤ vec_capacity trail.old }
     ensures code { result ≡ (if last && E.kind.linked event.now then 2 else E.kind.verdict (books_in rows.old) event.now time) }
@@ -44,6 +45,7 @@ fn take_in_chain<E: Event, A: Allocator>(
     ensures kept { IsKept rows.new }
     ensures step { IsStep TRAIL_PER_EVENT rows.old rows.new trail.old trail.new }
     ensures room { E.room rows.old.accounts.1 rows.old.transfers.1 ≤ E.room rows.new.accounts.1 rows.new.transfers.1 + 1 }
+    ensures timeouts_room { (n : ℕ) → E.HasTimeoutRoom (1 + n) rows.old.timeouts.1 → E.HasTimeoutRoom n rows.new.timeouts.1 }
 {
     if last && event.linked() {
         2
@@ -118,7 +120,7 @@ fn break_off<E: Event, A: Allocator>(
 
 /// Runs one chain: all of it is recorded, or nothing of it but what the refusal of the failed event leaves. Each event that isn't
 /// accepted adds its result.
-pub(crate) fn run_block<E: Event, A: Allocator, R: Allocator>(
+pub(crate) fn run_block<E: Event, A: Allocator + Clone, R: Allocator>(
     rows: &mut Rows<A>,
     trail: &mut Vec<Undo, A>,
     results: &mut Vec<EventResult, R>,
@@ -129,6 +131,7 @@ pub(crate) fn run_block<E: Event, A: Allocator, R: Allocator>(
     requires kept { IsKept rows.old }
     requires empty { trail.old.items ≡ [] }
     requires room { length block.now ≤ E.room rows.old.accounts.1 rows.old.transfers.1 }
+    requires timeouts_room { E.HasTimeoutRoom (length block.now) rows.old.timeouts.1 }
     requires ids { E.HasIdRoom (length block.now) rows.old.keeps_failed rows.old.failed.1 }
     requires trail_room { TRAIL_PER_EVENT * length block.now ≤ vec_capacity trail.old }
     requires results_room { vec_len results.old + length block.now ≤ vec_capacity results.old }
@@ -142,6 +145,7 @@ pub(crate) fn run_block<E: Event, A: Allocator, R: Allocator>(
     ensures kept { IsKept rows.new }
     ensures time { rows.new.time ≡ rows.old.time }
     ensures room { E.room rows.old.accounts.1 rows.old.transfers.1 ≤ E.room rows.new.accounts.1 rows.new.transfers.1 + length block.now }
+    ensures timeouts_room { (n : ℕ) → E.HasTimeoutRoom (length block.now + n) rows.old.timeouts.1 → E.HasTimeoutRoom n rows.new.timeouts.1 }
     ensures ids { (n : ℕ) → E.HasIdRoom (length block.now + n) rows.old.keeps_failed rows.old.failed.1 → E.HasIdRoom n rows.new.keeps_failed rows.new.failed.1 }
     ensures empty { trail.new.items ≡ [] }
     ensures capacity { vec_capacity trail.new ≡ vec_capacity trail.old }

@@ -9,15 +9,15 @@ ghost use Rattle.tb_ledger.specs.Kept.{books_in, IsKept};
 ghost use Rattle.tb_ledger.specs.Verdicts.{account_verdict, balanced_between, failed_lines, filled, filled_from, first_of, resolve_code, resolve_lines_of, single_code, transfer_exists};
 
 use crate::judging::{
-    account_new, account_own, account_there, between, closed, filled, resolve_named, resolve_own,
-    single_own, transfer_own, transfer_there,
+    account_new, account_own, account_there, closed, filled, resolve_named, resolve_own,
+    transfer_own, transfer_there,
 };
 use crate::rows::{AccountRow, Rows, TransferRow};
 use std::alloc::Allocator;
 use tb_records::{Account, Transfer};
 
 /// The verdict on an account.
-pub(crate) fn account_code<A: Allocator>(rows: &Rows<A>, a: &Account) -> u32
+pub(crate) fn account_code<A: Allocator + Clone>(rows: &Rows<A>, a: &Account) -> u32
     requires { IsKept rows.now }
     ensures { result ≡ account_verdict (books_in rows.now) a.now }
 {
@@ -39,21 +39,21 @@ pub(crate) fn resolving(t: &Transfer) -> bool
 }
 
 /// By profile 2, whether the transfer's id has failed for good: 68, or 0.
-fn failed_code<A: Allocator>(rows: &Rows<A>, t: &Transfer) -> u32
+fn failed_code<A: Allocator + Clone>(rows: &Rows<A>, t: &Transfer) -> u32
     ensures { result ≡ first_of (failed_lines (books_in rows.now).failed t.now) }
 {
     if failed_before(rows, t) { 68 } else { 0 }
 }
 
 /// By profile 2: the transfer's id has failed for good.
-fn failed_before<A: Allocator>(rows: &Rows<A>, t: &Transfer) -> bool
+fn failed_before<A: Allocator + Clone>(rows: &Rows<A>, t: &Transfer) -> bool
     ensures { result ≡ option_map_or (list_any (λ id. id == t.now.id)) (books_in rows.now).failed false }
 {
     rows.keeps_failed && rows.failed.get(t.id).is_some()
 }
 
 /// How a transfer, filled, differs from the recorded one that has its id.
-fn repeated<A: Allocator>(rows: &Rows<A>, t: &Transfer, e: &Transfer) -> u32
+fn repeated<A: Allocator + Clone>(rows: &Rows<A>, t: &Transfer, e: &Transfer) -> u32
     ensures { result ≡ first_of (transfer_exists (Some e.now) (filled (books_in rows.now) t.now)) }
 {
     if resolving(t) {
@@ -67,7 +67,7 @@ fn repeated<A: Allocator>(rows: &Rows<A>, t: &Transfer, e: &Transfer) -> u32
 }
 
 /// What is wrong with a transfer of either kind, or with its id: a code, or 0.
-pub(crate) fn id_code<A: Allocator>(rows: &Rows<A>, t: &Transfer) -> u32
+pub(crate) fn id_code<A: Allocator + Clone>(rows: &Rows<A>, t: &Transfer) -> u32
     ensures { result ≡ id_verdict (books_in rows.now) t.now }
 {
     let code = transfer_own(t);
@@ -77,50 +77,6 @@ pub(crate) fn id_code<A: Allocator>(rows: &Rows<A>, t: &Transfer) -> u32
     match rows.transfers.get(t.id) {
         Some(e) => repeated(rows, t, &e.recorded),
         None => failed_code(rows, t),
-    }
-}
-
-/// A transfer between two accounts that passes: the rows of both, and the amount that it moves.
-#[derive(Clone, Copy)]
-pub(crate) struct Exchange<'a> {
-    pub debit: &'a AccountRow,
-    pub credit: &'a AccountRow,
-    pub amount: u128,
-}
-
-/// The verdict on a transfer between two accounts, once its id is free: a code, or what it exchanges. Each account is looked
-/// up once, and neither where the transfer is wrong by itself.
-pub(crate) fn exchanged<'a, A: Allocator>(
-    rows: &'a Rows<A>,
-    t: &Transfer,
-    time: u64,
-) -> Result<Exchange<'a>, u32>
-    requires { IsKept rows.now }
-    ensures code { MatchResult result (λ x. single_code (books_in rows.now) t.now time ≡ 0) (λ code. single_code (books_in rows.now) t.now time ≡ code) }
-    ensures refused { IfErr result (λ code. code ≢ 0) }
-    ensures debit { IfOk result (λ x. find (λ a. a.created.id == t.now.debit_account_id) rows.now.accounts.0 ≡ Some x.debit.now) }
-    ensures credit { IfOk result (λ x. find (λ a. a.created.id == t.now.credit_account_id) rows.now.accounts.0 ≡ Some x.credit.now) }
-    ensures amount { IfOk result (λ x. x.amount ≡ balanced_between (account_now (books_in rows.now) t.now.debit_account_id) (account_now (books_in rows.now) t.now.credit_account_id) t.now) }
-{
-    let code = single_own(t);
-    if code != 0 {
-        return Err(code);
-    }
-    let debit = match rows.accounts.get(t.debit_account_id) {
-        Some(d) => d,
-        None => return Err(21),
-    };
-    let credit = match rows.accounts.get(t.credit_account_id) {
-        Some(c) => c,
-        None => return Err(22),
-    };
-    match between(debit, credit, t, time) {
-        Ok(amount) => Ok(Exchange {
-            debit,
-            credit,
-            amount,
-        }),
-        Err(code) => Err(code),
     }
 }
 
@@ -135,7 +91,7 @@ pub(crate) struct Resolution<'a> {
 }
 
 /// The row of an account that a recorded transfer names.
-fn party<'a, A: Allocator>(rows: &'a Rows<A>, id: u128) -> &'a AccountRow
+fn party<'a, A: Allocator + Clone>(rows: &'a Rows<A>, id: u128) -> &'a AccountRow
     requires { IsSome (find (λ a. a.created.id == id) rows.now.accounts.0) }
     ensures { find (λ a. a.created.id == id) rows.now.accounts.0 ≡ Some result.now }
 {
@@ -162,7 +118,7 @@ fn closed_code(f: &Transfer, debit: &AccountRow, credit: &AccountRow) -> u32
 }
 
 /// The verdict on a post or void, once its id is free: a code, or what it resolves.
-pub(crate) fn resolved<'a, A: Allocator>(
+pub(crate) fn resolved<'a, A: Allocator + Clone>(
     rows: &'a Rows<A>,
     t: &Transfer,
 ) -> Result<Resolution<'a>, u32>
@@ -187,7 +143,7 @@ pub(crate) fn resolved<'a, A: Allocator>(
 
 /// The verdict on a post or void that is right by itself, by the pending transfer that it names. No account is looked up
 /// before the two fit, and then each once.
-fn resolved_by<'a, A: Allocator>(
+fn resolved_by<'a, A: Allocator + Clone>(
     rows: &'a Rows<A>,
     t: &Transfer,
     p: &'a TransferRow,

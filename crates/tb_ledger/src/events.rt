@@ -1,5 +1,5 @@
 //! What a batch asks of its events.
-ghost use Rattle.std.specs.Prelude.{◌≡◌, ◌≢◌, ◌+◌, ◌<◌, ◌≤◌, ◌==◌, true, false, vec_len, vec_capacity};
+ghost use Rattle.std.specs.Prelude.{◌≡◌, ◌≢◌, ℕ, ◌+◌, ◌<◌, ◌≤◌, ◌==◌, true, false, vec_len, vec_capacity};
 ghost use Rattle.tb_ledger.specs.Kept.{books_in, IsKept};
 ghost use Rattle.tb_ledger.specs.Trail.{IsStep};
 
@@ -16,8 +16,11 @@ pub trait Event: Copy {
 
     ghost kind: { Kind Self };
 
-    // the spare rows that count for it, of those of accounts and of transfers
+    // the room that counts for it, of that of accounts and of transfers
     ghost room: { ℕ → ℕ → ℕ };
+
+    // timeouts have room for those of n events
+    ghost HasTimeoutRoom: { ℕ → ℕ → Type 0 };
 
     // failed ids that are kept or not have room for those of n events
     ghost HasIdRoom: { ℕ → Bool → ℕ → Type 0 };
@@ -30,9 +33,15 @@ pub trait Event: Copy {
         ensures { result ≡ kind.linked self.now };
 
     /// Judges the event as of its timestamp, and records it where the verdict is 0. The trail leads back to before it.
-    fn take<A: Allocator>(&self, rows: &mut Rows<A>, trail: &mut Vec<Undo, A>, time: u64) -> u32
+    fn take<A: Allocator + Clone>(
+        &self,
+        rows: &mut Rows<A>,
+        trail: &mut Vec<Undo, A>,
+        time: u64,
+    ) -> u32
         requires kept { IsKept rows.old }
         requires room { 0 < room rows.old.accounts.1 rows.old.transfers.1 }
+        requires timeouts_room { HasTimeoutRoom 1 rows.old.timeouts.1 }
         requires stamped { rows.old.time < time + 1000000000 }
         requires trail_room { vec_len trail.old + TRAIL_PER_EVENT ≤ vec_capacity trail.old }
         ensures code { result ≡ kind.verdict (books_in rows.old) self.now time }
@@ -40,10 +49,11 @@ pub trait Event: Copy {
         ensures fresh { result ≢ 0 → IsNew (books_in rows.old).failed self.now result }
         ensures kept { IsKept rows.new }
         ensures step { IsStep TRAIL_PER_EVENT rows.old rows.new trail.old trail.new }
-        ensures room { room rows.old.accounts.1 rows.old.transfers.1 ≤ room rows.new.accounts.1 rows.new.transfers.1 + 1 };
+        ensures room { room rows.old.accounts.1 rows.old.transfers.1 ≤ room rows.new.accounts.1 rows.new.transfers.1 + 1 }
+        ensures timeouts_room { (n : ℕ) → HasTimeoutRoom (1 + n) rows.old.timeouts.1 → HasTimeoutRoom n rows.new.timeouts.1 };
 
     /// Notes what the event's refusal leaves behind.
-    fn refuse<A: Allocator>(&self, rows: &mut Rows<A>, code: u32)
+    fn refuse<A: Allocator + Clone>(&self, rows: &mut Rows<A>, code: u32)
         requires kept { IsKept rows.old }
         requires ids { HasIdRoom 1 rows.old.keeps_failed rows.old.failed.1 }
         requires fresh { IsNew (books_in rows.old).failed self.now code }
@@ -51,10 +61,13 @@ pub trait Event: Copy {
         ensures kept { IsKept rows.new }
         ensures accounts { rows.new.accounts ≡ rows.old.accounts }
         ensures transfers { rows.new.transfers ≡ rows.old.transfers }
+        ensures timeouts { rows.new.timeouts ≡ rows.old.timeouts }
         ensures ids { (n : ℕ) → HasIdRoom (1 + n) rows.old.keeps_failed rows.old.failed.1 → HasIdRoom n rows.new.keeps_failed rows.new.failed.1 }
         ensures time { rows.new.time ≡ rows.old.time };
 
     ghost more_room: { (a b c d : ℕ) → a ≤ c → b ≤ d → room a b ≤ room c d };
+
+    ghost fewer_timeouts: { (m n spare more : ℕ) → m ≤ n → spare ≤ more → HasTimeoutRoom n spare → HasTimeoutRoom m more };
 
     ghost fewer_ids: { (m n : ℕ) (keeps : Bool) (spare : ℕ) → m ≤ n → HasIdRoom n keeps spare → HasIdRoom m keeps spare };
 
@@ -68,6 +81,8 @@ impl Event for Account {
 
     ghost room = { λ accounts transfers. accounts };
 
+    ghost HasTimeoutRoom = { λ n spare. Unit {0} };
+
     ghost HasIdRoom = { λ n keeps spare. Unit {0} };
 
     ghost IsNew = { λ failed a code. Unit {0} };
@@ -76,16 +91,23 @@ impl Event for Account {
         self.flags & 1 != 0
     }
 
-    fn take<A: Allocator>(&self, rows: &mut Rows<A>, trail: &mut Vec<Undo, A>, time: u64) -> u32 {
+    fn take<A: Allocator + Clone>(
+        &self,
+        rows: &mut Rows<A>,
+        trail: &mut Vec<Undo, A>,
+        time: u64,
+    ) -> u32 {
         take_account(rows, trail, self, time)
     }
 
-    fn refuse<A: Allocator>(&self, rows: &mut Rows<A>, code: u32) {
+    fn refuse<A: Allocator + Clone>(&self, rows: &mut Rows<A>, code: u32) {
         let _ = rows.time;
         let _ = code;
     }
 
     ghost more_room = { λ a b c d accounts transfers. accounts };
+
+    ghost fewer_timeouts = { λ m n spare more less grown room. tt };
 
     ghost fewer_ids = { λ m n keeps spare less ids. tt };
 
@@ -103,6 +125,8 @@ impl Event for Transfer {
 
     ghost room = { λ accounts transfers. transfers };
 
+    ghost HasTimeoutRoom = { λ n spare. n ≤ spare };
+
     ghost HasIdRoom = { λ n keeps spare. keeps ≡ true → n ≤ spare };
 
     ghost IsNew = { λ failed t code. is_final code ≡ true → option_map_or (list_any (λ id. id == t.id)) failed false ≡ false };
@@ -111,15 +135,22 @@ impl Event for Transfer {
         self.flags & 1 != 0
     }
 
-    fn take<A: Allocator>(&self, rows: &mut Rows<A>, trail: &mut Vec<Undo, A>, time: u64) -> u32 {
+    fn take<A: Allocator + Clone>(
+        &self,
+        rows: &mut Rows<A>,
+        trail: &mut Vec<Undo, A>,
+        time: u64,
+    ) -> u32 {
         take_transfer(rows, trail, self, time)
     }
 
-    fn refuse<A: Allocator>(&self, rows: &mut Rows<A>, code: u32) {
+    fn refuse<A: Allocator + Clone>(&self, rows: &mut Rows<A>, code: u32) {
         note_failed(rows, self, code)
     }
 
     ghost more_room = { λ a b c d accounts transfers. transfers };
+
+    ghost fewer_timeouts = { λ m n spare more less grown room. le_trans less (le_trans room grown) };
 
     ghost fewer_ids = { λ m n keeps spare less ids kept. le_trans less (ids kept) };
 

@@ -1,17 +1,18 @@
 //! Pending transfers whose timeout has passed.
 ghost use Rattle.std.specs.Prelude.{◌≡◌, ℕ, ◌+◌, ◌-◌, ◌<◌, ◌≤◌, ◌==◌, true, false, find, if◌then◌else◌, Some, None, map};
 ghost use Rattle.tb_records.specs.Ordered.{replaced, changed, Each, Rising};
-ghost use Rattle.tb_ledger.specs.Books.{pending, is_open, closing_debit, closing_credit, expires_at, is_due};
-ghost use Rattle.tb_ledger.specs.Kept.{books_in, IsKept, AreKept, HasSums, ExpiresFrom, account_row_key, transfer_row_key, row_holds, dated, lapses, on_debits, on_credits, released, settled, accounts_released};
+ghost use Rattle.tb_ledger.specs.Books.{closing_debit, closing_credit};
+ghost use Rattle.tb_ledger.specs.Kept.{books_in, IsKept, AreKept, HasSums, IsIndex, IsTimeout, account_row_key, transfer_row_key, row_holds, on_debits, on_credits, released, settled, accounts_released};
 ghost use Rattle.tb_ledger.specs.declared.rows.State.TheVariants.{Expired};
 
 use crate::rows::{AccountRow, Rows, State, TransferRow};
 use crate::settling::release_side;
 use crate::table::Table;
+use crate::timeouts::Timeout;
 use std::alloc::Allocator;
 use tb_records::Transfer;
 
-fn release_debit<A: Allocator>(accounts: &mut Table<AccountRow, A>, p: &Transfer)
+fn release_debit<A: Allocator + Clone>(accounts: &mut Table<AccountRow, A>, p: &Transfer)
     requires enough { (a : AccountRow) → find (λ a. a.created.id == p.now.debit_account_id) accounts.old.0 ≡ Some a → p.now.amount ≤ a.debits.pending }
     ensures { accounts.new ≡ (changed account_row_key p.now.debit_account_id (on_debits (released closing_debit p.now)) accounts.old.0, accounts.old.1) }
 {
@@ -29,7 +30,7 @@ fn release_debit<A: Allocator>(accounts: &mut Table<AccountRow, A>, p: &Transfer
     }
 }
 
-fn release_credit<A: Allocator>(accounts: &mut Table<AccountRow, A>, p: &Transfer)
+fn release_credit<A: Allocator + Clone>(accounts: &mut Table<AccountRow, A>, p: &Transfer)
     requires enough { (a : AccountRow) → find (λ a. a.created.id == p.now.credit_account_id) accounts.old.0 ≡ Some a → p.now.amount ≤ a.credits.pending }
     ensures { accounts.new ≡ (changed account_row_key p.now.credit_account_id (on_credits (released closing_credit p.now)) accounts.old.0, accounts.old.1) }
 {
@@ -48,7 +49,7 @@ fn release_credit<A: Allocator>(accounts: &mut Table<AccountRow, A>, p: &Transfe
 }
 
 // Marks a pending transfer that holds as expired, and takes its amount from both accounts.
-fn release<A: Allocator>(rows: &mut Rows<A>, p: &TransferRow)
+fn release<A: Allocator + Clone>(rows: &mut Rows<A>, p: &TransferRow)
     requires rising { Rising account_row_key rows.old.accounts.0 }
     requires sums { Each (HasSums rows.old.transfers.0) rows.old.accounts.0 }
     requires found { find (λ q. q.recorded.id == p.now.recorded.id) rows.old.transfers.0 ≡ Some p.now }
@@ -60,7 +61,7 @@ fn release<A: Allocator>(rows: &mut Rows<A>, p: &TransferRow)
     ensures transfers_rise { Rising transfer_row_key rows.old.transfers.0 }
     ensures failed { rows.new.failed ≡ rows.old.failed }
     ensures keeps_failed { rows.new.keeps_failed ≡ rows.old.keeps_failed }
-    ensures next_expiry { rows.new.next_expiry ≡ rows.old.next_expiry }
+    ensures timeouts { rows.new.timeouts ≡ rows.old.timeouts }
     ensures time { rows.new.time ≡ rows.old.time }
 {
     release_debit(&mut rows.accounts, &p.recorded);
@@ -71,77 +72,53 @@ fn release<A: Allocator>(rows: &mut Rows<A>, p: &TransferRow)
     });
 }
 
-fn holds(row: &TransferRow) -> bool
-    ensures { result ≡ row_holds row.now }
+// The row of a transfer that a timeout names.
+fn waiting<A: Allocator + Clone>(rows: &Rows<A>, due: Timeout) -> TransferRow
+    requires { IsTimeout rows.now.transfers.0 due }
+    ensures found { find (λ t. t.recorded.id == due.id) rows.now.transfers.0 ≡ Some result }
 {
-    row.recorded.flags & 2 != 0 && matches!(row.state, State::Open)
-}
-
-// It holds, and its timeout has passed at the time.
-fn has_lapsed(row: &TransferRow, time: u64) -> bool
-    ensures { result ≡ lapses time row.now }
-{
-    let after = u64::from(row.recorded.timeout) * 1_000_000_000;
-    let passed = after <= time && row.recorded.timestamp <= time - after;
-    holds(row) && row.recorded.timeout != 0 && passed
-}
-
-// The time at which a transfer that holds expires, and of any other no time before it.
-fn expiry_of(row: &TransferRow) -> u64
-    ensures { dated row.now ≡ true → result ≤ expires_at row.now.recorded }
-{
-    if holds(row) && row.recorded.timeout != 0 {
-        let after = u64::from(row.recorded.timeout) * 1_000_000_000;
-        row.recorded.timestamp.saturating_add(after)
-    } else {
-        u64::MAX
+    match rows.transfers.get(due.id) {
+        Some(row) => *row,
+        None => unreachable!(),
     }
 }
 
-// Releases each transfer that is due at the time, in one pass, and answers when the next one expires.
-fn release_due<A: Allocator>(rows: &mut Rows<A>, time: u64) -> u64
+// Releases each transfer that is due at the time.
+fn release_due<A: Allocator + Clone>(rows: &mut Rows<A>, time: u64)
     requires kept { IsKept rows.old }
     requires later { rows.old.time ≤ time }
     ensures kept { AreKept rows.new.accounts.0 rows.new.transfers.0 time }
-    ensures expiries { Each (ExpiresFrom result) rows.new.transfers.0 }
+    ensures index { IsIndex rows.new.transfers.0 rows.new.timeouts.0 }
     ensures accounts { map (λ a. a.created) rows.new.accounts.0 ≡ map (λ a. a.created) rows.old.accounts.0 }
     ensures transfers { map (λ t. t.recorded) rows.new.transfers.0 ≡ map (λ t. t.recorded) rows.old.transfers.0 }
     ensures accounts_room { rows.new.accounts.1 ≡ rows.old.accounts.1 }
     ensures transfers_room { rows.new.transfers.1 ≡ rows.old.transfers.1 }
+    ensures timeouts_room { rows.old.timeouts.1 ≤ rows.new.timeouts.1 }
     ensures failed { rows.new.failed ≡ rows.old.failed }
     ensures keeps_failed { rows.new.keeps_failed ≡ rows.old.keeps_failed }
     ensures time { rows.new.time ≡ rows.old.time }
 {
-    let mut next = u64::MAX;
-    let mut after = None;
-    while let Some(row) = rows.transfers.next_after(after) {
-        after = Some(row.recorded.id);
-        if has_lapsed(row, time) {
-            let p = *row;
-            release(rows, &p);
-        } else {
-            let at = expiry_of(row);
-            next = next.min(at);
-        }
+    rows.timeouts.ordered();
+    while let Some(due) = rows.timeouts.pop_due(time) {
+        let p = waiting(rows, due);
+        release(rows, &p);
     }
-    next
 }
 
-/// Moves the ledger on to `time`: pending transfers whose timeout has passed hold no more.
-pub fn expire<A: Allocator>(rows: &mut Rows<A>, time: u64)
+/// Moves the ledger on to `time`: pending transfers whose timeout has passed hold no more. It takes as many steps as there are
+/// of these.
+pub fn expire<A: Allocator + Clone>(rows: &mut Rows<A>, time: u64)
     requires kept { IsKept rows.old }
     requires later { rows.old.time ≤ time }
     ensures kept { IsKept rows.new }
     ensures books { books_in rows.new ≡ record (books_in rows.old) { time = time } }
     ensures accounts_room { rows.new.accounts.1 ≡ rows.old.accounts.1 }
     ensures transfers_room { rows.new.transfers.1 ≡ rows.old.transfers.1 }
+    ensures timeouts_room { rows.old.timeouts.1 ≤ rows.new.timeouts.1 }
     ensures failed { rows.new.failed ≡ rows.old.failed }
     ensures keeps_failed { rows.new.keeps_failed ≡ rows.old.keeps_failed }
     ensures time { rows.new.time ≡ time }
 {
-    if rows.next_expiry <= time {
-        let next = release_due(rows, time);
-        rows.next_expiry = next;
-    }
+    release_due(rows, time);
     rows.time = time;
 }

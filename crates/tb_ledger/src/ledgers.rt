@@ -3,6 +3,7 @@ ghost use Rattle.std.specs.Prelude.{◌≡◌, ◌+◌, ◌<◌, ◌≤◌, ◌+
 ghost use Rattle.tb_ledger.specs.Batches.{account_events, batch_after, results, transfer_events};
 ghost use Rattle.tb_ledger.specs.Books.{account_now, empty_books, found_accounts, found_transfers, moved_to_two, profile_of, transfer_at};
 ghost use Rattle.tb_ledger.specs.Kept.{books_in, IsKept, row_now};
+ghost use Rattle.tb_ledger.specs.Tables.{IsShortSearch};
 ghost use Rattle.tb_ledger.specs.Verdicts.{max_time};
 
 use crate::batching::run_batch;
@@ -52,7 +53,7 @@ fn as_it_stands(row: &AccountRow) -> Account
     }
 }
 
-// Makes room for `n` transfers, and for as many failed ids where these are kept.
+// Makes room for `n` transfers and their timeouts, and for as many failed ids where these are kept.
 fn reserve_transfers<A: Allocator + Clone>(
     rows: &mut Rows<A>,
     alloc: &A,
@@ -61,9 +62,10 @@ fn reserve_transfers<A: Allocator + Clone>(
     requires { IsKept rows.old }
     ensures kept { IsKept rows.new }
     ensures books { books_in rows.new ≡ books_in rows.old }
-    ensures ok { OnOk result ((n ≤ rows.new.transfers.1) × (rows.new.keeps_failed ≡ true → n ≤ rows.new.failed.1)) }
+    ensures ok { OnOk result ((n ≤ rows.new.transfers.1) × (n ≤ rows.new.timeouts.1) × (rows.new.keeps_failed ≡ true → n ≤ rows.new.failed.1)) }
 {
     rows.transfers.reserve(alloc, n)?;
+    rows.timeouts.reserve(alloc, n)?;
     if rows.keeps_failed {
         rows.failed.reserve(alloc, n)?;
     }
@@ -80,6 +82,7 @@ fn enter<E: Event, A: Allocator + Clone>(
 ) -> Result<Vec<EventResult>, AllocError>
     requires kept { IsKept rows.old }
     requires room { length events.now ≤ E.room rows.old.accounts.1 rows.old.transfers.1 }
+    requires timeouts_room { E.HasTimeoutRoom (length events.now) rows.old.timeouts.1 }
     requires ids { E.HasIdRoom (length events.now) rows.old.keeps_failed rows.old.failed.1 }
     requires count { length events.now ≤ 8190 }
     requires later { rows.old.time + max (length events.now) 1 ≤ t }
@@ -141,6 +144,19 @@ impl<A: Allocator + Clone> Ledger<A> {
         match self.rows.accounts.get(id) {
             Some(row) => Some(as_it_stands(row)),
             None => None,
+        }
+    }
+
+    /// What [`Ledger::account`] answers, and the number of accounts that the search looked at: at most the height of a balanced
+    /// tree of them all.
+    pub fn probe_account(&self, id: u128) -> (Option<Account>, u32)
+        ensures account { result.0 ≡ account_now self.now id }
+        ensures visits { IsShortSearch (length self.now.accounts) result.1 }
+    {
+        let (row, visits) = self.rows.accounts.probe(id);
+        match row {
+            Some(row) => (Some(as_it_stands(row)), visits),
+            None => (None, visits),
         }
     }
 

@@ -5,14 +5,17 @@ mod batching;
 mod chains;
 mod deciding;
 mod events;
+mod exchanging;
 mod expiry;
 mod judging;
 pub mod laws;
 mod ledgers;
+mod listing;
 mod recording;
 mod rows;
 mod settling;
 mod table;
+mod timeouts;
 mod undo;
 pub mod worked_rows;
 

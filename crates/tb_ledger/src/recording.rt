@@ -8,17 +8,17 @@ ghost use Rattle.tb_ledger.specs.Groups.{id_verdict};
 ghost use Rattle.tb_ledger.specs.Kept.{books_in, IsKept};
 ghost use Rattle.tb_ledger.specs.Trail.{IsStep};
 
-use crate::deciding::{
-    Exchange, Resolution, account_code, exchanged, id_code, resolved, resolving,
-};
+use crate::deciding::{Resolution, account_code, id_code, resolved, resolving};
+use crate::exchanging::exchange;
+use crate::judging::single_own;
 use crate::rows::Rows;
-use crate::settling::{add_single, record_account, settle};
+use crate::settling::{add_row, record_account, row_of, settle};
 use crate::undo::{TRAIL_PER_EVENT, Undo};
 use std::alloc::Allocator;
 use tb_records::{Account, Transfer};
 
 /// Judges an account, and records it with its timestamp where the verdict is 0.
-pub(crate) fn take_account<A: Allocator>(
+pub(crate) fn take_account<A: Allocator + Clone>(
     rows: &mut Rows<A>,
     trail: &mut Vec<Undo, A>,
     a: &Account,
@@ -44,7 +44,7 @@ pub(crate) fn take_account<A: Allocator>(
 }
 
 /// Judges a transfer between two accounts whose id is free, and records it, balanced and stamped, where the verdict is 0.
-fn take_single<A: Allocator>(
+fn take_single<A: Allocator + Clone>(
     rows: &mut Rows<A>,
     trail: &mut Vec<Undo, A>,
     t: &Transfer,
@@ -52,6 +52,7 @@ fn take_single<A: Allocator>(
 ) -> u32
     requires kept { IsKept rows.old }
     requires room { 0 < rows.old.transfers.1 }
+    requires timeouts_room { 0 < rows.old.timeouts.1 }
     requires trail_room { vec_len trail.old + TRAIL_PER_EVENT ≤ vec_capacity trail.old }
     requires stamped { rows.old.time < time + 1000000000 }
     requires free { id_verdict (books_in rows.old) t.now ≡ 0 }
@@ -61,20 +62,22 @@ fn take_single<A: Allocator>(
     ensures kept { IsKept rows.new }
     ensures step { IsStep TRAIL_PER_EVENT rows.old rows.new trail.old trail.new }
     ensures room { rows.old.transfers.1 ≤ rows.new.transfers.1 + 1 }
+    ensures timeouts_room { rows.old.timeouts.1 ≤ rows.new.timeouts.1 + 1 }
 {
-    match exchanged(rows, t, time) {
-        Ok(found) => {
-            let Exchange {
-                debit,
-                credit,
-                amount,
-            } = found;
-            let debit = *debit;
-            let credit = *credit;
+    let code = single_own(t);
+    if code != 0 {
+        return code;
+    }
+    match exchange(&mut rows.accounts, t, time) {
+        Ok(passed) => {
+            trail.push_reserved(Undo::Account(passed.debit));
+            trail.push_reserved(Undo::Account(passed.credit));
             let mut recorded = *t;
-            recorded.amount = amount;
+            recorded.amount = passed.amount;
             recorded.timestamp = time;
-            add_single(rows, trail, &debit, &credit, &recorded);
+            rows.timeouts.ordered();
+            let row = row_of(recorded);
+            add_row(&mut rows.transfers, &mut rows.timeouts, trail, &row);
             0
         }
         Err(code) => code,
@@ -82,7 +85,7 @@ fn take_single<A: Allocator>(
 }
 
 /// Judges a post or void whose id is free, and records it, filled and stamped, where the verdict is 0.
-fn take_resolving<A: Allocator>(
+fn take_resolving<A: Allocator + Clone>(
     rows: &mut Rows<A>,
     trail: &mut Vec<Undo, A>,
     t: &Transfer,
@@ -98,6 +101,7 @@ fn take_resolving<A: Allocator>(
     ensures kept { IsKept rows.new }
     ensures step { IsStep TRAIL_PER_EVENT rows.old rows.new trail.old trail.new }
     ensures room { rows.old.transfers.1 ≤ rows.new.transfers.1 + 1 }
+    ensures timeouts_room { rows.old.timeouts.1 ≤ rows.new.timeouts.1 + 1 }
 {
     match resolved(rows, t) {
         Ok(found) => {
@@ -119,7 +123,7 @@ fn take_resolving<A: Allocator>(
 }
 
 /// Judges a transfer, and records it where the verdict is 0.
-pub(crate) fn take_transfer<A: Allocator>(
+pub(crate) fn take_transfer<A: Allocator + Clone>(
     rows: &mut Rows<A>,
     trail: &mut Vec<Undo, A>,
     t: &Transfer,
@@ -127,6 +131,7 @@ pub(crate) fn take_transfer<A: Allocator>(
 ) -> u32
     requires kept { IsKept rows.old }
     requires room { 0 < rows.old.transfers.1 }
+    requires timeouts_room { 0 < rows.old.timeouts.1 }
     requires trail_room { vec_len trail.old + TRAIL_PER_EVENT ≤ vec_capacity trail.old }
     requires stamped { rows.old.time < time + 1000000000 }
     ensures code { result ≡ transfer_events.verdict (books_in rows.old) t.now time }
@@ -134,6 +139,7 @@ pub(crate) fn take_transfer<A: Allocator>(
     ensures kept { IsKept rows.new }
     ensures step { IsStep TRAIL_PER_EVENT rows.old rows.new trail.old trail.new }
     ensures room { rows.old.transfers.1 ≤ rows.new.transfers.1 + 1 }
+    ensures timeouts_room { rows.old.timeouts.1 ≤ rows.new.timeouts.1 + 1 }
 {
     let code = id_code(rows, t);
     if code != 0 {
@@ -154,7 +160,7 @@ fn final_code(code: u32) -> bool
 }
 
 /// By profile 2, notes the id of a transfer that has failed for good.
-pub(crate) fn note_failed<A: Allocator>(rows: &mut Rows<A>, t: &Transfer, code: u32)
+pub(crate) fn note_failed<A: Allocator + Clone>(rows: &mut Rows<A>, t: &Transfer, code: u32)
     requires kept { IsKept rows.old }
     requires ids { rows.old.keeps_failed ≡ true → 1 ≤ rows.old.failed.1 }
     requires fresh { is_final code ≡ true → option_map_or (list_any (λ id. id == t.now.id)) (books_in rows.old).failed false ≡ false }
@@ -162,6 +168,7 @@ pub(crate) fn note_failed<A: Allocator>(rows: &mut Rows<A>, t: &Transfer, code: 
     ensures kept { IsKept rows.new }
     ensures accounts { rows.new.accounts ≡ rows.old.accounts }
     ensures transfers { rows.new.transfers ≡ rows.old.transfers }
+    ensures timeouts { rows.new.timeouts ≡ rows.old.timeouts }
     ensures ids { (n : ℕ) → (rows.old.keeps_failed ≡ true → 1 + n ≤ rows.old.failed.1) → rows.new.keeps_failed ≡ true → n ≤ rows.new.failed.1 }
     ensures time { rows.new.time ≡ rows.old.time }
 {

@@ -4,6 +4,7 @@ ghost use Rattle.tb_ledger.specs.Books.{empty_books};
 ghost use Rattle.tb_ledger.specs.Kept.{books_in, IsKept};
 
 use crate::table::{Keyed, Table};
+use crate::timeouts::Timeouts;
 use std::alloc::Allocator;
 use tb_records::{Account, Profile, Transfer};
 
@@ -61,20 +62,20 @@ impl Keyed for TransferRow {
 
 /// The tables of a ledger.
 #[derive(Drop)]
-pub struct Rows<A: Allocator> {
+pub struct Rows<A: Allocator + Clone> {
     pub accounts: Table<AccountRow, A>,
     pub transfers: Table<TransferRow, A>,
     /// The ids of transfers that failed for good; by profile 1 it stays empty.
     pub failed: Table<u128, A>,
     /// By profile 2 such ids are kept.
     pub keeps_failed: bool,
-    /// No open pending transfer expires before this time, in nanoseconds.
-    pub next_expiry: u64,
+    /// A timeout for each open pending transfer that has one, and for no other.
+    pub timeouts: Timeouts<A>,
     /// Of the last entry, in nanoseconds.
     pub time: u64,
 }
 
-impl<A: Allocator> Rows<A> {
+impl<A: Allocator + Clone> Rows<A> {
     /// The rows of a new ledger. No memory is taken.
     pub fn new(profile: Profile) -> Self
         ensures kept { IsKept result }
@@ -85,7 +86,7 @@ impl<A: Allocator> Rows<A> {
             transfers: Table::new(),
             failed: Table::new(),
             keeps_failed: matches!(profile, Profile::Two),
-            next_expiry: u64::MAX,
+            timeouts: Timeouts::new(),
             time: 0,
         }
     }

@@ -1,14 +1,17 @@
 //! What an accepted event changes: an account added, a transfer recorded, a pending transfer resolved.
 ghost use Rattle.std.specs.Prelude.{◌≡◌, ◌+◌, ◌-◌, ◌<◌, ◌≤◌, ◌==◌, true, false, find, if◌then◌else◌, Some, None, vec_len, vec_capacity};
 ghost use Rattle.tb_records.specs.Ordered.{put, replaced, changed, Each, Rising};
-ghost use Rattle.tb_ledger.specs.Books.{pending, moves, resolves, closing_debit, closing_credit, expires_at, account_at, transfer_at};
+ghost use Rattle.tb_ledger.specs.Books.{pending, moves, resolves, closing_debit, closing_credit, account_at, transfer_at};
 ghost use Rattle.tb_ledger.specs.Verdicts.{max_id};
-ghost use Rattle.tb_ledger.specs.Kept.{books_in, IsKept, account_row_key, transfer_row_key, dated, ExpiresFrom, on_debits, on_credits, gained, released, resolved, settled, outcome_of, new_row, new_transfer_row};
+ghost use Rattle.tb_ledger.specs.Kept.{books_in, IsKept, account_row_key, transfer_row_key, dated, listed, unlisted, CanList, IsListed, on_debits, on_credits, gained, released, resolved, settled, outcome_of, new_row, new_transfer_row};
 ghost use Rattle.tb_ledger.specs.Sound.{Sound, Moves, Resolves, account_key, transfer_key};
+ghost use Rattle.tb_ledger.specs.Timeouts.{AreTimeouts};
 ghost use Rattle.tb_ledger.specs.Trail.{IsStep, IsNoted, IsMarked};
 
+use crate::listing::{list, unlist};
 use crate::rows::{AccountRow, Rows, Side, State, TransferRow};
 use crate::table::Table;
+use crate::timeouts::Timeouts;
 use crate::undo::{TRAIL_PER_EVENT, Undo};
 use std::alloc::Allocator;
 use tb_records::{Account, Transfer};
@@ -31,7 +34,7 @@ fn posted_part(t: &Transfer) -> u128
     }
 }
 
-fn gain_side(s: Side, t: &Transfer, closes: bool) -> Side
+pub(crate) fn gain_side(s: Side, t: &Transfer, closes: bool) -> Side
     requires { s.pending + s.posted + t.now.amount ≤ max_id }
     ensures { result ≡ gained (λ _. closes) t.now s }
 {
@@ -67,7 +70,7 @@ fn settle_side(s: Side, p: &Transfer, r: &Transfer, closes: bool, closes_anew: b
 }
 
 // Writes an account's row, and notes the one from before.
-fn change<A: Allocator>(
+fn change<A: Allocator + Clone>(
     accounts: &mut Table<AccountRow, A>,
     trail: &mut Vec<Undo, A>,
     old: &AccountRow,
@@ -82,47 +85,7 @@ fn change<A: Allocator>(
     accounts.replace(new);
 }
 
-fn gain_debit<A: Allocator>(
-    accounts: &mut Table<AccountRow, A>,
-    trail: &mut Vec<Undo, A>,
-    old: &AccountRow,
-    t: &Transfer,
-)
-    requires room { vec_len trail.old < vec_capacity trail.old }
-    requires found { find (λ a. a.created.id == t.now.debit_account_id) accounts.old.0 ≡ Some old.now }
-    requires takes { old.now.debits.pending + old.now.debits.posted + t.now.amount ≤ max_id }
-    ensures accounts { accounts.new ≡ (changed account_row_key t.now.debit_account_id (on_debits (gained closing_debit t.now)) accounts.old.0, accounts.old.1) }
-    ensures noted { IsNoted 1 accounts.old.0 accounts.new.0 trail.old trail.new }
-{
-    let new = AccountRow {
-        created: old.created,
-        debits: gain_side(old.debits, t, t.flags & 64 != 0),
-        credits: old.credits,
-    };
-    change(accounts, trail, old, new);
-}
-
-fn gain_credit<A: Allocator>(
-    accounts: &mut Table<AccountRow, A>,
-    trail: &mut Vec<Undo, A>,
-    old: &AccountRow,
-    t: &Transfer,
-)
-    requires room { vec_len trail.old < vec_capacity trail.old }
-    requires found { find (λ a. a.created.id == t.now.credit_account_id) accounts.old.0 ≡ Some old.now }
-    requires takes { old.now.credits.pending + old.now.credits.posted + t.now.amount ≤ max_id }
-    ensures accounts { accounts.new ≡ (changed account_row_key t.now.credit_account_id (on_credits (gained closing_credit t.now)) accounts.old.0, accounts.old.1) }
-    ensures noted { IsNoted 1 accounts.old.0 accounts.new.0 trail.old trail.new }
-{
-    let new = AccountRow {
-        created: old.created,
-        debits: old.debits,
-        credits: gain_side(old.credits, t, t.flags & 128 != 0),
-    };
-    change(accounts, trail, old, new);
-}
-
-fn settle_debit<A: Allocator>(
+fn settle_debit<A: Allocator + Clone>(
     accounts: &mut Table<AccountRow, A>,
     trail: &mut Vec<Undo, A>,
     old: &AccountRow,
@@ -145,7 +108,7 @@ fn settle_debit<A: Allocator>(
     change(accounts, trail, old, new);
 }
 
-fn settle_credit<A: Allocator>(
+fn settle_credit<A: Allocator + Clone>(
     accounts: &mut Table<AccountRow, A>,
     trail: &mut Vec<Undo, A>,
     old: &AccountRow,
@@ -168,40 +131,40 @@ fn settle_credit<A: Allocator>(
     change(accounts, trail, old, new);
 }
 
-// The time at which a pending transfer expires, and of any other no time before it.
-fn first_expiry(t: &Transfer) -> u64
-    ensures { dated (new_transfer_row t.now) ≡ true → result ≤ expires_at t.now }
+// The row of a transfer that is new: a pending one is open.
+pub(crate) fn row_of(recorded: Transfer) -> TransferRow
+    ensures row { result ≡ new_transfer_row recorded }
+    ensures fits { recorded.id ≤ max_id }
 {
-    if t.flags & 2 != 0 && t.timeout != 0 {
-        let after = u64::from(t.timeout) * 1_000_000_000;
-        t.timestamp.saturating_add(after)
-    } else {
-        u64::MAX
+    TransferRow {
+        recorded,
+        state: State::Open,
     }
 }
 
-// Adds the row of a transfer.
-fn add_row<A: Allocator>(
+// Adds the row of a transfer, and its timeout where it has one.
+pub(crate) fn add_row<A: Allocator + Clone>(
     transfers: &mut Table<TransferRow, A>,
+    timeouts: &mut Timeouts<A>,
     trail: &mut Vec<Undo, A>,
-    t: &Transfer,
+    row: &TransferRow,
 )
     requires room { 0 < transfers.old.1 }
     requires trail_room { vec_len trail.old < vec_capacity trail.old }
-    requires fresh { find (λ row. row.recorded.id == t.now.id) transfers.old.0 ≡ None }
-    ensures transfers { transfers.new ≡ (put transfer_row_key (new_transfer_row t.now) transfers.old.0, transfers.old.1 - 1) }
+    requires fresh { find (λ t. t.recorded.id == row.now.recorded.id) transfers.old.0 ≡ None }
+    requires can_list { dated row.now ≡ true → CanList row.now timeouts.old }
+    ensures transfers { transfers.new ≡ (put transfer_row_key row.now transfers.old.0, transfers.old.1 - 1) }
+    ensures timeouts { timeouts.new ≡ listed row.now timeouts.old }
     ensures rising { Rising transfer_row_key transfers.old.0 }
-    ensures marked { IsMarked 1 transfers.old.0 transfers.new.0 trail.old trail.new }
+    ensures marked { IsMarked 1 transfers.old.0 transfers.new.0 timeouts.old timeouts.new trail.old trail.new }
 {
-    trail.push_reserved(Undo::AddedTransfer(t.id));
-    transfers.insert_reserved(TransferRow {
-        recorded: *t,
-        state: State::Open,
-    });
+    trail.push_reserved(Undo::AddedTransfer(*row));
+    transfers.insert_reserved(*row);
+    list(timeouts, row);
 }
 
 // Adds the row of an account: no transfer names it yet.
-fn add_account_row<A: Allocator>(
+fn add_account_row<A: Allocator + Clone>(
     accounts: &mut Table<AccountRow, A>,
     trail: &mut Vec<Undo, A>,
     a: &Account,
@@ -225,24 +188,29 @@ fn add_account_row<A: Allocator>(
     });
 }
 
-// Gives a pending transfer its state.
-fn close_row<A: Allocator>(
+// Gives a pending transfer its state, and takes its timeout where it has one.
+fn close_row<A: Allocator + Clone>(
     transfers: &mut Table<TransferRow, A>,
+    timeouts: &mut Timeouts<A>,
     trail: &mut Vec<Undo, A>,
     p: &TransferRow,
     state: State,
 )
     requires trail_room { vec_len trail.old < vec_capacity trail.old }
     requires found { find (λ row. row.recorded.id == p.now.recorded.id) transfers.old.0 ≡ Some p.now }
+    requires is_listed { dated p.now ≡ true → IsListed timeouts.old.0 p.now }
     ensures transfers { transfers.new ≡ (replaced transfer_row_key (settled state p.now) transfers.old.0, transfers.old.1) }
+    ensures timeouts { timeouts.new ≡ unlisted p.now timeouts.old }
     ensures rising { Rising transfer_row_key transfers.old.0 }
-    ensures marked { IsMarked 1 transfers.old.0 transfers.new.0 trail.old trail.new }
+    ensures ordered { AreTimeouts timeouts.old.0 }
+    ensures marked { IsMarked 1 transfers.old.0 transfers.new.0 timeouts.old timeouts.new trail.old trail.new }
 {
     trail.push_reserved(Undo::Transfer(*p));
     transfers.replace(TransferRow {
         recorded: p.recorded,
         state,
     });
+    unlist(timeouts, p);
 }
 
 fn outcome(r: &Transfer) -> State
@@ -256,7 +224,11 @@ fn outcome(r: &Transfer) -> State
 }
 
 /// Adds an account as it is recorded.
-pub fn record_account<A: Allocator>(rows: &mut Rows<A>, trail: &mut Vec<Undo, A>, a: &Account)
+pub fn record_account<A: Allocator + Clone>(
+    rows: &mut Rows<A>,
+    trail: &mut Vec<Undo, A>,
+    a: &Account,
+)
     requires kept { IsKept rows.old }
     requires room { 0 < rows.old.accounts.1 }
     requires trail_room { vec_len trail.old + TRAIL_PER_EVENT ≤ vec_capacity trail.old }
@@ -267,44 +239,14 @@ pub fn record_account<A: Allocator>(rows: &mut Rows<A>, trail: &mut Vec<Undo, A>
     ensures step { IsStep TRAIL_PER_EVENT rows.old rows.new trail.old trail.new }
     ensures accounts_room { rows.new.accounts.1 + 1 ≡ rows.old.accounts.1 }
     ensures transfers_room { rows.new.transfers.1 ≡ rows.old.transfers.1 }
+    ensures timeouts_room { rows.new.timeouts.1 ≡ rows.old.timeouts.1 }
 {
     add_account_row(&mut rows.accounts, trail, a);
 }
 
-/// Records a transfer that is no post or void, as it is recorded: balanced and stamped. The rows of its accounts, as they
-/// stand before it, are handed in.
-pub fn add_single<A: Allocator>(
-    rows: &mut Rows<A>,
-    trail: &mut Vec<Undo, A>,
-    debit: &AccountRow,
-    credit: &AccountRow,
-    t: &Transfer,
-)
-    requires kept { IsKept rows.old }
-    requires room { 0 < rows.old.transfers.1 }
-    requires trail_room { vec_len trail.old + TRAIL_PER_EVENT ≤ vec_capacity trail.old }
-    requires fresh { transfer_at (books_in rows.old) t.now.id ≡ None }
-    requires single { resolves t.now ≡ false }
-    requires stamped { rows.old.time < t.now.timestamp + 1000000000 }
-    requires moves { Moves (books_in rows.old) t.now }
-    requires debit { find (λ a. a.created.id == t.now.debit_account_id) rows.old.accounts.0 ≡ Some debit.now }
-    requires credit { find (λ a. a.created.id == t.now.credit_account_id) rows.old.accounts.0 ≡ Some credit.now }
-    ensures kept { IsKept rows.new }
-    ensures books { books_in rows.new ≡ record (books_in rows.old) { transfers = put transfer_key t.now (books_in rows.old).transfers } }
-    ensures step { IsStep TRAIL_PER_EVENT rows.old rows.new trail.old trail.new }
-    ensures accounts_room { rows.new.accounts.1 ≡ rows.old.accounts.1 }
-    ensures transfers_room { rows.new.transfers.1 + 1 ≡ rows.old.transfers.1 }
-{
-    gain_debit(&mut rows.accounts, trail, debit, t);
-    gain_credit(&mut rows.accounts, trail, credit, t);
-    add_row(&mut rows.transfers, trail, t);
-    let first = first_expiry(t);
-    rows.next_expiry = rows.next_expiry.min(first);
-}
-
 /// Records a post or void, filled and stamped, of the pending transfer `p`. The rows of its accounts, as they stand before it,
 /// are handed in.
-pub fn settle<A: Allocator>(
+pub fn settle<A: Allocator + Clone>(
     rows: &mut Rows<A>,
     trail: &mut Vec<Undo, A>,
     p: &TransferRow,
@@ -326,10 +268,12 @@ pub fn settle<A: Allocator>(
     ensures step { IsStep TRAIL_PER_EVENT rows.old rows.new trail.old trail.new }
     ensures accounts_room { rows.new.accounts.1 ≡ rows.old.accounts.1 }
     ensures transfers_room { rows.new.transfers.1 + 1 ≡ rows.old.transfers.1 }
+    ensures timeouts_room { rows.old.timeouts.1 ≤ rows.new.timeouts.1 + 1 }
 {
     settle_debit(&mut rows.accounts, trail, debit, &p.recorded, r);
     settle_credit(&mut rows.accounts, trail, credit, &p.recorded, r);
     let state = outcome(r);
-    close_row(&mut rows.transfers, trail, p, state);
-    add_row(&mut rows.transfers, trail, r);
+    close_row(&mut rows.transfers, &mut rows.timeouts, trail, p, state);
+    let row = row_of(*r);
+    add_row(&mut rows.transfers, &mut rows.timeouts, trail, &row);
 }

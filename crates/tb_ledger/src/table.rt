@@ -1,9 +1,12 @@
-//! A finite map in a sorted vector: rows in the order of their keys.
-ghost use Rattle.std.specs.Prelude.{◌≡◌, ℕ, ◌+◌, ◌-◌, ◌<◌, ◌≤◌, ◌==◌, nat_lt, Bool, true, List, [], length, Option, Some, None, find, OnOk, option_copied, MatchOption, IfSome, vec_len, vec_capacity};
-ghost use Rattle.std.specs.Option.{option_map_or};
-ghost use Rattle.tb_records.specs.Ordered.{put, replaced, taken_out, Rising, IsPlace};
-ghost use Rattle.tb_ledger.specs.Tables.{is_after, IsPlaceOf, IsPlaceAfter};
+//! A finite map: rows by rising key, in a balanced tree.
+ghost use Rattle.std.specs.Prelude.{◌≡◌, ◌≢◌, ◌⊎◌, ℕ, ◌+◌, ◌-◌, ◌<◌, ◌≤◌, ◌==◌, List, [], length, None, find, OnOk, IfSome, IfNone};
+ghost use Rattle.std.specs.Option.{option_copied};
+ghost use Rattle.std.specs.Map.{values_of};
+ghost use Rattle.tb_records.specs.Ordered.{put, replaced, taken_out, Rising};
+ghost use Rattle.avl_tree.specs.Map.{entries};
+ghost use Rattle.tb_ledger.specs.Tables.{IsTable, IsShortSearch, KeepsKeys, ChangedRows};
 
+use avl_tree::AvlMap;
 use std::alloc::{AllocError, Allocator};
 use std::marker::Model;
 
@@ -25,162 +28,98 @@ impl Keyed for u128 {
 
 /// Rows by rising key. A table takes memory only where it is asked to reserve.
 #[derive(Drop)]
-pub struct Table<V: Keyed, A: Allocator> {
-    rows: Option<Vec<V, A>>,
+pub struct Table<V: Keyed, A: Allocator + Clone> {
+    rows: Option<AvlMap<u128, V, A>>,
 }
 
-impl<V: Keyed, A: Allocator> Model for Table<V, A> {
+impl<V: Keyed, A: Allocator + Clone> Model for Table<V, A> {
+    ghost use Rattle.std.specs.Prelude.{ℕ, List};
+    ghost use Rattle.tb_ledger.specs.Tables.{entries_in, rows_in, room_in, IsTable};
+
     ghost Value = { List V × ℕ };
 
-    ghost view = { λ t. (option_map_or (λ v. v.items) t.rows [], option_map_or (λ v. vec_capacity v - vec_len v) t.rows 0) };
+    ghost view = { λ t. (rows_in t.rows, room_in t.rows) };
 
-    ghost invariant = { λ t. Rising V.key (option_map_or (λ v. v.items) t.rows []) };
-}
-
-// The first place whose key isn't below the id. An id above all keys costs one comparison.
-fn place<V: Keyed>(rows: &[V], id: u128) -> usize
-    requires { Rising V.key rows.now }
-    ensures { IsPlace V.key rows.now id result }
-{
-    let n = rows.len();
-    if n == 0 {
-        return 0;
-    }
-    if rows[n - 1].key() < id {
-        return n;
-    }
-    let mut low = 0;
-    let mut high = n - 1;
-    while low < high {
-        let middle = low + (high - low) / 2;
-        if rows[middle].key() < id {
-            low = middle + 1;
-        } else {
-            high = middle;
-        }
-    }
-    low
-}
-
-// The place of the row with the key.
-#[tactic(auto, using(tb_records::proofs::ByKey::absent_at_place))]
-fn place_of<V: Keyed>(rows: &[V], id: u128) -> Option<usize>
-    requires { Rising V.key rows.now }
-    ensures some { IfSome result (λ i. IsPlaceOf V.key rows.now id i) }
-    ensures none { result ≡ None → find (λ row. V.key row == id) rows.now ≡ None }
-{
-    let i = place(rows, id);
-    if i < rows.len() && rows[i].key() == id {
-        Some(i)
-    } else {
-        None
-    }
+    ghost invariant = { λ t. IsTable V.key (entries_in t.rows) };
 }
 
 // The row with the key.
-#[tactic(auto, using(tb_records::proofs::ByKey::found_at_place))]
-fn row_of<V: Keyed>(rows: &[V], id: u128) -> Option<&V>
-    requires { Rising V.key rows.now }
-    ensures { option_copied result ≡ find (λ row. V.key row == id) rows.now }
+fn row_of<V: Keyed, A: Allocator + Clone>(rows: &AvlMap<u128, V, A>, id: u128) -> Option<&V>
+    requires { IsTable V.key (entries rows.now) }
+    ensures { option_copied result ≡ find (λ row. V.key row == id) (values_of (entries rows.now)) }
 {
-    match place_of(rows, id) {
-        Some(i) => Some(&rows[i]),
-        None => None,
-    }
+    rows.get(&id)
 }
 
-// The first place whose key is above the id.
-fn place_after<V: Keyed>(rows: &[V], id: u128) -> usize
-    requires { Rising V.key rows.now }
-    ensures { IsPlaceAfter V.key rows.now id result }
+// The row with the key, and the number of nodes that the search met.
+fn probe_row<V: Keyed, A: Allocator + Clone>(
+    rows: &AvlMap<u128, V, A>,
+    id: u128,
+) -> (Option<&V>, u32)
+    requires { IsTable V.key (entries rows.now) }
+    ensures row { option_copied result.0 ≡ find (λ row. V.key row == id) (values_of (entries rows.now)) }
+    ensures visits { IsShortSearch (length (values_of (entries rows.now))) result.1 }
 {
-    let i = place(rows, id);
-    if i < rows.len() && rows[i].key() == id {
-        i + 1
-    } else {
-        i
-    }
+    rows.probe(&id)
 }
 
-// The least row after the key.
-fn row_after<V: Keyed>(rows: &[V], id: u128) -> Option<&V>
-    requires { Rising V.key rows.now }
-    ensures { option_copied result ≡ find (λ row. nat_lt id (V.key row)) rows.now }
+// Inserts a row whose key isn't there into a spare node.
+fn insert_row<V: Keyed, A: Allocator + Clone>(rows: &mut AvlMap<u128, V, A>, row: V)
+    requires table { IsTable V.key (entries rows.old) }
+    requires room { 0 < rows.old.spare }
+    requires absent { find (λ y. V.key y == V.key row) (values_of (entries rows.old)) ≡ None }
+    ensures table { IsTable V.key (entries rows.new) }
+    ensures rows { values_of (entries rows.new) ≡ put V.key row (values_of (entries rows.old)) }
+    ensures room { rows.new.spare + 1 ≡ rows.old.spare }
 {
-    let i = place_after(rows, id);
-    if i < rows.len() { Some(&rows[i]) } else { None }
-}
-
-// Inserts a row whose key isn't there. A key above all others goes to the end without a move.
-#[tactic(auto, using(tb_records::proofs::ByKey::insert_at_place, crate::proofs::Places::append_at_place))]
-fn insert_row<V: Keyed, A: Allocator>(rows: &mut Vec<V, A>, row: V)
-    requires rising { Rising V.key rows.old.items }
-    requires room { vec_len rows.old < vec_capacity rows.old }
-    ensures items { rows.new.items ≡ put V.key row rows.old.items }
-    ensures len { vec_len rows.new ≡ vec_len rows.old + 1 }
-    ensures capacity { vec_capacity rows.new ≡ vec_capacity rows.old }
-{
-    let i = place(rows, row.key());
-    if i == rows.len() {
-        rows.push_reserved(row);
-    } else {
-        let _ = rows.insert(i, row);
-    }
+    rows.insert_reserved(row.key(), row);
 }
 
 // Puts a row in place of the one that has its key, if there is one.
-#[tactic(auto, using(tb_records::proofs::ByKey::set_at_place, tb_records::proofs::ByKey::replaced_absent))]
-fn replace_row<V: Keyed, A: Allocator>(rows: &mut Vec<V, A>, row: V)
-    requires { Rising V.key rows.old.items }
-    ensures items { rows.new.items ≡ replaced V.key row rows.old.items }
-    ensures len { vec_len rows.new ≡ vec_len rows.old }
-    ensures capacity { vec_capacity rows.new ≡ vec_capacity rows.old }
+fn replace_row<V: Keyed, A: Allocator + Clone>(rows: &mut AvlMap<u128, V, A>, row: V)
+    requires table { IsTable V.key (entries rows.old) }
+    ensures table { IsTable V.key (entries rows.new) }
+    ensures rows { values_of (entries rows.new) ≡ replaced V.key row (values_of (entries rows.old)) }
+    ensures room { rows.new.spare ≡ rows.old.spare }
 {
-    match place_of(rows, row.key()) {
-        Some(i) => rows[i] = row,
-        None => {}
-    }
+    let _ = rows.set(row.key(), row);
 }
 
-// Takes the row with the key out, if there is one.
-#[tactic(auto, using(tb_records::proofs::ByKey::remove_at_place, tb_records::proofs::ByKey::taken_out_absent))]
-fn remove_row<V: Keyed, A: Allocator>(rows: &mut Vec<V, A>, id: u128)
-    requires { Rising V.key rows.old.items }
-    ensures items { rows.new.items ≡ taken_out V.key id rows.old.items }
-    ensures len { vec_len rows.new ≤ vec_len rows.old }
-    ensures capacity { vec_capacity rows.new ≡ vec_capacity rows.old }
+// Calls the closure at the rows of two keys, where both are there.
+fn update_rows<V: Keyed, A: Allocator + Clone, R, F: FnMut(&mut V, &mut V) -> R>(
+    rows: &mut AvlMap<u128, V, A>,
+    a: u128,
+    b: u128,
+    f: &mut F,
+) -> Option<R>
+    requires table { IsTable V.key (entries rows.old) }
+    requires differ { a ≢ b }
+    requires callable { F.IsAlwaysCallable f.old }
+    requires keeps { KeepsKeys V.key F.FnMut }
+    ensures table { IsTable V.key (entries rows.new) }
+    ensures changed { IfSome result (λ r. ChangedRows V.key F.FnMut a b (values_of (entries rows.old)) f.old r f.new (values_of (entries rows.new))) }
+    ensures absent { IfNone result (((find (λ y. V.key y == a) (values_of (entries rows.old)) ≡ None) ⊎ (find (λ y. V.key y == b) (values_of (entries rows.old)) ≡ None)) × (values_of (entries rows.new) ≡ values_of (entries rows.old))) }
+    ensures room { rows.new.spare ≡ rows.old.spare }
 {
-    match place_of(rows, id) {
-        Some(i) => {
-            let _ = rows.remove(i);
-        }
-        None => {}
-    }
+    rows.update_two(&a, &b, f)
 }
 
-impl<V: Keyed, A: Allocator> Table<V, A> {
+// Takes the row with the key out, if there is one. Its node becomes spare.
+fn remove_row<V: Keyed, A: Allocator + Clone>(rows: &mut AvlMap<u128, V, A>, id: u128)
+    requires table { IsTable V.key (entries rows.old) }
+    ensures table { IsTable V.key (entries rows.new) }
+    ensures rows { values_of (entries rows.new) ≡ taken_out V.key id (values_of (entries rows.old)) }
+    ensures room { rows.old.spare ≤ rows.new.spare }
+{
+    let _ = rows.remove(&id);
+}
+
+impl<V: Keyed, A: Allocator + Clone> Table<V, A> {
     /// An empty table. No memory is taken.
     pub fn new() -> Self
         ensures { result ≡ ([], 0) }
     {
         Table { rows: None }
-    }
-
-    /// The number of rows.
-    pub fn len(&self) -> usize
-        ensures { result ≡ length self.now.0 }
-    {
-        match &self.rows {
-            Some(rows) => rows.len(),
-            None => 0,
-        }
-    }
-
-    /// Hands out that keys rise.
-    pub fn ordered(&self)
-        ensures { Rising V.key self.now.0 }
-    {
-        let _ = &self.rows;
     }
 
     /// The row with the key.
@@ -193,24 +132,19 @@ impl<V: Keyed, A: Allocator> Table<V, A> {
         }
     }
 
-    /// The row with the least key above `id`, or of all keys where none is given.
-    pub fn next_after(&self, id: Option<u128>) -> Option<&V>
-        ensures next { option_copied result ≡ find (λ row. is_after id (V.key row)) self.now.0 }
-        ensures rising { Rising V.key self.now.0 }
+    /// The row with the key, and the number of nodes that the search met.
+    pub fn probe(&self, id: u128) -> (Option<&V>, u32)
+        ensures row { option_copied result.0 ≡ find (λ row. V.key row == id) self.now.0 }
+        ensures visits { IsShortSearch (length self.now.0) result.1 }
     {
         match &self.rows {
-            Some(rows) => match id {
-                Some(id) => row_after(rows, id),
-                None => rows.first(),
-            },
-            None => None,
+            Some(rows) => probe_row(rows, id),
+            None => (None, 0),
         }
     }
 
     /// Makes room for `n` more rows. Where there is no memory the rows stay, and no room is lost.
     pub fn reserve(&mut self, alloc: &A, n: usize) -> Result<(), AllocError>
-    where
-        A: Clone,
         ensures rows { self.new.0 ≡ self.old.0 }
         ensures ok { OnOk result (n ≤ self.new.1) }
         ensures room { self.old.1 ≤ self.new.1 }
@@ -218,8 +152,10 @@ impl<V: Keyed, A: Allocator> Table<V, A> {
         match &mut self.rows {
             Some(rows) => rows.reserve(n),
             None => {
-                self.rows = Some(Vec::with_capacity(alloc.clone()?, n)?);
-                Ok(())
+                let mut rows = AvlMap::new_in(alloc.clone()?);
+                let reserved = rows.reserve(n);
+                self.rows = Some(rows);
+                reserved
             }
         }
     }
@@ -248,6 +184,26 @@ impl<V: Keyed, A: Allocator> Table<V, A> {
         }
     }
 
+    /// Calls the closure at the rows of two keys, which it may change but for the keys. Where one has none, nothing happens.
+    pub fn update_two<R, F: FnMut(&mut V, &mut V) -> R>(
+        &mut self,
+        a: u128,
+        b: u128,
+        f: &mut F,
+    ) -> Option<R>
+        requires differ { a ≢ b }
+        requires callable { F.IsAlwaysCallable f.old }
+        requires keeps { KeepsKeys V.key F.FnMut }
+        ensures changed { IfSome result (λ r. ChangedRows V.key F.FnMut a b self.old.0 f.old r f.new self.new.0) }
+        ensures absent { IfNone result (((find (λ y. V.key y == a) self.old.0 ≡ None) ⊎ (find (λ y. V.key y == b) self.old.0 ≡ None)) × (self.new.0 ≡ self.old.0)) }
+        ensures room { self.new.1 ≡ self.old.1 }
+    {
+        match &mut self.rows {
+            Some(rows) => update_rows(rows, a, b, f),
+            None => None,
+        }
+    }
+
     /// Takes the row with the key out. Where none has it, the table stays.
     pub fn remove(&mut self, id: u128)
         ensures rows { self.new.0 ≡ taken_out V.key id self.old.0 }
@@ -267,33 +223,21 @@ mod tests {
     use std::process::Abort;
     use std::test::Fail;
 
-    fn expect_next(
-        rt: &impl Abort,
-        ids: &Table<u128, Global>,
-        id: Option<u128>,
-        next: Option<u128>,
-    ) {
-        assert!(rt; ids.next_after(id).copied() == next);
-    }
-
     fn expect_row(rt: &impl Abort, ids: &Table<u128, Global>, id: u128, row: Option<u128>) {
         assert!(rt; ids.get(id).copied() == row);
     }
 
     #[test]
-    fn keeps_the_order_of_keys(rt: HostRuntime) -> Result<(), Fail> {
+    fn keeps_rows_by_their_keys(rt: HostRuntime) -> Result<(), Fail> {
         let mut ids: Table<u128, Global> = Table::new();
+        expect_row(&rt, &ids, 5, None);
         ids.reserve(&rt.alloc(), 3)?;
         ids.insert_reserved(5);
         ids.insert_reserved(9);
         ids.insert_reserved(7);
-        assert!(rt; ids.len() == 3);
-        expect_next(&rt, &ids, None, Some(5));
-        expect_next(&rt, &ids, Some(5), Some(7));
-        expect_next(&rt, &ids, Some(9), None);
         ids.replace(7);
         ids.remove(5);
-        assert!(rt; ids.len() == 2);
+        expect_row(&rt, &ids, 9, Some(9));
         expect_row(&rt, &ids, 7, Some(7));
         expect_row(&rt, &ids, 5, None);
         Ok(())

@@ -681,6 +681,40 @@ fn fills_append_in_the_order_of_ids(rt: HostRuntime) -> Result<(), Fail> {
     by_both(&rt, rt.alloc(), Case::Filled)
 }
 
+/// Accounts of the ids from 1 to `last`.
+fn many_accounts(alloc: Global, last: u128) -> Result<Vec<Account>, Fail> {
+    let mut accounts = Vec::new(alloc);
+    for id in 1..=last {
+        accounts.push(account(id, 700, 10, 0))?;
+    }
+    Ok(accounts)
+}
+
+/// The most nodes that a search for an account from 1 to `last` meets.
+fn longest_search(rt: &impl Abort, ledger: &Ledger<Global>, last: u128) -> u32 {
+    let mut longest = 0;
+    for id in 1..=last {
+        let (found, visits) = ledger.probe_account(id);
+        assert!(rt; found == ledger.account(id));
+        assert!(rt; visits > 0);
+        longest = longest.max(visits);
+    }
+    longest
+}
+
+#[test]
+fn probes_stay_short(rt: HostRuntime) -> Result<(), Fail> {
+    let accounts = many_accounts(rt.alloc(), 8190)?;
+    let mut ledger = Ledger::new_in(rt.alloc(), Profile::One);
+    assert!(rt; ledger.time() == 0 && accounts.len() <= 8190);
+    let refused = ledger.create_accounts(rt.alloc(), 8190, &accounts)?;
+    assert!(rt; refused.is_empty());
+    assert!(rt; longest_search(&rt, &ledger, 8190) <= 18);
+    let (none, visits) = ledger.probe_account(9000);
+    assert!(rt; none.is_none() && visits <= 18);
+    Ok(())
+}
+
 fn go_to_two(rt: &impl Abort, run: &mut Run) {
     assert!(rt; run.ledger.profile() == Profile::One);
     run.ledger.move_to_two();

@@ -1,7 +1,8 @@
 //! The trail of a chain's changes, by which a chain that breaks is undone.
 ghost use Rattle.std.specs.Prelude.{◌≡◌, ◌≤◌, [], vec_capacity};
-ghost use Rattle.tb_ledger.specs.Trail.{unwound_accounts, unwound_transfers};
+ghost use Rattle.tb_ledger.specs.Trail.{unwound_accounts, unwound_transfers, unwound_timeouts, CanUnwind};
 
+use crate::listing::{list, unlist};
 use crate::rows::{AccountRow, Rows, TransferRow};
 use std::alloc::Allocator;
 
@@ -14,23 +15,23 @@ pub enum Undo {
     Transfer(TransferRow),
     /// An account of this id was added.
     AddedAccount(u128),
-    /// A transfer of this id was added.
-    AddedTransfer(u128),
+    /// A transfer was added: this is its row, with the state that it was added with.
+    AddedTransfer(TransferRow),
 }
 
 /// The records that an event adds to a trail at most.
 pub const TRAIL_PER_EVENT: usize = 4;
 
 /// Undoes the changes of the trail, the last first. No memory is taken.
-#[tactic(auto, using(crate::proofs::Trails::unwound_accounts_push, crate::proofs::Trails::unwound_transfers_push))]
-pub fn unwind<A: Allocator>(rows: &mut Rows<A>, trail: &mut Vec<Undo, A>)
+pub fn unwind<A: Allocator + Clone>(rows: &mut Rows<A>, trail: &mut Vec<Undo, A>)
+    requires { CanUnwind trail.old.items rows.old.timeouts }
     ensures accounts { rows.new.accounts.0 ≡ unwound_accounts trail.old.items rows.old.accounts.0 }
     ensures transfers { rows.new.transfers.0 ≡ unwound_transfers trail.old.items rows.old.transfers.0 }
+    ensures timeouts { rows.new.timeouts ≡ unwound_timeouts trail.old.items rows.old.timeouts }
     ensures accounts_room { rows.old.accounts.1 ≤ rows.new.accounts.1 }
     ensures transfers_room { rows.old.transfers.1 ≤ rows.new.transfers.1 }
     ensures failed { rows.new.failed ≡ rows.old.failed }
     ensures keeps_failed { rows.new.keeps_failed ≡ rows.old.keeps_failed }
-    ensures next_expiry { rows.new.next_expiry ≡ rows.old.next_expiry }
     ensures time { rows.new.time ≡ rows.old.time }
     ensures empty { trail.new.items ≡ [] }
     ensures capacity { vec_capacity trail.new ≡ vec_capacity trail.old }
@@ -38,9 +39,15 @@ pub fn unwind<A: Allocator>(rows: &mut Rows<A>, trail: &mut Vec<Undo, A>)
     while let Some(undo) = trail.pop() {
         match undo {
             Undo::Account(row) => rows.accounts.replace(row),
-            Undo::Transfer(row) => rows.transfers.replace(row),
+            Undo::Transfer(row) => {
+                rows.transfers.replace(row);
+                list(&mut rows.timeouts, &row);
+            }
             Undo::AddedAccount(id) => rows.accounts.remove(id),
-            Undo::AddedTransfer(id) => rows.transfers.remove(id),
+            Undo::AddedTransfer(row) => {
+                rows.transfers.remove(row.recorded.id);
+                unlist(&mut rows.timeouts, &row);
+            }
         }
     }
 }

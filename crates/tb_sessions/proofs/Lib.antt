@@ -1,3 +1,4 @@
-pub mod Places
-pub mod RowPlaces
+pub mod Entries
+pub mod Index
 pub mod LaterRows
+pub mod LookUps

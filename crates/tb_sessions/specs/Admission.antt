@@ -1,8 +1,8 @@
 -- How the table takes a row in: in place of its client's row, or beside the others, where the row of least commit may have to go.
-use Rattle.std.specs.Prelude.{ℕ, ◌≡◌, ◌<◌, slice_index_or, nat_le, nat_lt, List, length, Option, Some, None, if◌then◌else◌, find}
+use Rattle.std.specs.Prelude.{ℕ, nat_le, nat_lt, List, length, Option, Some, None, if◌then◌else◌, find}
 use Rattle.std.specs.List.{list_all}
 use Rattle.std.specs.Option.{is_some}
-use Rattle.tb_records.specs.Ordered.{put, replaced, taken_out, IsPlace}
+use Rattle.tb_records.specs.Ordered.{put, replaced, taken_out}
 use Rattle.tb_sessions.specs.declared.rows.Row.{Row}
 use Rattle.tb_sessions.specs.Judged.{client_of, row_of}
 
@@ -36,9 +36,3 @@ leaving clients_max rows row =
     if is_some (row_of rows (client_of row))
     then row_of rows (client_of row)
     else driven_out clients_max rows
-
--- place i has the client's row, behind those of smaller clients
-pub record Stands (rows : List Row) (client i : ℕ) : Type 0 where
-  pub place : IsPlace client_of rows client i
-  pub within : i < length rows
-  pub here : (d : Row) → client_of (slice_index_or rows i d) ≡ client

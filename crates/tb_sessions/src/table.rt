@@ -1,58 +1,38 @@
 //! The sessions of the clients: at most one of each, and at most so many in all.
-ghost use Rattle.std.specs.Prelude.{◌≡◌, ◌<◌, ◌≤◌, IfOk, MatchOption, Some, None, [], length, slice_index_or};
+ghost use Rattle.std.specs.Prelude.{◌≡◌, ◌<◌, IfOk, IfErr, MatchOption, Some, None, [], length};
 ghost use Rattle.std.specs.Option.{option_map};
-ghost use Rattle.tb_records.specs.Ordered.{Each, IsPlace, Rising, put, replaced, taken_out};
+ghost use Rattle.tb_records.specs.Ordered.{Each, put, replaced, taken_out};
 ghost use Rattle.tb_sessions.specs.Judged.{class_of, client_of, row_of};
-ghost use Rattle.tb_sessions.specs.Admission.{admitted, driven_out, leaving, oldest, Stands};
+ghost use Rattle.tb_sessions.specs.Admission.{admitted, driven_out, leaving, oldest};
 
 use crate::classes::Class;
 use crate::rows::Row;
+use avl_tree::AvlMap;
 use std::alloc::{AllocError, Global};
 use std::marker::Model;
-use std::mem;
 use tb_records::{Body, ClientsMax, Request};
 
 /// The sessions of the clients, with room for all that there may be.
 #[derive(Drop)]
 pub struct Sessions {
     clients_max: usize,
-    rows: Vec<Row>,
+    /// The rows by client.
+    rows: AvlMap<u128, Row, Global>,
+    /// The client of each row by the row's commit.
+    clients: AvlMap<u64, u128, Global>,
 }
 
 impl Model for Sessions {
-    ghost use Rattle.std.specs.Prelude.{◌≤◌, ◌<◌, length, vec_capacity};
-    ghost use Rattle.tb_records.specs.Ordered.{Rising};
-    ghost use Rattle.tb_sessions.specs.Judged.{client_of};
+    ghost use Rattle.std.specs.Map.{values_of};
+    ghost use Rattle.avl_tree.specs.Map.{entries};
     ghost use Rattle.tb_sessions.specs.Admission.{Table};
+    ghost use Rattle.tb_sessions.specs.Indexed.{IsIndexed};
 
     ghost Value = { Table };
 
-    ghost view = { λ s. record { clients_max = s.clients_max; rows = s.rows.items } };
+    ghost view = { λ s. record { clients_max = s.clients_max; rows = values_of (entries s.rows) } };
 
-    ghost invariant = { λ s. Rising client_of s.rows.items × (length s.rows.items ≤ s.clients_max) × (s.clients_max ≤ vec_capacity s.rows) × (0 < s.clients_max) };
-}
-
-/// The place of a client among rows by rising client: behind the rows of smaller clients.
-fn place(rows: &[Row], client: u128) -> usize
-    requires { Rising client_of rows.now }
-    ensures { IsPlace client_of rows.now client result }
-{
-    rows.partition_point(|row| row.client < client)
-}
-
-/// The place of the row of least commit.
-fn oldest(rows: &[Row]) -> usize
-    requires { 0 < length rows.now }
-    ensures within { result < length rows.now }
-    ensures least { (d : Row) → oldest rows.now ≡ Some (slice_index_or rows.now result d) }
-{
-    let mut least = 0;
-    for i in 1..rows.len() {
-        if rows[i].commit < rows[least].commit {
-            least = i;
-        }
-    }
-    least
+    ghost invariant = { λ s. IsIndexed s.clients_max s.rows s.clients };
 }
 
 impl Sessions {
@@ -61,29 +41,22 @@ impl Sessions {
         ensures { IfOk result (λ s. s ≡ record { clients_max = clients_max; rows = [] }) }
     {
         let clients_max = clients_max.get() as usize;
-        let rows = Vec::with_capacity(alloc, clients_max)?;
-        Ok(Sessions { clients_max, rows })
-    }
-
-    /// The place of a client's row.
-    fn find(&self, client: u128) -> Option<usize>
-        ensures { MatchOption result (row_of self.now.rows client ≡ None) (λ i. Stands self.now.rows client i) }
-    {
-        let i = place(&self.rows, client);
-        if i < self.rows.len() && self.rows[i].client == client {
-            return Some(i);
-        }
-        None
+        let mut rows = AvlMap::new_in(alloc);
+        rows.reserve(clients_max)?;
+        let mut clients = AvlMap::new_in(alloc);
+        clients.reserve(clients_max)?;
+        Ok(Sessions {
+            clients_max,
+            rows,
+            clients,
+        })
     }
 
     /// The row of a client; None of a client without a session.
     pub fn stored(&self, client: u128) -> Option<&Row>
         ensures { MatchOption result (row_of self.now.rows client ≡ None) (λ row. row_of self.now.rows client ≡ Some row.now) }
     {
-        match self.find(client) {
-            Some(i) => Some(&self.rows[i]),
-            None => None,
-        }
+        self.rows.get(&client)
     }
 
     /// How a request stands to the sessions: New where it is to be executed, Repeat where it is answered by the stored
@@ -111,7 +84,10 @@ impl Sessions {
         if self.rows.len() < self.clients_max {
             return None;
         }
-        Some(self.rows[oldest(&self.rows)].client)
+        match self.clients.first() {
+            Some((_, client)) => Some(*client),
+            None => None,
+        }
     }
 
     /// Takes a row in, and gives back the row that leaves: the client's own; or, of a client without one where the
@@ -124,9 +100,10 @@ impl Sessions {
         ensures table { self.new ≡ record self.old { rows = admitted self.old.clients_max self.old.rows row } }
         ensures left { result ≡ leaving self.old.clients_max self.old.rows row }
     {
-        if let Some(i) = self.find(row.client) {
-            return Some(self.renew(i, row));
-        }
+        let row = match self.renew(row) {
+            Ok(old) => return Some(old),
+            Err(row) => row,
+        };
         let gone = if self.rows.len() < self.clients_max {
             None
         } else {
@@ -136,13 +113,21 @@ impl Sessions {
         gone
     }
 
-    /// Puts a row in the place of its client's row, which comes back.
-    fn renew(&mut self, i: usize, row: Row) -> Row
-        requires { Stands self.old.rows row.client i }
-        ensures table { self.new ≡ record self.old { rows = replaced client_of row self.old.rows } }
-        ensures left { row_of self.old.rows row.client ≡ Some result }
+    /// Puts a row in the place of its client's row, which comes back; or the row itself, of a client without one.
+    fn renew(&mut self, row: Row) -> Result<Row, Row>
+        requires later { Each (λ (other : Row). other.commit < row.commit) self.old.rows }
+        ensures renewed { IfOk result (λ old. (row_of self.old.rows row.client ≡ Some old) × (self.new ≡ record self.old { rows = replaced client_of row self.old.rows })) }
+        ensures absent { IfErr result (λ back. (back ≡ row) × (row_of self.old.rows row.client ≡ None) × (self.new ≡ self.old)) }
     {
-        mem::replace(&mut self.rows[i], row)
+        let (client, commit) = (row.client, row.commit);
+        match self.rows.set(client, row) {
+            Ok(old) => {
+                let _ = self.clients.remove(&old.commit);
+                self.clients.insert_reserved(commit, client);
+                Ok(old)
+            }
+            Err(row) => Err(row),
+        }
     }
 
     /// Takes the row of least commit out.
@@ -152,19 +137,23 @@ impl Sessions {
         ensures left { oldest self.old.rows ≡ Some result }
         ensures room { length self.new.rows < length self.old.rows }
     {
-        let i = oldest(&self.rows);
-        self.rows.remove(i)
+        let Some((_, client)) = self.clients.pop_first() else {
+            unreachable!()
+        };
+        let Some(row) = self.rows.remove(&client) else {
+            unreachable!()
+        };
+        row
     }
 
     /// Puts a row among those of other clients.
     fn put_in(&mut self, row: Row)
         requires absent { row_of self.old.rows row.client ≡ None }
+        requires later { Each (λ (other : Row). other.commit < row.commit) self.old.rows }
         requires room { length self.old.rows < self.old.clients_max }
         ensures { self.new ≡ record self.old { rows = put client_of row self.old.rows } }
     {
-        let i = place(&self.rows, row.client);
-        let Ok(()) = self.rows.insert(i, row) else {
-            unreachable!()
-        };
+        self.clients.insert_reserved(row.commit, row.client);
+        self.rows.insert_reserved(row.client, row);
     }
 }

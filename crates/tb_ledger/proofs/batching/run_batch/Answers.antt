@@ -36,6 +36,7 @@ loop-rest-preserved g c =
       empty = r.empty;
       capacity = r.capacity ∙ v.capacity;
       room = omega (arith, parts, r.room, v.room);
+      timeouts_room = r.timeouts_room (length later) (subst (λ k. g.E.Event.HasTimeoutRoom k c.loop-rest.rows.timeouts.1) parts v.timeouts_room);
       ids = r.ids (length later) (subst (λ k. g.E.Event.HasIdRoom k c.loop-rest.rows.keeps_failed c.loop-rest.rows.failed.1) parts v.ids);
       results_len = omega (arith, r.results_len, v.results_len);
       results_capacity = r.results_capacity ∙ v.results_capacity;

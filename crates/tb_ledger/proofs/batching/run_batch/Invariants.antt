@@ -14,6 +14,7 @@ invariant-loop-rest g l = let kind = g.E.Event.kind in let start = l.initial.row
   empty : l.trail.items ≡ [];
   capacity : vec_capacity l.trail ≡ vec_capacity l.initial.trail;
   room : length l.rest ≤ g.E.Event.room l.rows.accounts.1 l.rows.transfers.1;
+  timeouts_room : g.E.Event.HasTimeoutRoom (length l.rest) l.rows.timeouts.1;
   ids : g.E.Event.HasIdRoom (length l.rest) l.rows.keeps_failed l.rows.failed.1;
   results_len : vec_len l.results ≤ vec_len l.initial.results + l.index;
   results_capacity : vec_capacity l.results ≡ vec_capacity l.initial.results;

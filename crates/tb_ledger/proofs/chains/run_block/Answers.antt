@@ -1,4 +1,4 @@
-use Rattle.std.proofs.Common.{◌≡◌, ◌++◌, [], length, sym, ap, ◌∙◌, arith, append-nil}
+use Rattle.std.proofs.Common.{◌≡◌, ◌+◌, ◌-◌, ◌≤◌, ◌++◌, [], length, subst, sym, ap, ◌∙◌, arith, append-nil}
 use Rattle.tb_ledger.specs.Batches.{results_from, block_after, timed_from}
 use Rattle.tb_ledger.specs.Kept.{books_in}
 use Rattle.tb_ledger.proofs.CodeLaws.{results-none}
@@ -13,7 +13,7 @@ refuse-requires-clause-kept g c =
     let v = c.loop-i.invariant in
     ledger_back _ _ _ _ _ _ _ _ _ _ _ _ c.requires.kept
     (u.accounts ∙ t.undo_accounts ∙ v.accounts) (u.transfers ∙ t.undo_transfers ∙ v.transfers) (ap (λ x. x.0) (u.failed ∙ t.failed ∙ v.failed)) (u.keeps_failed ∙ t.keeps_failed ∙ v.keeps)
-    (omega (arith, u.next_expiry, t.next_expiry, v.expiry)) (u.time ∙ t.time ∙ v.time)
+    (ap (λ x. x.0) (u.timeouts ∙ t.undo_timeouts ∙ v.timeouts)) (u.time ∙ t.time ∙ v.time)
 
 pub returns-then-code-ne0-clause-books : goal.returns-then-code-ne0-clause-books
 returns-then-code-ne0-clause-books g c =
@@ -55,13 +55,17 @@ loop-i-preserved g c =
       transfers = s.undo_transfers ∙ v.transfers;
       failed = s.failed ∙ v.failed;
       keeps = s.keeps_failed ∙ v.keeps;
-      expiry = omega (arith, s.next_expiry, v.expiry);
+      timeouts = s.undo_timeouts ∙ v.timeouts;
+      can = s.can_unwind v.can;
       time = s.time ∙ v.time;
       kept = t.kept;
       results = v.results;
       stamp = omega (arith, v.stamp);
       within = omega (arith, c.loop-i-test.true);
       room = omega (arith, t.room, v.room);
+      timeouts_room = λ n all.
+          let left : length block - c.loop-i.i + n ≡ 1 + (length block - (c.loop-i.i + 1) + n) = omega (arith, c.loop-i-test.true) in
+          t.timeouts_room (length block - (c.loop-i.i + 1) + n) (subst (λ k. g.E.Event.HasTimeoutRoom k c.loop-i.rows.timeouts.1) left (v.timeouts_room n all));
       trail = omega (arith, s.length, v.trail);
       capacity = s.capacity ∙ v.capacity;
     }
@@ -73,3 +77,25 @@ returns-clause-results g c =
     let passed = passed-here g.E.Event.kind (books_in c.args.rows.now) block c.args.time (books_in c.loop-i.rows) c.loop-i.i c.loop-i.stamp v.failure v.all c.loop-i-test.false in
     let none : results_from c.args.index (block_after g.E.Event.kind (books_in c.args.rows.now) (timed_from c.args.time block)).codes ≡ [] = ap (λ o. results_from c.args.index o.codes) passed ∙ results-none c.args.index (length block) in
     ap (λ r. r.items) v.results ∙ sym (append-nil c.args.results.now.items) ∙ ap (λ rest. c.args.results.now.items ++ rest) (sym none)
+
+pub take_in_chain-code-requires-clause-timeouts_room : goal.take_in_chain-code-requires-clause-timeouts_room
+take_in_chain-code-requires-clause-timeouts_room g c =
+    let block = c.args.block.now in
+    let e = g.met.E.Event in
+    let whole : length block ≡ length block + 0 = omega arith in
+    let some : 1 ≤ length block - c.loop-i.i + 0 = omega (arith, c.loop-i-test.true) in
+    e.fewer_timeouts 1 (length block - c.loop-i.i + 0) c.loop-i.rows.timeouts.1 c.loop-i.rows.timeouts.1 some (omega arith) (c.loop-i.invariant.timeouts_room 0 (subst (λ k. g.E.Event.HasTimeoutRoom k c.args.rows.now.timeouts.1) whole c.requires.timeouts_room))
+
+pub returns-then-code-ne0-clause-timeouts_room : goal.returns-then-code-ne0-clause-timeouts_room
+returns-then-code-ne0-clause-timeouts_room g c = λ n all.
+    let u = c.unwind.ensures in
+    let t = c.take_in_chain-code.ensures.step in
+    let v = c.loop-i.invariant in
+    let less : n ≤ length c.args.block.now + n = omega arith in
+    let same = c.refuse.ensures.timeouts ∙ u.timeouts ∙ t.undo_timeouts ∙ v.timeouts in
+    g.met.E.Event.fewer_timeouts n (length c.args.block.now + n) c.refuse.new.rows.timeouts.1 c.refuse.new.rows.timeouts.1 less (omega arith) (subst (λ d. g.E.Event.HasTimeoutRoom (length c.args.block.now + n) d.1) (sym same) all)
+
+pub returns-clause-timeouts_room : goal.returns-clause-timeouts_room
+returns-clause-timeouts_room g c = λ n all.
+    let none : length c.args.block.now - c.loop-i.i + n ≡ n = omega (arith, c.loop-i-test.false) in
+    subst (λ k. g.E.Event.HasTimeoutRoom k c.loop-i.rows.timeouts.1) none (c.loop-i.invariant.timeouts_room n all)

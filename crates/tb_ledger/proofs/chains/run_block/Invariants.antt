@@ -1,8 +1,8 @@
-use Rattle.std.proofs.Common.{◌≡◌, ◌+◌, ◌*◌, ◌-◌, ◌≤◌, length, drop, vec_len, vec_capacity}
+use Rattle.std.proofs.Common.{ℕ, ◌≡◌, ◌+◌, ◌*◌, ◌-◌, ◌≤◌, length, drop, vec_len, vec_capacity}
 use Rattle.tb_ledger.specs.declared.undo.TheConstants.{TRAIL_PER_EVENT}
 use Rattle.tb_ledger.specs.Batches.{failure_from, all_recorded, timed_from}
 use Rattle.tb_ledger.specs.Kept.{books_in, IsKept}
-use Rattle.tb_ledger.specs.Trail.{unwound_accounts, unwound_transfers}
+use Rattle.tb_ledger.specs.Trail.{unwound_accounts, unwound_transfers, unwound_timeouts, CanUnwind}
 use Rattle.tb_ledger.proofs.chains.run_block.Given as goal
 
 abbrev pub invariant-loop-i : goal.invariant-loop-i
@@ -13,13 +13,15 @@ invariant-loop-i g l = let kind = g.E.Event.kind in let start = l.initial.rows i
   transfers : unwound_transfers l.trail.items l.rows.transfers.0 ≡ start.transfers.0;
   failed : l.rows.failed ≡ start.failed;
   keeps : l.rows.keeps_failed ≡ start.keeps_failed;
-  expiry : l.rows.next_expiry ≤ start.next_expiry;
+  timeouts : unwound_timeouts l.trail.items l.rows.timeouts ≡ start.timeouts;
+  can : CanUnwind l.trail.items l.rows.timeouts;
   time : l.rows.time ≡ start.time;
   kept : IsKept l.rows;
   results : l.results ≡ l.initial.results;
   stamp : l.stamp ≡ l.time + l.i;
   within : l.i ≤ length l.block;
   room : g.E.Event.room start.accounts.1 start.transfers.1 ≤ g.E.Event.room l.rows.accounts.1 l.rows.transfers.1 + l.i;
+  timeouts_room : (n : ℕ) → g.E.Event.HasTimeoutRoom (length l.block + n) start.timeouts.1 → g.E.Event.HasTimeoutRoom (length l.block - l.i + n) l.rows.timeouts.1;
   trail : vec_len l.trail ≤ TRAIL_PER_EVENT * l.i;
   capacity : vec_capacity l.trail ≡ vec_capacity l.initial.trail;
 }

@@ -9,9 +9,9 @@ add_account_row-requires-clause-fresh g c = no_row account_key (λ a. a.created)
 pub returns-clause-kept : goal.returns-clause-kept
 returns-clause-kept g c =
     let rows = c.args.rows.now in
-    ledger_with_account rows.accounts.0 rows.transfers.0 rows.failed.0 rows.keeps_failed rows.next_expiry rows.time c.requires.kept c.args.a.now c.add_account_row.new.accounts.0 (ap (λ v. v.0) c.add_account_row.ensures.accounts) c.requires.fresh c.requires.sound
+    ledger_with_account rows.accounts.0 rows.transfers.0 rows.failed.0 rows.keeps_failed rows.timeouts.0 rows.time c.requires.kept c.args.a.now c.add_account_row.new.accounts.0 (ap (λ v. v.0) c.add_account_row.ensures.accounts) c.requires.fresh c.requires.sound
 
 pub returns-clause-books : goal.returns-clause-books
 returns-clause-books g c =
     let rows = c.args.rows.now in
-    books_with_account rows.accounts.0 rows.transfers.0 rows.failed.0 rows.keeps_failed rows.next_expiry rows.time c.requires.kept c.args.a.now c.add_account_row.new.accounts.0 (ap (λ v. v.0) c.add_account_row.ensures.accounts)
+    books_with_account rows.accounts.0 rows.transfers.0 rows.failed.0 rows.keeps_failed rows.timeouts.0 rows.time c.requires.kept c.args.a.now c.add_account_row.new.accounts.0 (ap (λ v. v.0) c.add_account_row.ensures.accounts)

@@ -1,62 +1,62 @@
 use Rattle.std.proofs.Common.{refl, ap, ◌∙◌, ◌==◌, find}
 use Rattle.tb_records.specs.Ordered.{put, replaced}
 use Rattle.tb_ledger.specs.Books.{closing_debit, closing_credit}
-use Rattle.tb_ledger.specs.Kept.{on_debits, on_credits, resolved, settled, transfer_row_key, new_transfer_row}
-use Rattle.tb_ledger.proofs.Settled.{both_changed, found_still, refound, same_debit, same_credit, apart, at_most, debit_enough, credit_enough, fresh_still, books_with_resolver, ledger_with_resolver}
+use Rattle.tb_ledger.specs.Kept.{on_debits, on_credits, resolved, settled, listed, IsIndex, transfer_row_key, new_transfer_row}
+use Rattle.tb_ledger.proofs.Settled.{both_changed, found_still, refound, same_debit, same_credit, apart, at_most, debit_enough, credit_enough, fresh_still, listed_before, not_dated, index_with_resolver, books_with_resolver, ledger_with_resolver}
 use Rattle.tb_ledger.proofs.settling.settle.Goals as goal
 
 pub settle_debit-requires-clause-found : goal.settle_debit-requires-clause-found
 settle_debit-requires-clause-found g c =
     let rows = c.args.rows.now in
-    ap (λ id. find (λ a. a.created.id == id) rows.accounts.0) (same_debit rows.accounts.0 rows.transfers.0 rows.failed.0 rows.keeps_failed rows.next_expiry rows.time c.requires.kept c.args.p.now c.args.r.now c.requires.found c.requires.resolves c.requires.is_resolver) ∙ c.requires.debit
+    ap (λ id. find (λ a. a.created.id == id) rows.accounts.0) (same_debit rows.accounts.0 rows.transfers.0 rows.failed.0 rows.keeps_failed rows.timeouts.0 rows.time c.requires.kept c.args.p.now c.args.r.now c.requires.found c.requires.resolves c.requires.is_resolver) ∙ c.requires.debit
 
 pub settle_debit-requires-clause-enough : goal.settle_debit-requires-clause-enough
 settle_debit-requires-clause-enough g c =
     let rows = c.args.rows.now in
-    let same = same_debit rows.accounts.0 rows.transfers.0 rows.failed.0 rows.keeps_failed rows.next_expiry rows.time c.requires.kept c.args.p.now c.args.r.now c.requires.found c.requires.resolves c.requires.is_resolver in
+    let same = same_debit rows.accounts.0 rows.transfers.0 rows.failed.0 rows.keeps_failed rows.timeouts.0 rows.time c.requires.kept c.args.p.now c.args.r.now c.requires.found c.requires.resolves c.requires.is_resolver in
     let there = ap (λ id. find (λ a. a.created.id == id) rows.accounts.0) same ∙ c.requires.debit in
-    (debit_enough rows.accounts.0 rows.transfers.0 rows.failed.0 rows.keeps_failed rows.next_expiry rows.time c.requires.kept c.args.p.now c.args.r.now c.requires.found c.requires.resolves c.requires.is_resolver c.args.debit.now there).0
+    (debit_enough rows.accounts.0 rows.transfers.0 rows.failed.0 rows.keeps_failed rows.timeouts.0 rows.time c.requires.kept c.args.p.now c.args.r.now c.requires.found c.requires.resolves c.requires.is_resolver c.args.debit.now there).0
 
 pub settle_debit-requires-clause-fit : goal.settle_debit-requires-clause-fit
 settle_debit-requires-clause-fit g c =
     let rows = c.args.rows.now in
-    let same = same_debit rows.accounts.0 rows.transfers.0 rows.failed.0 rows.keeps_failed rows.next_expiry rows.time c.requires.kept c.args.p.now c.args.r.now c.requires.found c.requires.resolves c.requires.is_resolver in
+    let same = same_debit rows.accounts.0 rows.transfers.0 rows.failed.0 rows.keeps_failed rows.timeouts.0 rows.time c.requires.kept c.args.p.now c.args.r.now c.requires.found c.requires.resolves c.requires.is_resolver in
     let there = ap (λ id. find (λ a. a.created.id == id) rows.accounts.0) same ∙ c.requires.debit in
-    (debit_enough rows.accounts.0 rows.transfers.0 rows.failed.0 rows.keeps_failed rows.next_expiry rows.time c.requires.kept c.args.p.now c.args.r.now c.requires.found c.requires.resolves c.requires.is_resolver c.args.debit.now there).1
+    (debit_enough rows.accounts.0 rows.transfers.0 rows.failed.0 rows.keeps_failed rows.timeouts.0 rows.time c.requires.kept c.args.p.now c.args.r.now c.requires.found c.requires.resolves c.requires.is_resolver c.args.debit.now there).1
 
 pub settle_debit-requires-clause-at_most : goal.settle_debit-requires-clause-at_most
 settle_debit-requires-clause-at_most g c =
     let rows = c.args.rows.now in
-    at_most rows.accounts.0 rows.transfers.0 rows.failed.0 rows.keeps_failed rows.next_expiry rows.time c.requires.kept c.args.p.now c.args.r.now c.requires.found c.requires.resolves c.requires.is_resolver
+    at_most rows.accounts.0 rows.transfers.0 rows.failed.0 rows.keeps_failed rows.timeouts.0 rows.time c.requires.kept c.args.p.now c.args.r.now c.requires.found c.requires.resolves c.requires.is_resolver
 
 pub settle_credit-requires-clause-found : goal.settle_credit-requires-clause-found
 settle_credit-requires-clause-found g c =
     let rows = c.args.rows.now in
     let r = c.args.r.now in
-    let same = same_credit rows.accounts.0 rows.transfers.0 rows.failed.0 rows.keeps_failed rows.next_expiry rows.time c.requires.kept c.args.p.now c.args.r.now c.requires.found c.requires.resolves c.requires.is_resolver in
+    let same = same_credit rows.accounts.0 rows.transfers.0 rows.failed.0 rows.keeps_failed rows.timeouts.0 rows.time c.requires.kept c.args.p.now c.args.r.now c.requires.found c.requires.resolves c.requires.is_resolver in
     let there = ap (λ id. find (λ a. a.created.id == id) rows.accounts.0) same ∙ c.requires.credit in
-    let other = apart rows.accounts.0 rows.transfers.0 rows.failed.0 rows.keeps_failed rows.next_expiry rows.time c.requires.kept c.args.p.now c.args.r.now c.requires.found c.requires.resolves c.requires.is_resolver in
+    let other = apart rows.accounts.0 rows.transfers.0 rows.failed.0 rows.keeps_failed rows.timeouts.0 rows.time c.requires.kept c.args.p.now c.args.r.now c.requires.found c.requires.resolves c.requires.is_resolver in
     let still = found_still r.debit_account_id r.credit_account_id (on_debits (resolved closing_debit c.args.p.now.recorded r)) c.args.credit.now rows.accounts.0 (λ y. refl) other there in
     ap (λ v. find (λ a. a.created.id == r.credit_account_id) v.0) c.settle_debit.ensures.accounts ∙ still
 
 pub settle_credit-requires-clause-enough : goal.settle_credit-requires-clause-enough
 settle_credit-requires-clause-enough g c =
     let rows = c.args.rows.now in
-    let same = same_credit rows.accounts.0 rows.transfers.0 rows.failed.0 rows.keeps_failed rows.next_expiry rows.time c.requires.kept c.args.p.now c.args.r.now c.requires.found c.requires.resolves c.requires.is_resolver in
+    let same = same_credit rows.accounts.0 rows.transfers.0 rows.failed.0 rows.keeps_failed rows.timeouts.0 rows.time c.requires.kept c.args.p.now c.args.r.now c.requires.found c.requires.resolves c.requires.is_resolver in
     let there = ap (λ id. find (λ a. a.created.id == id) rows.accounts.0) same ∙ c.requires.credit in
-    (credit_enough rows.accounts.0 rows.transfers.0 rows.failed.0 rows.keeps_failed rows.next_expiry rows.time c.requires.kept c.args.p.now c.args.r.now c.requires.found c.requires.resolves c.requires.is_resolver c.args.credit.now there).0
+    (credit_enough rows.accounts.0 rows.transfers.0 rows.failed.0 rows.keeps_failed rows.timeouts.0 rows.time c.requires.kept c.args.p.now c.args.r.now c.requires.found c.requires.resolves c.requires.is_resolver c.args.credit.now there).0
 
 pub settle_credit-requires-clause-fit : goal.settle_credit-requires-clause-fit
 settle_credit-requires-clause-fit g c =
     let rows = c.args.rows.now in
-    let same = same_credit rows.accounts.0 rows.transfers.0 rows.failed.0 rows.keeps_failed rows.next_expiry rows.time c.requires.kept c.args.p.now c.args.r.now c.requires.found c.requires.resolves c.requires.is_resolver in
+    let same = same_credit rows.accounts.0 rows.transfers.0 rows.failed.0 rows.keeps_failed rows.timeouts.0 rows.time c.requires.kept c.args.p.now c.args.r.now c.requires.found c.requires.resolves c.requires.is_resolver in
     let there = ap (λ id. find (λ a. a.created.id == id) rows.accounts.0) same ∙ c.requires.credit in
-    (credit_enough rows.accounts.0 rows.transfers.0 rows.failed.0 rows.keeps_failed rows.next_expiry rows.time c.requires.kept c.args.p.now c.args.r.now c.requires.found c.requires.resolves c.requires.is_resolver c.args.credit.now there).1
+    (credit_enough rows.accounts.0 rows.transfers.0 rows.failed.0 rows.keeps_failed rows.timeouts.0 rows.time c.requires.kept c.args.p.now c.args.r.now c.requires.found c.requires.resolves c.requires.is_resolver c.args.credit.now there).1
 
 pub settle_credit-requires-clause-at_most : goal.settle_credit-requires-clause-at_most
 settle_credit-requires-clause-at_most g c =
     let rows = c.args.rows.now in
-    at_most rows.accounts.0 rows.transfers.0 rows.failed.0 rows.keeps_failed rows.next_expiry rows.time c.requires.kept c.args.p.now c.args.r.now c.requires.found c.requires.resolves c.requires.is_resolver
+    at_most rows.accounts.0 rows.transfers.0 rows.failed.0 rows.keeps_failed rows.timeouts.0 rows.time c.requires.kept c.args.p.now c.args.r.now c.requires.found c.requires.resolves c.requires.is_resolver
 
 pub close_row-requires-clause-found : goal.close_row-requires-clause-found
 close_row-requires-clause-found g c = refound transfer_row_key c.args.r.now.pending_id c.args.p.now c.args.rows.now.transfers.0 c.requires.found
@@ -66,7 +66,19 @@ add_row-requires-clause-fresh g c =
     let rows = c.args.rows.now in
     let r = c.args.r.now in
     let closed = ap (λ v. v.0) c.close_row.ensures.transfers ∙ ap (λ s. replaced transfer_row_key (settled s c.args.p.now) rows.transfers.0) c.outcome-state.ensures in
-    ap (find (λ row. row.recorded.id == r.id)) closed ∙ fresh_still rows.accounts.0 rows.transfers.0 rows.failed.0 rows.keeps_failed rows.next_expiry rows.time c.requires.kept c.args.p.now r c.requires.found c.requires.resolves c.requires.is_resolver c.requires.fresh
+    rw c.row_of-row.ensures.row (ap (find (λ row. row.recorded.id == r.id)) closed ∙ fresh_still rows.accounts.0 rows.transfers.0 rows.failed.0 rows.keeps_failed rows.timeouts.0 rows.time c.requires.kept c.args.p.now r c.requires.found c.requires.resolves c.requires.is_resolver c.requires.fresh)
+
+pub close_row-requires-clause-is_listed : goal.close_row-requires-clause-is_listed
+close_row-requires-clause-is_listed g c =
+    let rows = c.args.rows.now in
+    listed_before rows.accounts.0 rows.transfers.0 rows.failed.0 rows.keeps_failed rows.timeouts.0 rows.time c.requires.kept c.args.p.now c.args.r.now c.requires.found c.requires.resolves c.requires.is_resolver
+
+pub add_row-requires-clause-can_list : goal.add_row-requires-clause-can_list
+add_row-requires-clause-can_list g c is =
+    let rows = c.args.rows.now in
+    let never = not_dated rows.accounts.0 rows.transfers.0 rows.failed.0 rows.keeps_failed rows.timeouts.0 rows.time c.requires.kept c.args.p.now c.args.r.now c.requires.found c.requires.resolves c.requires.is_resolver in
+    let dates = rw c.row_of-row.ensures.row at is in
+    absurd (cc)
 
 pub returns-clause-kept : goal.returns-clause-kept
 returns-clause-kept g c =
@@ -75,8 +87,10 @@ returns-clause-kept g c =
     let r = c.args.r.now in
     let both = both_changed r.debit_account_id r.credit_account_id (on_debits (resolved closing_debit p.recorded r)) (on_credits (resolved closing_credit p.recorded r)) rows.accounts c.settle_debit.new.accounts c.settle_credit.new.accounts c.settle_debit.ensures.accounts c.settle_credit.ensures.accounts in
     let closed = ap (λ v. v.0) c.close_row.ensures.transfers ∙ ap (λ s. replaced transfer_row_key (settled s p) rows.transfers.0) c.outcome-state.ensures in
-    let added = ap (λ v. v.0) c.add_row.ensures.transfers ∙ ap (put transfer_row_key (new_transfer_row r)) closed in
-    ledger_with_resolver rows.accounts.0 rows.transfers.0 rows.failed.0 rows.keeps_failed rows.next_expiry rows.time c.requires.kept p r c.requires.found c.requires.resolves c.requires.is_resolver c.settle_credit.new.accounts.0 c.add_row.new.transfers.0 both.0 added c.close_row.ensures.rising
+    let added = ap (λ v. v.0) c.add_row.ensures.transfers ∙ ap (λ row. put transfer_row_key row c.close_row.new.transfers.0) c.row_of-row.ensures.row ∙ ap (put transfer_row_key (new_transfer_row r)) closed in
+    let moved = c.add_row.ensures.timeouts ∙ ap (λ row. listed row c.close_row.new.timeouts) c.row_of-row.ensures.row ∙ ap (listed (new_transfer_row r)) c.close_row.ensures.timeouts in
+    let index : IsIndex c.add_row.new.transfers.0 c.add_row.new.timeouts.0 = rw (moved, added) (index_with_resolver rows.accounts.0 rows.transfers.0 rows.failed.0 rows.keeps_failed rows.timeouts.0 rows.time c.requires.kept p r c.requires.found c.requires.resolves c.requires.is_resolver rows.timeouts.1 c.requires.fresh c.close_row.ensures.rising c.close_row.ensures.ordered) in
+    ledger_with_resolver rows.accounts.0 rows.transfers.0 rows.failed.0 rows.keeps_failed rows.timeouts.0 rows.time c.requires.kept p r c.requires.found c.requires.resolves c.requires.is_resolver c.settle_credit.new.accounts.0 c.add_row.new.transfers.0 both.0 added c.add_row.new.timeouts.0 index c.close_row.ensures.rising
 
 pub returns-clause-books : goal.returns-clause-books
 returns-clause-books g c =
@@ -85,5 +99,5 @@ returns-clause-books g c =
     let r = c.args.r.now in
     let both = both_changed r.debit_account_id r.credit_account_id (on_debits (resolved closing_debit p.recorded r)) (on_credits (resolved closing_credit p.recorded r)) rows.accounts c.settle_debit.new.accounts c.settle_credit.new.accounts c.settle_debit.ensures.accounts c.settle_credit.ensures.accounts in
     let closed = ap (λ v. v.0) c.close_row.ensures.transfers ∙ ap (λ s. replaced transfer_row_key (settled s p) rows.transfers.0) c.outcome-state.ensures in
-    let added = ap (λ v. v.0) c.add_row.ensures.transfers ∙ ap (put transfer_row_key (new_transfer_row r)) closed in
-    books_with_resolver rows.accounts.0 rows.transfers.0 rows.failed.0 rows.keeps_failed rows.next_expiry rows.time c.requires.kept p r c.requires.found c.requires.resolves c.requires.is_resolver c.settle_credit.new.accounts.0 c.add_row.new.transfers.0 both.0 added
+    let added = ap (λ v. v.0) c.add_row.ensures.transfers ∙ ap (λ row. put transfer_row_key row c.close_row.new.transfers.0) c.row_of-row.ensures.row ∙ ap (put transfer_row_key (new_transfer_row r)) closed in
+    books_with_resolver rows.accounts.0 rows.transfers.0 rows.failed.0 rows.keeps_failed rows.timeouts.0 rows.time c.requires.kept p r c.requires.found c.requires.resolves c.requires.is_resolver c.settle_credit.new.accounts.0 c.add_row.new.transfers.0 both.0 added

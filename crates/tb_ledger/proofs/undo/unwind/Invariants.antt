@@ -1,5 +1,5 @@
 use Rattle.std.proofs.Common.{◌≡◌, ◌≤◌, vec_len, vec_capacity}
-use Rattle.tb_ledger.specs.Trail.{unwound_accounts, unwound_transfers}
+use Rattle.tb_ledger.specs.Trail.{unwound_accounts, unwound_transfers, unwound_timeouts, CanUnwind}
 use Rattle.tb_ledger.proofs.undo.unwind.Given as goal
 
 abbrev pub invariant-loop-undo : goal.invariant-loop-undo
@@ -10,7 +10,8 @@ invariant-loop-undo g l = record {
   transfers_room : l.initial.rows.transfers.1 ≤ l.rows.transfers.1;
   failed : l.rows.failed ≡ l.initial.rows.failed;
   keeps_failed : l.rows.keeps_failed ≡ l.initial.rows.keeps_failed;
-  next_expiry : l.rows.next_expiry ≡ l.initial.rows.next_expiry;
+  timeouts : unwound_timeouts l.trail.items l.rows.timeouts ≡ unwound_timeouts l.initial.trail.items l.initial.rows.timeouts;
+  can : CanUnwind l.trail.items l.rows.timeouts;
   time : l.rows.time ≡ l.initial.rows.time;
   capacity : vec_capacity l.trail ≡ vec_capacity l.initial.trail;
 }

@@ -1,19 +1,36 @@
-use Rattle.std.proofs.Common.{refl, ap, length-set, arith}
-use Rattle.tb_sessions.specs.Admission.{Stands, Table}
-use Rattle.tb_sessions.proofs.RowPlaces.{row_there, set_there, rising_set}
+use Rattle.std.proofs.Common.{◌≡◌, ◌+◌, ◌<◌, Some, refl, sym, ap, ◌∙◌}
+use Rattle.std.specs.Map.{values_of}
+use Rattle.avl_tree.specs.Map.{entries}
+use Rattle.tb_records.specs.Ordered.{Each}
+use Rattle.tb_sessions.specs.declared.rows.Row.{Row}
+use Rattle.tb_sessions.specs.Judged.{client_of}
+use Rattle.tb_sessions.specs.Admission.{Table}
+use Rattle.tb_sessions.proofs.Entries.{found-row, rows-replaced}
+use Rattle.tb_sessions.proofs.Index.{fresh, still_fresh, index_renewed}
 use Rattle.tb_sessions.proofs.table.Sessions.renew.Goals as goal
+
+pub insert_reserved-requires-clause-absent : goal.insert_reserved-requires-clause-absent
+insert_reserved-requires-clause-absent c =
+    let later : Each (λ (other : Row). other.commit < c.args.row.commit) (values_of (entries c.self.inside.rows)) = rw (ap (λ (t : Table). t.rows) c.self.view_is) c.requires.later in
+    let noted = c.self.invariant.linked.noted c.args.row.client c.in-Ok.old c.in-Ok.ensures.old in
+    still_fresh c.self.invariant c.args.row.commit c.in-Ok.old.commit c.remove.new.self (fresh c.self.invariant c.args.row.commit later) noted c.remove.ensures.entries
 
 pub invariant_of-self : goal.invariant_of-self
 invariant_of-self c =
-    let stands : Stands c.self.inside.rows.items c.args.row.client c.args.i = rw (ap (λ (t : Table). t.rows) c.self.view_is) c.requires in
-    rw c.replace.ensures.after (rising_set c.self.inside.rows.items c.args.i c.args.row stands c.self.invariant.0, omega (arith, length-set c.self.inside.rows.items c.args.i c.args.row, c.self.invariant.1), c.self.invariant.2, c.self.invariant.3)
+    let later : Each (λ (other : Row). other.commit < c.args.row.commit) (values_of (entries c.self.inside.rows)) = rw (ap (λ (t : Table). t.rows) c.self.view_is) c.requires.later in
+    let noted = c.self.invariant.linked.noted c.args.row.client c.in-Ok.old c.in-Ok.ensures.old in
+    let out : c.remove.result ≡ Some c.args.row.client = c.remove.ensures.value ∙ noted in
+    let spare : c.remove.new.self.spare ≡ c.self.inside.clients.spare + 1 = rw out at c.remove.ensures.spare in
+    index_renewed c.self.invariant c.args.row c.in-Ok.old c.remove.new.self c.in-Ok.ensures.old (fresh c.self.invariant c.args.row.commit later) c.in-Ok.ensures.written c.remove.ensures.entries c.insert_reserved.ensures.entries c.in-Ok.ensures.spare spare c.insert_reserved.ensures.spare
 
-pub returns-clause-table : goal.returns-clause-table
-returns-clause-table c =
-    let stands : Stands c.self.inside.rows.items c.args.row.client c.args.i = rw (ap (λ (t : Table). t.rows) c.self.view_is) c.requires in
-    rw (c.replace.ensures.after, ← c.self.view_is, set_there c.self.inside.rows.items c.args.i c.args.row stands) refl
+pub returns-in-Ok-clause-renewed : goal.returns-in-Ok-clause-renewed
+returns-in-Ok-clause-renewed c =
+    let es = entries c.self.inside.rows in
+    rw (← c.self.view_is) (sym (found-row client_of c.args.row.client es c.self.invariant.own) ∙ c.in-Ok.ensures.old, rw (c.in-Ok.ensures.written, rows-replaced client_of c.args.row es c.self.invariant.own) refl)
 
-pub returns-clause-left : goal.returns-clause-left
-returns-clause-left c =
-    let stands : Stands c.self.inside.rows.items c.args.row.client c.args.i = rw (ap (λ (t : Table). t.rows) c.self.view_is) c.requires in
-    rw (← c.self.view_is, c.replace.ensures.value) (row_there c.self.inside.rows.items c.args.i c.index_mut.result.now c.args.row.client stands c.index_mut.ensures.value)
+pub returns-in-Err-clause-absent : goal.returns-in-Err-clause-absent
+returns-in-Err-clause-absent c =
+    let es = entries c.self.inside.rows in
+    let unchanged = c.in-Err.ensures.absent in
+    let same = unchanged.2 in
+    (unchanged.0, rw (← c.self.view_is) (sym (found-row client_of c.args.row.client es c.self.invariant.own) ∙ unchanged.1), rw same c.self.view_is)

@@ -1,9 +1,13 @@
-use Rattle.std.proofs.Common.{ap}
-use Rattle.tb_sessions.specs.Admission.{Stands, Table}
-use Rattle.tb_sessions.proofs.RowPlaces.{row_there}
+use Rattle.std.proofs.Common.{◌≡◌, Option, Some, None, MatchOption, Bor, sym, ◌∙◌}
+use Rattle.std.specs.Option.{option_copied}
+use Rattle.avl_tree.specs.Map.{entries}
+use Rattle.tb_sessions.specs.Judged.{client_of}
+use Rattle.tb_sessions.proofs.Entries.{found-row}
 use Rattle.tb_sessions.proofs.table.Sessions.stored.Goals as goal
 
-pub returns-in-Some : goal.returns-in-Some
-returns-in-Some c =
-    let stands : Stands c.self.inside.rows.items c.args.client c.in-Some.i = rw (ap (λ (t : Table). t.rows) c.self.view_is) c.in-Some.ensures in
-    rw (← c.self.view_is) (row_there c.self.inside.rows.items c.in-Some.i c.index.result.now c.args.client stands c.index.ensures)
+by_answer : {X : Type 0} (answer : Option (Bor X)) (found : Option X) → option_copied answer ≡ found → MatchOption answer (found ≡ None) (λ x. found ≡ Some x.now)
+by_answer None found is = sym is
+by_answer (Some x) found is = sym is
+
+pub returns : goal.returns
+returns c = rw (← c.self.view_is) (by_answer c.get.result _ (c.get.ensures ∙ found-row client_of c.args.client (entries c.self.inside.rows) c.self.invariant.own))

@@ -1,0 +1,85 @@
+-- What passes between two accounts changes their rows as the books say.
+use Rattle.std.proofs.Common.{◌≡◌, ◌≢◌, ℕ, Bool, true, false, cond, eqb, ◌==◌, ◌+◌, List, [], ◌∷◌, ◌++◌, Vec, vec_len, vec_capacity, find, Some, Result, Ok, Err, option_map, refl, sym, subst, ap, ◌∙◌, arith}
+use Rattle.tb_records.specs.declared.records.Transfer.{Transfer}
+use Rattle.tb_records.specs.Ordered.{replaced, changed}
+use Rattle.tb_records.proofs.ByKey.{changed_found, replaced-changed}
+use Rattle.tb_ledger.specs.declared.rows.AccountRow.{AccountRow}
+use Rattle.tb_ledger.specs.declared.rows.TransferRow.{TransferRow}
+use Rattle.tb_ledger.specs.declared.timeouts.Timeout.{Timeout}
+use Rattle.tb_ledger.specs.declared.undo.Undo.{Undo}
+use Rattle.tb_ledger.specs.declared.undo.Undo.TheVariants.{Account}
+use Rattle.tb_ledger.specs.Trail.{undo_account, undo_transfer, undo_timeouts, unwound_accounts, unwound_transfers, unwound_timeouts, CanUndo, CanUnwind, IsNoted}
+use Rattle.tb_ledger.specs.declared.exchanging.Passed.{Passed}
+use Rattle.tb_ledger.specs.Books.{closing_debit, closing_credit}
+use Rattle.tb_ledger.specs.Kept.{account_row_key, row_now, gained, on_debits, on_credits, accounts_gained}
+use Rattle.tb_ledger.specs.Exchanges.{moved, Exchanges, ExchangesIn, row_at}
+use Rattle.tb_ledger.specs.Verdicts.{pair_code, balanced_amount}
+use Rattle.tb_ledger.proofs.Settled.{found_still, refound}
+
+-- a row put in its own place changes nothing
+replaced_same : {X : Type 0} (key : X → ℕ) (x : X) (xs : List X) → find (λ y. key y == key x) xs ≡ Some x → replaced key x xs ≡ xs
+replaced_same key x [] found = refl
+replaced_same key x (y ∷ ys) found = by (eqb (key y) (key x)) (replaced_same key x ys) found
+  where
+    by : (b : Bool) → (find (λ y. key y == key x) ys ≡ Some x → replaced key x ys ≡ ys) → cond b (Some y) (find (λ y. key y == key x) ys) ≡ Some x → cond b (x ∷ ys) (y ∷ replaced key x ys) ≡ y ∷ ys
+    by true later is = let same : x ≡ y = cc in ap (λ z. z ∷ ys) same
+    by false later is = ap (λ zs. y ∷ zs) (later is)
+
+pub passed_in : (t : Transfer) (time : ℕ) (accounts later : List AccountRow) (d c d' c' : AccountRow) (r : Result Passed ℕ) → t.debit_account_id ≢ t.credit_account_id
+    → row_at accounts t.debit_account_id ≡ Some d → row_at accounts t.credit_account_id ≡ Some c → Exchanges t time d c r d' c' → later ≡ replaced account_row_key c' (replaced account_row_key d' accounts)
+    → ExchangesIn t time accounts r later
+passed_in t time accounts later d c d' c' (Ok x) apart d_is c_is passes wrote =
+    let recorded = moved t x.amount time in
+    let x_debit : x.debit ≡ d = ap (λ x. x.debit) passes.1 in
+    let x_credit : x.credit ≡ c = ap (λ x. x.credit) passes.1 in
+    let code : pair_code (Some (row_now x.debit)) (Some (row_now x.credit)) t time ≡ 0 = rw (x_debit, x_credit) passes.0 in
+    let amount : x.amount ≡ balanced_amount (row_now x.debit) (row_now x.credit) t = rw (x_debit, x_credit) (ap (λ x. x.amount) passes.1) in
+    let gains : AccountRow → AccountRow = on_debits (gained closing_debit recorded) in
+    let gives : AccountRow → AccountRow = on_credits (gained closing_credit recorded) in
+    let first : changed account_row_key t.debit_account_id gains accounts ≡ replaced account_row_key d' accounts =
+    changed_found account_row_key t.debit_account_id gains d accounts (λ y. refl) d_is ∙ ap (λ row. replaced account_row_key row accounts) (sym passes.2) in
+    let still = found_still t.debit_account_id t.credit_account_id gains c accounts (λ y. refl) apart c_is in
+    let second : changed account_row_key t.credit_account_id gives (changed account_row_key t.debit_account_id gains accounts) ≡ replaced account_row_key c' (changed account_row_key t.debit_account_id gains accounts) =
+    changed_found account_row_key t.credit_account_id gives c (changed account_row_key t.debit_account_id gains accounts) (λ y. refl) still ∙ ap (λ row. replaced account_row_key row (changed account_row_key t.debit_account_id gains accounts)) (sym passes.3) in
+    (d_is ∙ ap (λ row. Some row) (sym x_debit), c_is ∙ ap (λ row. Some row) (sym x_credit), code, amount, wrote ∙ ap (replaced account_row_key c') (sym first) ∙ sym second)
+passed_in t time accounts later d c d' c' (Err code) apart d_is c_is refused wrote =
+    let first : replaced account_row_key d' accounts ≡ accounts = rw refused.2 (replaced_same account_row_key d accounts (refound account_row_key t.debit_account_id d accounts d_is)) in
+    let second : replaced account_row_key c' accounts ≡ accounts = rw refused.3 (replaced_same account_row_key c accounts (refound account_row_key t.credit_account_id c accounts c_is)) in
+    let is : pair_code (option_map row_now (row_at accounts t.debit_account_id)) (option_map row_now (row_at accounts t.credit_account_id)) t time ≡ code = rw (d_is, c_is) refused.0 in
+    (is, refused.1, wrote ∙ ap (replaced account_row_key c') first ∙ second)
+
+-- both rows put back
+
+unwound_two : (us : List Undo) (u v : Undo) (rows : List AccountRow) → unwound_accounts (us ++ u ∷ v ∷ []) rows ≡ unwound_accounts us (undo_account u (undo_account v rows))
+unwound_two [] u v rows = refl
+unwound_two (w ∷ us) u v rows = ap (undo_account w) (unwound_two us u v rows)
+
+unwound_transfers_two : (us : List Undo) (d c : AccountRow) (rows : List TransferRow) → unwound_transfers (us ++ Account d ∷ Account c ∷ []) rows ≡ unwound_transfers us rows
+unwound_transfers_two [] d c rows = refl
+unwound_transfers_two (w ∷ us) d c rows = ap (undo_transfer w) (unwound_transfers_two us d c rows)
+
+unwound_timeouts_two : (us : List Undo) (d c : AccountRow) (ts : List Timeout × ℕ) → unwound_timeouts (us ++ Account d ∷ Account c ∷ []) ts ≡ unwound_timeouts us ts
+unwound_timeouts_two [] d c ts = refl
+unwound_timeouts_two (w ∷ us) d c ts = ap (undo_timeouts w) (unwound_timeouts_two us d c ts)
+
+can_two : (us : List Undo) (d c : AccountRow) (ts : List Timeout × ℕ) → CanUnwind us ts → CanUnwind (us ++ Account d ∷ Account c ∷ []) ts
+can_two [] d c ts can = (tt, (tt, tt))
+can_two (w ∷ us) d c ts can = (subst (CanUndo w) (sym (unwound_timeouts_two us d c ts)) can.0, can_two us d c ts can.1)
+
+pub noted_passed : {A : Type 0} (t : Transfer) (d c : AccountRow) (accounts later : List AccountRow) (trail grown : Vec Undo A) → grown.items ≡ trail.items ++ Account d ∷ Account c ∷ [] → vec_len grown ≡ vec_len trail + 2 → vec_capacity grown ≡ vec_capacity trail
+    → t.debit_account_id ≢ t.credit_account_id → row_at accounts t.debit_account_id ≡ Some d → row_at accounts t.credit_account_id ≡ Some c → later ≡ accounts_gained t accounts → IsNoted 2 accounts later trail grown
+noted_passed t d c accounts later trail grown pushed len cap apart d_is c_is gains =
+    let takes : AccountRow → AccountRow = on_debits (gained closing_debit t) in
+    let gives : AccountRow → AccountRow = on_credits (gained closing_credit t) in
+    let between = changed account_row_key t.debit_account_id takes accounts in
+    let still = found_still t.debit_account_id t.credit_account_id takes c accounts (λ y. refl) apart c_is in
+    let second : replaced account_row_key c later ≡ between = ap (replaced account_row_key c) gains ∙ replaced-changed account_row_key t.credit_account_id gives c between (λ y. refl) still in
+    let first : replaced account_row_key d between ≡ accounts = replaced-changed account_row_key t.debit_account_id takes d accounts (λ y. refl) d_is in
+    record {
+      undo_accounts = ap (λ us. unwound_accounts us later) pushed ∙ unwound_two trail.items (Account d) (Account c) later ∙ ap (unwound_accounts trail.items) (ap (replaced account_row_key d) second ∙ first);
+      undo_transfers = λ rows. ap (λ us. unwound_transfers us rows) pushed ∙ unwound_transfers_two trail.items d c rows;
+      undo_timeouts = λ ts. ap (λ us. unwound_timeouts us ts) pushed ∙ unwound_timeouts_two trail.items d c ts;
+      can_unwind = λ ts can. subst (λ us. CanUnwind us ts) (sym pushed) (can_two trail.items d c ts can);
+      length = omega (arith, len);
+      capacity = cap;
+    }

@@ -1,0 +1,49 @@
+-- The timeouts of pending transfers, in the order in which they expire.
+use Rattle.std.specs.Prelude.{ℕ, ◌≡◌, ◌+◌, ◌-◌, ◌*◌, ◌≤◌, ◌<◌, ◌==◌, List, map, find, Option, Some, None, if◌then◌else◌}
+use Rattle.std.specs.Option.{is_some}
+use Rattle.tb_records.specs.Ordered.{put, taken_out, Each, Rising}
+use Rattle.avl_tree.specs.Map.{Map}
+use Rattle.tb_ledger.specs.declared.timeouts.Timeout.{Timeout}
+use Rattle.tb_ledger.specs.Verdicts.{max_id}
+use Rattle.tb_ledger.specs.Tables.{entries_in}
+
+-- timeouts stand by time, and by id where times are the same
+abbrev pub timeout_key : Timeout → ℕ
+timeout_key d = d.at * 340282366920938463463374607431768211456 + d.id
+
+-- the timeout of a key of the tree
+abbrev pub timeout_at : {V : Type 0} → (ℕ × ℕ) × V → Timeout
+timeout_at e = record { at = e.0.0; id = e.0.1 }
+
+abbrev pub timeouts_of : {V : Type 0} → List ((ℕ × ℕ) × V) → List Timeout
+timeouts_of es = map timeout_at es
+
+abbrev pub timeouts_in : {V : Type 0} → Option (Map (ℕ × ℕ) V) → List Timeout
+timeouts_in m = timeouts_of (entries_in m)
+
+-- by rising key, and ids are ids
+pub record AreTimeouts (ds : List Timeout) : Type 0 where
+  pub rising : Rising timeout_key ds
+  pub fit : Each (λ d. d.id ≤ max_id) ds
+
+-- the room that is free again where something was taken out
+abbrev pub freed : {X : Type 0} → Option X → ℕ
+freed o = if is_some o then 1 else 0
+
+-- timeouts and the room for more, with one more
+abbrev pub with_timeout : Timeout → List Timeout × ℕ → List Timeout × ℕ
+with_timeout d ts = (put timeout_key d ts.0, ts.1 - 1)
+
+-- without one, whose room is free again
+abbrev pub without_timeout : Timeout → List Timeout × ℕ → List Timeout × ℕ
+without_timeout d ts = (taken_out timeout_key (timeout_key d) ts.0, ts.1 + freed (find (λ e. timeout_key e == timeout_key d) ts.0))
+
+-- a timeout that is due at the time was taken out, or none is due
+abbrev pub TakesDue : ℕ → List Timeout × ℕ → Option Timeout → List Timeout × ℕ → Type 0
+TakesDue time ts None later = (later ≡ ts) × Each (λ d. time < d.at) ts.0
+TakesDue time ts (Some d) later = (d.at ≤ time) × (find (λ e. timeout_key e == timeout_key d) ts.0 ≡ Some d) × (later ≡ without_timeout d ts)
+
+-- the first of timeouts, where it is due at the time; else none is due
+abbrev pub IsFirstDue : ℕ → List Timeout → Option Timeout → Type 0
+IsFirstDue time ds None = Each (λ d. time < d.at) ds
+IsFirstDue time ds (Some d) = (d.at ≤ time) × (find (λ e. timeout_key e == timeout_key d) ds ≡ Some d)
