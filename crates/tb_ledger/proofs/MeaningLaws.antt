@@ -6,10 +6,13 @@ use Rattle.std.proofs.lemmas.List.Sums.{sum_by-cons}
 use Rattle.tb_records.specs.declared.records.Transfer.{Transfer}
 use Rattle.tb_records.specs.Ordered.{put, Rising}
 use Rattle.tb_records.proofs.ByKey.{sum_by-same, sum_by-put, find-put_other, each-map, none-found, none-fails}
-use Rattle.tb_ledger.specs.Books.{Books, pending, posts, voids, resolves, resolver, expires_at, is_due, state_of, is_open, holds, moves}
+use Rattle.tb_ledger.specs.Books.{Books, pending, posts, voids, resolves, resolver, expires_at, is_due, state_of, is_open, holds, moves, transfer_at}
+use Rattle.tb_ledger.specs.Verdicts.{recorded_transfer, filled}
 use Rattle.tb_ledger.specs.Sound.{transfer_key, debit, credit, pending_on, posted_on, Resolves}
 use Rattle.tb_ledger.specs.Meanings.{IsHeld, HeldWhileOpen, Settles, SettlesBoth}
 use Rattle.tb_ledger.proofs.Sides.{open_parts, open_from, not_true, share_none, share_whole, no_more}
+use Rattle.tb_ledger.proofs.SoundLaws.{filled_flags}
+use Rattle.tb_ledger.proofs.VerdictLaws.{recorded_resolves, filled_pending_id}
 
 pub held_while_open : HeldWhileOpen
 held_while_open B p = (leads, back)
@@ -92,5 +95,27 @@ settles_on side other B f found is rising same = record { pending_leaves = leave
         let share : (if (side f == id) && moves f then f.amount else 0) ≡ (if (side found.p == id) && posts f then f.amount else 0) = ap (λ m. if (side f == id) && m then f.amount else 0) moving ∙ ap (λ k. if (k == id) && posts f then f.amount else 0) same in
         omega (arith, sum_by-put transfer_key (λ t. if (side t == id) && moves t then t.amount else 0) f B.transfers, share)
 
+-- an accepted post or void, as it is recorded
 pub settles_both : SettlesBoth
-settles_both B f found is rising = (settles_on debit credit B f found is rising found.debit_same, settles_on credit debit B f found is rising found.credit_same)
+settles_both B t time rise is ok = record {
+  p = found.p;
+  named = ap (transfer_at B) (sym pending_id) ∙ found.named;
+  held = found.held;
+  debits = settles_on debit credit B r found resolving rise.transfers found.debit_same;
+  credits = settles_on credit debit B r found resolving rise.transfers found.credit_same;
+}
+  where
+    r : Transfer
+    r = recorded_transfer B t time
+
+    as_filled : r ≡ record (filled B t) { timestamp = time }
+    as_filled = rw is refl
+
+    found : Resolves B r
+    found = subst (Resolves B) (sym as_filled) (recorded_resolves B t (filled B t) time is ok refl)
+
+    pending_id : r.pending_id ≡ t.pending_id
+    pending_id = ap (λ f. f.pending_id) as_filled ∙ filled_pending_id B t
+
+    resolving : resolves r ≡ true
+    resolving = ap resolves as_filled ∙ ap (λ flags. resolves (record t { flags = flags })) (filled_flags B t) ∙ is

@@ -14,6 +14,12 @@ account_key a = a.id
 abbrev pub transfer_key : Transfer → ℕ
 transfer_key t = t.id
 
+-- ids rise in the books: each stands once, of accounts, of transfers, and of failed ids where these are kept
+pub record IdsRise (B : Books) : Type 0 where
+  pub accounts : Rising account_key B.accounts
+  pub transfers : Rising transfer_key B.transfers
+  pub failed : (ids : List ℕ) → B.failed ≡ Some ids → Rising (λ id. id) ids
+
 -- the two sides of a transfer: the account that it debits, the account that it credits
 abbrev pub debit : Transfer → ℕ
 debit t = t.debit_account_id

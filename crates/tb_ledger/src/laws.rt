@@ -15,7 +15,8 @@ pub fn pending_sums_hold_what_is_open()
     ensures { HeldWhileOpen }
 {}
 
-/// What an accepted post or void does to the sums: the whole pending amount leaves, and what is posted comes, on both sides.
+/// What a post or void does to the sums where its verdict is 0: the pending transfer that it names is there and holds; on both
+/// sides its whole amount leaves the pending sum, and what is posted comes to the posted one.
 pub fn posts_and_voids_settle()
     ensures { SettlesBoth }
 {}
