@@ -1,5 +1,7 @@
--- Rows that are put back as they were.
-use Rattle.std.proofs.Common.{◌≡◌, ℕ, Bool, List, refl}
+-- Rows that are put back as they were, and their order.
+use Rattle.std.proofs.Common.{◌≡◌, ℕ, ◌<◌, Bool, List, [], ◌∷◌, map, refl}
+use Rattle.tb_records.specs.Ordered.{Rising}
+use Rattle.tb_records.proofs.ByKey.{each-through}
 use Rattle.tb_ledger.specs.declared.rows.AccountRow.{AccountRow}
 use Rattle.tb_ledger.specs.declared.rows.TransferRow.{TransferRow}
 use Rattle.tb_ledger.specs.declared.timeouts.Timeout.{Timeout}
@@ -15,3 +17,8 @@ pub books_back : (accounts accounts' : List AccountRow) (transfers transfers' : 
     → accounts' ≡ accounts → transfers' ≡ transfers → failed' ≡ failed → keeps' ≡ keeps → time' ≡ time
     → books_of accounts' transfers' failed' keeps' time' ≡ books_of accounts transfers failed keeps time
 books_back accounts accounts' transfers transfers' failed failed' keeps keeps' time time' a t f k same = rw (a, t, f, k, same) refl
+
+-- the records of rows rise as the rows do
+pub rising-through : {X Y : Type 0} (key : Y → ℕ) (g : X → Y) (xs : List X) → Rising (λ x. key (g x)) xs → Rising key (map g xs)
+rising-through key g [] rising = tt
+rising-through key g (x ∷ xs) rising = (each-through (λ y. key (g x) < key y) g xs rising.0, rising-through key g xs rising.1)

@@ -3,6 +3,7 @@ ghost use Rattle.std.specs.Prelude.{◌≡◌, ◌+◌, ◌<◌, ◌≤◌, ◌+
 ghost use Rattle.tb_ledger.specs.Batches.{account_events, batch_after, results, transfer_events};
 ghost use Rattle.tb_ledger.specs.Books.{account_now, empty_books, found_accounts, found_transfers, moved_to_two, profile_of, transfer_at};
 ghost use Rattle.tb_ledger.specs.Kept.{books_in, IsKept, row_now};
+ghost use Rattle.tb_ledger.specs.Sound.{IdsRise};
 ghost use Rattle.tb_ledger.specs.Tables.{IsShortSearch};
 ghost use Rattle.tb_ledger.specs.Verdicts.{max_time};
 
@@ -111,10 +112,13 @@ impl<A: Allocator + Clone> Ledger<A> {
         }
     }
 
-    /// The time of the last entry, in nanoseconds: 0 before the first.
+    /// The time of the last entry, in nanoseconds: 0 before the first. In the books of every ledger ids rise: those of accounts,
+    /// of transfers, and by profile 2 the failed ones.
     pub fn time(&self) -> u64
-        ensures { result ≡ self.now.time }
+        ensures time { result ≡ self.now.time }
+        ensures ids_rise { IdsRise self.now }
     {
+        self.rows.ordered();
         self.rows.time
     }
 

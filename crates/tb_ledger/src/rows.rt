@@ -2,6 +2,7 @@
 ghost use Rattle.std.specs.Prelude.{◌≡◌, ◌^◌, ◌-◌, [], false};
 ghost use Rattle.tb_ledger.specs.Books.{empty_books};
 ghost use Rattle.tb_ledger.specs.Kept.{books_in, IsKept};
+ghost use Rattle.tb_ledger.specs.Sound.{IdsRise};
 
 use crate::table::{Keyed, Table};
 use crate::timeouts::Timeouts;
@@ -89,5 +90,14 @@ impl<A: Allocator + Clone> Rows<A> {
             timeouts: Timeouts::new(),
             time: 0,
         }
+    }
+
+    /// Hands out that ids rise in the books.
+    pub fn ordered(&self)
+        ensures { IdsRise (books_in self.now) }
+    {
+        self.accounts.ordered();
+        self.transfers.ordered();
+        self.failed.ordered();
     }
 }

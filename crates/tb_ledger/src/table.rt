@@ -122,6 +122,13 @@ impl<V: Keyed, A: Allocator + Clone> Table<V, A> {
         Table { rows: None }
     }
 
+    /// Hands out that keys rise.
+    pub fn ordered(&self)
+        ensures { Rising V.key self.now.0 }
+    {
+        let _ = &self.rows;
+    }
+
     /// The row with the key.
     pub fn get(&self, id: u128) -> Option<&V>
         ensures { option_copied result ≡ find (λ row. V.key row == id) self.now.0 }
