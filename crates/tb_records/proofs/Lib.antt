@@ -1,6 +1,9 @@
+pub mod AccountResultNames
 pub mod ByKey
 pub mod DumpAnswers
 pub mod FirstFaults
+pub mod FlagNames
+pub mod Found
 pub mod FrameFaults
 pub mod HeaderBytes
 pub mod ItemBytes
@@ -18,4 +21,5 @@ pub mod Sendings
 pub mod SliceAnswers
 pub mod Spellings
 pub mod StreamAnswers
+pub mod TransferResultNames
 pub mod ZeroBytes

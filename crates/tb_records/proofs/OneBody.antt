@@ -17,7 +17,7 @@ back true y h = h
 back false y h = cc
 
 -- where the test of two items says that they are equal, so does the test of two lists
-one_list : {X : Type 0} (test : X → X → Bool) → ((a b : X) → test a b ≡ true → a ≡ b) → (xs ys : List X) → pointwise test xs ys ≡ true → xs ≡ ys
+pub one_list : {X : Type 0} (test : X → X → Bool) → ((a b : X) → test a b ≡ true → a ≡ b) → (xs ys : List X) → pointwise test xs ys ≡ true → xs ≡ ys
 one_list test one [] [] h = refl
 one_list test one [] (y ∷ ys) h = cc
 one_list test one (x ∷ xs) [] h = cc

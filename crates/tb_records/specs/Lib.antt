@@ -1,6 +1,9 @@
 -- what public contracts cite
 pub mod Numbers
 pub mod RecordBytes
+pub mod Flags
+pub mod AccountResults
+pub mod TransferResults
 pub mod Messages
 pub mod Same
 pub mod Frames

@@ -1,12 +1,14 @@
 //! Accounts, transfers, requests and replies of the ledger, as values and as bytes.
 #![tactic(auto)]
 
+mod account_results;
 pub mod answering;
 pub mod bodies;
 pub mod devices;
 pub mod dumps;
 mod encoding;
 pub mod faults;
+mod flags;
 mod headers;
 pub mod laws;
 mod layout;
@@ -22,20 +24,24 @@ pub mod requests;
 pub mod streams;
 #[cfg(test)]
 mod tests;
+mod transfer_results;
 #[cfg(test)]
 mod vectors;
 pub mod writing;
 
+pub use account_results::CreateAccountResult;
 pub use answering::read_reply;
 pub use bodies::{Body, ReplyBody};
 pub use devices::{Buffered, Counting, Sink, Source, put_all};
 pub use dumps::{DumpFault, DumpHead, DumpItem};
 pub use faults::FrameFault;
-pub use limits::{ClientsMax, ITEMS_MAX, Profile};
+pub use flags::{AccountFlag, TransferFlag};
+pub use limits::{ClientsMax, ITEMS_MAX, LAST_MOMENT, NANOSECONDS_PER_SECOND, Profile};
 pub use lists::Items;
 pub use reading::read_request;
 pub use records::{Account, EventResult, Transfer};
 pub use replies::{Reply, Status};
 pub use requests::Request;
 pub use streams::{RequestStream, holds_frame};
+pub use transfer_results::CreateTransferResult;
 pub use writing::{send_reply, send_request, write_reply, write_request};

@@ -6,6 +6,12 @@ use std::marker::Model;
 /// The greatest number of items that a body has.
 pub const ITEMS_MAX: usize = 8190;
 
+/// The nanoseconds of a second. Moments, times and timestamps count nanoseconds, a timeout counts seconds.
+pub const NANOSECONDS_PER_SECOND: u64 = 1_000_000_000;
+
+/// The last moment of the clock, 2^63 - 1 nanoseconds: no time, timestamp or expiry is above it.
+pub const LAST_MOMENT: u64 = 9_223_372_036_854_775_807;
+
 /// The rules of the ledger.
 #[derive(Clone, Copy, Debug, PartialEq, Eq)]
 pub enum Profile {

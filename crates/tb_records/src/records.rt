@@ -1,7 +1,9 @@
 //! The records that a client creates, in TigerBeetle's layout of 128 bytes, and the result of an event.
-ghost use Rattle.std.specs.Prelude.{◌≡◌};
+ghost use Rattle.std.specs.Prelude.{◌≡◌, ◌||◌};
+ghost use Rattle.tb_records.specs.Flags.{account_flag_bit, has_flag, transfer_flag_bit};
 ghost use Rattle.tb_records.specs.RecordBytes.{account_bytes, transfer_bytes, IsAccount, IsTransfer};
 
+use crate::flags::{AccountFlag, TransferFlag};
 use crate::layout::Item;
 
 /// An account. Of a record that a client sends, the four sums and the timestamp are to be 0.
@@ -26,14 +28,34 @@ pub struct Account {
     pub ledger: u32,
     /// The kind of the account, the client's own choice, not 0.
     pub code: u16,
-    /// 1 linked, 2 debits_must_not_exceed_credits, 4 credits_must_not_exceed_debits, 8 history,
-    /// 16 imported (refused), 32 closed.
+    /// The bits of its `AccountFlag`s.
     pub flags: u16,
     /// When the account was created, in nanoseconds.
     pub timestamp: u64,
 }
 
 impl Account {
+    /// Says that the account has a flag.
+    pub fn has(&self, flag: AccountFlag) -> bool
+        ensures { result ≡ has_flag (account_flag_bit flag) self.now.flags }
+    {
+        flag.is_in(self.flags)
+    }
+
+    /// The next event of the batch stands or falls with this one.
+    pub fn is_linked(&self) -> bool
+        ensures { result ≡ has_flag 1 self.now.flags }
+    {
+        self.has(AccountFlag::Linked)
+    }
+
+    /// No transfer enters the account but a void.
+    pub fn is_closed(&self) -> bool
+        ensures { result ≡ has_flag 32 self.now.flags }
+    {
+        self.has(AccountFlag::Closed)
+    }
+
     /// The account's 128 bytes: its fields in their order, each number with its lowest byte first.
     pub fn to_bytes(&self) -> [u8; 128]
         ensures bytes { result ≡ account_bytes self.now }
@@ -74,14 +96,69 @@ pub struct Transfer {
     pub ledger: u32,
     /// The reason of the transfer, the client's own choice, not 0.
     pub code: u16,
-    /// 1 linked, 2 pending, 4 post_pending_transfer, 8 void_pending_transfer, 16 balancing_debit,
-    /// 32 balancing_credit, 64 closing_debit, 128 closing_credit, 256 imported (refused).
+    /// The bits of its `TransferFlag`s.
     pub flags: u16,
     /// When the transfer was recorded, in nanoseconds.
     pub timestamp: u64,
 }
 
 impl Transfer {
+    /// Says that the transfer has a flag.
+    pub fn has(&self, flag: TransferFlag) -> bool
+        ensures { result ≡ has_flag (transfer_flag_bit flag) self.now.flags }
+    {
+        flag.is_in(self.flags)
+    }
+
+    /// The next event of the batch stands or falls with this one.
+    pub fn is_linked(&self) -> bool
+        ensures { result ≡ has_flag 1 self.now.flags }
+    {
+        self.has(TransferFlag::Linked)
+    }
+
+    /// Its amount is held until it is posted or voided, or expires.
+    pub fn is_pending(&self) -> bool
+        ensures { result ≡ has_flag 2 self.now.flags }
+    {
+        self.has(TransferFlag::Pending)
+    }
+
+    /// It posts the pending transfer of its pending_id.
+    pub fn is_post(&self) -> bool
+        ensures { result ≡ has_flag 4 self.now.flags }
+    {
+        self.has(TransferFlag::PostPendingTransfer)
+    }
+
+    /// It voids the pending transfer of its pending_id.
+    pub fn is_void(&self) -> bool
+        ensures { result ≡ has_flag 8 self.now.flags }
+    {
+        self.has(TransferFlag::VoidPendingTransfer)
+    }
+
+    /// It posts or voids.
+    pub fn is_resolving(&self) -> bool
+        ensures { result ≡ (has_flag 4 self.now.flags || has_flag 8 self.now.flags) }
+    {
+        self.is_post() || self.is_void()
+    }
+
+    /// It moves at most what the debit account has left, or the credit account.
+    pub fn is_balancing(&self) -> bool
+        ensures { result ≡ (has_flag 16 self.now.flags || has_flag 32 self.now.flags) }
+    {
+        self.has(TransferFlag::BalancingDebit) || self.has(TransferFlag::BalancingCredit)
+    }
+
+    /// It closes the debit account, or the credit account.
+    pub fn is_closing(&self) -> bool
+        ensures { result ≡ (has_flag 64 self.now.flags || has_flag 128 self.now.flags) }
+    {
+        self.has(TransferFlag::ClosingDebit) || self.has(TransferFlag::ClosingCredit)
+    }
+
     /// The transfer's 128 bytes: its fields in their order, each number with its lowest byte first.
     pub fn to_bytes(&self) -> [u8; 128]
         ensures bytes { result ≡ transfer_bytes self.now }
