@@ -1,0 +1,48 @@
+#!/usr/bin/env python3
+"""Runs storms of the built program again and again: many client threads at once, and the same four lines each time.
+
+    (cd crates/tbs && rt run -- run 2) < examples/first.script > /dev/null
+    checks/storms.py [TIMES]
+
+TIMES (3 by default, 100 in the long form of docs/RELIABILITY.md) is how often each storm is run. Prints a line for each storm, and
+'N passed, M failed'.
+"""
+import os
+import subprocess
+import sys
+import time
+
+TOP = os.path.dirname(os.path.dirname(os.path.abspath(__file__)))
+PROGRAM = f"{TOP}/crates/tbs/out/tbs"
+
+
+def totals(clients, transfers):
+    """A register and a request for all accounts, then a register and the transfers 1, 2, 3 and so on of each client."""
+    commits = 2 + clients * (transfers + 1)
+    credited = clients * transfers * (transfers + 1) // 2
+    return f"clients {clients}\ncommits {commits}\ntransfers {clients * transfers}\ncredited {credited}\n".encode()
+
+
+def main():
+    if not os.access(PROGRAM, os.X_OK):
+        sys.exit(f"{PROGRAM} is not there: build it first, as the head of this file says")
+    times = int(sys.argv[1]) if len(sys.argv) > 1 else 3
+    passed = failed = 0
+    for clients, transfers in [(16, 1000), (2, 3)]:
+        wanted, spent, right = (0, totals(clients, transfers), b""), [], 0
+        for _ in range(times):
+            start = time.monotonic()
+            ran = subprocess.run([PROGRAM, "storm", str(clients), str(transfers)], stdin=subprocess.DEVNULL, capture_output=True, timeout=600)
+            spent.append(time.monotonic() - start)
+            if (ran.returncode, ran.stdout, ran.stderr) == wanted:
+                right += 1
+            else:
+                print(f"FAILED: storm {clients} {transfers}: {ran.returncode}, {ran.stdout}, {ran.stderr}")
+        passed, failed = passed + right, failed + times - right
+        print(f"storm {clients} {transfers}: {right} of {times} with the four lines, {min(spent):.3f} to {max(spent):.3f} seconds each")
+    print(f"{passed} passed, {failed} failed")
+    return 1 if failed else 0
+
+
+if __name__ == "__main__":
+    sys.exit(main())
