@@ -1,4 +1,5 @@
 pub mod Around
+pub mod Crosses
 pub mod Exchange
 pub mod Firsts
 pub mod InPlace

@@ -9,7 +9,7 @@ ghost use Rattle.std.specs.BTreeMap.{insert_entry, is_at};
 ghost use Rattle.std.specs.declared.option.Option.TheVariants.{None, Some};
 ghost use Rattle.avl_tree.specs.Changes.{Changed, ChangedTwo};
 ghost use Rattle.avl_tree.specs.Map.{entries, get, IsShallow};
-ghost use Rattle.avl_tree.specs.Nodes.{with_first, IsBare};
+ghost use Rattle.avl_tree.specs.Nodes.{with_first, search_of, IsBare, IsWhole};
 ghost use Rattle.avl_tree.specs.Search.{path_length};
 ghost use Rattle.avl_tree.specs.Visits.{between, VisitsTo};
 
@@ -35,6 +35,7 @@ pub struct AvlMap<K: Ord + Copy, V, A: Allocator + Clone> {
 }
 
 impl<K: Ord + Copy, V, A: Allocator + Clone> Model for AvlMap<K, V, A> {
+    ghost use Rattle.std.specs.Borrow.{ftrue};
     ghost use Rattle.avl_tree.specs.Map.{Map, map_code};
 
     ghost Value = { Map K V };
@@ -46,7 +47,16 @@ impl<K: Ord + Copy, V, A: Allocator + Clone> Model for AvlMap<K, V, A> {
     ghost view = { λ m. record { tree = search_of m.root; spare = m.spare } };
 
     ghost invariant = { λ m. IsWhole K.cmp m.root m.len m.spare };
+
+    ghost also_owns = { λ _. ftrue };
+
+    ghost also_shares = { λ _ _ _. ftrue };
 }
+
+// A map owns no more than its fields do. An impl by hand is what a struct that holds a map finds its own `Send` by: of
+// nodes that lead to each other through boxes, and of what holds them, none is derived that another crate could cite.
+unsafe impl<K: Ord + Copy + Send, V: Send, A: Allocator + Clone + Send> Send for AvlMap<K, V, A> {}
+unsafe impl<K: Ord + Copy + Sync, V: Sync, A: Allocator + Clone + Sync> Sync for AvlMap<K, V, A> {}
 
 /// Puts a pair into a node that holds nothing.
 fn fill<K, V, A: Allocator>(node: &mut Node<K, V, A>, key: K, value: V)
@@ -88,17 +98,26 @@ fn value_of<K: Copy, V>(pair: Option<(K, V)>) -> Option<V>
 }
 
 impl<K: Ord + Copy, V, A: Allocator + Clone> AvlMap<K, V, A> {
+    /// The map of these parts.
+    fn of(root: Tree<K, V, A>, len: usize, spare: SpareNodes<K, V, A>, alloc: A) -> Self
+        requires { IsWhole K.cmp root len spare }
+        ensures tree { result.tree ≡ search_of root }
+        ensures spare { result.spare ≡ spare }
+    {
+        AvlMap {
+            root,
+            len,
+            spare,
+            alloc,
+        }
+    }
+
     /// An empty map with no spare node.
     pub fn new_in(alloc: A) -> Self
         ensures empty { entries result ≡ [] }
         ensures no_spare { result.spare ≡ 0 }
     {
-        AvlMap {
-            root: Tree::Empty,
-            len: 0,
-            spare: SpareNodes::new(),
-            alloc,
-        }
+        Self::of(Tree::Empty, 0, SpareNodes::new(), alloc)
     }
 
     /// The number of keys.

@@ -1,4 +1,4 @@
-use Rattle.std.proofs.Common.{arith}
+use Rattle.std.proofs.Common.{refl, arith}
 use Rattle.avl_tree.proofs.Shape.{entries-search_of}
 use Rattle.avl_tree.proofs.Whole.{low_height, whole_insert}
 use Rattle.avl_tree.proofs.map.AvlMap.insert_reserved.Goals as goal
@@ -16,7 +16,7 @@ invariant_of-self g c =
     let e = entries-search_of c.self.inside.root c.self.invariant.balanced in
     let absent = rw e at (rw (← c.self.view_is) at c.requires.absent) in
     let put = rw c.fill.ensures.entry at c.insert.ensures.entries in
-    whole_insert c.self.invariant g.met.K.Ord.total c.args.key c.args.value absent c.insert.ensures.balanced put c.pop-node.ensures.one_less
+    (refl, tt, whole_insert c.self.invariant g.met.K.Ord.total c.args.key c.args.value absent c.insert.ensures.balanced put c.pop-node.ensures.one_less)
 
 pub returns-clause-entries : goal.returns-clause-entries
 returns-clause-entries g c =

@@ -16,7 +16,7 @@ take_first-requires-clause-height_fits g c = omega (arith, low_height c.self.inv
 pub invariant_of-self-2 : goal.invariant_of-self-2
 invariant_of-self-2 g c =
     let r = c.in_ok-node.ensures in
-    whole_pop c.self.invariant c.in_ok-node.node.value.entry r.taken.1 r.entries r.balanced c.retire.ensures.one_less c.retire.ensures.one_more
+    (refl, tt, whole_pop c.self.invariant c.in_ok-node.node.value.entry r.taken.1 r.entries r.balanced c.retire.ensures.one_less c.retire.ensures.one_more)
 
 pub returns-clause-pair : goal.returns-clause-pair
 returns-clause-pair g c =

@@ -1,4 +1,4 @@
-use Rattle.std.proofs.Common.{sym, ◌∙◌, arith}
+use Rattle.std.proofs.Common.{refl, sym, ◌∙◌, arith}
 use Rattle.avl_tree.proofs.Shape.{entries-search_of}
 use Rattle.avl_tree.proofs.Whole.{low_height, whole_remove, whole_absent}
 use Rattle.avl_tree.proofs.map.AvlMap.remove.Goals as goal
@@ -9,7 +9,7 @@ remove-requires-clause-height_fits g c = omega (arith, low_height c.self.invaria
 pub invariant_of-self : goal.invariant_of-self
 invariant_of-self g c =
     let r = c.in_err-node.ensures in
-    whole_absent c.self.invariant c.args.key.now (sym r.value) r.balanced r.entries
+    (refl, tt, whole_absent c.self.invariant c.args.key.now (sym r.value) r.balanced r.entries)
 
 pub returns-in_err-node-clause-value : goal.returns-in_err-node-clause-value
 returns-in_err-node-clause-value g c =
@@ -25,7 +25,7 @@ returns-in_err-node-clause-entries g c =
 pub invariant_of-self-2 : goal.invariant_of-self-2
 invariant_of-self-2 g c =
     let r = c.in_ok-node.ensures in
-    whole_remove c.self.invariant c.args.key.now c.in_ok-node.node.value.entry r.taken.1 r.value r.balanced r.entries c.retire.ensures.one_less c.retire.ensures.one_more
+    (refl, tt, whole_remove c.self.invariant c.args.key.now c.in_ok-node.node.value.entry r.taken.1 r.value r.balanced r.entries c.retire.ensures.one_less c.retire.ensures.one_more)
 
 pub returns-clause-value : goal.returns-clause-value
 returns-clause-value g c =

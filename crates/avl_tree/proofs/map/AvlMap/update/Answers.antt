@@ -1,3 +1,4 @@
+use Rattle.std.proofs.Common.{refl}
 use Rattle.std.specs.BTreeMap.{is_at}
 use Rattle.avl_tree.proofs.Shape.{entries-search_of}
 use Rattle.avl_tree.proofs.InPlace.{changed, unchanged}
@@ -5,12 +6,12 @@ use Rattle.avl_tree.proofs.Whole.{whole_changes}
 use Rattle.avl_tree.proofs.map.AvlMap.update.Goals as goal
 
 pub invariant_of-self : goal.invariant_of-self
-invariant_of-self g c = whole_changes c.self.invariant g.F.FnMut c.args.key.now c.update.result c.args.f.now c.update.new.f c.update.new.tree c.update.ensures.changes
+invariant_of-self g c = (refl, tt, whole_changes c.self.invariant g.F.FnMut c.args.key.now c.update.result c.args.f.now c.update.new.f c.update.new.tree c.update.ensures.changes)
 
 pub returns-clause-changed : goal.returns-clause-changed
 returns-clause-changed g c =
     let e = entries-search_of c.self.inside.root c.self.invariant.balanced in
-    let n = entries-search_of c.update.new.tree (invariant_of-self g c).balanced in
+    let n = entries-search_of c.update.new.tree (invariant_of-self g c).2.balanced in
     rw (← c.self.view_is, e, n) (changed g.F.FnMut (is_at (g.K.Ord.cmp c.args.key.now)) c.self.inside.root c.update.new.tree c.args.f.now c.update.new.f c.update.result c.update.ensures.changes)
 
 pub returns-clause-absent : goal.returns-clause-absent

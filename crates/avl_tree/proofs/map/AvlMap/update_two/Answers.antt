@@ -1,4 +1,4 @@
-use Rattle.std.proofs.Common.{true, false, sym, ◌∙◌}
+use Rattle.std.proofs.Common.{true, false, refl, sym, ◌∙◌}
 use Rattle.std.proofs.Math.Logic.{⊎_swap}
 use Rattle.std.specs.BTreeMap.{is_at}
 use Rattle.avl_tree.proofs.Around.{reversed_Greater}
@@ -8,15 +8,15 @@ use Rattle.avl_tree.proofs.Whole.{whole_changes_two}
 use Rattle.avl_tree.proofs.map.AvlMap.update_two.Goals as goal
 
 pub invariant_of-self : goal.invariant_of-self
-invariant_of-self g c = whole_changes_two c.self.invariant g.F.FnMut true c.args.a.now c.args.b.now c.update_two.result c.args.f.now c.update_two.new.f c.update_two.new.tree c.update_two.ensures.changes
+invariant_of-self g c = (refl, tt, whole_changes_two c.self.invariant g.F.FnMut true c.args.a.now c.args.b.now c.update_two.result c.args.f.now c.update_two.new.f c.update_two.new.tree c.update_two.ensures.changes)
 
 pub invariant_of-self-in-Greater : goal.invariant_of-self-in-Greater
-invariant_of-self-in-Greater g c = whole_changes_two c.self.invariant g.F.FnMut false c.args.b.now c.args.a.now c.update_two-in-Greater.result c.args.f.now c.update_two-in-Greater.new.f c.update_two-in-Greater.new.tree c.update_two-in-Greater.ensures.changes
+invariant_of-self-in-Greater g c = (refl, tt, whole_changes_two c.self.invariant g.F.FnMut false c.args.b.now c.args.a.now c.update_two-in-Greater.result c.args.f.now c.update_two-in-Greater.new.f c.update_two-in-Greater.new.tree c.update_two-in-Greater.ensures.changes)
 
 pub returns-in-Less-clause-changed : goal.returns-in-Less-clause-changed
 returns-in-Less-clause-changed g c =
     let e = entries-search_of c.self.inside.root c.self.invariant.balanced in
-    let n = entries-search_of c.update_two.new.tree (invariant_of-self g c).balanced in
+    let n = entries-search_of c.update_two.new.tree (invariant_of-self g c).2.balanced in
     rw (← c.self.view_is, e, n) (changed_two g.F.FnMut g.met.K.Ord.total c.args.a.now c.args.b.now c.self.inside.root c.update_two.new.tree c.args.f.now c.update_two.new.f c.update_two.result c.update_two.ensures.changes)
 
 pub returns-in-Less-clause-absent : goal.returns-in-Less-clause-absent
@@ -27,7 +27,7 @@ returns-in-Less-clause-absent g c =
 pub returns-in-Greater-clause-changed : goal.returns-in-Greater-clause-changed
 returns-in-Greater-clause-changed g c =
     let e = entries-search_of c.self.inside.root c.self.invariant.balanced in
-    let n = entries-search_of c.update_two-in-Greater.new.tree (invariant_of-self-in-Greater g c).balanced in
+    let n = entries-search_of c.update_two-in-Greater.new.tree (invariant_of-self-in-Greater g c).2.balanced in
     let below = reversed_Greater (g.K.Ord.cmp c.args.b.now c.args.a.now) (sym (g.met.K.Ord.total.antisymm c.args.a.now c.args.b.now) ∙ sym c.in-Greater.ensures) in
     rw (← c.self.view_is, e, n) (changed_two_turned g.F.FnMut g.met.K.Ord.total c.args.b.now c.args.a.now c.self.inside.root c.update_two-in-Greater.new.tree c.args.f.now c.update_two-in-Greater.new.f below c.update_two-in-Greater.result c.update_two-in-Greater.ensures.changes)
 
