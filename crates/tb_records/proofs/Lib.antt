@@ -1,8 +1,8 @@
+pub mod AccountFlagNames
 pub mod AccountResultNames
 pub mod ByKey
 pub mod DumpAnswers
 pub mod FirstFaults
-pub mod FlagNames
 pub mod Found
 pub mod FrameFaults
 pub mod HeaderBytes
@@ -21,5 +21,6 @@ pub mod Sendings
 pub mod SliceAnswers
 pub mod Spellings
 pub mod StreamAnswers
+pub mod TransferFlagNames
 pub mod TransferResultNames
 pub mod ZeroBytes

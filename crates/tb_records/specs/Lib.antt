@@ -2,6 +2,8 @@
 pub mod Numbers
 pub mod RecordBytes
 pub mod Flags
+pub mod AccountFlags
+pub mod TransferFlags
 pub mod AccountResults
 pub mod TransferResults
 pub mod Messages

@@ -1,10 +1,13 @@
 //! The records that a client creates, in TigerBeetle's layout of 128 bytes, and the result of an event.
 ghost use Rattle.std.specs.Prelude.{◌≡◌, ◌||◌};
-ghost use Rattle.tb_records.specs.Flags.{account_flag_bit, has_flag, transfer_flag_bit};
+ghost use Rattle.tb_records.specs.AccountFlags.{account_flag_bit};
+ghost use Rattle.tb_records.specs.Flags.{has_flag};
+ghost use Rattle.tb_records.specs.TransferFlags.{transfer_flag_bit};
 ghost use Rattle.tb_records.specs.RecordBytes.{account_bytes, transfer_bytes, IsAccount, IsTransfer};
 
-use crate::flags::{AccountFlag, TransferFlag};
+use crate::account_flags::AccountFlag;
 use crate::layout::Item;
+use crate::transfer_flags::TransferFlag;
 
 /// An account. Of a record that a client sends, the four sums and the timestamp are to be 0.
 #[derive(Clone, Copy, Debug, PartialEq, Eq)]

@@ -1,9 +1,0 @@
-use Rattle.std.proofs.Common.{◌≡◌, ◌↔◌, Some, subst, sym}
-use Rattle.tb_records.specs.Flags.{account_flags, account_flag_name}
-use Rattle.tb_records.proofs.Found.{only_named}
-use Rattle.tb_records.proofs.FlagNames.{account_flag_by_name}
-use Rattle.tb_records.proofs.flags.AccountFlag.from_name.Goals as goal
-
-pub returns : goal.returns
-unfolding account_flags
-returns c x = subst (λ found. (found ≡ Some x) ↔ (account_flag_name x ≡ c.args.name.now)) (sym c.first_account_flag_named.ensures) (only_named account_flags account_flag_name account_flag_by_name c.args.name.now x)

@@ -1,0 +1,31 @@
+-- The flags of accounts, by TigerBeetle's names.
+use Rattle.std.specs.Prelude.{ℕ, List, [], ◌∷◌, codes}
+use Rattle.tb_records.specs.declared.account_flags.AccountFlag.{AccountFlag}
+use Rattle.tb_records.specs.declared.account_flags.AccountFlag.TheVariants.{Linked, DebitsMustNotExceedCredits, CreditsMustNotExceedDebits, History, Imported, Closed}
+
+-- by rising bit
+unfoldable pub account_flags : List AccountFlag
+account_flags =
+    Linked
+    ∷ DebitsMustNotExceedCredits
+    ∷ CreditsMustNotExceedDebits
+    ∷ History
+    ∷ Imported
+    ∷ Closed
+    ∷ []
+
+abbrev pub account_flag_bit : AccountFlag → ℕ
+account_flag_bit Linked = 1
+account_flag_bit DebitsMustNotExceedCredits = 2
+account_flag_bit CreditsMustNotExceedDebits = 4
+account_flag_bit History = 8
+account_flag_bit Imported = 16
+account_flag_bit Closed = 32
+
+abbrev pub account_flag_name : AccountFlag → List ℕ
+account_flag_name Linked = codes "linked"
+account_flag_name DebitsMustNotExceedCredits = codes "debits_must_not_exceed_credits"
+account_flag_name CreditsMustNotExceedDebits = codes "credits_must_not_exceed_debits"
+account_flag_name History = codes "history"
+account_flag_name Imported = codes "imported"
+account_flag_name Closed = codes "closed"

@@ -1,0 +1,92 @@
+//! The flags of accounts, by TigerBeetle's names.
+ghost use Rattle.std.specs.Prelude.{◌≡◌, ◌↔◌, find, nat_eq, Some};
+ghost use Rattle.std.specs.Cmp.Lexicographic.{pointwise};
+ghost use Rattle.tb_records.specs.AccountFlags.{account_flag_bit, account_flag_name};
+ghost use Rattle.tb_records.specs.Flags.{has_flag};
+
+use std::fmt;
+
+/// A flag of an account: the number beside it is its bit.
+#[derive(Clone, Copy, Debug, PartialEq, Eq)]
+pub enum AccountFlag {
+    /// The next event stands or falls with this one.
+    Linked = 1,
+    /// What is debited, pending and posted, is at most what is credited for good.
+    DebitsMustNotExceedCredits = 2,
+    /// What is credited, pending and posted, is at most what is debited for good.
+    CreditsMustNotExceedDebits = 4,
+    /// Kept with the account; it changes nothing here.
+    History = 8,
+    /// Refused.
+    Imported = 16,
+    /// No transfer enters the account but a void.
+    Closed = 32,
+}
+
+impl AccountFlag {
+    /// All of them, by rising bit.
+    pub const ALL: [AccountFlag; 6] = [
+        AccountFlag::Linked,
+        AccountFlag::DebitsMustNotExceedCredits,
+        AccountFlag::CreditsMustNotExceedDebits,
+        AccountFlag::History,
+        AccountFlag::Imported,
+        AccountFlag::Closed,
+    ];
+
+    /// The bits that no account may have: imported, and those that are no flag.
+    pub const RESERVED: u16 = 0xFFD0;
+
+    /// The bit that stands for it in the record.
+    pub fn bit(self) -> u16
+        ensures { result ≡ account_flag_bit self }
+    {
+        self as u16
+    }
+
+    /// Says that these flags have it.
+    pub fn is_in(self, flags: u16) -> bool
+        ensures { result ≡ has_flag (account_flag_bit self) flags }
+    {
+        flags & self.bit() != 0
+    }
+
+    /// The flag's name, as TigerBeetle spells it.
+    pub fn name(self) -> &'static str
+        ensures { result.now ≡ account_flag_name self }
+    {
+        match self {
+            AccountFlag::Linked => "linked",
+            AccountFlag::DebitsMustNotExceedCredits => "debits_must_not_exceed_credits",
+            AccountFlag::CreditsMustNotExceedDebits => "credits_must_not_exceed_debits",
+            AccountFlag::History => "history",
+            AccountFlag::Imported => "imported",
+            AccountFlag::Closed => "closed",
+        }
+    }
+
+    /// The flag that has a name; None where none has it.
+    pub fn from_name(name: &[u8]) -> Option<AccountFlag>
+        ensures { (flag : AccountFlag) → (result ≡ Some flag) ↔ (account_flag_name flag ≡ name.now) }
+    {
+        first_flag_named(&AccountFlag::ALL, name)
+    }
+}
+
+impl fmt::Display for AccountFlag {
+    ghost output = { λ flag. Some (account_flag_name flag) };
+
+    fn fmt<W: fmt::Write>(&self, f: &mut fmt::Formatter<W>) -> fmt::Result {
+        f.write_str(self.name())
+    }
+}
+
+/// The first of some flags that has a name.
+fn first_flag_named(flags: &[AccountFlag], name: &[u8]) -> Option<AccountFlag>
+    ensures { result ≡ find (λ flag. pointwise nat_eq (account_flag_name flag) name.now) flags.now }
+{
+    flags
+        .iter()
+        .copied()
+        .find(|flag| flag.name().as_bytes() == name)
+}

@@ -1,0 +1,215 @@
+//! The bits and codes of the reference and their names, each way.
+use crate::account_flags::AccountFlag;
+use crate::account_results::CreateAccountResult;
+use crate::limits::{ITEMS_MAX, LAST_MOMENT, NANOSECONDS_PER_SECOND};
+use crate::records::{Account, Transfer};
+use crate::transfer_flags::TransferFlag;
+use crate::transfer_results::CreateTransferResult;
+use crate::vectors::account;
+
+const ACCOUNT_FLAGS: [(u16, &str); 6] = [
+    (1, "linked"),
+    (2, "debits_must_not_exceed_credits"),
+    (4, "credits_must_not_exceed_debits"),
+    (8, "history"),
+    (16, "imported"),
+    (32, "closed"),
+];
+
+const TRANSFER_FLAGS: [(u16, &str); 9] = [
+    (1, "linked"),
+    (2, "pending"),
+    (4, "post_pending_transfer"),
+    (8, "void_pending_transfer"),
+    (16, "balancing_debit"),
+    (32, "balancing_credit"),
+    (64, "closing_debit"),
+    (128, "closing_credit"),
+    (256, "imported"),
+];
+
+const ACCOUNT_RESULTS: [(u32, &str); 22] = [
+    (0, "ok"),
+    (1, "linked_event_failed"),
+    (2, "linked_event_chain_open"),
+    (3, "timestamp_must_be_zero"),
+    (4, "reserved_field"),
+    (5, "reserved_flag"),
+    (6, "id_must_not_be_zero"),
+    (7, "id_must_not_be_int_max"),
+    (8, "flags_are_mutually_exclusive"),
+    (9, "debits_pending_must_be_zero"),
+    (10, "debits_posted_must_be_zero"),
+    (11, "credits_pending_must_be_zero"),
+    (12, "credits_posted_must_be_zero"),
+    (13, "ledger_must_not_be_zero"),
+    (14, "code_must_not_be_zero"),
+    (15, "exists_with_different_flags"),
+    (16, "exists_with_different_user_data_128"),
+    (17, "exists_with_different_user_data_64"),
+    (18, "exists_with_different_user_data_32"),
+    (19, "exists_with_different_ledger"),
+    (20, "exists_with_different_code"),
+    (21, "exists"),
+];
+
+const TRANSFER_RESULTS: [(u32, &str); 60] = [
+    (0, "ok"),
+    (1, "linked_event_failed"),
+    (2, "linked_event_chain_open"),
+    (3, "timestamp_must_be_zero"),
+    (4, "reserved_flag"),
+    (5, "id_must_not_be_zero"),
+    (6, "id_must_not_be_int_max"),
+    (7, "flags_are_mutually_exclusive"),
+    (8, "debit_account_id_must_not_be_zero"),
+    (9, "debit_account_id_must_not_be_int_max"),
+    (10, "credit_account_id_must_not_be_zero"),
+    (11, "credit_account_id_must_not_be_int_max"),
+    (12, "accounts_must_be_different"),
+    (13, "pending_id_must_be_zero"),
+    (14, "pending_id_must_not_be_zero"),
+    (15, "pending_id_must_not_be_int_max"),
+    (16, "pending_id_must_be_different"),
+    (17, "timeout_reserved_for_pending_transfer"),
+    (19, "ledger_must_not_be_zero"),
+    (20, "code_must_not_be_zero"),
+    (21, "debit_account_not_found"),
+    (22, "credit_account_not_found"),
+    (23, "accounts_must_have_the_same_ledger"),
+    (24, "transfer_must_have_the_same_ledger_as_accounts"),
+    (25, "pending_transfer_not_found"),
+    (26, "pending_transfer_not_pending"),
+    (27, "pending_transfer_has_different_debit_account_id"),
+    (28, "pending_transfer_has_different_credit_account_id"),
+    (29, "pending_transfer_has_different_ledger"),
+    (30, "pending_transfer_has_different_code"),
+    (31, "exceeds_pending_transfer_amount"),
+    (32, "pending_transfer_has_different_amount"),
+    (33, "pending_transfer_already_posted"),
+    (34, "pending_transfer_already_voided"),
+    (35, "pending_transfer_expired"),
+    (36, "exists_with_different_flags"),
+    (37, "exists_with_different_debit_account_id"),
+    (38, "exists_with_different_credit_account_id"),
+    (39, "exists_with_different_amount"),
+    (40, "exists_with_different_pending_id"),
+    (41, "exists_with_different_user_data_128"),
+    (42, "exists_with_different_user_data_64"),
+    (43, "exists_with_different_user_data_32"),
+    (44, "exists_with_different_timeout"),
+    (45, "exists_with_different_code"),
+    (46, "exists"),
+    (47, "overflows_debits_pending"),
+    (48, "overflows_credits_pending"),
+    (49, "overflows_debits_posted"),
+    (50, "overflows_credits_posted"),
+    (51, "overflows_debits"),
+    (52, "overflows_credits"),
+    (53, "overflows_timeout"),
+    (54, "exceeds_credits"),
+    (55, "exceeds_debits"),
+    (64, "closing_transfer_must_be_pending"),
+    (65, "debit_account_already_closed"),
+    (66, "credit_account_already_closed"),
+    (67, "exists_with_different_ledger"),
+    (68, "id_already_failed"),
+];
+
+/// An account with these flags.
+fn marked(flags: u16) -> Account {
+    Account {
+        flags,
+        ..account(1, 0)
+    }
+}
+
+/// A transfer with these flags.
+fn flagged(flags: u16) -> Transfer {
+    Transfer {
+        flags,
+        ..Transfer::from_bytes(&[0; 128])
+    }
+}
+
+#[test]
+fn account_flags_by_name(rt: HostRuntime) {
+    for (flag, (bit, name)) in AccountFlag::ALL.into_iter().zip(ACCOUNT_FLAGS) {
+        assert!(rt; flag.bit() == bit && flag.name() == name);
+        assert!(rt; AccountFlag::from_name(name.as_bytes()) == Some(flag));
+        assert!(rt; marked(bit).has(flag) && !marked(!bit).has(flag));
+        assert!(rt; AccountFlag::RESERVED & bit == 0 || flag == AccountFlag::Imported);
+    }
+    assert!(rt; AccountFlag::from_name(b"pending").is_none());
+    assert!(rt; marked(32).is_closed() && !marked(31).is_closed());
+    assert!(rt; marked(1).is_linked() && !marked(62).is_linked());
+}
+
+#[test]
+fn transfer_flags_by_name(rt: HostRuntime) {
+    for (flag, (bit, name)) in TransferFlag::ALL.into_iter().zip(TRANSFER_FLAGS) {
+        assert!(rt; flag.bit() == bit && flag.name() == name);
+        assert!(rt; TransferFlag::from_name(name.as_bytes()) == Some(flag));
+        assert!(rt; flagged(bit).has(flag) && !flagged(!bit).has(flag));
+        assert!(rt; TransferFlag::RESERVED & bit == 0 || flag == TransferFlag::Imported);
+    }
+    assert!(rt; TransferFlag::from_name(b"Linked").is_none());
+    assert!(rt; TransferFlag::from_name(b"").is_none());
+}
+
+#[test]
+fn kinds_of_transfers(rt: HostRuntime) {
+    assert!(rt; flagged(1).is_linked() && !flagged(510).is_linked());
+    assert!(rt; flagged(2).is_pending() && !flagged(509).is_pending());
+    assert!(rt; flagged(4).is_post() && !flagged(507).is_post());
+    assert!(rt; flagged(8).is_void() && !flagged(503).is_void());
+    assert!(rt;
+        flagged(4).is_resolving() && flagged(8).is_resolving() && !flagged(499).is_resolving()
+    );
+    assert!(rt;
+        flagged(16).is_balancing() && flagged(32).is_balancing() && !flagged(463).is_balancing()
+    );
+    assert!(rt;
+        flagged(64).is_closing() && flagged(128).is_closing() && !flagged(319).is_closing()
+    );
+}
+
+#[test]
+fn account_results_by_code_and_name(rt: HostRuntime) {
+    for (verdict, (code, name)) in CreateAccountResult::ALL.into_iter().zip(ACCOUNT_RESULTS) {
+        assert!(rt; verdict.code() == code && verdict.name() == name);
+        assert!(rt; CreateAccountResult::from_code(code) == Some(verdict));
+        assert!(rt; CreateAccountResult::from_name(name.as_bytes()) == Some(verdict));
+    }
+    assert!(rt; CreateAccountResult::from_code(22).is_none());
+    assert!(rt; CreateAccountResult::from_name(b"debit_account_not_found").is_none());
+}
+
+#[test]
+fn transfer_results_by_code_and_name(rt: HostRuntime) {
+    for (verdict, (code, name)) in CreateTransferResult::ALL.into_iter().zip(TRANSFER_RESULTS) {
+        assert!(rt; verdict.code() == code && verdict.name() == name);
+        assert!(rt; CreateTransferResult::from_code(code) == Some(verdict));
+        assert!(rt; CreateTransferResult::from_name(name.as_bytes()) == Some(verdict));
+    }
+    assert!(rt; CreateTransferResult::from_code(18).is_none());
+    assert!(rt; CreateTransferResult::from_code(56).is_none());
+    assert!(rt; CreateTransferResult::from_name(b"reserved_field").is_none());
+}
+
+#[test]
+fn names_are_shown(rt: HostRuntime) {
+    let alloc = rt.alloc();
+    let code = CreateTransferResult::DebitAccountNotFound;
+    let line = format!(in alloc; "{code} {}", TransferFlag::ClosingDebit).expect(&rt, "a line");
+    assert!(rt; line.as_str() == "debit_account_not_found closing_debit");
+    let code = CreateAccountResult::Exists;
+    let line = format!(in alloc; "{code} {}", AccountFlag::History).expect(&rt, "a line");
+    assert!(rt; line.as_str() == "exists history");
+}
+
+#[test]
+fn limits_by_name(rt: HostRuntime) {
+    assert!(rt; ITEMS_MAX == 8190 && NANOSECONDS_PER_SECOND == 1_000_000_000);
+    assert!(rt; LAST_MOMENT == 9_223_372_036_854_775_807);
+}
