@@ -1,0 +1,5 @@
+pub mod EachWord
+pub mod Runs
+pub mod Tokens
+pub mod Numbers
+pub mod Entries

@@ -1,0 +1,153 @@
+-- A word that may stand next, a number that is wanted and a mark are read as what they are.
+use Rattle.std.proofs.Common.{◌≡◌, ℕ, zero, suc, ◌+◌, ◌*◌, ◌-◌, ◌/◌, ◌%◌, ◌^◌, ◌<◌, ◌≤◌, Bool, true, false, cond, ◌&&◌, ◌||◌, ◌==◌, List, [], ◌∷◌, ◌++◌, length, get_or, take, Option, Some, None, refl, sym, ap, subst, ◌∙◌, append_assoc, arith}
+use Rattle.std.specs.Prelude.{nat_le, nat_eq}
+use Rattle.std.specs.Option.{option_and_then}
+use Rattle.std.specs.List.{list_any, starts_with}
+use Rattle.std.specs.Fmt.{decimal}
+use Rattle.std.specs.Cmp.Lexicographic.{pointwise, bytes_decides}
+use Rattle.std.proofs.lemmas.Bool.Decides.{nat_tests}
+use Rattle.std.proofs.lemmas.Fmt.{decimal_by_steps_wide}
+use Rattle.std.proofs.lemmas.List.{take_at}
+use Rattle.std.proofs.lemmas.List.Folds.{list_any_at}
+use Rattle.tb_text.specs.declared.words.Field.{Field}
+use Rattle.tb_text.specs.declared.words.Word.{Word}
+use Rattle.tb_text.specs.declared.words.Word.TheVariants as word
+use Rattle.tb_text.specs.declared.places.Lexeme.{Lexeme}
+use Rattle.tb_text.specs.declared.places.Lexeme.TheVariants.{Gap, Spelled, Zero, Decimal}
+use Rattle.tb_text.specs.declared.places.Place.{Place}
+use Rattle.tb_text.specs.declared.places.Place.TheVariants.{Wanted, Named}
+use Rattle.tb_text.specs.Words.{word_text, all_words, field_max, field_name}
+use Rattle.tb_text.specs.Scan.{Entry, Scan, step, run, gap, is_space, is_digit, is_word_byte, may_stand, taken, spelling, within, moved, entered, word_named, word_grown, begins_word, is_positive, wanted}
+use Rattle.tb_text.specs.Printed.{entry_text}
+use Rattle.tb_text.proofs.EachWord.{is_letter, all_word_bytes, begins_with_letter, letter_first, word_bytes, named_by_text, word_place, stands_at, place_below}
+
+-- between words, numbers and marks
+pub record IsBetween (s : Scan) : Type 0 where
+  pub lexeme : s.lexeme ≡ Gap
+  pub spelled : s.spelled ≡ []
+
+pub one_step : (s t : Scan) (b : ℕ) (bs : List ℕ) → step s b ≡ Some t → run s (b ∷ bs) ≡ run t bs
+one_step s t b bs h = ap (option_and_then (λ u. run u bs)) h
+
+pub same_step : (s t : Scan) (b : ℕ) (bs : List ℕ) → step s b ≡ step t b → run s (b ∷ bs) ≡ run t (b ∷ bs)
+same_step s t b bs h = ap (option_and_then (λ u. run u bs)) h
+
+pub at_gap : (s : Scan) (b : ℕ) → s.lexeme ≡ Gap → step s b ≡ gap s b
+unfolding step
+at_gap s b h = rw h refl
+
+pub space : (s : Scan) (bs : List ℕ) → s.lexeme ≡ Gap → run s (32 ∷ bs) ≡ run s bs
+space s bs h = one_step s s 32 bs (at_gap s 32 h)
+
+pub line_end : (s : Scan) (bs : List ℕ) → s.lexeme ≡ Gap → run s (10 ∷ bs) ≡ run s bs
+line_end s bs h = one_step s s 10 bs (at_gap s 10 h)
+
+pub if_false : {A : Type 0} (b : Bool) (x y : A) → b ≡ false → cond b x y ≡ y
+if_false b x y h = ap (λ (c : Bool). cond c x y) h
+
+pub if_true : {A : Type 0} (b : Bool) (x y : A) → b ≡ true → cond b x y ≡ x
+if_true b x y h = ap (λ (c : Bool). cond c x y) h
+
+and_both : (a b : Bool) → a ≡ true → b ≡ true → (a && b) ≡ true
+and_both a b h k = rw (h, k) refl
+
+and_left : (a b : Bool) → (a && b) ≡ true → a ≡ true
+and_left true b h = refl
+and_left false b h = absurd cc
+
+and_right : (a b : Bool) → (a && b) ≡ true → b ≡ true
+and_right true b h = h
+and_right false b h = absurd cc
+
+-- words
+
+begins : (p q : List ℕ) → starts_with nat_eq (p ++ q) p ≡ true
+begins p q = (bytes_decides p (take (length p) (p ++ q))).1 (sym (take_at p q (length p) refl))
+
+begins_so : (s : Scan) (w : Word) (p q : List ℕ) → p ++ q ≡ word_text w → may_stand s w ≡ true → begins_word s p ≡ true
+begins_so s w p q e h =
+    list_any_at (λ v. may_stand s v && starts_with nat_eq (word_text v) p) all_words (word_place w) word.AmountMax (place_below w)
+        (subst (λ (v : Word). (may_stand s v && starts_with nat_eq (word_text v) p) ≡ true) (sym (stands_at w))
+            (and_both (may_stand s w) (starts_with nat_eq (word_text w) p) h (subst (λ (t : List ℕ). starts_with nat_eq t p ≡ true) e (begins p q))))
+
+stands_spelling : (s : Scan) (p : List ℕ) (w : Word) → may_stand (spelling s p) w ≡ may_stand s w
+stands_spelling s p (word.Field f) = refl
+stands_spelling s p (word.Operation o) = refl
+stands_spelling s p (word.Flag f) = refl
+stands_spelling s p word.AmountMax = refl
+
+taken_spelling : (s : Scan) (p : List ℕ) (w : Word) → taken (spelling s p) w ≡ taken s w
+taken_spelling s p (word.Field f) = refl
+taken_spelling s p (word.Operation o) = refl
+taken_spelling s p (word.Flag f) = refl
+taken_spelling s p word.AmountMax = refl
+
+pub taken_between : (s : Scan) (w : Word) → IsBetween (taken s w)
+taken_between s (word.Field f) = record { lexeme = refl; spelled = refl }
+taken_between s (word.Operation o) = record { lexeme = refl; spelled = refl }
+taken_between s (word.Flag f) = record { lexeme = refl; spelled = refl }
+taken_between s word.AmountMax = record { lexeme = refl; spelled = refl }
+
+-- behind a word that is named so
+abbrev left_at : Scan → List ℕ → ℕ → Option Word → Option Scan
+left_at s p d o = option_and_then (λ t. gap t d) (option_and_then (λ v. cond (may_stand (spelling s p) v) (Some (taken (spelling s p) v)) None) o)
+
+-- the byte behind a whole word
+word_whole : (s : Scan) (w : Word) (p : List ℕ) (d : ℕ) → p ≡ word_text w → may_stand s w ≡ true → is_word_byte d ≡ false → step (spelling s p) d ≡ gap (taken s w) d
+unfolding step
+word_whole s w p d e h n =
+    let named : word_named p ≡ Some w = ap word_named e ∙ named_by_text w in
+    let stands : may_stand (spelling s p) w ≡ true = stands_spelling s p w ∙ h in
+    ap (λ (b : Bool). cond b (word_grown (spelling s p) (p ++ d ∷ [])) (left_at s p d (word_named p))) n
+    ∙ (ap (left_at s p d) named ∙ (ap (λ (b : Bool). option_and_then (λ t. gap t d) (cond b (Some (taken (spelling s p) w)) None)) stands ∙ ap (λ (t : Scan). gap t d) (taken_spelling s p w)))
+
+-- one byte more of a word
+word_longer : (s : Scan) (w : Word) (p q : List ℕ) (b : ℕ) → p ++ b ∷ q ≡ word_text w → may_stand s w ≡ true → is_word_byte b ≡ true → step (spelling s p) b ≡ Some (spelling s (p ++ b ∷ []))
+unfolding step
+word_longer s w p q b e h y =
+    let more : begins_word (spelling s p) (p ++ b ∷ []) ≡ true = begins_so (spelling s p) w (p ++ b ∷ []) q (append_assoc p (b ∷ []) q ∙ e) (stands_spelling s p w ∙ h) in
+    ap (λ (c : Bool). cond c (word_grown (spelling s p) (p ++ b ∷ [])) (left_at s p b (word_named p))) y
+    ∙ ap (λ (c : Bool). cond c (Some (spelling s (p ++ b ∷ []))) None) more
+
+word_on : (s : Scan) (w : Word) (p q : List ℕ) (d : ℕ) (rest : List ℕ) → p ++ q ≡ word_text w → may_stand s w ≡ true → all_word_bytes q ≡ true → is_word_byte d ≡ false
+    → run (spelling s p) (q ++ d ∷ rest) ≡ run (taken s w) (d ∷ rest)
+word_on s w p [] d rest e h a n =
+    same_step (spelling s p) (taken s w) d rest (word_whole s w p d (sym (append_end p) ∙ e) h n ∙ sym (at_gap (taken s w) d (taken_between s w).lexeme))
+  where
+    append_end : (xs : List ℕ) → xs ++ [] ≡ xs
+    append_end [] = refl
+    append_end (x ∷ xs) = ap (λ (ys : List ℕ). x ∷ ys) (append_end xs)
+word_on s w p (b ∷ q) d rest e h a n =
+    one_step (spelling s p) (spelling s (p ++ b ∷ [])) b (q ++ d ∷ rest) (word_longer s w p q b e h (and_left (is_word_byte b) (all_word_bytes q) a))
+    ∙ word_on s w (p ++ b ∷ []) q d rest (append_assoc p (b ∷ []) q ∙ e) h (and_right (is_word_byte b) (all_word_bytes q) a) n
+
+no_space : (b : ℕ) → is_letter b ≡ true → is_space b ≡ false
+no_space b h = grind (arith, nat_tests)
+
+no_comment : (b : ℕ) → is_letter b ≡ true → (b == 35) ≡ false
+no_comment b h = grind (arith, nat_tests)
+
+no_zero : (b : ℕ) → is_letter b ≡ true → (b == 48) ≡ false
+no_zero b h = grind (arith, nat_tests)
+
+no_digit : (b : ℕ) → is_letter b ≡ true → is_digit b ≡ false
+no_digit b h = grind (arith, nat_tests)
+
+a_word_byte : (b : ℕ) → is_letter b ≡ true → is_word_byte b ≡ true
+a_word_byte b h = rw h refl
+
+gap_letter : (s : Scan) (b : ℕ) → is_letter b ≡ true → gap s b ≡ word_grown s (s.spelled ++ b ∷ [])
+gap_letter s b h =
+    if_false (is_space b) _ _ (no_space b h) ∙ (if_false (b == 35) _ _ (no_comment b h) ∙ (if_false (b == 48) _ _ (no_zero b h)
+    ∙ (if_false (is_digit b) _ _ (no_digit b h) ∙ if_true (is_word_byte b) _ _ (a_word_byte b h))))
+
+pub word_through : (s : Scan) (w : Word) (d : ℕ) (rest : List ℕ) → IsBetween s → may_stand s w ≡ true → is_word_byte d ≡ false → run s (word_text w ++ d ∷ rest) ≡ run (taken s w) (d ∷ rest)
+word_through s w d rest between h n = from (word_text w) refl (letter_first w) (word_bytes w)
+  where
+    from : (text : List ℕ) → text ≡ word_text w → begins_with_letter text ≡ true → all_word_bytes text ≡ true → run s (text ++ d ∷ rest) ≡ run (taken s w) (d ∷ rest)
+    from [] e l a = absurd cc
+    from (b ∷ q) e l a =
+        let one : begins_word s (b ∷ []) ≡ true = begins_so s w (b ∷ []) q e h in
+        let first : step s b ≡ Some (spelling s (b ∷ [])) =
+            at_gap s b between.lexeme ∙ (gap_letter s b l ∙ (ap (λ (p : List ℕ). word_grown s (p ++ b ∷ [])) between.spelled ∙ ap (λ (c : Bool). cond c (Some (spelling s (b ∷ []))) None) one)) in
+        one_step s (spelling s (b ∷ [])) b (q ++ d ∷ rest) first ∙ word_on s w (b ∷ []) q d rest e h (and_right (is_word_byte b) (all_word_bytes q) a) n

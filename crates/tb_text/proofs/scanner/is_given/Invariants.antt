@@ -1,0 +1,6 @@
+use Rattle.std.proofs.Common.{◌≡◌, drop}
+use Rattle.tb_text.specs.Scan.{is_given}
+use Rattle.tb_text.proofs.scanner.is_given.Given as goal
+
+abbrev pub invariant-loop-other : goal.invariant-loop-other
+invariant-loop-other l = is_given l.field (drop l.other-index l.given) ≡ is_given l.field l.fn.given

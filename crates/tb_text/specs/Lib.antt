@@ -1,0 +1,4 @@
+pub mod Words
+pub mod Scan
+pub mod Steps
+pub mod Printed

@@ -1,0 +1,374 @@
+-- Reading byte by byte: what has been read so far, and what a byte makes of it. None says that no statements go on so.
+use Rattle.std.specs.Prelude.{ℕ, Bool, true, false, not, ◌&&◌, ◌||◌, ◌==◌, ◌+◌, ◌-◌, ◌*◌, ◌%◌, ◌^◌, nat_le, nat_lt, nat_eq, List, [], ◌∷◌, ◌++◌, length, Option, Some, None, if◌then◌else◌, bit_or, codes}
+use Rattle.std.specs.Option.{option_and_then, is_none}
+use Rattle.std.specs.List.{list_any, find}
+use Rattle.std.specs.Cmp.Lexicographic.{pointwise}
+use Rattle.std.specs.List.{starts_with}
+use Rattle.tb_records.specs.Messages.{Message, asked, number_fault}
+use Rattle.tb_records.specs.declared.bodies.Body.{Body}
+use Rattle.tb_records.specs.declared.bodies.Body.TheVariants as body
+use Rattle.tb_records.specs.declared.faults.FrameFault.{FrameFault}
+use Rattle.tb_records.specs.declared.records.Account.{Account}
+use Rattle.tb_records.specs.declared.records.Transfer.{Transfer}
+use Rattle.tb_text.specs.declared.words.Field.{Field}
+use Rattle.tb_text.specs.declared.words.Field.TheVariants as field
+use Rattle.tb_text.specs.declared.words.Operation.{Operation}
+use Rattle.tb_text.specs.declared.words.Operation.TheVariants.{Register, CreateAccounts, CreateTransfers, LookupAccounts, LookupTransfers}
+use Rattle.tb_text.specs.declared.words.Word.{Word}
+use Rattle.tb_text.specs.declared.words.Word.TheVariants as word
+use Rattle.tb_text.specs.declared.places.Lexeme.{Lexeme}
+use Rattle.tb_text.specs.declared.places.Lexeme.TheVariants.{Gap, Comment, Spelled, Zero, Prefix, Decimal, Hexadecimal}
+use Rattle.tb_text.specs.declared.places.Place.{Place}
+use Rattle.tb_text.specs.declared.places.Place.TheVariants.{Head, Named, Wanted, Given, Opened, Parted}
+use Rattle.tb_text.specs.Words.{field_index, field_max, same_field, is_header_field, has_field, flag_bit, word_text, all_words}
+
+-- a field and its number
+abbrev pub Entry : Type 0
+Entry = Field × ℕ
+
+-- the statements read so far, and as much as there is of the next one
+pub record Scan : Type 0 where
+  pub pairs : List (ℕ × Message)
+  pub lexeme : Lexeme
+  pub spelled : List ℕ
+  pub place : Place
+  pub operation : Option Operation
+  pub header : List Entry
+  pub given : List Entry
+  pub accounts : List Account
+  pub transfers : List Transfer
+  pub ids : List ℕ
+
+-- nothing of a statement behind these pairs
+abbrev pub behind : List (ℕ × Message) → Scan
+behind pairs = record {
+  pairs = pairs; lexeme = Gap; spelled = []; place = Head; operation = None; header = []; given = [];
+  accounts = []; transfers = []; ids = [];
+}
+
+-- bytes
+
+abbrev pub is_space : ℕ → Bool
+is_space b = b == 32 || b == 10 || b == 9 || b == 13
+
+abbrev pub is_digit : ℕ → Bool
+is_digit b = nat_le 48 b && nat_le b 57
+
+-- the bytes of words and numbers: lower letters, digits and `_`
+abbrev pub is_word_byte : ℕ → Bool
+is_word_byte b = (nat_le 97 b && nat_le b 122) || is_digit b || b == 95
+
+-- the value of a digit to the base 16
+abbrev pub digit_of : ℕ → Option ℕ
+digit_of b =
+    if is_digit b then Some (b - 48)
+    else if nat_le 97 b && nat_le b 102 then Some (b - 87)
+    else if nat_le 65 b && nat_le b 70 then Some (b - 55)
+    else None
+
+-- entries
+
+abbrev pub is_given : Field → List Entry → Bool
+is_given f [] = false
+is_given f (e ∷ es) = same_field f e.0 || is_given f es
+
+-- the number of a field that stands behind others: the flags that are named one by one are joined
+abbrev pub value_from : ℕ → Field → List Entry → ℕ
+value_from n f [] = n
+value_from n f (e ∷ es) = value_from (if same_field f e.0 then bit_or n e.1 else n) f es
+
+-- the number of a field, 0 where it is left out
+abbrev pub value_of : Field → List Entry → ℕ
+value_of f es = value_from 0 f es
+
+unfoldable pub account_of : List Entry → Account
+account_of es = record {
+  id = value_of field.Id es;
+  debits_pending = value_of field.DebitsPending es;
+  debits_posted = value_of field.DebitsPosted es;
+  credits_pending = value_of field.CreditsPending es;
+  credits_posted = value_of field.CreditsPosted es;
+  user_data_128 = value_of field.UserData128 es;
+  user_data_64 = value_of field.UserData64 es % 2 ^ 64;
+  user_data_32 = value_of field.UserData32 es % 2 ^ 32;
+  reserved = value_of field.Reserved es % 2 ^ 32;
+  ledger = value_of field.Ledger es % 2 ^ 32;
+  code = value_of field.Code es % 2 ^ 16;
+  flags = value_of field.Flags es % 2 ^ 16;
+  timestamp = value_of field.Timestamp es % 2 ^ 64;
+}
+
+unfoldable pub transfer_of : List Entry → Transfer
+transfer_of es = record {
+  id = value_of field.Id es;
+  debit_account_id = value_of field.DebitAccountId es;
+  credit_account_id = value_of field.CreditAccountId es;
+  amount = value_of field.Amount es;
+  pending_id = value_of field.PendingId es;
+  user_data_128 = value_of field.UserData128 es;
+  user_data_64 = value_of field.UserData64 es % 2 ^ 64;
+  user_data_32 = value_of field.UserData32 es % 2 ^ 32;
+  timeout = value_of field.Timeout es % 2 ^ 32;
+  ledger = value_of field.Ledger es % 2 ^ 32;
+  code = value_of field.Code es % 2 ^ 16;
+  flags = value_of field.Flags es % 2 ^ 16;
+  timestamp = value_of field.Timestamp es % 2 ^ 64;
+}
+
+-- words
+
+-- a field may stand next
+abbrev pub awaits_field : Place → Bool
+awaits_field Head = true
+awaits_field Opened = true
+awaits_field Parted = true
+awaits_field (Given f) = true
+awaits_field place = false
+
+-- an operation may stand next
+abbrev pub awaits_operation : Place → Bool
+awaits_operation Head = true
+awaits_operation (Given f) = true
+awaits_operation place = false
+
+-- the field whose number is to stand next
+abbrev pub wanted : Place → Option Field
+wanted (Wanted f) = Some f
+wanted place = None
+
+-- the field whose number has just been given
+abbrev pub given_last : Place → Option Field
+given_last (Given f) = Some f
+given_last place = None
+
+abbrev pub is_field : Field → Option Field → Bool
+is_field f None = false
+is_field f (Some g) = same_field f g
+
+abbrev pub may_have : Option Operation → Field → Bool
+may_have None f = is_header_field f
+may_have (Some o) f = has_field o f
+
+-- the numbers before an operation are those of a request: a client, and where it is no register the number of the request
+abbrev pub suits : Operation → List Entry → Bool
+suits Register es = not (value_of field.Client es == 0) && value_of field.Session es == 0 && value_of field.Request es == 0
+suits o es = not (value_of field.Client es == 0) && not (value_of field.Request es == 0)
+
+abbrev pub bit_of : Option Operation → Word → ℕ
+bit_of (Some o) (word.Flag f) = flag_bit o f
+bit_of o w = 0
+
+-- a word may stand next
+abbrev pub may_stand : Scan → Word → Bool
+may_stand s (word.Field f) = awaits_field s.place && may_have s.operation f && not (is_given f s.given)
+may_stand s (word.Operation o) = awaits_operation s.place && is_none s.operation && suits o s.given
+may_stand s (word.Flag f) = is_field field.Flags (wanted s.place) && not (bit_of s.operation (word.Flag f) == 0)
+may_stand s word.AmountMax = is_field field.Amount (wanted s.place)
+
+-- the word that is written so
+abbrev pub word_named : List ℕ → Option Word
+word_named text = find (λ w. pointwise nat_eq (word_text w) text) all_words
+
+-- a word that may stand next begins so
+abbrev pub begins_word : Scan → List ℕ → Bool
+begins_word s text = list_any (λ w. may_stand s w && starts_with nat_eq (word_text w) text) all_words
+
+-- with one entry more, behind which another may stand
+abbrev pub entered : Scan → Field → ℕ → Scan
+entered s f n = record {
+  pairs = s.pairs; lexeme = Gap; spelled = []; place = Given f; operation = s.operation; header = s.header;
+  given = s.given ++ (f, n) ∷ []; accounts = s.accounts; transfers = s.transfers; ids = s.ids;
+}
+
+abbrev pub moved : Scan → Place → Scan
+moved s place = record {
+  pairs = s.pairs; lexeme = Gap; spelled = []; place = place; operation = s.operation; header = s.header;
+  given = s.given; accounts = s.accounts; transfers = s.transfers; ids = s.ids;
+}
+
+abbrev pub within : Scan → Lexeme → Scan
+within s lexeme = record {
+  pairs = s.pairs; lexeme = lexeme; spelled = []; place = s.place; operation = s.operation; header = s.header;
+  given = s.given; accounts = s.accounts; transfers = s.transfers; ids = s.ids;
+}
+
+abbrev pub spelling : Scan → List ℕ → Scan
+spelling s text = record {
+  pairs = s.pairs; lexeme = Spelled; spelled = text; place = s.place; operation = s.operation; header = s.header;
+  given = s.given; accounts = s.accounts; transfers = s.transfers; ids = s.ids;
+}
+
+-- an operation behind its header
+abbrev pub opened : Scan → Operation → Scan
+opened s o = record {
+  pairs = s.pairs; lexeme = Gap; spelled = []; place = Opened; operation = Some o; header = s.given; given = [];
+  accounts = []; transfers = []; ids = [];
+}
+
+-- what a word that may stand here makes of the statement
+abbrev pub taken : Scan → Word → Scan
+taken s (word.Field f) = moved s (Named f)
+taken s (word.Operation o) = opened s o
+taken s (word.Flag f) = entered s field.Flags (bit_of s.operation (word.Flag f))
+taken s word.AmountMax = entered s field.Amount (2 ^ 128 - 1)
+
+-- behind the word that was spelled
+abbrev pub word_ended : Scan → Option Scan
+word_ended s = option_and_then (λ w. if may_stand s w then Some (taken s w) else None) (word_named s.spelled)
+
+-- a client, and a request's number, are not 0
+abbrev pub is_positive : Field → Bool
+is_positive f = same_field f field.Client || same_field f field.Request
+
+-- behind a number
+abbrev pub number_ended : Scan → ℕ → Option Scan
+number_ended s n = option_and_then (λ f. if n == 0 && is_positive f then None else Some (entered s f n)) (wanted s.place)
+
+-- events
+
+abbrev pub item_count : Scan → ℕ
+item_count s = length s.accounts + length s.transfers + length s.ids
+
+-- the account, the transfer or the id that was given stands behind the others
+abbrev pub with_account : Scan → Scan
+with_account s = record {
+  pairs = s.pairs; lexeme = s.lexeme; spelled = s.spelled; place = s.place; operation = s.operation; header = s.header;
+  given = []; accounts = s.accounts ++ account_of s.given ∷ []; transfers = s.transfers; ids = s.ids;
+}
+
+abbrev pub with_transfer : Scan → Scan
+with_transfer s = record {
+  pairs = s.pairs; lexeme = s.lexeme; spelled = s.spelled; place = s.place; operation = s.operation; header = s.header;
+  given = []; accounts = s.accounts; transfers = s.transfers ++ transfer_of s.given ∷ []; ids = s.ids;
+}
+
+abbrev pub with_id : Scan → Scan
+with_id s = record {
+  pairs = s.pairs; lexeme = s.lexeme; spelled = s.spelled; place = s.place; operation = s.operation; header = s.header;
+  given = []; accounts = s.accounts; transfers = s.transfers; ids = s.ids ++ value_of field.Id s.given ∷ [];
+}
+
+-- the event, or the id, that was given stands behind the others
+abbrev pub pushed : Scan → Operation → Place → Scan
+pushed s Register place = moved s place
+pushed s CreateAccounts place = moved (with_account s) place
+pushed s CreateTransfers place = moved (with_transfer s) place
+pushed s LookupAccounts place = moved (with_id s) place
+pushed s LookupTransfers place = moved (with_id s) place
+
+abbrev pub body_of : Scan → Operation → Body
+body_of s Register = body.Register
+body_of s CreateAccounts = body.CreateAccounts s.accounts
+body_of s CreateTransfers = body.CreateTransfers s.transfers
+body_of s LookupAccounts = body.LookupAccounts s.ids
+body_of s LookupTransfers = body.LookupTransfers s.ids
+
+abbrev pub request_of : Scan → Operation → Message
+request_of s o = asked (value_of field.Client s.header) (value_of field.Session s.header % 2 ^ 64) (value_of field.Request s.header % 2 ^ 32) (body_of s o)
+
+abbrev pub when_lawful : Scan → Message → Option FrameFault → Option Scan
+when_lawful s r (Some fault) = None
+when_lawful s r None = Some (behind (s.pairs ++ (value_of field.At s.header % 2 ^ 64, r) ∷ []))
+
+-- the statement is whole
+abbrev pub finished : Scan → Operation → Option Scan
+finished s o = when_lawful s (request_of s o) (number_fault (request_of s o))
+
+-- marks
+
+abbrev pub closed_at : Scan → Operation → Place → Option Scan
+closed_at s o Opened = finished s o
+closed_at s o (Given f) = finished (pushed s o Opened) o
+closed_at s o place = None
+
+abbrev pub parted_at : Scan → Operation → Place → Option Scan
+parted_at s o (Given f) = if nat_lt (item_count s + 1) 8190 then Some (pushed s o Parted) else None
+parted_at s o place = None
+
+abbrev pub valued_at : Scan → Place → Option Scan
+valued_at s (Named f) = Some (moved s (Wanted f))
+valued_at s place = None
+
+abbrev pub joined_at : Scan → Place → Option Scan
+joined_at s (Given f) = if same_field field.Flags f then Some (moved s (Wanted f)) else None
+joined_at s place = None
+
+abbrev pub mark : Scan → ℕ → Option Scan
+mark s b =
+    if b == 61 then valued_at s s.place
+    else if b == 124 then joined_at s s.place
+    else if b == 44 then option_and_then (λ o. parted_at s o s.place) s.operation
+    else if b == 59 then option_and_then (λ o. closed_at s o s.place) s.operation
+    else None
+
+-- bytes
+
+abbrev pub word_grown : Scan → List ℕ → Option Scan
+word_grown s text = if begins_word s text then Some (spelling s text) else None
+
+-- a number with one digit more, where it is not above the greatest
+abbrev pub appended : ℕ → ℕ → ℕ → ℕ → Option ℕ
+appended most base n d = if nat_le (n * base + d) most then Some (n * base + d) else None
+
+abbrev pub decimal_grown : Scan → ℕ → ℕ → Option Scan
+decimal_grown s n d = option_and_then (λ f. option_and_then (λ m. Some (within s (Decimal m))) (appended (field_max f) 10 n d)) (wanted s.place)
+
+abbrev pub hexadecimal_grown : Scan → ℕ → ℕ → Option Scan
+hexadecimal_grown s n d = option_and_then (λ f. option_and_then (λ m. Some (within s (Hexadecimal m))) (appended (field_max f) 16 n d)) (wanted s.place)
+
+abbrev pub zero_begun : Scan → Option Scan
+zero_begun s = option_and_then (λ f. Some (within s Zero)) (wanted s.place)
+
+-- between words, numbers and marks
+abbrev pub gap : Scan → ℕ → Option Scan
+gap s b =
+    if is_space b then Some s
+    else if b == 35 then Some (within s Comment)
+    else if b == 48 then zero_begun s
+    else if is_digit b then decimal_grown s 0 (b - 48)
+    else if is_word_byte b then word_grown s (s.spelled ++ b ∷ [])
+    else mark s b
+
+abbrev pub word_left : Scan → ℕ → Option Scan
+word_left s b = option_and_then (λ t. gap t b) (word_ended s)
+
+-- behind a number stands no letter
+abbrev pub number_left : Scan → ℕ → ℕ → Option Scan
+number_left s n b = if is_word_byte b then None else option_and_then (λ t. gap t b) (number_ended s n)
+
+abbrev pub zero_left : Scan → ℕ → Option Scan
+zero_left s b =
+    if b == 120 then Some (within s Prefix)
+    else if is_digit b then decimal_grown s 0 (b - 48)
+    else number_left s 0 b
+
+abbrev pub hexadecimal_at : Scan → ℕ → ℕ → Option ℕ → Option Scan
+hexadecimal_at s n b (Some d) = hexadecimal_grown s n d
+hexadecimal_at s n b None = number_left s n b
+
+abbrev pub step_at : Scan → ℕ → Lexeme → Option Scan
+step_at s b Gap = gap s b
+step_at s b Comment = Some (if b == 10 then within s Gap else s)
+step_at s b Spelled = if is_word_byte b then word_grown s (s.spelled ++ b ∷ []) else word_left s b
+step_at s b Zero = zero_left s b
+step_at s b Prefix = option_and_then (λ d. hexadecimal_grown s 0 d) (digit_of b)
+step_at s b (Decimal n) = if is_digit b then decimal_grown s n (b - 48) else number_left s n b
+step_at s b (Hexadecimal n) = hexadecimal_at s n b (digit_of b)
+
+-- one byte more
+unfoldable pub step : Scan → ℕ → Option Scan
+step s b = step_at s b s.lexeme
+
+-- the bytes of a text, one by one
+abbrev pub run : Scan → List ℕ → Option Scan
+run s [] = Some s
+run s (b ∷ bs) = option_and_then (λ t. run t bs) (step s b)
+
+abbrev pub rests : Lexeme → Place → Bool
+rests Gap Head = true
+rests Comment Head = true
+rests lexeme place = false
+
+-- no statement is begun
+abbrev pub is_at_rest : Scan → Bool
+is_at_rest s = rests s.lexeme s.place

@@ -1,0 +1,38 @@
+-- What the reader answers: of one byte, and of a text.
+use Rattle.std.specs.Prelude.{ℕ, Bool, false, true, ◌≡◌, ◌<◌, ◌⊎◌, List, [], length, take, get_or, Option, Some, None, Result, Ok, Err}
+use Rattle.tb_records.specs.Messages.{Message}
+use Rattle.tb_text.specs.declared.places.Refusal.{Refusal}
+use Rattle.tb_text.specs.declared.places.Refusal.TheVariants.{Memory, Unexpected}
+use Rattle.tb_text.specs.Scan.{Scan, behind, step, run, is_at_rest}
+
+-- it went on as the definitions do, or refused what they refuse and kept the statements that are whole, or had no memory
+abbrev pub Steps : Scan → Result (Unit {0}) Refusal → Option Scan → Scan → Type 0
+Steps before (Ok done) next after = next ≡ Some after
+Steps before (Err Unexpected) next after = (next ≡ None) × (after.pairs ≡ before.pairs)
+Steps before (Err Memory) next after = Unit {0}
+
+-- all bytes were taken, or those before a place, whose byte is not one to go on with
+abbrev pub Scans : Scan → List ℕ → Option ℕ → Scan → Type 0
+Scans before text None after = run before text ≡ Some after
+Scans before text (Some place) after =
+    (place < length text) × (last : Scan) × (run before (take place text) ≡ Some last)
+    × (step last (get_or text place 0) ≡ None) × (after.pairs ≡ last.pairs)
+
+-- the statements of a text are these requests at their moments
+pub record Means (text : List ℕ) (pairs : List (ℕ × Message)) : Type 0 where
+  pub last : Scan
+  pub taken : run (behind []) text ≡ Some last
+  pub whole : is_at_rest last ≡ true
+  pub pairs_are : last.pairs ≡ pairs
+
+-- the text goes wrong at a place, behind these requests: either no statements go on with its byte, or the text ends there
+-- within a statement
+pub record Stops (text : List ℕ) (pairs : List (ℕ × Message)) (place : ℕ) : Type 0 where
+  pub last : Scan
+  pub taken : run (behind []) (take place text) ≡ Some last
+  pub pairs_are : last.pairs ≡ pairs
+  pub why : ((place < length text) × (step last (get_or text place 0) ≡ None)) ⊎ ((place ≡ length text) × (is_at_rest last ≡ false))
+
+abbrev pub Reads : List ℕ → List (ℕ × Message) → Option ℕ → Type 0
+Reads text pairs None = Means text pairs
+Reads text pairs (Some place) = Stops text pairs place

@@ -1,0 +1,47 @@
+//! Where a reader of statements stands: within a word or number, and among the parts of a statement.
+use crate::words::Field;
+
+/// What the byte before the next one belongs to.
+#[derive(Clone, Copy, Debug, PartialEq, Eq)]
+pub enum Lexeme {
+    /// Nothing that goes on: space, a mark, or the beginning.
+    Gap,
+    /// A comment, which ends with its line.
+    Comment,
+    /// A word.
+    Spelled,
+    /// The digit 0, with which `0x` may begin.
+    Zero,
+    /// `0x`, behind which a digit has to stand.
+    Prefix,
+    /// A number in decimal digits.
+    Decimal(u128),
+    /// A number behind `0x`.
+    Hexadecimal(u128),
+}
+
+/// Which part of a statement stands next.
+#[derive(Clone, Copy, Debug, PartialEq, Eq)]
+pub enum Place {
+    /// A statement: a field before its operation, or the operation.
+    Head,
+    /// The `=` behind a field's name.
+    Named(Field),
+    /// A field's number, or the name that stands for one.
+    Wanted(Field),
+    /// What follows a field's number.
+    Given(Field),
+    /// The first event behind an operation, or the end of the statement.
+    Opened,
+    /// The next event.
+    Parted,
+}
+
+/// Why a byte was not taken.
+#[derive(Clone, Copy, Debug, PartialEq, Eq)]
+pub enum Refusal {
+    /// No statements go on so.
+    Unexpected,
+    /// There is no memory.
+    Memory,
+}

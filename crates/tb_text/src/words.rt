@@ -1,0 +1,427 @@
+//! The words of statements: fields, operations and flags, by the names that TigerBeetle's clients use.
+ghost use Rattle.std.specs.Prelude.{◌≡◌, IfSome, Some};
+ghost use Rattle.tb_text.specs.Words.{field_name, field_index, field_max, has_account_field, has_transfer_field, is_header_field, has_field, operation_name, flag_name, account_bit, transfer_bit, flag_bit, word_text, all_words};
+
+/// A field of a statement: of what stands before the operation, or of an event.
+#[derive(Clone, Copy, Debug, PartialEq, Eq)]
+pub enum Field {
+    /// The moment at which the request comes, in nanoseconds.
+    At,
+    /// Who sends the request: not 0.
+    Client,
+    /// The session that the request belongs to.
+    Session,
+    /// The number of the request in its session: not 0 where it stands.
+    Request,
+    Id,
+    DebitsPending,
+    DebitsPosted,
+    CreditsPending,
+    CreditsPosted,
+    DebitAccountId,
+    CreditAccountId,
+    Amount,
+    PendingId,
+    UserData128,
+    UserData64,
+    UserData32,
+    Reserved,
+    Timeout,
+    Ledger,
+    Code,
+    Flags,
+    Timestamp,
+}
+
+/// An operation, as a statement names it.
+#[derive(Clone, Copy, Debug, PartialEq, Eq)]
+pub enum Operation {
+    Register,
+    CreateAccounts,
+    CreateTransfers,
+    LookupAccounts,
+    LookupTransfers,
+}
+
+/// A flag of an account or of a transfer.
+#[derive(Clone, Copy, Debug, PartialEq, Eq)]
+pub enum Flag {
+    Linked,
+    DebitsMustNotExceedCredits,
+    CreditsMustNotExceedDebits,
+    History,
+    Imported,
+    Closed,
+    Pending,
+    PostPendingTransfer,
+    VoidPendingTransfer,
+    BalancingDebit,
+    BalancingCredit,
+    ClosingDebit,
+    ClosingCredit,
+}
+
+/// A word that a statement may have.
+#[derive(Clone, Copy, Debug, PartialEq, Eq)]
+pub enum Word {
+    Field(Field),
+    Operation(Operation),
+    Flag(Flag),
+    /// The largest amount, `amount_max`.
+    AmountMax,
+}
+
+/// Every word.
+const WORDS: [Word; 41] = [
+    Word::Field(Field::At),
+    Word::Field(Field::Client),
+    Word::Field(Field::Session),
+    Word::Field(Field::Request),
+    Word::Field(Field::Id),
+    Word::Field(Field::DebitsPending),
+    Word::Field(Field::DebitsPosted),
+    Word::Field(Field::CreditsPending),
+    Word::Field(Field::CreditsPosted),
+    Word::Field(Field::DebitAccountId),
+    Word::Field(Field::CreditAccountId),
+    Word::Field(Field::Amount),
+    Word::Field(Field::PendingId),
+    Word::Field(Field::UserData128),
+    Word::Field(Field::UserData64),
+    Word::Field(Field::UserData32),
+    Word::Field(Field::Reserved),
+    Word::Field(Field::Timeout),
+    Word::Field(Field::Ledger),
+    Word::Field(Field::Code),
+    Word::Field(Field::Flags),
+    Word::Field(Field::Timestamp),
+    Word::Operation(Operation::Register),
+    Word::Operation(Operation::CreateAccounts),
+    Word::Operation(Operation::CreateTransfers),
+    Word::Operation(Operation::LookupAccounts),
+    Word::Operation(Operation::LookupTransfers),
+    Word::Flag(Flag::Linked),
+    Word::Flag(Flag::DebitsMustNotExceedCredits),
+    Word::Flag(Flag::CreditsMustNotExceedDebits),
+    Word::Flag(Flag::History),
+    Word::Flag(Flag::Imported),
+    Word::Flag(Flag::Closed),
+    Word::Flag(Flag::Pending),
+    Word::Flag(Flag::PostPendingTransfer),
+    Word::Flag(Flag::VoidPendingTransfer),
+    Word::Flag(Flag::BalancingDebit),
+    Word::Flag(Flag::BalancingCredit),
+    Word::Flag(Flag::ClosingDebit),
+    Word::Flag(Flag::ClosingCredit),
+    Word::AmountMax,
+];
+
+impl Field {
+    /// The field's name.
+    pub fn name(self) -> &'static str
+        ensures { result.now ≡ field_name self }
+    {
+        match self {
+            Field::At => "at",
+            Field::Client => "client",
+            Field::Session => "session",
+            Field::Request => "request",
+            Field::Id => "id",
+            Field::DebitsPending => "debits_pending",
+            Field::DebitsPosted => "debits_posted",
+            Field::CreditsPending => "credits_pending",
+            Field::CreditsPosted => "credits_posted",
+            Field::DebitAccountId => "debit_account_id",
+            Field::CreditAccountId => "credit_account_id",
+            Field::Amount => "amount",
+            Field::PendingId => "pending_id",
+            Field::UserData128 => "user_data_128",
+            Field::UserData64 => "user_data_64",
+            Field::UserData32 => "user_data_32",
+            Field::Reserved => "reserved",
+            Field::Timeout => "timeout",
+            Field::Ledger => "ledger",
+            Field::Code => "code",
+            Field::Flags => "flags",
+            Field::Timestamp => "timestamp",
+        }
+    }
+
+    /// The place of the field among all, in the order of the records.
+    pub fn index(self) -> usize
+        ensures { result ≡ field_index self }
+    {
+        match self {
+            Field::At => 0,
+            Field::Client => 1,
+            Field::Session => 2,
+            Field::Request => 3,
+            Field::Id => 4,
+            Field::DebitsPending => 5,
+            Field::DebitsPosted => 6,
+            Field::CreditsPending => 7,
+            Field::CreditsPosted => 8,
+            Field::DebitAccountId => 9,
+            Field::CreditAccountId => 10,
+            Field::Amount => 11,
+            Field::PendingId => 12,
+            Field::UserData128 => 13,
+            Field::UserData64 => 14,
+            Field::UserData32 => 15,
+            Field::Reserved => 16,
+            Field::Timeout => 17,
+            Field::Ledger => 18,
+            Field::Code => 19,
+            Field::Flags => 20,
+            Field::Timestamp => 21,
+        }
+    }
+
+    /// The greatest number that the field has room for.
+    pub fn max(self) -> u128
+        ensures { result ≡ field_max self }
+    {
+        match self {
+            Field::At => 0xffff_ffff_ffff_ffff,
+            Field::Client => u128::MAX,
+            Field::Session => 0xffff_ffff_ffff_ffff,
+            Field::Request => 0xffff_ffff,
+            Field::Id => u128::MAX,
+            Field::DebitsPending => u128::MAX,
+            Field::DebitsPosted => u128::MAX,
+            Field::CreditsPending => u128::MAX,
+            Field::CreditsPosted => u128::MAX,
+            Field::DebitAccountId => u128::MAX,
+            Field::CreditAccountId => u128::MAX,
+            Field::Amount => u128::MAX,
+            Field::PendingId => u128::MAX,
+            Field::UserData128 => u128::MAX,
+            Field::UserData64 => 0xffff_ffff_ffff_ffff,
+            Field::UserData32 => 0xffff_ffff,
+            Field::Reserved => 0xffff_ffff,
+            Field::Timeout => 0xffff_ffff,
+            Field::Ledger => 0xffff_ffff,
+            Field::Code => 0xffff,
+            Field::Flags => 0xffff,
+            Field::Timestamp => 0xffff_ffff_ffff_ffff,
+        }
+    }
+
+    /// Says that the field stands before the operation.
+    pub fn is_header(self) -> bool
+        ensures { result ≡ is_header_field self }
+    {
+        match self {
+            Field::At => true,
+            Field::Client => true,
+            Field::Session => true,
+            Field::Request => true,
+            Field::Id => false,
+            Field::DebitsPending => false,
+            Field::DebitsPosted => false,
+            Field::CreditsPending => false,
+            Field::CreditsPosted => false,
+            Field::DebitAccountId => false,
+            Field::CreditAccountId => false,
+            Field::Amount => false,
+            Field::PendingId => false,
+            Field::UserData128 => false,
+            Field::UserData64 => false,
+            Field::UserData32 => false,
+            Field::Reserved => false,
+            Field::Timeout => false,
+            Field::Ledger => false,
+            Field::Code => false,
+            Field::Flags => false,
+            Field::Timestamp => false,
+        }
+    }
+
+    /// Says that an account has the field.
+    fn is_of_accounts(self) -> bool
+        ensures { result ≡ has_account_field self }
+    {
+        match self {
+            Field::At => false,
+            Field::Client => false,
+            Field::Session => false,
+            Field::Request => false,
+            Field::Id => true,
+            Field::DebitsPending => true,
+            Field::DebitsPosted => true,
+            Field::CreditsPending => true,
+            Field::CreditsPosted => true,
+            Field::DebitAccountId => false,
+            Field::CreditAccountId => false,
+            Field::Amount => false,
+            Field::PendingId => false,
+            Field::UserData128 => true,
+            Field::UserData64 => true,
+            Field::UserData32 => true,
+            Field::Reserved => true,
+            Field::Timeout => false,
+            Field::Ledger => true,
+            Field::Code => true,
+            Field::Flags => true,
+            Field::Timestamp => true,
+        }
+    }
+
+    /// Says that a transfer has the field.
+    fn is_of_transfers(self) -> bool
+        ensures { result ≡ has_transfer_field self }
+    {
+        match self {
+            Field::At => false,
+            Field::Client => false,
+            Field::Session => false,
+            Field::Request => false,
+            Field::Id => true,
+            Field::DebitsPending => false,
+            Field::DebitsPosted => false,
+            Field::CreditsPending => false,
+            Field::CreditsPosted => false,
+            Field::DebitAccountId => true,
+            Field::CreditAccountId => true,
+            Field::Amount => true,
+            Field::PendingId => true,
+            Field::UserData128 => true,
+            Field::UserData64 => true,
+            Field::UserData32 => true,
+            Field::Reserved => false,
+            Field::Timeout => true,
+            Field::Ledger => true,
+            Field::Code => true,
+            Field::Flags => true,
+            Field::Timestamp => true,
+        }
+    }
+}
+
+impl Operation {
+    /// The operation's name.
+    pub fn name(self) -> &'static str
+        ensures { result.now ≡ operation_name self }
+    {
+        match self {
+            Operation::Register => "register",
+            Operation::CreateAccounts => "create_accounts",
+            Operation::CreateTransfers => "create_transfers",
+            Operation::LookupAccounts => "lookup_accounts",
+            Operation::LookupTransfers => "lookup_transfers",
+        }
+    }
+
+    /// Says that the operation's events, or its ids, have the field.
+    pub fn has_field(self, field: Field) -> bool
+        ensures { result ≡ has_field self field }
+    {
+        match self {
+            Operation::Register => false,
+            Operation::CreateAccounts => field.is_of_accounts(),
+            Operation::CreateTransfers => field.is_of_transfers(),
+            Operation::LookupAccounts => field.index() == 4,
+            Operation::LookupTransfers => field.index() == 4,
+        }
+    }
+}
+
+impl Flag {
+    /// The flag's name.
+    pub fn name(self) -> &'static str
+        ensures { result.now ≡ flag_name self }
+    {
+        match self {
+            Flag::Linked => "linked",
+            Flag::DebitsMustNotExceedCredits => "debits_must_not_exceed_credits",
+            Flag::CreditsMustNotExceedDebits => "credits_must_not_exceed_debits",
+            Flag::History => "history",
+            Flag::Imported => "imported",
+            Flag::Closed => "closed",
+            Flag::Pending => "pending",
+            Flag::PostPendingTransfer => "post_pending_transfer",
+            Flag::VoidPendingTransfer => "void_pending_transfer",
+            Flag::BalancingDebit => "balancing_debit",
+            Flag::BalancingCredit => "balancing_credit",
+            Flag::ClosingDebit => "closing_debit",
+            Flag::ClosingCredit => "closing_credit",
+        }
+    }
+
+    /// The flag's bit in an account, 0 where accounts do not have it.
+    fn account_bit(self) -> u128
+        ensures { result ≡ account_bit self }
+    {
+        match self {
+            Flag::Linked => 1,
+            Flag::DebitsMustNotExceedCredits => 2,
+            Flag::CreditsMustNotExceedDebits => 4,
+            Flag::History => 8,
+            Flag::Imported => 16,
+            Flag::Closed => 32,
+            Flag::Pending => 0,
+            Flag::PostPendingTransfer => 0,
+            Flag::VoidPendingTransfer => 0,
+            Flag::BalancingDebit => 0,
+            Flag::BalancingCredit => 0,
+            Flag::ClosingDebit => 0,
+            Flag::ClosingCredit => 0,
+        }
+    }
+
+    /// The flag's bit in a transfer, 0 where transfers do not have it.
+    fn transfer_bit(self) -> u128
+        ensures { result ≡ transfer_bit self }
+    {
+        match self {
+            Flag::Linked => 1,
+            Flag::DebitsMustNotExceedCredits => 0,
+            Flag::CreditsMustNotExceedDebits => 0,
+            Flag::History => 0,
+            Flag::Imported => 256,
+            Flag::Closed => 0,
+            Flag::Pending => 2,
+            Flag::PostPendingTransfer => 4,
+            Flag::VoidPendingTransfer => 8,
+            Flag::BalancingDebit => 16,
+            Flag::BalancingCredit => 32,
+            Flag::ClosingDebit => 64,
+            Flag::ClosingCredit => 128,
+        }
+    }
+
+    /// The flag's bit in the events of an operation, 0 where they do not have it.
+    pub fn bit(self, operation: Operation) -> u128
+        ensures { result ≡ flag_bit operation self }
+    {
+        match operation {
+            Operation::CreateAccounts => self.account_bit(),
+            Operation::CreateTransfers => self.transfer_bit(),
+            Operation::Register => 0,
+            Operation::LookupAccounts => 0,
+            Operation::LookupTransfers => 0,
+        }
+    }
+}
+
+/// Every word.
+#[tactic(auto, unfolding(crate::specs::Words::all_words))]
+pub fn words() -> &'static [Word]
+    ensures { result.now ≡ all_words }
+{
+    &WORDS
+}
+
+impl Word {
+    /// How the word is written.
+    pub fn text(self) -> &'static str
+        ensures { result.now ≡ word_text self }
+    {
+        match self {
+            Word::Field(field) => field.name(),
+            Word::Operation(operation) => operation.name(),
+            Word::Flag(flag) => flag.name(),
+            Word::AmountMax => "amount_max",
+        }
+    }
+}
