@@ -9,9 +9,10 @@ use Rattle.tb_records.specs.Ordered.{Each}
 use Rattle.tb_records.proofs.ByKey.{found_key}
 use Rattle.tb_ledger.specs.declared.rows.State.{State}
 use Rattle.tb_ledger.specs.declared.rows.State.TheVariants.{Open, Posted, Voided, Expired}
-use Rattle.tb_ledger.specs.Books.{Books, has, shut, debits_limited, credits_limited, pending, posts, voids, resolves, is_open, is_posted, is_voided, is_expired, state_of, is_closed, account_at, account_now, as_it_stands, transfer_at, debits_pending, debits_posted, credits_pending, credits_posted}
-use Rattle.tb_ledger.specs.Verdicts.{Line, first_of, first_code, is_not, max_id, max_time, account_own_lines, account_exists, account_new_lines, account_verdict, transfer_own_lines, transfer_exists, failed_lines, transfer_verdict, filled, resolve_own_lines, resolve_lines_of, resolve_code, single_own_lines, pair_lines, pair_code, amount_lines, single_code, balanced_amount, balanced_between}
-use Rattle.tb_ledger.specs.Sound.{Moves, Resolves}
+use Rattle.tb_ledger.specs.Books.{Books, has, closed, debits_limited, credits_limited, pending, posts, voids, resolves, is_open, is_posted, is_voided, is_expired, state_of, stands_closed, account_at, account_now, as_it_stands, transfer_at, debits_pending, debits_posted, credits_pending, credits_posted}
+use Rattle.tb_ledger.specs.Verdicts.{Line, first_of, first_code, is_not, int_max, max_time, account_own_lines, account_exists_lines, account_new_lines, account_verdict, transfer_own_lines, transfer_exists_lines, failed_lines, transfer_verdict, filled, filled_amount, filled_from, given_or, differs, id_code, resolve_own_lines, named_lines, closed_lines, closed_at, named_code, resolve_code, single_own_lines, pair_lines, pair_code, amount_lines, single_code, balanced_amount, balanced_between}
+use Rattle.tb_ledger.proofs.FoundPairs.{FoundPair}
+use Rattle.tb_ledger.specs.Found.{FoundPending}
 
 -- no line's code is 0
 abbrev pub coded : List Line → Bool
@@ -52,8 +53,8 @@ flag_stays mask flags true apart = ap (λ n. not (n == 0)) (and_or_apart mask fl
 flag_stays mask flags false apart = refl
 
 -- an account that is closed as it stands has the flag
-pub closed_flag : (B : Books) (a : Account) → shut (as_it_stands B a) ≡ false → is_closed B a ≡ false
-closed_flag B a is = by (is_closed B a) is
+pub closed_flag : (B : Books) (a : Account) → closed (as_it_stands B a) ≡ false → stands_closed B a ≡ false
+closed_flag B a is = by (stands_closed B a) is
   where
     by : (b : Bool) → has 32 (if b then bit_or a.flags 32 else a.flags) ≡ false → b ≡ false
     by true test = let set : has 32 (bit_or a.flags 32) ≡ true = ap (λ n. not (n == 0)) (and_or_self 32 a.flags) in absurd (cc)
@@ -61,23 +62,26 @@ closed_flag B a is = by (is_closed B a) is
 
 -- an accepted account is new
 pub new_account : (B : Books) (a : Account) → account_verdict B a ≡ 0 → account_at B a.id ≡ None
-new_account B a ok = by (account_at B a.id) (none_fails (first_of (account_own_lines a) ∷ first_of (account_exists (account_now B a.id) a) ∷ first_of (account_new_lines a) ∷ []) ok).1.0
+new_account B a ok = by (account_at B a.id) (none_fails (first_of (account_own_lines a) ∷ first_of (account_exists_lines (account_now B a.id) a) ∷ first_of (account_new_lines a) ∷ []) ok).1.0
   where
-    by : (o : Option Account) → first_of (account_exists (option_map (as_it_stands B) o) a) ≡ 0 → o ≡ None
+    by : (o : Option Account) → first_of (account_exists_lines (option_map (as_it_stands B) o) a) ≡ 0 → o ≡ None
     by None is = refl
-    by (Some e) is = let lines = fail (account_exists (Some (as_it_stands B e)) a) refl is in let there : true ≡ false = lines.1.1.1.1.1.1.0 in absurd (cc)
+    by (Some e) is = let lines = fail (account_exists_lines (Some (as_it_stands B e)) a) refl is in let there : true ≡ false = lines.1.1.1.1.1.1.0 in absurd (cc)
+
+-- a transfer's groups, where it is accepted: what either kind is asked first, and what its own kind is
+id_passes : (B : Books) (t : Transfer) (time : ℕ) → transfer_verdict B t time ≡ 0 → id_code B t ≡ 0
+id_passes B t time ok = (none_fails (id_code B t ∷ (if resolves t then resolve_code B t else single_code B t time) ∷ []) ok).0
+
+own_code : (B : Books) (t : Transfer) (time : ℕ) → transfer_verdict B t time ≡ 0 → (if resolves t then resolve_code B t else single_code B t time) ≡ 0
+own_code B t time ok = (none_fails (id_code B t ∷ (if resolves t then resolve_code B t else single_code B t time) ∷ []) ok).1.0
 
 -- an accepted transfer is new
 pub new_transfer : (B : Books) (t : Transfer) (time : ℕ) → transfer_verdict B t time ≡ 0 → transfer_at B t.id ≡ None
-new_transfer B t time ok = by (transfer_at B t.id) (none_fails (first_of (transfer_own_lines t) ∷ first_of (transfer_exists (transfer_at B t.id) (filled B t)) ∷ first_of (failed_lines B.failed t) ∷ (if resolves t then resolve_code B (filled B t) else single_code B t time) ∷ []) ok).1.0
+new_transfer B t time ok = by (transfer_at B t.id) (none_fails (first_of (transfer_own_lines t) ∷ first_of (transfer_exists_lines (transfer_at B t.id) (filled B t)) ∷ first_of (failed_lines B.failed t) ∷ []) (id_passes B t time ok)).1.0
   where
-    by : (o : Option Transfer) → first_of (transfer_exists o (filled B t)) ≡ 0 → o ≡ None
+    by : (o : Option Transfer) → first_of (transfer_exists_lines o (filled B t)) ≡ 0 → o ≡ None
     by None is = refl
-    by (Some e) is = let lines = fail (transfer_exists (Some e) (filled B t)) refl is in let there : true ≡ false = lines.1.1.1.1.1.1.1.1.1.1.1.0 in absurd (cc)
-
--- what the last group answers
-own_code : (B : Books) (t : Transfer) (time : ℕ) → transfer_verdict B t time ≡ 0 → (if resolves t then resolve_code B (filled B t) else single_code B t time) ≡ 0
-own_code B t time ok = (none_fails (first_of (transfer_own_lines t) ∷ first_of (transfer_exists (transfer_at B t.id) (filled B t)) ∷ first_of (failed_lines B.failed t) ∷ (if resolves t then resolve_code B (filled B t) else single_code B t time) ∷ []) ok).1.1.1.0
+    by (Some e) is = let lines = fail (transfer_exists_lines (Some e) (filled B t)) refl is in let there : true ≡ false = lines.1.1.1.1.1.1.1.1.1.1.1.0 in absurd (cc)
 
 open_of : (s : State) → is_posted s ≡ false → is_voided s ≡ false → is_expired s ≡ false → is_open s ≡ true
 open_of Open a b c = refl
@@ -85,43 +89,56 @@ open_of Posted a b c = absurd (cc)
 open_of Voided a b c = absurd (cc)
 open_of Expired a b c = absurd (cc)
 
--- a post or void, filled
-pub resolves_by : (B : Books) (f : Transfer) → resolve_code B f ≡ 0 → Resolves B f
-resolves_by B f ok = let own = fail (resolve_own_lines f) refl codes.0 in by (transfer_at B f.pending_id) refl codes.1.0 own.0 own.1.0
+is_true : (b : Bool) → not b ≡ false → b ≡ true
+is_true true is = refl
+is_true false is = absurd (cc)
+
+-- what is given is the same, or nothing is given
+given_same : (x y : ℕ) → differs x y ≡ false → given_or x y ≡ y
+given_same x y is = by (eqb x 0) is
   where
-    codes : (first_of (resolve_own_lines f) ≡ 0) × Each (λ code. code ≡ 0) (first_of (resolve_lines_of B f (transfer_at B f.pending_id)) ∷ [])
-    codes = none_fails (first_of (resolve_own_lines f) ∷ first_of (resolve_lines_of B f (transfer_at B f.pending_id)) ∷ []) ok
+    by : (b : Bool) → (not b && is_not x y) ≡ false → (if b then y else x) ≡ y
+    by true is = refl
+    by false is = same_numbers x y is
 
-    is_true : (b : Bool) → not b ≡ false → b ≡ true
-    is_true true is = refl
-    is_true false is = absurd (cc)
+pub filled_found : (B : Books) (t p : Transfer) → resolves t ≡ true → transfer_at B t.pending_id ≡ Some p → filled B t ≡ filled_from p t
+filled_found B t p is found = rw (is, found) refl
 
-    by : (o : Option Transfer) → transfer_at B f.pending_id ≡ o → first_of (resolve_lines_of B f o) ≡ 0 → (posts f && voids f) ≡ false → pending f ≡ false → Resolves B f
-    by None e is not_both not_pending = absurd (omega arith)
-    by (Some p) e is not_both not_pending =
-        let lines = fail (resolve_lines_of B f (Some p)) refl is in record {
-          p = p;
-          named = e;
-          held = and_from (pending p) (is_open (state_of B p)) (is_true (pending p) lines.0) (open_of (state_of B p) lines.1.1.1.1.1.1.1.0 lines.1.1.1.1.1.1.1.1.0 lines.1.1.1.1.1.1.1.1.1.0);
-          not_pending = not_pending;
-          not_both = not_both;
-          debit_same = same_numbers f.debit_account_id p.debit_account_id lines.1.0;
-          credit_same = same_numbers f.credit_account_id p.credit_account_id lines.1.1.0;
-          ledger_same = same_numbers f.ledger p.ledger lines.1.1.1.0;
-          at_most = ltb-false p.amount f.amount lines.1.1.1.1.1.0;
-        }
+-- a post or void, filled from the pending transfer that it names
+found_from : (B : Books) (t p : Transfer) → transfer_at B t.pending_id ≡ Some p → first_of (resolve_own_lines t) ≡ 0 → named_code B t (Some p) ≡ 0 → FoundPending B (filled_from p t)
+found_from B t p named own_is named_is =
+    let own = fail (resolve_own_lines t) refl own_is in
+    let codes = none_fails (first_of (named_lines t p (state_of B p)) ∷ first_of (closed_lines t (closed_at B p.debit_account_id) (closed_at B p.credit_account_id)) ∷ []) named_is in
+    let lines = fail (named_lines t p (state_of B p)) refl codes.0 in record {
+      p = p;
+      named = named;
+      held = and_from (pending p) (is_open (state_of B p)) (is_true (pending p) lines.0) (open_of (state_of B p) lines.1.1.1.1.1.1.1.0 lines.1.1.1.1.1.1.1.1.0 lines.1.1.1.1.1.1.1.1.1.0);
+      not_pending = own.1.0;
+      not_both = own.0;
+      debit_same = given_same t.debit_account_id p.debit_account_id lines.1.0;
+      credit_same = given_same t.credit_account_id p.credit_account_id lines.1.1.0;
+      ledger_same = given_same t.ledger p.ledger lines.1.1.1.0;
+      at_most = ltb-false p.amount (filled_amount p t) lines.1.1.1.1.1.0;
+    }
 
-pub resolves_of : (B : Books) (t : Transfer) (time : ℕ) → resolves t ≡ true → transfer_verdict B t time ≡ 0 → Resolves B (filled B t)
-resolves_of B t time is ok = resolves_by B (filled B t) (subst (λ b. (if b then resolve_code B (filled B t) else single_code B t time) ≡ 0) is (own_code B t time ok))
+pub found_pending : (B : Books) (t : Transfer) (time : ℕ) → resolves t ≡ true → transfer_verdict B t time ≡ 0 → FoundPending B (filled B t)
+found_pending B t time is ok = by (transfer_at B t.pending_id) refl codes.1.0
+  where
+    codes : (first_of (resolve_own_lines t) ≡ 0) × Each (λ code. code ≡ 0) (named_code B t (transfer_at B t.pending_id) ∷ [])
+    codes = none_fails (first_of (resolve_own_lines t) ∷ named_code B t (transfer_at B t.pending_id) ∷ []) (subst (λ b. (if b then resolve_code B t else single_code B t time) ≡ 0) is (own_code B t time ok))
+
+    by : (o : Option Transfer) → transfer_at B t.pending_id ≡ o → named_code B t o ≡ 0 → FoundPending B (filled B t)
+    by None e z = absurd (omega arith)
+    by (Some p) e z = subst (FoundPending B) (sym (filled_found B t p is e)) (found_from B t p e codes.0 z)
 
 -- a pair of accounts that is there
-pair_of : (B : Books) (t : Transfer) (time : ℕ) (d c : Account) → account_at B t.debit_account_id ≡ Some d → account_at B t.credit_account_id ≡ Some c → t.debit_account_id ≢ t.credit_account_id → pair_code (Some (as_it_stands B d)) (Some (as_it_stands B c)) t time ≡ 0 → Moves B (record t { amount = balanced_amount (as_it_stands B d) (as_it_stands B c) t; timestamp = time })
+pair_of : (B : Books) (t : Transfer) (time : ℕ) (d c : Account) → account_at B t.debit_account_id ≡ Some d → account_at B t.credit_account_id ≡ Some c → t.debit_account_id ≢ t.credit_account_id → pair_code (Some (as_it_stands B d)) (Some (as_it_stands B c)) t time ≡ 0 → FoundPair B (record t { amount = balanced_amount (as_it_stands B d) (as_it_stands B c) t; timestamp = time })
 pair_of B t time d c d_is c_is apart ok = by (balanced_amount (as_it_stands B d) (as_it_stands B c) t) ok
   where
     limit : (b l : Bool) (x y : ℕ) → b ≡ true → l ≡ b → (l && ltb x y) ≡ false → y ≤ x
     limit b l x y is same test = ltb-false x y (subst (λ k. (k && ltb x y) ≡ false) (same ∙ is) test)
 
-    by : (amount : ℕ) → first_code (first_of (pair_lines (as_it_stands B d) (as_it_stands B c) t) ∷ first_of (amount_lines (as_it_stands B d) (as_it_stands B c) t amount time) ∷ []) ≡ 0 → Moves B (record t { amount = amount; timestamp = time })
+    by : (amount : ℕ) → first_code (first_of (pair_lines (as_it_stands B d) (as_it_stands B c) t) ∷ first_of (amount_lines (as_it_stands B d) (as_it_stands B c) t amount time) ∷ []) ≡ 0 → FoundPair B (record t { amount = amount; timestamp = time })
     by amount z =
         let codes = none_fails (first_of (pair_lines (as_it_stands B d) (as_it_stands B c) t) ∷ first_of (amount_lines (as_it_stands B d) (as_it_stands B c) t amount time) ∷ []) z in
         let pair = fail (pair_lines (as_it_stands B d) (as_it_stands B c) t) refl codes.0 in
@@ -139,21 +156,21 @@ pair_of B t time d c d_is c_is apart ok = by (balanced_amount (as_it_stands B d)
           credit_ledger = sym ledgers ∙ sym ledger;
           debit_open = closed_flag B d pair.1.1.0;
           credit_open = closed_flag B c pair.1.1.1.0;
-          debits_fit = subst (λ k. debits_pending B k + debits_posted B k + amount ≤ max_id) d_id (ltb-false max_id (debits_pending B d.id + debits_posted B d.id + amount) room.1.1.1.1.0);
-          credits_fit = subst (λ k. credits_pending B k + credits_posted B k + amount ≤ max_id) c_id (ltb-false max_id (credits_pending B c.id + credits_posted B c.id + amount) room.1.1.1.1.1.0);
+          debits_fit = subst (λ k. debits_pending B k + debits_posted B k + amount ≤ int_max) d_id (ltb-false int_max (debits_pending B d.id + debits_posted B d.id + amount) room.1.1.1.1.0);
+          credits_fit = subst (λ k. credits_pending B k + credits_posted B k + amount ≤ int_max) c_id (ltb-false int_max (credits_pending B c.id + credits_posted B c.id + amount) room.1.1.1.1.1.0);
           in_time = ltb-false max_time (time + t.timeout * 1000000000) room.1.1.1.1.1.1.0;
-          debits_within = λ limited. subst (λ k. debits_pending B k + debits_posted B k + amount ≤ credits_posted B k) d_id (limit (debits_limited d) (debits_limited (as_it_stands B d)) (credits_posted B d.id) (debits_pending B d.id + debits_posted B d.id + amount) limited (flag_stays 2 d.flags (is_closed B d) refl) room.1.1.1.1.1.1.1.0);
-          credits_within = λ limited. subst (λ k. credits_pending B k + credits_posted B k + amount ≤ debits_posted B k) c_id (limit (credits_limited c) (credits_limited (as_it_stands B c)) (debits_posted B c.id) (credits_pending B c.id + credits_posted B c.id + amount) limited (flag_stays 4 c.flags (is_closed B c) refl) room.1.1.1.1.1.1.1.1.0);
+          debits_within = λ limited. subst (λ k. debits_pending B k + debits_posted B k + amount ≤ credits_posted B k) d_id (limit (debits_limited d) (debits_limited (as_it_stands B d)) (credits_posted B d.id) (debits_pending B d.id + debits_posted B d.id + amount) limited (flag_stays 2 d.flags (stands_closed B d) refl) room.1.1.1.1.1.1.1.0);
+          credits_within = λ limited. subst (λ k. credits_pending B k + credits_posted B k + amount ≤ debits_posted B k) c_id (limit (credits_limited c) (credits_limited (as_it_stands B c)) (debits_posted B c.id) (credits_pending B c.id + credits_posted B c.id + amount) limited (flag_stays 4 c.flags (stands_closed B c) refl) room.1.1.1.1.1.1.1.1.0);
         }
 
-pub moves_of : (B : Books) (t : Transfer) (time : ℕ) → resolves t ≡ false → transfer_verdict B t time ≡ 0 → Moves B (record t { amount = balanced_between (account_now B t.debit_account_id) (account_now B t.credit_account_id) t; timestamp = time })
-moves_of B t time is ok =
-    let single : single_code B t time ≡ 0 = subst (λ b. (if b then resolve_code B (filled B t) else single_code B t time) ≡ 0) is (own_code B t time ok) in
+pub found_pair : (B : Books) (t : Transfer) (time : ℕ) → resolves t ≡ false → transfer_verdict B t time ≡ 0 → FoundPair B (record t { amount = balanced_between (account_now B t.debit_account_id) (account_now B t.credit_account_id) t; timestamp = time })
+found_pair B t time is ok =
+    let single : single_code B t time ≡ 0 = subst (λ b. (if b then resolve_code B t else single_code B t time) ≡ 0) is (own_code B t time ok) in
     let codes = none_fails (first_of (single_own_lines t) ∷ pair_code (account_now B t.debit_account_id) (account_now B t.credit_account_id) t time ∷ []) single in
     let own = fail (single_own_lines t) refl codes.0 in
     by (other_numbers t.debit_account_id t.credit_account_id own.1.1.1.1.0) (account_at B t.debit_account_id) (account_at B t.credit_account_id) refl refl codes.1.0
   where
-    by : t.debit_account_id ≢ t.credit_account_id → (d c : Option Account) → account_at B t.debit_account_id ≡ d → account_at B t.credit_account_id ≡ c → pair_code (option_map (as_it_stands B) d) (option_map (as_it_stands B) c) t time ≡ 0 → Moves B (record t { amount = balanced_between (option_map (as_it_stands B) d) (option_map (as_it_stands B) c) t; timestamp = time })
+    by : t.debit_account_id ≢ t.credit_account_id → (d c : Option Account) → account_at B t.debit_account_id ≡ d → account_at B t.credit_account_id ≡ c → pair_code (option_map (as_it_stands B) d) (option_map (as_it_stands B) c) t time ≡ 0 → FoundPair B (record t { amount = balanced_between (option_map (as_it_stands B) d) (option_map (as_it_stands B) c) t; timestamp = time })
     by apart None c e f z = absurd (omega arith)
     by apart (Some d) None e f z = absurd (omega arith)
     by apart (Some d) (Some c) e f z = pair_of B t time d c e f apart z

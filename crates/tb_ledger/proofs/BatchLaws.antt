@@ -2,7 +2,7 @@
 use Rattle.std.proofs.Common.{◌≡◌, ℕ, ◌+◌, Bool, true, false, if◌then◌else◌, eqb, List, [], ◌∷◌, Option, Some, None, refl, arith}
 use Rattle.std.proofs.lemmas.Bool.Decides.{nat_tests}
 use Rattle.tb_ledger.specs.Books.{Books}
-use Rattle.tb_ledger.specs.Batches.{Kind, Timed, Failure, timed, blocks, code_in_chain, failure_from, all_recorded, outcome, block_after, blocks_after, batch_after}
+use Rattle.tb_ledger.specs.Batches.{Kind, Timed, Failure, timed, blocks, code_in_chain, failure_from, all_recorded, chain_outcome, block_after, blocks_after, batch_after}
 
 module _ {E : Type 0} (kind : Kind E) where
   -- an event whose code in its chain is 0 has the verdict 0
@@ -28,7 +28,7 @@ module _ {E : Type 0} (kind : Kind E) where
     pub block_kept : (B : Books) (block : List (Timed E)) → P B → P (block_after kind B block).books
     block_kept B block kept = by (failure_from kind 0 B block) refl
       where
-        by : (o : Option (Failure E)) → failure_from kind 0 B block ≡ o → P (outcome kind B block o).books
+        by : (o : Option (Failure E)) → failure_from kind 0 B block ≡ o → P (chain_outcome kind B block o).books
         by None is = all_kept 0 B block kept is
         by (Some f) is = refused B f.event f.code kept
 

@@ -3,7 +3,7 @@ use Rattle.std.proofs.Common.{◌≡◌, ℕ, suc, ◌+◌, ◌-◌, ◌<◌, �
 use Rattle.std.proofs.lemmas.Bool.Decides.{nat_tests}
 use Rattle.std.proofs.lemmas.List.{at_drop_more, at_drop_all, length-replicate, length-drop}
 use Rattle.tb_ledger.specs.Books.{Books}
-use Rattle.tb_ledger.specs.Batches.{Kind, Timed, Failure, timed_from, timed, joined, blocks, block_length, code_in_chain, failure_from, all_recorded, undone_code, undone, outcome, block_after, blocks_after, batch_after, results_from}
+use Rattle.tb_ledger.specs.Batches.{Kind, Timed, Failure, timed_from, timed, joined, blocks, block_length, code_in_chain, failure_from, all_recorded, undone_code, undone, chain_outcome, block_after, blocks_after, batch_after, results_from}
 use Rattle.tb_ledger.proofs.CodeLaws.{results-one}
 
 pub length-timed_from : {E : Type 0} (t : ℕ) (es : List E) → length (timed_from t es) ≡ length es
@@ -109,7 +109,7 @@ module _ {E : Type 0} (kind : Kind E) where
       let rest = timed_from (stamp + 1) (drop (place + 1) block) in
       let f : Failure E = record { place = place; event = e; code = code; rest = rest } in
       let fails : failure_from kind 0 B (timed_from time block) ≡ Some f = sym ahead ∙ failure-here B' block place stamp code e within here is refused' in
-      ap (outcome kind B (timed_from time block)) fails
+      ap (chain_outcome kind B (timed_from time block)) fails
       ∙ ap (λ codes. record { books = kind.refused B e code; codes = replicate place 1 ++ code ∷ codes }) (undone-timed (stamp + 1) 0 (drop (place + 1) block))
 
   pub no_failure : (place : ℕ) (B : Books) (block : List E) (stamp : ℕ) → length block ≤ place → failure_from kind place B (timed_from stamp (drop place block)) ≡ None
@@ -126,7 +126,7 @@ module _ {E : Type 0} (kind : Kind E) where
   passed-here B block time B' place stamp ahead all end =
       let passes : failure_from kind 0 B (timed_from time block) ≡ None = sym ahead ∙ no_failure place B' block stamp end in
       let books : all_recorded kind B (timed_from time block) ≡ B' = sym all ∙ all_passed place B' block stamp end in
-      ap (outcome kind B (timed_from time block)) passes
+      ap (chain_outcome kind B (timed_from time block)) passes
       ∙ (λ i. record { books = books i; codes = replicate (length-timed_from time block i) 0 })
 
   -- cutting a batch
@@ -153,7 +153,7 @@ module _ {E : Type 0} (kind : Kind E) where
         | false ↦ λ here. let e : record { place = place; event = x.0; code = code; rest = xs } ≡ f = cc in sym (ap (λ g. g.place + suc (length g.rest)) e)
       ] is
 
-  length-outcome : (B : Books) (block : List (Timed E)) (o : Option (Failure E)) → ((f : Failure E) → o ≡ Some f → f.place + suc (length f.rest) ≡ length block) → length (outcome kind B block o).codes ≡ length block
+  length-outcome : (B : Books) (block : List (Timed E)) (o : Option (Failure E)) → ((f : Failure E) → o ≡ Some f → f.place + suc (length f.rest) ≡ length block) → length (chain_outcome kind B block o).codes ≡ length block
   length-outcome B block None place = length-replicate {A = ℕ} (length block) 0
   length-outcome B block (Some f) place = omega (arith, place f refl, length-append (replicate f.place 1) (f.code ∷ undone kind f.rest), length-replicate {A = ℕ} f.place 1, length-undone f.rest)
 

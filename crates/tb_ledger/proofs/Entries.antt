@@ -15,7 +15,7 @@ use Rattle.std.specs.List.{slice_get}
 use Rattle.avl_tree.specs.Map.{Map, entries, get}
 use Rattle.avl_tree.specs.Search.{Search, leaf, fork, entries_of, path_length}
 use Rattle.tb_records.proofs.ByKey.{each-map, each-both, each-back, found_key, rising-replaced}
-use Rattle.tb_ledger.specs.Verdicts.{max_id}
+use Rattle.tb_ledger.specs.Verdicts.{int_max}
 use Rattle.tb_ledger.specs.Timeouts.{timeout_key, timeout_at, timeouts_of, AreTimeouts}
 
 pub eq-number : (n y : ℕ) → is_eq (nat_cmp n y) ≡ eqb y n
@@ -210,14 +210,14 @@ first-later time e [] ordered is later = tt
 first-later time e (x ∷ es) ordered is later =
     let same : x ≡ e = cc in
     let here : time < x.0.0 = rw same later in
-    (here, each-both (λ d. timeout_key (timeout_at x) < timeout_key d) (λ d. d.id ≤ max_id) (λ d. time < d.at) (timeouts_of es) (λ d above fits. omega arith) ordered.rising.0 ordered.fit.1)
+    (here, each-both (λ d. timeout_key (timeout_at x) < timeout_key d) (λ d. d.id ≤ int_max) (λ d. time < d.at) (timeouts_of es) (λ d above fits. omega arith) ordered.rising.0 ordered.fit.1)
 
 pub first-none : {V : Type 0} (time : ℕ) (es : List ((ℕ × ℕ) × V)) → slice_get es 0 ≡ None → Each (λ d. time < d.at) (timeouts_of es)
 first-none time [] none = tt
 first-none time (x ∷ es) none = absurd (cc)
 
 -- pairs of numbers compare as one number does, where the second part has its room
-pub pair-number : (a b c d : ℕ) → b ≤ max_id → d ≤ max_id → ordering_then (nat_cmp a c) (nat_cmp b d) ≡ nat_cmp (timeout_key (record { at = a; id = b })) (timeout_key (record { at = c; id = d }))
+pub pair-number : (a b c d : ℕ) → b ≤ int_max → d ≤ int_max → ordering_then (nat_cmp a c) (nat_cmp b d) ≡ nat_cmp (timeout_key (record { at = a; id = b })) (timeout_key (record { at = c; id = d }))
 pair-number a b c d b_fits d_fits = by (ltb a c) refl (eqb a c) refl (ltb b d) refl (eqb b d) refl (ltb x y) refl (eqb x y) refl
   where
     x : ℕ
@@ -244,10 +244,10 @@ pair-number a b c d b_fits d_fits = by (ltb a c) refl (eqb a c) refl (ltb b d) r
     by false e false f r g s h false i false j = refl
 
 -- the keys of timeouts agree with their numbers
-pub timeouts-agree : {V : Type 0} (k : ℕ × ℕ) (es : List ((ℕ × ℕ) × V)) → k.1 ≤ max_id → Each (λ d. d.id ≤ max_id) (map timeout_at es)
+pub timeouts-agree : {V : Type 0} (k : ℕ × ℕ) (es : List ((ℕ × ℕ) × V)) → k.1 ≤ int_max → Each (λ d. d.id ≤ int_max) (map timeout_at es)
     → Each (Agrees (λ x y. ordering_then (nat_cmp x.0 y.0) (nat_cmp x.1 y.1)) timeout_at timeout_key k (timeout_key (record { at = k.0; id = k.1 }))) es
-timeouts-agree k es fits all = each-map (λ e. (timeout_at e).id ≤ max_id) (Agrees (λ x y. ordering_then (nat_cmp x.0 y.0) (nat_cmp x.1 y.1)) timeout_at timeout_key k (timeout_key (record { at = k.0; id = k.1 }))) es
-    (λ e its. pair-number k.0 k.1 e.0.0 e.0.1 fits its) (each-back (λ d. d.id ≤ max_id) timeout_at es all)
+timeouts-agree k es fits all = each-map (λ e. (timeout_at e).id ≤ int_max) (Agrees (λ x y. ordering_then (nat_cmp x.0 y.0) (nat_cmp x.1 y.1)) timeout_at timeout_key k (timeout_key (record { at = k.0; id = k.1 }))) es
+    (λ e its. pair-number k.0 k.1 e.0.0 e.0.1 fits its) (each-back (λ d. d.id ≤ int_max) timeout_at es all)
 
 -- a search that met no node was among none
 pub no_visits : {V : Type 0} (cmp : ℕ → Ordering) (tree : Search (ℕ × V)) → path_length cmp tree ≡ 0 → length (values_of (entries_of tree)) ≡ 0

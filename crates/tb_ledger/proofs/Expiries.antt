@@ -8,8 +8,8 @@ use Rattle.tb_ledger.specs.declared.rows.State.TheVariants.{Posted, Voided, Expi
 use Rattle.tb_ledger.specs.declared.rows.AccountRow.{AccountRow}
 use Rattle.tb_ledger.specs.declared.rows.TransferRow.{TransferRow}
 use Rattle.tb_ledger.specs.declared.timeouts.Timeout.{Timeout}
-use Rattle.tb_ledger.specs.Books.{posts, pending, resolves, is_open, is_due, state_by, closing_debit, closing_credit}
-use Rattle.tb_ledger.specs.Sound.{Sound, debit, credit}
+use Rattle.tb_ledger.specs.Books.{posts, pending, resolves, is_open, is_due, state_by, closing_debit, closing_credit, debit, credit}
+use Rattle.tb_ledger.specs.Sound.{Sound}
 use Rattle.tb_ledger.specs.Kept.{account_row_key, transfer_row_key, books_of, row_holds, lapses, IsIndex, HasSide, HasSums, HasState, AreKept, IsLedger, on_debits, on_credits, released, settled, accounts_released}
 use Rattle.tb_ledger.proofs.Parts.{both_hold, held_enough}
 use Rattle.tb_ledger.proofs.Pairs.{sums_released}

@@ -11,7 +11,7 @@ use Rattle.tb_ledger.specs.declared.timeouts.Timeout.{Timeout}
 use Rattle.tb_ledger.specs.Books.{Books, resolves, transfer_at}
 use Rattle.tb_ledger.specs.Batches.{is_final, transfer_events}
 use Rattle.tb_ledger.specs.Kept.{books_of, IsLedger}
-use Rattle.tb_ledger.specs.Verdicts.{Line, first_of, first_code, transfer_own_lines, transfer_exists, filled, resolve_code, single_code, transfer_verdict}
+use Rattle.tb_ledger.specs.Verdicts.{Line, first_of, first_code, transfer_own_lines, transfer_exists_lines, filled, resolve_code, single_code, transfer_verdict}
 use Rattle.tb_ledger.proofs.SoundLaws.{sound_failed}
 use Rattle.tb_ledger.proofs.VerdictLaws.{any-found}
 
@@ -33,33 +33,26 @@ never_final (line ∷ lines) is = by line.1 (and_parts (not (is_final line.0)) (
     by false parts later = later parts.1
 
 -- where the id has failed before, the verdict is no final one
-before : (a b d : ℕ) → is_final a ≡ false → is_final b ≡ false → is_final (first_code (a ∷ b ∷ 68 ∷ d ∷ [])) ≡ false
-before a b d a_is b_is = elim (a == 0) as (λ x. is_final (if x then (if b == 0 then 68 else b) else a) ≡ false) [
-  | true ↦ elim (b == 0) as (λ y. is_final (if y then 68 else b) ≡ false) [ true ↦ refl | false ↦ b_is ]
-  | false ↦ a_is
-]
+before : (a b d : ℕ) → is_final a ≡ false → is_final b ≡ false → is_final (first_code (first_code (a ∷ b ∷ 68 ∷ []) ∷ d ∷ [])) ≡ false
+before a b d a_is b_is = by (a == 0) refl (b == 0) refl
+  where
+    by : (x : Bool) → (a == 0) ≡ x → (y : Bool) → (b == 0) ≡ y → is_final (first_code ((if x then (if y then 68 else b) else a) ∷ d ∷ [])) ≡ false
+    by true e true f = refl
+    by true e false f = rw f b_is
+    by false e y f = rw e a_is
 
-there_final : (o : Option Transfer) (f : Transfer) → is_final (first_of (transfer_exists o f)) ≡ false
+there_final : (o : Option Transfer) (f : Transfer) → is_final (first_of (transfer_exists_lines o f)) ≡ false
 there_final None f = refl
-there_final (Some e) f = never_final (transfer_exists (Some e) f) refl
+there_final (Some e) f = never_final (transfer_exists_lines (Some e) f) refl
 
 -- a transfer that fails for good has not failed before
 pub final_is_new : (B : Books) (t : Transfer) (time code : ℕ) → code ≡ transfer_verdict B t time → is_final code ≡ true → option_map_or (list_any (λ id. id == t.id)) B.failed false ≡ false
 final_is_new B t time code code_is final = by (option_map_or (list_any (λ id. id == t.id)) B.failed false) (sym (ap is_final code_is) ∙ final)
   where
-    own : ℕ
-    own = first_of (transfer_own_lines t)
-
-    there : ℕ
-    there = first_of (transfer_exists (transfer_at B t.id) (filled B t))
-
-    kind : ℕ
-    kind = if resolves t then resolve_code B (filled B t) else single_code B t time
-
-    by : (b : Bool) → is_final (first_code (first_of (transfer_own_lines t) ∷ first_of (transfer_exists (transfer_at B t.id) (filled B t)) ∷ first_of ((68, b) ∷ []) ∷ (if resolves t then resolve_code B (filled B t) else single_code B t time) ∷ [])) ≡ true → b ≡ false
+    by : (b : Bool) → is_final (first_code (first_code (first_of (transfer_own_lines t) ∷ first_of (transfer_exists_lines (transfer_at B t.id) (filled B t)) ∷ first_of ((68, b) ∷ []) ∷ []) ∷ (if resolves t then resolve_code B t else single_code B t time) ∷ [])) ≡ true → b ≡ false
     by false h = refl
     by true h =
-        let free = before (first_of (transfer_own_lines t)) (first_of (transfer_exists (transfer_at B t.id) (filled B t))) (if resolves t then resolve_code B (filled B t) else single_code B t time)
+        let free = before (first_of (transfer_own_lines t)) (first_of (transfer_exists_lines (transfer_at B t.id) (filled B t))) (if resolves t then resolve_code B t else single_code B t time)
         (never_final (transfer_own_lines t) refl) (there_final (transfer_at B t.id) (filled B t)) in
         absurd (cc)
 

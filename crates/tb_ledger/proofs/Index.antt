@@ -7,7 +7,7 @@ use Rattle.tb_ledger.specs.declared.rows.State.{State}
 use Rattle.tb_ledger.specs.declared.rows.TransferRow.{TransferRow}
 use Rattle.tb_ledger.specs.declared.timeouts.Timeout.{Timeout}
 use Rattle.tb_ledger.specs.Books.{pending, is_open, expires_at}
-use Rattle.tb_ledger.specs.Verdicts.{max_id}
+use Rattle.tb_ledger.specs.Verdicts.{int_max}
 use Rattle.tb_ledger.specs.Timeouts.{timeout_key, AreTimeouts, freed, with_timeout, without_timeout}
 use Rattle.tb_ledger.specs.Kept.{transfer_row_key, dated, lapses, settled, timeout_of, listed, unlisted, IsListed, IsTimeout, IsIndex, CanList}
 
@@ -109,10 +109,10 @@ module _ (transfers : List TransferRow) (ts : List Timeout × ℕ) (index : IsIn
     other_id : (d : Timeout) → IsTimeout transfers d → d.id ≢ t.recorded.id
     other_id d has same = let found : find (λ r. r.recorded.id == t.recorded.id) transfers ≡ Some has.t = subst (λ k. find (λ r. r.recorded.id == k) transfers ≡ Some has.t) same has.there in absurd (cc)
 
-    pub not_listed_yet : AreTimeouts ts.0 → t.recorded.id ≤ max_id → find (λ d. timeout_key d == timeout_key (timeout_of t)) ts.0 ≡ None
+    pub not_listed_yet : AreTimeouts ts.0 → t.recorded.id ≤ int_max → find (λ d. timeout_key d == timeout_key (timeout_of t)) ts.0 ≡ None
     not_listed_yet ordered fits =
         none-found (λ d. timeout_key d == timeout_key (timeout_of t)) ts.0
-        (each-both (IsTimeout transfers) (λ d. d.id ≤ max_id) (λ d. eqb (timeout_key d) (timeout_key (timeout_of t)) ≡ false) ts.0
+        (each-both (IsTimeout transfers) (λ d. d.id ≤ int_max) (λ d. eqb (timeout_key d) (timeout_key (timeout_of t)) ≡ false) ts.0
         (λ d has d_fits. let other = other_id d has in let differs : timeout_key d ≢ timeout_key (timeout_of t) = λ same. other (omega arith) in grind (arith, nat_tests)) index.all_dated ordered.fit)
 
     others_timed : (d : Timeout) → IsTimeout transfers d → IsTimeout (put transfer_row_key t transfers) d
@@ -256,5 +256,5 @@ unlisted_due p d ts dates same = rw dates (ap (λ e. without_timeout e ts) same)
 pub ordered_without : (d : Timeout) (ts : List Timeout × ℕ) → AreTimeouts ts.0 → AreTimeouts (without_timeout d ts).0
 ordered_without d ts ordered = record {
   rising = rising-taken_out timeout_key (timeout_key d) ts.0 ordered.rising;
-  fit = each-taken_out timeout_key (λ d. d.id ≤ max_id) (timeout_key d) ts.0 ordered.fit;
+  fit = each-taken_out timeout_key (λ d. d.id ≤ int_max) (timeout_key d) ts.0 ordered.fit;
 }

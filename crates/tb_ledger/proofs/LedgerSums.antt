@@ -6,8 +6,8 @@ use Rattle.tb_records.specs.declared.records.Account.{Account}
 use Rattle.tb_records.specs.declared.records.Transfer.{Transfer}
 use Rattle.tb_records.specs.Ordered.{Each, Rising}
 use Rattle.tb_records.proofs.ByKey.{sum_by-through, each-map}
-use Rattle.tb_ledger.specs.Books.{Books, holds, moves, as_it_stands}
-use Rattle.tb_ledger.specs.Sound.{account_key, debit, credit, ledger_at, Sound}
+use Rattle.tb_ledger.specs.Books.{Books, holds, moves, as_it_stands, debit, credit}
+use Rattle.tb_ledger.specs.Sound.{account_key, ledger_at, Sound}
 use Rattle.tb_ledger.specs.Limits.{Balances}
 use Rattle.tb_ledger.proofs.Sums.{sum_by-none, sum_by-equal, sum_by-add}
 

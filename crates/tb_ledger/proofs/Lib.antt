@@ -1,3 +1,4 @@
+pub mod FoundPairs
 pub mod Accepted
 pub mod Sums
 pub mod Sides

@@ -6,13 +6,14 @@ use Rattle.std.proofs.lemmas.List.Sums.{sum_by-cons}
 use Rattle.tb_records.specs.declared.records.Transfer.{Transfer}
 use Rattle.tb_records.specs.Ordered.{put, Rising}
 use Rattle.tb_records.proofs.ByKey.{sum_by-same, sum_by-put, find-put_other, each-map, none-found, none-fails}
-use Rattle.tb_ledger.specs.Books.{Books, pending, posts, voids, resolves, resolver, expires_at, is_due, state_of, is_open, holds, moves, transfer_at}
+use Rattle.tb_ledger.specs.Books.{Books, pending, posts, voids, resolves, resolver, expires_at, is_due, state_of, is_open, holds, moves, transfer_at, debit, credit, pending_on, posted_on}
 use Rattle.tb_ledger.specs.Verdicts.{recorded_transfer, filled}
-use Rattle.tb_ledger.specs.Sound.{transfer_key, debit, credit, pending_on, posted_on, Resolves}
+use Rattle.tb_ledger.specs.Sound.{transfer_key}
 use Rattle.tb_ledger.specs.Meanings.{IsHeld, HeldWhileOpen, Settles, SettlesBoth}
 use Rattle.tb_ledger.proofs.Sides.{open_parts, open_from, not_true, share_none, share_whole, no_more}
 use Rattle.tb_ledger.proofs.SoundLaws.{filled_flags}
-use Rattle.tb_ledger.proofs.VerdictLaws.{recorded_resolves, filled_pending_id}
+use Rattle.tb_ledger.proofs.VerdictLaws.{recorded_pending, filled_pending_id}
+use Rattle.tb_ledger.specs.Found.{FoundPending}
 
 pub held_while_open : HeldWhileOpen
 held_while_open B p = (leads, back)
@@ -65,7 +66,7 @@ abbrev with_one : Books → Transfer → Books
 with_one B f = record B { transfers = put transfer_key f B.transfers }
 
 -- one side
-settles_on : (side other : Transfer → ℕ) (B : Books) (f : Transfer) (found : Resolves B f) → resolves f ≡ true → Rising transfer_key B.transfers → side f ≡ side found.p → Settles side B f found.p
+settles_on : (side other : Transfer → ℕ) (B : Books) (f : Transfer) (found : FoundPending B f) → resolves f ≡ true → Rising transfer_key B.transfers → side f ≡ side found.p → Settles side B f found.p
 settles_on side other B f found is rising same = record { pending_leaves = leaves; posted_comes = comes }
   where
     still : (t : Transfer) → t.id ≢ f.pending_id → holds (with_one B f) t ≡ holds B t
@@ -111,8 +112,8 @@ settles_both B t time rise is ok = record {
     as_filled : r ≡ record (filled B t) { timestamp = time }
     as_filled = rw is refl
 
-    found : Resolves B r
-    found = subst (Resolves B) (sym as_filled) (recorded_resolves B t (filled B t) time is ok refl)
+    found : FoundPending B r
+    found = subst (FoundPending B) (sym as_filled) (recorded_pending B t (filled B t) time is ok refl)
 
     pending_id : r.pending_id ≡ t.pending_id
     pending_id = ap (λ f. f.pending_id) as_filled ∙ filled_pending_id B t

@@ -8,9 +8,8 @@ use Rattle.tb_ledger.specs.declared.rows.State.{State}
 use Rattle.tb_ledger.specs.declared.rows.Side.{Side}
 use Rattle.tb_ledger.specs.declared.rows.AccountRow.{AccountRow}
 use Rattle.tb_ledger.specs.declared.rows.TransferRow.{TransferRow}
-use Rattle.tb_ledger.specs.Books.{pending, is_open, closing_debit, closing_credit}
-use Rattle.tb_ledger.specs.Sound.{debit, credit}
-use Rattle.tb_ledger.specs.Kept.{account_row_key, transfer_row_key, row_holds, HasSide, HasBoth, HasSums, gained, released, resolved, settled, Takes, on_debits, on_credits, accounts_gained, accounts_released, accounts_resolved, new_transfer_row}
+use Rattle.tb_ledger.specs.Books.{pending, is_open, closing_debit, closing_credit, debit, credit}
+use Rattle.tb_ledger.specs.Kept.{account_row_key, transfer_row_key, row_holds, HasSide, HasBoth, HasSums, gained, released, released_and_gained, settled, Takes, on_debits, on_credits, accounts_gained, accounts_released, accounts_released_and_gained, new_transfer_row}
 use Rattle.tb_ledger.proofs.Parts.{released_here, released_other, held_enough, gained_here, gained_other}
 
 -- each record is what is found by its key
@@ -105,7 +104,7 @@ module _ (side : Transfer → ℕ) (closes : Transfer → Bool) (transfers : Lis
       free : (pending r && closes r) ≡ true → (x.shut && not (closes p.recorded)) ≡ false
       free e = absurd (let never : (pending r && closes r) ≡ false = rw single refl in cc)
 
-  pub resolved_here : (x : Side) → HasSide side closes transfers (side r) x → HasSide side closes (put transfer_row_key (new_transfer_row r) left) (side r) (resolved closes p.recorded r x)
+  pub resolved_here : (x : Side) → HasSide side closes transfers (side r) x → HasSide side closes (put transfer_row_key (new_transfer_row r) left) (side r) (released_and_gained closes p.recorded r x)
   resolved_here x has =
       let here = subst (λ k. HasSide side closes transfers k x) same has in
       let gone = subst (λ k. HasSide side closes left k (released closes p.recorded x)) (sym same) (released_here side closes transfers p s found holds over x here) in
@@ -119,9 +118,9 @@ module _ (side : Transfer → ℕ) (closes : Transfer → Bool) (transfers : Lis
 pub sums_resolved : (accounts : List AccountRow) (transfers : List TransferRow) (p : TransferRow) (r : Transfer) (s : State) → Rising account_row_key accounts
     → find (λ q. transfer_row_key q == transfer_row_key p) transfers ≡ Some p → row_holds p ≡ true → is_open s ≡ false
     → pending r ≡ false → r.debit_account_id ≡ p.recorded.debit_account_id → r.credit_account_id ≡ p.recorded.credit_account_id → r.amount ≤ p.recorded.amount
-    → Each (HasSums transfers) accounts → Each (HasSums (put transfer_row_key (new_transfer_row r) (replaced transfer_row_key (settled s p) transfers))) (accounts_resolved p.recorded r accounts)
+    → Each (HasSums transfers) accounts → Each (HasSums (put transfer_row_key (new_transfer_row r) (replaced transfer_row_key (settled s p) transfers))) (accounts_released_and_gained p.recorded r accounts)
 sums_resolved accounts transfers p r s rising found holds over single same_d same_c at_most =
-    sums_pair transfers (put transfer_row_key (new_transfer_row r) (replaced transfer_row_key (settled s p) transfers)) r.debit_account_id r.credit_account_id (resolved closing_debit p.recorded r) (resolved closing_credit p.recorded r) (λ _. Unit {0}) (λ _. Unit {0})
+    sums_pair transfers (put transfer_row_key (new_transfer_row r) (replaced transfer_row_key (settled s p) transfers)) r.debit_account_id r.credit_account_id (released_and_gained closing_debit p.recorded r) (released_and_gained closing_credit p.recorded r) (λ _. Unit {0}) (λ _. Unit {0})
     (λ x _. resolved_here debit closing_debit transfers p r s found holds over single same_d at_most x) (resolved_other debit closing_debit transfers p r s found holds over single same_d at_most)
     (λ x _. resolved_here credit closing_credit transfers p r s found holds over single same_c at_most x) (resolved_other credit closing_credit transfers p r s found holds over single same_c at_most)
     accounts rising (λ a _. tt) (λ a _. tt)

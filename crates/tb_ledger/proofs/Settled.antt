@@ -10,17 +10,19 @@ use Rattle.tb_ledger.specs.declared.rows.AccountRow.{AccountRow}
 use Rattle.tb_ledger.specs.declared.rows.TransferRow.{TransferRow}
 use Rattle.tb_ledger.specs.declared.timeouts.Timeout.{Timeout}
 use Rattle.tb_ledger.specs.declared.rows.State.TheVariants.{Posted, Voided}
-use Rattle.tb_ledger.specs.Books.{Books, posts, resolves, holds, is_open, account_at, transfer_at, closing_debit, closing_credit}
-use Rattle.tb_ledger.specs.Verdicts.{max_id}
+use Rattle.tb_ledger.specs.Books.{Books, posts, resolves, holds, is_open, account_at, transfer_at, closing_debit, closing_credit, debit, credit}
+use Rattle.tb_ledger.specs.Verdicts.{int_max}
 use Rattle.tb_ledger.specs.Timeouts.{AreTimeouts}
-use Rattle.tb_ledger.specs.Sound.{account_key, transfer_key, debit, credit, ledger_at, Sound, Moves, Resolves}
-use Rattle.tb_ledger.specs.Kept.{account_row_key, transfer_row_key, books_of, row_holds, dated, listed, unlisted, IsListed, IsIndex, HasSide, HasSums, HasState, IsLedger, on_debits, on_credits, gained, resolved, settled, outcome_of, accounts_gained, accounts_resolved, new_row, new_transfer_row}
+use Rattle.tb_ledger.specs.Sound.{account_key, transfer_key, ledger_at, Sound}
+use Rattle.tb_ledger.specs.Kept.{account_row_key, transfer_row_key, books_of, row_holds, dated, listed, unlisted, IsListed, IsIndex, HasSide, HasSums, HasState, IsLedger, on_debits, on_credits, gained, released_and_gained, settled, state_given_by, accounts_gained, accounts_released_and_gained, new_row, new_transfer_row}
 use Rattle.tb_ledger.proofs.Parts.{held_enough, no_sums}
 use Rattle.tb_ledger.proofs.Index.{index_added, index_closed}
 use Rattle.tb_ledger.proofs.Pairs.{sums_gained, sums_resolved}
 use Rattle.tb_ledger.proofs.States.{states_added, states_resolved}
 use Rattle.tb_ledger.proofs.Standing.{holds_stand, takes_debit, takes_credit}
 use Rattle.tb_ledger.proofs.SoundLaws.{sound_moved, sound_resolved}
+use Rattle.tb_ledger.proofs.FoundPairs.{FoundPair}
+use Rattle.tb_ledger.specs.Found.{FoundPending}
 
 -- what is found by an id is found by its key
 pub refound : {X : Type 0} (key : X → ℕ) (id : ℕ) (x : X) (xs : List X) → find (λ y. key y == id) xs ≡ Some x → find (λ y. key y == key x) xs ≡ Some x
@@ -110,7 +112,7 @@ module _ (accounts : List AccountRow) (transfers : List TransferRow) (failed : L
     pub books_with_single : books_of later more failed keeps_failed time ≡ record B { transfers = put transfer_key t B.transfers }
     books_with_single = rw (is, added, map-put transfer_key (λ t. t.recorded) (new_transfer_row t) transfers, map-changed account_row_key (λ a. a.created) t.credit_account_id (on_credits (gained closing_credit t)) (changed account_row_key t.debit_account_id (on_debits (gained closing_debit t)) accounts) (λ y. refl), map-changed account_row_key (λ a. a.created) t.debit_account_id (on_debits (gained closing_debit t)) accounts (λ y. refl)) refl
 
-    pub ledger_with_single : (after : List Timeout) → transfer_at B t.id ≡ None → resolves t ≡ false → time < t.timestamp + 1000000000 → Moves B t → IsIndex more after → IsLedger later more failed keeps_failed after time
+    pub ledger_with_single : (after : List Timeout) → transfer_at B t.id ≡ None → resolves t ≡ false → time < t.timestamp + 1000000000 → FoundPair B t → IsIndex more after → IsLedger later more failed keeps_failed after time
     ledger_with_single after fresh single stamped moves_t index = record {
       kept = rw (is, added) (record {
         sums = sums_gained accounts transfers t rising_accounts (takes_debit accounts transfers failed keeps_failed time ledger.kept.states t moves_t ledger.kept.sums) (takes_credit accounts transfers failed keeps_failed time ledger.kept.states t moves_t ledger.kept.sums) ledger.kept.sums;
@@ -122,7 +124,7 @@ module _ (accounts : List AccountRow) (transfers : List TransferRow) (failed : L
     }
 
   -- a post or void recorded
-  module _ (p : TransferRow) (r : Transfer) (found : find (λ q. q.recorded.id == r.pending_id) transfers ≡ Some p) (resolves_p : Resolves B r) (is_resolver : resolves r ≡ true) where
+  module _ (p : TransferRow) (r : Transfer) (found : find (λ q. q.recorded.id == r.pending_id) transfers ≡ Some p) (resolves_p : FoundPending B r) (is_resolver : resolves r ≡ true) where
     names : r.pending_id ≡ p.recorded.id
     names = sym (found_key transfer_row_key r.pending_id p transfers found)
 
@@ -137,7 +139,7 @@ module _ (accounts : List AccountRow) (transfers : List TransferRow) (failed : L
         holds_stand accounts transfers failed keeps_failed time p (each-find (HasState transfers time) (λ q. q.recorded.id == r.pending_id) p transfers ledger.kept.states found)
         ∙ ap (holds B) (sym the_one) ∙ resolves_p.held
 
-    over : is_open (outcome_of r) ≡ false
+    over : is_open (state_given_by r) ≡ false
     over = by (posts r)
       where
         by : (b : Bool) → is_open (if b then Posted else Voided) ≡ false
@@ -157,21 +159,21 @@ module _ (accounts : List AccountRow) (transfers : List TransferRow) (failed : L
     at_most = omega (arith, resolves_p.at_most, ap (λ t. t.amount) the_one)
 
     -- the sides of both accounts have the amount, and fit
-    pub debit_enough : (a : AccountRow) → find (λ a. a.created.id == r.debit_account_id) accounts ≡ Some a → (p.recorded.amount ≤ a.debits.pending) × (a.debits.pending + a.debits.posted ≤ max_id)
+    pub debit_enough : (a : AccountRow) → find (λ a. a.created.id == r.debit_account_id) accounts ≡ Some a → (p.recorded.amount ≤ a.debits.pending) × (a.debits.pending + a.debits.posted ≤ int_max)
     debit_enough a there =
         let has = (each-find (HasSums transfers) (λ a. a.created.id == r.debit_account_id) a accounts ledger.kept.sums there).debits in
         let its = subst (λ k. HasSide debit closing_debit transfers k a.debits) (found_key account_row_key r.debit_account_id a accounts there ∙ same_debit) has in
-        (held_enough debit closing_debit transfers p (outcome_of r) by_key it_holds over a.debits its, has.fit)
+        (held_enough debit closing_debit transfers p (state_given_by r) by_key it_holds over a.debits its, has.fit)
 
-    pub credit_enough : (a : AccountRow) → find (λ a. a.created.id == r.credit_account_id) accounts ≡ Some a → (p.recorded.amount ≤ a.credits.pending) × (a.credits.pending + a.credits.posted ≤ max_id)
+    pub credit_enough : (a : AccountRow) → find (λ a. a.created.id == r.credit_account_id) accounts ≡ Some a → (p.recorded.amount ≤ a.credits.pending) × (a.credits.pending + a.credits.posted ≤ int_max)
     credit_enough a there =
         let has = (each-find (HasSums transfers) (λ a. a.created.id == r.credit_account_id) a accounts ledger.kept.sums there).credits in
         let its = subst (λ k. HasSide credit closing_credit transfers k a.credits) (found_key account_row_key r.credit_account_id a accounts there ∙ same_credit) has in
-        (held_enough credit closing_credit transfers p (outcome_of r) by_key it_holds over a.credits its, has.fit)
+        (held_enough credit closing_credit transfers p (state_given_by r) by_key it_holds over a.credits its, has.fit)
 
-    pub fresh_still : transfer_at B r.id ≡ None → find (λ q. q.recorded.id == r.id) (replaced transfer_row_key (settled (outcome_of r) p) transfers) ≡ None
-    fresh_still fresh = no_row transfer_key (λ t. t.recorded) r.id (replaced transfer_row_key (settled (outcome_of r) p) transfers)
-        (ap (find (λ t. transfer_key t == r.id)) (map-replaced transfer_row_key (λ t. t.recorded) (settled (outcome_of r) p) p transfers by_key refl) ∙ fresh)
+    pub fresh_still : transfer_at B r.id ≡ None → find (λ q. q.recorded.id == r.id) (replaced transfer_row_key (settled (state_given_by r) p) transfers) ≡ None
+    fresh_still fresh = no_row transfer_key (λ t. t.recorded) r.id (replaced transfer_row_key (settled (state_given_by r) p) transfers)
+        (ap (find (λ t. transfer_key t == r.id)) (map-replaced transfer_row_key (λ t. t.recorded) (settled (state_given_by r) p) p transfers by_key refl) ∙ fresh)
 
     -- its timeout leaves the index
     pub listed_before : dated p ≡ true → IsListed timeouts p
@@ -182,19 +184,19 @@ module _ (accounts : List AccountRow) (transfers : List TransferRow) (failed : L
 
     -- a post or void brings none
     pub index_with_resolver : (room : ℕ) → transfer_at B r.id ≡ None → Rising transfer_row_key transfers → AreTimeouts timeouts
-        → IsIndex (put transfer_row_key (new_transfer_row r) (replaced transfer_row_key (settled (outcome_of r) p) transfers)) (listed (new_transfer_row r) (unlisted p (timeouts, room))).0
+        → IsIndex (put transfer_row_key (new_transfer_row r) (replaced transfer_row_key (settled (state_given_by r) p) transfers)) (listed (new_transfer_row r) (unlisted p (timeouts, room))).0
     index_with_resolver room fresh rising ordered =
-        index_added (replaced transfer_row_key (settled (outcome_of r) p) transfers) (unlisted p (timeouts, room)) (index_closed transfers (timeouts, room) ledger.index p (outcome_of r) by_key over rising ordered)
+        index_added (replaced transfer_row_key (settled (state_given_by r) p) transfers) (unlisted p (timeouts, room)) (index_closed transfers (timeouts, room) ledger.index p (state_given_by r) by_key over rising ordered)
         (new_transfer_row r) (fresh_still fresh) (λ is. absurd (let never = not_dated in cc))
 
-    module _ (later : List AccountRow) (more : List TransferRow) (is : later ≡ accounts_resolved p.recorded r accounts) (added : more ≡ put transfer_row_key (new_transfer_row r) (replaced transfer_row_key (settled (outcome_of r) p) transfers)) where
+    module _ (later : List AccountRow) (more : List TransferRow) (is : later ≡ accounts_released_and_gained p.recorded r accounts) (added : more ≡ put transfer_row_key (new_transfer_row r) (replaced transfer_row_key (settled (state_given_by r) p) transfers)) where
       pub books_with_resolver : books_of later more failed keeps_failed time ≡ record B { transfers = put transfer_key r B.transfers }
-      books_with_resolver = rw (is, added, map-put transfer_key (λ t. t.recorded) (new_transfer_row r) (replaced transfer_row_key (settled (outcome_of r) p) transfers), map-replaced transfer_row_key (λ t. t.recorded) (settled (outcome_of r) p) p transfers by_key refl, map-changed account_row_key (λ a. a.created) r.credit_account_id (on_credits (resolved closing_credit p.recorded r)) (changed account_row_key r.debit_account_id (on_debits (resolved closing_debit p.recorded r)) accounts) (λ y. refl), map-changed account_row_key (λ a. a.created) r.debit_account_id (on_debits (resolved closing_debit p.recorded r)) accounts (λ y. refl)) refl
+      books_with_resolver = rw (is, added, map-put transfer_key (λ t. t.recorded) (new_transfer_row r) (replaced transfer_row_key (settled (state_given_by r) p) transfers), map-replaced transfer_row_key (λ t. t.recorded) (settled (state_given_by r) p) p transfers by_key refl, map-changed account_row_key (λ a. a.created) r.credit_account_id (on_credits (released_and_gained closing_credit p.recorded r)) (changed account_row_key r.debit_account_id (on_debits (released_and_gained closing_debit p.recorded r)) accounts) (λ y. refl), map-changed account_row_key (λ a. a.created) r.debit_account_id (on_debits (released_and_gained closing_debit p.recorded r)) accounts (λ y. refl)) refl
 
       pub ledger_with_resolver : (after : List Timeout) → IsIndex more after → Rising transfer_row_key transfers → IsLedger later more failed keeps_failed after time
       ledger_with_resolver after index rising = record {
         kept = rw (is, added) (record {
-          sums = sums_resolved accounts transfers p r (outcome_of r) rising_accounts by_key it_holds over resolves_p.not_pending same_debit same_credit at_most ledger.kept.sums;
+          sums = sums_resolved accounts transfers p r (state_given_by r) rising_accounts by_key it_holds over resolves_p.not_pending same_debit same_credit at_most ledger.kept.sums;
           states = states_resolved transfers time p r ledger.kept.states by_key it_holds names is_resolver rising resolves_p.not_pending;
         });
         index = index;

@@ -8,9 +8,9 @@ use Rattle.tb_records.specs.declared.records.Transfer.{Transfer}
 use Rattle.tb_records.specs.Ordered.{put, Each}
 use Rattle.tb_records.proofs.ByKey.{sum_by-put, find-put_other, find-put_none, found_key, each-put, each-map, each-find}
 use Rattle.tb_ledger.specs.declared.rows.State.TheVariants.{Posted, Voided}
-use Rattle.tb_ledger.specs.Books.{Books, pending, posts, voids, resolves, resolver, expires_at, is_due, state_by, state_of, is_open, holds, moves, account_at, transfer_at}
-use Rattle.tb_ledger.specs.Verdicts.{max_id}
-use Rattle.tb_ledger.specs.Sound.{account_key, transfer_key, ledger_at, pending_on, posted_on, SideKept}
+use Rattle.tb_ledger.specs.Books.{Books, pending, posts, voids, resolves, resolver, expires_at, is_due, state_by, state_of, is_open, holds, moves, account_at, transfer_at, pending_on, posted_on}
+use Rattle.tb_ledger.specs.Verdicts.{int_max}
+use Rattle.tb_ledger.specs.Sound.{account_key, transfer_key, ledger_at, SideKept}
 use Rattle.tb_ledger.proofs.Sums.{sum_by-less, sum_by-none}
 
 -- open is: no resolver, and not due
@@ -182,7 +182,7 @@ module _ (side other : Transfer → ℕ) (limited : Account → Bool) where
 
     -- both sums where there is room for it
     pub kept_added : ledger_at B.accounts (side r) ≡ Some r.ledger
-        → pending_on side B (side r) + posted_on side B (side r) + r.amount ≤ max_id
+        → pending_on side B (side r) + posted_on side B (side r) + r.amount ≤ int_max
         → ((a : Account) → account_at B (side r) ≡ Some a → limited a ≡ true → pending_on side B (side r) + posted_on side B (side r) + r.amount ≤ posted_on other B (side r))
         → SideKept side other limited B → SideKept side other limited with_it
     kept_added is_named room limit kept = record {
@@ -191,11 +191,11 @@ module _ (side other : Transfer → ℕ) (limited : Account → Bool) where
       within = λ id a is limits. holds_within id a is limits (eqb (side r) id) refl;
     }
       where
-        fits : (id : ℕ) → (b : Bool) → eqb (side r) id ≡ b → pending_on side with_it id + posted_on side with_it id ≤ max_id
+        fits : (id : ℕ) → (b : Bool) → eqb (side r) id ≡ b → pending_on side with_it id + posted_on side with_it id ≤ int_max
         fits id true e =
             let same : side r ≡ id = grind (arith, nat_tests) in
             let one : (if side r == id then r.amount else 0) ≡ r.amount = rw e refl in
-            let here : pending_on side B id + posted_on side B id + r.amount ≤ max_id = subst (λ k. pending_on side B k + posted_on side B k + r.amount ≤ max_id) same room in
+            let here : pending_on side B id + posted_on side B id + r.amount ≤ int_max = subst (λ k. pending_on side B k + posted_on side B k + r.amount ≤ int_max) same room in
             omega (arith, both_more id, one, here)
         fits id false e =
             let none : (if side r == id then r.amount else 0) ≡ 0 = rw e refl in

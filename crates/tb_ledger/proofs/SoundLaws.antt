@@ -7,15 +7,17 @@ use Rattle.tb_records.specs.declared.limits.Profile.{Profile}
 use Rattle.tb_records.specs.declared.limits.Profile.TheVariants.{One, Two}
 use Rattle.tb_records.specs.Ordered.{put}
 use Rattle.tb_records.proofs.ByKey.{found_key, rising-put, each-put, each-find}
-use Rattle.tb_ledger.specs.Books.{Books, empty_books, debits_limited, credits_limited, resolves, is_closed, account_at, account_now, as_it_stands, transfer_at}
+use Rattle.tb_ledger.specs.Books.{Books, empty_books, debits_limited, credits_limited, resolves, stands_closed, account_at, account_now, as_it_stands, transfer_at, debit, credit}
 use Rattle.tb_ledger.specs.Verdicts.{account_verdict, recorded_account, transfer_verdict, recorded_transfer, filled, filled_from, balanced_between}
 use Rattle.tb_ledger.specs.Batches.{account_events, transfer_events, is_final, batch_after}
-use Rattle.tb_ledger.specs.Sound.{account_key, transfer_key, debit, credit, ledger_at, Sound, Moves, Resolves}
+use Rattle.tb_ledger.specs.Sound.{account_key, transfer_key, ledger_at, Sound}
 use Rattle.tb_ledger.specs.Limits.{KeepsLimits, Balances}
-use Rattle.tb_ledger.proofs.Accepted.{flag_stays, new_account, moves_of, resolves_of}
+use Rattle.tb_ledger.proofs.Accepted.{flag_stays, new_account, found_pair, found_pending}
 use Rattle.tb_ledger.proofs.Sides.{kept_later, kept_account, kept_added, kept_resolved}
 use Rattle.tb_ledger.proofs.BatchLaws.{batch_kept}
 use Rattle.tb_ledger.proofs.LedgerSums.{ledgers_balance}
+use Rattle.tb_ledger.proofs.FoundPairs.{FoundPair}
+use Rattle.tb_ledger.specs.Found.{FoundPending}
 
 -- new books
 pub sound_empty : (profile : Profile) → Sound (empty_books profile)
@@ -61,7 +63,7 @@ sound_account B a time sound ok =
     }
 
 -- a transfer that moves its amount or holds it
-pub sound_moved : (B : Books) (t : Transfer) → Sound B → Moves B t → Sound (record B { transfers = put transfer_key t B.transfers })
+pub sound_moved : (B : Books) (t : Transfer) → Sound B → FoundPair B t → Sound (record B { transfers = put transfer_key t B.transfers })
 sound_moved B t sound m = record {
   rising = sound.rising;
   apart = each-put transfer_key (λ t. debit t ≢ credit t) t B.transfers m.apart sound.apart;
@@ -76,7 +78,7 @@ sound_moved B t sound m = record {
     one id a b is also = cc
 
 -- a post or void, as recorded
-pub sound_resolved : (B : Books) (f : Transfer) → Sound B → resolves f ≡ true → Resolves B f → Sound (record B { transfers = put transfer_key f B.transfers })
+pub sound_resolved : (B : Books) (f : Transfer) → Sound B → resolves f ≡ true → FoundPending B f → Sound (record B { transfers = put transfer_key f B.transfers })
 sound_resolved B f sound is r = record {
   rising = sound.rising;
   apart = each-put transfer_key (λ t. debit t ≢ credit t) f B.transfers (λ same. each-find (λ t. debit t ≢ credit t) (λ t. t.id == f.pending_id) r.p B.transfers sound.apart r.named (sym r.debit_same ∙ same ∙ r.credit_same)) sound.apart;
@@ -94,7 +96,7 @@ filled_flags B t = by (resolves t) (transfer_at B t.pending_id)
     by false o = refl
 
 -- a stamp changes nothing of what a post or void finds
-resolves_stamped : (B : Books) (f : Transfer) (time : ℕ) → Resolves B f → Resolves B (record f { timestamp = time })
+resolves_stamped : (B : Books) (f : Transfer) (time : ℕ) → FoundPending B f → FoundPending B (record f { timestamp = time })
 resolves_stamped B f time r = record {
   p = r.p;
   named = r.named;
@@ -114,8 +116,8 @@ sound_transfer B t time sound ok = by (resolves t) refl
     by : (b : Bool) → resolves t ≡ b → Sound (record B { transfers = put transfer_key (if b then record (filled B t) { timestamp = time } else record t { amount = balanced_between (account_now B t.debit_account_id) (account_now B t.credit_account_id) t; timestamp = time }) B.transfers })
     by true is =
         let f : resolves (filled B t) ≡ true = ap (λ flags. resolves (record t { flags = flags })) (filled_flags B t) ∙ is in
-        sound_resolved B (record (filled B t) { timestamp = time }) sound f (resolves_stamped B (filled B t) time (resolves_of B t time is ok))
-    by false is = sound_moved B (record t { amount = balanced_between (account_now B t.debit_account_id) (account_now B t.credit_account_id) t; timestamp = time }) sound (moves_of B t time is ok)
+        sound_resolved B (record (filled B t) { timestamp = time }) sound f (resolves_stamped B (filled B t) time (found_pending B t time is ok))
+    by false is = sound_moved B (record t { amount = balanced_between (account_now B t.debit_account_id) (account_now B t.credit_account_id) t; timestamp = time }) sound (found_pair B t time is ok)
 
 -- what a refused transfer leaves
 pub sound_refused : (B : Books) (t : Transfer) (code : ℕ) → Sound B → Sound (transfer_events.refused B t code)
@@ -156,8 +158,8 @@ sound_limits B id a is sound = by (account_at B id) refl is
         let here : account_at B x.id ≡ Some x = subst (λ k. account_at B k ≡ Some x) (sym its) there in record {
           debits_fit = sound.debits.fit x.id;
           credits_fit = sound.credits.fit x.id;
-          debits_within = λ limited. sound.debits.within x.id x here (sym (flag_stays 2 x.flags (is_closed B x) refl) ∙ limited);
-          credits_within = λ limited. sound.credits.within x.id x here (sym (flag_stays 4 x.flags (is_closed B x) refl) ∙ limited);
+          debits_within = λ limited. sound.debits.within x.id x here (sym (flag_stays 2 x.flags (stands_closed B x) refl) ∙ limited);
+          credits_within = λ limited. sound.credits.within x.id x here (sym (flag_stays 4 x.flags (stands_closed B x) refl) ∙ limited);
         }
 
     by : (o : Option Account) → account_at B id ≡ o → option_map (as_it_stands B) o ≡ Some a → KeepsLimits a

@@ -7,9 +7,9 @@ use Rattle.tb_records.specs.Ordered.{Each}
 use Rattle.tb_records.proofs.ByKey.{sum_by-same, sum_by-through, find-map, found_key, each-map, each-find}
 use Rattle.tb_ledger.specs.declared.rows.AccountRow.{AccountRow}
 use Rattle.tb_ledger.specs.declared.rows.TransferRow.{TransferRow}
-use Rattle.tb_ledger.specs.Books.{Books, shut, pending, moves, is_open, holds, state_of, closing_debit, closing_credit, is_closed, as_it_stands, account_at, account_now}
-use Rattle.tb_ledger.specs.Sound.{debit, credit, pending_on, posted_on, Moves}
+use Rattle.tb_ledger.specs.Books.{Books, closed, pending, moves, is_open, holds, state_of, closing_debit, closing_credit, stands_closed, as_it_stands, account_at, account_now, debit, credit, pending_on, posted_on}
 use Rattle.tb_ledger.specs.Kept.{account_row_key, books_of, row_closed, row_now, row_holds, bit, pending_share, posted_share, closing_share, HasSums, HasState, Takes}
+use Rattle.tb_ledger.proofs.FoundPairs.{FoundPair}
 
 -- a bit that counts how many there are says whether there is one
 any_of : {X : Type 0} (q : X → Bool) (xs : List X) (b : Bool) → bit b ≡ sum_by (λ x. bit (q x)) xs → b ≡ list_any q xs
@@ -81,7 +81,7 @@ module _ (accounts : List AccountRow) (transfers : List TransferRow) (failed : L
       pub account_there : account_at B id ≡ Some a.created
       account_there = find-map (λ a. eqb a.id id) (λ a. a.created) accounts ∙ ap (option_map (λ a. a.created)) found
 
-      pub closed_stands : row_closed a ≡ is_closed B a.created
+      pub closed_stands : row_closed a ≡ stands_closed B a.created
       closed_stands = rw (shut_stands debit closing_debit a.created.id a.debits.shut has.debits.shut, shut_stands credit closing_credit a.created.id a.credits.shut has.credits.shut) refl
 
       -- the account as it stands
@@ -92,7 +92,7 @@ module _ (accounts : List AccountRow) (transfers : List TransferRow) (failed : L
           same = rw (closed_stands, has.debits.pending ∙ pending_stands debit a.created.id, has.debits.posted ∙ posted_stands debit a.created.id, has.credits.pending ∙ pending_stands credit a.created.id, has.credits.posted ∙ posted_stands credit a.created.id) refl
 
     -- an accepted transfer's accounts can take it
-    module _ (t : Transfer) (moves_t : Moves B t) (sums : Each (HasSums transfers) accounts) where
+    module _ (t : Transfer) (moves_t : FoundPair B t) (sums : Each (HasSums transfers) accounts) where
       pub takes_debit : (a : AccountRow) → find (λ a. a.created.id == t.debit_account_id) accounts ≡ Some a → Takes closing_debit t a.debits
       takes_debit a found =
           let has = each-find (HasSums transfers) (λ a. a.created.id == t.debit_account_id) a accounts sums found in
@@ -100,8 +100,8 @@ module _ (accounts : List AccountRow) (transfers : List TransferRow) (failed : L
           let held = has.debits.pending ∙ pending_stands debit a.created.id ∙ ap (pending_on debit B) same in
           let posted = has.debits.posted ∙ posted_stands debit a.created.id ∙ ap (posted_on debit B) same in
           let it : moves_t.d ≡ a.created = let e : Some moves_t.d ≡ Some a.created = sym moves_t.debit_is ∙ account_there t.debit_account_id a has found in cc in
-          let closed = closed_stands t.debit_account_id a has found ∙ ap (is_closed B) (sym it) ∙ moves_t.debit_open in
-          (omega (arith, held, posted, moves_t.debits_fit), λ _. (neither (shut a.created) a.debits.shut a.credits.shut closed).0)
+          let open_still = closed_stands t.debit_account_id a has found ∙ ap (stands_closed B) (sym it) ∙ moves_t.debit_open in
+          (omega (arith, held, posted, moves_t.debits_fit), λ _. (neither (closed a.created) a.debits.shut a.credits.shut open_still).0)
 
       pub takes_credit : (a : AccountRow) → find (λ a. a.created.id == t.credit_account_id) accounts ≡ Some a → Takes closing_credit t a.credits
       takes_credit a found =
@@ -110,5 +110,5 @@ module _ (accounts : List AccountRow) (transfers : List TransferRow) (failed : L
           let held = has.credits.pending ∙ pending_stands credit a.created.id ∙ ap (pending_on credit B) same in
           let posted = has.credits.posted ∙ posted_stands credit a.created.id ∙ ap (posted_on credit B) same in
           let it : moves_t.c ≡ a.created = let e : Some moves_t.c ≡ Some a.created = sym moves_t.credit_is ∙ account_there t.credit_account_id a has found in cc in
-          let closed = closed_stands t.credit_account_id a has found ∙ ap (is_closed B) (sym it) ∙ moves_t.credit_open in
-          (omega (arith, held, posted, moves_t.credits_fit), λ _. (neither (shut a.created) a.debits.shut a.credits.shut closed).1)
+          let open_still = closed_stands t.credit_account_id a has found ∙ ap (stands_closed B) (sym it) ∙ moves_t.credit_open in
+          (omega (arith, held, posted, moves_t.credits_fit), λ _. (neither (closed a.created) a.debits.shut a.credits.shut open_still).1)

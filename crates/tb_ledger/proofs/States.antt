@@ -7,7 +7,7 @@ use Rattle.tb_records.proofs.ByKey.{each-map, each-put, each-replaced, each-thro
 use Rattle.tb_ledger.specs.declared.rows.TransferRow.{TransferRow}
 use Rattle.tb_ledger.specs.Books.{pending, resolves, is_open, is_due, state_by, state_of}
 use Rattle.tb_ledger.specs.Sound.{transfer_key}
-use Rattle.tb_ledger.specs.Kept.{transfer_row_key, row_holds, books_at, HasState, settled, new_transfer_row, outcome_of}
+use Rattle.tb_ledger.specs.Kept.{transfer_row_key, row_holds, books_at, HasState, settled, new_transfer_row, state_given_by}
 use Rattle.tb_ledger.proofs.Parts.{both_hold}
 use Rattle.tb_ledger.proofs.Sides.{open_parts}
 
@@ -88,7 +88,7 @@ module _ (transfers : List TransferRow) (time : ℕ) where
   module _ (p : TransferRow) (r : Transfer) (states : Each (HasState transfers time) transfers) (found : find (λ q. transfer_row_key q == transfer_row_key p) transfers ≡ Some p) (holds : row_holds p ≡ true)
       (names : r.pending_id ≡ p.recorded.id) (is_resolver : resolves r ≡ true) where
     abbrev left : List TransferRow
-    left = replaced transfer_row_key (settled (outcome_of r) p) transfers
+    left = replaced transfer_row_key (settled (state_given_by r) p) transfers
 
     abbrev with_r : List TransferRow
     with_r = put transfer_row_key (new_transfer_row r) left
@@ -97,10 +97,10 @@ module _ (transfers : List TransferRow) (time : ℕ) where
     records = map (λ t. t.recorded) transfers
 
     recorded_all : map (λ t. t.recorded) with_r ≡ put transfer_key r records
-    recorded_all = map-put transfer_key (λ t. t.recorded) (new_transfer_row r) left ∙ ap (put transfer_key r) (map-replaced transfer_row_key (λ t. t.recorded) (settled (outcome_of r) p) p transfers found refl)
+    recorded_all = map-put transfer_key (λ t. t.recorded) (new_transfer_row r) left ∙ ap (put transfer_key r) (map-replaced transfer_row_key (λ t. t.recorded) (settled (state_given_by r) p) p transfers found refl)
 
     named_still : (k : ℕ) → IsSome (find (λ q. q.recorded.id == k) transfers) → IsSome (find (λ q. q.recorded.id == k) with_r)
-    named_still k is = some-put transfer_row_key (λ q. q.recorded.id == k) (new_transfer_row r) left (some-replaced transfer_row_key (settled (outcome_of r) p) k transfers is)
+    named_still k is = some-put transfer_row_key (λ q. q.recorded.id == k) (new_transfer_row r) left (some-replaced transfer_row_key (settled (state_given_by r) p) k transfers is)
 
     other_row : (y : TransferRow) → transfer_row_key y ≢ transfer_row_key p → HasState transfers time y → HasState with_r time y
     other_row y differs has =
@@ -112,7 +112,7 @@ module _ (transfers : List TransferRow) (time : ℕ) where
           named = λ is. named_still y.recorded.pending_id (has.named is);
         }
 
-    resolved_row : HasState with_r time (settled (outcome_of r) p)
+    resolved_row : HasState with_r time (settled (state_given_by r) p)
     resolved_row =
         let has : HasState transfers time p = each-find (HasState transfers time) (λ q. transfer_row_key q == transfer_row_key p) p transfers states found in
         let parts = both_hold (pending p.recorded) (is_open p.state) holds in
@@ -135,4 +135,4 @@ module _ (transfers : List TransferRow) (time : ℕ) where
     pub states_resolved : Rising transfer_row_key transfers → pending r ≡ false → Each (HasState with_r time) with_r
     states_resolved rising single =
         each-put transfer_row_key (HasState with_r time) (new_transfer_row r) left (resolver_row single)
-        (each-replaced transfer_row_key (HasState transfers time) (HasState with_r time) (settled (outcome_of r) p) transfers rising resolved_row other_row states)
+        (each-replaced transfer_row_key (HasState transfers time) (HasState with_r time) (settled (state_given_by r) p) transfers rising resolved_row other_row states)

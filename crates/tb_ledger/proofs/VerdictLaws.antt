@@ -1,24 +1,25 @@
 -- The verdicts, by the rows that are found.
-use Rattle.std.proofs.Common.{◌≡◌, ◌≢◌, ℕ, suc, zero, eqb, ◌==◌, ◌||◌, Bool, true, false, List, [], ◌∷◌, find, is_some, IsSome, Option, Some, None, option_map, if◌then◌else◌, refl, sym, ap, subst, ◌∙◌, arith, Bor, not, ◌&&◌, ◌++◌, nat_lt}
+use Rattle.std.proofs.Common.{◌≡◌, ◌≢◌, ℕ, suc, zero, eqb, ◌==◌, ◌||◌, Bool, true, false, List, [], ◌∷◌, find, is_some, IsSome, Option, Some, None, option_map, if◌then◌else◌, refl, sym, ap, subst, ◌∙◌, arith, Bor, not, bit_or}
 use Rattle.std.proofs.lemmas.Bool.Decides.{nat_tests}
 use Rattle.std.specs.List.{list_any}
 use Rattle.std.specs.Option.{option_map_or, option_copied}
 use Rattle.tb_records.specs.declared.records.Account.{Account}
 use Rattle.tb_records.specs.declared.records.Transfer.{Transfer}
-use Rattle.tb_ledger.specs.Books.{Books, resolves, pending, posts, voids, is_posted, is_voided, is_expired, transfer_at, account_now, as_it_stands, is_closed, state_of}
-use Rattle.tb_ledger.specs.Verdicts.{recorded_transfer, Line, is_not, is_closed_at, resolve_own_lines, resolve_lines_of, resolve_code, transfer_verdict, first_of, first_code, account_own_lines, account_exists, account_new_lines, account_verdict, transfer_own_lines, transfer_exists, failed_lines, filled, filled_from, single_own_lines, pair_lines, amount_lines, balanced_amount, balanced_between, single_code, pair_code}
+use Rattle.tb_ledger.specs.Books.{Books, has, closed, resolves, pending, transfer_at, account_now, as_it_stands, state_of, debit, credit}
+use Rattle.tb_ledger.specs.Verdicts.{recorded_transfer, Line, closed_lines, closed_at, named_lines, named_code, resolve_own_lines, resolve_code, transfer_verdict, first_of, first_code, account_own_lines, account_exists_lines, account_new_lines, account_verdict, transfer_own_lines, transfer_exists_lines, failed_lines, filled, filled_from, single_own_lines, pair_lines, amount_lines, balanced_amount, balanced_between, single_code, pair_code, id_code, closed_lines}
 use Rattle.tb_ledger.specs.declared.rows.Rows.{Rows}
 use Rattle.tb_ledger.specs.Kept.{books_in, IsKept, row_now, row_closed, HasSums, HasState}
 use Rattle.tb_records.proofs.ByKey.{find-map, each-find}
 use Rattle.tb_ledger.specs.declared.rows.AccountRow.{AccountRow}
-use Rattle.tb_ledger.proofs.Standing.{row_stands, closed_stands}
-use Rattle.std.proofs.lemmas.Bool.{and_parts}
+use Rattle.tb_ledger.proofs.Standing.{row_stands}
+use Rattle.std.proofs.lemmas.Nat.{and_or_self}
 use Rattle.tb_ledger.specs.declared.rows.State.{State}
 use Rattle.tb_ledger.specs.declared.rows.TransferRow.{TransferRow}
-use Rattle.tb_ledger.specs.Groups.{id_verdict, pending_lines, closed_lines, closed_rows}
-use Rattle.tb_ledger.proofs.Accepted.{coded, fail, none_fails, moves_of, resolves_of}
+use Rattle.tb_ledger.proofs.Accepted.{fail, found_pair, found_pending, filled_found}
 use Rattle.tb_records.specs.Ordered.{Each}
-use Rattle.tb_ledger.specs.Sound.{debit, credit, ledger_at, Moves, Resolves}
+use Rattle.tb_ledger.specs.Sound.{ledger_at}
+use Rattle.tb_ledger.proofs.FoundPairs.{FoundPair}
+use Rattle.tb_ledger.specs.Found.{FoundPending}
 
 -- an id is found among ids
 pub any-found : {X : Type 0} (p : X → Bool) (xs : List X) → list_any p xs ≡ is_some (find p xs)
@@ -40,33 +41,30 @@ last_code z = only z
 second_code : (x y z : ℕ) → x ≡ 0 → (y ≡ 0 → ⊥) → first_code (x ∷ y ∷ z ∷ []) ≡ y
 second_code x y z none refused = let e : (y == 0) ≡ false = grind (arith, nat_tests) in rw (none, e) refl
 
-account_refused : (a e : Account) → first_of (account_exists (Some e) a) ≡ 0 → ⊥
-account_refused a e is = let there : true ≡ false = (fail (account_exists (Some e) a) refl is).1.1.1.1.1.1.0 in absurd (cc)
+account_refused : (a e : Account) → first_of (account_exists_lines (Some e) a) ≡ 0 → ⊥
+account_refused a e is = let there : true ≡ false = (fail (account_exists_lines (Some e) a) refl is).1.1.1.1.1.1.0 in absurd (cc)
 
-transfer_refused : (f e : Transfer) → first_of (transfer_exists (Some e) f) ≡ 0 → ⊥
-transfer_refused f e is = let there : true ≡ false = (fail (transfer_exists (Some e) f) refl is).1.1.1.1.1.1.1.1.1.1.1.0 in absurd (cc)
+transfer_refused : (f e : Transfer) → first_of (transfer_exists_lines (Some e) f) ≡ 0 → ⊥
+transfer_refused f e is = let there : true ≡ false = (fail (transfer_exists_lines (Some e) f) refl is).1.1.1.1.1.1.1.1.1.1.1.0 in absurd (cc)
 
-pub account_there_code : (B : Books) (a e : Account) → first_of (account_own_lines a) ≡ 0 → account_now B a.id ≡ Some e → first_of (account_exists (Some e) a) ≡ account_verdict B a
+pub account_there_code : (B : Books) (a e : Account) → first_of (account_own_lines a) ≡ 0 → account_now B a.id ≡ Some e → first_of (account_exists_lines (Some e) a) ≡ account_verdict B a
 account_there_code B a e own found = rw found (sym (second_code _ _ (first_of (account_new_lines a)) own (account_refused a e)))
 
 pub account_new_code : (B : Books) (a : Account) → first_of (account_own_lines a) ≡ 0 → account_now B a.id ≡ None → first_of (account_new_lines a) ≡ account_verdict B a
 account_new_code B a own found = rw (found, own) (sym (only (first_of (account_new_lines a))))
 
 -- filling
-pub filled_found : (B : Books) (t p : Transfer) → resolves t ≡ true → transfer_at B t.pending_id ≡ Some p → filled B t ≡ filled_from p t
-filled_found B t p is found = rw (is, found) refl
-
 pub filled_missing : (B : Books) (t : Transfer) → resolves t ≡ true → transfer_at B t.pending_id ≡ None → filled B t ≡ t
 filled_missing B t is found = rw (is, found) refl
 
 -- a transfer whose id is there
 pub id_there : (B : Books) (t e : Transfer) → first_of (transfer_own_lines t) ≡ 0 → transfer_at B t.id ≡ Some e
-    → first_of (transfer_exists (Some e) (filled B t)) ≡ first_code (first_of (transfer_own_lines t) ∷ first_of (transfer_exists (transfer_at B t.id) (filled B t)) ∷ first_of (failed_lines B.failed t) ∷ [])
+    → first_of (transfer_exists_lines (Some e) (filled B t)) ≡ id_code B t
 id_there B t e own found = rw found (sym (second_code _ _ (first_of (failed_lines B.failed t)) own (transfer_refused (filled B t) e)))
 
 -- a transfer whose id isn't there
 pub id_free : (B : Books) (t : Transfer) → first_of (transfer_own_lines t) ≡ 0 → transfer_at B t.id ≡ None
-    → first_of (failed_lines B.failed t) ≡ first_code (first_of (transfer_own_lines t) ∷ first_of (transfer_exists (transfer_at B t.id) (filled B t)) ∷ first_of (failed_lines B.failed t) ∷ [])
+    → first_of (failed_lines B.failed t) ≡ id_code B t
 id_free B t own found = rw (own, found) (sym (only (first_of (failed_lines B.failed t))))
 
 -- a transfer between two accounts
@@ -97,23 +95,32 @@ account_stands rows kept id = by (find (λ a. a.created.id == id) rows.accounts.
     by None e = ap (option_map (as_it_stands (books_in rows))) (find-map (λ a. a.id == id) (λ a. a.created) rows.accounts.0 ∙ ap (option_map (λ a. a.created)) e)
     by (Some a) e = row_stands rows.accounts.0 rows.transfers.0 rows.failed.0 rows.keeps_failed rows.time kept.kept.states id a (each-find (HasSums rows.transfers.0) (λ a. a.created.id == id) a rows.accounts.0 kept.kept.sums e) e
 
--- the account is there and closed
-pub closed_stands_at : {A : Type 0} (rows : Rows A) → IsKept rows → (id : ℕ) → is_closed_at (books_in rows) id ≡ option_map_or row_closed (find (λ a. a.created.id == id) rows.accounts.0) false
-closed_stands_at rows kept id = by (find (λ a. a.created.id == id) rows.accounts.0) refl
+-- an account as it stands is closed as its row is
+flag_stands : (a : AccountRow) → closed (row_now a) ≡ row_closed a
+flag_stands a = by (row_closed a) refl
   where
-    by : (o : Option AccountRow) → find (λ a. a.created.id == id) rows.accounts.0 ≡ o → is_closed_at (books_in rows) id ≡ option_map_or row_closed o false
-    by None e = ap (λ o. option_map_or (is_closed (books_in rows)) o false) (find-map (λ a. a.id == id) (λ a. a.created) rows.accounts.0 ∙ ap (option_map (λ a. a.created)) e)
-    by (Some a) e =
-        ap (λ o. option_map_or (is_closed (books_in rows)) o false) (find-map (λ a. a.id == id) (λ a. a.created) rows.accounts.0 ∙ ap (option_map (λ a. a.created)) e)
-        ∙ sym (closed_stands rows.accounts.0 rows.transfers.0 rows.failed.0 rows.keeps_failed rows.time kept.kept.states id a (each-find (HasSums rows.transfers.0) (λ a. a.created.id == id) a rows.accounts.0 kept.kept.sums e) e)
+    created : (x y z : Bool) → (x || y || z) ≡ false → x ≡ false
+    created true y z e = absurd (cc)
+    created false y z e = refl
+
+    by : (b : Bool) → row_closed a ≡ b → has 32 (if b then bit_or a.created.flags 32 else a.created.flags) ≡ b
+    by true e = ap (λ n. not (n == 0)) (and_or_self 32 a.created.flags)
+    by false e = created (closed a.created) a.debits.shut a.credits.shut e
+
+closed_stands_at : {A : Type 0} (rows : Rows A) → IsKept rows → (id : ℕ) → closed_at (books_in rows) id ≡ option_map_or row_closed (find (λ a. a.created.id == id) rows.accounts.0) false
+closed_stands_at rows kept id = ap (λ o. option_map_or closed o false) (account_stands rows kept id) ∙ by (find (λ a. a.created.id == id) rows.accounts.0)
+  where
+    by : (o : Option AccountRow) → option_map_or closed (option_map row_now o) false ≡ option_map_or row_closed o false
+    by None = refl
+    by (Some a) = flag_stands a
 
 -- whether both accounts of a pending transfer are closed, by their rows
-pub closed_by_rows : {A : Type 0} (rows : Rows A) → IsKept rows → (f p : Transfer) (d c : AccountRow) → find (λ a. a.created.id == p.debit_account_id) rows.accounts.0 ≡ Some d → find (λ a. a.created.id == p.credit_account_id) rows.accounts.0 ≡ Some c
-    → (code : ℕ) → code ≡ first_of (closed_rows f d c) → code ≡ first_of (closed_lines (books_in rows) f p)
-closed_by_rows rows kept f p d c d_is c_is code is =
+pub closed_by_rows : {A : Type 0} (rows : Rows A) → IsKept rows → (t p : Transfer) (d c : AccountRow) → find (λ a. a.created.id == p.debit_account_id) rows.accounts.0 ≡ Some d → find (λ a. a.created.id == p.credit_account_id) rows.accounts.0 ≡ Some c
+    → (code : ℕ) → code ≡ first_of (closed_lines t (row_closed d) (row_closed c)) → code ≡ first_of (closed_lines t (closed_at (books_in rows) p.debit_account_id) (closed_at (books_in rows) p.credit_account_id))
+closed_by_rows rows kept t p d c d_is c_is code is =
     let debit = closed_stands_at rows kept p.debit_account_id ∙ ap (λ o. option_map_or row_closed o false) d_is in
     let credit = closed_stands_at rows kept p.credit_account_id ∙ ap (λ o. option_map_or row_closed o false) c_is in
-    is ∙ sym (ap (λ b. first_of ((65, posts f && b) ∷ (66, posts f && is_closed_at (books_in rows) p.credit_account_id) ∷ [])) debit ∙ ap (λ b. first_of ((65, posts f && row_closed d) ∷ (66, posts f && b) ∷ [])) credit)
+    is ∙ sym (ap (λ b. first_of (closed_lines t b (closed_at (books_in rows) p.credit_account_id))) debit ∙ ap (λ b. first_of (closed_lines t (row_closed d) b)) credit)
 
 -- the account that a recorded transfer names is there
 some_from : {X Y : Type 0} (g : X → Y) (y : Y) (o : Option X) → option_map g o ≡ Some y → IsSome o
@@ -139,57 +146,28 @@ debit_there rows kept id p found = named_there rows debit kept.sound.debits.name
 pub credit_there : {A : Type 0} (rows : Rows A) → IsKept rows → (id : ℕ) (p : TransferRow) → find (λ row. row.recorded.id == id) rows.transfers.0 ≡ Some p → IsSome (find (λ a. a.created.id == p.recorded.credit_account_id) rows.accounts.0)
 credit_there rows kept id p found = named_there rows credit kept.sound.credits.named id p found
 
--- lines after lines whose codes aren't 0
-first_of-append : (xs ys : List Line) → coded xs ≡ true → first_of (xs ++ ys) ≡ first_code (first_of xs ∷ first_of ys ∷ [])
-first_of-append [] ys is = sym (only (first_of ys))
-first_of-append (x ∷ xs) ys is = by x.1 (and_parts (not (x.0 == 0)) (coded xs) is) (first_of-append xs ys)
-  where
-    some : (n : ℕ) → not (n == 0) ≡ true → (n == 0) ≡ false
-    some zero e = absurd (cc)
-    some (suc n) e = grind (arith, nat_tests)
-
-    by : (b : Bool) → (not (x.0 == 0) ≡ true) × (coded xs ≡ true) → (coded xs ≡ true → first_of (xs ++ ys) ≡ first_code (first_of xs ∷ first_of ys ∷ []))
-        → (if b then x.0 else first_of (xs ++ ys)) ≡ first_code ((if b then x.0 else first_of xs) ∷ first_of ys ∷ [])
-    by true parts later = rw (some x.0 parts.0) refl
-    by false parts later = later parts.1
+-- lines behind the first
+abbrev later : List Line → List Line
+later [] = []
+later (line ∷ lines) = lines
 
 -- the state counts only where the transfer is pending
-named_same : (f p : Transfer) (s s' : State) → (pending p ≡ true → s ≡ s') → first_of (pending_lines f p s) ≡ first_of (pending_lines f p s')
-named_same f p s s' same = by (pending p) same
+named_same : (t p : Transfer) (s s' : State) → (pending p ≡ true → s ≡ s') → first_of (named_lines t p s) ≡ first_of (named_lines t p s')
+named_same t p s s' same = by (pending p) same
   where
-    rest : State → List Line
-    rest s =
-        (27, is_not f.debit_account_id p.debit_account_id)
-        ∷ (28, is_not f.credit_account_id p.credit_account_id)
-        ∷ (29, is_not f.ledger p.ledger)
-        ∷ (30, is_not f.code p.code)
-        ∷ (31, nat_lt p.amount f.amount)
-        ∷ (32, voids f && nat_lt f.amount p.amount)
-        ∷ (33, is_posted s)
-        ∷ (34, is_voided s)
-        ∷ (35, is_expired s)
-        ∷ []
-
-    by : (b : Bool) → (b ≡ true → s ≡ s') → (if not b then 26 else first_of (rest s)) ≡ (if not b then 26 else first_of (rest s'))
-    by true same = ap (λ s. first_of (rest s)) (same refl)
+    by : (b : Bool) → (b ≡ true → s ≡ s') → (if not b then 26 else first_of (later (named_lines t p s))) ≡ (if not b then 26 else first_of (later (named_lines t p s')))
+    by true same = ap (λ s. first_of (later (named_lines t p s))) (same refl)
     by false same = refl
 
 -- a post or void and the row that it names
-pub named_lines : {A : Type 0} (rows : Rows A) → IsKept rows → (id : ℕ) (p : TransferRow) → find (λ row. row.recorded.id == id) rows.transfers.0 ≡ Some p → (f : Transfer) (named closed : ℕ)
-    → named ≡ first_of (pending_lines f p.recorded p.state) → closed ≡ first_of (closed_lines (books_in rows) f p.recorded)
-    → first_of (resolve_lines_of (books_in rows) f (Some p.recorded)) ≡ first_code (named ∷ closed ∷ [])
-named_lines rows kept id p found f named closed named_is closed_is =
+pub named_row : {A : Type 0} (rows : Rows A) → IsKept rows → (id : ℕ) (p : TransferRow) → find (λ row. row.recorded.id == id) rows.transfers.0 ≡ Some p → (t : Transfer) (named shut : ℕ)
+    → named ≡ first_of (named_lines t p.recorded p.state) → shut ≡ first_of (closed_lines t (closed_at (books_in rows) p.recorded.debit_account_id) (closed_at (books_in rows) p.recorded.credit_account_id))
+    → named_code (books_in rows) t (Some p.recorded) ≡ first_code (named ∷ shut ∷ [])
+named_row rows kept id p found t named shut named_is shut_is =
     let B = books_in rows in
     let has = each-find (HasState rows.transfers.0 rows.time) (λ row. row.recorded.id == id) p rows.transfers.0 kept.kept.states found in
-    let same : named ≡ first_of (pending_lines f p.recorded (state_of B p.recorded)) = named_is ∙ named_same f p.recorded p.state (state_of B p.recorded) has.state_is in
-    first_of-append (pending_lines f p.recorded (state_of B p.recorded)) (closed_lines B f p.recorded) refl
-    ∙ ap (λ n. first_code (n ∷ first_of (closed_lines B f p.recorded) ∷ [])) (sym same) ∙ ap (λ n. first_code (named ∷ n ∷ [])) (sym closed_is)
-
-pub named_code : {A : Type 0} (rows : Rows A) → IsKept rows → (t : Transfer) (p : TransferRow) → find (λ row. row.recorded.id == t.pending_id) rows.transfers.0 ≡ Some p → (f : Transfer) → f ≡ filled_from p.recorded t → (named closed : ℕ)
-    → named ≡ first_of (pending_lines f p.recorded p.state) → closed ≡ first_of (closed_lines (books_in rows) f p.recorded)
-    → first_of (resolve_lines_of (books_in rows) (filled_from p.recorded t) (Some p.recorded)) ≡ first_code (named ∷ closed ∷ [])
-named_code rows kept t p found f f_is named closed named_is closed_is =
-    ap (λ f. first_of (resolve_lines_of (books_in rows) f (Some p.recorded))) (sym f_is) ∙ named_lines rows kept t.pending_id p found f named closed named_is closed_is
+    let same : named ≡ first_of (named_lines t p.recorded (state_of B p.recorded)) = named_is ∙ named_same t p.recorded p.state (state_of B p.recorded) has.state_is in
+    ap (λ n. first_code (n ∷ first_of (closed_lines t (closed_at B p.recorded.debit_account_id) (closed_at B p.recorded.credit_account_id)) ∷ [])) (sym same) ∙ ap (λ n. first_code (named ∷ n ∷ [])) (sym shut_is)
 
 pub pair_first : (x y : ℕ) → (x ≡ 0 → ⊥) → first_code (x ∷ y ∷ []) ≡ x
 pair_first x y refused = let e : (x == 0) ≡ false = grind (arith, nat_tests) in rw e refl
@@ -197,46 +175,25 @@ pair_first x y refused = let e : (x == 0) ≡ false = grind (arith, nat_tests) i
 pub pair_second : (x y : ℕ) → x ≡ 0 → first_code (x ∷ y ∷ []) ≡ y
 pair_second x y passed = rw passed (only y)
 
--- what is wrong with a post or void by itself is so once it is filled
-own_same : (B : Books) (t : Transfer) → first_of (resolve_own_lines (filled B t)) ≡ first_of (resolve_own_lines t)
-own_same B t = by (resolves t) (transfer_at B t.pending_id)
-  where
-    by : (b : Bool) (o : Option Transfer) → first_of (resolve_own_lines (if b then option_map_or (λ p. filled_from p t) o t else t)) ≡ first_of (resolve_own_lines t)
-    by true None = refl
-    by true (Some p) = refl
-    by false o = refl
+-- a post or void that is wrong by itself, one that names no transfer, and one that does
+pub resolve_refused : (B : Books) (t : Transfer) (own : ℕ) → own ≡ first_of (resolve_own_lines t) → (own ≡ 0 → ⊥) → resolve_code B t ≡ own
+resolve_refused B t own is refused = ap (λ n. first_code (n ∷ named_code B t (transfer_at B t.pending_id) ∷ [])) (sym is) ∙ pair_first own (named_code B t (transfer_at B t.pending_id)) refused
 
-pub resolve_refused : (B : Books) (t : Transfer) (own : ℕ) → own ≡ first_of (resolve_own_lines t) → (own ≡ 0 → ⊥) → resolve_code B (filled B t) ≡ own
-resolve_refused B t own is refused =
-    let same : first_of (resolve_own_lines (filled B t)) ≡ own = own_same B t ∙ sym is in
-    let e : (own == 0) ≡ false = grind (arith, nat_tests) in
-    ap (λ n. first_code (n ∷ first_of (resolve_lines_of B (filled B t) (transfer_at B (filled B t).pending_id)) ∷ [])) same ∙ pair_first own (first_of (resolve_lines_of B (filled B t) (transfer_at B (filled B t).pending_id))) refused
+pub resolve_missing : (B : Books) (t : Transfer) (own : ℕ) → own ≡ first_of (resolve_own_lines t) → own ≡ 0 → transfer_at B t.pending_id ≡ None → resolve_code B t ≡ 25
+resolve_missing B t own is passed none = let none_own : first_of (resolve_own_lines t) ≡ 0 = sym is ∙ passed in rw (none_own, none) refl
 
-pub resolve_missing : (B : Books) (t : Transfer) (own : ℕ) → resolves t ≡ true → own ≡ first_of (resolve_own_lines t) → own ≡ 0 → transfer_at B t.pending_id ≡ None → resolve_code B (filled B t) ≡ 25
-resolve_missing B t own resolving is passed none =
-    let none_own : first_of (resolve_own_lines t) ≡ 0 = sym is ∙ passed in
-    ap (resolve_code B) (filled_missing B t resolving none) ∙ rw (none_own, none) refl
-
-pub resolve_found : (B : Books) (t p : Transfer) (own : ℕ) → resolves t ≡ true → own ≡ first_of (resolve_own_lines t) → own ≡ 0 → transfer_at B t.pending_id ≡ Some p
-    → resolve_code B (filled B t) ≡ first_of (resolve_lines_of B (filled_from p t) (Some p))
-resolve_found B t p own resolving is passed found =
-    let none_own : first_of (resolve_own_lines t) ≡ 0 = sym is ∙ passed in
-    ap (resolve_code B) (filled_found B t p resolving found) ∙ rw (none_own, found) (only (first_of (resolve_lines_of B (filled_from p t) (Some p))))
+pub resolve_found : (B : Books) (t p : Transfer) (own : ℕ) → own ≡ first_of (resolve_own_lines t) → own ≡ 0 → transfer_at B t.pending_id ≡ Some p → resolve_code B t ≡ named_code B t (Some p)
+resolve_found B t p own is passed found = let none_own : first_of (resolve_own_lines t) ≡ 0 = sym is ∙ passed in rw (none_own, found) (only (named_code B t (Some p)))
 
 -- a transfer whose id is free has the verdict of its kind
-verdict_of : (B : Books) (t : Transfer) (time : ℕ) → id_verdict B t ≡ 0 → transfer_verdict B t time ≡ (if resolves t then resolve_code B (filled B t) else single_code B t time)
-verdict_of B t time free =
-    let codes = none_fails (first_of (transfer_own_lines t) ∷ first_of (transfer_exists (transfer_at B t.id) (filled B t)) ∷ first_of (failed_lines B.failed t) ∷ []) free in
-    passed (first_of (transfer_own_lines t)) (first_of (transfer_exists (transfer_at B t.id) (filled B t))) (first_of (failed_lines B.failed t)) (if resolves t then resolve_code B (filled B t) else single_code B t time) codes.0 codes.1.0 codes.1.1.0
-  where
-    passed : (a b c d : ℕ) → a ≡ 0 → b ≡ 0 → c ≡ 0 → first_code (a ∷ b ∷ c ∷ d ∷ []) ≡ d
-    passed a b c d a_is b_is c_is = rw (a_is, b_is, c_is) (only d)
+verdict_of : (B : Books) (t : Transfer) (time : ℕ) → id_code B t ≡ 0 → transfer_verdict B t time ≡ (if resolves t then resolve_code B t else single_code B t time)
+verdict_of B t time free = ap (λ n. first_code (n ∷ (if resolves t then resolve_code B t else single_code B t time) ∷ [])) free ∙ only (if resolves t then resolve_code B t else single_code B t time)
 
-pub single_verdict : (B : Books) (t : Transfer) (time : ℕ) → id_verdict B t ≡ 0 → resolves t ≡ false → transfer_verdict B t time ≡ single_code B t time
-single_verdict B t time free single = verdict_of B t time free ∙ ap (λ b. if b then resolve_code B (filled B t) else single_code B t time) single
+pub single_verdict : (B : Books) (t : Transfer) (time : ℕ) → id_code B t ≡ 0 → resolves t ≡ false → transfer_verdict B t time ≡ single_code B t time
+single_verdict B t time free single = verdict_of B t time free ∙ ap (λ b. if b then resolve_code B t else single_code B t time) single
 
-pub resolving_verdict : (B : Books) (t : Transfer) (time : ℕ) → id_verdict B t ≡ 0 → resolves t ≡ true → transfer_verdict B t time ≡ resolve_code B (filled B t)
-resolving_verdict B t time free resolving = verdict_of B t time free ∙ ap (λ b. if b then resolve_code B (filled B t) else single_code B t time) resolving
+pub resolving_verdict : (B : Books) (t : Transfer) (time : ℕ) → id_code B t ≡ 0 → resolves t ≡ true → transfer_verdict B t time ≡ resolve_code B t
+resolving_verdict B t time free resolving = verdict_of B t time free ∙ ap (λ b. if b then resolve_code B t else single_code B t time) resolving
 
 -- filling leaves the id and the pending id
 pub filled_id : (B : Books) (t : Transfer) → (filled B t).id ≡ t.id
@@ -255,12 +212,12 @@ filled_pending_id B t = by (resolves t) (transfer_at B t.pending_id)
     by true (Some p) = refl
     by false o = refl
 
--- what the record of an accepted transfer finds
-pub recorded_moves : (B : Books) (t : Transfer) (time amount : ℕ) → resolves t ≡ false → transfer_verdict B t time ≡ 0
-    → amount ≡ balanced_between (account_now B t.debit_account_id) (account_now B t.credit_account_id) t → Moves B (record t { amount = amount; timestamp = time })
-recorded_moves B t time amount single ok is = subst (λ n. Moves B (record t { amount = n; timestamp = time })) (sym is) (moves_of B t time single ok)
+-- what the record of an accepted transfer found
+pub recorded_pair : (B : Books) (t : Transfer) (time amount : ℕ) → resolves t ≡ false → transfer_verdict B t time ≡ 0
+    → amount ≡ balanced_between (account_now B t.debit_account_id) (account_now B t.credit_account_id) t → FoundPair B (record t { amount = amount; timestamp = time })
+recorded_pair B t time amount single ok is = subst (λ n. FoundPair B (record t { amount = n; timestamp = time })) (sym is) (found_pair B t time single ok)
 
-stamped : (B : Books) (f : Transfer) (time : ℕ) → Resolves B f → Resolves B (record f { timestamp = time })
+stamped : (B : Books) (f : Transfer) (time : ℕ) → FoundPending B f → FoundPending B (record f { timestamp = time })
 stamped B f time found = record {
   p = found.p;
   named = found.named;
@@ -273,8 +230,8 @@ stamped B f time found = record {
   at_most = found.at_most;
 }
 
-pub recorded_resolves : (B : Books) (t f : Transfer) (time : ℕ) → resolves t ≡ true → transfer_verdict B t time ≡ 0 → f ≡ filled B t → Resolves B (record f { timestamp = time })
-recorded_resolves B t f time resolving ok is = stamped B f time (subst (λ f. Resolves B f) (sym is) (resolves_of B t time resolving ok))
+pub recorded_pending : (B : Books) (t f : Transfer) (time : ℕ) → resolves t ≡ true → transfer_verdict B t time ≡ 0 → f ≡ filled B t → FoundPending B (record f { timestamp = time })
+recorded_pending B t f time resolving ok is = stamped B f time (subst (λ f. FoundPending B f) (sym is) (found_pending B t time resolving ok))
 
 -- a transfer between two accounts that is wrong by itself, and one that isn't
 pub own_refused : (B : Books) (t : Transfer) (time code : ℕ) → code ≡ first_of (single_own_lines t) → code ≢ 0 → single_code B t time ≡ code

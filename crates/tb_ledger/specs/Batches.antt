@@ -102,16 +102,16 @@ module _ {E : Type 0} (kind : Kind E) where
   undone [] = []
   undone (x ∷ xs) = undone_code x xs ∷ undone xs
 
-  abbrev pub outcome : Books → List (Timed E) → Option (Failure E) → Outcome
-  outcome B block None = record { books = all_recorded B block; codes = replicate (length block) 0 }
-  outcome B block (Some f) = record {
+  abbrev pub chain_outcome : Books → List (Timed E) → Option (Failure E) → Outcome
+  chain_outcome B block None = record { books = all_recorded B block; codes = replicate (length block) 0 }
+  chain_outcome B block (Some f) = record {
     books = kind.refused B f.event f.code;
     codes = replicate f.place 1 ++ f.code ∷ undone f.rest;
   }
 
   -- one chain: all of it, or what the failure leaves
   abbrev pub block_after : Books → List (Timed E) → Outcome
-  block_after B block = outcome B block (failure_from 0 B block)
+  block_after B block = chain_outcome B block (failure_from 0 B block)
 
   abbrev pub blocks_after : Books → List (List (Timed E)) → Outcome
   blocks_after B [] = record { books = B; codes = [] }

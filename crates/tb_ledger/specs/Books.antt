@@ -44,8 +44,9 @@ debits_limited a = has 2 a.flags
 abbrev pub credits_limited : Account → Bool
 credits_limited a = has 4 a.flags
 
-abbrev pub shut : Account → Bool
-shut a = has 32 a.flags
+-- an account as it stands has this flag exactly where it is closed
+abbrev pub closed : Account → Bool
+closed a = has 32 a.flags
 
 abbrev pub pending : Transfer → Bool
 pending t = has 2 t.flags
@@ -136,23 +137,41 @@ holds B t = pending t && is_open (state_of B t)
 abbrev pub moves : Transfer → Bool
 moves t = not (pending t) && not (voids t)
 
+-- the two sides of a transfer: the account that it debits, the account that it credits
+abbrev pub debit : Transfer → ℕ
+debit t = t.debit_account_id
+
+abbrev pub credit : Transfer → ℕ
+credit t = t.credit_account_id
+
+-- what a transfer gives to a sum of the account id on a side: its amount, where it counts
+abbrev pub share : (Transfer → ℕ) → ℕ → Transfer → Bool → ℕ
+share side id t counts = if (side t == id) && counts then t.amount else 0
+
+-- the two sums of the account id on a side: what pending transfers hold, and what was moved for good
+abbrev pub pending_on : (Transfer → ℕ) → Books → ℕ → ℕ
+pending_on side B id = sum_by (λ t. share side id t (holds B t)) B.transfers
+
+abbrev pub posted_on : (Transfer → ℕ) → Books → ℕ → ℕ
+posted_on side B id = sum_by (λ t. share side id t (moves t)) B.transfers
+
 -- the four sums of an account
 
 abbrev pub debits_pending : Books → ℕ → ℕ
-debits_pending B id = sum_by (λ t. if (t.debit_account_id == id) && holds B t then t.amount else 0) B.transfers
+debits_pending = pending_on debit
 
 abbrev pub debits_posted : Books → ℕ → ℕ
-debits_posted B id = sum_by (λ t. if (t.debit_account_id == id) && moves t then t.amount else 0) B.transfers
+debits_posted = posted_on debit
 
 abbrev pub credits_pending : Books → ℕ → ℕ
-credits_pending B id = sum_by (λ t. if (t.credit_account_id == id) && holds B t then t.amount else 0) B.transfers
+credits_pending = pending_on credit
 
 abbrev pub credits_posted : Books → ℕ → ℕ
-credits_posted B id = sum_by (λ t. if (t.credit_account_id == id) && moves t then t.amount else 0) B.transfers
+credits_posted = posted_on credit
 
 -- created closed, or held closed by a closing transfer
-abbrev pub is_closed : Books → Account → Bool
-is_closed B a = shut a
+abbrev pub stands_closed : Books → Account → Bool
+stands_closed B a = closed a
     || list_any (λ t. holds B t && closing_debit t && (t.debit_account_id == a.id)) B.transfers
     || list_any (λ t. holds B t && closing_credit t && (t.credit_account_id == a.id)) B.transfers
 
@@ -163,7 +182,7 @@ as_it_stands B a = record a {
   debits_posted = debits_posted B a.id;
   credits_pending = credits_pending B a.id;
   credits_posted = credits_posted B a.id;
-  flags = (if is_closed B a then bit_or a.flags 32 else a.flags);
+  flags = (if stands_closed B a then bit_or a.flags 32 else a.flags);
 }
 
 abbrev pub account_now : Books → ℕ → Option Account

@@ -10,10 +10,10 @@ use Rattle.tb_ledger.specs.declared.rows.AccountRow.{AccountRow}
 use Rattle.tb_ledger.specs.declared.rows.TransferRow.{TransferRow}
 use Rattle.tb_ledger.specs.declared.rows.Rows.{Rows}
 use Rattle.tb_ledger.specs.declared.timeouts.Timeout.{Timeout}
-use Rattle.tb_ledger.specs.Books.{Books, shut, pending, posts, moves, resolves, is_open, is_due, state_of, expires_at, closing_debit, closing_credit}
-use Rattle.tb_ledger.specs.Verdicts.{max_id, max_time}
+use Rattle.tb_ledger.specs.Books.{Books, closed, debit, credit, share, pending, posts, moves, resolves, is_open, is_due, state_of, expires_at, closing_debit, closing_credit}
+use Rattle.tb_ledger.specs.Verdicts.{int_max, max_time}
 use Rattle.tb_ledger.specs.Timeouts.{timeout_key, with_timeout, without_timeout}
-use Rattle.tb_ledger.specs.Sound.{Sound, debit, credit}
+use Rattle.tb_ledger.specs.Sound.{Sound}
 
 abbrev pub account_row_key : AccountRow → ℕ
 account_row_key a = a.created.id
@@ -40,7 +40,7 @@ books_at transfers time = books_of [] transfers [] false time
 -- an account as it stands
 
 abbrev pub row_closed : AccountRow → Bool
-row_closed a = shut a.created || a.debits.shut || a.credits.shut
+row_closed a = closed a.created || a.debits.shut || a.credits.shut
 
 abbrev pub row_now : AccountRow → Account
 row_now a = record (a.created) {
@@ -61,10 +61,10 @@ bit b = if b then 1 else 0
 
 -- what a transfer gives to a side of the account id
 abbrev pub pending_share : (Transfer → ℕ) → ℕ → TransferRow → ℕ
-pending_share side id t = if (side t.recorded == id) && row_holds t then t.recorded.amount else 0
+pending_share side id t = share side id t.recorded (row_holds t)
 
 abbrev pub posted_share : (Transfer → ℕ) → ℕ → TransferRow → ℕ
-posted_share side id t = if (side t.recorded == id) && moves t.recorded then t.recorded.amount else 0
+posted_share side id t = share side id t.recorded (moves t.recorded)
 
 abbrev pub closing_share : (Transfer → ℕ) → (Transfer → Bool) → ℕ → TransferRow → ℕ
 closing_share side closes id t = if (side t.recorded == id) && (row_holds t && closes t.recorded) then 1 else 0
@@ -74,7 +74,7 @@ pub record HasSide (side : Transfer → ℕ) (closes : Transfer → Bool) (trans
   pub pending : s.pending ≡ sum_by (pending_share side id) transfers
   pub posted : s.posted ≡ sum_by (posted_share side id) transfers
   pub shut : bit s.shut ≡ sum_by (closing_share side closes id) transfers
-  pub fit : s.pending + s.posted ≤ max_id
+  pub fit : s.pending + s.posted ≤ int_max
 
 -- the debit side by some rows, the credit side by others: between two changes of a pair
 pub record HasBoth (ds cs : List TransferRow) (a : AccountRow) : Type 0 where
@@ -157,9 +157,9 @@ gained closes t s = record {
 abbrev pub released : (Transfer → Bool) → Transfer → Side → Side
 released closes p s = record { pending = s.pending - p.amount; posted = s.posted; shut = s.shut && not (closes p) }
 
--- p is resolved by r
-abbrev pub resolved : (Transfer → Bool) → Transfer → Transfer → Side → Side
-resolved closes p r s = gained closes r (released closes p s)
+-- p leaves, and r, which resolves it, comes
+abbrev pub released_and_gained : (Transfer → Bool) → Transfer → Transfer → Side → Side
+released_and_gained closes p r s = gained closes r (released closes p s)
 
 abbrev pub settled : State → TransferRow → TransferRow
 settled s p = record p { state = s }
@@ -176,20 +176,20 @@ accounts_gained t accounts = changed account_row_key t.credit_account_id (on_cre
 abbrev pub accounts_released : Transfer → List AccountRow → List AccountRow
 accounts_released p accounts = changed account_row_key p.credit_account_id (on_credits (released closing_credit p)) (changed account_row_key p.debit_account_id (on_debits (released closing_debit p)) accounts)
 
-abbrev pub accounts_resolved : Transfer → Transfer → List AccountRow → List AccountRow
-accounts_resolved p r accounts = changed account_row_key r.credit_account_id (on_credits (resolved closing_credit p r)) (changed account_row_key r.debit_account_id (on_debits (resolved closing_debit p r)) accounts)
+abbrev pub accounts_released_and_gained : Transfer → Transfer → List AccountRow → List AccountRow
+accounts_released_and_gained p r accounts = changed account_row_key r.credit_account_id (on_credits (released_and_gained closing_credit p r)) (changed account_row_key r.debit_account_id (on_debits (released_and_gained closing_debit p r)) accounts)
 
 -- the row of a new transfer: where it is pending, it is open
 abbrev pub new_transfer_row : Transfer → TransferRow
 new_transfer_row t = record { recorded = t; state = Open }
 
 -- the state that a post or void gives to its pending transfer
-abbrev pub outcome_of : Transfer → State
-outcome_of r = if posts r then Posted else Voided
+abbrev pub state_given_by : Transfer → State
+state_given_by r = if posts r then Posted else Voided
 
 -- a side can take t: there is room, and where t closes it, nothing holds it closed
 abbrev pub Takes : (Transfer → Bool) → Transfer → Side → Type 0
-Takes closes t s = (s.pending + s.posted + t.amount ≤ max_id) × ((pending t && closes t) ≡ true → s.shut ≡ false)
+Takes closes t s = (s.pending + s.posted + t.amount ≤ int_max) × ((pending t && closes t) ≡ true → s.shut ≡ false)
 
 -- the row of a new account
 abbrev pub new_side : Side

@@ -1,14 +1,16 @@
+-- what the contracts of public functions cite
 pub mod Books
 pub mod Verdicts
 pub mod Batches
-pub mod Groups
 pub mod Sound
 pub mod Limits
 pub mod Cuttings
 pub mod Meanings
-pub mod WorkedRows
 pub mod Tables
-pub mod Timeouts
-pub mod Exchanges
+pub mod WorkedRows
+-- what only the contracts of private functions cite
 pub mod Kept
+pub mod Timeouts
+pub mod Found
+pub mod Exchanges
 pub mod Trail

@@ -9,11 +9,11 @@ use Rattle.avl_tree.specs.Map.{Map, entries}
 use Rattle.avl_tree.specs.Search.{least}
 
 -- of a map that is made once there is something to keep: its pairs, its rows, and the number of spare nodes
-abbrev pub entries_in : {K V : Type 0} → Option (Map K V) → List (K × V)
-entries_in m = option_map_or (λ m. entries m) m []
+abbrev pub pairs_in : {K V : Type 0} → Option (Map K V) → List (K × V)
+pairs_in m = option_map_or (λ m. entries m) m []
 
 abbrev pub rows_in : {K V : Type 0} → Option (Map K V) → List V
-rows_in m = values_of (entries_in m)
+rows_in m = values_of (pairs_in m)
 
 abbrev pub room_in : {K V : Type 0} → Option (Map K V) → ℕ
 room_in m = option_map_or (λ m. m.spare) m 0

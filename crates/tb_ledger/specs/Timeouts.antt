@@ -4,8 +4,8 @@ use Rattle.std.specs.Option.{is_some}
 use Rattle.tb_records.specs.Ordered.{put, taken_out, Each, Rising}
 use Rattle.avl_tree.specs.Map.{Map}
 use Rattle.tb_ledger.specs.declared.timeouts.Timeout.{Timeout}
-use Rattle.tb_ledger.specs.Verdicts.{max_id}
-use Rattle.tb_ledger.specs.Tables.{entries_in}
+use Rattle.tb_ledger.specs.Verdicts.{int_max}
+use Rattle.tb_ledger.specs.Tables.{pairs_in}
 
 -- timeouts stand by time, and by id where times are the same
 abbrev pub timeout_key : Timeout → ℕ
@@ -19,12 +19,12 @@ abbrev pub timeouts_of : {V : Type 0} → List ((ℕ × ℕ) × V) → List Time
 timeouts_of es = map timeout_at es
 
 abbrev pub timeouts_in : {V : Type 0} → Option (Map (ℕ × ℕ) V) → List Timeout
-timeouts_in m = timeouts_of (entries_in m)
+timeouts_in m = timeouts_of (pairs_in m)
 
 -- by rising key, and ids are ids
 pub record AreTimeouts (ds : List Timeout) : Type 0 where
   pub rising : Rising timeout_key ds
-  pub fit : Each (λ d. d.id ≤ max_id) ds
+  pub fit : Each (λ d. d.id ≤ int_max) ds
 
 -- the room that is free again where something was taken out
 abbrev pub freed : {X : Type 0} → Option X → ℕ

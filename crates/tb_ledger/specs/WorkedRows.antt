@@ -6,7 +6,7 @@ use Rattle.tb_records.specs.declared.records.Transfer.{Transfer}
 use Rattle.tb_records.specs.declared.limits.Profile.{Profile}
 use Rattle.tb_records.specs.declared.limits.Profile.TheVariants.{One, Two}
 use Rattle.tb_ledger.specs.Books.{Books, empty_books, account_now, transfer_at}
-use Rattle.tb_ledger.specs.Verdicts.{max_id}
+use Rattle.tb_ledger.specs.Verdicts.{int_max}
 use Rattle.tb_ledger.specs.Batches.{account_events, transfer_events, batch_after, results, Outcome}
 
 -- an account, and a transfer from a debit to a credit account, in ledger 700 with code 10
@@ -89,7 +89,7 @@ Balancing profile =
 -- posts and voids
 
 abbrev pub posted : List Transfer
-posted = transfer 20 1 2 40 2 ∷ resolving 21 20 max_id 4 ∷ transfer 22 1 2 40 2 ∷ resolving 23 22 15 4 ∷ transfer 24 1 2 40 2 ∷ resolving 25 24 0 4 ∷ []
+posted = transfer 20 1 2 40 2 ∷ resolving 21 20 int_max 4 ∷ transfer 22 1 2 40 2 ∷ resolving 23 22 15 4 ∷ transfer 24 1 2 40 2 ∷ resolving 25 24 0 4 ∷ []
 
 abbrev pub voided : List Transfer
 voided = transfer 30 1 2 40 2 ∷ resolving 31 30 0 8 ∷ resolving 32 30 0 8 ∷ transfer 33 1 2 40 2 ∷ resolving 34 33 39 8 ∷ resolving 34 33 41 8 ∷ resolving 36 31 0 4 ∷ []
@@ -134,7 +134,7 @@ abbrev pub broken : List Transfer
 broken = transfer 50 1 2 1 1 ∷ transfer 51 99 2 1 1 ∷ transfer 52 1 2 1 0 ∷ []
 
 abbrev pub held_and_posted : List (List Transfer)
-held_and_posted = (transfer 64 1 2 40 2 ∷ []) ∷ (resolving 65 64 max_id 5 ∷ transfer 66 99 2 1 0 ∷ []) ∷ []
+held_and_posted = (transfer 64 1 2 40 2 ∷ []) ∷ (resolving 65 64 int_max 5 ∷ transfer 66 99 2 1 0 ∷ []) ∷ []
 
 abbrev pub Chains : Profile → Type 0
 Chains profile =
@@ -146,12 +146,12 @@ Chains profile =
     × (answers (start profile) held_and_posted ≡ [] ∷ ((0, 1) ∷ (1, 21) ∷ []) ∷ [])
     × (sums (books_after (start profile) held_and_posted) 1 ≡ Some (40 ∷ 0 ∷ 0 ∷ 0 ∷ 0 ∷ []))
     × (transfer_at (books_after (start profile) held_and_posted) 65 ≡ None)
-    × (sums (request (books_after (start profile) held_and_posted) (resolving 65 64 max_id 4 ∷ [])).books 1 ≡ Some (0 ∷ 40 ∷ 0 ∷ 0 ∷ 0 ∷ []))
+    × (sums (request (books_after (start profile) held_and_posted) (resolving 65 64 int_max 4 ∷ [])).books 1 ≡ Some (0 ∷ 40 ∷ 0 ∷ 0 ∷ 0 ∷ []))
 
 -- refused accounts, and the limits of accounts
 
 abbrev pub nine_accounts : List Account
-nine_accounts = account 0 0 ∷ account max_id 0 ∷ account 3 6 ∷ record (account 3 0) { ledger = 0 } ∷ record (account 3 0) { code = 0 } ∷ account 3 16 ∷ account 1 0 ∷ record (account 1 0) { ledger = 701 } ∷ account 3 0 ∷ []
+nine_accounts = account 0 0 ∷ account int_max 0 ∷ account 3 6 ∷ record (account 3 0) { ledger = 0 } ∷ record (account 3 0) { code = 0 } ∷ account 3 16 ∷ account 1 0 ∷ record (account 1 0) { ledger = 701 } ∷ account 3 0 ∷ []
 
 abbrev pub limited_accounts : Profile → Books
 limited_accounts profile = (batch_after account_events (start profile) (account 3 2 ∷ account 4 4 ∷ []) 14).books
@@ -163,7 +163,7 @@ Accounts profile =
 
 -- sums that don't fit
 abbrev pub Overflow : Profile → Type 0
-Overflow profile = codes (start profile) (transfer 1 1 2 max_id 0 ∷ transfer 2 1 2 1 0 ∷ []) ≡ 0 ∷ 49 ∷ []
+Overflow profile = codes (start profile) (transfer 1 1 2 int_max 0 ∷ transfer 2 1 2 1 0 ∷ []) ≡ 0 ∷ 49 ∷ []
 
 -- failed ids
 abbrev pub FailedIds : Type 0
@@ -176,8 +176,8 @@ FailedIds =
     ≡ ((0, 21) ∷ (1, 68) ∷ []) ∷ ((0, 1) ∷ (1, 36) ∷ []) ∷ [] ∷ ((0, 25) ∷ []) ∷ ((0, 68) ∷ []) ∷ [])
 
 -- a pending transfer of the time 100 and a timeout of one second: due at 1000000100
-abbrev pub dated : Profile → Books
-dated profile = (batch_after transfer_events (start profile) (with_timeout 1 (transfer 60 1 2 40 2) ∷ []) 100).books
+abbrev pub held_for_a_second : Profile → Books
+held_for_a_second profile = (batch_after transfer_events (start profile) (with_timeout 1 (transfer 60 1 2 40 2) ∷ []) 100).books
 
 -- one that closes account 1 for a second
 abbrev pub closed_for_a_second : Profile → Books
@@ -185,10 +185,10 @@ closed_for_a_second profile = (batch_after transfer_events (start profile) (with
 
 abbrev pub Expiry : Profile → Type 0
 Expiry profile =
-    (option_map (λ t. t.timestamp) (transfer_at (dated profile) 60) ≡ Some 100)
-    × (sums (record (dated profile) { time = 1000000099 }) 1 ≡ Some (40 ∷ 0 ∷ 0 ∷ 0 ∷ 0 ∷ []))
-    × (sums (record (dated profile) { time = 1000000100 }) 1 ≡ Some (0 ∷ 0 ∷ 0 ∷ 0 ∷ 0 ∷ []))
-    × ((batch_after transfer_events (record (dated profile) { time = 1000000100 }) (resolving 61 60 max_id 4 ∷ []) 1000000101).codes ≡ 35 ∷ [])
+    (option_map (λ t. t.timestamp) (transfer_at (held_for_a_second profile) 60) ≡ Some 100)
+    × (sums (record (held_for_a_second profile) { time = 1000000099 }) 1 ≡ Some (40 ∷ 0 ∷ 0 ∷ 0 ∷ 0 ∷ []))
+    × (sums (record (held_for_a_second profile) { time = 1000000100 }) 1 ≡ Some (0 ∷ 0 ∷ 0 ∷ 0 ∷ 0 ∷ []))
+    × ((batch_after transfer_events (record (held_for_a_second profile) { time = 1000000100 }) (resolving 61 60 int_max 4 ∷ []) 1000000101).codes ≡ 35 ∷ [])
     × ((batch_after transfer_events (closed_for_a_second profile) (transfer 63 1 2 1 0 ∷ []) 1000000099).codes ≡ 65 ∷ [])
     × ((batch_after transfer_events (closed_for_a_second profile) (transfer 63 1 2 1 0 ∷ []) 1000000100).codes ≡ 0 ∷ [])
     × ((batch_after transfer_events (batch_after transfer_events (closed_for_a_second profile) (transfer 63 1 2 1 0 ∷ []) 1000000099).books (transfer 63 1 2 1 0 ∷ []) 1000000100).codes ≡ again profile ∷ [])

@@ -1,12 +1,12 @@
 //! Verdicts on the rows of a ledger. What is wrong with an event by itself, or with an id that is there, is answered before any
 //! account is looked up.
-ghost use Rattle.std.specs.Prelude.{◌≡◌, ◌≢◌, ◌==◌, true, false, Some, find, IsSome, IfOk, IfErr, MatchResult};
+ghost use Rattle.std.specs.Prelude.{◌≡◌, ◌==◌, true, false, Some, find, IsSome, IfOk};
 ghost use Rattle.std.specs.List.{list_any};
 ghost use Rattle.std.specs.Option.{option_map_or};
 ghost use Rattle.tb_ledger.specs.Books.{account_now, resolves};
-ghost use Rattle.tb_ledger.specs.Groups.{closed_rows, id_verdict};
-ghost use Rattle.tb_ledger.specs.Kept.{books_in, IsKept};
-ghost use Rattle.tb_ledger.specs.Verdicts.{account_verdict, balanced_between, failed_lines, filled, filled_from, first_of, resolve_code, resolve_lines_of, single_code, transfer_exists};
+ghost use Rattle.tb_ledger.specs.Found.{Judges};
+ghost use Rattle.tb_ledger.specs.Kept.{books_in, row_closed, IsKept};
+ghost use Rattle.tb_ledger.specs.Verdicts.{account_verdict, closed_lines, failed_lines, filled, filled_from, first_of, id_code, named_code, resolve_code, transfer_exists_lines};
 
 use crate::judging::{
     account_new, account_own, account_there, closed, filled, resolve_named, resolve_own,
@@ -54,7 +54,7 @@ fn failed_before<A: Allocator + Clone>(rows: &Rows<A>, t: &Transfer) -> bool
 
 /// How a transfer, filled, differs from the recorded one that has its id.
 fn repeated<A: Allocator + Clone>(rows: &Rows<A>, t: &Transfer, e: &Transfer) -> u32
-    ensures { result ≡ first_of (transfer_exists (Some e.now) (filled (books_in rows.now) t.now)) }
+    ensures { result ≡ first_of (transfer_exists_lines (Some e.now) (filled (books_in rows.now) t.now)) }
 {
     if resolving(t) {
         match rows.transfers.get(t.pending_id) {
@@ -68,7 +68,7 @@ fn repeated<A: Allocator + Clone>(rows: &Rows<A>, t: &Transfer, e: &Transfer) ->
 
 /// What is wrong with a transfer of either kind, or with its id: a code, or 0.
 pub(crate) fn id_code<A: Allocator + Clone>(rows: &Rows<A>, t: &Transfer) -> u32
-    ensures { result ≡ id_verdict (books_in rows.now) t.now }
+    ensures { result ≡ id_code (books_in rows.now) t.now }
 {
     let code = transfer_own(t);
     if code != 0 {
@@ -102,10 +102,10 @@ fn party<'a, A: Allocator + Clone>(rows: &'a Rows<A>, id: u128) -> &'a AccountRo
 }
 
 /// A post needs both accounts open: a code, or 0.
-fn closed_code(f: &Transfer, debit: &AccountRow, credit: &AccountRow) -> u32
-    ensures { result ≡ first_of (closed_rows f.now debit.now credit.now) }
+fn closed_code(t: &Transfer, debit: &AccountRow, credit: &AccountRow) -> u32
+    ensures { result ≡ first_of (closed_lines t.now (row_closed debit.now) (row_closed credit.now)) }
 {
-    if f.flags & 4 == 0 {
+    if t.flags & 4 == 0 {
         return 0;
     }
     if closed(debit) {
@@ -118,14 +118,13 @@ fn closed_code(f: &Transfer, debit: &AccountRow, credit: &AccountRow) -> u32
 }
 
 /// The verdict on a post or void, once its id is free: a code, or what it resolves.
-pub(crate) fn resolved<'a, A: Allocator + Clone>(
+pub(crate) fn judge_resolving<'a, A: Allocator + Clone>(
     rows: &'a Rows<A>,
     t: &Transfer,
 ) -> Result<Resolution<'a>, u32>
     requires kept { IsKept rows.now }
     requires resolving { resolves t.now ≡ true }
-    ensures code { MatchResult result (λ x. resolve_code (books_in rows.now) (filled (books_in rows.now) t.now) ≡ 0) (λ code. resolve_code (books_in rows.now) (filled (books_in rows.now) t.now) ≡ code) }
-    ensures refused { IfErr result (λ code. code ≢ 0) }
+    ensures judged { Judges result (resolve_code (books_in rows.now) t.now) }
     ensures pending { IfOk result (λ x. find (λ row. row.recorded.id == t.now.pending_id) rows.now.transfers.0 ≡ Some x.pending.now) }
     ensures debit { IfOk result (λ x. find (λ a. a.created.id == x.pending.now.recorded.debit_account_id) rows.now.accounts.0 ≡ Some x.debit.now) }
     ensures credit { IfOk result (λ x. find (λ a. a.created.id == x.pending.now.recorded.credit_account_id) rows.now.accounts.0 ≡ Some x.credit.now) }
@@ -136,35 +135,33 @@ pub(crate) fn resolved<'a, A: Allocator + Clone>(
         return Err(code);
     }
     match rows.transfers.get(t.pending_id) {
-        Some(p) => resolved_by(rows, t, p),
+        Some(p) => judge_named(rows, t, p),
         None => Err(25),
     }
 }
 
 /// The verdict on a post or void that is right by itself, by the pending transfer that it names. No account is looked up
 /// before the two fit, and then each once.
-fn resolved_by<'a, A: Allocator + Clone>(
+fn judge_named<'a, A: Allocator + Clone>(
     rows: &'a Rows<A>,
     t: &Transfer,
     p: &'a TransferRow,
 ) -> Result<Resolution<'a>, u32>
     requires kept { IsKept rows.now }
     requires found { find (λ row. row.recorded.id == t.now.pending_id) rows.now.transfers.0 ≡ Some p.now }
-    ensures code { MatchResult result (λ x. first_of (resolve_lines_of (books_in rows.now) (filled_from p.now.recorded t.now) (Some p.now.recorded)) ≡ 0) (λ code. first_of (resolve_lines_of (books_in rows.now) (filled_from p.now.recorded t.now) (Some p.now.recorded)) ≡ code) }
-    ensures refused { IfErr result (λ code. code ≢ 0) }
+    ensures judged { Judges result (named_code (books_in rows.now) t.now (Some p.now.recorded)) }
     ensures pending { IfOk result (λ x. x.pending.now ≡ p.now) }
     ensures debit { IfOk result (λ x. find (λ a. a.created.id == x.pending.now.recorded.debit_account_id) rows.now.accounts.0 ≡ Some x.debit.now) }
     ensures credit { IfOk result (λ x. find (λ a. a.created.id == x.pending.now.recorded.credit_account_id) rows.now.accounts.0 ≡ Some x.credit.now) }
     ensures record { IfOk result (λ x. x.record ≡ filled_from p.now.recorded t.now) }
 {
-    let record = filled(t, &p.recorded);
-    let code = resolve_named(&record, &p.recorded, p.state);
+    let code = resolve_named(t, &p.recorded, p.state);
     if code != 0 {
         return Err(code);
     }
     let debit = party(rows, p.recorded.debit_account_id);
     let credit = party(rows, p.recorded.credit_account_id);
-    let code = closed_code(&record, debit, credit);
+    let code = closed_code(t, debit, credit);
     if code != 0 {
         return Err(code);
     }
@@ -172,6 +169,6 @@ fn resolved_by<'a, A: Allocator + Clone>(
         pending: p,
         debit,
         credit,
-        record,
+        record: filled(t, &p.recorded),
     })
 }

@@ -1,9 +1,9 @@
 //! The verdicts on accounts and transfers, group by group: each group of lines is answered before the next looks anything up.
-ghost use Rattle.std.specs.Prelude.{◌≡◌, ◌≢◌, ◌+◌, ◌*◌, nat_lt, if◌then◌else◌, Some, IfErr, IfOk, MatchResult};
+ghost use Rattle.std.specs.Prelude.{◌≡◌, ◌+◌, ◌*◌, nat_lt, if◌then◌else◌, Some, IfOk};
 ghost use Rattle.tb_ledger.specs.Books.{balancing};
-ghost use Rattle.tb_ledger.specs.Groups.{pending_lines};
+ghost use Rattle.tb_ledger.specs.Found.{Judges};
 ghost use Rattle.tb_ledger.specs.Kept.{row_now, row_closed};
-ghost use Rattle.tb_ledger.specs.Verdicts.{first_of, is_not, given_or, filled_amount, max_id, max_time, account_exists, account_own_lines, account_new_lines, filled_from, transfer_exists, resolve_own_lines, balanced_amount, amount_lines, pair_code, pair_lines, single_own_lines, transfer_own_lines};
+ghost use Rattle.tb_ledger.specs.Verdicts.{first_of, is_not, given_or, filled_amount, int_max, max_time, account_exists_lines, account_own_lines, account_new_lines, filled_from, transfer_exists_lines, resolve_own_lines, differs, named_lines, balanced_amount, amount_lines, pair_code, pair_lines, single_own_lines, transfer_own_lines};
 
 use crate::rows::{AccountRow, State};
 use tb_records::{Account, Transfer};
@@ -22,14 +22,14 @@ fn first_line(lines: &[(u32, bool)]) -> u32
 
 /// The sum is above the largest number.
 fn above(x: u128, y: u128) -> bool
-    ensures { result ≡ nat_lt max_id (x + y) }
+    ensures { result ≡ nat_lt int_max (x + y) }
 {
     x.checked_add(y).is_none()
 }
 
 /// The sum of three is above the largest number.
 fn sum_above(x: u128, y: u128, z: u128) -> bool
-    ensures { result ≡ nat_lt max_id (x + y + z) }
+    ensures { result ≡ nat_lt int_max (x + y + z) }
 {
     match x.checked_add(y) {
         Some(sum) => above(sum, z),
@@ -65,7 +65,7 @@ pub(crate) fn account_own(a: &Account) -> u32
 
 /// How an account differs from the one that has its id.
 pub(crate) fn account_there(a: &Account, e: &AccountRow) -> u32
-    ensures { result ≡ first_of (account_exists (Some (row_now e.now)) a.now) }
+    ensures { result ≡ first_of (account_exists_lines (Some (row_now e.now)) a.now) }
 {
     let there = &e.created;
     first_line(&[
@@ -133,7 +133,7 @@ pub(crate) fn transfer_own(t: &Transfer) -> u32
 
 /// How a transfer, filled, differs from the recorded one that has its id.
 pub(crate) fn transfer_there(f: &Transfer, e: &Transfer) -> u32
-    ensures { result ≡ first_of (transfer_exists (Some e.now) f.now) }
+    ensures { result ≡ first_of (transfer_exists_lines (Some e.now) f.now) }
 {
     first_line(&[
         (36, f.flags != e.flags),
@@ -163,37 +163,60 @@ fn other_amount(f: &Transfer, e: &Transfer) -> bool
 }
 
 /// What is wrong by itself with a post or void, or 0.
-pub(crate) fn resolve_own(f: &Transfer) -> u32
-    ensures { result ≡ first_of (resolve_own_lines f.now) }
+pub(crate) fn resolve_own(t: &Transfer) -> u32
+    ensures { result ≡ first_of (resolve_own_lines t.now) }
 {
     first_line(&[
-        (7, f.flags & 4 != 0 && f.flags & 8 != 0),
-        (7, f.flags & 2 != 0),
-        (7, f.flags & 16 != 0 || f.flags & 32 != 0),
-        (7, f.flags & 64 != 0 || f.flags & 128 != 0),
-        (14, f.pending_id == 0),
-        (15, f.pending_id == u128::MAX),
-        (16, f.pending_id == f.id),
-        (17, f.timeout != 0),
+        (7, t.flags & 4 != 0 && t.flags & 8 != 0),
+        (7, t.flags & 2 != 0),
+        (7, t.flags & 16 != 0 || t.flags & 32 != 0),
+        (7, t.flags & 64 != 0 || t.flags & 128 != 0),
+        (14, t.pending_id == 0),
+        (15, t.pending_id == u128::MAX),
+        (16, t.pending_id == t.id),
+        (17, t.timeout != 0),
     ])
 }
 
-/// Whether a post or void fits the pending transfer that it names: a code, or 0.
-pub(crate) fn resolve_named(f: &Transfer, p: &Transfer, state: State) -> u32
-    ensures { result ≡ first_of (pending_lines f.now p.now state) }
+/// It is given, and it isn't the other's.
+fn differs(x: u128, other: u128) -> bool
+    ensures { result ≡ differs x other }
 {
-    first_line(&[
-        (26, p.flags & 2 == 0),
-        (27, f.debit_account_id != p.debit_account_id),
-        (28, f.credit_account_id != p.credit_account_id),
-        (29, f.ledger != p.ledger),
-        (30, f.code != p.code),
-        (31, p.amount < f.amount),
-        (32, f.flags & 8 != 0 && f.amount < p.amount),
-        (33, state == State::Posted),
-        (34, state == State::Voided),
-        (35, state == State::Expired),
-    ])
+    x != 0 && x != other
+}
+
+/// Whether a post or void fits the pending transfer that it names: a code, or 0.
+pub(crate) fn resolve_named(t: &Transfer, p: &Transfer, state: State) -> u32
+    ensures { result ≡ first_of (named_lines t.now p.now state) }
+{
+    if p.flags & 2 == 0 {
+        return 26;
+    }
+    if differs(t.debit_account_id, p.debit_account_id) {
+        return 27;
+    }
+    if differs(t.credit_account_id, p.credit_account_id) {
+        return 28;
+    }
+    if t.ledger != 0 && t.ledger != p.ledger {
+        return 29;
+    }
+    if t.code != 0 && t.code != p.code {
+        return 30;
+    }
+    let amount = filled_with(t, p);
+    if p.amount < amount {
+        return 31;
+    }
+    if t.flags & 8 != 0 && amount < p.amount {
+        return 32;
+    }
+    match state {
+        State::Open => 0,
+        State::Posted => 33,
+        State::Voided => 34,
+        State::Expired => 35,
+    }
 }
 
 /// What is wrong by itself with a transfer that is no post or void, or 0.
@@ -294,8 +317,7 @@ fn amounts(d: &AccountRow, c: &AccountRow, t: &Transfer, amount: u128, time: u64
 
 /// A transfer between two accounts that are there: a code, or the amount that it moves.
 pub(crate) fn between(d: &AccountRow, c: &AccountRow, t: &Transfer, time: u64) -> Result<u128, u32>
-    ensures code { MatchResult result (λ amount. pair_code (Some (row_now d.now)) (Some (row_now c.now)) t.now time ≡ 0) (λ code. pair_code (Some (row_now d.now)) (Some (row_now c.now)) t.now time ≡ code) }
-    ensures refused { IfErr result (λ code. code ≢ 0) }
+    ensures judged { Judges result (pair_code (Some (row_now d.now)) (Some (row_now c.now)) t.now time) }
     ensures amount { IfOk result (λ amount. amount ≡ balanced_amount (row_now d.now) (row_now c.now) t.now) }
 {
     let code = pair(d, c, t);

@@ -4,11 +4,11 @@ ghost use Rattle.std.specs.List.{list_any};
 ghost use Rattle.std.specs.Option.{option_map_or};
 ghost use Rattle.tb_ledger.specs.Batches.{account_events, is_final, transfer_events};
 ghost use Rattle.tb_ledger.specs.Books.{resolves};
-ghost use Rattle.tb_ledger.specs.Groups.{id_verdict};
 ghost use Rattle.tb_ledger.specs.Kept.{books_in, IsKept};
 ghost use Rattle.tb_ledger.specs.Trail.{IsStep};
+ghost use Rattle.tb_ledger.specs.Verdicts.{id_code};
 
-use crate::deciding::{Resolution, account_code, id_code, resolved, resolving};
+use crate::deciding::{Resolution, account_code, id_code, judge_resolving, resolving};
 use crate::exchanging::exchange;
 use crate::judging::single_own;
 use crate::rows::Rows;
@@ -55,7 +55,7 @@ fn take_single<A: Allocator + Clone>(
     requires timeouts_room { 0 < rows.old.timeouts.1 }
     requires trail_room { vec_len trail.old + TRAIL_PER_EVENT ≤ vec_capacity trail.old }
     requires stamped { rows.old.time < time + 1000000000 }
-    requires free { id_verdict (books_in rows.old) t.now ≡ 0 }
+    requires free { id_code (books_in rows.old) t.now ≡ 0 }
     requires single { resolves t.now ≡ false }
     ensures code { result ≡ transfer_events.verdict (books_in rows.old) t.now time }
     ensures done { result ≡ 0 → books_in rows.new ≡ transfer_events.recorded (books_in rows.old) t.now time }
@@ -94,7 +94,7 @@ fn take_resolving<A: Allocator + Clone>(
     requires kept { IsKept rows.old }
     requires room { 0 < rows.old.transfers.1 }
     requires trail_room { vec_len trail.old + TRAIL_PER_EVENT ≤ vec_capacity trail.old }
-    requires free { id_verdict (books_in rows.old) t.now ≡ 0 }
+    requires free { id_code (books_in rows.old) t.now ≡ 0 }
     requires resolving { resolves t.now ≡ true }
     ensures code { result ≡ transfer_events.verdict (books_in rows.old) t.now time }
     ensures done { result ≡ 0 → books_in rows.new ≡ transfer_events.recorded (books_in rows.old) t.now time }
@@ -103,7 +103,7 @@ fn take_resolving<A: Allocator + Clone>(
     ensures room { rows.old.transfers.1 ≤ rows.new.transfers.1 + 1 }
     ensures timeouts_room { rows.old.timeouts.1 ≤ rows.new.timeouts.1 + 1 }
 {
-    match resolved(rows, t) {
+    match judge_resolving(rows, t) {
         Ok(found) => {
             let Resolution {
                 pending,

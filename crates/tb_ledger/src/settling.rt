@@ -2,11 +2,12 @@
 ghost use Rattle.std.specs.Prelude.{◌≡◌, ◌+◌, ◌-◌, ◌<◌, ◌≤◌, ◌==◌, true, false, find, if◌then◌else◌, Some, None, vec_len, vec_capacity};
 ghost use Rattle.tb_records.specs.Ordered.{put, replaced, changed, Each, Rising};
 ghost use Rattle.tb_ledger.specs.Books.{pending, moves, resolves, closing_debit, closing_credit, account_at, transfer_at};
-ghost use Rattle.tb_ledger.specs.Verdicts.{max_id};
-ghost use Rattle.tb_ledger.specs.Kept.{books_in, IsKept, account_row_key, transfer_row_key, dated, listed, unlisted, CanList, IsListed, on_debits, on_credits, gained, released, resolved, settled, outcome_of, new_row, new_transfer_row};
-ghost use Rattle.tb_ledger.specs.Sound.{Sound, Moves, Resolves, account_key, transfer_key};
+ghost use Rattle.tb_ledger.specs.Verdicts.{int_max};
+ghost use Rattle.tb_ledger.specs.Kept.{books_in, IsKept, account_row_key, transfer_row_key, dated, listed, unlisted, CanList, IsListed, on_debits, on_credits, gained, released, released_and_gained, settled, state_given_by, new_row, new_transfer_row};
+ghost use Rattle.tb_ledger.specs.Sound.{Sound, account_key, transfer_key};
 ghost use Rattle.tb_ledger.specs.Timeouts.{AreTimeouts};
 ghost use Rattle.tb_ledger.specs.Trail.{IsStep, IsNoted, IsMarked};
+ghost use Rattle.tb_ledger.specs.Found.{FoundPending};
 
 use crate::listing::{list, unlist};
 use crate::rows::{AccountRow, Rows, Side, State, TransferRow};
@@ -35,7 +36,7 @@ fn posted_part(t: &Transfer) -> u128
 }
 
 pub(crate) fn gain_side(s: Side, t: &Transfer, closes: bool) -> Side
-    requires { s.pending + s.posted + t.now.amount ≤ max_id }
+    requires { s.pending + s.posted + t.now.amount ≤ int_max }
     ensures { result ≡ gained (λ _. closes) t.now s }
 {
     let held = pending_part(t);
@@ -62,7 +63,7 @@ pub(crate) fn release_side(s: Side, p: &Transfer, closes: bool) -> Side
 // The pending amount leaves before what is posted of it comes.
 fn settle_side(s: Side, p: &Transfer, r: &Transfer, closes: bool, closes_anew: bool) -> Side
     requires enough { p.now.amount ≤ s.pending }
-    requires fit { s.pending + s.posted ≤ max_id }
+    requires fit { s.pending + s.posted ≤ int_max }
     requires at_most { r.now.amount ≤ p.now.amount }
     ensures { result ≡ gained (λ _. closes_anew) r.now (released (λ _. closes) p.now s) }
 {
@@ -95,9 +96,9 @@ fn settle_debit<A: Allocator + Clone>(
     requires room { vec_len trail.old < vec_capacity trail.old }
     requires found { find (λ a. a.created.id == r.now.debit_account_id) accounts.old.0 ≡ Some old.now }
     requires enough { p.now.amount ≤ old.now.debits.pending }
-    requires fit { old.now.debits.pending + old.now.debits.posted ≤ max_id }
+    requires fit { old.now.debits.pending + old.now.debits.posted ≤ int_max }
     requires at_most { r.now.amount ≤ p.now.amount }
-    ensures accounts { accounts.new ≡ (changed account_row_key r.now.debit_account_id (on_debits (resolved closing_debit p.now r.now)) accounts.old.0, accounts.old.1) }
+    ensures accounts { accounts.new ≡ (changed account_row_key r.now.debit_account_id (on_debits (released_and_gained closing_debit p.now r.now)) accounts.old.0, accounts.old.1) }
     ensures noted { IsNoted 1 accounts.old.0 accounts.new.0 trail.old trail.new }
 {
     let new = AccountRow {
@@ -118,9 +119,9 @@ fn settle_credit<A: Allocator + Clone>(
     requires room { vec_len trail.old < vec_capacity trail.old }
     requires found { find (λ a. a.created.id == r.now.credit_account_id) accounts.old.0 ≡ Some old.now }
     requires enough { p.now.amount ≤ old.now.credits.pending }
-    requires fit { old.now.credits.pending + old.now.credits.posted ≤ max_id }
+    requires fit { old.now.credits.pending + old.now.credits.posted ≤ int_max }
     requires at_most { r.now.amount ≤ p.now.amount }
-    ensures accounts { accounts.new ≡ (changed account_row_key r.now.credit_account_id (on_credits (resolved closing_credit p.now r.now)) accounts.old.0, accounts.old.1) }
+    ensures accounts { accounts.new ≡ (changed account_row_key r.now.credit_account_id (on_credits (released_and_gained closing_credit p.now r.now)) accounts.old.0, accounts.old.1) }
     ensures noted { IsNoted 1 accounts.old.0 accounts.new.0 trail.old trail.new }
 {
     let new = AccountRow {
@@ -134,7 +135,7 @@ fn settle_credit<A: Allocator + Clone>(
 // The row of a transfer that is new: a pending one is open.
 pub(crate) fn row_of(recorded: Transfer) -> TransferRow
     ensures row { result ≡ new_transfer_row recorded }
-    ensures fits { recorded.id ≤ max_id }
+    ensures fits { recorded.id ≤ int_max }
 {
     TransferRow {
         recorded,
@@ -213,8 +214,8 @@ fn close_row<A: Allocator + Clone>(
     unlist(timeouts, p);
 }
 
-fn outcome(r: &Transfer) -> State
-    ensures { result ≡ outcome_of r.now }
+fn state_given(r: &Transfer) -> State
+    ensures { result ≡ state_given_by r.now }
 {
     if r.flags & 4 != 0 {
         State::Posted
@@ -260,7 +261,7 @@ pub fn settle<A: Allocator + Clone>(
     requires fresh { transfer_at (books_in rows.old) r.now.id ≡ None }
     requires found { find (λ row. row.recorded.id == r.now.pending_id) rows.old.transfers.0 ≡ Some p.now }
     requires is_resolver { resolves r.now ≡ true }
-    requires resolves { Resolves (books_in rows.old) r.now }
+    requires resolves { FoundPending (books_in rows.old) r.now }
     requires debit { find (λ a. a.created.id == p.now.recorded.debit_account_id) rows.old.accounts.0 ≡ Some debit.now }
     requires credit { find (λ a. a.created.id == p.now.recorded.credit_account_id) rows.old.accounts.0 ≡ Some credit.now }
     ensures kept { IsKept rows.new }
@@ -272,7 +273,7 @@ pub fn settle<A: Allocator + Clone>(
 {
     settle_debit(&mut rows.accounts, trail, debit, &p.recorded, r);
     settle_credit(&mut rows.accounts, trail, credit, &p.recorded, r);
-    let state = outcome(r);
+    let state = state_given(r);
     close_row(&mut rows.transfers, &mut rows.timeouts, trail, p, state);
     let row = row_of(*r);
     add_row(&mut rows.transfers, &mut rows.timeouts, trail, &row);

@@ -34,13 +34,13 @@ pub struct Table<V: Keyed, A: Allocator + Clone> {
 
 impl<V: Keyed, A: Allocator + Clone> Model for Table<V, A> {
     ghost use Rattle.std.specs.Prelude.{ℕ, List};
-    ghost use Rattle.tb_ledger.specs.Tables.{entries_in, rows_in, room_in, IsTable};
+    ghost use Rattle.tb_ledger.specs.Tables.{pairs_in, rows_in, room_in, IsTable};
 
     ghost Value = { List V × ℕ };
 
     ghost view = { λ t. (rows_in t.rows, room_in t.rows) };
 
-    ghost invariant = { λ t. IsTable V.key (entries_in t.rows) };
+    ghost invariant = { λ t. IsTable V.key (pairs_in t.rows) };
 }
 
 // The row with the key.

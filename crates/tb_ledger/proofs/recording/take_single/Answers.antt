@@ -10,7 +10,7 @@ use Rattle.tb_ledger.proofs.Accepted.{new_transfer, accounts_apart}
 use Rattle.tb_ledger.proofs.Index.{not_listed_yet, index_added}
 use Rattle.tb_ledger.proofs.Passing.{noted_passed}
 use Rattle.tb_ledger.proofs.Settled.{no_row, books_with_single, ledger_with_single}
-use Rattle.tb_ledger.proofs.VerdictLaws.{account_stands, single_verdict, two_accounts, balanced_found, recorded_moves, own_refused, pair_left, recorded_single}
+use Rattle.tb_ledger.proofs.VerdictLaws.{account_stands, single_verdict, two_accounts, balanced_found, recorded_pair, own_refused, pair_left, recorded_single}
 use Rattle.tb_ledger.proofs.recording.take_single.Goals as goal
 
 pub returns-then-code-ne0-clause-code : goal.returns-then-code-ne0-clause-code
@@ -34,7 +34,7 @@ add_row-requires-clause-fresh g c =
     let credit = account_stands rows c.requires.kept t.credit_account_id ∙ ap (option_map row_now) ex.1 in
     let verdict : transfer_verdict B t c.args.time ≡ 0 = single_verdict B t c.args.time c.requires.free c.requires.single ∙ two_accounts B t c.args.time (row_now x.debit) (row_now x.credit) own debit credit ∙ ex.2 in
     let amount : x.amount ≡ balanced_between (account_now B t.debit_account_id) (account_now B t.credit_account_id) t = ex.3 ∙ balanced_found B t (row_now x.debit) (row_now x.credit) debit credit in
-    let moves = recorded_moves B t c.args.time x.amount c.requires.single verdict amount in
+    let moves = recorded_pair B t c.args.time x.amount c.requires.single verdict amount in
     let recorded = moved t x.amount c.args.time in
     let new = new_transfer B t c.args.time verdict in
     let fresh = no_row transfer_key (λ t. t.recorded) t.id rows.transfers.0 new in
@@ -52,7 +52,7 @@ add_row-requires-clause-can_list g c =
     let credit = account_stands rows c.requires.kept t.credit_account_id ∙ ap (option_map row_now) ex.1 in
     let verdict : transfer_verdict B t c.args.time ≡ 0 = single_verdict B t c.args.time c.requires.free c.requires.single ∙ two_accounts B t c.args.time (row_now x.debit) (row_now x.credit) own debit credit ∙ ex.2 in
     let amount : x.amount ≡ balanced_between (account_now B t.debit_account_id) (account_now B t.credit_account_id) t = ex.3 ∙ balanced_found B t (row_now x.debit) (row_now x.credit) debit credit in
-    let moves = recorded_moves B t c.args.time x.amount c.requires.single verdict amount in
+    let moves = recorded_pair B t c.args.time x.amount c.requires.single verdict amount in
     let recorded = moved t x.amount c.args.time in
     let new = new_transfer B t c.args.time verdict in
     let fresh = no_row transfer_key (λ t. t.recorded) t.id rows.transfers.0 new in
@@ -105,7 +105,7 @@ returns-in-Ok-clause-kept g c =
     let credit = account_stands rows c.requires.kept t.credit_account_id ∙ ap (option_map row_now) ex.1 in
     let verdict : transfer_verdict B t c.args.time ≡ 0 = single_verdict B t c.args.time c.requires.free c.requires.single ∙ two_accounts B t c.args.time (row_now x.debit) (row_now x.credit) own debit credit ∙ ex.2 in
     let amount : x.amount ≡ balanced_between (account_now B t.debit_account_id) (account_now B t.credit_account_id) t = ex.3 ∙ balanced_found B t (row_now x.debit) (row_now x.credit) debit credit in
-    let moves = recorded_moves B t c.args.time x.amount c.requires.single verdict amount in
+    let moves = recorded_pair B t c.args.time x.amount c.requires.single verdict amount in
     let recorded = moved t x.amount c.args.time in
     let new = new_transfer B t c.args.time verdict in
     let fresh = no_row transfer_key (λ t. t.recorded) t.id rows.transfers.0 new in

@@ -1,7 +1,7 @@
 use Rattle.std.proofs.Common.{refl, ap, ◌∙◌, ◌==◌, find}
 use Rattle.tb_records.specs.Ordered.{put, replaced}
 use Rattle.tb_ledger.specs.Books.{closing_debit, closing_credit}
-use Rattle.tb_ledger.specs.Kept.{on_debits, on_credits, resolved, settled, listed, IsIndex, transfer_row_key, new_transfer_row}
+use Rattle.tb_ledger.specs.Kept.{on_debits, on_credits, released_and_gained, settled, listed, IsIndex, transfer_row_key, new_transfer_row}
 use Rattle.tb_ledger.proofs.Settled.{both_changed, found_still, refound, same_debit, same_credit, apart, at_most, debit_enough, credit_enough, fresh_still, listed_before, not_dated, index_with_resolver, books_with_resolver, ledger_with_resolver}
 use Rattle.tb_ledger.proofs.settling.settle.Goals as goal
 
@@ -36,7 +36,7 @@ settle_credit-requires-clause-found g c =
     let same = same_credit rows.accounts.0 rows.transfers.0 rows.failed.0 rows.keeps_failed rows.timeouts.0 rows.time c.requires.kept c.args.p.now c.args.r.now c.requires.found c.requires.resolves c.requires.is_resolver in
     let there = ap (λ id. find (λ a. a.created.id == id) rows.accounts.0) same ∙ c.requires.credit in
     let other = apart rows.accounts.0 rows.transfers.0 rows.failed.0 rows.keeps_failed rows.timeouts.0 rows.time c.requires.kept c.args.p.now c.args.r.now c.requires.found c.requires.resolves c.requires.is_resolver in
-    let still = found_still r.debit_account_id r.credit_account_id (on_debits (resolved closing_debit c.args.p.now.recorded r)) c.args.credit.now rows.accounts.0 (λ y. refl) other there in
+    let still = found_still r.debit_account_id r.credit_account_id (on_debits (released_and_gained closing_debit c.args.p.now.recorded r)) c.args.credit.now rows.accounts.0 (λ y. refl) other there in
     ap (λ v. find (λ a. a.created.id == r.credit_account_id) v.0) c.settle_debit.ensures.accounts ∙ still
 
 pub settle_credit-requires-clause-enough : goal.settle_credit-requires-clause-enough
@@ -65,7 +65,7 @@ pub add_row-requires-clause-fresh : goal.add_row-requires-clause-fresh
 add_row-requires-clause-fresh g c =
     let rows = c.args.rows.now in
     let r = c.args.r.now in
-    let closed = ap (λ v. v.0) c.close_row.ensures.transfers ∙ ap (λ s. replaced transfer_row_key (settled s c.args.p.now) rows.transfers.0) c.outcome-state.ensures in
+    let closed = ap (λ v. v.0) c.close_row.ensures.transfers ∙ ap (λ s. replaced transfer_row_key (settled s c.args.p.now) rows.transfers.0) c.state_given-state.ensures in
     rw c.row_of-row.ensures.row (ap (find (λ row. row.recorded.id == r.id)) closed ∙ fresh_still rows.accounts.0 rows.transfers.0 rows.failed.0 rows.keeps_failed rows.timeouts.0 rows.time c.requires.kept c.args.p.now r c.requires.found c.requires.resolves c.requires.is_resolver c.requires.fresh)
 
 pub close_row-requires-clause-is_listed : goal.close_row-requires-clause-is_listed
@@ -85,8 +85,8 @@ returns-clause-kept g c =
     let rows = c.args.rows.now in
     let p = c.args.p.now in
     let r = c.args.r.now in
-    let both = both_changed r.debit_account_id r.credit_account_id (on_debits (resolved closing_debit p.recorded r)) (on_credits (resolved closing_credit p.recorded r)) rows.accounts c.settle_debit.new.accounts c.settle_credit.new.accounts c.settle_debit.ensures.accounts c.settle_credit.ensures.accounts in
-    let closed = ap (λ v. v.0) c.close_row.ensures.transfers ∙ ap (λ s. replaced transfer_row_key (settled s p) rows.transfers.0) c.outcome-state.ensures in
+    let both = both_changed r.debit_account_id r.credit_account_id (on_debits (released_and_gained closing_debit p.recorded r)) (on_credits (released_and_gained closing_credit p.recorded r)) rows.accounts c.settle_debit.new.accounts c.settle_credit.new.accounts c.settle_debit.ensures.accounts c.settle_credit.ensures.accounts in
+    let closed = ap (λ v. v.0) c.close_row.ensures.transfers ∙ ap (λ s. replaced transfer_row_key (settled s p) rows.transfers.0) c.state_given-state.ensures in
     let added = ap (λ v. v.0) c.add_row.ensures.transfers ∙ ap (λ row. put transfer_row_key row c.close_row.new.transfers.0) c.row_of-row.ensures.row ∙ ap (put transfer_row_key (new_transfer_row r)) closed in
     let moved = c.add_row.ensures.timeouts ∙ ap (λ row. listed row c.close_row.new.timeouts) c.row_of-row.ensures.row ∙ ap (listed (new_transfer_row r)) c.close_row.ensures.timeouts in
     let index : IsIndex c.add_row.new.transfers.0 c.add_row.new.timeouts.0 = rw (moved, added) (index_with_resolver rows.accounts.0 rows.transfers.0 rows.failed.0 rows.keeps_failed rows.timeouts.0 rows.time c.requires.kept p r c.requires.found c.requires.resolves c.requires.is_resolver rows.timeouts.1 c.requires.fresh c.close_row.ensures.rising c.close_row.ensures.ordered) in
@@ -97,7 +97,7 @@ returns-clause-books g c =
     let rows = c.args.rows.now in
     let p = c.args.p.now in
     let r = c.args.r.now in
-    let both = both_changed r.debit_account_id r.credit_account_id (on_debits (resolved closing_debit p.recorded r)) (on_credits (resolved closing_credit p.recorded r)) rows.accounts c.settle_debit.new.accounts c.settle_credit.new.accounts c.settle_debit.ensures.accounts c.settle_credit.ensures.accounts in
-    let closed = ap (λ v. v.0) c.close_row.ensures.transfers ∙ ap (λ s. replaced transfer_row_key (settled s p) rows.transfers.0) c.outcome-state.ensures in
+    let both = both_changed r.debit_account_id r.credit_account_id (on_debits (released_and_gained closing_debit p.recorded r)) (on_credits (released_and_gained closing_credit p.recorded r)) rows.accounts c.settle_debit.new.accounts c.settle_credit.new.accounts c.settle_debit.ensures.accounts c.settle_credit.ensures.accounts in
+    let closed = ap (λ v. v.0) c.close_row.ensures.transfers ∙ ap (λ s. replaced transfer_row_key (settled s p) rows.transfers.0) c.state_given-state.ensures in
     let added = ap (λ v. v.0) c.add_row.ensures.transfers ∙ ap (λ row. put transfer_row_key row c.close_row.new.transfers.0) c.row_of-row.ensures.row ∙ ap (put transfer_row_key (new_transfer_row r)) closed in
     books_with_resolver rows.accounts.0 rows.transfers.0 rows.failed.0 rows.keeps_failed rows.timeouts.0 rows.time c.requires.kept p r c.requires.found c.requires.resolves c.requires.is_resolver c.settle_credit.new.accounts.0 c.add_row.new.transfers.0 both.0 added

@@ -3,7 +3,7 @@ use Rattle.std.specs.Ordering.{nat_cmp, ordering_then}
 use Rattle.tb_records.proofs.ByKey.{rising-put, each-put}
 use Rattle.avl_tree.specs.Map.{entries}
 use Rattle.tb_ledger.specs.Timeouts.{timeout_key, timeout_at, timeouts_of, AreTimeouts}
-use Rattle.tb_ledger.specs.Verdicts.{max_id}
+use Rattle.tb_ledger.specs.Verdicts.{int_max}
 use Rattle.tb_ledger.proofs.Entries.{timeouts-agree, rows-inserted, unseen}
 use Rattle.tb_ledger.proofs.timeouts.insert_key.Goals as goal
 
@@ -28,5 +28,5 @@ returns-clause-ordered g c =
     ∙ rows-inserted (λ x y. ordering_then (nat_cmp x.0 y.0) (nat_cmp x.1 y.1)) timeout_at timeout_key (d.at, d.id) (timeout_key d) tt es refl (timeouts-agree (d.at, d.id) es (omega arith) c.requires.ordered.fit) c.requires.absent in
     subst AreTimeouts (sym wrote) (record {
       rising = rising-put timeout_key d (timeouts_of es) c.requires.absent c.requires.ordered.rising;
-      fit = each-put timeout_key (λ d. d.id ≤ max_id) d (timeouts_of es) (omega arith) c.requires.ordered.fit;
+      fit = each-put timeout_key (λ d. d.id ≤ int_max) d (timeouts_of es) (omega arith) c.requires.ordered.fit;
     })

@@ -3,7 +3,7 @@ use Rattle.std.specs.Ordering.{nat_cmp, ordering_then}
 use Rattle.tb_records.proofs.ByKey.{rising-taken_out, each-taken_out}
 use Rattle.avl_tree.specs.Map.{entries}
 use Rattle.tb_ledger.specs.Timeouts.{timeout_key, timeout_at, timeouts_of, AreTimeouts}
-use Rattle.tb_ledger.specs.Verdicts.{max_id}
+use Rattle.tb_ledger.specs.Verdicts.{int_max}
 use Rattle.tb_ledger.proofs.Entries.{timeouts-agree, rows-removed, seen}
 use Rattle.tb_ledger.proofs.timeouts.remove_key.Goals as goal
 
@@ -22,7 +22,7 @@ returns-clause-ordered g c =
     ∙ rows-removed (λ x y. ordering_then (nat_cmp x.0 y.0) (nat_cmp x.1 y.1)) timeout_at timeout_key (d.at, d.id) (timeout_key d) es (timeouts-agree (d.at, d.id) es (omega arith) c.requires.ordered.fit) in
     subst AreTimeouts (sym taken) (record {
       rising = rising-taken_out timeout_key (timeout_key d) (timeouts_of es) c.requires.ordered.rising;
-      fit = each-taken_out timeout_key (λ d. d.id ≤ max_id) (timeout_key d) (timeouts_of es) c.requires.ordered.fit;
+      fit = each-taken_out timeout_key (λ d. d.id ≤ int_max) (timeout_key d) (timeouts_of es) c.requires.ordered.fit;
     })
 
 pub returns-clause-room : goal.returns-clause-room
