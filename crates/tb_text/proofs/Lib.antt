@@ -3,3 +3,7 @@ pub mod Runs
 pub mod Tokens
 pub mod Numbers
 pub mod Entries
+pub mod Items
+pub mod EachKind
+pub mod Statements
+pub mod Faults

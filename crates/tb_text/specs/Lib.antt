@@ -1,4 +1,5 @@
 pub mod Words
 pub mod Scan
 pub mod Steps
+pub mod Positions
 pub mod Printed

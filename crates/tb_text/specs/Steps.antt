@@ -3,6 +3,7 @@ use Rattle.std.specs.Prelude.{ℕ, Bool, false, true, ◌≡◌, ◌<◌, ◌⊎
 use Rattle.tb_records.specs.Messages.{Message}
 use Rattle.tb_text.specs.declared.places.Refusal.{Refusal}
 use Rattle.tb_text.specs.declared.places.Refusal.TheVariants.{Memory, Unexpected}
+use Rattle.tb_text.specs.declared.reading.TextFault.{TextFault}
 use Rattle.tb_text.specs.Scan.{Scan, behind, step, run, is_at_rest}
 
 -- it went on as the definitions do, or refused what they refuse and kept the statements that are whole, or had no memory
@@ -36,3 +37,7 @@ pub record Stops (text : List ℕ) (pairs : List (ℕ × Message)) (place : ℕ)
 abbrev pub Reads : List ℕ → List (ℕ × Message) → Option ℕ → Type 0
 Reads text pairs None = Means text pairs
 Reads text pairs (Some place) = Stops text pairs place
+
+abbrev pub place_of : Option TextFault → Option ℕ
+place_of None = None
+place_of (Some fault) = Some fault.place

@@ -2,7 +2,15 @@
 #![tactic(auto)]
 
 pub mod places;
+pub mod printing;
+pub mod reading;
 pub mod scanner;
+#[cfg(test)]
+mod tests;
+pub mod text_laws;
 pub mod words;
 
+pub use places::{Lexeme, Place, Refusal};
+pub use printing::{print_request, print_requests};
+pub use reading::{Reading, TextFault, position, read_text};
 pub use words::{Field, Flag, Operation, Word};

@@ -1,0 +1,185 @@
+-- Accounts, transfers and ids are read as what they are.
+use Rattle.std.proofs.Common.{◌≡◌, ℕ, suc, ◌+◌, ◌-◌, ◌%◌, ◌^◌, ◌<◌, ◌≤◌, Bool, true, false, cond, ◌&&◌, ◌==◌, List, [], ◌∷◌, ◌++◌, length, Option, Some, None, refl, sym, ap, subst, ◌∙◌, append_assoc, arith, lit≤, lit<}
+use Rattle.std.specs.Prelude.{nat_lt}
+use Rattle.std.proofs.lemmas.Bool.Decides.{nat_tests}
+use Rattle.tb_records.specs.declared.records.Account.{Account}
+use Rattle.tb_records.specs.declared.records.Transfer.{Transfer}
+use Rattle.tb_records.specs.RecordBytes.{IsAccount, IsTransfer}
+use Rattle.tb_records.specs.Messages.{Message}
+use Rattle.tb_records.specs.Frames.{IsId}
+use Rattle.tb_text.specs.declared.words.Field.{Field}
+use Rattle.tb_text.specs.declared.words.Field.TheVariants as field
+use Rattle.tb_text.specs.declared.words.Operation.{Operation}
+use Rattle.tb_text.specs.declared.words.Operation.TheVariants.{Register, CreateAccounts, CreateTransfers, LookupAccounts, LookupTransfers}
+use Rattle.tb_text.specs.declared.places.Place.{Place}
+use Rattle.tb_text.specs.declared.places.Place.TheVariants.{Given, Opened, Parted}
+use Rattle.tb_text.specs.Scan.{Entry, Scan, step, run, awaits_field, entered, value_of, may_have, account_of, transfer_of, finished}
+use Rattle.tb_text.specs.Printed.{entries_text, entry_text, account_entries, transfer_entries, account_text, transfer_text, id_text}
+use Rattle.tb_text.proofs.Tokens.{IsBetween, at_gap, if_true}
+use Rattle.tb_text.proofs.Entries.{told, entered_all, InOrder, IsEnd, entries_through, none_or}
+use Rattle.tb_text.proofs.Items.{at, all_at, mid, Holds, IsKind, account_back, transfer_back}
+
+pub record Small (limit n : ℕ) : Type 0 where
+  pub most : n ≤ limit
+  pub short : n < 10 ^ 64
+
+pub small_128 : (n : ℕ) → n < 2 ^ 128 → Small (2 ^ 128 - 1) n
+small_128 n h = record { most = omega arith; short = omega arith }
+
+pub small_64 : (n : ℕ) → n < 2 ^ 64 → Small (2 ^ 64 - 1) n
+small_64 n h = record { most = omega arith; short = omega arith }
+
+pub small_32 : (n : ℕ) → n < 2 ^ 32 → Small (2 ^ 32 - 1) n
+small_32 n h = record { most = omega arith; short = omega arith }
+
+pub small_16 : (n : ℕ) → n < 2 ^ 16 → Small (2 ^ 16 - 1) n
+small_16 n h = record { most = omega arith; short = omega arith }
+
+accounts_in_order : (a : Account) → IsAccount a → InOrder (Some CreateAccounts) 5 (account_entries a)
+accounts_in_order a h =
+    let b = small_128 a.debits_pending h.debits_pending in
+    let c = small_128 a.debits_posted h.debits_posted in
+    let d = small_128 a.credits_pending h.credits_pending in
+    let e = small_128 a.credits_posted h.credits_posted in
+    let f = small_128 a.user_data_128 h.user_data_128 in
+    let g = small_64 a.user_data_64 h.user_data_64 in
+    let i = small_32 a.user_data_32 h.user_data_32 in
+    let j = small_32 a.reserved h.reserved in
+    let k = small_32 a.ledger h.ledger in
+    let l = small_16 a.code h.code in
+    let m = small_16 a.flags h.flags in
+    let n = small_64 a.timestamp h.timestamp in
+    (lit≤ tt, refl, b.most, b.short, (lit≤ tt, refl, c.most, c.short, (lit≤ tt, refl, d.most, d.short, (lit≤ tt, refl, e.most, e.short,
+    (lit≤ tt, refl, f.most, f.short, (lit≤ tt, refl, g.most, g.short, (lit≤ tt, refl, i.most, i.short, (lit≤ tt, refl, j.most, j.short,
+    (lit≤ tt, refl, k.most, k.short, (lit≤ tt, refl, l.most, l.short, (lit≤ tt, refl, m.most, m.short, (lit≤ tt, refl, n.most, n.short, tt))))))))))))
+
+transfers_in_order : (t : Transfer) → IsTransfer t → InOrder (Some CreateTransfers) 5 (transfer_entries t)
+transfers_in_order t h =
+    let b = small_128 t.debit_account_id h.debit_account_id in
+    let c = small_128 t.credit_account_id h.credit_account_id in
+    let d = small_128 t.amount h.amount in
+    let e = small_128 t.pending_id h.pending_id in
+    let f = small_128 t.user_data_128 h.user_data_128 in
+    let g = small_64 t.user_data_64 h.user_data_64 in
+    let i = small_32 t.user_data_32 h.user_data_32 in
+    let j = small_32 t.timeout h.timeout in
+    let k = small_32 t.ledger h.ledger in
+    let l = small_16 t.code h.code in
+    let m = small_16 t.flags h.flags in
+    let n = small_64 t.timestamp h.timestamp in
+    (lit≤ tt, refl, b.most, b.short, (lit≤ tt, refl, c.most, c.short, (lit≤ tt, refl, d.most, d.short, (lit≤ tt, refl, e.most, e.short,
+    (lit≤ tt, refl, f.most, f.short, (lit≤ tt, refl, g.most, g.short, (lit≤ tt, refl, i.most, i.short, (lit≤ tt, refl, j.most, j.short,
+    (lit≤ tt, refl, k.most, k.short, (lit≤ tt, refl, l.most, l.short, (lit≤ tt, refl, m.most, m.short, (lit≤ tt, refl, n.most, n.short, tt))))))))))))
+
+-- an id and further fields, behind a mark or an operation
+event_through : (s : Scan) (id : ℕ) (es : List Entry) (tail : List ℕ) → IsEnd tail → IsBetween s → awaits_field s.place ≡ true → s.given ≡ [] → may_have s.operation field.Id ≡ true → id < 2 ^ 128
+    → InOrder s.operation 5 es → (h : Field) × (run s (entries_text (field.Id, id) es ++ tail) ≡ run (at s h ((field.Id, id) ∷ told es)) tail)
+event_through s id es tail e b a n m fits o =
+    let small = small_128 id fits in
+    let all = all_at es s field.Id (s.given ++ (field.Id, id) ∷ []) in
+    (all.0,
+        entries_through (field.Id, id) es s tail e b a n m small.most small.short (positive id) o
+        ∙ (ap (λ (t : Scan). run t tail) all.1 ∙ ap (λ (g : List Entry). run (at s all.0 ((g ++ (field.Id, id) ∷ []) ++ told es)) tail) n))
+  where
+    positive : (k : ℕ) → (k == 0 && false) ≡ false
+    positive k = by (k == 0)
+      where
+        by : (c : Bool) → (c && false) ≡ false
+        by true = refl
+        by false = refl
+
+no_further : (text : List ℕ) → text ++ [] ≡ text
+no_further [] = refl
+no_further (b ∷ bs) = ap (λ (ys : List ℕ). b ∷ ys) (no_further bs)
+
+room : (n : ℕ) → n + 1 < 8190 → nat_lt (n + 1) 8190 ≡ true
+room n h = grind (arith, nat_tests)
+
+-- a statement of accounts, so far
+abbrev pub accounts_state : List (ℕ × Message) → List Entry → List Account → Place → Scan
+accounts_state pairs header xs place = mid pairs header CreateAccounts place xs [] [] []
+
+abbrev pub accounts_ended : List (ℕ × Message) → List Entry → List Account → Option Scan
+accounts_ended pairs header xs = finished (accounts_state pairs header xs Opened) CreateAccounts
+
+pub accounts_kind : (pairs : List (ℕ × Message)) (header : List Entry) → IsKind (accounts_state pairs header) (accounts_ended pairs header) account_text IsAccount
+unfolding account_text
+accounts_kind pairs header = record {
+  item = λ xs place awaits x h tail end.
+      let s = accounts_state pairs header xs place in
+      let through = event_through s x.id (account_entries x) tail end (record { lexeme = refl; spelled = refl }) awaits refl refl h.id (accounts_in_order x h) in
+      let g = (field.Id, x.id) ∷ told (account_entries x) in
+      (at s through.0 g, through.1, record {
+        parts = λ few. at_gap (at s through.0 g) 44 refl ∙ (if_true (nat_lt (length xs + 0 + 0 + 1) 8190) _ _ (room (length xs + 0 + 0) (omega arith)) ∙ ap (λ (y : Account). Some (accounts_state pairs header (xs ++ y ∷ []) Parted)) (account_back x h));
+        ends = at_gap (at s through.0 g) 59 refl ∙ ap (λ (y : Account). accounts_ended pairs header (xs ++ y ∷ [])) (account_back x h);
+      });
+  between = λ xs place. refl;
+  empty = at_gap (accounts_state pairs header [] Opened) 59 refl;
+}
+
+-- a statement of transfers, so far
+abbrev pub transfers_state : List (ℕ × Message) → List Entry → List Transfer → Place → Scan
+transfers_state pairs header xs place = mid pairs header CreateTransfers place [] xs [] []
+
+abbrev pub transfers_ended : List (ℕ × Message) → List Entry → List Transfer → Option Scan
+transfers_ended pairs header xs = finished (transfers_state pairs header xs Opened) CreateTransfers
+
+pub transfers_kind : (pairs : List (ℕ × Message)) (header : List Entry) → IsKind (transfers_state pairs header) (transfers_ended pairs header) transfer_text IsTransfer
+unfolding transfer_text
+transfers_kind pairs header = record {
+  item = λ xs place awaits x h tail end.
+      let s = transfers_state pairs header xs place in
+      let through = event_through s x.id (transfer_entries x) tail end (record { lexeme = refl; spelled = refl }) awaits refl refl h.id (transfers_in_order x h) in
+      let g = (field.Id, x.id) ∷ told (transfer_entries x) in
+      (at s through.0 g, through.1, record {
+        parts = λ few. at_gap (at s through.0 g) 44 refl ∙ (if_true (nat_lt (0 + length xs + 0 + 1) 8190) _ _ (room (0 + length xs + 0) (omega arith)) ∙ ap (λ (y : Transfer). Some (transfers_state pairs header (xs ++ y ∷ []) Parted)) (transfer_back x h));
+        ends = at_gap (at s through.0 g) 59 refl ∙ ap (λ (y : Transfer). transfers_ended pairs header (xs ++ y ∷ [])) (transfer_back x h);
+      });
+  between = λ xs place. refl;
+  empty = at_gap (transfers_state pairs header [] Opened) 59 refl;
+}
+
+-- a statement of sought_accounts, so far
+abbrev pub sought_accounts_state : List (ℕ × Message) → List Entry → List ℕ → Place → Scan
+sought_accounts_state pairs header xs place = mid pairs header LookupAccounts place [] [] xs []
+
+abbrev pub sought_accounts_ended : List (ℕ × Message) → List Entry → List ℕ → Option Scan
+sought_accounts_ended pairs header xs = finished (sought_accounts_state pairs header xs Opened) LookupAccounts
+
+pub sought_accounts_kind : (pairs : List (ℕ × Message)) (header : List Entry) → IsKind (sought_accounts_state pairs header) (sought_accounts_ended pairs header) id_text IsId
+unfolding id_text
+sought_accounts_kind pairs header = record {
+  item = λ xs place awaits x h tail end.
+      let s = sought_accounts_state pairs header xs place in
+      let through = event_through s x [] tail end (record { lexeme = refl; spelled = refl }) awaits refl refl h tt in
+      let g = (field.Id, x) ∷ told [] in
+      (at s through.0 g, ap (λ (t : List ℕ). run s (t ++ tail)) (sym (no_further (entry_text (field.Id, x)))) ∙ through.1, record {
+        parts = λ few. at_gap (at s through.0 g) 44 refl ∙ (if_true (nat_lt (0 + 0 + length xs + 1) 8190) _ _ (room (0 + 0 + length xs) (omega arith)) ∙ ap (λ (y : ℕ). Some (sought_accounts_state pairs header (xs ++ y ∷ []) Parted)) (none_or x));
+        ends = at_gap (at s through.0 g) 59 refl ∙ ap (λ (y : ℕ). sought_accounts_ended pairs header (xs ++ y ∷ [])) (none_or x);
+      });
+  between = λ xs place. refl;
+  empty = at_gap (sought_accounts_state pairs header [] Opened) 59 refl;
+}
+
+-- a statement of sought_transfers, so far
+abbrev pub sought_transfers_state : List (ℕ × Message) → List Entry → List ℕ → Place → Scan
+sought_transfers_state pairs header xs place = mid pairs header LookupTransfers place [] [] xs []
+
+abbrev pub sought_transfers_ended : List (ℕ × Message) → List Entry → List ℕ → Option Scan
+sought_transfers_ended pairs header xs = finished (sought_transfers_state pairs header xs Opened) LookupTransfers
+
+pub sought_transfers_kind : (pairs : List (ℕ × Message)) (header : List Entry) → IsKind (sought_transfers_state pairs header) (sought_transfers_ended pairs header) id_text IsId
+unfolding id_text
+sought_transfers_kind pairs header = record {
+  item = λ xs place awaits x h tail end.
+      let s = sought_transfers_state pairs header xs place in
+      let through = event_through s x [] tail end (record { lexeme = refl; spelled = refl }) awaits refl refl h tt in
+      let g = (field.Id, x) ∷ told [] in
+      (at s through.0 g, ap (λ (t : List ℕ). run s (t ++ tail)) (sym (no_further (entry_text (field.Id, x)))) ∙ through.1, record {
+        parts = λ few. at_gap (at s through.0 g) 44 refl ∙ (if_true (nat_lt (0 + 0 + length xs + 1) 8190) _ _ (room (0 + 0 + length xs) (omega arith)) ∙ ap (λ (y : ℕ). Some (sought_transfers_state pairs header (xs ++ y ∷ []) Parted)) (none_or x));
+        ends = at_gap (at s through.0 g) 59 refl ∙ ap (λ (y : ℕ). sought_transfers_ended pairs header (xs ++ y ∷ [])) (none_or x);
+      });
+  between = λ xs place. refl;
+  empty = at_gap (sought_transfers_state pairs header [] Opened) 59 refl;
+}
+

@@ -1,0 +1,49 @@
+-- Where reading stops, no statements go on.
+use Rattle.std.proofs.Common.{◌≡◌, ℕ, ◌+◌, ◌<◌, ◌≤◌, ◌⊎◌, inl, inr, Bool, true, false, List, [], ◌∷◌, ◌++◌, length, get_or, take, drop, Option, Some, None, refl, sym, ap, subst, ◌∙◌, arith}
+use Rattle.std.specs.Option.{option_and_then}
+use Rattle.std.proofs.lemmas.List.{take_more, take-append-drop}
+use Rattle.tb_records.specs.Messages.{Message}
+use Rattle.tb_text.specs.Scan.{Scan, behind, step, run, is_at_rest}
+use Rattle.tb_text.specs.Steps.{Means, Stops}
+use Rattle.tb_text.proofs.Runs.{run_append, run_behind}
+
+-- no run goes through the byte at the place
+stopped : (text : List ℕ) (place : ℕ) (last : Scan) (more : List ℕ) → place < length text → run (behind []) (take place text) ≡ Some last → step last (get_or text place 0) ≡ None
+    → run (behind []) (take (place + 1) text ++ more) ≡ None
+stopped text place last more lt taken none =
+    let one : run (behind []) (take (place + 1) text) ≡ None =
+        ap (run (behind [])) (take_more text place 0 lt)
+        ∙ (run_behind (behind []) last (take place text) (get_or text place 0 ∷ []) taken ∙ ap (option_and_then (λ t. Some t)) none) in
+    run_append (behind []) (take (place + 1) text) more ∙ ap (option_and_then (λ t. run t more)) one
+
+some_none : (s : Scan) → Some s ≡ None → ⊥
+some_none s e = absurd cc
+
+pub nothing_goes_on : (text : List ℕ) (pairs others : List (ℕ × Message)) (place : ℕ) (more : List ℕ) → place < length text → Stops text pairs place → Means (take (place + 1) text ++ more) others → ⊥
+nothing_goes_on text pairs others place more lt stops means = by stops.why
+  where
+    by : ((place < length text) × (step stops.last (get_or text place 0) ≡ None)) ⊎ ((place ≡ length text) × (is_at_rest stops.last ≡ false)) → ⊥
+    by (inl here) = some_none means.last (sym means.taken ∙ stopped text place stops.last more here.0 stops.taken here.1)
+    by (inr over) = absurd (omega arith)
+
+same_scan : (a b : Scan) → Some a ≡ Some b → a ≡ b
+same_scan a b e = cc
+
+true_false : (b : Bool) → b ≡ true → b ≡ false → ⊥
+true_false b h k = absurd cc
+
+take_whole : (text : List ℕ) → take (length text) text ≡ text
+take_whole [] = refl
+take_whole (b ∷ bs) = ap (λ (t : List ℕ). b ∷ t) (take_whole bs)
+
+pub no_meaning : (text : List ℕ) (pairs others : List (ℕ × Message)) (place : ℕ) → Stops text pairs place → Means text others → ⊥
+no_meaning text pairs others place stops means = by stops.why
+  where
+    by : ((place < length text) × (step stops.last (get_or text place 0) ≡ None)) ⊎ ((place ≡ length text) × (is_at_rest stops.last ≡ false)) → ⊥
+    by (inl here) =
+        nothing_goes_on text pairs others place (drop (place + 1) text) here.0 stops
+            (subst (λ (t : List ℕ). Means t others) (sym (take-append-drop (place + 1) text)) means)
+    by (inr over) =
+        let whole : take place text ≡ text = ap (λ (n : ℕ). take n text) over.0 ∙ take_whole text in
+        let same = same_scan stops.last means.last (sym stops.taken ∙ (ap (run (behind [])) whole ∙ means.taken)) in
+        true_false (is_at_rest stops.last) (ap is_at_rest same ∙ means.whole) over.1

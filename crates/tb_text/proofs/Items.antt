@@ -1,0 +1,116 @@
+-- Events that are printed one behind the other are read as what they are.
+use Rattle.std.proofs.Common.{◌≡◌, ℕ, zero, suc, ◌+◌, ◌-◌, ◌%◌, ◌^◌, ◌<◌, ◌≤◌, Bool, true, false, cond, ◌&&◌, ◌||◌, ◌==◌, List, [], ◌∷◌, ◌++◌, length, Option, Some, None, refl, sym, ap, subst, ◌∙◌, append_assoc, arith, length-append}
+use Rattle.std.specs.Prelude.{nat_lt, bit_or}
+use Rattle.std.specs.List.{AllByRecursion}
+use Rattle.std.specs.Option.{option_and_then}
+use Rattle.std.proofs.lemmas.Bool.Decides.{nat_tests}
+use Rattle.tb_records.specs.declared.records.Account.{Account}
+use Rattle.tb_records.specs.declared.records.Transfer.{Transfer}
+use Rattle.tb_records.specs.RecordBytes.{IsAccount, IsTransfer}
+use Rattle.tb_records.specs.Messages.{Message}
+use Rattle.tb_records.specs.Frames.{IsId}
+use Rattle.tb_text.specs.declared.words.Field.{Field}
+use Rattle.tb_text.specs.declared.words.Field.TheVariants as field
+use Rattle.tb_text.specs.declared.words.Operation.{Operation}
+use Rattle.tb_text.specs.declared.words.Operation.TheVariants.{Register, CreateAccounts, CreateTransfers, LookupAccounts, LookupTransfers}
+use Rattle.tb_text.specs.declared.places.Lexeme.TheVariants.{Gap}
+use Rattle.tb_text.specs.declared.places.Place.{Place}
+use Rattle.tb_text.specs.declared.places.Place.TheVariants.{Given, Opened, Parted}
+use Rattle.tb_text.specs.Scan.{Entry, Scan, step, run, awaits_field, entered, value_from, value_of, account_of, transfer_of, finished, parted_at, closed_at, item_count}
+use Rattle.tb_text.specs.Printed.{entries_text, entry_text, further_text, account_entries, transfer_entries, account_text, transfer_text, id_text, more_text, items_text}
+use Rattle.tb_text.proofs.Tokens.{IsBetween, one_step, at_gap, space, if_true}
+use Rattle.tb_text.proofs.Entries.{told, entered_all, InOrder, IsEnd, entries_through, value_told, none_or}
+
+-- a field was given, as the last of these
+abbrev pub at : Scan → Field → List Entry → Scan
+at s f given = record {
+  pairs = s.pairs; lexeme = Gap; spelled = []; place = Given f; operation = s.operation; header = s.header;
+  given = given; accounts = s.accounts; transfers = s.transfers; ids = s.ids;
+}
+
+append_nil : {X : Type 0} (xs : List X) → xs ++ [] ≡ xs
+append_nil [] = refl
+append_nil {X} (x ∷ xs) = ap (λ (ys : List X). x ∷ ys) (append_nil xs)
+
+pub all_at : (es : List Entry) (s : Scan) (f : Field) (g : List Entry) → (h : Field) × (entered_all (at s f g) es ≡ at s h (g ++ told es))
+all_at [] s f g = (f, ap (at s f) (sym (append_nil g)))
+all_at (e ∷ es) s f g = by (e.1 == 0) (all_at es s f g) (all_at es s e.0 (g ++ e ∷ []))
+  where
+    by : (b : Bool) → (h : Field) × (entered_all (at s f g) es ≡ at s h (g ++ told es)) → (h : Field) × (entered_all (at s e.0 (g ++ e ∷ [])) es ≡ at s h ((g ++ e ∷ []) ++ told es))
+        → (h : Field) × (cond b (entered_all (at s f g) es) (entered_all (entered (at s f g) e.0 e.1) es) ≡ at s h (g ++ cond b (told es) (e ∷ told es)))
+    by true same later = same
+    by false same later = (later.0, later.1 ∙ ap (at s later.0) (append_assoc g (e ∷ []) (told es)))
+
+-- within a statement
+abbrev pub mid : List (ℕ × Message) → List Entry → Operation → Place → List Account → List Transfer → List ℕ → List Entry → Scan
+mid pairs header o place accounts transfers ids given = record {
+  pairs = pairs; lexeme = Gap; spelled = []; place = place; operation = Some o; header = header;
+  given = given; accounts = accounts; transfers = transfers; ids = ids;
+}
+
+-- an event is given, and stands behind others once a mark follows
+pub record Holds {X : Type 0} (state : List X → Place → Scan) (ended : List X → Option Scan) (xs : List X) (x : X) (s : Scan) : Type 0 where
+  pub parts : length xs + 1 < 8190 → step s 44 ≡ Some (state (xs ++ x ∷ []) Parted)
+  pub ends : step s 59 ≡ ended (xs ++ x ∷ [])
+
+-- what reads events of one kind
+pub record IsKind {X : Type 0} (state : List X → Place → Scan) (ended : List X → Option Scan) (text : X → List ℕ) (Fits : X → Type 0) : Type 0 where
+  pub item : (xs : List X) (place : Place) → awaits_field place ≡ true → (x : X) → Fits x → (tail : List ℕ) → IsEnd tail → (s : Scan) × (run (state xs place) (text x ++ tail) ≡ run s tail) × Holds state ended xs x s
+  pub between : (xs : List X) (place : Place) → (state xs place).lexeme ≡ Gap
+  pub empty : step (state [] Opened) 59 ≡ ended []
+
+end_of_items : {X : Type 0} (text : X → List ℕ) (xs : List X) (tail : List ℕ) → IsEnd (more_text text xs ++ 59 ∷ tail)
+end_of_items text [] tail = record { byte = 59; rest = tail; text_is = refl; ends = refl }
+end_of_items text (x ∷ xs) tail = record { byte = 44; rest = (32 ∷ text x ++ more_text text xs) ++ 59 ∷ tail; text_is = refl; ends = refl }
+
+more_through : {X : Type 0} (state : List X → Place → Scan) (ended : List X → Option Scan) (text : X → List ℕ) (Fits : X → Type 0) → IsKind state ended text Fits
+    → (xs ys : List X) (y : X) (s : Scan) (tail : List ℕ) → Holds state ended ys y s → AllByRecursion Fits xs → length ys + 1 + length xs ≤ 8190
+    → run s (more_text text xs ++ 59 ∷ tail) ≡ option_and_then (λ t. run t tail) (ended (ys ++ y ∷ xs))
+more_through state ended text Fits kind [] ys y s tail holds fits room = ap (option_and_then (λ t. run t tail)) holds.ends
+more_through {X} state ended text Fits kind (x ∷ xs) ys y s tail holds fits room =
+    let next = kind.item (ys ++ y ∷ []) Parted refl x fits.0 (more_text text xs ++ 59 ∷ tail) (end_of_items text xs tail) in
+    one_step s (state (ys ++ y ∷ []) Parted) 44 ((32 ∷ text x ++ more_text text xs) ++ 59 ∷ tail) (holds.parts (omega arith))
+    ∙ (space (state (ys ++ y ∷ []) Parted) ((text x ++ more_text text xs) ++ 59 ∷ tail) (kind.between (ys ++ y ∷ []) Parted)
+    ∙ (ap (run (state (ys ++ y ∷ []) Parted)) (append_assoc (text x) (more_text text xs) (59 ∷ tail))
+    ∙ (next.1 ∙ (more_through state ended text Fits kind xs (ys ++ y ∷ []) x next.0 tail next.2 fits.1 (omega (arith, length-append ys (y ∷ [])))
+    ∙ ap (λ (zs : List X). option_and_then (λ t. run t tail) (ended zs)) (append_assoc ys (y ∷ []) (x ∷ xs))))))
+
+pub items_through : {X : Type 0} (state : List X → Place → Scan) (ended : List X → Option Scan) (text : X → List ℕ) (Fits : X → Type 0) → IsKind state ended text Fits
+    → (xs : List X) (tail : List ℕ) → AllByRecursion Fits xs → length xs ≤ 8190
+    → run (state [] Opened) (items_text text xs ++ 59 ∷ tail) ≡ option_and_then (λ t. run t tail) (ended xs)
+items_through state ended text Fits kind [] tail fits room = ap (option_and_then (λ t. run t tail)) kind.empty
+items_through state ended text Fits kind (x ∷ xs) tail fits room =
+    let first = kind.item [] Opened refl x fits.0 (more_text text xs ++ 59 ∷ tail) (end_of_items text xs tail) in
+    space (state [] Opened) ((text x ++ more_text text xs) ++ 59 ∷ tail) (kind.between [] Opened)
+    ∙ (ap (run (state [] Opened)) (append_assoc (text x) (more_text text xs) (59 ∷ tail))
+    ∙ (first.1 ∙ more_through state ended text Fits kind xs [] x first.0 tail first.2 fits.1 (omega arith)))
+
+below : (m n : ℕ) → m < n → nat_lt m n ≡ true
+below m n h = grind (arith, nat_tests)
+
+pub low : (n : ℕ) → n < 2 ^ 64 → n % 2 ^ 64 ≡ n
+low n h = omega arith
+
+pub low_32 : (n : ℕ) → n < 2 ^ 32 → n % 2 ^ 32 ≡ n
+low_32 n h = omega arith
+
+low_16 : (n : ℕ) → n < 2 ^ 16 → n % 2 ^ 16 ≡ n
+low_16 n h = omega arith
+
+-- accounts
+
+account_value : (a : Account) (f : Field) → value_of f ((field.Id, a.id) ∷ told (account_entries a)) ≡ value_of f ((field.Id, a.id) ∷ account_entries a)
+account_value a f = value_told f (value_of f ((field.Id, a.id) ∷ [])) (account_entries a)
+
+pub account_back : (a : Account) → IsAccount a → account_of ((field.Id, a.id) ∷ told (account_entries a)) ≡ a
+unfolding account_of
+account_back a h =
+    simp (account_value a, none_or, low a.user_data_64 h.user_data_64, low_32 a.user_data_32 h.user_data_32, low_32 a.reserved h.reserved, low_32 a.ledger h.ledger, low_16 a.code h.code, low_16 a.flags h.flags, low a.timestamp h.timestamp)
+
+transfer_value : (t : Transfer) (f : Field) → value_of f ((field.Id, t.id) ∷ told (transfer_entries t)) ≡ value_of f ((field.Id, t.id) ∷ transfer_entries t)
+transfer_value t f = value_told f (value_of f ((field.Id, t.id) ∷ [])) (transfer_entries t)
+
+pub transfer_back : (t : Transfer) → IsTransfer t → transfer_of ((field.Id, t.id) ∷ told (transfer_entries t)) ≡ t
+unfolding transfer_of
+transfer_back t h =
+    simp (transfer_value t, none_or, low t.user_data_64 h.user_data_64, low_32 t.user_data_32 h.user_data_32, low_32 t.timeout h.timeout, low_32 t.ledger h.ledger, low_16 t.code h.code, low_16 t.flags h.flags, low t.timestamp h.timestamp)

@@ -1,0 +1,236 @@
+//! Requests, printed as statements.
+ghost use Rattle.std.specs.Prelude.{◌≡◌, ◌++◌, ◌∷◌, [], List, ℕ, OnOk, IfOk, length};
+ghost use Rattle.std.specs.Fmt.{decimal};
+ghost use Rattle.tb_text.specs.Printed.{entry_text, further_text, entries_text, header_entries, account_entries, transfer_entries, account_text, transfer_text, id_text, more_text, items_text, body_text, statement_text, printed};
+ghost use Rattle.tb_text.specs.Words.{operation_name};
+
+use crate::words::{Field, Operation};
+use std::alloc::{AllocError, Global};
+use tb_records::{Account, Body, Request, Transfer};
+
+/// Appends a number in decimal digits.
+fn put_number(alloc: Global, out: &mut Vec<u8>, n: u128) -> Result<(), AllocError>
+    ensures { OnOk result (out.new.items ≡ out.old.items ++ decimal n) }
+{
+    let digits = n.to_string(alloc)?;
+    out.extend_from_slice(digits.as_str().as_bytes())
+}
+
+/// Appends a field's name, `=` and its number.
+fn put_entry(
+    alloc: Global,
+    out: &mut Vec<u8>,
+    field: Field,
+    number: u128,
+) -> Result<(), AllocError>
+    ensures { OnOk result (out.new.items ≡ out.old.items ++ entry_text (field, number)) }
+{
+    out.extend_from_slice(field.name().as_bytes())?;
+    out.extend_from_slice(b"=")?;
+    put_number(alloc, out, number)
+}
+
+/// Appends fields that stand behind others, those that are 0 left out.
+fn put_further(
+    alloc: Global,
+    out: &mut Vec<u8>,
+    entries: &[(Field, u128)],
+) -> Result<(), AllocError>
+    ensures { OnOk result (out.new.items ≡ out.old.items ++ further_text entries.now) }
+{
+    for (field, number) in entries {
+        if *number != 0 {
+            out.extend_from_slice(b" ")?;
+            put_entry(alloc, out, *field, *number)?;
+        }
+    }
+    Ok(())
+}
+
+/// Appends a field, and those behind it that are not 0.
+fn put_entries(
+    alloc: Global,
+    out: &mut Vec<u8>,
+    field: Field,
+    number: u128,
+    others: &[(Field, u128)],
+) -> Result<(), AllocError>
+    ensures { OnOk result (out.new.items ≡ out.old.items ++ entries_text (field, number) others.now) }
+{
+    put_entry(alloc, out, field, number)?;
+    put_further(alloc, out, others)
+}
+
+/// The fields before the operation of a request, behind the moment.
+fn header_entries(request: &Request) -> [(Field, u128); 3]
+    ensures { result ≡ header_entries request.now }
+{
+    [
+        (Field::Client, request.client()),
+        (Field::Session, request.session() as u128),
+        (Field::Request, request.request() as u128),
+    ]
+}
+
+/// What a request creates or looks up.
+trait Event {
+    // How it is printed.
+    ghost text: { Self → List ℕ };
+
+    /// Appends its fields.
+    fn put(&self, alloc: Global, out: &mut Vec<u8>) -> Result<(), AllocError>
+        ensures { OnOk result (out.new.items ≡ out.old.items ++ text self.now) };
+}
+
+/// The fields of an account behind its id.
+fn account_entries(a: &Account) -> [(Field, u128); 12]
+    ensures { result ≡ account_entries a.now }
+{
+    [
+        (Field::DebitsPending, a.debits_pending),
+        (Field::DebitsPosted, a.debits_posted),
+        (Field::CreditsPending, a.credits_pending),
+        (Field::CreditsPosted, a.credits_posted),
+        (Field::UserData128, a.user_data_128),
+        (Field::UserData64, a.user_data_64 as u128),
+        (Field::UserData32, a.user_data_32 as u128),
+        (Field::Reserved, a.reserved as u128),
+        (Field::Ledger, a.ledger as u128),
+        (Field::Code, a.code as u128),
+        (Field::Flags, a.flags as u128),
+        (Field::Timestamp, a.timestamp as u128),
+    ]
+}
+
+/// The fields of a transfer behind its id.
+fn transfer_entries(t: &Transfer) -> [(Field, u128); 12]
+    ensures { result ≡ transfer_entries t.now }
+{
+    [
+        (Field::DebitAccountId, t.debit_account_id),
+        (Field::CreditAccountId, t.credit_account_id),
+        (Field::Amount, t.amount),
+        (Field::PendingId, t.pending_id),
+        (Field::UserData128, t.user_data_128),
+        (Field::UserData64, t.user_data_64 as u128),
+        (Field::UserData32, t.user_data_32 as u128),
+        (Field::Timeout, t.timeout as u128),
+        (Field::Ledger, t.ledger as u128),
+        (Field::Code, t.code as u128),
+        (Field::Flags, t.flags as u128),
+        (Field::Timestamp, t.timestamp as u128),
+    ]
+}
+
+impl Event for Account {
+    ghost text = { account_text };
+
+    #[tactic(auto, unfolding(crate::specs::Printed::account_text))]
+    fn put(&self, alloc: Global, out: &mut Vec<u8>) -> Result<(), AllocError> {
+        put_entries(alloc, out, Field::Id, self.id, &account_entries(self))
+    }
+}
+
+impl Event for Transfer {
+    ghost text = { transfer_text };
+
+    #[tactic(auto, unfolding(crate::specs::Printed::transfer_text))]
+    fn put(&self, alloc: Global, out: &mut Vec<u8>) -> Result<(), AllocError> {
+        put_entries(alloc, out, Field::Id, self.id, &transfer_entries(self))
+    }
+}
+
+impl Event for u128 {
+    ghost text = { id_text };
+
+    #[tactic(auto, unfolding(crate::specs::Printed::id_text))]
+    fn put(&self, alloc: Global, out: &mut Vec<u8>) -> Result<(), AllocError> {
+        put_entry(alloc, out, Field::Id, *self)
+    }
+}
+
+/// Appends events that stand behind others.
+fn put_more<T: Event>(alloc: Global, out: &mut Vec<u8>, events: &[T]) -> Result<(), AllocError>
+    ensures { OnOk result (out.new.items ≡ out.old.items ++ more_text T.text events.now) }
+{
+    for event in events {
+        out.extend_from_slice(b", ")?;
+        event.put(alloc, out)?;
+    }
+    Ok(())
+}
+
+/// Appends the events of an operation.
+fn put_events<T: Event>(alloc: Global, out: &mut Vec<u8>, events: &[T]) -> Result<(), AllocError>
+    ensures { OnOk result (out.new.items ≡ out.old.items ++ items_text T.text events.now) }
+{
+    match events {
+        [] => Ok(()),
+        [first, rest @ ..] => {
+            out.extend_from_slice(b" ")?;
+            first.put(alloc, out)?;
+            put_more(alloc, out, rest)
+        }
+    }
+}
+
+/// Appends an operation and its events.
+#[tactic(auto, unfolding(crate::specs::Printed::body_text))]
+fn put_body(alloc: Global, out: &mut Vec<u8>, body: &Body) -> Result<(), AllocError>
+    ensures { OnOk result (out.new.items ≡ out.old.items ++ body_text body.now) }
+{
+    match body {
+        Body::Register => out.extend_from_slice(b"register"),
+        Body::CreateAccounts(events) => {
+            out.extend_from_slice(b"create_accounts")?;
+            put_events(alloc, out, events.as_slice())
+        }
+        Body::CreateTransfers(events) => {
+            out.extend_from_slice(b"create_transfers")?;
+            put_events(alloc, out, events.as_slice())
+        }
+        Body::LookupAccounts(ids) => {
+            out.extend_from_slice(b"lookup_accounts")?;
+            put_events(alloc, out, ids.as_slice())
+        }
+        Body::LookupTransfers(ids) => {
+            out.extend_from_slice(b"lookup_transfers")?;
+            put_events(alloc, out, ids.as_slice())
+        }
+    }
+}
+
+/// Appends the statement of a request at its moment, a line. After an AllocError a beginning of it may have been
+/// appended.
+#[tactic(auto, unfolding(crate::specs::Printed::statement_text))]
+pub fn print_request(
+    alloc: Global,
+    out: &mut Vec<u8>,
+    moment: u64,
+    request: &Request,
+) -> Result<(), AllocError>
+    ensures { OnOk result (out.new.items ≡ out.old.items ++ statement_text (moment, request.now)) }
+{
+    put_entries(
+        alloc,
+        out,
+        Field::At,
+        moment as u128,
+        &header_entries(request),
+    )?;
+    out.extend_from_slice(b" ")?;
+    put_body(alloc, out, request.body())?;
+    out.extend_from_slice(b";\n")
+}
+
+/// The one text of requests at their moments: a statement a line, the fields in the order of the records, those that are 0
+/// left out but for the moment and the ids, numbers decimal. AllocError where there is no memory for it.
+pub fn print_requests(alloc: Global, pairs: &[(u64, Request)]) -> Result<Vec<u8>, AllocError>
+    ensures { IfOk result (λ text. text.items ≡ printed pairs.now) }
+{
+    let mut out = Vec::new(alloc);
+    for (moment, request) in pairs {
+        print_request(alloc, &mut out, *moment, request)?;
+    }
+    Ok(out)
+}

@@ -1,0 +1,74 @@
+//! Texts of statements, read as requests.
+ghost use Rattle.std.specs.Prelude.{◌≡◌, IfOk};
+ghost use Rattle.tb_text.specs.Steps.{Reads, place_of};
+ghost use Rattle.tb_text.specs.Positions.{line_from, column_from};
+
+use crate::places::{Lexeme, Place};
+use crate::scanner::Scanner;
+use std::alloc::{AllocError, Global};
+use tb_records::{Items, Request};
+
+/// Where a text goes wrong, and what would go on there.
+#[derive(Clone, Copy, Debug, PartialEq, Eq)]
+pub struct TextFault {
+    /// The number of bytes before the place.
+    pub place: usize,
+    /// What the reader was within.
+    pub lexeme: Lexeme,
+    /// The part of a statement that was to stand next.
+    pub awaited: Place,
+}
+
+/// What a text says.
+#[derive(Drop)]
+pub struct Reading {
+    /// The requests of the statements that are whole, each with its moment in nanoseconds.
+    pub pairs: Items<(u64, Request)>,
+    /// Where it goes wrong, if it does.
+    pub fault: Option<TextFault>,
+}
+
+/// Reads statements. With no fault the text means the requests; with one the text before its place begins a text of
+/// statements, and what stands there goes on none, or is the end of the text within a statement. AllocError where there
+/// is no memory for the requests.
+pub fn read_text(alloc: Global, text: &[u8]) -> Result<Reading, AllocError>
+    ensures { IfOk result (λ reading. Reads text.now reading.pairs (place_of reading.fault)) }
+{
+    let mut scanner = Scanner::new(alloc);
+    let place = match scanner.scan(text)? {
+        Some(place) => Some(place),
+        None if scanner.is_at_rest() => None,
+        None => Some(text.len()),
+    };
+    let (lexeme, awaited) = scanner.stand();
+    let fault = match place {
+        Some(place) => Some(TextFault {
+            place,
+            lexeme,
+            awaited,
+        }),
+        None => None,
+    };
+    Ok(Reading {
+        pairs: scanner.into_pairs(),
+        fault,
+    })
+}
+
+/// The line behind these bytes, from 1, and the column, the number of bytes since the line's beginning, from 1.
+pub fn position(before: &[u8]) -> (usize, usize)
+    ensures line { result.0 ≡ line_from 1 before.now }
+    ensures column { result.1 ≡ column_from 1 before.now }
+{
+    let mut line = 1;
+    let mut column = 1;
+    for byte in before {
+        if *byte == b'\n' {
+            line += 1;
+            column = 1;
+        } else {
+            column += 1;
+        }
+    }
+    (line, column)
+}

@@ -1,0 +1,64 @@
+//! `tbt`: statements to scripts and back, replies and dumps to JSON, from standard input to standard output.
+#![tactic(auto)]
+
+mod commands;
+mod faults;
+mod lines;
+mod objects;
+#[cfg(test)]
+mod tests;
+
+use commands::command;
+use faults::Fault;
+use std::env;
+use std::io::{self, BufReader, BufWriter, Write};
+use std::process::ExitCode;
+use tb_records::{Buffered, Counting};
+
+/// The bytes of input and of output that are held at a time.
+const BUFFER: usize = 65536;
+
+/// The words after the program's name.
+fn words(rt: &HostRuntime) -> io::Result<Vec<String>> {
+    let mut words = Vec::new(rt.alloc());
+    for word in env::args(rt)?.skip(1) {
+        words.push(word)?;
+    }
+    Ok(words)
+}
+
+/// Does what the words ask for between standard input and standard output.
+fn perform(rt: &HostRuntime, words: &[String]) -> io::Result<u8> {
+    let mut reader = Buffered::new(BufReader::with_capacity(rt.alloc(), BUFFER, rt.stdin())?);
+    let mut writer = Counting::new(BufWriter::with_capacity(rt.alloc(), BUFFER, rt.stdout())?);
+    let mut line = Counting::new(Vec::new(rt.alloc()));
+    let status = command(rt.alloc(), words, &mut reader, &mut writer, &mut line);
+    writer.into_inner().flush()?;
+    let _ = rt.stderr().write_all(line.into_inner().as_slice());
+    Ok(status)
+}
+
+/// Tells a fault, and answers its status.
+fn refuse(rt: &HostRuntime, fault: &Fault) -> u8 {
+    fault.tell(&mut Counting::new(rt.stderr()));
+    fault.status()
+}
+
+/// The fault of an error of the system.
+fn fault_of(error: &io::Error) -> Fault {
+    match error.kind() {
+        io::ErrorKind::OutOfMemory => Fault::NoMemory,
+        _ => Fault::Device,
+    }
+}
+
+fn main(rt: HostRuntime) -> ExitCode {
+    let Ok(words) = words(&rt) else {
+        return ExitCode::from(refuse(&rt, &Fault::Usage));
+    };
+    let status = match perform(&rt, words.as_slice()) {
+        Ok(status) => status,
+        Err(error) => refuse(&rt, &fault_of(&error)),
+    };
+    ExitCode::from(status)
+}
