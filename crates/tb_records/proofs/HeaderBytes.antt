@@ -7,7 +7,8 @@ use Rattle.std.proofs.lemmas.Bool.Decides.{eqb_tells}
 use Rattle.tb_records.specs.declared.faults.FrameFault.{FrameFault}
 use Rattle.tb_records.specs.declared.headers.Header.{Header}
 use Rattle.tb_records.specs.Frames.{item_size, header_bytes, header_fault, header_tests, length_tests, client_at, session_at, request_at, operation_at, length_at}
-use Rattle.tb_records.specs.HeaderFields.{HeaderOf, HeaderSpelled, IsHeader, numbers_fault, numbers_tests, code_of}
+use Rattle.tb_records.specs.HeaderFields.{HeaderOf, HeaderSpelled, IsHeader, numbers_fault, numbers_tests}
+use Rattle.tb_records.specs.Operations.{operation_code}
 use Rattle.tb_records.proofs.NumberBytes.{le_at-spelled, le_at-fits, field_then}
 use Rattle.tb_records.proofs.FirstFaults.{NoneHolds, none_each, all_none, both_zero, is_zero}
 
@@ -58,11 +59,11 @@ right_length code len tests =
     ]
 
 -- the numbers of a header without a fault keep the rules
-pub header_lawful : (b : List ℕ) (h : Header) → HeaderOf b h → numbers_fault h.client h.session h.request (code_of h.operation) h.count ≡ None
+pub header_lawful : (b : List ℕ) (h : Header) → HeaderOf b h → numbers_fault h.client h.session h.request (operation_code h.operation) h.count ≡ None
 unfolding header_fault
 header_lawful b h of =
     let tests = none_each (header_tests b) of.sound in
-    let same : numbers_fault h.client h.session h.request (code_of h.operation) h.count
+    let same : numbers_fault h.client h.session h.request (operation_code h.operation) h.count
     ≡ numbers_fault (client_at b) (session_at b) (request_at b) (operation_at b) (length_at b / item_size (operation_at b)) =
     λ i. numbers_fault (of.client i) (of.session i) (of.request i) (of.operation i) (of.count i) in
     let numbers : NoneHolds (numbers_tests (client_at b) (session_at b) (request_at b) (operation_at b) (length_at b / item_size (operation_at b))) =
@@ -70,7 +71,7 @@ header_lawful b h of =
     same ∙ all_none (numbers_tests (client_at b) (session_at b) (request_at b) (operation_at b) (length_at b / item_size (operation_at b))) numbers
 
 -- a register has no items
-header_empty : (b : List ℕ) (h : Header) → HeaderOf b h → code_of h.operation ≡ 2 → h.count ≡ 0
+header_empty : (b : List ℕ) (h : Header) → HeaderOf b h → operation_code h.operation ≡ 2 → h.count ≡ 0
 unfolding header_fault
 header_empty b h of e =
     let tests = none_each (header_tests b) of.sound in

@@ -10,6 +10,7 @@ pub mod ItemBytes
 pub mod NumberBytes
 pub mod OneBody
 pub mod OneSpelling
+pub mod OperationNames
 pub mod Pieces
 pub mod ReplyFaults
 pub mod ReplyHeaderBytes

@@ -3,7 +3,7 @@ use Rattle.std.proofs.Common.{◌≡◌, ℕ, ◌+◌, ◌-◌, ◌/◌, ◌^◌
 use Rattle.std.proofs.Math.Seq.{take-add}
 use Rattle.std.proofs.lemmas.Bool.{eq-eqb}
 use Rattle.std.proofs.lemmas.List.{length-take, length-drop}
-use Rattle.tb_records.specs.declared.answering.ReplyHeader.{ReplyHeader}
+use Rattle.tb_records.specs.declared.reply_reading.ReplyHeader.{ReplyHeader}
 use Rattle.tb_records.specs.declared.bodies.ReplyBody.{ReplyBody}
 use Rattle.tb_records.specs.declared.faults.FrameFault.{FrameFault}
 use Rattle.tb_records.specs.declared.faults.FrameFault.TheVariants.{ClientZero, UnknownOperation, BadLength, TooMany, RegisterNumbers, RequestZero, ReplyNumbers}

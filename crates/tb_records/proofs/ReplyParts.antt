@@ -1,6 +1,6 @@
 -- The fault of a reply's header, by the parts of its tests.
 use Rattle.std.proofs.Common.{◌≡◌, List, ℕ, ◌++◌, Some, None, ap, ◌∙◌, sym}
-use Rattle.tb_records.specs.declared.answering.ReplyHeader.{ReplyHeader}
+use Rattle.tb_records.specs.declared.reply_reading.ReplyHeader.{ReplyHeader}
 use Rattle.tb_records.specs.declared.faults.FrameFault.{FrameFault}
 use Rattle.tb_records.specs.Frames.{session_at, request_at, operation_at, length_at}
 use Rattle.tb_records.specs.Messages.{status_code, first_fault}

@@ -1,7 +1,5 @@
 -- What a header without a fault says.
 use Rattle.std.specs.Prelude.{ℕ, length, Result, Ok, Err, Bool, ◌&&◌, ◌==◌, ◌*◌, not, nat_lt, [], ◌∷◌, take, ◌≡◌, ◌/◌, ◌^◌, ◌<◌, List, Option, Some, None}
-use Rattle.tb_records.specs.declared.headers.Operation.{Operation}
-use Rattle.tb_records.specs.declared.headers.Operation.TheVariants.{Register, CreateAccounts, CreateTransfers, LookupAccounts, LookupTransfers}
 use Rattle.tb_records.specs.declared.headers.Header.{Header}
 use Rattle.std.specs.Io.KnownBytes.{Consumes}
 use Rattle.tb_records.specs.declared.bodies.Body.{Body}
@@ -9,15 +7,8 @@ use Rattle.tb_records.specs.declared.faults.FrameFault.{FrameFault}
 use Rattle.tb_records.specs.declared.faults.FrameFault.TheVariants.{ClientZero, TooMany, RegisterNumbers, RequestZero}
 use Rattle.tb_records.specs.Inputs.{Answers}
 use Rattle.tb_records.specs.Messages.{Message, operation, item_count, items_max, first_fault}
+use Rattle.tb_records.specs.Operations.{operation_code}
 use Rattle.tb_records.specs.Frames.{body_bytes, BodyFits, IsRequest, header_bytes, header_fault, client_at, session_at, request_at, operation_at, length_at, item_size}
-
--- the number of an operation
-abbrev pub code_of : Operation → ℕ
-code_of Register = 2
-code_of CreateAccounts = 129
-code_of CreateTransfers = 130
-code_of LookupAccounts = 131
-code_of LookupTransfers = 132
 
 -- the fields of a header without a fault, and the number of items that its length makes
 pub record HeaderOf (b : List ℕ) (h : Header) : Type 0 where
@@ -25,7 +16,7 @@ pub record HeaderOf (b : List ℕ) (h : Header) : Type 0 where
   pub client : h.client ≡ client_at b
   pub session : h.session ≡ session_at b
   pub request : h.request ≡ request_at b
-  pub operation : code_of h.operation ≡ operation_at b
+  pub operation : operation_code h.operation ≡ operation_at b
   pub length : h.length ≡ length_at b
   pub count : h.count ≡ length_at b / item_size (operation_at b)
 
@@ -51,15 +42,15 @@ numbers_fault client session request code count = first_fault (numbers_tests cli
 
 -- the numbers of a header keep the rules and fit
 pub record IsHeader (h : Header) : Type 0 where
-  pub lawful : numbers_fault h.client h.session h.request (code_of h.operation) h.count ≡ None
+  pub lawful : numbers_fault h.client h.session h.request (operation_code h.operation) h.count ≡ None
   pub client : h.client < 2 ^ 128
   pub session : h.session < 2 ^ 64
   pub request : h.request < 2 ^ 32
-  pub empty : code_of h.operation ≡ 2 → h.count ≡ 0
+  pub empty : operation_code h.operation ≡ 2 → h.count ≡ 0
 
 -- the length of the body behind a header
 abbrev pub body_length : Header → ℕ
-body_length h = h.count * item_size (code_of h.operation)
+body_length h = h.count * item_size (operation_code h.operation)
 
 -- a body was read: count items of the operation, whose numbers fit
 pub record ReadsBody (code n : ℕ) (body : Body) (before after : Option (List ℕ)) : Type 0 where
@@ -73,7 +64,7 @@ pub record ReadsRequest (h : Header) (r : Message) (before after : Option (List 
   pub client : r.client ≡ h.client
   pub session : r.session ≡ h.session
   pub request : r.request ≡ h.request
-  pub operation : operation r.body ≡ code_of h.operation
+  pub operation : operation r.body ≡ operation_code h.operation
   pub count : item_count r.body ≡ h.count
   pub bytes : Consumes before after (body_bytes r.body)
   pub is : IsRequest r

@@ -6,6 +6,8 @@ pub mod AccountFlags
 pub mod TransferFlags
 pub mod AccountResults
 pub mod TransferResults
+pub mod Operations
+pub mod Statuses
 pub mod Messages
 pub mod Same
 pub mod Frames

@@ -1,7 +1,7 @@
 -- What the header and the body of a reply say when they were read.
 use Rattle.std.specs.Prelude.{ℕ, ◌≡◌, ◌==◌, List, flat_map, All, None, if◌then◌else◌}
 use Rattle.tb_records.specs.declared.bodies.ReplyBody.{ReplyBody}
-use Rattle.tb_records.specs.declared.answering.ReplyHeader.{ReplyHeader}
+use Rattle.tb_records.specs.declared.reply_reading.ReplyHeader.{ReplyHeader}
 use Rattle.tb_records.specs.Messages.{status_code, first_fault, kind_of, kind_for}
 use Rattle.tb_records.specs.Frames.{client_at, session_at, request_at, operation_at, length_at}
 use Rattle.tb_records.specs.ReplyFrames.{status_at, commit_at, reply_header_fault, reply_body_bytes, ReplyBodyFits}

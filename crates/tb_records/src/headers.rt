@@ -1,46 +1,22 @@
 //! The header of a request's frame, and its tests in their order.
 ghost use Rattle.std.specs.Prelude.{◌≡◌, ◌==◌, ◌≤◌, ◌<◌, ◌+◌, ◌/◌, Some, None, false, MatchOption, MatchResult, OnOk, IfOk, length, take};
 ghost use Rattle.tb_records.specs.Frames.{header_bytes, header_fault, item_size, length_at, length_tests};
-ghost use Rattle.tb_records.specs.HeaderFields.{code_of, HeaderOf, HeaderSpelled};
+ghost use Rattle.tb_records.specs.HeaderFields.{HeaderOf, HeaderSpelled};
 ghost use Rattle.tb_records.specs.Messages.{first_fault, is_operation};
+ghost use Rattle.tb_records.specs.Operations.{operation_code};
 
 use crate::encoding::{u8_at, u24_at, u32_at, u64_at, u96_at, u128_at};
 use crate::faults::FrameFault;
 use crate::limits::ITEMS_MAX;
+use crate::operations::Operation;
 
-/// What a request asks for.
-#[derive(Clone, Copy)]
-pub(crate) enum Operation {
-    Register,
-    CreateAccounts,
-    CreateTransfers,
-    LookupAccounts,
-    LookupTransfers,
-}
-
-impl Operation {
-    /// The operation of a number.
-    fn with_code(code: u8) -> Option<Operation>
-        ensures { MatchOption result (is_operation code ≡ false) (λ o. code_of o ≡ code) }
-    {
-        match code {
-            2 => Some(Operation::Register),
-            129 => Some(Operation::CreateAccounts),
-            130 => Some(Operation::CreateTransfers),
-            131 => Some(Operation::LookupAccounts),
-            132 => Some(Operation::LookupTransfers),
-            _ => None,
-        }
-    }
-
-    /// The size of an item in the body.
-    fn item_size(self) -> usize
-        ensures { result ≡ item_size (code_of self) }
-    {
-        match self {
-            Operation::CreateAccounts | Operation::CreateTransfers => 128,
-            Operation::Register | Operation::LookupAccounts | Operation::LookupTransfers => 16,
-        }
+/// The size of an item in the body of a request.
+fn size_of_item(operation: Operation) -> usize
+    ensures { result ≡ item_size (operation_code operation) }
+{
+    match operation {
+        Operation::CreateAccounts | Operation::CreateTransfers => 128,
+        Operation::Register | Operation::LookupAccounts | Operation::LookupTransfers => 16,
     }
 }
 
@@ -59,11 +35,11 @@ pub(crate) struct Header {
 
 /// The number of items in a body of this length.
 fn count_of(operation: Operation, length: usize) -> Result<usize, FrameFault>
-    ensures { let code = code_of operation in MatchResult result
+    ensures { let code = operation_code operation in MatchResult result
         (λ n. (n ≡ length / item_size code) × (first_fault (length_tests code length) ≡ None))
         (λ f. first_fault (length_tests code length) ≡ Some f) }
 {
-    let size = operation.item_size();
+    let size = size_of_item(operation);
     let register = matches!(operation, Operation::Register);
     let odd = if register { length } else { length % size };
     if odd != 0 {
@@ -86,7 +62,7 @@ fn header_fields(bytes: &[u8]) -> Result<Header, FrameFault>
     if client == 0 {
         return Err(FrameFault::ClientZero);
     }
-    let operation = match Operation::with_code(u8_at(bytes, 28)) {
+    let operation = match Operation::from_code(u8_at(bytes, 28)) {
         Some(operation) => operation,
         None => return Err(FrameFault::UnknownOperation),
     };

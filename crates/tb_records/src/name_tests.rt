@@ -2,7 +2,9 @@
 use crate::account_flags::AccountFlag;
 use crate::account_results::CreateAccountResult;
 use crate::limits::{ITEMS_MAX, LAST_MOMENT, NANOSECONDS_PER_SECOND};
+use crate::operations::Operation;
 use crate::records::{Account, Transfer};
+use crate::replies::Status;
 use crate::transfer_flags::TransferFlag;
 use crate::transfer_results::CreateTransferResult;
 use crate::vectors::account;
@@ -116,6 +118,25 @@ const TRANSFER_RESULTS: [(u32, &str); 60] = [
     (68, "id_already_failed"),
 ];
 
+const OPERATIONS: [(u8, &str); 5] = [
+    (2, "register"),
+    (129, "create_accounts"),
+    (130, "create_transfers"),
+    (131, "lookup_accounts"),
+    (132, "lookup_transfers"),
+];
+
+const STATUSES: [(u8, &str); 8] = [
+    (0, "Reply"),
+    (1, "NoSession"),
+    (2, "SessionTooLow"),
+    (3, "NewerSession"),
+    (4, "Older"),
+    (5, "Collision"),
+    (6, "NewerRequest"),
+    (7, "NotYet"),
+];
+
 /// An account with these flags.
 fn marked(flags: u16) -> Account {
     Account {
@@ -198,6 +219,28 @@ fn transfer_results_by_code_and_name(rt: HostRuntime) {
 }
 
 #[test]
+fn operations_by_code_and_name(rt: HostRuntime) {
+    for (operation, (code, name)) in Operation::ALL.into_iter().zip(OPERATIONS) {
+        assert!(rt; operation.code() == code && operation.name() == name);
+        assert!(rt; Operation::from_code(code) == Some(operation));
+        assert!(rt; Operation::from_name(name.as_bytes()) == Some(operation));
+    }
+    assert!(rt; Operation::from_code(3).is_none());
+    assert!(rt; Operation::from_name(b"Register").is_none());
+}
+
+#[test]
+fn statuses_by_code_and_name(rt: HostRuntime) {
+    for (status, (code, name)) in Status::ALL.into_iter().zip(STATUSES) {
+        assert!(rt; status.code() == code && status.name() == name);
+        assert!(rt; Status::from_code(code) == Some(status));
+        assert!(rt; Status::from_name(name.as_bytes()) == Some(status));
+    }
+    assert!(rt; Status::from_code(8).is_none());
+    assert!(rt; Status::from_name(b"").is_none());
+}
+
+#[test]
 fn names_are_shown(rt: HostRuntime) {
     let alloc = rt.alloc();
     let code = CreateTransferResult::DebitAccountNotFound;
@@ -206,6 +249,10 @@ fn names_are_shown(rt: HostRuntime) {
     let code = CreateAccountResult::Exists;
     let line = format!(in alloc; "{code} {}", AccountFlag::History).expect(&rt, "a line");
     assert!(rt; line.as_str() == "exists history");
+    let line = format!(in alloc; "{} {}", Operation::Register, Status::NotYet).expect(
+        &rt, "a line",
+    );
+    assert!(rt; line.as_str() == "register NotYet");
 }
 
 #[test]

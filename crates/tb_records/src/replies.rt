@@ -1,13 +1,16 @@
 //! Replies whose numbers and bodies go together.
-ghost use Rattle.std.specs.Prelude.{◌≡◌, ◌≢◌, ◌==◌, ◌<◌, MatchOption, IfOk, Ok, Err, if◌then◌else◌};
+ghost use Rattle.std.specs.Prelude.{◌≡◌, ◌≢◌, ◌↔◌, ◌==◌, ◌<◌, find, nat_eq, MatchOption, Some, IfOk, Ok, Err, if◌then◌else◌};
+ghost use Rattle.std.specs.Cmp.Lexicographic.{pointwise};
 ghost use Rattle.tb_records.specs.Messages.{status_code, operation, answered, answer_fault, first_fault, has_reply_numbers, has_register_numbers, is_operation, kind_for, IsRight};
 ghost use Rattle.tb_records.specs.ReplyTests.{reply_number_tests};
+ghost use Rattle.tb_records.specs.Statuses.{status_name};
 
 use crate::bodies::ReplyBody;
 use crate::faults::FrameFault;
 use crate::limits::ITEMS_MAX;
 use crate::requests::Request;
 use std::alloc::{AllocError, Global};
+use std::fmt;
 use std::marker::Model;
 
 /// How a request fared.
@@ -32,6 +35,18 @@ pub enum Status {
 }
 
 impl Status {
+    /// All of them, by rising number.
+    pub const ALL: [Status; 8] = [
+        Status::Reply,
+        Status::NoSession,
+        Status::SessionTooLow,
+        Status::NewerSession,
+        Status::Older,
+        Status::Collision,
+        Status::NewerRequest,
+        Status::NotYet,
+    ];
+
     /// The number in a frame.
     pub fn code(self) -> u8
         ensures { result ≡ status_code self }
@@ -64,6 +79,47 @@ impl Status {
             _ => None,
         }
     }
+
+    /// The status's name, as a message shows it.
+    pub fn name(self) -> &'static str
+        ensures { result.now ≡ status_name self }
+    {
+        match self {
+            Status::Reply => "Reply",
+            Status::NoSession => "NoSession",
+            Status::SessionTooLow => "SessionTooLow",
+            Status::NewerSession => "NewerSession",
+            Status::Older => "Older",
+            Status::Collision => "Collision",
+            Status::NewerRequest => "NewerRequest",
+            Status::NotYet => "NotYet",
+        }
+    }
+
+    /// The status that has a name; None where none has it.
+    pub fn from_name(name: &[u8]) -> Option<Status>
+        ensures { (status : Status) → (result ≡ Some status) ↔ (status_name status ≡ name.now) }
+    {
+        first_status_named(&Status::ALL, name)
+    }
+}
+
+impl fmt::Display for Status {
+    ghost output = { λ status. Some (status_name status) };
+
+    fn fmt<W: fmt::Write>(&self, f: &mut fmt::Formatter<W>) -> fmt::Result {
+        f.write_str(self.name())
+    }
+}
+
+/// The first of some statuses that has a name.
+fn first_status_named(statuses: &[Status], name: &[u8]) -> Option<Status>
+    ensures { result ≡ find (λ status. pointwise nat_eq (status_name status) name.now) statuses.now }
+{
+    statuses
+        .iter()
+        .copied()
+        .find(|status| status.name().as_bytes() == name)
 }
 
 /// A reply to a request.

@@ -1,24 +1,25 @@
-//! The vectors of replies, requests and replies as they are written, and what writers do that fail or take nothing.
+//! The vectors of replies, and requests and replies as they are written.
 ghost use Rattle.std.specs.Prelude.{◌≡◌, MatchResult};
 
-use crate::answering::read_reply;
 use crate::bodies::{Body, ReplyBody};
-use crate::devices::{Counting, Sink};
+use crate::devices::Counting;
 use crate::faults::FrameFault;
+use crate::limits::ITEMS_MAX;
 use crate::lists::Items;
+use crate::operations::Operation;
 use crate::records::{Account, EventResult, Transfer};
 use crate::replies::{Reply, Status};
+use crate::reply_reading::read_reply;
 use crate::requests::Request;
+use crate::transfer_results::CreateTransferResult;
 use crate::vectors::{
     CREATED, CREATION, REGISTER, REGISTERED, account, creation, found_bytes, lookup, movement,
     record, transfer, two_behind, with,
 };
 use crate::writing::{send_reply, write_reply, write_request};
 use std::alloc::{AllocError, Global};
-use std::io;
-use std::io::{Error, ErrorKind, Write};
 
-/// Events 0, 1 and 2 have the codes 1, 21 and 1: the reply to the third request of session 1, by entry 4.
+/// A chain of three events was broken by event 1, whose debit account is not found: the reply to the third request of session 1, by entry 4.
 const BROKEN_CHAIN: [u8; 72] = [
     7, 0, 0, 0, 0, 0, 0, 0, 0, 0, 0, 0, 0, 0, 0, 0, //
     1, 0, 0, 0, 0, 0, 0, 0, 3, 0, 0, 0, 0x82, 0, 0, 0, //
@@ -44,15 +45,19 @@ const TOO_LOW: [u8; 48] = [
 
 /// The items, or NoMemory.
 fn items<T: Copy + Drop>(alloc: Global, slice: &[T]) -> Result<Items<T>, FrameFault> {
-    match Vec::from_slice(alloc, slice) {
-        Ok(vec) => Ok(Items::new(vec)),
-        Err(_) => Err(FrameFault::NoMemory),
-    }
+    let vec = Vec::from_slice(alloc, slice).map_err(|_| FrameFault::NoMemory)?;
+    Ok(Items::new(vec))
 }
 
 /// A reply to a request of client 7 in session 1.
-fn answer(number: u32, operation: u8, commit: u64, body: ReplyBody) -> Result<Reply, FrameFault> {
-    Reply::new(7, 1, number, operation, Status::Reply, commit, body)
+fn answer(
+    number: u32,
+    operation: Operation,
+    commit: u64,
+    body: ReplyBody,
+) -> Result<Reply, FrameFault> {
+    let code = operation.code();
+    Reply::new(7, 1, number, code, Status::Reply, commit, body)
 }
 
 /// A request of client 7 in session 1.
@@ -64,7 +69,7 @@ fn ask(number: u32, body: Body) -> Result<Request, FrameFault> {
 fn results(
     alloc: Global,
     number: u32,
-    operation: u8,
+    operation: Operation,
     commit: u64,
     codes: &[EventResult],
 ) -> Result<Reply, FrameFault> {
@@ -84,7 +89,7 @@ fn accounts(
     found: &[Account],
 ) -> Result<Reply, FrameFault> {
     let body = ReplyBody::Accounts(items(alloc, found)?);
-    answer(number, 131, commit, body)
+    answer(number, Operation::LookupAccounts, commit, body)
 }
 
 /// The reply that lists transfers.
@@ -95,11 +100,11 @@ fn transfers(
     found: &[Transfer],
 ) -> Result<Reply, FrameFault> {
     let body = ReplyBody::Transfers(items(alloc, found)?);
-    answer(number, 132, commit, body)
+    answer(number, Operation::LookupTransfers, commit, body)
 }
 
 /// The reply to the lookup of accounts 2, 9 and 1.
-fn found(alloc: Global) -> Result<Reply, FrameFault> {
+pub(crate) fn found(alloc: Global) -> Result<Reply, FrameFault> {
     accounts(alloc, 2, 3, &[account(2, 12), account(1, 11)])
 }
 
@@ -172,28 +177,27 @@ fn both_ways(alloc: Global, reply: Result<Reply, FrameFault>, bytes: &[u8]) -> b
 #[test]
 fn replies_both_ways(rt: HostRuntime) {
     let alloc = rt.alloc();
-    let registered = answer(0, 2, 1, ReplyBody::Empty);
+    let registered = answer(0, Operation::Register, 1, ReplyBody::Empty);
     assert!(rt; both_ways(alloc, registered, &REGISTERED));
-    let created = results(alloc, 1, 129, 2, &[]);
+    let created = results(alloc, 1, Operation::CreateAccounts, 2, &[]);
     assert!(rt; both_ways(alloc, created, &CREATED));
     assert!(rt; both_ways(alloc, found(alloc), &found_bytes()));
 }
 
+/// An event of a batch and its result.
+fn event(index: u32, verdict: CreateTransferResult) -> EventResult {
+    let result = verdict.code();
+    EventResult { index, result }
+}
+
 #[test]
 fn results_both_ways(rt: HostRuntime) {
-    let mut codes = [EventResult {
-        index: 0,
-        result: 1,
-    }; 3];
-    codes[1] = EventResult {
-        index: 1,
-        result: 21,
-    };
-    codes[2] = EventResult {
-        index: 2,
-        result: 1,
-    };
-    let reply = results(rt.alloc(), 3, 130, 4, &codes);
+    let codes = [
+        event(0, CreateTransferResult::LinkedEventFailed),
+        event(1, CreateTransferResult::DebitAccountNotFound),
+        event(2, CreateTransferResult::LinkedEventFailed),
+    ];
+    let reply = results(rt.alloc(), 3, Operation::CreateTransfers, 4, &codes);
     assert!(rt; both_ways(rt.alloc(), reply, &BROKEN_CHAIN));
 }
 
@@ -290,16 +294,40 @@ fn fault_of(
 
 #[test]
 fn faults_of_new_replies(rt: HostRuntime) {
+    let register = Operation::Register.code();
+    let create = Operation::CreateAccounts.code();
+    let unknown = 3;
     let cases = [
-        (0, 1, 129, Status::Reply, 2, FrameFault::ClientZero),
-        (7, 1, 3, Status::Reply, 2, FrameFault::UnknownOperation),
-        (7, 1, 2, Status::Reply, 1, FrameFault::RegisterNumbers),
-        (7, 0, 2, Status::NotYet, 0, FrameFault::RegisterNumbers),
-        (7, 0, 129, Status::Reply, 2, FrameFault::RequestZero),
-        (7, 0, 2, Status::Reply, 2, FrameFault::ReplyNumbers),
-        (7, 1, 129, Status::Reply, 1, FrameFault::ReplyNumbers),
-        (7, 1, 129, Status::Older, 2, FrameFault::ReplyNumbers),
-        (7, 1, 129, Status::Reply, 2, FrameFault::BadLength),
+        (0, 1, create, Status::Reply, 2, FrameFault::ClientZero),
+        (
+            7,
+            1,
+            unknown,
+            Status::Reply,
+            2,
+            FrameFault::UnknownOperation,
+        ),
+        (
+            7,
+            1,
+            register,
+            Status::Reply,
+            1,
+            FrameFault::RegisterNumbers,
+        ),
+        (
+            7,
+            0,
+            register,
+            Status::NotYet,
+            0,
+            FrameFault::RegisterNumbers,
+        ),
+        (7, 0, create, Status::Reply, 2, FrameFault::RequestZero),
+        (7, 0, register, Status::Reply, 2, FrameFault::ReplyNumbers),
+        (7, 1, create, Status::Reply, 1, FrameFault::ReplyNumbers),
+        (7, 1, create, Status::Older, 2, FrameFault::ReplyNumbers),
+        (7, 1, create, Status::Reply, 2, FrameFault::BadLength),
     ];
     for (client, request, operation, status, commit, fault) in cases {
         let found = fault_of(client, request, operation, status, commit);
@@ -308,14 +336,19 @@ fn faults_of_new_replies(rt: HostRuntime) {
             "operation {operation}, commit {commit}"
         );
     }
-    assert!(rt; fault_of(7, 1, 129, Status::Older, 0).is_none());
-    assert!(rt; fault_of(7, 0, 2, Status::Reply, 1).is_none());
+    assert!(rt; fault_of(7, 1, create, Status::Older, 0).is_none());
+    assert!(rt; fault_of(7, 0, register, Status::Reply, 1).is_none());
 }
 
 #[test]
 fn body_of_another_kind(rt: HostRuntime) {
     let none: Vec<Account> = Vec::new(rt.alloc());
-    let reply = answer(1, 132, 2, ReplyBody::Accounts(Items::new(none)));
+    let reply = answer(
+        1,
+        Operation::LookupTransfers,
+        2,
+        ReplyBody::Accounts(Items::new(none)),
+    );
     assert!(rt; reply.err() == Some(FrameFault::BadLength));
 }
 
@@ -387,14 +420,10 @@ fn bodies_of_other_operations(rt: HostRuntime) {
 
 /// The reply that lists so many results.
 fn many(alloc: Global, count: usize) -> Result<Reply, FrameFault> {
-    match vec![in alloc; EventResult {
-        index: 1,
-        result: 2
-    }; count]
-    {
-        Ok(codes) => answer(1, 129, 2, ReplyBody::Results(Items::new(codes))),
-        Err(_) => Err(FrameFault::NoMemory),
-    }
+    let open = event(1, CreateTransferResult::LinkedEventChainOpen);
+    let codes = vec![in alloc; open; count].map_err(|_| FrameFault::NoMemory)?;
+    let body = ReplyBody::Results(Items::new(codes));
+    answer(1, Operation::CreateTransfers, 2, body)
 }
 
 /// The frame of the reply; none where memory is wanting.
@@ -428,70 +457,9 @@ fn replies_come_back(rt: HostRuntime) {
 
 #[test]
 fn largest_reply(rt: HostRuntime) {
-    let most = many(rt.alloc(), 8190).expect(&rt, "a reply");
+    let most = many(rt.alloc(), ITEMS_MAX).expect(&rt, "a reply");
     let bytes = frame_of(rt.alloc(), &most).expect(&rt, "memory");
-    assert!(rt; most.body().len() == 8190 && bytes.len() == 65568);
+    assert!(rt; most.body().len() == ITEMS_MAX && bytes.len() == 65568);
     assert!(rt; is_read(rt.alloc(), &most, bytes.as_slice()));
-    assert!(rt; many(rt.alloc(), 8191).err() == Some(FrameFault::TooMany));
-}
-
-/// A writer with little room, which takes at most 20 bytes at a time, and then fails or takes nothing.
-#[derive(Drop)]
-struct Narrow {
-    taken: Vec<u8>,
-    room: usize,
-    fails: bool,
-}
-
-impl Write for Narrow {
-    fn write(&mut self, bytes: &[u8]) -> io::Result<usize> {
-        let count = bytes.len().min(self.room).min(20);
-        if count == 0 && self.fails {
-            return Err(Error::from(ErrorKind::BrokenPipe));
-        }
-        self.taken.extend_from_slice(&bytes[..count])?;
-        self.room -= count;
-        Ok(count)
-    }
-
-    fn flush(&mut self) -> io::Result<()> {
-        Ok(())
-    }
-}
-
-/// A writer with room for so many bytes.
-fn writer_of(alloc: Global, room: usize, fails: bool) -> Counting<Narrow> {
-    let taken = Vec::new(alloc);
-    Counting::new(Narrow { taken, room, fails })
-}
-
-/// Says that the reply is sent with this answer and count of failures, and that so many bytes of its frame went out.
-fn sends(
-    mut sink: Counting<Narrow>,
-    reply: &Reply,
-    answer: Result<(), FrameFault>,
-    failures: u64,
-    taken: usize,
-) -> bool {
-    let sent = send_reply(&mut sink, reply);
-    let failed = Sink::failures(&sink);
-    let bytes = sink.into_inner().taken;
-    sent == answer
-        && failed == failures
-        && bytes.len() == taken
-        && found_bytes().starts_with(bytes.as_slice())
-}
-
-#[test]
-fn writers_that_stop_in_a_frame(rt: HostRuntime) {
-    let alloc = rt.alloc();
-    let reply = found(alloc).expect(&rt, "a reply");
-    let device = Err(FrameFault::Device);
-    for room in [0, 30, 48, 100, 303] {
-        let failing = writer_of(alloc, room, true);
-        assert!(rt; sends(failing, &reply, device, 1, room), "room for {room}");
-        let full = writer_of(alloc, room, false);
-        assert!(rt; sends(full, &reply, device, 0, room), "room for {room}");
-    }
-    assert!(rt; sends(writer_of(alloc, 304, true), &reply, Ok(()), 0, 304));
+    assert!(rt; many(rt.alloc(), ITEMS_MAX + 1).err() == Some(FrameFault::TooMany));
 }

@@ -1,7 +1,8 @@
 //! Requests that are read from a stream, one by one.
 ghost use Rattle.std.specs.Prelude.{◌≡◌, ◌*◌, ◌+◌, ◌&&◌, nat_le, length, Some, None, Ok, Err, IfOk, IfSome, MatchResult};
 ghost use Rattle.tb_records.specs.Frames.{item_size, length_at, IsRequest};
-ghost use Rattle.tb_records.specs.HeaderFields.{code_of, body_length, HeaderAnswers, IsHeader, ReadsBody, ReadsRequest};
+ghost use Rattle.tb_records.specs.HeaderFields.{body_length, HeaderAnswers, IsHeader, ReadsBody, ReadsRequest};
+ghost use Rattle.tb_records.specs.Operations.{operation_code};
 ghost use Rattle.tb_records.specs.Inputs.{opened, fault_in, Answers, IsTimed, TimedAnswers};
 ghost use Rattle.tb_records.specs.Transport.{Counts};
 ghost use Rattle.tb_records.specs.Reading.{BodyFault, MomentAnswers};
@@ -10,8 +11,9 @@ use crate::bodies::Body;
 use crate::devices::{Source, fill, items_from};
 use crate::encoding::{u32_at, u64_at};
 use crate::faults::FrameFault;
-use crate::headers::{Header, Operation, request_header};
+use crate::headers::{Header, request_header};
 use crate::lists::Items;
+use crate::operations::Operation;
 use crate::requests::Request;
 use std::alloc::Global;
 use std::marker::Model;
@@ -103,10 +105,10 @@ fn body_from<S: Source>(
     operation: Operation,
     count: usize,
 ) -> Result<Body, FrameFault>
-    requires { code_of operation ≡ 2 → count ≡ 0 }
+    requires { operation_code operation ≡ 2 → count ≡ 0 }
     ensures bytes { MatchResult result
-        (λ b. ReadsBody (code_of operation) count b (S.input source.old).left (S.input source.new).left)
-        (λ f. BodyFault f (count * item_size (code_of operation)) (S.input source.old).left (S.input source.new).left) }
+        (λ b. ReadsBody (operation_code operation) count b (S.input source.old).left (S.input source.new).left)
+        (λ f. BodyFault f (count * item_size (operation_code operation)) (S.input source.old).left (S.input source.new).left) }
     ensures counted { Counts result (S.input source.old) (S.input source.new) }
 {
     match operation {

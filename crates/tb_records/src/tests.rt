@@ -2,6 +2,7 @@
 use crate::bodies::Body;
 use crate::devices::{Counting, Source};
 use crate::faults::FrameFault;
+use crate::operations::Operation;
 use crate::reading::read_request;
 use crate::records::{Account, Transfer};
 use crate::requests::Request;
@@ -21,11 +22,11 @@ fn frames() -> [u8; 448] {
 }
 
 /// Says that the request is of client 7, with these numbers.
-fn has_numbers(request: &Request, session: u64, number: u32, operation: u8) -> bool {
+fn has_numbers(request: &Request, session: u64, number: u32, operation: Operation) -> bool {
     request.client() == 7
         && request.session() == session
         && request.request() == number
-        && request.operation() == operation
+        && request.operation() == operation.code()
 }
 
 /// Says that the request creates accounts 1 and 2.
@@ -48,11 +49,11 @@ fn looks_up(request: &Request) -> bool {
 
 /// Which of the three frames the request has: 1 the register, 2 the creation, 3 the lookup; 0 none of them.
 fn frame_of(request: &Request) -> u32 {
-    if has_numbers(request, 0, 0, 2) {
+    if has_numbers(request, 0, 0, Operation::Register) {
         1
-    } else if has_numbers(request, 1, 1, 129) && creates(request) {
+    } else if has_numbers(request, 1, 1, Operation::CreateAccounts) && creates(request) {
         2
-    } else if has_numbers(request, 1, 2, 131) && looks_up(request) {
+    } else if has_numbers(request, 1, 2, Operation::LookupAccounts) && looks_up(request) {
         3
     } else {
         0
@@ -61,10 +62,8 @@ fn frame_of(request: &Request) -> u32 {
 
 /// Which of the three frames is read, and its length.
 fn read_frame(alloc: Global, bytes: &[u8]) -> Result<(u32, usize), FrameFault> {
-    match read_request(alloc, bytes) {
-        Ok((request, n)) => Ok((frame_of(&request), n)),
-        Err(fault) => Err(fault),
-    }
+    let (request, n) = read_request(alloc, bytes)?;
+    Ok((frame_of(&request), n))
 }
 
 /// Which of the three frames comes next; None at the end.

@@ -1,6 +1,6 @@
 use Rattle.std.proofs.Common.{◌≡◌, ◌≤◌, ◌+◌, ◌-◌, ◌*◌, ◌++◌, length, vec_len, vec_capacity}
 use Rattle.std.specs.List.{flat_map, All}
-use Rattle.tb_records.proofs.answering.items_in.Given as goal
+use Rattle.tb_records.proofs.reply_reading.items_in.Given as goal
 
 abbrev pub invariant-loop-rest : goal.invariant-loop-rest
 invariant-loop-rest g l = record {

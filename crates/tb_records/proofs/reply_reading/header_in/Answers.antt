@@ -1,6 +1,6 @@
 use Rattle.std.proofs.Common.{◌∙◌, sym}
 use Rattle.tb_records.proofs.ReplyParts.{field_fault, number_fault, length_decides, no_fault}
-use Rattle.tb_records.proofs.answering.header_in.Goals as goal
+use Rattle.tb_records.proofs.reply_reading.header_in.Goals as goal
 
 pub returns-in-Err : goal.returns-in-Err
 returns-in-Err c = field_fault c.args.bytes.now c.in-Err.fault c.in-Err.ensures

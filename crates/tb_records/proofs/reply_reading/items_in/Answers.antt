@@ -2,7 +2,7 @@ use Rattle.std.proofs.Common.{◌≡◌, ◌+◌, ◌*◌, [], ◌∷◌, ◌++�
 use Rattle.std.proofs.lemmas.List.Elements.{All-push}
 use Rattle.std.specs.List.{All}
 use Rattle.tb_records.proofs.ItemBytes.{cut_at, row_more}
-use Rattle.tb_records.proofs.answering.items_in.Goals as goal
+use Rattle.tb_records.proofs.reply_reading.items_in.Goals as goal
 
 pub loop-rest-preserved : goal.loop-rest-preserved
 loop-rest-preserved g c =

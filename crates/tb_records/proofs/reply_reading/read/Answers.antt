@@ -4,7 +4,7 @@ use Rattle.tb_records.specs.ReplyFrames.{has_reply_length, SpellsReply}
 use Rattle.tb_records.specs.ReplyHeaders.{IsReplyBody}
 use Rattle.tb_records.proofs.ReplyFaults.{cut_reply_header, cut_reply_body, whole_reply, found_header_fault}
 use Rattle.tb_records.proofs.ReplyHeaderBytes.{body_behind, header_right, header_length, found_reply}
-use Rattle.tb_records.proofs.answering.read.Goals as goal
+use Rattle.tb_records.proofs.reply_reading.read.Goals as goal
 
 pub returns-then-bytes-lt48 : goal.returns-then-bytes-lt48
 returns-then-bytes-lt48 c = cut_reply_header c.args.bytes.now c.if-bytes-lt48.true

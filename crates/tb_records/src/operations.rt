@@ -1,0 +1,93 @@
+//! The operations of requests, by TigerBeetle's names.
+ghost use Rattle.std.specs.Prelude.{◌≡◌, ◌↔◌, find, nat_eq, false, MatchOption, Some};
+ghost use Rattle.std.specs.Cmp.Lexicographic.{pointwise};
+ghost use Rattle.tb_records.specs.Messages.{is_operation};
+ghost use Rattle.tb_records.specs.Operations.{operation_code, operation_name};
+
+use std::fmt;
+
+/// What a request asks for: the number beside it is the one in a frame.
+#[derive(Clone, Copy, Debug, PartialEq, Eq)]
+pub enum Operation {
+    /// Opens a session of a client.
+    Register = 2,
+    /// Creates accounts.
+    CreateAccounts = 129,
+    /// Creates transfers.
+    CreateTransfers = 130,
+    /// Looks accounts up by their ids.
+    LookupAccounts = 131,
+    /// Looks transfers up by their ids.
+    LookupTransfers = 132,
+}
+
+impl Operation {
+    /// All of them, by rising number.
+    pub const ALL: [Operation; 5] = [
+        Operation::Register,
+        Operation::CreateAccounts,
+        Operation::CreateTransfers,
+        Operation::LookupAccounts,
+        Operation::LookupTransfers,
+    ];
+
+    /// The operation's number, in a frame.
+    pub fn code(self) -> u8
+        ensures { result ≡ operation_code self }
+    {
+        self as u8
+    }
+
+    /// The operation that has a number; None where none has it.
+    pub fn from_code(code: u8) -> Option<Operation>
+        ensures value { MatchOption result (is_operation code ≡ false) (λ operation. operation_code operation ≡ code) }
+        ensures only { (operation : Operation) → (result ≡ Some operation) ↔ (operation_code operation ≡ code) }
+    {
+        match code {
+            2 => Some(Operation::Register),
+            129 => Some(Operation::CreateAccounts),
+            130 => Some(Operation::CreateTransfers),
+            131 => Some(Operation::LookupAccounts),
+            132 => Some(Operation::LookupTransfers),
+            _ => None,
+        }
+    }
+
+    /// The operation's name, as TigerBeetle spells it.
+    pub fn name(self) -> &'static str
+        ensures { result.now ≡ operation_name self }
+    {
+        match self {
+            Operation::Register => "register",
+            Operation::CreateAccounts => "create_accounts",
+            Operation::CreateTransfers => "create_transfers",
+            Operation::LookupAccounts => "lookup_accounts",
+            Operation::LookupTransfers => "lookup_transfers",
+        }
+    }
+
+    /// The operation that has a name; None where none has it.
+    pub fn from_name(name: &[u8]) -> Option<Operation>
+        ensures { (operation : Operation) → (result ≡ Some operation) ↔ (operation_name operation ≡ name.now) }
+    {
+        first_operation_named(&Operation::ALL, name)
+    }
+}
+
+impl fmt::Display for Operation {
+    ghost output = { λ operation. Some (operation_name operation) };
+
+    fn fmt<W: fmt::Write>(&self, f: &mut fmt::Formatter<W>) -> fmt::Result {
+        f.write_str(self.name())
+    }
+}
+
+/// The first of some operations that has a name.
+fn first_operation_named(operations: &[Operation], name: &[u8]) -> Option<Operation>
+    ensures { result ≡ find (λ operation. pointwise nat_eq (operation_name operation) name.now) operations.now }
+{
+    operations
+        .iter()
+        .copied()
+        .find(|operation| operation.name().as_bytes() == name)
+}
