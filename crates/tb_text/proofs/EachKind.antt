@@ -48,10 +48,55 @@ accounts_in_order a h =
     let k = small_32 a.ledger h.ledger in
     let l = small_16 a.code h.code in
     let m = small_16 a.flags h.flags in
-    let n = small_64 a.timestamp h.timestamp in
-    (lit≤ tt, refl, b.most, b.short, (lit≤ tt, refl, c.most, c.short, (lit≤ tt, refl, d.most, d.short, (lit≤ tt, refl, e.most, e.short,
-    (lit≤ tt, refl, f.most, f.short, (lit≤ tt, refl, g.most, g.short, (lit≤ tt, refl, i.most, i.short, (lit≤ tt, refl, j.most, j.short,
-    (lit≤ tt, refl, k.most, k.short, (lit≤ tt, refl, l.most, l.short, (lit≤ tt, refl, m.most, m.short, (lit≤ tt, refl, n.most, n.short, tt))))))))))))
+    let n = small_64 a.timestamp h.timestamp in (
+      lit≤ tt,
+      refl,
+      b.most,
+      b.short,
+      (
+        lit≤ tt,
+        refl,
+        c.most,
+        c.short,
+        (
+          lit≤ tt,
+          refl,
+          d.most,
+          d.short,
+          (
+            lit≤ tt,
+            refl,
+            e.most,
+            e.short,
+            (
+              lit≤ tt,
+              refl,
+              f.most,
+              f.short,
+              (
+                lit≤ tt,
+                refl,
+                g.most,
+                g.short,
+                (
+                  lit≤ tt,
+                  refl,
+                  i.most,
+                  i.short,
+                  (
+                    lit≤ tt,
+                    refl,
+                    j.most,
+                    j.short,
+                    (lit≤ tt, refl, k.most, k.short, (lit≤ tt, refl, l.most, l.short, (lit≤ tt, refl, m.most, m.short, (lit≤ tt, refl, n.most, n.short, tt)))),
+                  ),
+                ),
+              ),
+            ),
+          ),
+        ),
+      ),
+    )
 
 transfers_in_order : (t : Transfer) → IsTransfer t → InOrder (Some CreateTransfers) 5 (transfer_entries t)
 transfers_in_order t h =
@@ -66,20 +111,66 @@ transfers_in_order t h =
     let k = small_32 t.ledger h.ledger in
     let l = small_16 t.code h.code in
     let m = small_16 t.flags h.flags in
-    let n = small_64 t.timestamp h.timestamp in
-    (lit≤ tt, refl, b.most, b.short, (lit≤ tt, refl, c.most, c.short, (lit≤ tt, refl, d.most, d.short, (lit≤ tt, refl, e.most, e.short,
-    (lit≤ tt, refl, f.most, f.short, (lit≤ tt, refl, g.most, g.short, (lit≤ tt, refl, i.most, i.short, (lit≤ tt, refl, j.most, j.short,
-    (lit≤ tt, refl, k.most, k.short, (lit≤ tt, refl, l.most, l.short, (lit≤ tt, refl, m.most, m.short, (lit≤ tt, refl, n.most, n.short, tt))))))))))))
+    let n = small_64 t.timestamp h.timestamp in (
+      lit≤ tt,
+      refl,
+      b.most,
+      b.short,
+      (
+        lit≤ tt,
+        refl,
+        c.most,
+        c.short,
+        (
+          lit≤ tt,
+          refl,
+          d.most,
+          d.short,
+          (
+            lit≤ tt,
+            refl,
+            e.most,
+            e.short,
+            (
+              lit≤ tt,
+              refl,
+              f.most,
+              f.short,
+              (
+                lit≤ tt,
+                refl,
+                g.most,
+                g.short,
+                (
+                  lit≤ tt,
+                  refl,
+                  i.most,
+                  i.short,
+                  (
+                    lit≤ tt,
+                    refl,
+                    j.most,
+                    j.short,
+                    (lit≤ tt, refl, k.most, k.short, (lit≤ tt, refl, l.most, l.short, (lit≤ tt, refl, m.most, m.short, (lit≤ tt, refl, n.most, n.short, tt)))),
+                  ),
+                ),
+              ),
+            ),
+          ),
+        ),
+      ),
+    )
 
 -- an id and further fields, behind a mark or an operation
 event_through : (s : Scan) (id : ℕ) (es : List Entry) (tail : List ℕ) → IsEnd tail → IsBetween s → awaits_field s.place ≡ true → s.given ≡ [] → may_have s.operation field.Id ≡ true → id < 2 ^ 128
     → InOrder s.operation 5 es → (h : Field) × (run s (entries_text (field.Id, id) es ++ tail) ≡ run (at s h ((field.Id, id) ∷ told es)) tail)
 event_through s id es tail e b a n m fits o =
     let small = small_128 id fits in
-    let all = all_at es s field.Id (s.given ++ (field.Id, id) ∷ []) in
-    (all.0,
-        entries_through (field.Id, id) es s tail e b a n m small.most small.short (positive id) o
-        ∙ (ap (λ (t : Scan). run t tail) all.1 ∙ ap (λ (g : List Entry). run (at s all.0 ((g ++ (field.Id, id) ∷ []) ++ told es)) tail) n))
+    let all = all_at es s field.Id (s.given ++ (field.Id, id) ∷ []) in (
+      all.0,
+      entries_through (field.Id, id) es s tail e b a n m small.most small.short (positive id) o
+          ∙ (ap (λ (t : Scan). run t tail) all.1 ∙ ap (λ (g : List Entry). run (at s all.0 ((g ++ (field.Id, id) ∷ []) ++ told es)) tail) n),
+    )
   where
     positive : (k : ℕ) → (k == 0 && false) ≡ false
     positive k = by (k == 0)
@@ -108,11 +199,14 @@ accounts_kind pairs header = record {
   item = λ xs place awaits x h tail end.
       let s = accounts_state pairs header xs place in
       let through = event_through s x.id (account_entries x) tail end (record { lexeme = refl; spelled = refl }) awaits refl refl h.id (accounts_in_order x h) in
-      let g = (field.Id, x.id) ∷ told (account_entries x) in
-      (at s through.0 g, through.1, record {
-        parts = λ few. at_gap (at s through.0 g) 44 refl ∙ (if_true (nat_lt (length xs + 0 + 0 + 1) 8190) _ _ (room (length xs + 0 + 0) (omega arith)) ∙ ap (λ (y : Account). Some (accounts_state pairs header (xs ++ y ∷ []) Parted)) (account_back x h));
-        ends = at_gap (at s through.0 g) 59 refl ∙ ap (λ (y : Account). accounts_ended pairs header (xs ++ y ∷ [])) (account_back x h);
-      });
+      let g = (field.Id, x.id) ∷ told (account_entries x) in (
+        at s through.0 g,
+        through.1,
+        record {
+          parts = λ few. at_gap (at s through.0 g) 44 refl ∙ (if_true (nat_lt (length xs + 0 + 0 + 1) 8190) _ _ (room (length xs + 0 + 0) (omega arith)) ∙ ap (λ (y : Account). Some (accounts_state pairs header (xs ++ y ∷ []) Parted)) (account_back x h));
+          ends = at_gap (at s through.0 g) 59 refl ∙ ap (λ (y : Account). accounts_ended pairs header (xs ++ y ∷ [])) (account_back x h);
+        },
+      );
   between = λ xs place. refl;
   empty = at_gap (accounts_state pairs header [] Opened) 59 refl;
 }
@@ -130,11 +224,14 @@ transfers_kind pairs header = record {
   item = λ xs place awaits x h tail end.
       let s = transfers_state pairs header xs place in
       let through = event_through s x.id (transfer_entries x) tail end (record { lexeme = refl; spelled = refl }) awaits refl refl h.id (transfers_in_order x h) in
-      let g = (field.Id, x.id) ∷ told (transfer_entries x) in
-      (at s through.0 g, through.1, record {
-        parts = λ few. at_gap (at s through.0 g) 44 refl ∙ (if_true (nat_lt (0 + length xs + 0 + 1) 8190) _ _ (room (0 + length xs + 0) (omega arith)) ∙ ap (λ (y : Transfer). Some (transfers_state pairs header (xs ++ y ∷ []) Parted)) (transfer_back x h));
-        ends = at_gap (at s through.0 g) 59 refl ∙ ap (λ (y : Transfer). transfers_ended pairs header (xs ++ y ∷ [])) (transfer_back x h);
-      });
+      let g = (field.Id, x.id) ∷ told (transfer_entries x) in (
+        at s through.0 g,
+        through.1,
+        record {
+          parts = λ few. at_gap (at s through.0 g) 44 refl ∙ (if_true (nat_lt (0 + length xs + 0 + 1) 8190) _ _ (room (0 + length xs + 0) (omega arith)) ∙ ap (λ (y : Transfer). Some (transfers_state pairs header (xs ++ y ∷ []) Parted)) (transfer_back x h));
+          ends = at_gap (at s through.0 g) 59 refl ∙ ap (λ (y : Transfer). transfers_ended pairs header (xs ++ y ∷ [])) (transfer_back x h);
+        },
+      );
   between = λ xs place. refl;
   empty = at_gap (transfers_state pairs header [] Opened) 59 refl;
 }
@@ -152,11 +249,14 @@ sought_accounts_kind pairs header = record {
   item = λ xs place awaits x h tail end.
       let s = sought_accounts_state pairs header xs place in
       let through = event_through s x [] tail end (record { lexeme = refl; spelled = refl }) awaits refl refl h tt in
-      let g = (field.Id, x) ∷ told [] in
-      (at s through.0 g, ap (λ (t : List ℕ). run s (t ++ tail)) (sym (no_further (entry_text (field.Id, x)))) ∙ through.1, record {
-        parts = λ few. at_gap (at s through.0 g) 44 refl ∙ (if_true (nat_lt (0 + 0 + length xs + 1) 8190) _ _ (room (0 + 0 + length xs) (omega arith)) ∙ ap (λ (y : ℕ). Some (sought_accounts_state pairs header (xs ++ y ∷ []) Parted)) (none_or x));
-        ends = at_gap (at s through.0 g) 59 refl ∙ ap (λ (y : ℕ). sought_accounts_ended pairs header (xs ++ y ∷ [])) (none_or x);
-      });
+      let g = (field.Id, x) ∷ told [] in (
+        at s through.0 g,
+        ap (λ (t : List ℕ). run s (t ++ tail)) (sym (no_further (entry_text (field.Id, x)))) ∙ through.1,
+        record {
+          parts = λ few. at_gap (at s through.0 g) 44 refl ∙ (if_true (nat_lt (0 + 0 + length xs + 1) 8190) _ _ (room (0 + 0 + length xs) (omega arith)) ∙ ap (λ (y : ℕ). Some (sought_accounts_state pairs header (xs ++ y ∷ []) Parted)) (none_or x));
+          ends = at_gap (at s through.0 g) 59 refl ∙ ap (λ (y : ℕ). sought_accounts_ended pairs header (xs ++ y ∷ [])) (none_or x);
+        },
+      );
   between = λ xs place. refl;
   empty = at_gap (sought_accounts_state pairs header [] Opened) 59 refl;
 }
@@ -174,12 +274,14 @@ sought_transfers_kind pairs header = record {
   item = λ xs place awaits x h tail end.
       let s = sought_transfers_state pairs header xs place in
       let through = event_through s x [] tail end (record { lexeme = refl; spelled = refl }) awaits refl refl h tt in
-      let g = (field.Id, x) ∷ told [] in
-      (at s through.0 g, ap (λ (t : List ℕ). run s (t ++ tail)) (sym (no_further (entry_text (field.Id, x)))) ∙ through.1, record {
-        parts = λ few. at_gap (at s through.0 g) 44 refl ∙ (if_true (nat_lt (0 + 0 + length xs + 1) 8190) _ _ (room (0 + 0 + length xs) (omega arith)) ∙ ap (λ (y : ℕ). Some (sought_transfers_state pairs header (xs ++ y ∷ []) Parted)) (none_or x));
-        ends = at_gap (at s through.0 g) 59 refl ∙ ap (λ (y : ℕ). sought_transfers_ended pairs header (xs ++ y ∷ [])) (none_or x);
-      });
+      let g = (field.Id, x) ∷ told [] in (
+        at s through.0 g,
+        ap (λ (t : List ℕ). run s (t ++ tail)) (sym (no_further (entry_text (field.Id, x)))) ∙ through.1,
+        record {
+          parts = λ few. at_gap (at s through.0 g) 44 refl ∙ (if_true (nat_lt (0 + 0 + length xs + 1) 8190) _ _ (room (0 + 0 + length xs) (omega arith)) ∙ ap (λ (y : ℕ). Some (sought_transfers_state pairs header (xs ++ y ∷ []) Parted)) (none_or x));
+          ends = at_gap (at s through.0 g) 59 refl ∙ ap (λ (y : ℕ). sought_transfers_ended pairs header (xs ++ y ∷ [])) (none_or x);
+        },
+      );
   between = λ xs place. refl;
   empty = at_gap (sought_transfers_state pairs header [] Opened) 59 refl;
 }
-

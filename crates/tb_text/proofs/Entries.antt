@@ -84,9 +84,9 @@ pub further_through : (es : List Entry) (s : Scan) (k : ℕ) (text : List ℕ) �
 further_through [] s k text h between a o g = refl
 further_through (e ∷ es) s k text h between a o g =
     by (e.1 == 0) refl
-        (further_through es s (field_index e.0 + 1) text h between a o.4 (before_later k (field_index e.0 + 1) s.given (omega (arith, o.0)) g))
-        (further_through es (entered s e.0 e.1) (field_index e.0 + 1) text h (record { lexeme = refl; spelled = refl }) refl o.4
-            (before_with (field_index e.0 + 1) s.given e (before_later k (field_index e.0 + 1) s.given (omega (arith, o.0)) g) (omega arith)))
+    (further_through es s (field_index e.0 + 1) text h between a o.4 (before_later k (field_index e.0 + 1) s.given (omega (arith, o.0)) g))
+    (further_through es (entered s e.0 e.1) (field_index e.0 + 1) text h (record { lexeme = refl; spelled = refl }) refl o.4
+    (before_with (field_index e.0 + 1) s.given e (before_later k (field_index e.0 + 1) s.given (omega (arith, o.0)) g) (omega arith)))
   where
     by : (b : Bool) → (e.1 == 0) ≡ b → run s (further_text es ++ text) ≡ run (entered_all s es) text → run (entered s e.0 e.1) (further_text es ++ text) ≡ run (entered_all (entered s e.0 e.1) es) text
         → run s ((cond b [] (32 ∷ entry_text e) ++ further_text es) ++ text) ≡ run (cond b (entered_all s es) (entered_all (entered s e.0 e.1) es)) text
@@ -102,9 +102,9 @@ pub entries_through : (first : Entry) (es : List Entry) (s : Scan) (text : List 
 entries_through first es s text h between a none m le small p o =
     ap (run s) (append_assoc (entry_text first) (further_text es) text)
     ∙ (entry_before s first.0 first.1 (further_text es ++ text) (further_ends es text h) between
-        (stands s first.0 0 a m (omega arith) (subst (Before 0) (sym none) tt)) small le p
+    (stands s first.0 0 a m (omega arith) (subst (Before 0) (sym none) tt)) small le p
     ∙ further_through es (entered s first.0 first.1) (field_index first.0 + 1) text h (record { lexeme = refl; spelled = refl }) refl o
-        (subst (λ (g : List Entry). Before (field_index first.0 + 1) (g ++ first ∷ [])) (sym none) (omega arith, tt)))
+    (subst (λ (g : List Entry). Before (field_index first.0 + 1) (g ++ first ∷ [])) (sym none) (omega arith, tt)))
 
 -- numbers
 

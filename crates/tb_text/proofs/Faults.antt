@@ -12,8 +12,8 @@ stopped : (text : List ℕ) (place : ℕ) (last : Scan) (more : List ℕ) → pl
     → run (behind []) (take (place + 1) text ++ more) ≡ None
 stopped text place last more lt taken none =
     let one : run (behind []) (take (place + 1) text) ≡ None =
-        ap (run (behind [])) (take_more text place 0 lt)
-        ∙ (run_behind (behind []) last (take place text) (get_or text place 0 ∷ []) taken ∙ ap (option_and_then (λ t. Some t)) none) in
+    ap (run (behind [])) (take_more text place 0 lt)
+    ∙ (run_behind (behind []) last (take place text) (get_or text place 0 ∷ []) taken ∙ ap (option_and_then (λ t. Some t)) none) in
     run_append (behind []) (take (place + 1) text) more ∙ ap (option_and_then (λ t. run t more)) one
 
 some_none : (s : Scan) → Some s ≡ None → ⊥
@@ -42,7 +42,7 @@ no_meaning text pairs others place stops means = by stops.why
     by : ((place < length text) × (step stops.last (get_or text place 0) ≡ None)) ⊎ ((place ≡ length text) × (is_at_rest stops.last ≡ false)) → ⊥
     by (inl here) =
         nothing_goes_on text pairs others place (drop (place + 1) text) here.0 stops
-            (subst (λ (t : List ℕ). Means t others) (sym (take-append-drop (place + 1) text)) means)
+        (subst (λ (t : List ℕ). Means t others) (sym (take-append-drop (place + 1) text)) means)
     by (inr over) =
         let whole : take place text ≡ text = ap (λ (n : ℕ). take n text) over.0 ∙ take_whole text in
         let same = same_scan stops.last means.last (sym stops.taken ∙ (ap (run (behind [])) whole ∙ means.taken)) in

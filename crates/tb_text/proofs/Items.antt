@@ -24,8 +24,16 @@ use Rattle.tb_text.proofs.Entries.{told, entered_all, InOrder, IsEnd, entries_th
 -- a field was given, as the last of these
 abbrev pub at : Scan → Field → List Entry → Scan
 at s f given = record {
-  pairs = s.pairs; lexeme = Gap; spelled = []; place = Given f; operation = s.operation; header = s.header;
-  given = given; accounts = s.accounts; transfers = s.transfers; ids = s.ids;
+  pairs = s.pairs;
+  lexeme = Gap;
+  spelled = [];
+  place = Given f;
+  operation = s.operation;
+  header = s.header;
+  given = given;
+  accounts = s.accounts;
+  transfers = s.transfers;
+  ids = s.ids;
 }
 
 append_nil : {X : Type 0} (xs : List X) → xs ++ [] ≡ xs
@@ -44,8 +52,16 @@ all_at (e ∷ es) s f g = by (e.1 == 0) (all_at es s f g) (all_at es s e.0 (g ++
 -- within a statement
 abbrev pub mid : List (ℕ × Message) → List Entry → Operation → Place → List Account → List Transfer → List ℕ → List Entry → Scan
 mid pairs header o place accounts transfers ids given = record {
-  pairs = pairs; lexeme = Gap; spelled = []; place = place; operation = Some o; header = header;
-  given = given; accounts = accounts; transfers = transfers; ids = ids;
+  pairs = pairs;
+  lexeme = Gap;
+  spelled = [];
+  place = place;
+  operation = Some o;
+  header = header;
+  given = given;
+  accounts = accounts;
+  transfers = transfers;
+  ids = ids;
 }
 
 -- an event is given, and stands behind others once a mark follows

@@ -75,11 +75,12 @@ digits_through s f n between w small h tail = decimal_by_steps_wide (Through s f
   where
     one : (k : ℕ) → k < 10 → Through s f k ((48 + k) ∷ [])
     one k lt le rest = one_step s (digits_read s k) (48 + k) rest (first_digit s f k lt between w le)
+
     more : (k : ℕ) (ds : List ℕ) → 10 ≤ k → Through s f (k / 10) ds → Through s f k (ds ++ ((48 + k % 10) ∷ []))
     more k ds ge so_far le rest =
         let before : step (digits_read s (k / 10)) (48 + k % 10) ≡ Some (digits_read s k) =
-            ap (λ (t : Scan). step t (48 + k % 10)) (more_read s (k / 10) (omega arith))
-            ∙ (next_digit s f (k / 10) (k % 10) k (omega arith) w (omega arith) le ∙ ap (λ (t : Scan). Some t) (sym (more_read s k (omega arith)))) in
+        ap (λ (t : Scan). step t (48 + k % 10)) (more_read s (k / 10) (omega arith))
+        ∙ (next_digit s f (k / 10) (k % 10) k (omega arith) w (omega arith) le ∙ ap (λ (t : Scan). Some t) (sym (more_read s k (omega arith)))) in
         ap (run s) (append_assoc ds ((48 + k % 10) ∷ []) rest)
         ∙ (so_far (omega arith) ((48 + k % 10) ∷ rest) ∙ one_step (digits_read s (k / 10)) (digits_read s k) (48 + k % 10) rest before)
 

@@ -48,6 +48,7 @@ word_keeps s = by (word_named s.spelled)
     chosen : (w : Word) (b : Bool) → pairs_of (cond b (Some (taken s w)) None) s
     chosen w true = taken_pairs s w
     chosen w false = tt
+
     by : (o : Option Word) → pairs_of (option_and_then (λ w. cond (may_stand s w) (Some (taken s w)) None) o) s
     by None = tt
     by (Some w) = chosen w (may_stand s w)
@@ -58,6 +59,7 @@ number_keeps s n = by (wanted s.place)
     chosen : (f : Field) (b : Bool) → pairs_of (cond b None (Some (entered s f n))) s
     chosen f true = tt
     chosen f false = refl
+
     by : (o : Option Field) → pairs_of (option_and_then (λ f. cond (n == 0 && is_positive f) None (Some (entered s f n))) o) s
     by None = tt
     by (Some f) = chosen f (n == 0 && is_positive f)

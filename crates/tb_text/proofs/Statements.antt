@@ -101,10 +101,11 @@ header_through : (pairs : List (ℕ × Message)) (moment : ℕ) (r : Message) (t
     → (f : Field) × (run (behind pairs) (entries_text (field.At, moment) (header_entries r) ++ tail) ≡ run (at (behind pairs) f (header_of moment r)) tail)
 header_through pairs moment r tail h e =
     let small = small_64 moment h.0 in
-    let all = all_at (header_entries r) (behind pairs) field.At ((field.At, moment) ∷ []) in
-    (all.0,
-        entries_through (field.At, moment) (header_entries r) (behind pairs) tail e (record { lexeme = refl; spelled = refl }) refl refl refl small.most small.short (positive (moment == 0)) (header_in_order r h.1)
-        ∙ ap (λ (t : Scan). run t tail) all.1)
+    let all = all_at (header_entries r) (behind pairs) field.At ((field.At, moment) ∷ []) in (
+      all.0,
+      entries_through (field.At, moment) (header_entries r) (behind pairs) tail e (record { lexeme = refl; spelled = refl }) refl refl refl small.most small.short (positive (moment == 0)) (header_in_order r h.1)
+          ∙ ap (λ (t : Scan). run t tail) all.1,
+    )
   where
     positive : (c : Bool) → (c && false) ≡ false
     positive true = refl
@@ -132,8 +133,8 @@ suits_numbered : (o : Operation) (moment : ℕ) (r : Message) → IsLawful r →
 suits_numbered o moment r h k =
     let n = numbers_of r h in
     both_not (value_of field.Client (header_of moment r) == 0) (value_of field.Request (header_of moment r) == 0)
-        (ap (λ (m : ℕ). m == 0) (client_back moment r) ∙ n.client)
-        (ap (λ (m : ℕ). m == 0) (number_back moment r) ∙ (sym (ap (λ (b : Bool). not b && r.request == 0) k) ∙ n.numbered))
+    (ap (λ (m : ℕ). m == 0) (client_back moment r) ∙ n.client)
+    (ap (λ (m : ℕ). m == 0) (number_back moment r) ∙ (sym (ap (λ (b : Bool). not b && r.request == 0) k) ∙ n.numbered))
 
 not_both : (a b : Bool) → not (a && b) ≡ false → (a && b) ≡ true
 not_both true true h = refl
@@ -163,7 +164,7 @@ body_through pairs moment r f tail body.Register e h fits =
     let header = header_of moment r in
     operation_through pairs f header Register (59 ∷ tail) (suits_register moment r h.1.lawful (ap is_register (sym e))) (record { byte = 59; rest = tail; text_is = refl; ends = refl })
     ∙ one_step (mid pairs header Register Opened [] [] [] []) (behind (pairs ++ (moment, r) ∷ [])) 59 tail
-        (at_gap (mid pairs header Register Opened [] [] [] []) 59 refl ∙ ended_back pairs moment r _ (mid pairs header Register Opened [] [] [] []) h refl refl (made_back moment r body.Register h e))
+    (at_gap (mid pairs header Register Opened [] [] [] []) 59 refl ∙ ended_back pairs moment r _ (mid pairs header Register Opened [] [] [] []) h refl refl (made_back moment r body.Register h e))
 body_through pairs moment r f tail (body.CreateAccounts xs) e h fits =
     let header = header_of moment r in
     ap (λ (t : List ℕ). run (at (behind pairs) f header) (32 ∷ t)) (append_assoc (word_text (word.Operation CreateAccounts)) (items_text account_text xs) (59 ∷ tail))
@@ -198,7 +199,7 @@ statement_through pairs pair tail h =
     let header = entries_text (field.At, moment) (header_entries r) in
     let after = (32 ∷ body_text r.body) ++ 59 ∷ 10 ∷ tail in
     let regrouped : statement_text pair ++ tail ≡ header ++ after =
-        append_assoc (header ++ 32 ∷ body_text r.body) (codes ";\n") tail ∙ append_assoc header (32 ∷ body_text r.body) (59 ∷ 10 ∷ tail) in
+    append_assoc (header ++ 32 ∷ body_text r.body) (codes ";\n") tail ∙ append_assoc header (32 ∷ body_text r.body) (59 ∷ 10 ∷ tail) in
     let through = header_through pairs moment r after h (record { byte = 32; rest = body_text r.body ++ 59 ∷ 10 ∷ tail; text_is = refl; ends = refl }) in
     ap (run (behind pairs)) regrouped
     ∙ (through.1

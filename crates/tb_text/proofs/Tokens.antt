@@ -67,8 +67,8 @@ begins p q = (bytes_decides p (take (length p) (p ++ q))).1 (sym (take_at p q (l
 begins_so : (s : Scan) (w : Word) (p q : List ℕ) → p ++ q ≡ word_text w → may_stand s w ≡ true → begins_word s p ≡ true
 begins_so s w p q e h =
     list_any_at (λ v. may_stand s v && starts_with nat_eq (word_text v) p) all_words (word_place w) word.AmountMax (place_below w)
-        (subst (λ (v : Word). (may_stand s v && starts_with nat_eq (word_text v) p) ≡ true) (sym (stands_at w))
-            (and_both (may_stand s w) (starts_with nat_eq (word_text w) p) h (subst (λ (t : List ℕ). starts_with nat_eq t p ≡ true) e (begins p q))))
+    (subst (λ (v : Word). (may_stand s v && starts_with nat_eq (word_text v) p) ≡ true) (sym (stands_at w))
+    (and_both (may_stand s w) (starts_with nat_eq (word_text w) p) h (subst (λ (t : List ℕ). starts_with nat_eq t p ≡ true) e (begins p q))))
 
 stands_spelling : (s : Scan) (p : List ℕ) (w : Word) → may_stand (spelling s p) w ≡ may_stand s w
 stands_spelling s p (word.Field f) = refl
@@ -149,5 +149,5 @@ word_through s w d rest between h n = from (word_text w) refl (letter_first w) (
     from (b ∷ q) e l a =
         let one : begins_word s (b ∷ []) ≡ true = begins_so s w (b ∷ []) q e h in
         let first : step s b ≡ Some (spelling s (b ∷ [])) =
-            at_gap s b between.lexeme ∙ (gap_letter s b l ∙ (ap (λ (p : List ℕ). word_grown s (p ++ b ∷ [])) between.spelled ∙ ap (λ (c : Bool). cond c (Some (spelling s (b ∷ []))) None) one)) in
+        at_gap s b between.lexeme ∙ (gap_letter s b l ∙ (ap (λ (p : List ℕ). word_grown s (p ++ b ∷ [])) between.spelled ∙ ap (λ (c : Bool). cond c (Some (spelling s (b ∷ []))) None) one)) in
         one_step s (spelling s (b ∷ [])) b (q ++ d ∷ rest) first ∙ word_on s w (b ∷ []) q d rest e h (and_right (is_word_byte b) (all_word_bytes q) a) n

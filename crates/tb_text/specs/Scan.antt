@@ -42,8 +42,16 @@ pub record Scan : Type 0 where
 -- nothing of a statement behind these pairs
 abbrev pub behind : List (ℕ × Message) → Scan
 behind pairs = record {
-  pairs = pairs; lexeme = Gap; spelled = []; place = Head; operation = None; header = []; given = [];
-  accounts = []; transfers = []; ids = [];
+  pairs = pairs;
+  lexeme = Gap;
+  spelled = [];
+  place = Head;
+  operation = None;
+  header = [];
+  given = [];
+  accounts = [];
+  transfers = [];
+  ids = [];
 }
 
 -- bytes
@@ -176,33 +184,73 @@ begins_word s text = list_any (λ w. may_stand s w && starts_with nat_eq (word_t
 -- with one entry more, behind which another may stand
 abbrev pub entered : Scan → Field → ℕ → Scan
 entered s f n = record {
-  pairs = s.pairs; lexeme = Gap; spelled = []; place = Given f; operation = s.operation; header = s.header;
-  given = s.given ++ (f, n) ∷ []; accounts = s.accounts; transfers = s.transfers; ids = s.ids;
+  pairs = s.pairs;
+  lexeme = Gap;
+  spelled = [];
+  place = Given f;
+  operation = s.operation;
+  header = s.header;
+  given = s.given ++ (f, n) ∷ [];
+  accounts = s.accounts;
+  transfers = s.transfers;
+  ids = s.ids;
 }
 
 abbrev pub moved : Scan → Place → Scan
 moved s place = record {
-  pairs = s.pairs; lexeme = Gap; spelled = []; place = place; operation = s.operation; header = s.header;
-  given = s.given; accounts = s.accounts; transfers = s.transfers; ids = s.ids;
+  pairs = s.pairs;
+  lexeme = Gap;
+  spelled = [];
+  place = place;
+  operation = s.operation;
+  header = s.header;
+  given = s.given;
+  accounts = s.accounts;
+  transfers = s.transfers;
+  ids = s.ids;
 }
 
 abbrev pub within : Scan → Lexeme → Scan
 within s lexeme = record {
-  pairs = s.pairs; lexeme = lexeme; spelled = []; place = s.place; operation = s.operation; header = s.header;
-  given = s.given; accounts = s.accounts; transfers = s.transfers; ids = s.ids;
+  pairs = s.pairs;
+  lexeme = lexeme;
+  spelled = [];
+  place = s.place;
+  operation = s.operation;
+  header = s.header;
+  given = s.given;
+  accounts = s.accounts;
+  transfers = s.transfers;
+  ids = s.ids;
 }
 
 abbrev pub spelling : Scan → List ℕ → Scan
 spelling s text = record {
-  pairs = s.pairs; lexeme = Spelled; spelled = text; place = s.place; operation = s.operation; header = s.header;
-  given = s.given; accounts = s.accounts; transfers = s.transfers; ids = s.ids;
+  pairs = s.pairs;
+  lexeme = Spelled;
+  spelled = text;
+  place = s.place;
+  operation = s.operation;
+  header = s.header;
+  given = s.given;
+  accounts = s.accounts;
+  transfers = s.transfers;
+  ids = s.ids;
 }
 
 -- an operation behind its header
 abbrev pub opened : Scan → Operation → Scan
 opened s o = record {
-  pairs = s.pairs; lexeme = Gap; spelled = []; place = Opened; operation = Some o; header = s.given; given = [];
-  accounts = []; transfers = []; ids = [];
+  pairs = s.pairs;
+  lexeme = Gap;
+  spelled = [];
+  place = Opened;
+  operation = Some o;
+  header = s.given;
+  given = [];
+  accounts = [];
+  transfers = [];
+  ids = [];
 }
 
 -- what a word that may stand here makes of the statement
@@ -232,20 +280,44 @@ item_count s = length s.accounts + length s.transfers + length s.ids
 -- the account, the transfer or the id that was given stands behind the others
 abbrev pub with_account : Scan → Scan
 with_account s = record {
-  pairs = s.pairs; lexeme = s.lexeme; spelled = s.spelled; place = s.place; operation = s.operation; header = s.header;
-  given = []; accounts = s.accounts ++ account_of s.given ∷ []; transfers = s.transfers; ids = s.ids;
+  pairs = s.pairs;
+  lexeme = s.lexeme;
+  spelled = s.spelled;
+  place = s.place;
+  operation = s.operation;
+  header = s.header;
+  given = [];
+  accounts = s.accounts ++ account_of s.given ∷ [];
+  transfers = s.transfers;
+  ids = s.ids;
 }
 
 abbrev pub with_transfer : Scan → Scan
 with_transfer s = record {
-  pairs = s.pairs; lexeme = s.lexeme; spelled = s.spelled; place = s.place; operation = s.operation; header = s.header;
-  given = []; accounts = s.accounts; transfers = s.transfers ++ transfer_of s.given ∷ []; ids = s.ids;
+  pairs = s.pairs;
+  lexeme = s.lexeme;
+  spelled = s.spelled;
+  place = s.place;
+  operation = s.operation;
+  header = s.header;
+  given = [];
+  accounts = s.accounts;
+  transfers = s.transfers ++ transfer_of s.given ∷ [];
+  ids = s.ids;
 }
 
 abbrev pub with_id : Scan → Scan
 with_id s = record {
-  pairs = s.pairs; lexeme = s.lexeme; spelled = s.spelled; place = s.place; operation = s.operation; header = s.header;
-  given = []; accounts = s.accounts; transfers = s.transfers; ids = s.ids ++ value_of field.Id s.given ∷ [];
+  pairs = s.pairs;
+  lexeme = s.lexeme;
+  spelled = s.spelled;
+  place = s.place;
+  operation = s.operation;
+  header = s.header;
+  given = [];
+  accounts = s.accounts;
+  transfers = s.transfers;
+  ids = s.ids ++ value_of field.Id s.given ∷ [];
 }
 
 -- the event, or the id, that was given stands behind the others

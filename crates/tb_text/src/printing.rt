@@ -17,12 +17,7 @@ fn put_number(alloc: Global, out: &mut Vec<u8>, n: u128) -> Result<(), AllocErro
 }
 
 /// Appends a field's name, `=` and its number.
-fn put_entry(
-    alloc: Global,
-    out: &mut Vec<u8>,
-    field: Field,
-    number: u128,
-) -> Result<(), AllocError>
+fn put_entry(alloc: Global, out: &mut Vec<u8>, field: Field, number: u128) -> Result<(), AllocError>
     ensures { OnOk result (out.new.items ≡ out.old.items ++ entry_text (field, number)) }
 {
     out.extend_from_slice(field.name().as_bytes())?;
@@ -174,6 +169,19 @@ fn put_events<T: Event>(alloc: Global, out: &mut Vec<u8>, events: &[T]) -> Resul
     }
 }
 
+/// Appends the name of an operation and its events.
+fn put_operation<T: Event>(
+    alloc: Global,
+    out: &mut Vec<u8>,
+    operation: Operation,
+    events: &[T],
+) -> Result<(), AllocError>
+    ensures { OnOk result (out.new.items ≡ out.old.items ++ (operation_name operation ++ items_text T.text events.now)) }
+{
+    out.extend_from_slice(operation.name().as_bytes())?;
+    put_events(alloc, out, events)
+}
+
 /// Appends an operation and its events.
 #[tactic(auto, unfolding(crate::specs::Printed::body_text))]
 fn put_body(alloc: Global, out: &mut Vec<u8>, body: &Body) -> Result<(), AllocError>
@@ -182,20 +190,16 @@ fn put_body(alloc: Global, out: &mut Vec<u8>, body: &Body) -> Result<(), AllocEr
     match body {
         Body::Register => out.extend_from_slice(b"register"),
         Body::CreateAccounts(events) => {
-            out.extend_from_slice(b"create_accounts")?;
-            put_events(alloc, out, events.as_slice())
+            put_operation(alloc, out, Operation::CreateAccounts, events.as_slice())
         }
         Body::CreateTransfers(events) => {
-            out.extend_from_slice(b"create_transfers")?;
-            put_events(alloc, out, events.as_slice())
+            put_operation(alloc, out, Operation::CreateTransfers, events.as_slice())
         }
         Body::LookupAccounts(ids) => {
-            out.extend_from_slice(b"lookup_accounts")?;
-            put_events(alloc, out, ids.as_slice())
+            put_operation(alloc, out, Operation::LookupAccounts, ids.as_slice())
         }
         Body::LookupTransfers(ids) => {
-            out.extend_from_slice(b"lookup_transfers")?;
-            put_events(alloc, out, ids.as_slice())
+            put_operation(alloc, out, Operation::LookupTransfers, ids.as_slice())
         }
     }
 }

@@ -546,7 +546,11 @@ impl Scanner {
     fn has_room(&self) -> bool
         ensures { result ≡ nat_lt (item_count self.now + 1) 8190 }
     {
-        let (accounts, transfers, ids) = (self.accounts.len(), self.transfers.len(), self.ids.len());
+        let (accounts, transfers, ids) = (
+            self.accounts.len(),
+            self.transfers.len(),
+            self.ids.len(),
+        );
         accounts < ITEMS_MAX
             && transfers < ITEMS_MAX
             && ids < ITEMS_MAX

@@ -8,23 +8,19 @@ ghost use Rattle.tb_text.specs.Steps.{Means, Stops};
 /// What is printed of requests and their moments is a text that means them.
 pub fn printed_is_read()
     ensures { (pairs : List (ℕ × Message)) → All IsTimed pairs → Means (printed pairs) pairs }
-{
-}
+{}
 
 /// A text has at most one meaning.
 pub fn one_meaning()
     ensures { (text : List ℕ) (ps qs : List (ℕ × Message)) → Means text ps → Means text qs → ps ≡ qs }
-{
-}
+{}
 
 /// Where reading stops before the end, no statements begin with the text up to the byte there, that byte with it.
 pub fn nothing_goes_on()
     ensures { (text : List ℕ) (pairs others : List (ℕ × Message)) (place : ℕ) (more : List ℕ) → place < length text → Stops text pairs place → Means (take (place + 1) text ++ more) others → ⊥ }
-{
-}
+{}
 
 /// A text in which reading stops has no meaning.
 pub fn no_meaning()
     ensures { (text : List ℕ) (pairs others : List (ℕ × Message)) (place : ℕ) → Stops text pairs place → Means text others → ⊥ }
-{
-}
+{}

@@ -1,0 +1,11 @@
+use Rattle.std.proofs.Common.{◌≡◌, ◌++◌, List, subst}
+use Rattle.std.specs.Prelude.{OnOk}
+use Rattle.tb_text.specs.declared.words.Field.TheVariants.{Id}
+use Rattle.tb_text.specs.Scan.{Entry}
+use Rattle.tb_text.specs.Printed.{entries_text, transfer_text}
+use Rattle.tb_text.proofs.printing.TransferEvent.put.Goals as goal
+
+pub returns : goal.returns
+unfolding transfer_text
+returns c =
+    subst (λ (es : List Entry). OnOk c.put_entries.result (c.put_entries.new.out.items ≡ c.args.out.now.items ++ entries_text (Id, c.args.self.now.id) es)) c.transfer_entries.ensures c.put_entries.ensures
