@@ -244,16 +244,21 @@ impl<J: Naming> Publisher<J> {
         let _ = publish(&mut self.copies, rt);
     }
 
-    /// Ends the opening. It waits for the seats that are reading.
-    pub fn close<W: Wait>(self, rt: &W) {
+    /// Ends the opening, and gives its history out. It waits for the seats that are reading; those that ask from then on
+    /// find no copy.
+    pub fn close<W: Wait>(self, rt: &W) -> Vec<Entry>
+        ensures history { result.items ≡ self.history }
+        ensures legal { LegalIn J.opening result.items }
+    {
         let Publisher {
             copies,
-            history: _,
+            history: entries,
             machine: _,
             offered: _,
             waiting: _,
             global: _,
         } = self;
         let _shown = copies.take(rt);
+        entries
     }
 }

@@ -18,13 +18,20 @@ use std::alloc::{AllocError, Global};
 use std::marker::Model;
 use tb_records::{Account, Reply, Request, Status, Transfer};
 
+/// Unused bytes on each side of a seat. Every call of a seat writes to it, and seats mostly lie side by side: so no two that
+/// different threads read from share a cache line of 64 bytes, nor a pair of them.
+type Gap = [u64; 8];
+
 /// A place at the copies from which one thread reads, without a lock and without waiting. Contracts see it as the
 /// beginning of the history that it has seen, which only grows.
 #[derive(Drop)]
+#[repr(C)]
 pub struct Seat<J: Naming> {
+    before: Gap,
     place: Place<J>,
     front: Front,
     global: Global,
+    after: Gap,
 }
 
 impl<J: Naming> Model for Seat<J> {
@@ -48,9 +55,11 @@ impl<J: Naming> Seat<J> {
         ensures { result ≡ front.list }
     {
         Seat {
+            before: [0; 8],
             place,
             front,
             global,
+            after: [0; 8],
         }
     }
 

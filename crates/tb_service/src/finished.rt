@@ -14,6 +14,7 @@ use crate::rule::{Account, Sender, TakesIn, View};
 use crossbeam_channel::Pass;
 use std::alloc::{AllocError, Global};
 use std::sync::Wait;
+use tb_machine::Entry;
 use tb_published::{Naming, Publisher, TakeFault};
 
 /// What a server leaves: the history, why it ended, and which requests were left out.
@@ -49,6 +50,7 @@ fn places_of(alloc: Global, port: u32, ports: &[u32]) -> Result<Vec<u64>, AllocE
 
 impl<J: Naming> Finished<J> {
     ghost use Rattle.std.specs.Prelude.{IfErr};
+    ghost use Rattle.tb_published.specs.Lines.{LegalIn};
     ghost use Rattle.tb_service.specs.Places.{requests};
     ghost use Rattle.tb_service.specs.Names.{service_of};
     ghost use Rattle.tb_service.specs.Ports.{offered_by, number_by, service_by};
@@ -116,8 +118,11 @@ impl<J: Naming> Finished<J> {
         publisher
     }
 
-    /// Closes the publisher: seats that ask from then on find no copy.
-    pub fn close<R: Wait>(self, rt: &R) {
-        self.into_publisher().close(rt);
+    /// Closes the publisher, and gives its history out: seats that ask from then on find no copy.
+    pub fn close<R: Wait>(self, rt: &R) -> Vec<Entry>
+        ensures history { result.items ≡ self.publisher.history }
+        ensures legal { LegalIn J.opening result.items }
+    {
+        self.into_publisher().close(rt)
     }
 }

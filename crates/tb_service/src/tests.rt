@@ -196,7 +196,7 @@ fn fill_two<J: Naming, R: Wait + Abort>(rt: &R, alloc: Global, opening: Opening)
     let second = places(&mut finished, second);
     assert!(rt; finished.ended == Ended::Closed && finished.refused.is_empty());
     assert!(rt; finished.publisher.history().len() == 3);
-    finished.close(rt);
+    assert!(rt; finished.close(rt).len() == 3);
     assert!(rt; first.ok_or("places")?.as_slice() == [1, 3, 4].as_slice());
     assert!(rt; second.ok_or("places")?.as_slice() == [2].as_slice());
     Ok(())
@@ -312,7 +312,7 @@ fn call_once<J: Naming, R: Wait + Abort>(
     assert!(rt; port.call(rt, &mut seat, &asked, 0)?.status() == Status::NotYet);
     let closed = port.close(rt);
     assert!(rt; closed.offered() == 1);
-    server.run(rt).close(rt);
+    assert!(rt; server.run(rt).close(rt).len() == 1);
     Ok(())
 }
 
