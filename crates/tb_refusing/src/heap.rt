@@ -1,0 +1,80 @@
+//! An allocator that refuses one growth, and counts its blocks.
+use std::alloc::{AllocError, Allocator};
+use std::cell::Cell;
+
+/// What was asked of an allocator.
+#[derive(Clone, Copy, Debug, PartialEq, Eq)]
+pub struct Tally {
+    /// The growths that were asked for.
+    pub asked: u64,
+    /// The growth that is refused; 0 for none.
+    pub refused_at: u64,
+    /// The blocks taken and not given back.
+    pub blocks: u64,
+}
+
+/// An allocator over another one, that refuses one growth, once, and counts its blocks.
+pub struct Refusing<B: Allocator> {
+    inner: B,
+    tally: Cell<Tally>,
+}
+
+impl<B: Allocator> Refusing<B> {
+    /// Refuses the growth with this number, from 1; none where that is 0.
+    pub fn new(inner: B, refused_at: u64) -> Refusing<B> {
+        Refusing {
+            inner,
+            tally: Cell::new(Tally {
+                asked: 0,
+                refused_at,
+                blocks: 0,
+            }),
+        }
+    }
+
+    /// What was asked of it.
+    pub fn tally(&self) -> Tally {
+        self.tally.get()
+    }
+}
+
+impl<B: Allocator> Drop for Refusing<B> {
+    fn drop(self) {
+        let Self { inner: _, tally: _ } = self;
+    }
+}
+
+/// Counts a growth that is asked for, and says whether it is refused.
+fn refuses(tally: &Cell<Tally>) -> bool {
+    let mut now = tally.get();
+    now.asked = now.asked.wrapping_add(1);
+    let refused = now.asked == now.refused_at;
+    if !refused {
+        now.blocks = now.blocks.wrapping_add(1);
+    }
+    tally.set(now);
+    refused
+}
+
+/// Counts a block that comes back.
+fn takes_back(tally: &Cell<Tally>) {
+    let mut now = tally.get();
+    now.blocks = now.blocks.wrapping_sub(1);
+    tally.set(now);
+}
+
+unsafe impl<B: Allocator> Allocator for Refusing<B> {
+    ghost dealloc_token = { λ heap ty ptr. B.dealloc_token heap.inner ty ptr };
+
+    fn allocate(&self, size: usize, align: usize) -> Result<*mut u8, AllocError> {
+        if refuses(&self.tally) {
+            return Err(AllocError);
+        }
+        self.inner.allocate(size, align)
+    }
+
+    unsafe fn deallocate(&self, ptr: *mut u8, size: usize, align: usize) {
+        takes_back(&self.tally);
+        self.inner.deallocate(ptr, size, align);
+    }
+}
