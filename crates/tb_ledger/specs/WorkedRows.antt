@@ -5,7 +5,7 @@ use Rattle.tb_records.specs.declared.records.Account.{Account}
 use Rattle.tb_records.specs.declared.records.Transfer.{Transfer}
 use Rattle.tb_records.specs.declared.limits.Profile.{Profile}
 use Rattle.tb_records.specs.declared.limits.Profile.TheVariants.{One, Two}
-use Rattle.tb_ledger.specs.Books.{Books, empty_books, account_now, transfer_at}
+use Rattle.tb_ledger.specs.Books.{Books, empty_books, account_now, transfer_at, found_accounts, found_transfers}
 use Rattle.tb_ledger.specs.Verdicts.{int_max}
 use Rattle.tb_ledger.specs.Batches.{account_events, transfer_events, batch_after, results, Outcome}
 
@@ -23,30 +23,50 @@ resolving id pending_id amount flags = record { id = id; debit_account_id = 0; c
 abbrev pub with_timeout : ℕ → Transfer → Transfer
 with_timeout timeout t = record t { timeout = timeout }
 
+-- an event, and the code that it gets
+abbrev pub Row : Type 0 → Type 0
+Row E = E × ℕ
+
+abbrev pub events : {E : Type 0} → List (Row E) → List E
+events rows = map (λ row. row.0) rows
+
+abbrev pub codes : {E : Type 0} → List (Row E) → List ℕ
+codes rows = map (λ row. row.1) rows
+
+-- accounts in one request, and transfers in one, at the least time that is allowed
+abbrev pub create : Books → List Account → Outcome
+create B accounts = batch_after account_events B accounts (B.time + max (length accounts) 1)
+
+abbrev pub request : Books → List Transfer → Outcome
+request B transfers = batch_after transfer_events B transfers (B.time + max (length transfers) 1)
+
 -- accounts 1 and 2, created at the times 11 and 12
 abbrev pub start : Profile → Books
-start profile = (batch_after account_events (record (empty_books profile) { time = 10 }) (account 1 0 ∷ account 2 0 ∷ []) 12).books
-
--- a request at the least time that is allowed
-abbrev pub request : Books → List Transfer → Outcome
-request B events = batch_after transfer_events B events (B.time + max (length events) 1)
+start profile = (create (record (empty_books profile) { time = 10 }) (account 1 0 ∷ account 2 0 ∷ [])).books
 
 -- one request after another: the books after them, and each one's pairs (index, code)
 abbrev pub books_after : Books → List (List Transfer) → Books
 books_after B [] = B
-books_after B (events ∷ later) = books_after (request B events).books later
+books_after B (transfers ∷ later) = books_after (request B transfers).books later
 
 abbrev pub answers : Books → List (List Transfer) → List (List (ℕ × ℕ))
 answers B [] = []
-answers B (events ∷ later) = map (λ r. (r.index, r.result)) (results (request B events).codes) ∷ answers (request B events).books later
+answers B (transfers ∷ later) = map (λ r. (r.index, r.result)) (results (request B transfers).codes) ∷ answers (request B transfers).books later
 
--- each transfer in a request of its own, and the code of each
-abbrev pub alone : List Transfer → List (List Transfer)
-alone events = map (λ t. t ∷ []) events
+-- each transfer in a request of its own: the books after them, and the code of each
+abbrev pub after : Books → List (Row Transfer) → Books
+after B rows = books_after B (map (λ row. row.0 ∷ []) rows)
 
-abbrev pub codes : Books → List Transfer → List ℕ
-codes B [] = []
-codes B (t ∷ later) = (request B (t ∷ [])).codes ++ codes (request B (t ∷ [])).books later
+abbrev pub codes_of : Books → List Transfer → List ℕ
+codes_of B [] = []
+codes_of B (t ∷ later) = (request B (t ∷ [])).codes ++ codes_of (request B (t ∷ [])).books later
+
+-- each gets the code that stands beside it: of transfers, each in a request of its own; of accounts, all in one request
+abbrev pub Answered : Books → List (Row Transfer) → Type 0
+Answered B rows = codes_of B (events rows) ≡ codes rows
+
+abbrev pub CreatedAs : Books → List (Row Account) → Type 0
+CreatedAs B rows = (create B (events rows)).codes ≡ codes rows
 
 -- an account's sums as they stand, and its flags
 abbrev pub sums : Books → ℕ → Option (List ℕ)
@@ -64,54 +84,110 @@ Created profile =
 
 -- balancing
 
-abbrev pub before_balancing : List Transfer
-before_balancing = transfer 1 2 1 100 0 ∷ transfer 2 1 2 20 0 ∷ transfer 3 1 2 30 2 ∷ []
+abbrev pub before_balancing : List (Row Transfer)
+before_balancing =
+    (transfer 1 2 1 100 0, 0)
+    ∷ (transfer 2 1 2 20 0, 0)
+    ∷ (transfer 3 1 2 30 2, 0)
+    ∷ []
 
-abbrev pub balancing_debits : List Transfer
-balancing_debits = transfer 1 2 1 100 0 ∷ transfer 2 1 2 20 0 ∷ transfer 3 1 2 30 2 ∷ transfer 4 1 2 80 16 ∷ transfer 4 1 2 80 16 ∷ transfer 4 1 2 50 16 ∷ transfer 4 1 2 49 16 ∷ transfer 5 1 2 10 16 ∷ []
-
-abbrev pub balancing_both : List Transfer
-balancing_both = transfer 1 2 1 100 0 ∷ transfer 2 3 2 30 0 ∷ transfer 3 1 3 80 48 ∷ transfer 3 1 3 80 48 ∷ transfer 3 1 3 30 48 ∷ transfer 3 1 3 29 48 ∷ transfer 4 1 3 80 16 ∷ transfer 5 1 2 80 16 ∷ transfer 6 1 6 1 0 ∷ []
+abbrev pub balancing_debits : List (Row Transfer)
+balancing_debits = before_balancing ++
+    ((transfer 4 1 2 80 16, 0)
+    ∷ (transfer 4 1 2 80 16, 46)
+    ∷ (transfer 4 1 2 50 16, 46)
+    ∷ (transfer 4 1 2 49 16, 39)
+    ∷ (transfer 5 1 2 10 16, 0)
+    ∷ [])
 
 -- with account 3, and account 6 created closed
 abbrev pub start_of_four : Profile → Books
-start_of_four profile = (batch_after account_events (start profile) (account 3 0 ∷ account 6 32 ∷ []) 14).books
+start_of_four profile = (create (start profile) (account 3 0 ∷ account 6 32 ∷ [])).books
+
+abbrev pub balancing_both : List (Row Transfer)
+balancing_both =
+    (transfer 1 2 1 100 0, 0)
+    ∷ (transfer 2 3 2 30 0, 0)
+    ∷ (transfer 3 1 3 80 48, 0)
+    ∷ (transfer 3 1 3 80 48, 46)
+    ∷ (transfer 3 1 3 30 48, 46)
+    ∷ (transfer 3 1 3 29 48, 39)
+    ∷ (transfer 4 1 3 80 16, 0)
+    ∷ (transfer 5 1 2 80 16, 0)
+    ∷ (transfer 6 1 6 1 0, 66)
+    ∷ []
 
 abbrev pub Balancing : Profile → Type 0
 Balancing profile =
-    (sums (books_after (start profile) (alone before_balancing)) 1 ≡ Some (30 ∷ 20 ∷ 0 ∷ 100 ∷ 0 ∷ []))
-    × (codes (start profile) balancing_debits ≡ 0 ∷ 0 ∷ 0 ∷ 0 ∷ 46 ∷ 46 ∷ 39 ∷ 0 ∷ [])
-    × (amount_of (books_after (start profile) (alone balancing_debits)) 4 ≡ Some 50)
-    × (amount_of (books_after (start profile) (alone balancing_debits)) 5 ≡ Some 0)
-    × (codes (start_of_four profile) balancing_both ≡ 0 ∷ 0 ∷ 0 ∷ 46 ∷ 46 ∷ 39 ∷ 0 ∷ 0 ∷ 66 ∷ [])
-    × (map (amount_of (books_after (start_of_four profile) (alone balancing_both))) (3 ∷ 4 ∷ 5 ∷ []) ≡ Some 30 ∷ Some 70 ∷ Some 0 ∷ [])
+    (sums (after (start profile) before_balancing) 1 ≡ Some (30 ∷ 20 ∷ 0 ∷ 100 ∷ 0 ∷ []))
+    × Answered (start profile) balancing_debits
+    × (amount_of (after (start profile) balancing_debits) 4 ≡ Some 50)
+    × (amount_of (after (start profile) balancing_debits) 5 ≡ Some 0)
+    × Answered (start_of_four profile) balancing_both
+    × (map (amount_of (after (start_of_four profile) balancing_both)) (3 ∷ 4 ∷ 5 ∷ []) ≡ Some 30 ∷ Some 70 ∷ Some 0 ∷ [])
 
 -- posts and voids
 
-abbrev pub posted : List Transfer
-posted = transfer 20 1 2 40 2 ∷ resolving 21 20 int_max 4 ∷ transfer 22 1 2 40 2 ∷ resolving 23 22 15 4 ∷ transfer 24 1 2 40 2 ∷ resolving 25 24 0 4 ∷ []
+abbrev pub posted : List (Row Transfer)
+posted =
+    (transfer 20 1 2 40 2, 0)
+    ∷ (resolving 21 20 int_max 4, 0)
+    ∷ (transfer 22 1 2 40 2, 0)
+    ∷ (resolving 23 22 15 4, 0)
+    ∷ (transfer 24 1 2 40 2, 0)
+    ∷ (resolving 25 24 0 4, 0)
+    ∷ []
 
-abbrev pub voided : List Transfer
-voided = transfer 30 1 2 40 2 ∷ resolving 31 30 0 8 ∷ resolving 32 30 0 8 ∷ transfer 33 1 2 40 2 ∷ resolving 34 33 39 8 ∷ resolving 34 33 41 8 ∷ resolving 36 31 0 4 ∷ []
+-- what names a transfer that a post resolved, a void resolved, or that was never pending
+abbrev pub voided : List (Row Transfer)
+voided =
+    (resolving 26 20 0 4, 33)
+    ∷ (resolving 26 20 0 8, 33)
+    ∷ (transfer 30 1 2 40 2, 0)
+    ∷ (resolving 31 30 0 8, 0)
+    ∷ (resolving 32 30 0 8, 34)
+    ∷ (transfer 33 1 2 40 2, 0)
+    ∷ (resolving 34 33 39 8, 32)
+    ∷ (resolving 34 33 41 8, 31)
+    ∷ (resolving 36 31 0 4, 26)
+    ∷ []
+
+abbrev pub after_posts : Profile → Books
+after_posts profile = after (start profile) posted
 
 abbrev pub PostsAndVoids : Profile → Type 0
 PostsAndVoids profile =
-    (codes (start profile) posted ≡ 0 ∷ 0 ∷ 0 ∷ 0 ∷ 0 ∷ 0 ∷ [])
-    × (sums (books_after (start profile) (alone posted)) 1 ≡ Some (0 ∷ 55 ∷ 0 ∷ 0 ∷ 0 ∷ []))
-    × (sums (books_after (start profile) (alone posted)) 2 ≡ Some (0 ∷ 0 ∷ 0 ∷ 55 ∷ 0 ∷ []))
-    × (map (amount_of (books_after (start profile) (alone posted))) (21 ∷ 23 ∷ 25 ∷ []) ≡ Some 40 ∷ Some 15 ∷ Some 0 ∷ [])
-    × (transfer_at (books_after (start profile) (alone posted)) 21 ≡ Some (record (transfer 21 1 2 40 4) { pending_id = 20; timestamp = 14 }))
-    × (transfer_at (books_after (start profile) (alone posted)) 23 ≡ Some (record (transfer 23 1 2 15 4) { pending_id = 22; timestamp = 16 }))
-    × (codes (books_after (start profile) (alone posted)) voided ≡ 0 ∷ 0 ∷ 34 ∷ 0 ∷ 32 ∷ 31 ∷ 26 ∷ [])
-    × (amount_of (books_after (start profile) (alone voided)) 31 ≡ Some 40)
+    Answered (start profile) posted
+    × (sums (after_posts profile) 1 ≡ Some (0 ∷ 55 ∷ 0 ∷ 0 ∷ 0 ∷ []))
+    × (sums (after_posts profile) 2 ≡ Some (0 ∷ 0 ∷ 0 ∷ 55 ∷ 0 ∷ []))
+    × (map (amount_of (after_posts profile)) (21 ∷ 23 ∷ 25 ∷ []) ≡ Some 40 ∷ Some 15 ∷ Some 0 ∷ [])
+    × Answered (after_posts profile) voided
+    × (amount_of (after (after_posts profile) voided) 31 ≡ Some 40)
+
+-- lookups: whole records, in the order of the ids
+
+abbrev pub second : Account
+second = record (account 2 0) { credits_posted = 55; timestamp = 12 }
+
+abbrev pub Lookups : Profile → Type 0
+Lookups profile =
+    (found_accounts (after_posts profile) (2 ∷ 9 ∷ 1 ∷ 2 ∷ []) ≡ second ∷ record (account 1 0) { debits_posted = 55; timestamp = 11 } ∷ second ∷ [])
+    × (found_transfers (after_posts profile) (23 ∷ 9 ∷ 21 ∷ []) ≡ record (transfer 23 1 2 15 4) { pending_id = 22; timestamp = 16 } ∷ record (transfer 21 1 2 40 4) { pending_id = 20; timestamp = 14 } ∷ [])
 
 -- closing
 
-abbrev pub closing_requests : List Transfer
-closing_requests = transfer 39 1 2 5 2 ∷ transfer 40 1 2 0 66 ∷ transfer 41 1 2 1 0 ∷ transfer 42 2 1 1 0 ∷ resolving 43 40 0 4 ∷ resolving 44 39 0 8 ∷ []
+abbrev pub closing_requests : List (Row Transfer)
+closing_requests =
+    (transfer 39 1 2 5 2, 0)
+    ∷ (transfer 40 1 2 0 66, 0)
+    ∷ (transfer 41 1 2 1 0, 65)
+    ∷ (transfer 42 2 1 1 0, 66)
+    ∷ (resolving 43 40 0 4, 65)
+    ∷ (resolving 44 39 0 8, 0)
+    ∷ []
 
 abbrev pub closed_books : Profile → Books
-closed_books profile = books_after (start profile) (alone closing_requests)
+closed_books profile = after (start profile) closing_requests
 
 abbrev pub open_again : Profile → Books
 open_again profile = (request (closed_books profile) (resolving 45 40 0 8 ∷ [])).books
@@ -123,10 +199,12 @@ again Two = 68
 
 abbrev pub Closing : Profile → Type 0
 Closing profile =
-    (codes (start profile) closing_requests ≡ 0 ∷ 0 ∷ 65 ∷ 66 ∷ 65 ∷ 0 ∷ [])
+    Answered (start profile) closing_requests
     × (sums (closed_books profile) 1 ≡ Some (0 ∷ 0 ∷ 0 ∷ 0 ∷ 32 ∷ []))
+    × CreatedAs (closed_books profile) ((account 1 0, 15) ∷ (account 1 32, 21) ∷ [])
     × (sums (open_again profile) 1 ≡ Some (0 ∷ 0 ∷ 0 ∷ 0 ∷ 0 ∷ []))
-    × (codes (open_again profile) (transfer 41 1 2 1 0 ∷ []) ≡ again profile ∷ [])
+    × CreatedAs (open_again profile) ((account 1 0, 21) ∷ (account 1 32, 15) ∷ [])
+    × Answered (open_again profile) ((transfer 41 1 2 1 0, again profile) ∷ [])
 
 -- chains
 
@@ -150,20 +228,56 @@ Chains profile =
 
 -- refused accounts, and the limits of accounts
 
-abbrev pub nine_accounts : List Account
-nine_accounts = account 0 0 ∷ account int_max 0 ∷ account 3 6 ∷ record (account 3 0) { ledger = 0 } ∷ record (account 3 0) { code = 0 } ∷ account 3 16 ∷ account 1 0 ∷ record (account 1 0) { ledger = 701 } ∷ account 3 0 ∷ []
+abbrev pub nine_accounts : List (Row Account)
+nine_accounts =
+    (account 0 0, 6)
+    ∷ (account int_max 0, 7)
+    ∷ (account 3 6, 8)
+    ∷ (record (account 3 0) { ledger = 0 }, 13)
+    ∷ (record (account 3 0) { code = 0 }, 14)
+    ∷ (account 3 16, 5)
+    ∷ (account 1 0, 21)
+    ∷ (record (account 1 0) { ledger = 701 }, 19)
+    ∷ (account 3 0, 0)
+    ∷ []
 
 abbrev pub limited_accounts : Profile → Books
-limited_accounts profile = (batch_after account_events (start profile) (account 3 2 ∷ account 4 4 ∷ []) 14).books
+limited_accounts profile = (create (start profile) (account 3 2 ∷ account 4 4 ∷ [])).books
 
 abbrev pub Accounts : Profile → Type 0
 Accounts profile =
-    ((batch_after account_events (start profile) nine_accounts 21).codes ≡ 6 ∷ 7 ∷ 8 ∷ 13 ∷ 14 ∷ 5 ∷ 21 ∷ 19 ∷ 0 ∷ [])
-    × (codes (limited_accounts profile) (transfer 80 3 1 1 0 ∷ transfer 81 1 4 1 0 ∷ transfer 82 3 1 0 0 ∷ []) ≡ 54 ∷ 55 ∷ 0 ∷ [])
+    CreatedAs (start profile) nine_accounts
+    × Answered (limited_accounts profile) ((transfer 80 3 1 1 0, 54) ∷ (transfer 81 1 4 1 0, 55) ∷ (transfer 82 3 1 0 0, 0) ∷ [])
 
--- sums that don't fit
+-- flags above the known ones: imported, and each bit that has no name
+abbrev pub ReservedFlags : Profile → Type 0
+ReservedFlags profile =
+    CreatedAs (start profile) ((account 3 16, 5) ∷ (account 3 64, 5) ∷ (account 3 128, 5) ∷ (account 3 32768, 5) ∷ (account 3 8, 0) ∷ [])
+    × Answered (start profile) ((transfer 1 1 2 1 256, 4) ∷ (transfer 1 1 2 1 512, 4) ∷ (transfer 1 1 2 1 32768, 4) ∷ (transfer 1 1 2 1 258, 4) ∷ (transfer 1 1 2 1 2, 0) ∷ [])
+
+-- sums that don't fit: after a transfer of the largest amount, and after a pending one
+
+abbrev pub start_of_three : Profile → Books
+start_of_three profile = (create (start profile) (account 3 0 ∷ [])).books
+
+abbrev pub moved_most : List (Row Transfer)
+moved_most =
+    (transfer 1 1 2 int_max 0, 0)
+    ∷ (transfer 2 1 2 1 0, 49)
+    ∷ (transfer 2 3 2 1 0, 50)
+    ∷ []
+
+abbrev pub held_most : List (Row Transfer)
+held_most =
+    (transfer 1 1 2 int_max 2, 0)
+    ∷ (transfer 2 1 2 1 2, 47)
+    ∷ (transfer 2 3 2 1 2, 48)
+    ∷ (transfer 2 1 3 1 0, 51)
+    ∷ (transfer 2 3 2 1 0, 52)
+    ∷ []
+
 abbrev pub Overflow : Profile → Type 0
-Overflow profile = codes (start profile) (transfer 1 1 2 int_max 0 ∷ transfer 2 1 2 1 0 ∷ []) ≡ 0 ∷ 49 ∷ []
+Overflow profile = Answered (start_of_three profile) moved_most × Answered (start_of_three profile) held_most
 
 -- failed ids
 abbrev pub FailedIds : Type 0
@@ -175,6 +289,12 @@ FailedIds =
     × (answers (start Two) ((transfer 74 99 2 1 0 ∷ transfer 74 1 2 1 0 ∷ []) ∷ (transfer 75 1 2 1 1 ∷ transfer 75 99 2 1 0 ∷ []) ∷ (transfer 75 1 2 1 0 ∷ []) ∷ (resolving 76 999 0 4 ∷ []) ∷ (resolving 76 999 0 4 ∷ []) ∷ [])
     ≡ ((0, 21) ∷ (1, 68) ∷ []) ∷ ((0, 1) ∷ (1, 36) ∷ []) ∷ [] ∷ ((0, 25) ∷ []) ∷ ((0, 68) ∷ []) ∷ [])
 
+-- expiry
+
+-- the code of one transfer in a request of its own at the time T
+abbrev pub code_at : Books → ℕ → Transfer → List ℕ
+code_at B T t = (batch_after transfer_events B (t ∷ []) T).codes
+
 -- a pending transfer of the time 100 and a timeout of one second: due at 1000000100
 abbrev pub held_for_a_second : Profile → Books
 held_for_a_second profile = (batch_after transfer_events (start profile) (with_timeout 1 (transfer 60 1 2 40 2) ∷ []) 100).books
@@ -183,14 +303,18 @@ held_for_a_second profile = (batch_after transfer_events (start profile) (with_t
 abbrev pub closed_for_a_second : Profile → Books
 closed_for_a_second profile = (batch_after transfer_events (start profile) (with_timeout 1 (transfer 62 1 2 0 66) ∷ []) 100).books
 
+-- after transfer 63 was refused, while the account was still closed
+abbrev pub refused_while_closed : Profile → Books
+refused_while_closed profile = (batch_after transfer_events (closed_for_a_second profile) (transfer 63 1 2 1 0 ∷ []) 1000000099).books
+
 abbrev pub Expiry : Profile → Type 0
 Expiry profile =
     (option_map (λ t. t.timestamp) (transfer_at (held_for_a_second profile) 60) ≡ Some 100)
     × (sums (record (held_for_a_second profile) { time = 1000000099 }) 1 ≡ Some (40 ∷ 0 ∷ 0 ∷ 0 ∷ 0 ∷ []))
     × (sums (record (held_for_a_second profile) { time = 1000000100 }) 1 ≡ Some (0 ∷ 0 ∷ 0 ∷ 0 ∷ 0 ∷ []))
-    × ((batch_after transfer_events (record (held_for_a_second profile) { time = 1000000100 }) (resolving 61 60 int_max 4 ∷ []) 1000000101).codes ≡ 35 ∷ [])
-    × ((batch_after transfer_events (closed_for_a_second profile) (transfer 63 1 2 1 0 ∷ []) 1000000099).codes ≡ 65 ∷ [])
-    × ((batch_after transfer_events (closed_for_a_second profile) (transfer 63 1 2 1 0 ∷ []) 1000000100).codes ≡ 0 ∷ [])
-    × ((batch_after transfer_events (batch_after transfer_events (closed_for_a_second profile) (transfer 63 1 2 1 0 ∷ []) 1000000099).books (transfer 63 1 2 1 0 ∷ []) 1000000100).codes ≡ again profile ∷ [])
-    × ((batch_after transfer_events (start profile) (with_timeout 4294967295 (transfer 67 1 2 1 2) ∷ []) 5000000000000000000).codes ≡ 53 ∷ [])
-    × ((batch_after transfer_events (start profile) (with_timeout 4000000000 (transfer 67 1 2 1 2) ∷ []) 5000000000000000000).codes ≡ 0 ∷ [])
+    × (code_at (record (held_for_a_second profile) { time = 1000000100 }) 1000000101 (resolving 61 60 int_max 4) ≡ 35 ∷ [])
+    × (code_at (closed_for_a_second profile) 1000000099 (transfer 63 1 2 1 0) ≡ 65 ∷ [])
+    × (code_at (closed_for_a_second profile) 1000000100 (transfer 63 1 2 1 0) ≡ 0 ∷ [])
+    × (code_at (refused_while_closed profile) 1000000100 (transfer 63 1 2 1 0) ≡ again profile ∷ [])
+    × (code_at (start profile) 5000000000000000000 (with_timeout 4294967295 (transfer 67 1 2 1 2)) ≡ 53 ∷ [])
+    × (code_at (start profile) 5000000000000000000 (with_timeout 4000000000 (transfer 67 1 2 1 2)) ≡ 0 ∷ [])

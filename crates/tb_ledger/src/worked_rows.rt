@@ -1,6 +1,6 @@
 //! Worked rows, computed: what the definitions answer to requests of which the answers are known, by either profile.
 //! Its functions do nothing. Each states rows, and is proved by computing them.
-ghost use Rattle.tb_ledger.specs.WorkedRows.{Created, Balancing, PostsAndVoids, Closing, Chains, Accounts, Overflow, FailedIds, Expiry};
+ghost use Rattle.tb_ledger.specs.WorkedRows.{Created, Balancing, PostsAndVoids, Lookups, Closing, Chains, Accounts, ReservedFlags, Overflow, FailedIds, Expiry};
 ghost use Rattle.tb_records.specs.declared.limits.Profile.TheVariants.{One, Two};
 
 /// Accounts get the timestamps of their places in the batch.
@@ -15,13 +15,22 @@ pub fn balancing()
     ensures two { Balancing Two }
 {}
 
-/// A post of the whole, of a part, of nothing; a void; and posts and voids of what is resolved already or not pending.
+/// A post of the whole, of a part, of nothing; a void; and posts and voids of what is resolved already or not
+/// pending.
 pub fn posts_and_voids()
     ensures one { PostsAndVoids One }
     ensures two { PostsAndVoids Two }
 {}
 
-/// A closing transfer shuts its account for all but voids, until it is voided itself.
+/// What is found of accounts and transfers: whole records, in the order of the ids; what isn't there is left out, and what is asked
+/// twice comes twice.
+pub fn lookups()
+    ensures one { Lookups One }
+    ensures two { Lookups Two }
+{}
+
+/// A closing transfer shuts its account for all but voids, until it is voided itself. An account that is asked again exists, with
+/// the flags that it has as it stands.
 pub fn closing()
     ensures one { Closing One }
     ensures two { Closing Two }
@@ -39,7 +48,13 @@ pub fn accounts()
     ensures two { Accounts Two }
 {}
 
-/// A sum that would pass the largest number is refused.
+/// A flag above the known ones is refused, imported among them.
+pub fn reserved_flags()
+    ensures one { ReservedFlags One }
+    ensures two { ReservedFlags Two }
+{}
+
+/// A sum that would pass the largest number is refused: pending and posted ones of either side, and both together.
 pub fn overflow()
     ensures one { Overflow One }
     ensures two { Overflow Two }
