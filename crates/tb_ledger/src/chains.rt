@@ -8,7 +8,12 @@ use crate::events::Event;
 use crate::rows::Rows;
 use crate::undo::{TRAIL_PER_EVENT, Undo, unwind};
 use std::alloc::Allocator;
-use tb_records::EventResult;
+use tb_records::{CreateTransferResult, EventResult};
+
+// Of accounts and of transfers: the code of an event that another one undoes, and of the last one where the chain is open.
+const LINKED_EVENT_FAILED: u32 = CreateTransferResult::LinkedEventFailed as u32;
+
+const LINKED_EVENT_CHAIN_OPEN: u32 = CreateTransferResult::LinkedEventChainOpen as u32;
 
 /// The number of events in the first chain: up to the first that isn't linked.
 pub(crate) fn block_length<E: Event>(events: &[E]) -> usize
@@ -48,7 +53,7 @@ fn take_in_chain<E: Event, A: Allocator + Clone>(
     ensures timeouts_room { (n : ℕ) → E.HasTimeoutRoom (1 + n) rows.old.timeouts.1 → E.HasTimeoutRoom n rows.new.timeouts.1 }
 {
     if last && event.linked() {
-        2
+        LINKED_EVENT_CHAIN_OPEN
     } else {
         event.take(rows, trail, time)
     }
@@ -58,7 +63,11 @@ fn take_in_chain<E: Event, A: Allocator + Clone>(
 fn code_undone<E: Event>(event: &E, last: bool) -> u32
     ensures { result ≡ (if last && E.kind.linked event.now then 2 else 1) }
 {
-    if last && event.linked() { 2 } else { 1 }
+    if last && event.linked() {
+        LINKED_EVENT_CHAIN_OPEN
+    } else {
+        LINKED_EVENT_FAILED
+    }
 }
 
 /// Adds the results of `n` events that another one's failure undoes.
@@ -72,7 +81,7 @@ fn push_failed<A: Allocator>(results: &mut Vec<EventResult, A>, index: u32, n: u
     for i in 0..n {
         results.push_reserved(EventResult {
             index: index + i as u32,
-            result: 1,
+            result: LINKED_EVENT_FAILED,
         });
     }
 }

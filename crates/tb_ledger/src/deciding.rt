@@ -14,7 +14,7 @@ use crate::judging::{
 };
 use crate::rows::{AccountRow, Rows, TransferRow};
 use std::alloc::Allocator;
-use tb_records::{Account, Transfer};
+use tb_records::{Account, CreateTransferResult, Transfer};
 
 /// The verdict on an account.
 pub(crate) fn account_code<A: Allocator + Clone>(rows: &Rows<A>, a: &Account) -> u32
@@ -35,14 +35,18 @@ pub(crate) fn account_code<A: Allocator + Clone>(rows: &Rows<A>, a: &Account) ->
 pub(crate) fn resolving(t: &Transfer) -> bool
     ensures { result ≡ resolves t.now }
 {
-    t.flags & 4 != 0 || t.flags & 8 != 0
+    t.is_resolving()
 }
 
-/// By profile 2, whether the transfer's id has failed for good: 68, or 0.
+/// By profile 2, whether the transfer's id has failed for good: id_already_failed, or 0.
 fn failed_code<A: Allocator + Clone>(rows: &Rows<A>, t: &Transfer) -> u32
     ensures { result ≡ first_of (failed_lines (books_in rows.now).failed t.now) }
 {
-    if failed_before(rows, t) { 68 } else { 0 }
+    if failed_before(rows, t) {
+        CreateTransferResult::IdAlreadyFailed as u32
+    } else {
+        0
+    }
 }
 
 /// By profile 2: the transfer's id has failed for good.
@@ -105,14 +109,14 @@ fn party<'a, A: Allocator + Clone>(rows: &'a Rows<A>, id: u128) -> &'a AccountRo
 fn closed_code(t: &Transfer, debit: &AccountRow, credit: &AccountRow) -> u32
     ensures { result ≡ first_of (closed_lines t.now (row_closed debit.now) (row_closed credit.now)) }
 {
-    if t.flags & 4 == 0 {
+    if !t.is_post() {
         return 0;
     }
     if closed(debit) {
-        return 65;
+        return CreateTransferResult::DebitAccountAlreadyClosed as u32;
     }
     if closed(credit) {
-        return 66;
+        return CreateTransferResult::CreditAccountAlreadyClosed as u32;
     }
     0
 }
@@ -136,7 +140,7 @@ pub(crate) fn judge_resolving<'a, A: Allocator + Clone>(
     }
     match rows.transfers.get(t.pending_id) {
         Some(p) => judge_named(rows, t, p),
-        None => Err(25),
+        None => Err(CreateTransferResult::PendingTransferNotFound as u32),
     }
 }
 

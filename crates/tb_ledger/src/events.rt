@@ -88,7 +88,7 @@ impl Event for Account {
     ghost IsNew = { λ failed a code. Unit {0} };
 
     fn linked(&self) -> bool {
-        self.flags & 1 != 0
+        self.is_linked()
     }
 
     fn take<A: Allocator + Clone>(
@@ -132,7 +132,7 @@ impl Event for Transfer {
     ghost IsNew = { λ failed t code. is_final code ≡ true → option_map_or (list_any (λ id. id == t.id)) failed false ≡ false };
 
     fn linked(&self) -> bool {
-        self.flags & 1 != 0
+        self.is_linked()
     }
 
     fn take<A: Allocator + Clone>(

@@ -8,7 +8,7 @@ use crate::rows::AccountRow;
 use crate::settling::gain_side;
 use crate::table::Table;
 use std::alloc::Allocator;
-use tb_records::Transfer;
+use tb_records::{CreateTransferResult, Transfer, TransferFlag};
 
 /// What passed between two accounts: their rows from before, and the amount.
 #[derive(Clone, Copy)]
@@ -27,22 +27,22 @@ fn exchange_rows(
 ) -> Result<Passed, u32>
     ensures { Exchanges t.now time debit.old credit.old result debit.new credit.new }
 {
-    match between(debit, credit, t, time) {
-        Ok(amount) => {
-            let passed = Passed {
-                debit: *debit,
-                credit: *credit,
-                amount,
-            };
-            let mut recorded = *t;
-            recorded.amount = amount;
-            recorded.timestamp = time;
-            debit.debits = gain_side(debit.debits, &recorded, t.flags & 64 != 0);
-            credit.credits = gain_side(credit.credits, &recorded, t.flags & 128 != 0);
-            Ok(passed)
-        }
-        Err(code) => Err(code),
-    }
+    let amount = between(debit, credit, t, time)?;
+    let passed = Passed {
+        debit: *debit,
+        credit: *credit,
+        amount,
+    };
+    let mut recorded = *t;
+    recorded.amount = amount;
+    recorded.timestamp = time;
+    debit.debits = gain_side(debit.debits, &recorded, t.has(TransferFlag::ClosingDebit));
+    credit.credits = gain_side(
+        credit.credits,
+        &recorded,
+        t.has(TransferFlag::ClosingCredit),
+    );
+    Ok(passed)
 }
 
 // Which account isn't there.
@@ -50,9 +50,9 @@ fn missing<A: Allocator + Clone>(accounts: &Table<AccountRow, A>, t: &Transfer) 
     ensures { result ≡ (if is_some (row_at accounts.now.0 t.now.debit_account_id) then 22 else 21) }
 {
     if accounts.get(t.debit_account_id).is_some() {
-        22
+        CreateTransferResult::CreditAccountNotFound as u32
     } else {
-        21
+        CreateTransferResult::DebitAccountNotFound as u32
     }
 }
 

@@ -10,7 +10,7 @@ use crate::settling::release_side;
 use crate::table::Table;
 use crate::timeouts::Timeout;
 use std::alloc::Allocator;
-use tb_records::Transfer;
+use tb_records::{Transfer, TransferFlag};
 
 fn release_debit<A: Allocator + Clone>(accounts: &mut Table<AccountRow, A>, p: &Transfer)
     requires enough { (a : AccountRow) → find (λ a. a.created.id == p.now.debit_account_id) accounts.old.0 ≡ Some a → p.now.amount ≤ a.debits.pending }
@@ -19,7 +19,7 @@ fn release_debit<A: Allocator + Clone>(accounts: &mut Table<AccountRow, A>, p: &
     match accounts.get(p.debit_account_id) {
         Some(row) => {
             let old = *row;
-            let debits = release_side(old.debits, p, p.flags & 64 != 0);
+            let debits = release_side(old.debits, p, p.has(TransferFlag::ClosingDebit));
             accounts.replace(AccountRow {
                 created: old.created,
                 debits,
@@ -37,7 +37,7 @@ fn release_credit<A: Allocator + Clone>(accounts: &mut Table<AccountRow, A>, p: 
     match accounts.get(p.credit_account_id) {
         Some(row) => {
             let old = *row;
-            let credits = release_side(old.credits, p, p.flags & 128 != 0);
+            let credits = release_side(old.credits, p, p.has(TransferFlag::ClosingCredit));
             accounts.replace(AccountRow {
                 created: old.created,
                 debits: old.debits,

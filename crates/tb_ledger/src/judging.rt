@@ -6,7 +6,10 @@ ghost use Rattle.tb_ledger.specs.Kept.{row_now, row_closed};
 ghost use Rattle.tb_ledger.specs.Verdicts.{first_of, is_not, given_or, filled_amount, int_max, max_time, account_exists_lines, account_own_lines, account_new_lines, filled_from, transfer_exists_lines, resolve_own_lines, differs, named_lines, balanced_amount, amount_lines, pair_code, pair_lines, single_own_lines, transfer_own_lines};
 
 use crate::rows::{AccountRow, State};
-use tb_records::{Account, Transfer};
+use tb_records::{
+    Account, AccountFlag, CreateAccountResult, CreateTransferResult, LAST_MOMENT,
+    NANOSECONDS_PER_SECOND, Transfer, TransferFlag,
+};
 
 /// The first line that holds, else 0.
 fn first_line(lines: &[(u32, bool)]) -> u32
@@ -55,11 +58,20 @@ pub(crate) fn account_own(a: &Account) -> u32
     ensures { result ≡ first_of (account_own_lines a.now) }
 {
     first_line(&[
-        (3, a.timestamp != 0),
-        (4, a.reserved != 0),
-        (5, a.flags & 0xFFD0 != 0),
-        (6, a.id == 0),
-        (7, a.id == u128::MAX),
+        (
+            CreateAccountResult::TimestampMustBeZero as u32,
+            a.timestamp != 0,
+        ),
+        (CreateAccountResult::ReservedField as u32, a.reserved != 0),
+        (
+            CreateAccountResult::ReservedFlag as u32,
+            a.flags & AccountFlag::RESERVED != 0,
+        ),
+        (CreateAccountResult::IdMustNotBeZero as u32, a.id == 0),
+        (
+            CreateAccountResult::IdMustNotBeIntMax as u32,
+            a.id == u128::MAX,
+        ),
     ])
 }
 
@@ -69,13 +81,31 @@ pub(crate) fn account_there(a: &Account, e: &AccountRow) -> u32
 {
     let there = &e.created;
     first_line(&[
-        (15, a.flags != flags_now(e)),
-        (16, a.user_data_128 != there.user_data_128),
-        (17, a.user_data_64 != there.user_data_64),
-        (18, a.user_data_32 != there.user_data_32),
-        (19, a.ledger != there.ledger),
-        (20, a.code != there.code),
-        (21, true),
+        (
+            CreateAccountResult::ExistsWithDifferentFlags as u32,
+            a.flags != flags_now(e),
+        ),
+        (
+            CreateAccountResult::ExistsWithDifferentUserData128 as u32,
+            a.user_data_128 != there.user_data_128,
+        ),
+        (
+            CreateAccountResult::ExistsWithDifferentUserData64 as u32,
+            a.user_data_64 != there.user_data_64,
+        ),
+        (
+            CreateAccountResult::ExistsWithDifferentUserData32 as u32,
+            a.user_data_32 != there.user_data_32,
+        ),
+        (
+            CreateAccountResult::ExistsWithDifferentLedger as u32,
+            a.ledger != there.ledger,
+        ),
+        (
+            CreateAccountResult::ExistsWithDifferentCode as u32,
+            a.code != there.code,
+        ),
+        (CreateAccountResult::Exists as u32, true),
     ])
 }
 
@@ -84,13 +114,32 @@ pub(crate) fn account_new(a: &Account) -> u32
     ensures { result ≡ first_of (account_new_lines a.now) }
 {
     first_line(&[
-        (8, a.flags & 2 != 0 && a.flags & 4 != 0),
-        (9, a.debits_pending != 0),
-        (10, a.debits_posted != 0),
-        (11, a.credits_pending != 0),
-        (12, a.credits_posted != 0),
-        (13, a.ledger == 0),
-        (14, a.code == 0),
+        (
+            CreateAccountResult::FlagsAreMutuallyExclusive as u32,
+            a.has(AccountFlag::DebitsMustNotExceedCredits)
+                && a.has(AccountFlag::CreditsMustNotExceedDebits),
+        ),
+        (
+            CreateAccountResult::DebitsPendingMustBeZero as u32,
+            a.debits_pending != 0,
+        ),
+        (
+            CreateAccountResult::DebitsPostedMustBeZero as u32,
+            a.debits_posted != 0,
+        ),
+        (
+            CreateAccountResult::CreditsPendingMustBeZero as u32,
+            a.credits_pending != 0,
+        ),
+        (
+            CreateAccountResult::CreditsPostedMustBeZero as u32,
+            a.credits_posted != 0,
+        ),
+        (
+            CreateAccountResult::LedgerMustNotBeZero as u32,
+            a.ledger == 0,
+        ),
+        (CreateAccountResult::CodeMustNotBeZero as u32, a.code == 0),
     ])
 }
 
@@ -98,7 +147,7 @@ pub(crate) fn account_new(a: &Account) -> u32
 pub(crate) fn closed(a: &AccountRow) -> bool
     ensures { result ≡ row_closed a.now }
 {
-    a.created.flags & 32 != 0 || a.debits.shut || a.credits.shut
+    a.created.is_closed() || a.debits.shut || a.credits.shut
 }
 
 /// The account's flags as it stands.
@@ -106,7 +155,7 @@ pub(crate) fn flags_now(a: &AccountRow) -> u16
     ensures { result ≡ (row_now a.now).flags }
 {
     if closed(a) {
-        a.created.flags | 32
+        a.created.flags | AccountFlag::Closed as u16
     } else {
         a.created.flags
     }
@@ -117,16 +166,16 @@ pub(crate) fn transfer_own(t: &Transfer) -> u32
     ensures { result ≡ first_of (transfer_own_lines t.now) }
 {
     if t.timestamp != 0 {
-        return 3;
+        return CreateTransferResult::TimestampMustBeZero as u32;
     }
-    if t.flags & 0xFF00 != 0 {
-        return 4;
+    if t.flags & TransferFlag::RESERVED != 0 {
+        return CreateTransferResult::ReservedFlag as u32;
     }
     if t.id == 0 {
-        return 5;
+        return CreateTransferResult::IdMustNotBeZero as u32;
     }
     if t.id == u128::MAX {
-        return 6;
+        return CreateTransferResult::IdMustNotBeIntMax as u32;
     }
     0
 }
@@ -136,18 +185,51 @@ pub(crate) fn transfer_there(f: &Transfer, e: &Transfer) -> u32
     ensures { result ≡ first_of (transfer_exists_lines (Some e.now) f.now) }
 {
     first_line(&[
-        (36, f.flags != e.flags),
-        (40, f.pending_id != e.pending_id),
-        (44, f.timeout != e.timeout),
-        (37, f.debit_account_id != e.debit_account_id),
-        (38, f.credit_account_id != e.credit_account_id),
-        (39, other_amount(f, e)),
-        (41, f.user_data_128 != e.user_data_128),
-        (42, f.user_data_64 != e.user_data_64),
-        (43, f.user_data_32 != e.user_data_32),
-        (67, f.ledger != e.ledger),
-        (45, f.code != e.code),
-        (46, true),
+        (
+            CreateTransferResult::ExistsWithDifferentFlags as u32,
+            f.flags != e.flags,
+        ),
+        (
+            CreateTransferResult::ExistsWithDifferentPendingId as u32,
+            f.pending_id != e.pending_id,
+        ),
+        (
+            CreateTransferResult::ExistsWithDifferentTimeout as u32,
+            f.timeout != e.timeout,
+        ),
+        (
+            CreateTransferResult::ExistsWithDifferentDebitAccountId as u32,
+            f.debit_account_id != e.debit_account_id,
+        ),
+        (
+            CreateTransferResult::ExistsWithDifferentCreditAccountId as u32,
+            f.credit_account_id != e.credit_account_id,
+        ),
+        (
+            CreateTransferResult::ExistsWithDifferentAmount as u32,
+            other_amount(f, e),
+        ),
+        (
+            CreateTransferResult::ExistsWithDifferentUserData128 as u32,
+            f.user_data_128 != e.user_data_128,
+        ),
+        (
+            CreateTransferResult::ExistsWithDifferentUserData64 as u32,
+            f.user_data_64 != e.user_data_64,
+        ),
+        (
+            CreateTransferResult::ExistsWithDifferentUserData32 as u32,
+            f.user_data_32 != e.user_data_32,
+        ),
+        (
+            CreateTransferResult::ExistsWithDifferentLedger as u32,
+            f.ledger != e.ledger,
+        ),
+        (
+            CreateTransferResult::ExistsWithDifferentCode as u32,
+            f.code != e.code,
+        ),
+        (CreateTransferResult::Exists as u32, true),
     ])
 }
 
@@ -155,7 +237,7 @@ pub(crate) fn transfer_there(f: &Transfer, e: &Transfer) -> u32
 fn other_amount(f: &Transfer, e: &Transfer) -> bool
     ensures { result ≡ (if balancing f.now then nat_lt f.now.amount e.now.amount else is_not f.now.amount e.now.amount) }
 {
-    if f.flags & 16 != 0 || f.flags & 32 != 0 {
+    if f.is_balancing() {
         f.amount < e.amount
     } else {
         f.amount != e.amount
@@ -167,14 +249,38 @@ pub(crate) fn resolve_own(t: &Transfer) -> u32
     ensures { result ≡ first_of (resolve_own_lines t.now) }
 {
     first_line(&[
-        (7, t.flags & 4 != 0 && t.flags & 8 != 0),
-        (7, t.flags & 2 != 0),
-        (7, t.flags & 16 != 0 || t.flags & 32 != 0),
-        (7, t.flags & 64 != 0 || t.flags & 128 != 0),
-        (14, t.pending_id == 0),
-        (15, t.pending_id == u128::MAX),
-        (16, t.pending_id == t.id),
-        (17, t.timeout != 0),
+        (
+            CreateTransferResult::FlagsAreMutuallyExclusive as u32,
+            t.is_post() && t.is_void(),
+        ),
+        (
+            CreateTransferResult::FlagsAreMutuallyExclusive as u32,
+            t.is_pending(),
+        ),
+        (
+            CreateTransferResult::FlagsAreMutuallyExclusive as u32,
+            t.is_balancing(),
+        ),
+        (
+            CreateTransferResult::FlagsAreMutuallyExclusive as u32,
+            t.is_closing(),
+        ),
+        (
+            CreateTransferResult::PendingIdMustNotBeZero as u32,
+            t.pending_id == 0,
+        ),
+        (
+            CreateTransferResult::PendingIdMustNotBeIntMax as u32,
+            t.pending_id == u128::MAX,
+        ),
+        (
+            CreateTransferResult::PendingIdMustBeDifferent as u32,
+            t.pending_id == t.id,
+        ),
+        (
+            CreateTransferResult::TimeoutReservedForPendingTransfer as u32,
+            t.timeout != 0,
+        ),
     ])
 }
 
@@ -189,33 +295,33 @@ fn differs(x: u128, other: u128) -> bool
 pub(crate) fn resolve_named(t: &Transfer, p: &Transfer, state: State) -> u32
     ensures { result ≡ first_of (named_lines t.now p.now state) }
 {
-    if p.flags & 2 == 0 {
-        return 26;
+    if !p.is_pending() {
+        return CreateTransferResult::PendingTransferNotPending as u32;
     }
     if differs(t.debit_account_id, p.debit_account_id) {
-        return 27;
+        return CreateTransferResult::PendingTransferHasDifferentDebitAccountId as u32;
     }
     if differs(t.credit_account_id, p.credit_account_id) {
-        return 28;
+        return CreateTransferResult::PendingTransferHasDifferentCreditAccountId as u32;
     }
     if t.ledger != 0 && t.ledger != p.ledger {
-        return 29;
+        return CreateTransferResult::PendingTransferHasDifferentLedger as u32;
     }
     if t.code != 0 && t.code != p.code {
-        return 30;
+        return CreateTransferResult::PendingTransferHasDifferentCode as u32;
     }
     let amount = filled_with(t, p);
     if p.amount < amount {
-        return 31;
+        return CreateTransferResult::ExceedsPendingTransferAmount as u32;
     }
-    if t.flags & 8 != 0 && amount < p.amount {
-        return 32;
+    if t.is_void() && amount < p.amount {
+        return CreateTransferResult::PendingTransferHasDifferentAmount as u32;
     }
     match state {
         State::Open => 0,
-        State::Posted => 33,
-        State::Voided => 34,
-        State::Expired => 35,
+        State::Posted => CreateTransferResult::PendingTransferAlreadyPosted as u32,
+        State::Voided => CreateTransferResult::PendingTransferAlreadyVoided as u32,
+        State::Expired => CreateTransferResult::PendingTransferExpired as u32,
     }
 }
 
@@ -224,35 +330,35 @@ pub(crate) fn single_own(t: &Transfer) -> u32
     ensures { result ≡ first_of (single_own_lines t.now) }
 {
     if t.debit_account_id == 0 {
-        return 8;
+        return CreateTransferResult::DebitAccountIdMustNotBeZero as u32;
     }
     if t.debit_account_id == u128::MAX {
-        return 9;
+        return CreateTransferResult::DebitAccountIdMustNotBeIntMax as u32;
     }
     if t.credit_account_id == 0 {
-        return 10;
+        return CreateTransferResult::CreditAccountIdMustNotBeZero as u32;
     }
     if t.credit_account_id == u128::MAX {
-        return 11;
+        return CreateTransferResult::CreditAccountIdMustNotBeIntMax as u32;
     }
     if t.debit_account_id == t.credit_account_id {
-        return 12;
+        return CreateTransferResult::AccountsMustBeDifferent as u32;
     }
     if t.pending_id != 0 {
-        return 13;
+        return CreateTransferResult::PendingIdMustBeZero as u32;
     }
-    let pending = t.flags & 2 != 0;
+    let pending = t.is_pending();
     if !pending && t.timeout != 0 {
-        return 17;
+        return CreateTransferResult::TimeoutReservedForPendingTransfer as u32;
     }
-    if !pending && (t.flags & 64 != 0 || t.flags & 128 != 0) {
-        return 64;
+    if !pending && t.is_closing() {
+        return CreateTransferResult::ClosingTransferMustBePending as u32;
     }
     if t.ledger == 0 {
-        return 19;
+        return CreateTransferResult::LedgerMustNotBeZero as u32;
     }
     if t.code == 0 {
-        return 20;
+        return CreateTransferResult::CodeMustNotBeZero as u32;
     }
     0
 }
@@ -262,16 +368,16 @@ fn pair(d: &AccountRow, c: &AccountRow, t: &Transfer) -> u32
     ensures { result ≡ first_of (pair_lines (row_now d.now) (row_now c.now) t.now) }
 {
     if d.created.ledger != c.created.ledger {
-        return 23;
+        return CreateTransferResult::AccountsMustHaveTheSameLedger as u32;
     }
     if t.ledger != d.created.ledger {
-        return 24;
+        return CreateTransferResult::TransferMustHaveTheSameLedgerAsAccounts as u32;
     }
-    if flags_now(d) & 32 != 0 {
-        return 65;
+    if AccountFlag::Closed.is_in(flags_now(d)) {
+        return CreateTransferResult::DebitAccountAlreadyClosed as u32;
     }
-    if flags_now(c) & 32 != 0 {
-        return 66;
+    if AccountFlag::Closed.is_in(flags_now(c)) {
+        return CreateTransferResult::CreditAccountAlreadyClosed as u32;
     }
     0
 }
@@ -280,37 +386,37 @@ fn pair(d: &AccountRow, c: &AccountRow, t: &Transfer) -> u32
 fn amounts(d: &AccountRow, c: &AccountRow, t: &Transfer, amount: u128, time: u64) -> u32
     ensures { result ≡ first_of (amount_lines (row_now d.now) (row_now c.now) t.now amount time) }
 {
-    let pending = t.flags & 2 != 0;
+    let pending = t.is_pending();
     if pending && above(d.debits.pending, amount) {
-        return 47;
+        return CreateTransferResult::OverflowsDebitsPending as u32;
     }
     if pending && above(c.credits.pending, amount) {
-        return 48;
+        return CreateTransferResult::OverflowsCreditsPending as u32;
     }
     if above(d.debits.posted, amount) {
-        return 49;
+        return CreateTransferResult::OverflowsDebitsPosted as u32;
     }
     if above(c.credits.posted, amount) {
-        return 50;
+        return CreateTransferResult::OverflowsCreditsPosted as u32;
     }
     if sum_above(d.debits.pending, d.debits.posted, amount) {
-        return 51;
+        return CreateTransferResult::OverflowsDebits as u32;
     }
     if sum_above(c.credits.pending, c.credits.posted, amount) {
-        return 52;
+        return CreateTransferResult::OverflowsCredits as u32;
     }
     if overdue(time, t.timeout) {
-        return 53;
+        return CreateTransferResult::OverflowsTimeout as u32;
     }
-    if flags_now(d) & 2 != 0
+    if AccountFlag::DebitsMustNotExceedCredits.is_in(flags_now(d))
         && sum_exceeds(d.debits.pending, d.debits.posted, amount, d.credits.posted)
     {
-        return 54;
+        return CreateTransferResult::ExceedsCredits as u32;
     }
-    if flags_now(c) & 4 != 0
+    if AccountFlag::CreditsMustNotExceedDebits.is_in(flags_now(c))
         && sum_exceeds(c.credits.pending, c.credits.posted, amount, c.debits.posted)
     {
-        return 55;
+        return CreateTransferResult::ExceedsDebits as u32;
     }
     0
 }
@@ -336,7 +442,8 @@ pub(crate) fn between(d: &AccountRow, c: &AccountRow, t: &Transfer, time: u64) -
 fn overdue(time: u64, timeout: u32) -> bool
     ensures { result ≡ nat_lt max_time (time + timeout * 1000000000) }
 {
-    (i64::MAX as u128) < time as u128 + timeout as u128 * 1_000_000_000
+    u128::from(LAST_MOMENT)
+        < u128::from(time) + u128::from(timeout) * u128::from(NANOSECONDS_PER_SECOND)
 }
 
 /// What a balancing transfer moves between two accounts: at most what keeps its sides balanced.
@@ -344,7 +451,7 @@ fn balanced(d: &AccountRow, c: &AccountRow, t: &Transfer) -> u128
     ensures { result ≡ balanced_amount (row_now d.now) (row_now c.now) t.now }
 {
     let mut amount = t.amount;
-    if t.flags & 16 != 0 {
+    if t.has(TransferFlag::BalancingDebit) {
         amount = amount.min(
             d.credits
                 .posted
@@ -352,7 +459,7 @@ fn balanced(d: &AccountRow, c: &AccountRow, t: &Transfer) -> u128
                 .saturating_sub(d.debits.pending),
         );
     }
-    if t.flags & 32 != 0 {
+    if t.has(TransferFlag::BalancingCredit) {
         amount = amount.min(
             c.debits
                 .posted
@@ -403,7 +510,7 @@ pub(crate) fn filled(t: &Transfer, p: &Transfer) -> Transfer
 fn filled_with(t: &Transfer, p: &Transfer) -> u128
     ensures { result ≡ filled_amount p.now t.now }
 {
-    let whole = if t.flags & 4 != 0 { u128::MAX } else { 0 };
+    let whole = if t.is_post() { u128::MAX } else { 0 };
     if t.amount == whole {
         p.amount
     } else {

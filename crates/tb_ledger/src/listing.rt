@@ -8,19 +8,20 @@ ghost use Rattle.tb_ledger.specs.Verdicts.{max_time};
 use crate::rows::{State, TransferRow};
 use crate::timeouts::{Timeout, Timeouts};
 use std::alloc::Allocator;
+use tb_records::NANOSECONDS_PER_SECOND;
 
 // It holds until its timeout ends it, or it is resolved.
 fn is_dated(row: &TransferRow) -> bool
     ensures { result ≡ dated row.now }
 {
-    row.recorded.flags & 2 != 0 && matches!(row.state, State::Open) && row.recorded.timeout != 0
+    row.recorded.is_pending() && matches!(row.state, State::Open) && row.recorded.timeout != 0
 }
 
 fn timeout_of(row: &TransferRow) -> Timeout
     requires { expires_at row.now.recorded ≤ max_time }
     ensures { result ≡ timeout_of row.now }
 {
-    let after = u64::from(row.recorded.timeout) * 1_000_000_000;
+    let after = u64::from(row.recorded.timeout) * NANOSECONDS_PER_SECOND;
     Timeout {
         at: row.recorded.timestamp + after,
         id: row.recorded.id,

@@ -15,7 +15,7 @@ use crate::rows::Rows;
 use crate::settling::{add_row, record_account, row_of, settle};
 use crate::undo::{TRAIL_PER_EVENT, Undo};
 use std::alloc::Allocator;
-use tb_records::{Account, Transfer};
+use tb_records::{Account, CreateTransferResult, Transfer};
 
 /// Judges an account, and records it with its timestamp where the verdict is 0.
 pub(crate) fn take_account<A: Allocator + Clone>(
@@ -156,7 +156,16 @@ pub(crate) fn take_transfer<A: Allocator + Clone>(
 fn final_code(code: u32) -> bool
     ensures { result ≡ is_final code }
 {
-    [21, 22, 25, 54, 55, 65, 66].contains(&code)
+    [
+        CreateTransferResult::DebitAccountNotFound as u32,
+        CreateTransferResult::CreditAccountNotFound as u32,
+        CreateTransferResult::PendingTransferNotFound as u32,
+        CreateTransferResult::ExceedsCredits as u32,
+        CreateTransferResult::ExceedsDebits as u32,
+        CreateTransferResult::DebitAccountAlreadyClosed as u32,
+        CreateTransferResult::CreditAccountAlreadyClosed as u32,
+    ]
+    .contains(&code)
 }
 
 /// By profile 2, notes the id of a transfer that has failed for good.

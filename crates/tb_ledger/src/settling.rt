@@ -15,20 +15,20 @@ use crate::table::Table;
 use crate::timeouts::Timeouts;
 use crate::undo::{TRAIL_PER_EVENT, Undo};
 use std::alloc::Allocator;
-use tb_records::{Account, Transfer};
+use tb_records::{Account, Transfer, TransferFlag};
 
 // What a transfer holds until it is resolved or expires.
 fn pending_part(t: &Transfer) -> u128
     ensures { result ≡ (if pending t.now then t.now.amount else 0) }
 {
-    if t.flags & 2 != 0 { t.amount } else { 0 }
+    if t.is_pending() { t.amount } else { 0 }
 }
 
 // What a transfer moves for good.
 fn posted_part(t: &Transfer) -> u128
     ensures { result ≡ (if moves t.now then t.now.amount else 0) }
 {
-    if t.flags & 2 == 0 && t.flags & 8 == 0 {
+    if !t.is_pending() && !t.is_void() {
         t.amount
     } else {
         0
@@ -41,7 +41,7 @@ pub(crate) fn gain_side(s: Side, t: &Transfer, closes: bool) -> Side
 {
     let held = pending_part(t);
     let moved = posted_part(t);
-    let shut = s.shut || t.flags & 2 != 0 && closes;
+    let shut = s.shut || t.is_pending() && closes;
     Side {
         pending: s.pending + held,
         posted: s.posted + moved,
@@ -103,7 +103,13 @@ fn settle_debit<A: Allocator + Clone>(
 {
     let new = AccountRow {
         created: old.created,
-        debits: settle_side(old.debits, p, r, p.flags & 64 != 0, r.flags & 64 != 0),
+        debits: settle_side(
+            old.debits,
+            p,
+            r,
+            p.has(TransferFlag::ClosingDebit),
+            r.has(TransferFlag::ClosingDebit),
+        ),
         credits: old.credits,
     };
     change(accounts, trail, old, new);
@@ -127,7 +133,13 @@ fn settle_credit<A: Allocator + Clone>(
     let new = AccountRow {
         created: old.created,
         debits: old.debits,
-        credits: settle_side(old.credits, p, r, p.flags & 128 != 0, r.flags & 128 != 0),
+        credits: settle_side(
+            old.credits,
+            p,
+            r,
+            p.has(TransferFlag::ClosingCredit),
+            r.has(TransferFlag::ClosingCredit),
+        ),
     };
     change(accounts, trail, old, new);
 }
@@ -217,7 +229,7 @@ fn close_row<A: Allocator + Clone>(
 fn state_given(r: &Transfer) -> State
     ensures { result ≡ state_given_by r.now }
 {
-    if r.flags & 4 != 0 {
+    if r.is_post() {
         State::Posted
     } else {
         State::Voided
