@@ -227,11 +227,10 @@ fn item_from<S: Source, T: Item>(source: &mut S, buf: &mut [u8; 128]) -> Result<
 {
     let buf: &mut [u8] = buf;
     let buf = &mut buf[..T::SIZE];
-    match fill(source, buf) {
-        Ok(n) if n < T::SIZE => Err(FrameFault::Short),
-        Ok(_) => Ok(T::read(buf)),
-        Err(fault) => Err(fault),
+    if fill(source, buf)? < T::SIZE {
+        return Err(FrameFault::Short);
     }
+    Ok(T::read(buf))
 }
 
 /// Reads a row of items. The room for them is made before the first byte is read.

@@ -62,9 +62,8 @@ fn header_fields(bytes: &[u8]) -> Result<Header, FrameFault>
     if client == 0 {
         return Err(FrameFault::ClientZero);
     }
-    let operation = match Operation::from_code(u8_at(bytes, 28)) {
-        Some(operation) => operation,
-        None => return Err(FrameFault::UnknownOperation),
+    let Some(operation) = Operation::from_code(u8_at(bytes, 28)) else {
+        return Err(FrameFault::UnknownOperation);
     };
     if u24_at(bytes, 29) != 0 || u96_at(bytes, 36) != 0 {
         return Err(FrameFault::Reserved);
@@ -79,17 +78,15 @@ fn header_fields(bytes: &[u8]) -> Result<Header, FrameFault>
         return Err(FrameFault::RequestZero);
     }
     let length = u32_at(bytes, 32) as usize;
-    match count_of(operation, length) {
-        Ok(count) => Ok(Header {
-            client,
-            session,
-            request,
-            operation,
-            length,
-            count,
-        }),
-        Err(fault) => Err(fault),
-    }
+    let count = count_of(operation, length)?;
+    Ok(Header {
+        client,
+        session,
+        request,
+        operation,
+        length,
+        count,
+    })
 }
 
 /// The fields of the header that the bytes begin with, which are its spelling; or the first of its faults.

@@ -113,22 +113,22 @@ fn body_from<S: Source>(
 {
     match operation {
         Operation::Register => Ok(Body::Register),
-        Operation::CreateAccounts => match items_from(alloc, source, count) {
-            Ok(events) => Ok(Body::CreateAccounts(Items::new(events))),
-            Err(fault) => Err(fault),
-        },
-        Operation::CreateTransfers => match items_from(alloc, source, count) {
-            Ok(events) => Ok(Body::CreateTransfers(Items::new(events))),
-            Err(fault) => Err(fault),
-        },
-        Operation::LookupAccounts => match items_from(alloc, source, count) {
-            Ok(ids) => Ok(Body::LookupAccounts(Items::new(ids))),
-            Err(fault) => Err(fault),
-        },
-        Operation::LookupTransfers => match items_from(alloc, source, count) {
-            Ok(ids) => Ok(Body::LookupTransfers(Items::new(ids))),
-            Err(fault) => Err(fault),
-        },
+        Operation::CreateAccounts => {
+            let events = items_from(alloc, source, count)?;
+            Ok(Body::CreateAccounts(Items::new(events)))
+        }
+        Operation::CreateTransfers => {
+            let events = items_from(alloc, source, count)?;
+            Ok(Body::CreateTransfers(Items::new(events)))
+        }
+        Operation::LookupAccounts => {
+            let ids = items_from(alloc, source, count)?;
+            Ok(Body::LookupAccounts(Items::new(ids)))
+        }
+        Operation::LookupTransfers => {
+            let ids = items_from(alloc, source, count)?;
+            Ok(Body::LookupTransfers(Items::new(ids)))
+        }
     }
 }
 
@@ -144,10 +144,7 @@ pub(crate) fn request_behind<S: Source>(
         (λ f. BodyFault f (body_length header.now) (S.input source.old).left (S.input source.new).left) }
     ensures counted { Counts result (S.input source.old) (S.input source.new) }
 {
-    let body = match body_from(alloc, source, header.operation, header.count) {
-        Ok(body) => body,
-        Err(fault) => return Err(fault),
-    };
+    let body = body_from(alloc, source, header.operation, header.count)?;
     Request::new(header.client, header.session, header.request, body)
 }
 
