@@ -277,23 +277,25 @@ fn frame(client: u128, session: u64, request: u32, operation: u8, status: u8, co
     out
 }
 
-fn main() {
-    let args: Vec<String> = std::env::args().collect();
-    let clients_max: usize = args[1].parse().unwrap();
-    let failed = if args.len() > 2 && args[2] == "2" { Some(BTreeSet::new()) } else { None };
-    let mut l = Ledger { accounts: BTreeMap::new(), transfers: BTreeMap::new(), due: BTreeSet::new(), failed, trail: Vec::new() };
-    let mut rows: BTreeMap<u128, Row> = BTreeMap::new();
-    let (mut commit, mut time) = (0u64, 0u64);
-    let mut input = BufReader::with_capacity(65536, std::io::stdin().lock());
-    let mut output = BufWriter::with_capacity(65536, std::io::stdout().lock());
-    let mut head = [0u8; 56];
-    while input.read_exact(&mut head).is_ok() {
-        let moment = u(&head, 0, 8) as u64;
-        let h = &head[8..];
-        let (client, session, request, operation, len) = (u(h, 0, 16), u(h, 16, 8) as u64, u(h, 24, 4) as u32, h[28], u(h, 32, 4) as usize);
-        let mut body = vec![0u8; len];
-        input.read_exact(&mut body).unwrap();
-        let status = match rows.get(&client) {
+/// A machine: the ledger, the sessions, and the last commit number and time.
+pub struct Machine { clients_max: usize, ledger: Ledger, rows: BTreeMap<u128, Row>, commit: u64, time: u64 }
+
+impl Machine {
+    /// An empty machine; failed ids are kept by profile 2 alone.
+    pub fn new(clients_max: usize, keeps_failed: bool) -> Machine {
+        let failed = if keeps_failed { Some(BTreeSet::new()) } else { None };
+        let ledger = Ledger { accounts: BTreeMap::new(), transfers: BTreeMap::new(), due: BTreeSet::new(), failed, trail: Vec::new() };
+        Machine { clients_max, ledger, rows: BTreeMap::new(), commit: 0, time: 0 }
+    }
+
+    /// The number of requests that were executed.
+    #[allow(dead_code)]
+    pub fn commit(&self) -> u64 { self.commit }
+
+    /// Serves the request of a header and a body that comes at a moment, and writes the reply; false where there is no time for it.
+    pub fn serve(&mut self, moment: u64, h: &[u8], body: Vec<u8>, output: &mut impl Write) -> bool {
+        let (client, session, request, operation, len) = (u(h, 0, 16), u(h, 16, 8) as u64, u(h, 24, 4) as u32, h[28], body.len());
+        let status = match self.rows.get(&client) {
             None => if operation == 2 { 100 } else { 1 },
             Some(row) if operation == 2 => if row.request == 0 { 0 } else { 4 },
             Some(row) => {
@@ -305,31 +307,51 @@ fn main() {
         if status == 100 {
             let n = match operation { 129 | 130 => len / 128, _ => 0 };
             let t = moment as u128;
-            let t = t.max(time as u128 + n.max(1) as u128);
-            if t > MAX_TIME as u128 { output.flush().unwrap(); eprintln!("tbs: TimeExhausted"); std::process::exit(2); }
+            let t = t.max(self.time as u128 + n.max(1) as u128);
+            if t > MAX_TIME as u128 { return false; }
             let t = t as u64;
+            let l = &mut self.ledger;
             l.expire(t);
             let out = match operation {
-                129 => { let events: Vec<Account> = body.chunks(128).map(Account::read).collect(); batch(&mut l, &events, t, |a| a.flags & 1 != 0, |_| None, Ledger::create_account) }
-                130 => { let events: Vec<Transfer> = body.chunks(128).map(Transfer::read).collect(); batch(&mut l, &events, t, |e| e.flags & 1 != 0, |e| Some(e.id), Ledger::create_transfer) }
+                129 => { let events: Vec<Account> = body.chunks(128).map(Account::read).collect(); batch(l, &events, t, |a| a.flags & 1 != 0, |_| None, Ledger::create_account) }
+                130 => { let events: Vec<Transfer> = body.chunks(128).map(Transfer::read).collect(); batch(l, &events, t, |e| e.flags & 1 != 0, |e| Some(e.id), Ledger::create_transfer) }
                 131 => { let mut out = Vec::new(); for id in body.chunks(16) { if let Some(a) = l.accounts.get(&u(id, 0, 16)) { a.write(&mut out); } } out }
                 132 => { let mut out = Vec::new(); for id in body.chunks(16) { if let Some(t) = l.transfers.get(&u(id, 0, 16)) { t.write(&mut out); } } out }
                 _ => Vec::new(),
             };
-            commit += 1;
-            time = t;
-            let session = if operation == 2 { commit } else { session };
-            if !rows.contains_key(&client) && rows.len() >= clients_max {
-                let gone = *rows.iter().min_by_key(|(_, r)| r.commit).unwrap().0;
-                rows.remove(&gone);
+            self.commit += 1;
+            self.time = t;
+            let session = if operation == 2 { self.commit } else { session };
+            if !self.rows.contains_key(&client) && self.rows.len() >= self.clients_max {
+                let gone = *self.rows.iter().min_by_key(|(_, r)| r.commit).unwrap().0;
+                self.rows.remove(&gone);
             }
-            let reply = frame(client, session, request, operation, 0, commit, &out);
+            let reply = frame(client, session, request, operation, 0, self.commit, &out);
             output.write_all(&reply).unwrap();
-            rows.insert(client, Row { session, request, operation, body, reply, commit });
+            self.rows.insert(client, Row { session, request, operation, body, reply, commit: self.commit });
         } else if status == 0 {
-            output.write_all(&rows[&client].reply).unwrap();
+            output.write_all(&self.rows[&client].reply).unwrap();
         } else {
             output.write_all(&frame(client, session, request, operation, status, 0, &[])).unwrap();
+        }
+        true
+    }
+}
+
+#[allow(dead_code)]
+fn main() {
+    let args: Vec<String> = std::env::args().collect();
+    let mut machine = Machine::new(args[1].parse().unwrap(), args.len() > 2 && args[2] == "2");
+    let mut input = BufReader::with_capacity(65536, std::io::stdin().lock());
+    let mut output = BufWriter::with_capacity(65536, std::io::stdout().lock());
+    let mut head = [0u8; 56];
+    while input.read_exact(&mut head).is_ok() {
+        let mut body = vec![0u8; u(&head, 40, 4) as usize];
+        input.read_exact(&mut body).unwrap();
+        if !machine.serve(u(&head, 0, 8) as u64, &head[8..], body, &mut output) {
+            output.flush().unwrap();
+            eprintln!("tbs: TimeExhausted");
+            std::process::exit(2);
         }
     }
     output.flush().unwrap();
