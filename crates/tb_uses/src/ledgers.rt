@@ -1,0 +1,23 @@
+//! A caller of the ledger.
+ghost use Rattle.std.specs.Prelude.{◌≡◌, ◌+◌, ◌<◌, ◌∷◌, [], IfOk, OnOk, OnErr};
+ghost use Rattle.tb_ledger.specs.Batches.{batch_after, results, transfer_events};
+ghost use Rattle.tb_ledger.specs.Verdicts.{max_time};
+
+use std::alloc::{AllocError, Allocator, Global};
+use tb_ledger::Ledger;
+use tb_records::{EventResult, Transfer};
+
+/// Enters one transfer at the next moment, and answers what it was refused for: nothing where it was accepted.
+pub fn enter_transfer<A: Allocator + Clone>(
+    ledger: &mut Ledger<A>,
+    global: Global,
+    transfer: Transfer,
+) -> Result<Option<EventResult>, AllocError>
+    requires { ledger.old.time < max_time }
+    ensures books { OnOk result (ledger.new ≡ (batch_after transfer_events ledger.old (transfer ∷ []) (ledger.old.time + 1)).books) }
+    ensures unchanged { OnErr result (ledger.new ≡ ledger.old) }
+{
+    let time = ledger.time() + 1;
+    let mut refused = ledger.create_transfers(global, time, &[transfer])?;
+    Ok(refused.pop())
+}

@@ -1,0 +1,9 @@
+//! Uses of each library, as a caller writes them: the examples of the pages CALLING.md, proved.
+#![tactic(auto)]
+
+pub mod ledgers;
+pub mod maps;
+pub mod publishing;
+pub mod retries;
+#[cfg(test)]
+mod tests;
