@@ -63,11 +63,7 @@ fn put<W: Sink>(writer: &mut W, bytes: &[u8]) -> Result<(), Fault> {
 }
 
 /// Writes the script of statements; where they go wrong, that of the statements before.
-fn script<R: Source, W: Sink>(
-    alloc: Global,
-    reader: &mut R,
-    writer: &mut W,
-) -> Result<(), Fault> {
+fn script<R: Source, W: Sink>(alloc: Global, reader: &mut R, writer: &mut W) -> Result<(), Fault> {
     let text = read_all(alloc, reader)?;
     let Ok(reading) = read_text(alloc, text.as_slice()) else {
         return Err(Fault::NoMemory);
@@ -106,11 +102,7 @@ fn requests<R: Source, W: Sink>(
 }
 
 /// Writes a line for each reply.
-fn replies<R: Source, W: Sink>(
-    alloc: Global,
-    reader: &mut R,
-    writer: &mut W,
-) -> Result<(), Fault> {
+fn replies<R: Source, W: Sink>(alloc: Global, reader: &mut R, writer: &mut W) -> Result<(), Fault> {
     let bytes = read_all(alloc, reader)?;
     let mut rest = bytes.as_slice();
     for _ in 0..u64::MAX {
@@ -134,11 +126,7 @@ fn replies<R: Source, W: Sink>(
 }
 
 /// Writes a line for the head, each entry and the mark of a dump.
-fn dump<R: Source, W: Sink>(
-    alloc: Global,
-    reader: &mut R,
-    writer: &mut W,
-) -> Result<(), Fault> {
+fn dump<R: Source, W: Sink>(alloc: Global, reader: &mut R, writer: &mut W) -> Result<(), Fault> {
     let head = match read_head_from(reader) {
         Ok(head) => head,
         Err(fault) => return Err(Fault::Dump(fault)),

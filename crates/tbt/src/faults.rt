@@ -57,26 +57,39 @@ fn is_plain(byte: u8) -> bool {
     b'!' <= byte && byte <= b'~'
 }
 
-/// The bytes of a word around a place, or the byte there.
+/// Says that a byte can be part of what is shown as one word.
+fn is_of_word(byte: u8) -> bool {
+    is_plain(byte) && !matches!(byte, b',' | b';' | b'=' | b'|' | b'#')
+}
+
+/// The number of bytes of the word that the bytes begin with.
+fn word_length(bytes: &[u8]) -> usize {
+    for (place, byte) in bytes.iter().enumerate() {
+        if !is_of_word(*byte) {
+            return place;
+        }
+    }
+    bytes.len()
+}
+
+/// The bytes of the word that a place begins with, or the byte there; none at the end of the text.
 fn standing(text: &[u8], place: usize) -> &[u8] {
     let Some(rest) = text.get(place..) else {
         return &[];
     };
-    let mut length = 0;
-    for byte in rest {
-        if !is_plain(*byte) || matches!(*byte, b',' | b';' | b'=' | b'|' | b'#') {
-            break;
-        }
-        length += 1;
-    }
-    match rest.get(..length) {
+    match rest.get(..word_length(rest)) {
         Some(word) if !word.is_empty() => word,
         _ => rest.get(..1).unwrap_or(rest),
     }
 }
 
 /// Appends what stands at a place.
-fn put_standing(alloc: Global, line: &mut Vec<u8>, text: &[u8], place: usize) -> Result<(), AllocError> {
+fn put_standing(
+    alloc: Global,
+    line: &mut Vec<u8>,
+    text: &[u8],
+    place: usize,
+) -> Result<(), AllocError> {
     let word = standing(text, place);
     match word {
         [] => line.extend_from_slice(b"the end of the text"),

@@ -1,5 +1,8 @@
 //! Replies and entries as lines of JSON.
-use crate::objects::{EntryObject, HeadObject, MarkObject, ReplyObject, account_object, id_object, operation_name, result_object, status_name, transfer_object};
+use crate::objects::{
+    EntryObject, HeadObject, MarkObject, ReplyObject, account_object, id_object, operation_name,
+    result_object, status_name, transfer_object,
+};
 use serde::Serialize;
 use std::alloc::{AllocError, Global};
 use tb_records::{Body, DumpHead, DumpItem, Profile, Reply, ReplyBody, Request};

@@ -2,7 +2,10 @@
 //! strings, flags, statuses, operations and results by name.
 use serde::Serialize;
 use std::alloc::{AllocError, Global};
-use tb_records::{Account, AccountFlag, CreateAccountResult, CreateTransferResult, EventResult, Status, Transfer, TransferFlag};
+use tb_records::{
+    Account, AccountFlag, CreateAccountResult, CreateTransferResult, EventResult, Status, Transfer,
+    TransferFlag,
+};
 
 /// An account.
 #[derive(Drop, Serialize)]
@@ -171,19 +174,19 @@ pub fn id_object(alloc: Global, id: u128) -> Result<IdObject, AllocError> {
 pub fn result_object(
     alloc: Global,
     operation: u8,
-    result: &EventResult,
+    event: &EventResult,
 ) -> Result<ResultObject, AllocError> {
     let name = if operation == 129 {
-        CreateAccountResult::from_code(result.result).map(|code| code.name())
+        CreateAccountResult::from_code(event.result).map(|code| code.name())
     } else {
-        CreateTransferResult::from_code(result.result).map(|code| code.name())
+        CreateTransferResult::from_code(event.result).map(|code| code.name())
     };
     let result_name = match name {
         Some(name) => name.to_string(alloc)?,
-        None => result.result.to_string(alloc)?,
+        None => event.result.to_string(alloc)?,
     };
     Ok(ResultObject {
-        index: result.index,
+        index: event.index,
         result: result_name,
     })
 }

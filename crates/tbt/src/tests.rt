@@ -50,10 +50,17 @@ fn register_both_ways(rt: HostRuntime) -> Result<(), Fail> {
 /// A wrong statement is told by its line and column, and what was right before it is written.
 #[test]
 fn wrong_statement(rt: HostRuntime) -> Result<(), Fail> {
-    let left = left_by(&rt, "script", b"at=10 client=7 register;\nat=10 client=0 register;")?;
+    let left = left_by(
+        &rt,
+        "script",
+        b"at=10 client=7 register;\nat=10 client=0 register;",
+    )?;
     assert_eq!(rt; left.status, 2);
     assert_eq!(rt; left.output.len(), 56);
-    assert_eq!(rt; left.line.as_slice(), b"tbt: line 2, column 15: found the byte 32, expected a number from 1 on that fits\n".as_slice());
+    assert_eq!(rt;
+        left.line.as_slice(),
+        b"tbt: line 2, column 15: found the byte 32, expected a number from 1 on that fits\n".as_slice()
+    );
     Ok(())
 }
 
@@ -66,7 +73,10 @@ fn register_reply(rt: HostRuntime) -> Result<(), Fail> {
     ];
     let left = left_by(&rt, "replies", &reply)?;
     assert_eq!(rt; left.status, 0);
-    assert_eq!(rt; left.output.as_slice(), b"{\"client\":\"7\",\"session\":\"1\",\"request\":0,\"operation\":\"register\",\"status\":\"reply\",\"commit\":\"1\",\"results\":[]}\n".as_slice());
+    assert_eq!(rt;
+        left.output.as_slice(),
+        b"{\"client\":\"7\",\"session\":\"1\",\"request\":0,\"operation\":\"register\",\"status\":\"reply\",\"commit\":\"1\",\"results\":[]}\n".as_slice()
+    );
     Ok(())
 }
 
