@@ -56,6 +56,7 @@ impl<K: Ord + Copy, V, A: Allocator + Clone> Model for AvlMap<K, V, A> {
 // A map owns no more than its fields do. An impl by hand is what a struct that holds a map finds its own `Send` by: of
 // nodes that lead to each other through boxes, and of what holds them, none is derived that another crate could cite.
 unsafe impl<K: Ord + Copy + Send, V: Send, A: Allocator + Clone + Send> Send for AvlMap<K, V, A> {}
+
 unsafe impl<K: Ord + Copy + Sync, V: Sync, A: Allocator + Clone + Sync> Sync for AvlMap<K, V, A> {}
 
 /// Puts a pair into a node that holds nothing.
