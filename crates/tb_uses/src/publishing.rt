@@ -1,26 +1,34 @@
-//! A caller of the published copies: what a publisher and a seat say of one request.
-ghost use Rattle.std.specs.Prelude.{◌≡◌, IfSome};
-ghost use Rattle.tb_machine.specs.HistoryLaws.{IsStored};
+//! A caller of the published copies: a writer takes and tells, a client thread learns and asks.
+ghost use Rattle.std.specs.Prelude.{◌≡◌, IfOk};
+ghost use Rattle.tb_published.specs.Lines.{AnswersIn, LegalIn};
 
-use tb_machine::laws::first_reply;
-use tb_published::{Naming, Publisher};
+use std::sync::Wait;
+use tb_published::{Naming, Publisher, Seat, SeatFault, TakeFault, Taken, Told};
 use tb_records::{Reply, Request};
-use tb_sessions::Class;
 
-/// The first reply to a request that is a repeat. It stands in the history, in one entry, whose reply this is; no other
-/// entry has its client, session and number.
-pub fn reply_to_repeat<'a, J: Naming>(
-    publisher: &'a Publisher<J>,
-    request: &Request,
-) -> Option<&'a Reply>
-    ensures { IfSome result (λ reply. (stored : IsStored J.opening.profile J.opening.clients_max publisher.now.history request.now) × (reply.now ≡ stored.row.reply)) }
+/// Takes a request that comes at a moment, and tells what the copies show then, for seats to learn.
+pub fn take_and_tell<J: Naming, W: Wait>(
+    rt: &W,
+    publisher: &mut Publisher<J>,
+    request: Request,
+    now: u64,
+) -> Result<(Taken, Told<J>), TakeFault>
+    ensures { IfOk result (λ answer. answer.1 ≡ publisher.new.shown) }
 {
-    let machine = publisher.machine();
-    if !matches!(machine.class(request), Class::Repeat) {
-        return None;
-    }
-    let _legal = publisher.history();
-    let _lawful = request.body();
-    first_reply();
-    machine.reply_of(request.client())
+    let taken = publisher.take(rt, request, now)?;
+    Ok((taken, publisher.tell()))
+}
+
+/// Learns what was told, and asks for the answer to a request: the one-thread ledger's, after the legal history that the
+/// seat has then seen.
+pub fn learn_and_ask<J: Naming>(
+    seat: &mut Seat<J>,
+    told: &Told<J>,
+    request: &Request,
+) -> Result<Reply, SeatFault>
+    ensures legal { IfOk result (λ _. LegalIn J.opening seat.new) }
+    ensures answer { IfOk result (λ reply. AnswersIn J.opening seat.new request.now reply) }
+{
+    seat.learn(told);
+    seat.answer(request)
 }
