@@ -86,6 +86,10 @@ module _ {F K V A R : Type 0} (c : Taking F V R) (b : Bool) {cmp : K → K → O
         keeps avl (some y.written) (same avl.1) (same avl.2),
       )
 
+  pub beside_here_if : {e : Option (K × V)} (e' d : Option (K × V)) → t ≡ Fork' h p l r e → StandsHere cmp k (entries l) e (entries r) → IsAvl (Fork' h p l r e) → (o : Option R) (f f' : F) (d' : Option (K × V)) → IsSome o → IfSome o (λ v. CalledAtEntries c b f d e v f' d' e') → ChangesBeside c b (is_at (cmp k)) d t f o f' d' (Fork' h p l r e')
+  beside_here_if e' d is w avl (Some v) f f' d' there y = beside_here is w avl v f f' d' y
+  beside_here_if e' d is w avl None f f' d' there y = absurd (cc)
+
   pub apart_left : {e : Option (K × V)} (u : Tree K V A) (k2 : K) → t ≡ Fork' h p l r e → GoesLeft cmp k (entries l) e (entries r) → IsAvl (Fork' h p l r e) → (o : Option R) (l' u' : Tree K V A) (f f' : F) → ChangesApart c (not b) (is_at (cmp k2)) (is_at (cmp k)) u l f o f' u' l' → ChangesApart c b (is_at (cmp k)) (is_at (cmp k2)) t u f o f' (Fork' h p l' r e) u'
   apart_left {e} u k2 is w avl (Some v) l' u' f f' x =
       let y = x.0 in

@@ -1,6 +1,8 @@
+-- what public contracts cite
 pub mod Changes
 pub mod Map
 pub mod Nodes
-pub mod Pairs
 pub mod Search
 pub mod Visits
+-- what private functions alone cite
+pub mod Pairs

@@ -1,12 +1,12 @@
 // Changes of the tree.
-ghost use Rattle.std.specs.Prelude.{◌≡◌, ◌+◌, ◌<◌, ◌≤◌, ◌++◌, None, Some, IsSome, IfSome, MatchOption};
+ghost use Rattle.std.specs.Prelude.{◌≡◌, ◌+◌, ◌<◌, ◌≤◌, ◌++◌, false, None, Some, IsSome, IfSome, MatchOption};
 ghost use Rattle.std.specs.Option.{option_map, option_and_then, is_some};
 ghost use Rattle.std.specs.Map.{lookup, remove_entry};
 ghost use Rattle.std.specs.BTreeMap.{is_at, insert_entry};
-ghost use Rattle.avl_tree.specs.Nodes.{entries, with_first, stored_height, IsAvl, IsOrdered, IsBare, HasNoLeft, beside_root, root_entry, IsGrown, IsShrunk, Exchanges};
+ghost use Rattle.avl_tree.specs.Nodes.{entries, with_first, stored_height, IsAvl, IsNearlyAvl, SettlesTo, IsOrdered, IsBare, HasNoLeft, beside_root, root_entry, IsGrown, IsShrunk, Exchanges};
 ghost use Rattle.avl_tree.specs.declared.tree.Tree.TheVariants.{Empty};
 
-use crate::tree::{Node, Tree, balance, put, settle, split, take};
+use crate::tree::{Node, Tree, balance, height, put, settle, split, take};
 use crate::walks::compare;
 use std::alloc::Allocator;
 use std::cmp::Ordering;
@@ -45,12 +45,24 @@ pub fn exchange<K: Ord, V, A: Allocator>(tree: &mut Tree<K, V, A>, key: &K, valu
     }
 }
 
-/// Puts a node with an entry at its place, where no key compares equal.
+/// Balances the root after one of its sides grew, and says whether the tree is higher than before.
+fn regrow<K, V, A: Allocator>(tree: &mut Tree<K, V, A>) -> bool
+    requires { IsNearlyAvl tree.old }
+    ensures settled { SettlesTo tree.old tree.new }
+    ensures stopped { result ≡ false → stored_height tree.new ≡ stored_height tree.old }
+{
+    let before = height(tree);
+    settle(tree);
+    height(tree) != before
+}
+
+/// Puts a node with an entry at its place, where no key compares equal, and says whether the tree is higher than before.
+/// Above a side that is not, nothing changes.
 pub fn insert<K: Ord, V, A: Allocator>(
     tree: &mut Tree<K, V, A>,
     key: &K,
     fresh: Box<Node<K, V, A>, A>,
-)
+) -> bool
     requires balanced { IsAvl tree.old }
     requires sorted { IsOrdered K.cmp (entries tree.old) }
     requires height_fits { stored_height tree.old < 200 }
@@ -60,19 +72,23 @@ pub fn insert<K: Ord, V, A: Allocator>(
     ensures balanced { IsAvl tree.new }
     ensures entries { IfSome fresh.value.entry (λ e. entries tree.new ≡ insert_entry K.cmp (entries tree.old) key.now e.1) }
     ensures height { IsGrown (stored_height tree.old) (stored_height tree.new) }
+    ensures stopped { result ≡ false → stored_height tree.new ≡ stored_height tree.old }
 {
-    match tree {
+    let grew = match tree {
         Tree::Empty => {
             put(tree, Tree::Fork(1, fresh));
-            return;
+            return true;
         }
         Tree::Fork(_, node) => match compare(key, node) {
             Ordering::Less => insert(&mut node.left, key, fresh),
             Ordering::Greater => insert(&mut node.right, key, fresh),
             Ordering::Equal => unreachable!(),
         },
+    };
+    if !grew {
+        return false;
     }
-    settle(tree);
+    regrow(tree)
 }
 
 /// Takes the root off, where it has no left side.

@@ -10,6 +10,7 @@ mod spare;
 mod tree;
 mod updates;
 mod walks;
+pub mod worked_rows;
 
 pub use map::AvlMap;
 

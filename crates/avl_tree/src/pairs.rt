@@ -1,5 +1,5 @@
 // Changes of two values at once, where they stand.
-ghost use Rattle.std.specs.Prelude.{◌≡◌, IsSome, IfSome};
+ghost use Rattle.std.specs.Prelude.{◌≡◌, None, Some, IsSome, IfSome};
 ghost use Rattle.std.specs.BTreeMap.{is_at};
 ghost use Rattle.std.specs.declared.cmp.Ordering.TheVariants.{Less};
 ghost use Rattle.avl_tree.specs.Nodes.{entries, IsAvl, IsOrdered};
@@ -9,6 +9,7 @@ use crate::tree::{Node, Tree};
 use crate::walks::compare;
 use std::alloc::Allocator;
 use std::cmp::Ordering;
+use std::mem;
 
 /// Calls the closure at a held value and another, in this order or the other one.
 fn call_both<K, V, R, F: FnMut(&mut V, &mut V) -> R>(
@@ -36,6 +37,36 @@ fn call_both<K, V, R, F: FnMut(&mut V, &mut V) -> R>(
     }
 }
 
+/// Puts the closure's answer into its place.
+fn answer<R>(out: &mut Option<R>, given: R)
+    requires { out.old ≡ None }
+    ensures { out.new ≡ Some given }
+{
+    match mem::replace(out, Some(given)) {
+        None => {}
+        Some(_) => unreachable!(),
+    }
+}
+
+/// Calls the closure at a held value and another, and puts its answer into its place.
+fn answer_both<K, V, R, F: FnMut(&mut V, &mut V) -> R>(
+    held: &mut Option<(K, V)>,
+    other: &mut Option<(K, V)>,
+    in_order: bool,
+    f: &mut F,
+    out: &mut Option<R>,
+)
+    requires held { IsSome held.old }
+    requires other { IsSome other.old }
+    requires callable { F.IsAlwaysCallable f.old }
+    requires empty { out.old ≡ None }
+    ensures callable { F.IsAlwaysCallable f.new }
+    ensures answered { IsSome out.new }
+    ensures called { IfSome out.new (λ r. CalledAtEntries F.FnMut in_order f.old held.old other.old r f.new held.new other.new) }
+{
+    answer(out, call_both(held, other, in_order, f));
+}
+
 /// Looks for the other key, while the value of the first one is held.
 fn beside<K: Ord, V, A: Allocator, R, F: FnMut(&mut V, &mut V) -> R>(
     tree: &mut Tree<K, V, A>,
@@ -43,20 +74,22 @@ fn beside<K: Ord, V, A: Allocator, R, F: FnMut(&mut V, &mut V) -> R>(
     held: &mut Option<(K, V)>,
     in_order: bool,
     f: &mut F,
-) -> Option<R>
+    out: &mut Option<R>,
+)
     requires balanced { IsAvl tree.old }
     requires sorted { IsOrdered K.cmp (entries tree.old) }
     requires held { IsSome held.old }
     requires callable { F.IsAlwaysCallable f.old }
+    requires empty { out.old ≡ None }
     ensures callable { F.IsAlwaysCallable f.new }
-    ensures changes { ChangesBeside F.FnMut in_order (is_at (K.cmp key.now)) held.old tree.old f.old result f.new held.new tree.new }
+    ensures changes { ChangesBeside F.FnMut in_order (is_at (K.cmp key.now)) held.old tree.old f.old out.new f.new held.new tree.new }
 {
     match tree {
-        Tree::Empty => None,
+        Tree::Empty => {}
         Tree::Fork(_, node) => match compare(key, node) {
-            Ordering::Less => beside(&mut node.left, key, held, in_order, f),
-            Ordering::Greater => beside(&mut node.right, key, held, in_order, f),
-            Ordering::Equal => Some(call_both(held, &mut node.entry, in_order, f)),
+            Ordering::Less => beside(&mut node.left, key, held, in_order, f, out),
+            Ordering::Greater => beside(&mut node.right, key, held, in_order, f, out),
+            Ordering::Equal => answer_both(held, &mut node.entry, in_order, f, out),
         },
     }
 }
@@ -67,16 +100,18 @@ fn beside_left<K: Ord, V, A: Allocator, R, F: FnMut(&mut V, &mut V) -> R>(
     key: &K,
     in_order: bool,
     f: &mut F,
-) -> Option<R>
+    out: &mut Option<R>,
+)
     requires balanced { IsAvl node.old.left }
     requires sorted { IsOrdered K.cmp (entries node.old.left) }
     requires entry { IsSome node.old.entry }
     requires callable { F.IsAlwaysCallable f.old }
+    requires empty { out.old ≡ None }
     ensures callable { F.IsAlwaysCallable f.new }
     ensures right { node.new.right ≡ node.old.right }
-    ensures changes { ChangesBeside F.FnMut in_order (is_at (K.cmp key.now)) node.old.entry node.old.left f.old result f.new node.new.entry node.new.left }
+    ensures changes { ChangesBeside F.FnMut in_order (is_at (K.cmp key.now)) node.old.entry node.old.left f.old out.new f.new node.new.entry node.new.left }
 {
-    beside(&mut node.left, key, &mut node.entry, in_order, f)
+    beside(&mut node.left, key, &mut node.entry, in_order, f, out)
 }
 
 /// Looks for the other key right of a node, while the node's value is held.
@@ -85,16 +120,18 @@ fn beside_right<K: Ord, V, A: Allocator, R, F: FnMut(&mut V, &mut V) -> R>(
     key: &K,
     in_order: bool,
     f: &mut F,
-) -> Option<R>
+    out: &mut Option<R>,
+)
     requires balanced { IsAvl node.old.right }
     requires sorted { IsOrdered K.cmp (entries node.old.right) }
     requires entry { IsSome node.old.entry }
     requires callable { F.IsAlwaysCallable f.old }
+    requires empty { out.old ≡ None }
     ensures callable { F.IsAlwaysCallable f.new }
     ensures left { node.new.left ≡ node.old.left }
-    ensures changes { ChangesBeside F.FnMut in_order (is_at (K.cmp key.now)) node.old.entry node.old.right f.old result f.new node.new.entry node.new.right }
+    ensures changes { ChangesBeside F.FnMut in_order (is_at (K.cmp key.now)) node.old.entry node.old.right f.old out.new f.new node.new.entry node.new.right }
 {
-    beside(&mut node.right, key, &mut node.entry, in_order, f)
+    beside(&mut node.right, key, &mut node.entry, in_order, f, out)
 }
 
 /// Looks for one key in each of two trees, a level of either by turns, so that their waits for memory overlap.
@@ -105,21 +142,23 @@ fn apart<K: Ord, V, A: Allocator, R, F: FnMut(&mut V, &mut V) -> R>(
     other_key: &K,
     in_order: bool,
     f: &mut F,
-) -> Option<R>
+    out: &mut Option<R>,
+)
     requires balanced { IsAvl tree.old }
     requires sorted { IsOrdered K.cmp (entries tree.old) }
     requires other_balanced { IsAvl other.old }
     requires other_sorted { IsOrdered K.cmp (entries other.old) }
     requires callable { F.IsAlwaysCallable f.old }
+    requires empty { out.old ≡ None }
     ensures callable { F.IsAlwaysCallable f.new }
-    ensures changes { ChangesApart F.FnMut in_order (is_at (K.cmp key.now)) (is_at (K.cmp other_key.now)) tree.old other.old f.old result f.new tree.new other.new }
+    ensures changes { ChangesApart F.FnMut in_order (is_at (K.cmp key.now)) (is_at (K.cmp other_key.now)) tree.old other.old f.old out.new f.new tree.new other.new }
 {
     match tree {
-        Tree::Empty => None,
+        Tree::Empty => {}
         Tree::Fork(_, node) => match compare(key, node) {
-            Ordering::Less => apart(other, &mut node.left, other_key, key, !in_order, f),
-            Ordering::Greater => apart(other, &mut node.right, other_key, key, !in_order, f),
-            Ordering::Equal => beside(other, other_key, &mut node.entry, in_order, f),
+            Ordering::Less => apart(other, &mut node.left, other_key, key, !in_order, f, out),
+            Ordering::Greater => apart(other, &mut node.right, other_key, key, !in_order, f, out),
+            Ordering::Equal => beside(other, other_key, &mut node.entry, in_order, f, out),
         },
     }
 }
@@ -131,20 +170,55 @@ fn apart_at<K: Ord, V, A: Allocator, R, F: FnMut(&mut V, &mut V) -> R>(
     high: &K,
     in_order: bool,
     f: &mut F,
-) -> Option<R>
+    out: &mut Option<R>,
+)
     requires left_balanced { IsAvl node.old.left }
     requires left_sorted { IsOrdered K.cmp (entries node.old.left) }
     requires right_balanced { IsAvl node.old.right }
     requires right_sorted { IsOrdered K.cmp (entries node.old.right) }
     requires callable { F.IsAlwaysCallable f.old }
+    requires empty { out.old ≡ None }
     ensures callable { F.IsAlwaysCallable f.new }
     ensures entry { node.new.entry ≡ node.old.entry }
-    ensures changes { ChangesApart F.FnMut in_order (is_at (K.cmp low.now)) (is_at (K.cmp high.now)) node.old.left node.old.right f.old result f.new node.new.left node.new.right }
+    ensures changes { ChangesApart F.FnMut in_order (is_at (K.cmp low.now)) (is_at (K.cmp high.now)) node.old.left node.old.right f.old out.new f.new node.new.left node.new.right }
 {
-    apart(&mut node.left, &mut node.right, low, high, in_order, f)
+    apart(&mut node.left, &mut node.right, low, high, in_order, f, out)
+}
+
+/// Looks for two keys from the root on, and calls the closure at their values.
+fn seek_both<K: Ord, V, A: Allocator, R, F: FnMut(&mut V, &mut V) -> R>(
+    tree: &mut Tree<K, V, A>,
+    low: &K,
+    high: &K,
+    in_order: bool,
+    f: &mut F,
+    out: &mut Option<R>,
+)
+    requires balanced { IsAvl tree.old }
+    requires sorted { IsOrdered K.cmp (entries tree.old) }
+    requires lower { K.cmp low.now high.now ≡ Less }
+    requires callable { F.IsAlwaysCallable f.old }
+    requires empty { out.old ≡ None }
+    ensures callable { F.IsAlwaysCallable f.new }
+    ensures changes { ChangesBoth F.FnMut in_order (is_at (K.cmp low.now)) (is_at (K.cmp high.now)) tree.old f.old out.new f.new tree.new }
+{
+    let Tree::Fork(_, node) = tree else {
+        return;
+    };
+    match compare(low, node) {
+        Ordering::Greater => seek_both(&mut node.right, low, high, in_order, f, out),
+        Ordering::Equal => beside_right(node, high, in_order, f, out),
+        Ordering::Less => match compare(high, node) {
+            Ordering::Less => seek_both(&mut node.left, low, high, in_order, f, out),
+            Ordering::Equal => beside_left(node, low, !in_order, f, out),
+            Ordering::Greater => apart_at(node, low, high, in_order, f, out),
+        },
+    }
 }
 
 /// Calls the closure at the values of two keys, `low`'s first where they are in order, if both are there.
+///
+/// What the closure answers may be large, so the searches hand a place for it down, and nothing up.
 pub fn update_two<K: Ord, V, A: Allocator, R, F: FnMut(&mut V, &mut V) -> R>(
     tree: &mut Tree<K, V, A>,
     low: &K,
@@ -159,16 +233,7 @@ pub fn update_two<K: Ord, V, A: Allocator, R, F: FnMut(&mut V, &mut V) -> R>(
     ensures callable { F.IsAlwaysCallable f.new }
     ensures changes { ChangesBoth F.FnMut in_order (is_at (K.cmp low.now)) (is_at (K.cmp high.now)) tree.old f.old result f.new tree.new }
 {
-    let Tree::Fork(_, node) = tree else {
-        return None;
-    };
-    match compare(low, node) {
-        Ordering::Greater => update_two(&mut node.right, low, high, in_order, f),
-        Ordering::Equal => beside_right(node, high, in_order, f),
-        Ordering::Less => match compare(high, node) {
-            Ordering::Less => update_two(&mut node.left, low, high, in_order, f),
-            Ordering::Equal => beside_left(node, low, !in_order, f),
-            Ordering::Greater => apart_at(node, low, high, in_order, f),
-        },
-    }
+    let mut out = None;
+    seek_both(tree, low, high, in_order, f, &mut out);
+    out
 }

@@ -53,13 +53,30 @@ returns-clause-entries g t c =
       | in-Less b ↦
           let p = rw c.deref.ensures at b.in-Less.ensures in
           let w = goes_left g.met.K.Ord.total c.args.key.now _ _ _ avl.0 p s in
-          let moved = rw b.deref_mut.ensures.value at (rw b.tree-is at c.settle.ensures) in
+          let moved = rw b.deref_mut.ensures.value at (rw b.tree-is at c.regrow.ensures.settled) in
           let put = rw b.deref_mut.ensures.value at b.insert.ensures.entries in
           inserts_left c.args.fresh.value.entry _ _ _ _ _ _ w (ap entries c.in-Fork.is) moved.1 put
       | in-Greater b ↦
           let p = rw c.deref.ensures at b.in-Greater.ensures in
           let w = goes_right g.met.K.Ord.total c.args.key.now _ _ _ avl.0 p s in
-          let moved = rw b.deref_mut-in-Greater.ensures.value at (rw b.tree-is at c.settle.ensures) in
+          let moved = rw b.deref_mut-in-Greater.ensures.value at (rw b.tree-is at c.regrow.ensures.settled) in
           let put = rw b.deref_mut-in-Greater.ensures.value at b.insert-in-Greater.ensures.entries in
           inserts_right c.args.fresh.value.entry _ _ _ _ _ _ w (ap entries c.in-Fork.is) moved.1 put
+    ]
+
+pub returns-then-not-grew-clause-entries : goal.returns-then-not-grew-clause-entries
+returns-then-not-grew-clause-entries g t c =
+    let avl = subst IsAvl c.in-Fork.is c.requires.balanced in
+    let s = subst (λ t. IsOrdered g.K.Ord.cmp (entries t)) c.in-Fork.is c.requires.sorted in
+    elim c.match-compare.branch [
+      | in-Less b ↦
+          let p = rw c.deref.ensures at b.in-Less.ensures in
+          let w = goes_left g.met.K.Ord.total c.args.key.now _ _ _ avl.0 p s in
+          let put = rw b.deref_mut.ensures.value at b.insert.ensures.entries in
+          inserts_left c.args.fresh.value.entry _ _ _ _ _ _ w (ap entries c.in-Fork.is) (rw b.deref_mut.ensures.value at (ap entries b.tree-is)) put
+      | in-Greater b ↦
+          let p = rw c.deref.ensures at b.in-Greater.ensures in
+          let w = goes_right g.met.K.Ord.total c.args.key.now _ _ _ avl.0 p s in
+          let put = rw b.deref_mut-in-Greater.ensures.value at b.insert-in-Greater.ensures.entries in
+          inserts_right c.args.fresh.value.entry _ _ _ _ _ _ w (ap entries c.in-Fork.is) (rw b.deref_mut-in-Greater.ensures.value at (ap entries b.tree-is)) put
     ]

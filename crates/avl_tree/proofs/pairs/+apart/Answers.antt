@@ -12,7 +12,7 @@ apart-requires g t c κs within =
     let p = rw c.deref.ensures at c.in-Less.ensures in
     let w = goes_left g.met.K.Ord.total c.args.key.now _ _ _ avl.0 p s in
     let lower : stored_height c.args.other.now + stored_height c.in-Fork.node.value.left < t = omega (arith, falls, avl.3) in
-    rw c.deref_mut.ensures.value (lower, (within.0, (within.1.0, (within.1.1.0, (within.1.1.1.0, (within.1.1.1.1, (c.requires.other_balanced, (c.requires.other_sorted, (avl.1, (w.sorted, c.requires.callable))))))))))
+    rw c.deref_mut.ensures.value (lower, (within.0, (within.1.0, (within.1.1.0, (within.1.1.1.0, (within.1.1.1.1, (c.requires.other_balanced, (c.requires.other_sorted, (avl.1, (w.sorted, (c.requires.callable, c.requires.empty)))))))))))
 
 pub apart-requires-in-Greater : goal.apart-requires-in-Greater
 apart-requires-in-Greater g t c κs within =
@@ -22,7 +22,7 @@ apart-requires-in-Greater g t c κs within =
     let p = rw c.deref.ensures at c.in-Greater.ensures in
     let w = goes_right g.met.K.Ord.total c.args.key.now _ _ _ avl.0 p s in
     let lower : stored_height c.args.other.now + stored_height c.in-Fork.node.value.right < t = omega (arith, falls, avl.3) in
-    rw c.deref_mut-in-Greater.ensures.value (lower, (within.0, (within.1.0, (within.1.1.0, (within.1.1.1.0, (within.1.1.1.1, (c.requires.other_balanced, (c.requires.other_sorted, (avl.2, (w.sorted, c.requires.callable))))))))))
+    rw c.deref_mut-in-Greater.ensures.value (lower, (within.0, (within.1.0, (within.1.1.0, (within.1.1.1.0, (within.1.1.1.1, (c.requires.other_balanced, (c.requires.other_sorted, (avl.2, (w.sorted, (c.requires.callable, c.requires.empty)))))))))))
 
 pub returns-in-Less-clause-changes : goal.returns-in-Less-clause-changes
 returns-in-Less-clause-changes g t c =
@@ -31,7 +31,7 @@ returns-in-Less-clause-changes g t c =
     let p = rw c.deref.ensures at c.in-Less.ensures in
     let w = goes_left g.met.K.Ord.total c.args.key.now _ _ _ avl.0 p s in
     let x = rw c.deref_mut.ensures.value at c.apart.ensures.changes in
-    rw c.deref_mut.ensures.value (apart_left g.F.FnMut c.args.in_order c.args.other.now c.args.other_key.now c.in-Fork.is w avl c.apart.result c.apart.new.other c.apart.new.tree c.args.f.now c.apart.new.f x)
+    rw c.deref_mut.ensures.value (apart_left g.F.FnMut c.args.in_order c.args.other.now c.args.other_key.now c.in-Fork.is w avl c.apart.new.out c.apart.new.other c.apart.new.tree c.args.f.now c.apart.new.f x)
 
 pub returns-in-Greater-clause-changes : goal.returns-in-Greater-clause-changes
 returns-in-Greater-clause-changes g t c =
@@ -40,7 +40,7 @@ returns-in-Greater-clause-changes g t c =
     let p = rw c.deref.ensures at c.in-Greater.ensures in
     let w = goes_right g.met.K.Ord.total c.args.key.now _ _ _ avl.0 p s in
     let x = rw c.deref_mut-in-Greater.ensures.value at c.apart-in-Greater.ensures.changes in
-    rw c.deref_mut-in-Greater.ensures.value (apart_right g.F.FnMut c.args.in_order c.args.other.now c.args.other_key.now c.in-Fork.is w avl c.apart-in-Greater.result c.apart-in-Greater.new.other c.apart-in-Greater.new.tree c.args.f.now c.apart-in-Greater.new.f x)
+    rw c.deref_mut-in-Greater.ensures.value (apart_right g.F.FnMut c.args.in_order c.args.other.now c.args.other_key.now c.in-Fork.is w avl c.apart-in-Greater.new.out c.apart-in-Greater.new.other c.apart-in-Greater.new.tree c.args.f.now c.apart-in-Greater.new.f x)
 
 pub returns-in-Equal-clause-changes : goal.returns-in-Equal-clause-changes
 returns-in-Equal-clause-changes g t c =
@@ -49,4 +49,4 @@ returns-in-Equal-clause-changes g t c =
     let p = rw c.deref.ensures at c.in-Equal.ensures in
     let w = stands_here g.met.K.Ord.total c.args.key.now _ _ _ avl.0 p s in
     let x = rw c.deref_mut-in-Equal.ensures.value at c.beside.ensures.changes in
-    rw c.deref_mut-in-Equal.ensures.value (apart_here g.F.FnMut c.args.in_order c.args.other.now c.args.other_key.now c.in-Fork.is w avl c.beside.result c.beside.new.held c.beside.new.tree c.args.f.now c.beside.new.f x)
+    rw c.deref_mut-in-Equal.ensures.value (apart_here g.F.FnMut c.args.in_order c.args.other.now c.args.other_key.now c.in-Fork.is w avl c.beside.new.out c.beside.new.held c.beside.new.tree c.args.f.now c.beside.new.f x)
