@@ -7,9 +7,9 @@ use Rattle.tb_records.specs.declared.records.Account.{Account}
 use Rattle.tb_records.specs.declared.records.Transfer.{Transfer}
 use Rattle.tb_records.specs.Ordered.{Each}
 use Rattle.tb_records.proofs.ByKey.{found_key}
-use Rattle.tb_ledger.specs.declared.rows.State.{State}
-use Rattle.tb_ledger.specs.declared.rows.State.TheVariants.{Open, Posted, Voided, Expired}
-use Rattle.tb_ledger.specs.Books.{Books, has, closed, debits_limited, credits_limited, pending, posts, voids, resolves, is_open, is_posted, is_voided, is_expired, state_of, stands_closed, account_at, account_now, as_it_stands, transfer_at, debits_pending, debits_posted, credits_pending, credits_posted}
+use Rattle.tb_ledger.specs.declared.tables.rows.State.{State}
+use Rattle.tb_ledger.specs.declared.tables.rows.State.TheVariants.{Open, Posted, Voided, Expired}
+use Rattle.tb_ledger.specs.Books.{Books, has, closed, debits_limited, credits_limited, pending, resolves, is_open, is_posted, is_voided, is_expired, state_of, stands_closed, account_at, account_now, as_it_stands, transfer_at, debits_pending, debits_posted, credits_pending, credits_posted}
 use Rattle.tb_ledger.specs.Verdicts.{Line, first_of, first_code, is_not, int_max, max_time, account_own_lines, account_exists_lines, account_new_lines, account_verdict, transfer_own_lines, transfer_exists_lines, failed_lines, transfer_verdict, filled, filled_amount, filled_from, given_or, differs, id_code, resolve_own_lines, named_lines, closed_lines, closed_at, named_code, resolve_code, single_own_lines, pair_lines, pair_code, amount_lines, single_code, balanced_amount, balanced_between}
 use Rattle.tb_ledger.proofs.FoundPairs.{FoundPair}
 use Rattle.tb_ledger.specs.Found.{FoundPending}
@@ -178,3 +178,17 @@ found_pair B t time is ok =
 -- a transfer that is right by itself names two accounts
 pub accounts_apart : (t : Transfer) → first_of (single_own_lines t) ≡ 0 → t.debit_account_id ≢ t.credit_account_id
 accounts_apart t own = other_numbers t.debit_account_id t.credit_account_id (fail (single_own_lines t) refl own).1.1.1.1.0
+
+-- a stamp changes nothing of what a post or void finds
+pub found_stamped : (B : Books) (f : Transfer) (time : ℕ) → FoundPending B f → FoundPending B (record f { timestamp = time })
+found_stamped B f time r = record {
+  p = r.p;
+  named = r.named;
+  held = r.held;
+  not_pending = r.not_pending;
+  not_both = r.not_both;
+  debit_same = r.debit_same;
+  credit_same = r.credit_same;
+  ledger_same = r.ledger_same;
+  at_most = r.at_most;
+}

@@ -85,19 +85,6 @@ module _ {E : Type 0} (kind : Kind E) where
       let some : (code == 0) ≡ false = subst (λ n. (n == 0) ≡ false) (sym is) (undone-is last) in
       ap (results_from (p + i)) codes ∙ results-one (p + i) code later some ∙ ap (λ k. record { index = p + i; result = code } ∷ results_from k later) next
 
-  -- what a chain leaves
-  pub broken-books : (B : Books) (block : List (Timed E)) (f : Failure E) → failure_from kind 0 B block ≡ Some f → (block_after kind B block).books ≡ kind.refused B f.event f.code
-  broken-books B block f is = rw is refl
-
-  pub broken-codes : (B : Books) (block : List (Timed E)) (f : Failure E) → failure_from kind 0 B block ≡ Some f → (block_after kind B block).codes ≡ replicate f.place 1 ++ f.code ∷ undone kind f.rest
-  broken-codes B block f is = rw is refl
-
-  pub passed-books : (B : Books) (block : List (Timed E)) → failure_from kind 0 B block ≡ None → (block_after kind B block).books ≡ all_recorded kind B block
-  passed-books B block is = rw is refl
-
-  pub passed-codes : (B : Books) (block : List (Timed E)) → failure_from kind 0 B block ≡ None → (block_after kind B block).codes ≡ replicate (length block) 0
-  passed-codes B block is = rw is refl
-
   -- what a chain leaves, by the place where a loop through it stands
   pub broken-here : (B : Books) (block : List E) (time : ℕ) (B' : Books) (place stamp code : ℕ) (e : E)
       → failure_from kind place B' (timed_from stamp (drop place block)) ≡ failure_from kind 0 B (timed_from time block)

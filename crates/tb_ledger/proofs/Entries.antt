@@ -17,6 +17,8 @@ use Rattle.avl_tree.specs.Search.{Search, leaf, fork, entries_of, path_length}
 use Rattle.tb_records.proofs.ByKey.{each-map, each-both, each-back, found_key, rising-replaced}
 use Rattle.tb_ledger.specs.Verdicts.{int_max}
 use Rattle.tb_ledger.specs.Timeouts.{timeout_key, timeout_at, timeouts_of, AreTimeouts}
+use Rattle.tb_ledger.specs.declared.tables.timeouts.Timeout.{Timeout}
+use Rattle.avl_tree.specs.Nodes.{with_first}
 
 pub eq-number : (n y : ℕ) → is_eq (nat_cmp n y) ≡ eqb y n
 eq-number n y = by (ltb n y) refl (eqb n y) refl (eqb y n) refl
@@ -195,15 +197,36 @@ module _ {F V R : Type 0} (key : V → ℕ) (c : Mut F (MutBor V × (MutBor V ×
 
 -- the first of a tree's timeouts
 
-pub first-found : {V : Type 0} (e : (ℕ × ℕ) × V) (es : List ((ℕ × ℕ) × V)) → slice_get es 0 ≡ Some e → find (λ d. timeout_key d == timeout_key (timeout_at e)) (timeouts_of es) ≡ Some (timeout_at e)
+pub first-found : {V : Type 0} (e : (ℕ × ℕ) × V) (es : List ((ℕ × ℕ) × V)) → slice_get es 0 ≡ Some e → slice_get (timeouts_of es) 0 ≡ Some (timeout_at e)
 first-found e [] is = absurd (cc)
 first-found e (x ∷ es) is =
     let same : x ≡ e = cc in
-    let self : eqb (timeout_key (timeout_at x)) (timeout_key (timeout_at e)) ≡ true = rw same (itself (timeout_key (timeout_at e))) in
-    rw self (ap (λ y. Some (timeout_at y)) same)
-  where
-    itself : (n : ℕ) → eqb n n ≡ true
-    itself n = grind (arith, nat_tests)
+    ap (λ y. Some (timeout_at y)) same
+
+-- the first of timeouts, which was taken out
+module _ {V : Type 0} (d : Timeout) (r : Option ((ℕ × ℕ) × V)) where
+  itself : (n : ℕ) → eqb n n ≡ true
+  itself n = grind (arith, nat_tests)
+
+  pub popped-found : (es : List ((ℕ × ℕ) × V)) → slice_get (timeouts_of es) 0 ≡ Some d → find (λ e. timeout_key e == timeout_key d) (timeouts_of es) ≡ Some d
+  popped-found [] is = absurd (cc)
+  popped-found (x ∷ es) is =
+      let same : timeout_at x ≡ d = cc in
+      let self : eqb (timeout_key (timeout_at x)) (timeout_key d) ≡ true = subst (λ e. eqb (timeout_key e) (timeout_key d) ≡ true) (sym same) (itself (timeout_key d)) in
+      rw self (ap Some same)
+
+  pub popped-rest : (es later : List ((ℕ × ℕ) × V)) → slice_get (timeouts_of es) 0 ≡ Some d → r ≡ slice_get es 0 → es ≡ with_first r later → timeouts_of later ≡ taken_out timeout_key (timeout_key d) (timeouts_of es)
+  popped-rest [] later is first all = absurd (cc)
+  popped-rest (x ∷ es) later is first all =
+      let same : timeout_at x ≡ d = cc in
+      let behind : x ∷ es ≡ x ∷ later = subst (λ o. x ∷ es ≡ with_first o later) first all in
+      let rest : es ≡ later = cc in
+      let self : eqb (timeout_key (timeout_at x)) (timeout_key d) ≡ true = subst (λ e. eqb (timeout_key e) (timeout_key d) ≡ true) (sym same) (itself (timeout_key d)) in
+      rw self (ap timeouts_of (sym rest))
+
+  pub popped-some : (es : List ((ℕ × ℕ) × V)) → slice_get (timeouts_of es) 0 ≡ Some d → r ≡ slice_get es 0 → is_some r ≡ true
+  popped-some [] is first = absurd (cc)
+  popped-some (x ∷ es) is first = ap is_some first
 
 pub first-later : {V : Type 0} (time : ℕ) (e : (ℕ × ℕ) × V) (es : List ((ℕ × ℕ) × V)) → AreTimeouts (timeouts_of es) → slice_get es 0 ≡ Some e → time < e.0.0 → Each (λ d. time < d.at) (timeouts_of es)
 first-later time e [] ordered is later = tt

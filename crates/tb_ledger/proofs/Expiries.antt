@@ -3,11 +3,11 @@ use Rattle.std.proofs.Common.{◌≡◌, ◌≢◌, ℕ, ◌≤◌, Bool, true, 
 use Rattle.tb_records.specs.declared.records.Transfer.{Transfer}
 use Rattle.tb_records.specs.Ordered.{replaced, changed, Each, Rising}
 use Rattle.tb_records.proofs.ByKey.{each-map, each-both, each-find, each-replaced_all, find-map, map-replaced, map-changed, found_key, rising-changed}
-use Rattle.tb_ledger.specs.declared.rows.State.{State}
-use Rattle.tb_ledger.specs.declared.rows.State.TheVariants.{Posted, Voided, Expired}
-use Rattle.tb_ledger.specs.declared.rows.AccountRow.{AccountRow}
-use Rattle.tb_ledger.specs.declared.rows.TransferRow.{TransferRow}
-use Rattle.tb_ledger.specs.declared.timeouts.Timeout.{Timeout}
+use Rattle.tb_ledger.specs.declared.tables.rows.State.{State}
+use Rattle.tb_ledger.specs.declared.tables.rows.State.TheVariants.{Posted, Voided, Expired}
+use Rattle.tb_ledger.specs.declared.tables.rows.AccountRow.{AccountRow}
+use Rattle.tb_ledger.specs.declared.tables.rows.TransferRow.{TransferRow}
+use Rattle.tb_ledger.specs.declared.tables.timeouts.Timeout.{Timeout}
 use Rattle.tb_ledger.specs.Books.{posts, pending, resolves, is_open, is_due, state_by, closing_debit, closing_credit, debit, credit}
 use Rattle.tb_ledger.specs.Sound.{Sound}
 use Rattle.tb_ledger.specs.Kept.{account_row_key, transfer_row_key, books_of, row_holds, lapses, IsIndex, HasSide, HasSums, HasState, AreKept, IsLedger, on_debits, on_credits, released, settled, accounts_released}

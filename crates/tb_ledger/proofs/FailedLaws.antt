@@ -4,15 +4,9 @@ use Rattle.std.specs.List.{list_any}
 use Rattle.std.specs.Option.{option_map_or}
 use Rattle.std.proofs.lemmas.Bool.{and_parts}
 use Rattle.tb_records.specs.declared.records.Transfer.{Transfer}
-use Rattle.tb_records.specs.Ordered.{put}
-use Rattle.tb_ledger.specs.declared.rows.AccountRow.{AccountRow}
-use Rattle.tb_ledger.specs.declared.rows.TransferRow.{TransferRow}
-use Rattle.tb_ledger.specs.declared.timeouts.Timeout.{Timeout}
 use Rattle.tb_ledger.specs.Books.{Books, resolves, transfer_at}
-use Rattle.tb_ledger.specs.Batches.{is_final, transfer_events}
-use Rattle.tb_ledger.specs.Kept.{books_of, IsLedger}
+use Rattle.tb_ledger.specs.Batches.{is_final}
 use Rattle.tb_ledger.specs.Verdicts.{Line, first_of, first_code, transfer_own_lines, transfer_exists_lines, filled, resolve_code, single_code, transfer_verdict}
-use Rattle.tb_ledger.proofs.SoundLaws.{sound_failed}
 use Rattle.tb_ledger.proofs.VerdictLaws.{any-found}
 
 -- no line fails a transfer for good
@@ -63,28 +57,3 @@ absent ids keeps id kept new = by (find (λ k. k == id) ids) (sym (any-found (λ
     by : (o : Option ℕ) → is_some o ≡ false → o ≡ None
     by None e = refl
     by (Some k) e = absurd (cc)
-
-pub refused_unkept : (accounts : List AccountRow) (transfers : List TransferRow) (failed : List ℕ) (keeps : Bool) (time : ℕ) (t : Transfer) (code : ℕ) → keeps ≡ false
-    → books_of accounts transfers failed keeps time ≡ transfer_events.refused (books_of accounts transfers failed keeps time) t code
-refused_unkept accounts transfers failed keeps time t code unkept = rw unkept (by (is_final code))
-  where
-    by : (b : Bool) → books_of accounts transfers failed false time ≡ (if b then books_of accounts transfers failed false time else books_of accounts transfers failed false time)
-    by true = refl
-    by false = refl
-
-pub refused_passing : (B : Books) (t : Transfer) (code : ℕ) → is_final code ≡ false → B ≡ transfer_events.refused B t code
-refused_passing B t code passing = rw passing refl
-
-pub refused_final : (accounts : List AccountRow) (transfers : List TransferRow) (failed : List ℕ) (keeps : Bool) (time : ℕ) (t : Transfer) (code : ℕ) → keeps ≡ true → is_final code ≡ true
-    → books_of accounts transfers (put (λ id. id) t.id failed) keeps time ≡ transfer_events.refused (books_of accounts transfers failed keeps time) t code
-refused_final accounts transfers failed keeps time t code kept final = rw (kept, final) refl
-
--- the books stay sound
-pub kept_failed : (accounts : List AccountRow) (transfers : List TransferRow) (failed later : List ℕ) (keeps : Bool) (timeouts : List Timeout) (time : ℕ) → keeps ≡ true
-    → IsLedger accounts transfers failed keeps timeouts time → IsLedger accounts transfers later keeps timeouts time
-kept_failed accounts transfers failed later keeps timeouts time kept is = record {
-  kept = is.kept;
-  index = is.index;
-  unused = λ unkept. absurd (cc);
-  sound = sound_failed (books_of accounts transfers failed keeps time) (if keeps then Some later else None) is.sound;
-}

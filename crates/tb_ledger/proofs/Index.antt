@@ -3,13 +3,14 @@ use Rattle.std.proofs.Common.{◌≡◌, ◌≢◌, ℕ, ◌+◌, ◌-◌, ◌<�
 use Rattle.std.proofs.lemmas.Bool.Decides.{nat_tests}
 use Rattle.tb_records.specs.Ordered.{put, replaced, taken_out, Each, Rising}
 use Rattle.tb_records.proofs.ByKey.{each-map, each-both, each-find, each-put, each-replaced, each-all, none-found, find-put_here, find-put_other, find-replaced_other, taken_out-put, rising-taken_out, each-taken_out}
-use Rattle.tb_ledger.specs.declared.rows.State.{State}
-use Rattle.tb_ledger.specs.declared.rows.TransferRow.{TransferRow}
-use Rattle.tb_ledger.specs.declared.timeouts.Timeout.{Timeout}
+use Rattle.tb_ledger.specs.declared.tables.rows.State.{State}
+use Rattle.tb_ledger.specs.declared.tables.rows.TransferRow.{TransferRow}
+use Rattle.tb_ledger.specs.declared.tables.timeouts.Timeout.{Timeout}
 use Rattle.tb_ledger.specs.Books.{pending, is_open, expires_at}
 use Rattle.tb_ledger.specs.Verdicts.{int_max}
 use Rattle.tb_ledger.specs.Timeouts.{timeout_key, AreTimeouts, freed, with_timeout, without_timeout}
-use Rattle.tb_ledger.specs.Kept.{transfer_row_key, dated, lapses, settled, timeout_of, listed, unlisted, IsListed, IsTimeout, IsIndex, CanList}
+use Rattle.tb_ledger.specs.Kept.{transfer_row_key, times_out, lapses, settled, timeout_of, listed, unlisted, IsListed, IsTimeout, IsIndex, CanList}
+use Rattle.tb_ledger.specs.Tables.{Stored}
 
 -- records taken out and put back
 
@@ -65,55 +66,55 @@ length-taken_out key id x (y ∷ ys) found = by (eqb (key y) id) found (length-t
 self_key : (d : Timeout) → eqb (timeout_key d) (timeout_key d) ≡ true
 self_key d = grind (arith, nat_tests)
 
-pub undone_listed : (t : TransferRow) (ts : List Timeout × ℕ) → (dated t ≡ true → CanList t ts) → unlisted t (listed t ts) ≡ ts
-undone_listed t ts can = by (dated t) can
+pub undone_listed : (t : TransferRow) (ts : Stored Timeout) → (times_out t ≡ true → CanList t ts) → unlisted t (listed t ts) ≡ ts
+undone_listed t ts can = by (times_out t) can
   where
     by : (b : Bool) → (b ≡ true → CanList t ts) → (if b then without_timeout (timeout_of t) (if b then with_timeout (timeout_of t) ts else ts) else (if b then with_timeout (timeout_of t) ts else ts)) ≡ ts
     by false can = refl
     by true can =
         let d = timeout_of t in
         let it = can refl in
-        let back : taken_out timeout_key (timeout_key d) (put timeout_key d ts.0) ≡ ts.0 = taken_out-put timeout_key d ts.0 it.absent in
-        let here : find (λ e. timeout_key e == timeout_key d) (put timeout_key d ts.0) ≡ Some d = find-put_here timeout_key (λ e. timeout_key e == timeout_key d) d ts.0 (self_key d) it.absent in
-        let one : freed (find (λ e. timeout_key e == timeout_key d) (put timeout_key d ts.0)) ≡ 1 = rw here refl in
-        let room : ts.1 - 1 + freed (find (λ e. timeout_key e == timeout_key d) (put timeout_key d ts.0)) ≡ ts.1 = let some : 0 < ts.1 = it.room in omega (arith, one) in
-        λ i. (back i, room i)
+        let back : taken_out timeout_key (timeout_key d) (put timeout_key d ts.items) ≡ ts.items = taken_out-put timeout_key d ts.items it.absent in
+        let here : find (λ e. timeout_key e == timeout_key d) (put timeout_key d ts.items) ≡ Some d = find-put_here timeout_key (λ e. timeout_key e == timeout_key d) d ts.items (self_key d) it.absent in
+        let one : freed (find (λ e. timeout_key e == timeout_key d) (put timeout_key d ts.items)) ≡ 1 = rw here refl in
+        let room : ts.spare - 1 + freed (find (λ e. timeout_key e == timeout_key d) (put timeout_key d ts.items)) ≡ ts.spare = let some : 0 < ts.spare = it.room in omega (arith, one) in
+        λ i. record { items = back i; spare = room i }
 
-pub undone_unlisted : (t : TransferRow) (ts : List Timeout × ℕ) → AreTimeouts ts.0 → (dated t ≡ true → IsListed ts.0 t) → listed t (unlisted t ts) ≡ ts
-undone_unlisted t ts ordered is_listed = by (dated t) is_listed
+pub undone_unlisted : (t : TransferRow) (ts : Stored Timeout) → AreTimeouts ts.items → (times_out t ≡ true → IsListed ts.items t) → listed t (unlisted t ts) ≡ ts
+undone_unlisted t ts ordered is_listed = by (times_out t) is_listed
   where
-    by : (b : Bool) → (b ≡ true → IsListed ts.0 t) → (if b then with_timeout (timeout_of t) (if b then without_timeout (timeout_of t) ts else ts) else (if b then without_timeout (timeout_of t) ts else ts)) ≡ ts
+    by : (b : Bool) → (b ≡ true → IsListed ts.items t) → (if b then with_timeout (timeout_of t) (if b then without_timeout (timeout_of t) ts else ts) else (if b then without_timeout (timeout_of t) ts else ts)) ≡ ts
     by false is = refl
     by true is =
         let d = timeout_of t in
         let it = is refl in
-        let back : put timeout_key d (taken_out timeout_key (timeout_key d) ts.0) ≡ ts.0 = put-taken_out timeout_key d ts.0 ordered.rising it.there in
-        let one : freed (find (λ e. timeout_key e == timeout_key d) ts.0) ≡ 1 = rw it.there refl in
-        let room : ts.1 + freed (find (λ e. timeout_key e == timeout_key d) ts.0) - 1 ≡ ts.1 = omega (arith, one) in
-        λ i. (back i, room i)
+        let back : put timeout_key d (taken_out timeout_key (timeout_key d) ts.items) ≡ ts.items = put-taken_out timeout_key d ts.items ordered.rising it.there in
+        let one : freed (find (λ e. timeout_key e == timeout_key d) ts.items) ≡ 1 = rw it.there refl in
+        let room : ts.spare + freed (find (λ e. timeout_key e == timeout_key d) ts.items) - 1 ≡ ts.spare = omega (arith, one) in
+        λ i. record { items = back i; spare = room i }
 
 -- it can come back
-pub can_relist : (t : TransferRow) (ts : List Timeout × ℕ) → AreTimeouts ts.0 → (dated t ≡ true → IsListed ts.0 t) → dated t ≡ true → CanList t (unlisted t ts)
+pub can_relist : (t : TransferRow) (ts : Stored Timeout) → AreTimeouts ts.items → (times_out t ≡ true → IsListed ts.items t) → times_out t ≡ true → CanList t (unlisted t ts)
 can_relist t ts ordered is_listed is =
     let it = is_listed is in
-    let one : freed (find (λ e. timeout_key e == timeout_key (timeout_of t)) ts.0) ≡ 1 = rw it.there refl in
+    let one : freed (find (λ e. timeout_key e == timeout_key (timeout_of t)) ts.items) ≡ 1 = rw it.there refl in
     let can : CanList t (without_timeout (timeout_of t) ts) = record {
       in_range = it.in_range;
       room = omega (arith, one);
-      absent = gone timeout_key (timeout_key (timeout_of t)) ts.0 ordered.rising;
+      absent = gone timeout_key (timeout_key (timeout_of t)) ts.items ordered.rising;
     } in rw is can
 
 -- of a new transfer no timeout is there yet
-module _ (transfers : List TransferRow) (ts : List Timeout × ℕ) (index : IsIndex transfers ts.0) where
+module _ (transfers : List TransferRow) (ts : Stored Timeout) (index : IsIndex transfers ts.items) where
   module _ (t : TransferRow) (fresh : find (λ r. r.recorded.id == t.recorded.id) transfers ≡ None) where
     other_id : (d : Timeout) → IsTimeout transfers d → d.id ≢ t.recorded.id
     other_id d has same = let found : find (λ r. r.recorded.id == t.recorded.id) transfers ≡ Some has.t = subst (λ k. find (λ r. r.recorded.id == k) transfers ≡ Some has.t) same has.there in absurd (cc)
 
-    pub not_listed_yet : AreTimeouts ts.0 → t.recorded.id ≤ int_max → find (λ d. timeout_key d == timeout_key (timeout_of t)) ts.0 ≡ None
+    pub not_listed_yet : AreTimeouts ts.items → t.recorded.id ≤ int_max → find (λ d. timeout_key d == timeout_key (timeout_of t)) ts.items ≡ None
     not_listed_yet ordered fits =
-        none-found (λ d. timeout_key d == timeout_key (timeout_of t)) ts.0
-        (each-both (IsTimeout transfers) (λ d. d.id ≤ int_max) (λ d. eqb (timeout_key d) (timeout_key (timeout_of t)) ≡ false) ts.0
-        (λ d has d_fits. let other = other_id d has in let differs : timeout_key d ≢ timeout_key (timeout_of t) = λ same. other (omega arith) in grind (arith, nat_tests)) index.all_dated ordered.fit)
+        none-found (λ d. timeout_key d == timeout_key (timeout_of t)) ts.items
+        (each-both (IsTimeout transfers) (λ d. d.id ≤ int_max) (λ d. eqb (timeout_key d) (timeout_key (timeout_of t)) ≡ false) ts.items
+        (λ d has d_fits. let other = other_id d has in let differs : timeout_key d ≢ timeout_key (timeout_of t) = λ same. other (omega arith) in grind (arith, nat_tests)) index.all_timed ordered.fit)
 
     others_timed : (d : Timeout) → IsTimeout transfers d → IsTimeout (put transfer_row_key t transfers) d
     others_timed d has =
@@ -121,119 +122,119 @@ module _ (transfers : List TransferRow) (ts : List Timeout × ℕ) (index : IsIn
         let fails : eqb t.recorded.id d.id ≡ false = let differs : t.recorded.id ≢ d.id = λ same. other (sym same) in grind (arith, nat_tests) in record {
           t = has.t;
           there = find-put_other transfer_row_key (λ r. r.recorded.id == d.id) t transfers fails ∙ has.there;
-          is_dated = has.is_dated;
+          is_timed = has.is_timed;
           same = has.same;
         }
 
-    pub index_added : (dated t ≡ true → CanList t ts) → IsIndex (put transfer_row_key t transfers) (listed t ts).0
-    index_added can = by (dated t) refl
+    pub index_added : (times_out t ≡ true → CanList t ts) → IsIndex (put transfer_row_key t transfers) (listed t ts).items
+    index_added can = by (times_out t) refl
       where
-        by : (b : Bool) → dated t ≡ b → IsIndex (put transfer_row_key t transfers) (if b then with_timeout (timeout_of t) ts else ts).0
-        by false not_dated = record {
-          all_listed = each-put transfer_row_key (λ r. dated r ≡ true → IsListed ts.0 r) t transfers (λ is. absurd (cc)) index.all_listed;
-          all_dated = each-map (IsTimeout transfers) (IsTimeout (put transfer_row_key t transfers)) ts.0 others_timed index.all_dated;
+        by : (b : Bool) → times_out t ≡ b → IsIndex (put transfer_row_key t transfers) (if b then with_timeout (timeout_of t) ts else ts).items
+        by false not_timed = record {
+          all_listed = each-put transfer_row_key (λ r. times_out r ≡ true → IsListed ts.items r) t transfers (λ is. absurd (cc)) index.all_listed;
+          all_timed = each-map (IsTimeout transfers) (IsTimeout (put transfer_row_key t transfers)) ts.items others_timed index.all_timed;
         }
-        by true is_dated =
+        by true is_timed =
             let d = timeout_of t in
-            let it = can is_dated in record {
-              all_listed = each-put transfer_row_key (λ r. dated r ≡ true → IsListed (put timeout_key d ts.0) r) t transfers
-                  (λ is. record { in_range = it.in_range; there = find-put_here timeout_key (λ e. timeout_key e == timeout_key d) d ts.0 (self_key d) it.absent })
-                  (each-map (λ r. dated r ≡ true → IsListed ts.0 r) (λ r. dated r ≡ true → IsListed (put timeout_key d ts.0) r) transfers (λ r was is. stays r (was is) it.absent) index.all_listed);
-              all_dated = each-put timeout_key (IsTimeout (put transfer_row_key t transfers)) d ts.0
-                  (record { t = t; there = find-put_here transfer_row_key (λ r. r.recorded.id == t.recorded.id) t transfers same_id fresh; is_dated = is_dated; same = refl })
-                  (each-map (IsTimeout transfers) (IsTimeout (put transfer_row_key t transfers)) ts.0 others_timed index.all_dated);
+            let it = can is_timed in record {
+              all_listed = each-put transfer_row_key (λ r. times_out r ≡ true → IsListed (put timeout_key d ts.items) r) t transfers
+                  (λ is. record { in_range = it.in_range; there = find-put_here timeout_key (λ e. timeout_key e == timeout_key d) d ts.items (self_key d) it.absent })
+                  (each-map (λ r. times_out r ≡ true → IsListed ts.items r) (λ r. times_out r ≡ true → IsListed (put timeout_key d ts.items) r) transfers (λ r was is. stays r (was is) it.absent) index.all_listed);
+              all_timed = each-put timeout_key (IsTimeout (put transfer_row_key t transfers)) d ts.items
+                  (record { t = t; there = find-put_here transfer_row_key (λ r. r.recorded.id == t.recorded.id) t transfers same_id fresh; is_timed = is_timed; same = refl })
+                  (each-map (IsTimeout transfers) (IsTimeout (put transfer_row_key t transfers)) ts.items others_timed index.all_timed);
             }
           where
             same_id : eqb t.recorded.id t.recorded.id ≡ true
             same_id = grind (arith, nat_tests)
 
-            stays : (r : TransferRow) → IsListed ts.0 r → find (λ e. timeout_key e == timeout_key (timeout_of t)) ts.0 ≡ None → IsListed (put timeout_key (timeout_of t) ts.0) r
+            stays : (r : TransferRow) → IsListed ts.items r → find (λ e. timeout_key e == timeout_key (timeout_of t)) ts.items ≡ None → IsListed (put timeout_key (timeout_of t) ts.items) r
             stays r was absent = which (eqb (timeout_key (timeout_of t)) (timeout_key (timeout_of r))) refl
               where
-                which : (b : Bool) → eqb (timeout_key (timeout_of t)) (timeout_key (timeout_of r)) ≡ b → IsListed (put timeout_key (timeout_of t) ts.0) r
+                which : (b : Bool) → eqb (timeout_key (timeout_of t)) (timeout_key (timeout_of r)) ≡ b → IsListed (put timeout_key (timeout_of t) ts.items) r
                 which true e =
                     let same : timeout_key (timeout_of t) ≡ timeout_key (timeout_of r) = grind (arith, nat_tests) in
-                    let none : find (λ e. timeout_key e == timeout_key (timeout_of r)) ts.0 ≡ None = subst (λ k. find (λ e. timeout_key e == k) ts.0 ≡ None) same absent in
+                    let none : find (λ e. timeout_key e == timeout_key (timeout_of r)) ts.items ≡ None = subst (λ k. find (λ e. timeout_key e == k) ts.items ≡ None) same absent in
                     let there = was.there in
                     absurd (cc)
-                which false e = record { in_range = was.in_range; there = find-put_other timeout_key (λ e. timeout_key e == timeout_key (timeout_of r)) (timeout_of t) ts.0 e ∙ was.there }
+                which false e = record { in_range = was.in_range; there = find-put_other timeout_key (λ e. timeout_key e == timeout_key (timeout_of r)) (timeout_of t) ts.items e ∙ was.there }
 
   -- a transfer that holds no more
-  module _ (p : TransferRow) (s : State) (found : find (λ r. r.recorded.id == p.recorded.id) transfers ≡ Some p) (over : is_open s ≡ false) (rising : Rising transfer_row_key transfers) (ordered : AreTimeouts ts.0) where
+  module _ (p : TransferRow) (s : State) (found : find (λ r. r.recorded.id == p.recorded.id) transfers ≡ Some p) (over : is_open s ≡ false) (rising : Rising transfer_row_key transfers) (ordered : AreTimeouts ts.items) where
     abbrev left : List TransferRow
     left = replaced transfer_row_key (settled s p) transfers
 
-    not_dated : dated (settled s p) ≡ true → ⊥
-    not_dated is = let closed : dated (settled s p) ≡ false = by (pending p.recorded) (is_open s) over in absurd (cc)
+    not_timed : times_out (settled s p) ≡ true → ⊥
+    not_timed is = let closed : times_out (settled s p) ≡ false = by (pending p.recorded) (is_open s) over in absurd (cc)
       where
         by : (b o : Bool) → o ≡ false → ((b && o) && not (p.recorded.timeout == 0)) ≡ false
         by true o e = rw e refl
         by false o e = refl
 
     -- the timeout that has its id is its own
-    its_own : (d : Timeout) → IsTimeout transfers d → d.id ≡ p.recorded.id → (timeout_of p ≡ d) × (dated p ≡ true)
+    its_own : (d : Timeout) → IsTimeout transfers d → d.id ≡ p.recorded.id → (timeout_of p ≡ d) × (times_out p ≡ true)
     its_own d has same =
         let there : find (λ r. r.recorded.id == p.recorded.id) transfers ≡ Some has.t = subst (λ k. find (λ r. r.recorded.id == k) transfers ≡ Some has.t) same has.there in
         let it : has.t ≡ p = cc in
-        (ap timeout_of (sym it) ∙ has.same, ap dated (sym it) ∙ has.is_dated)
+        (ap timeout_of (sym it) ∙ has.same, ap times_out (sym it) ∙ has.is_timed)
 
     others_stay : (d : Timeout) → d.id ≢ p.recorded.id → IsTimeout transfers d → IsTimeout left d
     others_stay d other has = record {
       t = has.t;
       there = find-replaced_other transfer_row_key (λ r. r.recorded.id == d.id) (settled s p) transfers (λ y same. let differs : transfer_row_key y ≢ d.id = λ e. other (sym e ∙ same) in grind (arith, nat_tests)) ∙ has.there;
-      is_dated = has.is_dated;
+      is_timed = has.is_timed;
       same = has.same;
     }
 
-    pub index_closed : IsIndex left (unlisted p ts).0
-    index_closed = by (dated p) refl
+    pub index_closed : IsIndex left (unlisted p ts).items
+    index_closed = by (times_out p) refl
       where
-        by : (b : Bool) → dated p ≡ b → IsIndex left (if b then without_timeout (timeout_of p) ts else ts).0
-        by false undated = record {
-          all_listed = each-replaced transfer_row_key (λ r. dated r ≡ true → IsListed ts.0 r) (λ r. dated r ≡ true → IsListed ts.0 r) (settled s p) transfers rising (λ is. absurd (not_dated is)) (λ y differs was. was) index.all_listed;
-          all_dated = each-map (IsTimeout transfers) (IsTimeout left) ts.0 (λ d has. others_stay d (λ same. let dates = (its_own d has same).1 in absurd (cc)) has) index.all_dated;
+        by : (b : Bool) → times_out p ≡ b → IsIndex left (if b then without_timeout (timeout_of p) ts else ts).items
+        by false untimed = record {
+          all_listed = each-replaced transfer_row_key (λ r. times_out r ≡ true → IsListed ts.items r) (λ r. times_out r ≡ true → IsListed ts.items r) (settled s p) transfers rising (λ is. absurd (not_timed is)) (λ y differs was. was) index.all_listed;
+          all_timed = each-map (IsTimeout transfers) (IsTimeout left) ts.items (λ d has. others_stay d (λ same. let dates = (its_own d has same).1 in absurd (cc)) has) index.all_timed;
         }
         by true dates =
             let d = timeout_of p in
-            let its : IsListed ts.0 p = each-find (λ r. dated r ≡ true → IsListed ts.0 r) (λ r. r.recorded.id == p.recorded.id) p transfers index.all_listed found dates in record {
-              all_listed = each-replaced transfer_row_key (λ r. dated r ≡ true → IsListed ts.0 r) (λ r. dated r ≡ true → IsListed (taken_out timeout_key (timeout_key d) ts.0) r) (settled s p) transfers rising (λ is. absurd (not_dated is))
+            let its : IsListed ts.items p = each-find (λ r. times_out r ≡ true → IsListed ts.items r) (λ r. r.recorded.id == p.recorded.id) p transfers index.all_listed found dates in record {
+              all_listed = each-replaced transfer_row_key (λ r. times_out r ≡ true → IsListed ts.items r) (λ r. times_out r ≡ true → IsListed (taken_out timeout_key (timeout_key d) ts.items) r) (settled s p) transfers rising (λ is. absurd (not_timed is))
                   (λ y differs was is. let w = was is in record {
                     in_range = w.in_range;
-                    there = find-taken_out_other timeout_key (λ e. timeout_key e == timeout_key (timeout_of y)) (timeout_key d) ts.0 (fails y differs w its) ∙ w.there;
+                    there = find-taken_out_other timeout_key (λ e. timeout_key e == timeout_key (timeout_of y)) (timeout_key d) ts.items (fails y differs w its) ∙ w.there;
                   }) index.all_listed;
-              all_dated = each-taken_out_other timeout_key (IsTimeout transfers) (IsTimeout left) (timeout_key d) ts.0 ordered.rising
-                  (λ e other has. others_stay e (λ same. other (ap timeout_key (sym (its_own e has same).0))) has) index.all_dated;
+              all_timed = each-taken_out_other timeout_key (IsTimeout transfers) (IsTimeout left) (timeout_key d) ts.items ordered.rising
+                  (λ e other has. others_stay e (λ same. other (ap timeout_key (sym (its_own e has same).0))) has) index.all_timed;
             }
           where
-            fails : (y : TransferRow) → transfer_row_key y ≢ transfer_row_key p → IsListed ts.0 y → IsListed ts.0 p → (e : Timeout) → timeout_key e ≡ timeout_key (timeout_of p) → eqb (timeout_key e) (timeout_key (timeout_of y)) ≡ false
+            fails : (y : TransferRow) → transfer_row_key y ≢ transfer_row_key p → IsListed ts.items y → IsListed ts.items p → (e : Timeout) → timeout_key e ≡ timeout_key (timeout_of p) → eqb (timeout_key e) (timeout_key (timeout_of y)) ≡ false
             fails y differs w its e at = which (eqb (timeout_key e) (timeout_key (timeout_of y))) refl
               where
                 which : (b : Bool) → eqb (timeout_key e) (timeout_key (timeout_of y)) ≡ b → b ≡ false
                 which false x = refl
                 which true x =
                     let same : timeout_key (timeout_of p) ≡ timeout_key (timeout_of y) = grind (arith, nat_tests) in
-                    let there : find (λ e. timeout_key e == timeout_key (timeout_of y)) ts.0 ≡ Some (timeout_of p) = subst (λ k. find (λ e. timeout_key e == k) ts.0 ≡ Some (timeout_of p)) same its.there in
+                    let there : find (λ e. timeout_key e == timeout_key (timeout_of y)) ts.items ≡ Some (timeout_of p) = subst (λ k. find (λ e. timeout_key e == k) ts.items ≡ Some (timeout_of p)) same its.there in
                     let both : Some (timeout_of y) ≡ Some (timeout_of p) = sym w.there ∙ there in
                     let ids : timeout_of y ≡ timeout_of p = cc in
                     absurd (differs (ap (λ d. d.id) ids))
 
   -- where no timeout is due, no transfer lapses
-  pub none_lapses : (time : ℕ) → Each (λ d. time < d.at) ts.0 → Each (λ r. lapses time r ≡ false) transfers
-  none_lapses time later = each-map (λ r. dated r ≡ true → IsListed ts.0 r) (λ r. lapses time r ≡ false) transfers waits index.all_listed
+  pub none_lapses : (time : ℕ) → Each (λ d. time < d.at) ts.items → Each (λ r. lapses time r ≡ false) transfers
+  none_lapses time later = each-map (λ r. times_out r ≡ true → IsListed ts.items r) (λ r. lapses time r ≡ false) transfers waits index.all_listed
     where
-      waits : (r : TransferRow) → (dated r ≡ true → IsListed ts.0 r) → lapses time r ≡ false
+      waits : (r : TransferRow) → (times_out r ≡ true → IsListed ts.items r) → lapses time r ≡ false
       waits r was = by (pending r.recorded && is_open r.state) refl (eqb r.recorded.timeout 0) refl
         where
           by : (h : Bool) → (pending r.recorded && is_open r.state) ≡ h → (z : Bool) → eqb r.recorded.timeout 0 ≡ z → (h && (not z && leb (expires_at r.recorded) time)) ≡ false
           by false e z f = refl
           by true e true f = refl
           by true e false f =
-              let is : IsListed ts.0 r = was (rw (e, f) refl) in
-              let waiting : time < expires_at r.recorded = each-find (λ d. time < d.at) (λ d. timeout_key d == timeout_key (timeout_of r)) (timeout_of r) ts.0 later is.there in
+              let is : IsListed ts.items r = was (rw (e, f) refl) in
+              let waiting : time < expires_at r.recorded = each-find (λ d. time < d.at) (λ d. timeout_key d == timeout_key (timeout_of r)) (timeout_of r) ts.items later is.there in
               grind (arith, nat_tests)
 
 -- a timeout that is due is that of a transfer that lapses
-pub due_lapses : (time : ℕ) (t : TransferRow) (d : Timeout) → dated t ≡ true → timeout_of t ≡ d → d.at ≤ time → lapses time t ≡ true
+pub due_lapses : (time : ℕ) (t : TransferRow) (d : Timeout) → times_out t ≡ true → timeout_of t ≡ d → d.at ≤ time → lapses time t ≡ true
 due_lapses time t d is same due = by (pending t.recorded && is_open t.state) (eqb t.recorded.timeout 0) is
   where
     at : expires_at t.recorded ≤ time
@@ -245,16 +246,16 @@ due_lapses time t d is same due = by (pending t.recorded && is_open t.state) (eq
     by false z e = absurd (cc)
 
 -- the transfer that is found by a timeout's id is the one that it is of
-pub of_due : (transfers : List TransferRow) (d : Timeout) (p : TransferRow) → IsTimeout transfers d → find (λ t. t.recorded.id == d.id) transfers ≡ Some p → (dated p ≡ true) × (timeout_of p ≡ d)
+pub of_due : (transfers : List TransferRow) (d : Timeout) (p : TransferRow) → IsTimeout transfers d → find (λ t. t.recorded.id == d.id) transfers ≡ Some p → (times_out p ≡ true) × (timeout_of p ≡ d)
 of_due transfers d p has found =
     let it : has.t ≡ p = let both : Some has.t ≡ Some p = sym has.there ∙ found in cc in
-    (ap dated (sym it) ∙ has.is_dated, ap timeout_of (sym it) ∙ has.same)
+    (ap times_out (sym it) ∙ has.is_timed, ap timeout_of (sym it) ∙ has.same)
 
-pub unlisted_due : (p : TransferRow) (d : Timeout) (ts : List Timeout × ℕ) → dated p ≡ true → timeout_of p ≡ d → unlisted p ts ≡ without_timeout d ts
+pub unlisted_due : (p : TransferRow) (d : Timeout) (ts : Stored Timeout) → times_out p ≡ true → timeout_of p ≡ d → unlisted p ts ≡ without_timeout d ts
 unlisted_due p d ts dates same = rw dates (ap (λ e. without_timeout e ts) same)
 
-pub ordered_without : (d : Timeout) (ts : List Timeout × ℕ) → AreTimeouts ts.0 → AreTimeouts (without_timeout d ts).0
+pub ordered_without : (d : Timeout) (ts : Stored Timeout) → AreTimeouts ts.items → AreTimeouts (without_timeout d ts).items
 ordered_without d ts ordered = record {
-  rising = rising-taken_out timeout_key (timeout_key d) ts.0 ordered.rising;
-  fit = each-taken_out timeout_key (λ d. d.id ≤ int_max) (timeout_key d) ts.0 ordered.fit;
+  rising = rising-taken_out timeout_key (timeout_key d) ts.items ordered.rising;
+  fit = each-taken_out timeout_key (λ d. d.id ≤ int_max) (timeout_key d) ts.items ordered.fit;
 }

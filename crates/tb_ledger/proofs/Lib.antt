@@ -25,3 +25,4 @@ pub mod VerdictLaws
 pub mod ReadLaws
 pub mod FailedLaws
 pub mod Profiles
+pub mod Many

@@ -4,10 +4,10 @@ use Rattle.std.proofs.lemmas.Bool.Decides.{nat_tests}
 use Rattle.tb_records.specs.declared.records.Transfer.{Transfer}
 use Rattle.tb_records.specs.Ordered.{put, replaced, changed, Each, Rising}
 use Rattle.tb_records.proofs.ByKey.{each-changed, each-both, rising-changed}
-use Rattle.tb_ledger.specs.declared.rows.State.{State}
-use Rattle.tb_ledger.specs.declared.rows.Side.{Side}
-use Rattle.tb_ledger.specs.declared.rows.AccountRow.{AccountRow}
-use Rattle.tb_ledger.specs.declared.rows.TransferRow.{TransferRow}
+use Rattle.tb_ledger.specs.declared.tables.rows.State.{State}
+use Rattle.tb_ledger.specs.declared.tables.rows.Side.{Side}
+use Rattle.tb_ledger.specs.declared.tables.rows.AccountRow.{AccountRow}
+use Rattle.tb_ledger.specs.declared.tables.rows.TransferRow.{TransferRow}
 use Rattle.tb_ledger.specs.Books.{pending, is_open, closing_debit, closing_credit, debit, credit}
 use Rattle.tb_ledger.specs.Kept.{account_row_key, transfer_row_key, row_holds, HasSide, HasBoth, HasSums, gained, released, released_and_gained, settled, Takes, on_debits, on_credits, accounts_gained, accounts_released, accounts_released_and_gained, new_transfer_row}
 use Rattle.tb_ledger.proofs.Parts.{released_here, released_other, held_enough, gained_here, gained_other}
@@ -101,7 +101,7 @@ module _ (side : Transfer → ℕ) (closes : Transfer → Bool) (transfers : Lis
   takes_rest x has =
       (omega (arith, held_enough side closes transfers p s found holds over x has, has.fit), free)
     where
-      free : (pending r && closes r) ≡ true → (x.shut && not (closes p.recorded)) ≡ false
+      free : (pending r && closes r) ≡ true → (x.held_closed && not (closes p.recorded)) ≡ false
       free e = absurd (let never : (pending r && closes r) ≡ false = rw single refl in cc)
 
   pub resolved_here : (x : Side) → HasSide side closes transfers (side r) x → HasSide side closes (put transfer_row_key (new_transfer_row r) left) (side r) (released_and_gained closes p.recorded r x)

@@ -5,10 +5,10 @@ use Rattle.tb_records.specs.declared.records.Transfer.{Transfer}
 use Rattle.std.proofs.lemmas.List.Sums.{sum_by-cons}
 use Rattle.tb_records.specs.Ordered.{put, replaced, Each}
 use Rattle.tb_records.proofs.ByKey.{sum_by-put, sum_by-replaced}
-use Rattle.tb_ledger.specs.declared.rows.State.{State}
-use Rattle.tb_ledger.specs.declared.rows.State.TheVariants.{Open}
-use Rattle.tb_ledger.specs.declared.rows.Side.{Side}
-use Rattle.tb_ledger.specs.declared.rows.TransferRow.{TransferRow}
+use Rattle.tb_ledger.specs.declared.tables.rows.State.{State}
+use Rattle.tb_ledger.specs.declared.tables.rows.State.TheVariants.{Open}
+use Rattle.tb_ledger.specs.declared.tables.rows.Side.{Side}
+use Rattle.tb_ledger.specs.declared.tables.rows.TransferRow.{TransferRow}
 use Rattle.tb_ledger.specs.Books.{pending, voids, moves, is_open}
 use Rattle.tb_ledger.specs.Kept.{transfer_row_key, row_holds, bit, pending_share, posted_share, closing_share, HasSide, gained, released, settled, Takes, new_side}
 
@@ -16,31 +16,31 @@ pub both_hold : (a b : Bool) → a && b ≡ true → (a ≡ true) × (b ≡ true
 both_hold true b e = (refl, e)
 both_hold false b e = absurd (cc)
 
--- a side that is shut no more, and one that may be shut
-shut_less : (s c : Bool) (n after : ℕ) → bit s ≡ n → after + bit c ≡ n → bit (s && not c) ≡ after
-shut_less true true n after is e = omega arith
-shut_less true false n after is e = omega arith
-shut_less false true n after is e = absurd (omega arith)
-shut_less false false n after is e = omega arith
+-- a side that is held closed no more, and one that may be
+closed_less : (s c : Bool) (n after : ℕ) → bit s ≡ n → after + bit c ≡ n → bit (s && not c) ≡ after
+closed_less true true n after is e = omega arith
+closed_less true false n after is e = omega arith
+closed_less false true n after is e = absurd (omega arith)
+closed_less false false n after is e = omega arith
 
-shut_more : (s c : Bool) (n after : ℕ) → bit s ≡ n → after ≡ bit c + n → (c ≡ true → s ≡ false) → bit (s || c) ≡ after
-shut_more true true n after is e free = absurd (let no_room = free refl in cc)
-shut_more true false n after is e free = omega arith
-shut_more false true n after is e free = omega arith
-shut_more false false n after is e free = omega arith
+closed_more : (s c : Bool) (n after : ℕ) → bit s ≡ n → after ≡ bit c + n → (c ≡ true → s ≡ false) → bit (s || c) ≡ after
+closed_more true true n after is e free = absurd (let no_room = free refl in cc)
+closed_more true false n after is e free = omega arith
+closed_more false true n after is e free = omega arith
+closed_more false false n after is e free = omega arith
 
 -- an account that no transfer names
 pub no_sums : (side : Transfer → ℕ) (closes : Transfer → Bool) (transfers : List TransferRow) (id : ℕ) → Each (λ t. side t.recorded ≢ id) transfers → HasSide side closes transfers id new_side
-no_sums side closes [] id others = record { pending = refl; posted = refl; shut = refl; fit = omega arith }
+no_sums side closes [] id others = record { pending = refl; posted = refl; held_closed = refl; fit = omega arith }
 no_sums side closes (t ∷ ts) id others =
     let e : eqb (side t.recorded) id ≡ false = let other : side t.recorded ≢ id = others.0 in grind (arith, nat_tests) in
     let rest = no_sums side closes ts id others.1 in
     let held : pending_share side id t ≡ 0 = rw e refl in
     let moved : posted_share side id t ≡ 0 = rw e refl in
-    let shuts : closing_share side closes id t ≡ 0 = rw e refl in record {
+    let closing : closing_share side closes id t ≡ 0 = rw e refl in record {
       pending = omega (arith, sum_by-cons (pending_share side id) t ts, held, rest.pending);
       posted = omega (arith, sum_by-cons (posted_share side id) t ts, moved, rest.posted);
-      shut = omega (arith, sum_by-cons (closing_share side closes id) t ts, shuts, rest.shut);
+      held_closed = omega (arith, sum_by-cons (closing_share side closes id) t ts, closing, rest.held_closed);
       fit = omega arith;
     }
 
@@ -82,7 +82,7 @@ module _ (side : Transfer → ℕ) (closes : Transfer → Bool) (transfers : Lis
         let moved : posted_share side id (settled s p) ≡ posted_share side id p = refl in record {
           pending = omega (arith, total_freed (pending_share side id), gave, gives_nothing id true, has.pending);
           posted = omega (arith, total_freed (posted_share side id), moved, has.posted);
-          shut = shut_less x.shut (closes p.recorded) _ _ has.shut (omega (arith, total_freed (closing_share side closes id), held, closes_nothing id));
+          held_closed = closed_less x.held_closed (closes p.recorded) _ _ has.held_closed (omega (arith, total_freed (closing_share side closes id), held, closes_nothing id));
           fit = omega (arith, has.fit);
         }
 
@@ -102,7 +102,7 @@ module _ (side : Transfer → ℕ) (closes : Transfer → Bool) (transfers : Lis
         let moved : posted_share side id (settled s p) ≡ posted_share side id p = refl in record {
           pending = omega (arith, total_freed (pending_share side id), gave, gives_nothing id true, has.pending);
           posted = omega (arith, total_freed (posted_share side id), moved, has.posted);
-          shut = omega (arith, total_freed (closing_share side closes id), held, closes_nothing id, has.shut);
+          held_closed = omega (arith, total_freed (closing_share side closes id), held, closes_nothing id, has.held_closed);
           fit = has.fit;
         }
 
@@ -136,10 +136,10 @@ module _ (side : Transfer → ℕ) (closes : Transfer → Bool) (transfers : Lis
         let e : eqb (side t) (side t) ≡ true = grind (arith, nat_tests) in
         let gives : pending_share side id row ≡ (if pending t then t.amount else 0) = rw e (pending_here (pending t)) in
         let moved : posted_share side id row ≡ (if moves t then t.amount else 0) = rw e refl in
-        let shuts : closing_share side closes id row ≡ bit (pending t && closes t) = rw e (closing_here (pending t) (closes t)) in record {
+        let closing : closing_share side closes id row ≡ bit (pending t && closes t) = rw e (closing_here (pending t) (closes t)) in record {
           pending = omega (arith, total_more (pending_share side id), gives, has.pending);
           posted = omega (arith, total_more (posted_share side id), moved, has.posted);
-          shut = shut_more x.shut (pending t && closes t) _ _ has.shut (omega (arith, total_more (closing_share side closes id), shuts)) takes.1;
+          held_closed = closed_more x.held_closed (pending t && closes t) _ _ has.held_closed (omega (arith, total_more (closing_share side closes id), closing)) takes.1;
           fit = omega (arith, takes.0, parts_fit (pending t) (voids t));
         }
 
@@ -148,9 +148,9 @@ module _ (side : Transfer → ℕ) (closes : Transfer → Bool) (transfers : Lis
         let e : eqb (side t) id ≡ false = grind (arith, nat_tests) in
         let gives : pending_share side id row ≡ 0 = rw e refl in
         let moved : posted_share side id row ≡ 0 = rw e refl in
-        let shuts : closing_share side closes id row ≡ 0 = rw e refl in record {
+        let closing : closing_share side closes id row ≡ 0 = rw e refl in record {
           pending = omega (arith, total_more (pending_share side id), gives, has.pending);
           posted = omega (arith, total_more (posted_share side id), moved, has.posted);
-          shut = omega (arith, total_more (closing_share side closes id), shuts, has.shut);
+          held_closed = omega (arith, total_more (closing_share side closes id), closing, has.held_closed);
           fit = has.fit;
         }

@@ -3,18 +3,19 @@ use Rattle.std.proofs.Common.{◌≡◌, ◌≢◌, ℕ, Bool, true, false, cond
 use Rattle.tb_records.specs.declared.records.Transfer.{Transfer}
 use Rattle.tb_records.specs.Ordered.{replaced, changed}
 use Rattle.tb_records.proofs.ByKey.{changed_found, replaced-changed}
-use Rattle.tb_ledger.specs.declared.rows.AccountRow.{AccountRow}
-use Rattle.tb_ledger.specs.declared.rows.TransferRow.{TransferRow}
-use Rattle.tb_ledger.specs.declared.timeouts.Timeout.{Timeout}
-use Rattle.tb_ledger.specs.declared.undo.Undo.{Undo}
-use Rattle.tb_ledger.specs.declared.undo.Undo.TheVariants.{Account}
+use Rattle.tb_ledger.specs.declared.tables.rows.AccountRow.{AccountRow}
+use Rattle.tb_ledger.specs.declared.tables.rows.TransferRow.{TransferRow}
+use Rattle.tb_ledger.specs.declared.tables.timeouts.Timeout.{Timeout}
+use Rattle.tb_ledger.specs.declared.tables.trail.Undo.{Undo}
+use Rattle.tb_ledger.specs.declared.tables.trail.Undo.TheVariants.{Account}
 use Rattle.tb_ledger.specs.Trail.{undo_account, undo_transfer, undo_timeouts, unwound_accounts, unwound_transfers, unwound_timeouts, CanUndo, CanUnwind, IsNoted}
-use Rattle.tb_ledger.specs.declared.exchanging.Passed.{Passed}
+use Rattle.tb_ledger.specs.declared.changes.single.Passed.{Passed}
 use Rattle.tb_ledger.specs.Books.{closing_debit, closing_credit}
 use Rattle.tb_ledger.specs.Kept.{account_row_key, row_now, gained, on_debits, on_credits, accounts_gained}
-use Rattle.tb_ledger.specs.Exchanges.{moved, Exchanges, ExchangesIn, row_at}
+use Rattle.tb_ledger.specs.Exchanges.{as_recorded, Exchanges, ExchangesIn, row_at}
 use Rattle.tb_ledger.specs.Verdicts.{pair_code, balanced_amount}
 use Rattle.tb_ledger.proofs.Settled.{found_still, refound}
+use Rattle.tb_ledger.specs.Tables.{Stored}
 
 -- a row put in its own place changes nothing
 replaced_same : {X : Type 0} (key : X → ℕ) (x : X) (xs : List X) → find (λ y. key y == key x) xs ≡ Some x → replaced key x xs ≡ xs
@@ -29,7 +30,7 @@ pub passed_in : (t : Transfer) (time : ℕ) (accounts later : List AccountRow) (
     → row_at accounts t.debit_account_id ≡ Some d → row_at accounts t.credit_account_id ≡ Some c → Exchanges t time d c r d' c' → later ≡ replaced account_row_key c' (replaced account_row_key d' accounts)
     → ExchangesIn t time accounts r later
 passed_in t time accounts later d c d' c' (Ok x) apart d_is c_is passes wrote =
-    let recorded = moved t x.amount time in
+    let recorded = as_recorded t x.amount time in
     let x_debit : x.debit ≡ d = ap (λ x. x.debit) passes.1 in
     let x_credit : x.credit ≡ c = ap (λ x. x.credit) passes.1 in
     let code : pair_code (Some (row_now x.debit)) (Some (row_now x.credit)) t time ≡ 0 = rw (x_debit, x_credit) passes.0 in
@@ -58,11 +59,11 @@ unwound_transfers_two : (us : List Undo) (d c : AccountRow) (rows : List Transfe
 unwound_transfers_two [] d c rows = refl
 unwound_transfers_two (w ∷ us) d c rows = ap (undo_transfer w) (unwound_transfers_two us d c rows)
 
-unwound_timeouts_two : (us : List Undo) (d c : AccountRow) (ts : List Timeout × ℕ) → unwound_timeouts (us ++ Account d ∷ Account c ∷ []) ts ≡ unwound_timeouts us ts
+unwound_timeouts_two : (us : List Undo) (d c : AccountRow) (ts : Stored Timeout) → unwound_timeouts (us ++ Account d ∷ Account c ∷ []) ts ≡ unwound_timeouts us ts
 unwound_timeouts_two [] d c ts = refl
 unwound_timeouts_two (w ∷ us) d c ts = ap (undo_timeouts w) (unwound_timeouts_two us d c ts)
 
-can_two : (us : List Undo) (d c : AccountRow) (ts : List Timeout × ℕ) → CanUnwind us ts → CanUnwind (us ++ Account d ∷ Account c ∷ []) ts
+can_two : (us : List Undo) (d c : AccountRow) (ts : Stored Timeout) → CanUnwind us ts → CanUnwind (us ++ Account d ∷ Account c ∷ []) ts
 can_two [] d c ts can = (tt, (tt, tt))
 can_two (w ∷ us) d c ts can = (subst (CanUndo w) (sym (unwound_timeouts_two us d c ts)) can.0, can_two us d c ts can.1)
 

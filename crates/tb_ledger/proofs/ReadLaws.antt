@@ -1,10 +1,10 @@
 -- What is read from the rows is read from the books.
-use Rattle.std.proofs.Common.{◌≡◌, ℕ, ◌==◌, Bool, List, find, Option, Some, None, option_map, sym, ap, ◌∙◌}
+use Rattle.std.proofs.Common.{◌≡◌, ℕ, ◌==◌, Bool, List, find, Option, Some, None, option_map, refl, sym, ap, ◌∙◌}
 use Rattle.tb_records.specs.declared.records.Account.{Account}
 use Rattle.tb_records.proofs.ByKey.{find-map, each-find}
-use Rattle.tb_ledger.specs.declared.rows.AccountRow.{AccountRow}
-use Rattle.tb_ledger.specs.declared.rows.TransferRow.{TransferRow}
-use Rattle.tb_ledger.specs.declared.timeouts.Timeout.{Timeout}
+use Rattle.tb_ledger.specs.declared.tables.rows.AccountRow.{AccountRow}
+use Rattle.tb_ledger.specs.declared.tables.rows.TransferRow.{TransferRow}
+use Rattle.tb_ledger.specs.declared.tables.timeouts.Timeout.{Timeout}
 use Rattle.tb_ledger.specs.Books.{Books, account_now, as_it_stands, transfer_at}
 use Rattle.tb_ledger.specs.Kept.{books_of, row_now, HasSums, IsLedger}
 use Rattle.tb_ledger.proofs.Standing.{row_stands}
@@ -21,6 +21,11 @@ module _ (accounts : List AccountRow) (transfers : List TransferRow) (failed : L
   account_unread books id books_is none =
       sym (ap (λ B. account_now B id) (sym books_is)
       ∙ ap (option_map (as_it_stands (books_of accounts transfers failed keeps_failed time))) (find-map (λ a. a.id == id) (λ a. a.created) accounts ∙ ap (option_map (λ a. a.created)) (sym none)))
+
+  -- what is found of an id, as it stands
+  pub account_of : (books : Books) (id : ℕ) (o : Option AccountRow) → books_of accounts transfers failed keeps_failed time ≡ books → o ≡ find (λ a. a.created.id == id) accounts → option_map row_now o ≡ account_now books id
+  account_of books id (Some row) books_is found = account_read books id row (row_now row) books_is found refl
+  account_of books id None books_is none = account_unread books id books_is none
 
 -- the transfer of a row, as it was recorded
 pub transfer_read : (accounts : List AccountRow) (transfers : List TransferRow) (failed : List ℕ) (keeps_failed : Bool) (time : ℕ) (books : Books) (id : ℕ) (o : Option TransferRow) → books_of accounts transfers failed keeps_failed time ≡ books → o ≡ find (λ t. t.recorded.id == id) transfers → option_map (λ t. t.recorded) o ≡ transfer_at books id

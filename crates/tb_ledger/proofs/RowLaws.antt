@@ -2,9 +2,9 @@
 use Rattle.std.proofs.Common.{◌≡◌, ℕ, ◌<◌, Bool, List, [], ◌∷◌, map, refl}
 use Rattle.tb_records.specs.Ordered.{Rising}
 use Rattle.tb_records.proofs.ByKey.{each-through}
-use Rattle.tb_ledger.specs.declared.rows.AccountRow.{AccountRow}
-use Rattle.tb_ledger.specs.declared.rows.TransferRow.{TransferRow}
-use Rattle.tb_ledger.specs.declared.timeouts.Timeout.{Timeout}
+use Rattle.tb_ledger.specs.declared.tables.rows.AccountRow.{AccountRow}
+use Rattle.tb_ledger.specs.declared.tables.rows.TransferRow.{TransferRow}
+use Rattle.tb_ledger.specs.declared.tables.timeouts.Timeout.{Timeout}
 use Rattle.tb_ledger.specs.Kept.{books_of, IsLedger}
 
 pub ledger_back : (accounts accounts' : List AccountRow) (transfers transfers' : List TransferRow) (failed failed' : List ℕ) (keeps keeps' : Bool) (timeouts timeouts' : List Timeout) (time time' : ℕ)

@@ -5,16 +5,16 @@ use Rattle.tb_records.specs.declared.records.Account.{Account}
 use Rattle.tb_records.specs.declared.records.Transfer.{Transfer}
 use Rattle.tb_records.specs.Ordered.{put, replaced, changed, Each, Rising}
 use Rattle.tb_records.proofs.ByKey.{found_key, changed_found, changed_absent, find-changed, found-changed, find-map, each-back, each-map, each-put, each-find, map-put, map-changed, map-replaced}
-use Rattle.tb_ledger.specs.declared.rows.Side.{Side}
-use Rattle.tb_ledger.specs.declared.rows.AccountRow.{AccountRow}
-use Rattle.tb_ledger.specs.declared.rows.TransferRow.{TransferRow}
-use Rattle.tb_ledger.specs.declared.timeouts.Timeout.{Timeout}
-use Rattle.tb_ledger.specs.declared.rows.State.TheVariants.{Posted, Voided}
+use Rattle.tb_ledger.specs.declared.tables.rows.Side.{Side}
+use Rattle.tb_ledger.specs.declared.tables.rows.AccountRow.{AccountRow}
+use Rattle.tb_ledger.specs.declared.tables.rows.TransferRow.{TransferRow}
+use Rattle.tb_ledger.specs.declared.tables.timeouts.Timeout.{Timeout}
+use Rattle.tb_ledger.specs.declared.tables.rows.State.TheVariants.{Posted, Voided}
 use Rattle.tb_ledger.specs.Books.{Books, posts, resolves, holds, is_open, account_at, transfer_at, closing_debit, closing_credit, debit, credit}
 use Rattle.tb_ledger.specs.Verdicts.{int_max}
 use Rattle.tb_ledger.specs.Timeouts.{AreTimeouts}
 use Rattle.tb_ledger.specs.Sound.{account_key, transfer_key, ledger_at, Sound}
-use Rattle.tb_ledger.specs.Kept.{account_row_key, transfer_row_key, books_of, row_holds, dated, listed, unlisted, IsListed, IsIndex, HasSide, HasSums, HasState, IsLedger, on_debits, on_credits, gained, released_and_gained, settled, state_given_by, accounts_gained, accounts_released_and_gained, new_row, new_transfer_row}
+use Rattle.tb_ledger.specs.Kept.{account_row_key, transfer_row_key, books_of, row_holds, times_out, listed, unlisted, IsListed, IsIndex, HasSide, HasSums, HasState, IsLedger, on_debits, on_credits, gained, released_and_gained, settled, state_given_by, accounts_gained, accounts_released_and_gained, new_row, new_transfer_row}
 use Rattle.tb_ledger.proofs.Parts.{held_enough, no_sums}
 use Rattle.tb_ledger.proofs.Index.{index_added, index_closed}
 use Rattle.tb_ledger.proofs.Pairs.{sums_gained, sums_resolved}
@@ -23,23 +23,27 @@ use Rattle.tb_ledger.proofs.Standing.{holds_stand, takes_debit, takes_credit}
 use Rattle.tb_ledger.proofs.SoundLaws.{sound_moved, sound_resolved}
 use Rattle.tb_ledger.proofs.FoundPairs.{FoundPair}
 use Rattle.tb_ledger.specs.Found.{FoundPending}
+use Rattle.tb_ledger.specs.Tables.{Stored}
 
 -- what is found by an id is found by its key
 pub refound : {X : Type 0} (key : X → ℕ) (id : ℕ) (x : X) (xs : List X) → find (λ y. key y == id) xs ≡ Some x → find (λ y. key y == key x) xs ≡ Some x
 refound key id x xs found = subst (λ k. find (λ y. key y == k) xs ≡ Some x) (sym (found_key key id x xs found)) found
 
 module _ (id : ℕ) (f : Side → Side) (accounts : List AccountRow) (spare : ℕ) where
-  pub wrote_debits : (old : AccountRow) (s : Side) (later : List AccountRow × ℕ) → find (λ a. a.created.id == id) accounts ≡ Some old → s ≡ f old.debits → later ≡ (replaced account_row_key (record old { debits = s }) accounts, spare) → later ≡ (changed account_row_key id (on_debits f) accounts, spare)
-  wrote_debits old s later found is wrote = wrote ∙ ap (λ s. (replaced account_row_key (record old { debits = s }) accounts, spare)) is ∙ ap (λ rows. (rows, spare)) (sym (changed_found account_row_key id (on_debits f) old accounts (λ y. refl) found))
+  abbrev with_room : List AccountRow → Stored AccountRow
+  with_room rows = record { items = rows; spare = spare }
 
-  pub wrote_credits : (old : AccountRow) (s : Side) (later : List AccountRow × ℕ) → find (λ a. a.created.id == id) accounts ≡ Some old → s ≡ f old.credits → later ≡ (replaced account_row_key (record old { credits = s }) accounts, spare) → later ≡ (changed account_row_key id (on_credits f) accounts, spare)
-  wrote_credits old s later found is wrote = wrote ∙ ap (λ s. (replaced account_row_key (record old { credits = s }) accounts, spare)) is ∙ ap (λ rows. (rows, spare)) (sym (changed_found account_row_key id (on_credits f) old accounts (λ y. refl) found))
+  pub wrote_debits : (old : AccountRow) (s : Side) (later : Stored AccountRow) → find (λ a. a.created.id == id) accounts ≡ Some old → s ≡ f old.debits → later ≡ with_room (replaced account_row_key (record old { debits = s }) accounts) → later ≡ with_room (changed account_row_key id (on_debits f) accounts)
+  wrote_debits old s later found is wrote = wrote ∙ ap (λ s. with_room (replaced account_row_key (record old { debits = s }) accounts)) is ∙ ap with_room (sym (changed_found account_row_key id (on_debits f) old accounts (λ y. refl) found))
 
-pub none_debits : (id : ℕ) (f : Side → Side) (table : List AccountRow × ℕ) → find (λ a. a.created.id == id) table.0 ≡ None → table ≡ (changed account_row_key id (on_debits f) table.0, table.1)
-none_debits id f table none = let wrap : List AccountRow → List AccountRow × ℕ = λ rows. (rows, table.1) in ap wrap (sym (changed_absent account_row_key id (on_debits f) table.0 none))
+  pub wrote_credits : (old : AccountRow) (s : Side) (later : Stored AccountRow) → find (λ a. a.created.id == id) accounts ≡ Some old → s ≡ f old.credits → later ≡ with_room (replaced account_row_key (record old { credits = s }) accounts) → later ≡ with_room (changed account_row_key id (on_credits f) accounts)
+  wrote_credits old s later found is wrote = wrote ∙ ap (λ s. with_room (replaced account_row_key (record old { credits = s }) accounts)) is ∙ ap with_room (sym (changed_found account_row_key id (on_credits f) old accounts (λ y. refl) found))
 
-pub none_credits : (id : ℕ) (f : Side → Side) (table : List AccountRow × ℕ) → find (λ a. a.created.id == id) table.0 ≡ None → table ≡ (changed account_row_key id (on_credits f) table.0, table.1)
-none_credits id f table none = let wrap : List AccountRow → List AccountRow × ℕ = λ rows. (rows, table.1) in ap wrap (sym (changed_absent account_row_key id (on_credits f) table.0 none))
+pub none_debits : (id : ℕ) (f : Side → Side) (table : Stored AccountRow) → find (λ a. a.created.id == id) table.items ≡ None → table ≡ record table { items = changed account_row_key id (on_debits f) table.items }
+none_debits id f table none = let wrap : List AccountRow → Stored AccountRow = λ rows. record table { items = rows } in ap wrap (sym (changed_absent account_row_key id (on_debits f) table.items none))
+
+pub none_credits : (id : ℕ) (f : Side → Side) (table : Stored AccountRow) → find (λ a. a.created.id == id) table.items ≡ None → table ≡ record table { items = changed account_row_key id (on_credits f) table.items }
+none_credits id f table none = let wrap : List AccountRow → Stored AccountRow = λ rows. record table { items = rows } in ap wrap (sym (changed_absent account_row_key id (on_credits f) table.items none))
 
 -- a change of debits leaves credits
 pub credits_before : (d : ℕ) (f : Side → Side) (c : ℕ) (z : AccountRow) (xs : List AccountRow) → find (λ a. a.created.id == c) (changed account_row_key d (on_debits f) xs) ≡ Some z → (y : AccountRow) × (find (λ a. a.created.id == c) xs ≡ Some y) × (z.credits ≡ y.credits)
@@ -60,9 +64,9 @@ found_still d c f z xs same apart found =
     find-changed account_row_key d f c xs same ∙ left
 
 -- two changes, one after the other
-pub both_changed : (d c : ℕ) (f h : AccountRow → AccountRow) (before between after : List AccountRow × ℕ) → between ≡ (changed account_row_key d f before.0, before.1) → after ≡ (changed account_row_key c h between.0, between.1) → (after.0 ≡ changed account_row_key c h (changed account_row_key d f before.0)) × (after.1 ≡ before.1)
+pub both_changed : (d c : ℕ) (f h : AccountRow → AccountRow) (before between after : Stored AccountRow) → between ≡ record before { items = changed account_row_key d f before.items } → after ≡ record between { items = changed account_row_key c h between.items } → (after.items ≡ changed account_row_key c h (changed account_row_key d f before.items)) × (after.spare ≡ before.spare)
 both_changed d c f h before between after first second =
-    (ap (λ v. v.0) second ∙ ap (λ v. changed account_row_key c h v.0) first, ap (λ v. v.1) second ∙ ap (λ v. v.1) first)
+    (ap (λ v. v.items) second ∙ ap (λ v. changed account_row_key c h v.items) first, ap (λ v. v.spare) second ∙ ap (λ v. v.spare) first)
 
 -- the order of accounts, by their rows
 pub rising_rows : (accounts : List AccountRow) → Rising account_key (map (λ a. a.created) accounts) → Rising account_row_key accounts
@@ -176,18 +180,18 @@ module _ (accounts : List AccountRow) (transfers : List TransferRow) (failed : L
         (ap (find (λ t. transfer_key t == r.id)) (map-replaced transfer_row_key (λ t. t.recorded) (settled (state_given_by r) p) p transfers by_key refl) ∙ fresh)
 
     -- its timeout leaves the index
-    pub listed_before : dated p ≡ true → IsListed timeouts p
-    listed_before = each-find (λ t. dated t ≡ true → IsListed timeouts t) (λ q. q.recorded.id == r.pending_id) p transfers ledger.index.all_listed found
+    pub listed_before : times_out p ≡ true → IsListed timeouts p
+    listed_before = each-find (λ t. times_out t ≡ true → IsListed timeouts t) (λ q. q.recorded.id == r.pending_id) p transfers ledger.index.all_listed found
 
-    pub not_dated : dated (new_transfer_row r) ≡ false
-    not_dated = let single = resolves_p.not_pending in rw single refl
+    pub not_timed : times_out (new_transfer_row r) ≡ false
+    not_timed = let single = resolves_p.not_pending in rw single refl
 
     -- a post or void brings none
     pub index_with_resolver : (room : ℕ) → transfer_at B r.id ≡ None → Rising transfer_row_key transfers → AreTimeouts timeouts
-        → IsIndex (put transfer_row_key (new_transfer_row r) (replaced transfer_row_key (settled (state_given_by r) p) transfers)) (listed (new_transfer_row r) (unlisted p (timeouts, room))).0
+        → IsIndex (put transfer_row_key (new_transfer_row r) (replaced transfer_row_key (settled (state_given_by r) p) transfers)) (listed (new_transfer_row r) (unlisted p (record { items = timeouts; spare = room }))).items
     index_with_resolver room fresh rising ordered =
-        index_added (replaced transfer_row_key (settled (state_given_by r) p) transfers) (unlisted p (timeouts, room)) (index_closed transfers (timeouts, room) ledger.index p (state_given_by r) by_key over rising ordered)
-        (new_transfer_row r) (fresh_still fresh) (λ is. absurd (let never = not_dated in cc))
+        index_added (replaced transfer_row_key (settled (state_given_by r) p) transfers) (unlisted p (record { items = timeouts; spare = room })) (index_closed transfers (record { items = timeouts; spare = room }) ledger.index p (state_given_by r) by_key over rising ordered)
+        (new_transfer_row r) (fresh_still fresh) (λ is. absurd (let never = not_timed in cc))
 
     module _ (later : List AccountRow) (more : List TransferRow) (is : later ≡ accounts_released_and_gained p.recorded r accounts) (added : more ≡ put transfer_row_key (new_transfer_row r) (replaced transfer_row_key (settled (state_given_by r) p) transfers)) where
       pub books_with_resolver : books_of later more failed keeps_failed time ≡ record B { transfers = put transfer_key r B.transfers }

@@ -12,7 +12,7 @@ use Rattle.tb_ledger.specs.Verdicts.{account_verdict, recorded_account, transfer
 use Rattle.tb_ledger.specs.Batches.{account_events, transfer_events, is_final, batch_after}
 use Rattle.tb_ledger.specs.Sound.{account_key, transfer_key, ledger_at, Sound}
 use Rattle.tb_ledger.specs.Limits.{KeepsLimits, Balances}
-use Rattle.tb_ledger.proofs.Accepted.{flag_stays, new_account, found_pair, found_pending}
+use Rattle.tb_ledger.proofs.Accepted.{flag_stays, new_account, found_pair, found_pending, found_stamped}
 use Rattle.tb_ledger.proofs.Sides.{kept_later, kept_account, kept_added, kept_resolved}
 use Rattle.tb_ledger.proofs.BatchLaws.{batch_kept}
 use Rattle.tb_ledger.proofs.LedgerSums.{ledgers_balance}
@@ -95,20 +95,6 @@ filled_flags B t = by (resolves t) (transfer_at B t.pending_id)
     by true (Some p) = refl
     by false o = refl
 
--- a stamp changes nothing of what a post or void finds
-resolves_stamped : (B : Books) (f : Transfer) (time : ℕ) → FoundPending B f → FoundPending B (record f { timestamp = time })
-resolves_stamped B f time r = record {
-  p = r.p;
-  named = r.named;
-  held = r.held;
-  not_pending = r.not_pending;
-  not_both = r.not_both;
-  debit_same = r.debit_same;
-  credit_same = r.credit_same;
-  ledger_same = r.ledger_same;
-  at_most = r.at_most;
-}
-
 -- an accepted transfer
 pub sound_transfer : (B : Books) (t : Transfer) (time : ℕ) → Sound B → transfer_verdict B t time ≡ 0 → Sound (record B { transfers = put transfer_key (recorded_transfer B t time) B.transfers })
 sound_transfer B t time sound ok = by (resolves t) refl
@@ -116,7 +102,7 @@ sound_transfer B t time sound ok = by (resolves t) refl
     by : (b : Bool) → resolves t ≡ b → Sound (record B { transfers = put transfer_key (if b then record (filled B t) { timestamp = time } else record t { amount = balanced_between (account_now B t.debit_account_id) (account_now B t.credit_account_id) t; timestamp = time }) B.transfers })
     by true is =
         let f : resolves (filled B t) ≡ true = ap (λ flags. resolves (record t { flags = flags })) (filled_flags B t) ∙ is in
-        sound_resolved B (record (filled B t) { timestamp = time }) sound f (resolves_stamped B (filled B t) time (found_pending B t time is ok))
+        sound_resolved B (record (filled B t) { timestamp = time }) sound f (found_stamped B (filled B t) time (found_pending B t time is ok))
     by false is = sound_moved B (record t { amount = balanced_between (account_now B t.debit_account_id) (account_now B t.credit_account_id) t; timestamp = time }) sound (found_pair B t time is ok)
 
 -- what a refused transfer leaves

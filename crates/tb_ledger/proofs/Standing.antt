@@ -5,8 +5,8 @@ use Rattle.std.proofs.lemmas.List.Sums.{sum_by-cons}
 use Rattle.tb_records.specs.declared.records.Transfer.{Transfer}
 use Rattle.tb_records.specs.Ordered.{Each}
 use Rattle.tb_records.proofs.ByKey.{sum_by-same, sum_by-through, find-map, found_key, each-map, each-find}
-use Rattle.tb_ledger.specs.declared.rows.AccountRow.{AccountRow}
-use Rattle.tb_ledger.specs.declared.rows.TransferRow.{TransferRow}
+use Rattle.tb_ledger.specs.declared.tables.rows.AccountRow.{AccountRow}
+use Rattle.tb_ledger.specs.declared.tables.rows.TransferRow.{TransferRow}
 use Rattle.tb_ledger.specs.Books.{Books, closed, pending, moves, is_open, holds, state_of, closing_debit, closing_credit, stands_closed, as_it_stands, account_at, account_now, debit, credit, pending_on, posted_on}
 use Rattle.tb_ledger.specs.Kept.{account_row_key, books_of, row_closed, row_now, row_holds, bit, pending_share, posted_share, closing_share, HasSums, HasState, Takes}
 use Rattle.tb_ledger.proofs.FoundPairs.{FoundPair}
@@ -59,8 +59,8 @@ module _ (accounts : List AccountRow) (transfers : List TransferRow) (failed : L
     pub posted_stands : (side : Transfer → ℕ) (id : ℕ) → sum_by (posted_share side id) transfers ≡ posted_on side B id
     posted_stands side id = sym (sum_by-through (λ t. if (side t == id) && moves t then t.amount else 0) (λ t. t.recorded) transfers)
 
-    pub shut_stands : (side : Transfer → ℕ) (closes : Transfer → Bool) (id : ℕ) (b : Bool) → bit b ≡ sum_by (closing_share side closes id) transfers → b ≡ list_any (λ t. holds B t && closes t && (side t == id)) (map (λ t. t.recorded) transfers)
-    shut_stands side closes id b is =
+    pub held_closed_stands : (side : Transfer → ℕ) (closes : Transfer → Bool) (id : ℕ) (b : Bool) → bit b ≡ sum_by (closing_share side closes id) transfers → b ≡ list_any (λ t. holds B t && closes t && (side t == id)) (map (λ t. t.recorded) transfers)
+    held_closed_stands side closes id b is =
         any_of (λ t. (side t.recorded == id) && (row_holds t && closes t.recorded)) transfers b is
         ∙ any_through (λ t. (side t.recorded == id) && (row_holds t && closes t.recorded)) (λ t. holds B t && closes t && (side t == id)) (λ t. t.recorded) transfers
         (each-map (λ t. row_holds t ≡ holds B t.recorded) (λ t. ((side t.recorded == id) && (row_holds t && closes t.recorded)) ≡ (holds B t.recorded && closes t.recorded && (side t.recorded == id))) transfers
@@ -82,7 +82,7 @@ module _ (accounts : List AccountRow) (transfers : List TransferRow) (failed : L
       account_there = find-map (λ a. eqb a.id id) (λ a. a.created) accounts ∙ ap (option_map (λ a. a.created)) found
 
       pub closed_stands : row_closed a ≡ stands_closed B a.created
-      closed_stands = rw (shut_stands debit closing_debit a.created.id a.debits.shut has.debits.shut, shut_stands credit closing_credit a.created.id a.credits.shut has.credits.shut) refl
+      closed_stands = rw (held_closed_stands debit closing_debit a.created.id a.debits.held_closed has.debits.held_closed, held_closed_stands credit closing_credit a.created.id a.credits.held_closed has.credits.held_closed) refl
 
       -- the account as it stands
       pub row_stands : account_now B id ≡ Some (row_now a)
@@ -101,7 +101,7 @@ module _ (accounts : List AccountRow) (transfers : List TransferRow) (failed : L
           let posted = has.debits.posted ∙ posted_stands debit a.created.id ∙ ap (posted_on debit B) same in
           let it : moves_t.d ≡ a.created = let e : Some moves_t.d ≡ Some a.created = sym moves_t.debit_is ∙ account_there t.debit_account_id a has found in cc in
           let open_still = closed_stands t.debit_account_id a has found ∙ ap (stands_closed B) (sym it) ∙ moves_t.debit_open in
-          (omega (arith, held, posted, moves_t.debits_fit), λ _. (neither (closed a.created) a.debits.shut a.credits.shut open_still).0)
+          (omega (arith, held, posted, moves_t.debits_fit), λ _. (neither (closed a.created) a.debits.held_closed a.credits.held_closed open_still).0)
 
       pub takes_credit : (a : AccountRow) → find (λ a. a.created.id == t.credit_account_id) accounts ≡ Some a → Takes closing_credit t a.credits
       takes_credit a found =
@@ -111,4 +111,4 @@ module _ (accounts : List AccountRow) (transfers : List TransferRow) (failed : L
           let posted = has.credits.posted ∙ posted_stands credit a.created.id ∙ ap (posted_on credit B) same in
           let it : moves_t.c ≡ a.created = let e : Some moves_t.c ≡ Some a.created = sym moves_t.credit_is ∙ account_there t.credit_account_id a has found in cc in
           let open_still = closed_stands t.credit_account_id a has found ∙ ap (stands_closed B) (sym it) ∙ moves_t.credit_open in
-          (omega (arith, held, posted, moves_t.credits_fit), λ _. (neither (closed a.created) a.debits.shut a.credits.shut open_still).1)
+          (omega (arith, held, posted, moves_t.credits_fit), λ _. (neither (closed a.created) a.debits.held_closed a.credits.held_closed open_still).1)

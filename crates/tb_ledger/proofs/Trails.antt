@@ -2,13 +2,14 @@
 use Rattle.std.proofs.Common.{◌≡◌, ◌==◌, ℕ, List, [], ◌∷◌, ◌++◌, find, Some, None, refl, sym, subst, ap, ◌∙◌}
 use Rattle.tb_records.specs.Ordered.{put, replaced, taken_out}
 use Rattle.tb_records.proofs.ByKey.{replaced-replaced, taken_out-put}
-use Rattle.tb_ledger.specs.declared.rows.AccountRow.{AccountRow}
-use Rattle.tb_ledger.specs.declared.rows.TransferRow.{TransferRow}
-use Rattle.tb_ledger.specs.declared.timeouts.Timeout.{Timeout}
-use Rattle.tb_ledger.specs.declared.undo.Undo.{Undo}
-use Rattle.tb_ledger.specs.declared.undo.Undo.TheVariants.{Account, Transfer, AddedAccount, AddedTransfer}
+use Rattle.tb_ledger.specs.declared.tables.rows.AccountRow.{AccountRow}
+use Rattle.tb_ledger.specs.declared.tables.rows.TransferRow.{TransferRow}
+use Rattle.tb_ledger.specs.declared.tables.timeouts.Timeout.{Timeout}
+use Rattle.tb_ledger.specs.declared.tables.trail.Undo.{Undo}
+use Rattle.tb_ledger.specs.declared.tables.trail.Undo.TheVariants.{Account, Transfer, AddedAccount, AddedTransfer}
 use Rattle.tb_ledger.specs.Kept.{account_row_key, transfer_row_key}
 use Rattle.tb_ledger.specs.Trail.{undo_account, undo_transfer, undo_timeouts, unwound_accounts, unwound_transfers, unwound_timeouts, CanUndo, CanUnwind}
+use Rattle.tb_ledger.specs.Tables.{Stored}
 
 pub unwound_accounts_push : (us : List Undo) (u : Undo) (rows : List AccountRow) → unwound_accounts (us ++ u ∷ []) rows ≡ unwound_accounts us (undo_account u rows)
 unwound_accounts_push [] u rows = refl
@@ -18,15 +19,15 @@ pub unwound_transfers_push : (us : List Undo) (u : Undo) (rows : List TransferRo
 unwound_transfers_push [] u rows = refl
 unwound_transfers_push (v ∷ us) u rows = ap (undo_transfer v) (unwound_transfers_push us u rows)
 
-pub unwound_timeouts_push : (us : List Undo) (u : Undo) (ts : List Timeout × ℕ) → unwound_timeouts (us ++ u ∷ []) ts ≡ unwound_timeouts us (undo_timeouts u ts)
+pub unwound_timeouts_push : (us : List Undo) (u : Undo) (ts : Stored Timeout) → unwound_timeouts (us ++ u ∷ []) ts ≡ unwound_timeouts us (undo_timeouts u ts)
 unwound_timeouts_push [] u ts = refl
 unwound_timeouts_push (v ∷ us) u ts = ap (undo_timeouts v) (unwound_timeouts_push us u ts)
 
-can_push : (us : List Undo) (u : Undo) (ts : List Timeout × ℕ) → CanUndo u ts → CanUnwind us (undo_timeouts u ts) → CanUnwind (us ++ u ∷ []) ts
+can_push : (us : List Undo) (u : Undo) (ts : Stored Timeout) → CanUndo u ts → CanUnwind us (undo_timeouts u ts) → CanUnwind (us ++ u ∷ []) ts
 can_push [] u ts can rest = (can, tt)
 can_push (v ∷ us) u ts can rest = (subst (CanUndo v) (sym (unwound_timeouts_push us u ts)) rest.0, can_push us u ts can rest.1)
 
-can_pop : (us : List Undo) (u : Undo) (ts : List Timeout × ℕ) → CanUnwind (us ++ u ∷ []) ts → CanUndo u ts × CanUnwind us (undo_timeouts u ts)
+can_pop : (us : List Undo) (u : Undo) (ts : Stored Timeout) → CanUnwind (us ++ u ∷ []) ts → CanUndo u ts × CanUnwind us (undo_timeouts u ts)
 can_pop [] u ts can = (can.0, tt)
 can_pop (v ∷ us) u ts can = let rest = can_pop us u ts can.1 in (rest.0, (subst (CanUndo v) (unwound_timeouts_push us u ts) can.0, rest.1))
 
@@ -37,17 +38,17 @@ popped_accounts us more u rows is = sym (ap (λ vs. unwound_accounts vs rows) is
 pub popped_transfers : (us more : List Undo) (u : Undo) (rows : List TransferRow) → more ≡ us ++ u ∷ [] → unwound_transfers us (undo_transfer u rows) ≡ unwound_transfers more rows
 popped_transfers us more u rows is = sym (ap (λ vs. unwound_transfers vs rows) is ∙ unwound_transfers_push us u rows)
 
-pub popped_timeouts : (us more : List Undo) (u : Undo) (ts : List Timeout × ℕ) → more ≡ us ++ u ∷ [] → unwound_timeouts us (undo_timeouts u ts) ≡ unwound_timeouts more ts
+pub popped_timeouts : (us more : List Undo) (u : Undo) (ts : Stored Timeout) → more ≡ us ++ u ∷ [] → unwound_timeouts us (undo_timeouts u ts) ≡ unwound_timeouts more ts
 popped_timeouts us more u ts is = sym (ap (λ vs. unwound_timeouts vs ts) is ∙ unwound_timeouts_push us u ts)
 
-pub popped_can : (us more : List Undo) (u : Undo) (ts : List Timeout × ℕ) → more ≡ us ++ u ∷ [] → CanUnwind more ts → CanUndo u ts × CanUnwind us (undo_timeouts u ts)
+pub popped_can : (us more : List Undo) (u : Undo) (ts : Stored Timeout) → more ≡ us ++ u ∷ [] → CanUnwind more ts → CanUndo u ts × CanUnwind us (undo_timeouts u ts)
 popped_can us more u ts is can = can_pop us u ts (subst (λ vs. CanUnwind vs ts) is can)
 
 -- a step of the timeouts, and its undoing
-pub undone_timeouts : (us more : List Undo) (u : Undo) (ts moved : List Timeout × ℕ) → more ≡ us ++ u ∷ [] → undo_timeouts u moved ≡ ts → unwound_timeouts more moved ≡ unwound_timeouts us ts
+pub undone_timeouts : (us more : List Undo) (u : Undo) (ts moved : Stored Timeout) → more ≡ us ++ u ∷ [] → undo_timeouts u moved ≡ ts → unwound_timeouts more moved ≡ unwound_timeouts us ts
 undone_timeouts us more u ts moved pushed back = ap (λ vs. unwound_timeouts vs moved) pushed ∙ unwound_timeouts_push us u moved ∙ ap (unwound_timeouts us) back
 
-pub can_undone : (us more : List Undo) (u : Undo) (ts moved : List Timeout × ℕ) → more ≡ us ++ u ∷ [] → undo_timeouts u moved ≡ ts → CanUndo u moved → CanUnwind us ts → CanUnwind more moved
+pub can_undone : (us more : List Undo) (u : Undo) (ts moved : Stored Timeout) → more ≡ us ++ u ∷ [] → undo_timeouts u moved ≡ ts → CanUndo u moved → CanUnwind us ts → CanUnwind more moved
 can_undone us more u ts moved pushed back can rest = subst (λ vs. CanUnwind vs moved) (sym pushed) (can_push us u moved can (subst (CanUnwind us) (sym back) rest))
 
 -- a row changed, and put back

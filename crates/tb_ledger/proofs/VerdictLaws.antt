@@ -7,15 +7,15 @@ use Rattle.tb_records.specs.declared.records.Account.{Account}
 use Rattle.tb_records.specs.declared.records.Transfer.{Transfer}
 use Rattle.tb_ledger.specs.Books.{Books, has, closed, resolves, pending, transfer_at, account_now, as_it_stands, state_of, debit, credit}
 use Rattle.tb_ledger.specs.Verdicts.{recorded_transfer, Line, closed_lines, closed_at, named_lines, named_code, resolve_own_lines, resolve_code, transfer_verdict, first_of, first_code, account_own_lines, account_exists_lines, account_new_lines, account_verdict, transfer_own_lines, transfer_exists_lines, failed_lines, filled, filled_from, single_own_lines, pair_lines, amount_lines, balanced_amount, balanced_between, single_code, pair_code, id_code, closed_lines}
-use Rattle.tb_ledger.specs.declared.rows.Rows.{Rows}
+use Rattle.tb_ledger.specs.declared.tables.rows.Rows.{Rows}
 use Rattle.tb_ledger.specs.Kept.{books_in, IsKept, row_now, row_closed, HasSums, HasState}
 use Rattle.tb_records.proofs.ByKey.{find-map, each-find}
-use Rattle.tb_ledger.specs.declared.rows.AccountRow.{AccountRow}
+use Rattle.tb_ledger.specs.declared.tables.rows.AccountRow.{AccountRow}
 use Rattle.tb_ledger.proofs.Standing.{row_stands}
 use Rattle.std.proofs.lemmas.Nat.{and_or_self}
-use Rattle.tb_ledger.specs.declared.rows.State.{State}
-use Rattle.tb_ledger.specs.declared.rows.TransferRow.{TransferRow}
-use Rattle.tb_ledger.proofs.Accepted.{fail, found_pair, found_pending, filled_found}
+use Rattle.tb_ledger.specs.declared.tables.rows.State.{State}
+use Rattle.tb_ledger.specs.declared.tables.rows.TransferRow.{TransferRow}
+use Rattle.tb_ledger.proofs.Accepted.{fail, found_pair, found_pending, found_stamped}
 use Rattle.tb_records.specs.Ordered.{Each}
 use Rattle.tb_ledger.specs.Sound.{ledger_at}
 use Rattle.tb_ledger.proofs.FoundPairs.{FoundPair}
@@ -34,9 +34,6 @@ some-copied (Some x) = refl
 pub only : (z : ℕ) → (if z == 0 then 0 else z) ≡ z
 only zero = refl
 only (suc n) = let e : (suc n == 0) ≡ false = grind (arith, nat_tests) in rw e refl
-
-pub last_code : (z : ℕ) → first_code (z ∷ []) ≡ z
-last_code z = only z
 
 second_code : (x y z : ℕ) → x ≡ 0 → (y ≡ 0 → ⊥) → first_code (x ∷ y ∷ z ∷ []) ≡ y
 second_code x y z none refused = let e : (y == 0) ≡ false = grind (arith, nat_tests) in rw (none, e) refl
@@ -85,15 +82,15 @@ pub balanced_found : (B : Books) (t : Transfer) (d c : Account) → account_now 
 balanced_found B t d c d_is c_is = rw (d_is, c_is) refl
 
 -- what is found in the rows is what is found in the books
-pub transfer_stands : {A : Type 0} (rows : Rows A) (id : ℕ) → transfer_at (books_in rows) id ≡ option_map (λ t. t.recorded) (find (λ t. t.recorded.id == id) rows.transfers.0)
-transfer_stands rows id = find-map (λ t. t.id == id) (λ t. t.recorded) rows.transfers.0
+pub transfer_stands : {A : Type 0} (rows : Rows A) (id : ℕ) → transfer_at (books_in rows) id ≡ option_map (λ t. t.recorded) (find (λ t. t.recorded.id == id) rows.transfers.items)
+transfer_stands rows id = find-map (λ t. t.id == id) (λ t. t.recorded) rows.transfers.items
 
-pub account_stands : {A : Type 0} (rows : Rows A) → IsKept rows → (id : ℕ) → account_now (books_in rows) id ≡ option_map row_now (find (λ a. a.created.id == id) rows.accounts.0)
-account_stands rows kept id = by (find (λ a. a.created.id == id) rows.accounts.0) refl
+pub account_stands : {A : Type 0} (rows : Rows A) → IsKept rows → (id : ℕ) → account_now (books_in rows) id ≡ option_map row_now (find (λ a. a.created.id == id) rows.accounts.items)
+account_stands rows kept id = by (find (λ a. a.created.id == id) rows.accounts.items) refl
   where
-    by : (o : Option AccountRow) → find (λ a. a.created.id == id) rows.accounts.0 ≡ o → account_now (books_in rows) id ≡ option_map row_now o
-    by None e = ap (option_map (as_it_stands (books_in rows))) (find-map (λ a. a.id == id) (λ a. a.created) rows.accounts.0 ∙ ap (option_map (λ a. a.created)) e)
-    by (Some a) e = row_stands rows.accounts.0 rows.transfers.0 rows.failed.0 rows.keeps_failed rows.time kept.kept.states id a (each-find (HasSums rows.transfers.0) (λ a. a.created.id == id) a rows.accounts.0 kept.kept.sums e) e
+    by : (o : Option AccountRow) → find (λ a. a.created.id == id) rows.accounts.items ≡ o → account_now (books_in rows) id ≡ option_map row_now o
+    by None e = ap (option_map (as_it_stands (books_in rows))) (find-map (λ a. a.id == id) (λ a. a.created) rows.accounts.items ∙ ap (option_map (λ a. a.created)) e)
+    by (Some a) e = row_stands rows.accounts.items rows.transfers.items rows.failed.items rows.keeps_failed rows.time kept.kept.states id a (each-find (HasSums rows.transfers.items) (λ a. a.created.id == id) a rows.accounts.items kept.kept.sums e) e
 
 -- an account as it stands is closed as its row is
 flag_stands : (a : AccountRow) → closed (row_now a) ≡ row_closed a
@@ -105,17 +102,17 @@ flag_stands a = by (row_closed a) refl
 
     by : (b : Bool) → row_closed a ≡ b → has 32 (if b then bit_or a.created.flags 32 else a.created.flags) ≡ b
     by true e = ap (λ n. not (n == 0)) (and_or_self 32 a.created.flags)
-    by false e = created (closed a.created) a.debits.shut a.credits.shut e
+    by false e = created (closed a.created) a.debits.held_closed a.credits.held_closed e
 
-closed_stands_at : {A : Type 0} (rows : Rows A) → IsKept rows → (id : ℕ) → closed_at (books_in rows) id ≡ option_map_or row_closed (find (λ a. a.created.id == id) rows.accounts.0) false
-closed_stands_at rows kept id = ap (λ o. option_map_or closed o false) (account_stands rows kept id) ∙ by (find (λ a. a.created.id == id) rows.accounts.0)
+closed_stands_at : {A : Type 0} (rows : Rows A) → IsKept rows → (id : ℕ) → closed_at (books_in rows) id ≡ option_map_or row_closed (find (λ a. a.created.id == id) rows.accounts.items) false
+closed_stands_at rows kept id = ap (λ o. option_map_or closed o false) (account_stands rows kept id) ∙ by (find (λ a. a.created.id == id) rows.accounts.items)
   where
     by : (o : Option AccountRow) → option_map_or closed (option_map row_now o) false ≡ option_map_or row_closed o false
     by None = refl
     by (Some a) = flag_stands a
 
 -- whether both accounts of a pending transfer are closed, by their rows
-pub closed_by_rows : {A : Type 0} (rows : Rows A) → IsKept rows → (t p : Transfer) (d c : AccountRow) → find (λ a. a.created.id == p.debit_account_id) rows.accounts.0 ≡ Some d → find (λ a. a.created.id == p.credit_account_id) rows.accounts.0 ≡ Some c
+pub closed_by_rows : {A : Type 0} (rows : Rows A) → IsKept rows → (t p : Transfer) (d c : AccountRow) → find (λ a. a.created.id == p.debit_account_id) rows.accounts.items ≡ Some d → find (λ a. a.created.id == p.credit_account_id) rows.accounts.items ≡ Some c
     → (code : ℕ) → code ≡ first_of (closed_lines t (row_closed d) (row_closed c)) → code ≡ first_of (closed_lines t (closed_at (books_in rows) p.debit_account_id) (closed_at (books_in rows) p.credit_account_id))
 closed_by_rows rows kept t p d c d_is c_is code is =
     let debit = closed_stands_at rows kept p.debit_account_id ∙ ap (λ o. option_map_or row_closed o false) d_is in
@@ -128,22 +125,22 @@ some_from g y None is = absurd (cc)
 some_from g y (Some x) is = refl
 
 named_there : {A : Type 0} (rows : Rows A) (side : Transfer → ℕ) → Each (λ t. ledger_at (books_in rows).accounts (side t) ≡ Some t.ledger) (books_in rows).transfers
-    → (id : ℕ) (p : TransferRow) → find (λ row. row.recorded.id == id) rows.transfers.0 ≡ Some p → IsSome (find (λ a. a.created.id == side p.recorded) rows.accounts.0)
+    → (id : ℕ) (p : TransferRow) → find (λ row. row.recorded.id == id) rows.transfers.items ≡ Some p → IsSome (find (λ a. a.created.id == side p.recorded) rows.accounts.items)
 named_there rows side named id p found =
     let recorded = transfer_stands rows id ∙ ap (option_map (λ t. t.recorded)) found in
     let ledger = each-find (λ t. ledger_at (books_in rows).accounts (side t) ≡ Some t.ledger) (λ t. t.id == id) p.recorded (books_in rows).transfers named recorded in
     let there = some_from (λ a. a.ledger) p.recorded.ledger (find (λ a. a.id == side p.recorded) (books_in rows).accounts) ledger in
-    let row = subst IsSome (find-map (λ a. a.id == side p.recorded) (λ a. a.created) rows.accounts.0) there in
-    unmapped (find (λ a. a.created.id == side p.recorded) rows.accounts.0) row
+    let row = subst IsSome (find-map (λ a. a.id == side p.recorded) (λ a. a.created) rows.accounts.items) there in
+    unmapped (find (λ a. a.created.id == side p.recorded) rows.accounts.items) row
   where
     unmapped : (o : Option AccountRow) → IsSome (option_map (λ a. a.created) o) → IsSome o
     unmapped None is = is
     unmapped (Some a) is = refl
 
-pub debit_there : {A : Type 0} (rows : Rows A) → IsKept rows → (id : ℕ) (p : TransferRow) → find (λ row. row.recorded.id == id) rows.transfers.0 ≡ Some p → IsSome (find (λ a. a.created.id == p.recorded.debit_account_id) rows.accounts.0)
+pub debit_there : {A : Type 0} (rows : Rows A) → IsKept rows → (id : ℕ) (p : TransferRow) → find (λ row. row.recorded.id == id) rows.transfers.items ≡ Some p → IsSome (find (λ a. a.created.id == p.recorded.debit_account_id) rows.accounts.items)
 debit_there rows kept id p found = named_there rows debit kept.sound.debits.named id p found
 
-pub credit_there : {A : Type 0} (rows : Rows A) → IsKept rows → (id : ℕ) (p : TransferRow) → find (λ row. row.recorded.id == id) rows.transfers.0 ≡ Some p → IsSome (find (λ a. a.created.id == p.recorded.credit_account_id) rows.accounts.0)
+pub credit_there : {A : Type 0} (rows : Rows A) → IsKept rows → (id : ℕ) (p : TransferRow) → find (λ row. row.recorded.id == id) rows.transfers.items ≡ Some p → IsSome (find (λ a. a.created.id == p.recorded.credit_account_id) rows.accounts.items)
 credit_there rows kept id p found = named_there rows credit kept.sound.credits.named id p found
 
 -- lines behind the first
@@ -160,14 +157,14 @@ named_same t p s s' same = by (pending p) same
     by false same = refl
 
 -- a post or void and the row that it names
-pub named_row : {A : Type 0} (rows : Rows A) → IsKept rows → (id : ℕ) (p : TransferRow) → find (λ row. row.recorded.id == id) rows.transfers.0 ≡ Some p → (t : Transfer) (named shut : ℕ)
-    → named ≡ first_of (named_lines t p.recorded p.state) → shut ≡ first_of (closed_lines t (closed_at (books_in rows) p.recorded.debit_account_id) (closed_at (books_in rows) p.recorded.credit_account_id))
-    → named_code (books_in rows) t (Some p.recorded) ≡ first_code (named ∷ shut ∷ [])
-named_row rows kept id p found t named shut named_is shut_is =
+pub named_row : {A : Type 0} (rows : Rows A) → IsKept rows → (id : ℕ) (p : TransferRow) → find (λ row. row.recorded.id == id) rows.transfers.items ≡ Some p → (t : Transfer) (named closed_code : ℕ)
+    → named ≡ first_of (named_lines t p.recorded p.state) → closed_code ≡ first_of (closed_lines t (closed_at (books_in rows) p.recorded.debit_account_id) (closed_at (books_in rows) p.recorded.credit_account_id))
+    → named_code (books_in rows) t (Some p.recorded) ≡ first_code (named ∷ closed_code ∷ [])
+named_row rows kept id p found t named closed_code named_is closed_is =
     let B = books_in rows in
-    let has = each-find (HasState rows.transfers.0 rows.time) (λ row. row.recorded.id == id) p rows.transfers.0 kept.kept.states found in
+    let has = each-find (HasState rows.transfers.items rows.time) (λ row. row.recorded.id == id) p rows.transfers.items kept.kept.states found in
     let same : named ≡ first_of (named_lines t p.recorded (state_of B p.recorded)) = named_is ∙ named_same t p.recorded p.state (state_of B p.recorded) has.state_is in
-    ap (λ n. first_code (n ∷ first_of (closed_lines t (closed_at B p.recorded.debit_account_id) (closed_at B p.recorded.credit_account_id)) ∷ [])) (sym same) ∙ ap (λ n. first_code (named ∷ n ∷ [])) (sym shut_is)
+    ap (λ n. first_code (n ∷ first_of (closed_lines t (closed_at B p.recorded.debit_account_id) (closed_at B p.recorded.credit_account_id)) ∷ [])) (sym same) ∙ ap (λ n. first_code (named ∷ n ∷ [])) (sym closed_is)
 
 pub pair_first : (x y : ℕ) → (x ≡ 0 → ⊥) → first_code (x ∷ y ∷ []) ≡ x
 pair_first x y refused = let e : (x == 0) ≡ false = grind (arith, nat_tests) in rw e refl
@@ -217,21 +214,8 @@ pub recorded_pair : (B : Books) (t : Transfer) (time amount : ℕ) → resolves 
     → amount ≡ balanced_between (account_now B t.debit_account_id) (account_now B t.credit_account_id) t → FoundPair B (record t { amount = amount; timestamp = time })
 recorded_pair B t time amount single ok is = subst (λ n. FoundPair B (record t { amount = n; timestamp = time })) (sym is) (found_pair B t time single ok)
 
-stamped : (B : Books) (f : Transfer) (time : ℕ) → FoundPending B f → FoundPending B (record f { timestamp = time })
-stamped B f time found = record {
-  p = found.p;
-  named = found.named;
-  held = found.held;
-  not_pending = found.not_pending;
-  not_both = found.not_both;
-  debit_same = found.debit_same;
-  credit_same = found.credit_same;
-  ledger_same = found.ledger_same;
-  at_most = found.at_most;
-}
-
 pub recorded_pending : (B : Books) (t f : Transfer) (time : ℕ) → resolves t ≡ true → transfer_verdict B t time ≡ 0 → f ≡ filled B t → FoundPending B (record f { timestamp = time })
-recorded_pending B t f time resolving ok is = stamped B f time (subst (λ f. FoundPending B f) (sym is) (found_pending B t time resolving ok))
+recorded_pending B t f time resolving ok is = found_stamped B f time (subst (λ f. FoundPending B f) (sym is) (found_pending B t time resolving ok))
 
 -- a transfer between two accounts that is wrong by itself, and one that isn't
 pub own_refused : (B : Books) (t : Transfer) (time code : ℕ) → code ≡ first_of (single_own_lines t) → code ≢ 0 → single_code B t time ≡ code

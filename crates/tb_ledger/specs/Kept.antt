@@ -3,17 +3,18 @@ use Rattle.std.specs.Prelude.{ℕ, Bool, true, false, not, ◌≡◌, ◌<◌, �
 use Rattle.tb_records.specs.declared.records.Account.{Account}
 use Rattle.tb_records.specs.declared.records.Transfer.{Transfer}
 use Rattle.tb_records.specs.Ordered.{Each, changed}
-use Rattle.tb_ledger.specs.declared.rows.State.{State}
-use Rattle.tb_ledger.specs.declared.rows.State.TheVariants.{Open, Posted, Voided}
-use Rattle.tb_ledger.specs.declared.rows.Side.{Side}
-use Rattle.tb_ledger.specs.declared.rows.AccountRow.{AccountRow}
-use Rattle.tb_ledger.specs.declared.rows.TransferRow.{TransferRow}
-use Rattle.tb_ledger.specs.declared.rows.Rows.{Rows}
-use Rattle.tb_ledger.specs.declared.timeouts.Timeout.{Timeout}
+use Rattle.tb_ledger.specs.declared.tables.rows.State.{State}
+use Rattle.tb_ledger.specs.declared.tables.rows.State.TheVariants.{Open, Posted, Voided}
+use Rattle.tb_ledger.specs.declared.tables.rows.Side.{Side}
+use Rattle.tb_ledger.specs.declared.tables.rows.AccountRow.{AccountRow}
+use Rattle.tb_ledger.specs.declared.tables.rows.TransferRow.{TransferRow}
+use Rattle.tb_ledger.specs.declared.tables.rows.Rows.{Rows}
+use Rattle.tb_ledger.specs.declared.tables.timeouts.Timeout.{Timeout}
 use Rattle.tb_ledger.specs.Books.{Books, closed, debit, credit, share, pending, posts, moves, resolves, is_open, is_due, state_of, expires_at, closing_debit, closing_credit}
 use Rattle.tb_ledger.specs.Verdicts.{int_max, max_time}
 use Rattle.tb_ledger.specs.Timeouts.{timeout_key, with_timeout, without_timeout}
 use Rattle.tb_ledger.specs.Sound.{Sound}
+use Rattle.tb_ledger.specs.Tables.{Stored}
 
 abbrev pub account_row_key : AccountRow → ℕ
 account_row_key a = a.created.id
@@ -31,7 +32,7 @@ books_of accounts transfers failed keeps_failed time = record {
 }
 
 abbrev pub books_in : {A : Type 0} → Rows A → Books
-books_in rows = books_of rows.accounts.0 rows.transfers.0 rows.failed.0 rows.keeps_failed rows.time
+books_in rows = books_of rows.accounts.items rows.transfers.items rows.failed.items rows.keeps_failed rows.time
 
 -- of the books, what the states of transfers are read from
 abbrev pub books_at : List TransferRow → ℕ → Books
@@ -40,7 +41,7 @@ books_at transfers time = books_of [] transfers [] false time
 -- an account as it stands
 
 abbrev pub row_closed : AccountRow → Bool
-row_closed a = closed a.created || a.debits.shut || a.credits.shut
+row_closed a = closed a.created || a.debits.held_closed || a.credits.held_closed
 
 abbrev pub row_now : AccountRow → Account
 row_now a = record (a.created) {
@@ -73,7 +74,7 @@ closing_share side closes id t = if (side t.recorded == id) && (row_holds t && c
 pub record HasSide (side : Transfer → ℕ) (closes : Transfer → Bool) (transfers : List TransferRow) (id : ℕ) (s : Side) : Type 0 where
   pub pending : s.pending ≡ sum_by (pending_share side id) transfers
   pub posted : s.posted ≡ sum_by (posted_share side id) transfers
-  pub shut : bit s.shut ≡ sum_by (closing_share side closes id) transfers
+  pub held_closed : bit s.held_closed ≡ sum_by (closing_share side closes id) transfers
   pub fit : s.pending + s.posted ≤ int_max
 
 -- the debit side by some rows, the credit side by others: between two changes of a pair
@@ -94,8 +95,8 @@ pub record AreKept (accounts : List AccountRow) (transfers : List TransferRow) (
   pub states : Each (HasState transfers time) transfers
 
 -- a transfer that holds until its timeout ends it, or it is resolved
-abbrev pub dated : TransferRow → Bool
-dated t = row_holds t && not (t.recorded.timeout == 0)
+abbrev pub times_out : TransferRow → Bool
+times_out t = row_holds t && not (t.recorded.timeout == 0)
 
 abbrev pub timeout_of : TransferRow → Timeout
 timeout_of t = record { at = expires_at t.recorded; id = t.recorded.id }
@@ -105,30 +106,30 @@ pub record IsListed (timeouts : List Timeout) (t : TransferRow) : Type 0 where
   pub in_range : expires_at t.recorded ≤ max_time
   pub there : find (λ d. timeout_key d == timeout_key (timeout_of t)) timeouts ≡ Some (timeout_of t)
 
--- d is the timeout of a transfer that is dated
+-- d is the timeout of a transfer that times out
 pub record IsTimeout (transfers : List TransferRow) (d : Timeout) : Type 0 where
   pub t : TransferRow
   pub there : find (λ t. t.recorded.id == d.id) transfers ≡ Some t
-  pub is_dated : dated t ≡ true
+  pub is_timed : times_out t ≡ true
   pub same : timeout_of t ≡ d
 
--- the index of expiries: a timeout for each transfer that is dated, and for no other
+-- the index of expiries: a timeout for each transfer that times out, and for no other
 pub record IsIndex (transfers : List TransferRow) (timeouts : List Timeout) : Type 0 where
-  pub all_listed : Each (λ t. dated t ≡ true → IsListed timeouts t) transfers
-  pub all_dated : Each (IsTimeout transfers) timeouts
+  pub all_listed : Each (λ t. times_out t ≡ true → IsListed timeouts t) transfers
+  pub all_timed : Each (IsTimeout transfers) timeouts
 
--- timeouts and their room, with that of t where it is dated, and without it
-abbrev pub listed : TransferRow → List Timeout × ℕ → List Timeout × ℕ
-listed t ts = if dated t then with_timeout (timeout_of t) ts else ts
+-- timeouts and their room, with that of t where it times out, and without it
+abbrev pub listed : TransferRow → Stored Timeout → Stored Timeout
+listed t ts = if times_out t then with_timeout (timeout_of t) ts else ts
 
-abbrev pub unlisted : TransferRow → List Timeout × ℕ → List Timeout × ℕ
-unlisted t ts = if dated t then without_timeout (timeout_of t) ts else ts
+abbrev pub unlisted : TransferRow → Stored Timeout → Stored Timeout
+unlisted t ts = if times_out t then without_timeout (timeout_of t) ts else ts
 
--- where t is dated, there is room for its timeout, which isn't there
-pub record CanList (t : TransferRow) (ts : List Timeout × ℕ) : Type 0 where
+-- where t times out, there is room for its timeout, which isn't there
+pub record CanList (t : TransferRow) (ts : Stored Timeout) : Type 0 where
   pub in_range : expires_at t.recorded ≤ max_time
-  pub room : 0 < ts.1
-  pub absent : find (λ d. timeout_key d == timeout_key (timeout_of t)) ts.0 ≡ None
+  pub room : 0 < ts.spare
+  pub absent : find (λ d. timeout_key d == timeout_key (timeout_of t)) ts.items ≡ None
 
 -- it holds, and its timeout has passed at T
 abbrev pub lapses : ℕ → TransferRow → Bool
@@ -143,7 +144,7 @@ pub record IsLedger (accounts : List AccountRow) (transfers : List TransferRow) 
   pub sound : Sound (books_of accounts transfers failed keeps_failed time)
 
 abbrev pub IsKept : {A : Type 0} → Rows A → Type 0
-IsKept rows = IsLedger rows.accounts.0 rows.transfers.0 rows.failed.0 rows.keeps_failed rows.timeouts.0 rows.time
+IsKept rows = IsLedger rows.accounts.items rows.transfers.items rows.failed.items rows.keeps_failed rows.timeouts.items rows.time
 
 -- the changes of a side: a transfer comes, and the amount of a pending one leaves
 
@@ -151,11 +152,11 @@ abbrev pub gained : (Transfer → Bool) → Transfer → Side → Side
 gained closes t s = record {
   pending = s.pending + (if pending t then t.amount else 0);
   posted = s.posted + (if moves t then t.amount else 0);
-  shut = s.shut || (pending t && closes t);
+  held_closed = s.held_closed || (pending t && closes t);
 }
 
 abbrev pub released : (Transfer → Bool) → Transfer → Side → Side
-released closes p s = record { pending = s.pending - p.amount; posted = s.posted; shut = s.shut && not (closes p) }
+released closes p s = record { pending = s.pending - p.amount; posted = s.posted; held_closed = s.held_closed && not (closes p) }
 
 -- p leaves, and r, which resolves it, comes
 abbrev pub released_and_gained : (Transfer → Bool) → Transfer → Transfer → Side → Side
@@ -189,11 +190,11 @@ state_given_by r = if posts r then Posted else Voided
 
 -- a side can take t: there is room, and where t closes it, nothing holds it closed
 abbrev pub Takes : (Transfer → Bool) → Transfer → Side → Type 0
-Takes closes t s = (s.pending + s.posted + t.amount ≤ int_max) × ((pending t && closes t) ≡ true → s.shut ≡ false)
+Takes closes t s = (s.pending + s.posted + t.amount ≤ int_max) × ((pending t && closes t) ≡ true → s.held_closed ≡ false)
 
 -- the row of a new account
 abbrev pub new_side : Side
-new_side = record { pending = 0; posted = 0; shut = false }
+new_side = record { pending = 0; posted = 0; held_closed = false }
 
 abbrev pub new_row : Account → AccountRow
 new_row a = record { created = a; debits = new_side; credits = new_side }

@@ -14,3 +14,4 @@ pub mod Timeouts
 pub mod Found
 pub mod Exchanges
 pub mod Trail
+pub mod Lookups

@@ -18,6 +18,11 @@ rows_in m = values_of (pairs_in m)
 abbrev pub room_in : {K V : Type 0} → Option (Map K V) → ℕ
 room_in m = option_map_or (λ m. m.spare) m 0
 
+-- what a table keeps, in its order, and the room for more
+pub record Stored (V : Type 0) : Type 0 where
+  pub items : List V
+  pub spare : ℕ
+
 -- each row stands at its own key, and keys rise
 pub record IsTable {V : Type 0} (key : V → ℕ) (es : List (ℕ × V)) : Type 0 where
   pub own : Each (λ e. key e.1 ≡ e.0) es

@@ -1,11 +1,12 @@
 -- The timeouts of pending transfers, in the order in which they expire.
 use Rattle.std.specs.Prelude.{ℕ, ◌≡◌, ◌+◌, ◌-◌, ◌*◌, ◌≤◌, ◌<◌, ◌==◌, List, map, find, Option, Some, None, if◌then◌else◌}
+use Rattle.std.specs.List.{slice_get}
 use Rattle.std.specs.Option.{is_some}
 use Rattle.tb_records.specs.Ordered.{put, taken_out, Each, Rising}
 use Rattle.avl_tree.specs.Map.{Map}
-use Rattle.tb_ledger.specs.declared.timeouts.Timeout.{Timeout}
+use Rattle.tb_ledger.specs.declared.tables.timeouts.Timeout.{Timeout}
 use Rattle.tb_ledger.specs.Verdicts.{int_max}
-use Rattle.tb_ledger.specs.Tables.{pairs_in}
+use Rattle.tb_ledger.specs.Tables.{pairs_in, Stored}
 
 -- timeouts stand by time, and by id where times are the same
 abbrev pub timeout_key : Timeout → ℕ
@@ -31,19 +32,19 @@ abbrev pub freed : {X : Type 0} → Option X → ℕ
 freed o = if is_some o then 1 else 0
 
 -- timeouts and the room for more, with one more
-abbrev pub with_timeout : Timeout → List Timeout × ℕ → List Timeout × ℕ
-with_timeout d ts = (put timeout_key d ts.0, ts.1 - 1)
+abbrev pub with_timeout : Timeout → Stored Timeout → Stored Timeout
+with_timeout d ts = record { items = put timeout_key d ts.items; spare = ts.spare - 1 }
 
 -- without one, whose room is free again
-abbrev pub without_timeout : Timeout → List Timeout × ℕ → List Timeout × ℕ
-without_timeout d ts = (taken_out timeout_key (timeout_key d) ts.0, ts.1 + freed (find (λ e. timeout_key e == timeout_key d) ts.0))
+abbrev pub without_timeout : Timeout → Stored Timeout → Stored Timeout
+without_timeout d ts = record { items = taken_out timeout_key (timeout_key d) ts.items; spare = ts.spare + freed (find (λ e. timeout_key e == timeout_key d) ts.items) }
 
 -- a timeout that is due at the time was taken out, or none is due
-abbrev pub TakesDue : ℕ → List Timeout × ℕ → Option Timeout → List Timeout × ℕ → Type 0
-TakesDue time ts None later = (later ≡ ts) × Each (λ d. time < d.at) ts.0
-TakesDue time ts (Some d) later = (d.at ≤ time) × (find (λ e. timeout_key e == timeout_key d) ts.0 ≡ Some d) × (later ≡ without_timeout d ts)
+abbrev pub TakesDue : ℕ → Stored Timeout → Option Timeout → Stored Timeout → Type 0
+TakesDue time ts None later = (later ≡ ts) × Each (λ d. time < d.at) ts.items
+TakesDue time ts (Some d) later = (d.at ≤ time) × (find (λ e. timeout_key e == timeout_key d) ts.items ≡ Some d) × (later ≡ without_timeout d ts)
 
 -- the first of timeouts, where it is due at the time; else none is due
 abbrev pub IsFirstDue : ℕ → List Timeout → Option Timeout → Type 0
 IsFirstDue time ds None = Each (λ d. time < d.at) ds
-IsFirstDue time ds (Some d) = (d.at ≤ time) × (find (λ e. timeout_key e == timeout_key d) ds ≡ Some d)
+IsFirstDue time ds (Some d) = (d.at ≤ time) × (slice_get ds 0 ≡ Some d)

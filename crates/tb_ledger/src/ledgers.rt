@@ -2,17 +2,18 @@
 ghost use Rattle.std.specs.Prelude.{◌≡◌, ◌+◌, ◌<◌, ◌≤◌, ◌++◌, max, true, length, IfOk, OnOk, OnErr, vec_len, vec_capacity};
 ghost use Rattle.tb_ledger.specs.Batches.{account_events, batch_after, results, transfer_events};
 ghost use Rattle.tb_ledger.specs.Books.{account_now, empty_books, found_accounts, found_transfers, moved_to_two, profile_of, transfer_at};
-ghost use Rattle.tb_ledger.specs.Kept.{books_in, IsKept, row_now};
+ghost use Rattle.tb_ledger.specs.Kept.{books_in, IsKept};
 ghost use Rattle.tb_ledger.specs.Sound.{IdsRise};
 ghost use Rattle.tb_ledger.specs.Tables.{IsShortSearch};
 ghost use Rattle.tb_ledger.specs.Verdicts.{max_time};
 
-use crate::batching::run_batch;
-use crate::events::Event;
-use crate::expiry::expire;
-use crate::judging::flags_now;
-use crate::rows::{AccountRow, Rows};
-use crate::undo::TRAIL_PER_EVENT;
+use crate::batches::events::Event;
+use crate::batches::run_batch;
+use crate::changes::expiry::expire;
+use crate::lookups;
+use crate::tables::rows::Rows;
+use crate::tables::standing::as_it_stands;
+use crate::tables::trail::TRAIL_PER_EVENT;
 use std::alloc::{AllocError, Allocator, Global};
 use std::marker::Model;
 use tb_records::{Account, EventResult, Profile, Transfer};
@@ -40,21 +41,7 @@ impl<A: Allocator + Clone> Model for Ledger<A> {
     ghost invariant = { λ l. IsKept l.rows };
 }
 
-// An account as it stands: with its present sums, and closed where it was created so or a pending transfer holds it so.
-fn as_it_stands(row: &AccountRow) -> Account
-    ensures { result ≡ row_now row.now }
-{
-    Account {
-        debits_pending: row.debits.pending,
-        debits_posted: row.debits.posted,
-        credits_pending: row.credits.pending,
-        credits_posted: row.credits.posted,
-        flags: flags_now(row),
-        ..row.created
-    }
-}
-
-// Makes room for `n` transfers and their timeouts, and for as many failed ids where these are kept.
+/// Makes room for `n` transfers and their timeouts, and for as many failed ids where these are kept.
 fn reserve_transfers<A: Allocator + Clone>(
     rows: &mut Rows<A>,
     alloc: &A,
@@ -63,7 +50,7 @@ fn reserve_transfers<A: Allocator + Clone>(
     requires { IsKept rows.old }
     ensures kept { IsKept rows.new }
     ensures books { books_in rows.new ≡ books_in rows.old }
-    ensures ok { OnOk result ((n ≤ rows.new.transfers.1) × (n ≤ rows.new.timeouts.1) × (rows.new.keeps_failed ≡ true → n ≤ rows.new.failed.1)) }
+    ensures ok { OnOk result ((n ≤ rows.new.transfers.spare) × (n ≤ rows.new.timeouts.spare) × (rows.new.keeps_failed ≡ true → n ≤ rows.new.failed.spare)) }
 {
     rows.transfers.reserve(alloc, n)?;
     rows.timeouts.reserve(alloc, n)?;
@@ -73,7 +60,7 @@ fn reserve_transfers<A: Allocator + Clone>(
     Ok(())
 }
 
-// Enters a batch at the time `t`, where there is room for its records: expires to `t`, then takes the events.
+/// Enters a batch at the time `t`, where there is room for its records: expires to `t`, then takes the events.
 fn enter<E: Event, A: Allocator + Clone>(
     rows: &mut Rows<A>,
     alloc: &A,
@@ -82,9 +69,9 @@ fn enter<E: Event, A: Allocator + Clone>(
     events: &[E],
 ) -> Result<Vec<EventResult>, AllocError>
     requires kept { IsKept rows.old }
-    requires room { length events.now ≤ E.room rows.old.accounts.1 rows.old.transfers.1 }
-    requires timeouts_room { E.HasTimeoutRoom (length events.now) rows.old.timeouts.1 }
-    requires ids { E.HasIdRoom (length events.now) rows.old.keeps_failed rows.old.failed.1 }
+    requires room { length events.now ≤ E.room rows.old.accounts.spare rows.old.transfers.spare }
+    requires timeouts_room { E.HasTimeoutRoom (length events.now) rows.old.timeouts.spare }
+    requires ids { E.HasIdRoom (length events.now) rows.old.keeps_failed rows.old.failed.spare }
     requires count { length events.now ≤ 8190 }
     requires later { rows.old.time + max (length events.now) 1 ≤ t }
     requires in_range { t ≤ max_time }
@@ -252,11 +239,7 @@ impl<A: Allocator + Clone> Ledger<A> {
         ensures items { out.new.items ≡ out.old.items ++ found_accounts self.now ids.now }
         ensures capacity { vec_capacity out.new ≡ vec_capacity out.old }
     {
-        for id in ids {
-            if let Some(account) = self.account(*id) {
-                out.push_reserved(account);
-            }
-        }
+        lookups::fill_accounts(&self.rows.accounts, ids, out);
     }
 
     /// Appends what [`Ledger::lookup_transfers`] answers, to a vector with room for as many transfers as there are ids.
@@ -265,10 +248,6 @@ impl<A: Allocator + Clone> Ledger<A> {
         ensures items { out.new.items ≡ out.old.items ++ found_transfers self.now ids.now }
         ensures capacity { vec_capacity out.new ≡ vec_capacity out.old }
     {
-        for id in ids {
-            if let Some(transfer) = self.transfer(*id) {
-                out.push_reserved(transfer);
-            }
-        }
+        lookups::fill_transfers(&self.rows.transfers, ids, out);
     }
 }

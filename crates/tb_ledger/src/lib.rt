@@ -1,22 +1,13 @@
 //! The state machine behind the sessions: accounts, transfers, chains and expiry.
 #![tactic(auto)]
 
-mod batching;
-mod chains;
-mod deciding;
-mod events;
-mod exchanging;
-mod expiry;
-mod judging;
+mod batches;
+mod changes;
 pub mod laws;
 mod ledgers;
-mod listing;
-mod recording;
-mod rows;
-mod settling;
-mod table;
-mod timeouts;
-mod undo;
+mod lookups;
+mod tables;
+mod verdicts;
 pub mod worked_rows;
 
 pub use ledgers::Ledger;

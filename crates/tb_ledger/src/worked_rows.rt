@@ -29,7 +29,7 @@ pub fn lookups()
     ensures two { Lookups Two }
 {}
 
-/// A closing transfer shuts its account for all but voids, until it is voided itself. An account that is asked again exists, with
+/// A closing transfer closes its account for all but voids, until it is voided itself. An account that is asked again exists, with
 /// the flags that it has as it stands.
 pub fn closing()
     ensures one { Closing One }

@@ -1,0 +1,12 @@
+use Rattle.std.proofs.Common.{◌≡◌, ◌+◌, ◌≤◌, ◌-◌, length, drop}
+use Rattle.tb_ledger.specs.Batches.{block_length}
+use Rattle.tb_ledger.proofs.batches.chains.block_length.Given as goal
+
+abbrev pub invariant-loop-n : goal.invariant-loop-n
+invariant-loop-n g l = record {
+  ahead : l.n + block_length g.E.Event.kind (drop l.n l.events) ≡ block_length g.E.Event.kind l.events;
+  within : l.n ≤ length l.events;
+}
+
+abbrev pub decreases-loop-n : goal.decreases-loop-n
+decreases-loop-n g l = length l.events - l.n

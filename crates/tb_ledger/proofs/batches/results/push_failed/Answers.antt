@@ -1,0 +1,13 @@
+use Rattle.std.proofs.Common.{◌++◌, sym, ap, ◌∙◌, arith}
+use Rattle.tb_ledger.proofs.CodeLaws.{pushed, failed-step}
+use Rattle.tb_ledger.proofs.batches.results.push_failed.Goals as goal
+
+pub loop-i-preserved : goal.loop-i-preserved
+loop-i-preserved g c =
+    let before = c.loop-i.results.items in
+    let step = failed-step c.args.index c.loop-i.i c.args.n c.loop-i-test.true in
+    record {
+      items = pushed before c.push_reserved.new.self.items _ _ _ c.push_reserved.ensures.items (ap (λ rest. before ++ rest) (sym step) ∙ c.loop-i.invariant.items);
+      len = omega arith;
+      capacity = c.push_reserved.ensures.capacity ∙ c.loop-i.invariant.capacity;
+    }

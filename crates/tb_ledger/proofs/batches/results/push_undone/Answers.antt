@@ -1,0 +1,14 @@
+use Rattle.std.proofs.Common.{◌++◌, sym, ap, ◌∙◌, arith}
+use Rattle.tb_ledger.proofs.CodeLaws.{pushed}
+use Rattle.tb_ledger.proofs.BlockLaws.{undone-step}
+use Rattle.tb_ledger.proofs.batches.results.push_undone.Goals as goal
+
+pub loop-i-preserved : goal.loop-i-preserved
+loop-i-preserved g c =
+    let before = c.loop-i.results.items in
+    let step = undone-step g.E.Event.kind c.args.rest.now c.args.index c.loop-i.i c.code_undone-result.result c.index-rest-i.result c.loop-i-test.true c.index-rest-i.is c.code_undone-result.ensures in
+    record {
+      items = pushed before c.push_reserved.new.self.items _ _ _ c.push_reserved.ensures.items (ap (λ rest. before ++ rest) (sym step) ∙ c.loop-i.invariant.items);
+      len = omega arith;
+      capacity = c.push_reserved.ensures.capacity ∙ c.loop-i.invariant.capacity;
+    }

@@ -1,0 +1,43 @@
+use Rattle.std.proofs.Common.{◌≡◌, ◌<◌, ◌+◌, ◌++◌, length, subst, sym, ap, ◌∙◌, arith}
+use Rattle.std.proofs.lemmas.Bool.Decides.{nat_tests}
+use Rattle.tb_ledger.specs.Batches.{blocks, block_after, blocks_after, timed_from, results_from}
+use Rattle.tb_ledger.specs.Kept.{books_in}
+use Rattle.tb_ledger.proofs.BlockLaws.{length-codes, length-timed_from}
+use Rattle.tb_ledger.proofs.ResultLaws.{blocks-round, results-round}
+use Rattle.tb_ledger.proofs.batches.run_batch.Goals as goal
+
+pub loop-rest-preserved : goal.loop-rest-preserved
+loop-rest-preserved g c =
+    let kind = g.E.Event.kind in
+    let v = c.loop-rest.invariant in
+    let r = c.run_block.ensures in
+    let rest = c.loop-rest.rest.now in
+    let block = c.split_at.result.0.now in
+    let later = c.split_at.result.1.now in
+    let cut = c.split_at.ensures in
+    let B = books_in c.loop-rest.rows in
+    let stamp = c.loop-rest.stamp in
+    let first = block_after kind B (timed_from stamp block) in
+    let empty = c.loop-rest-test.ensures in
+    let some : 0 < length rest = grind (arith, nat_tests) in
+    let rounds = blocks-round kind stamp c.block_length.result rest block later some c.block_length.ensures.count cut.front cut.back cut.front_len in
+    let after = blocks kind (timed_from (stamp + length block) later) in
+    let codes : length first.codes ≡ length block = length-codes kind B (timed_from stamp block) ∙ length-timed_from stamp block in
+    let parts : length rest ≡ length block + length later = omega (arith, cut.front_len, cut.back_len) in
+    record {
+      books = ap (λ C. (blocks_after kind C after).books) r.books ∙ sym (ap (λ bs. (blocks_after kind B bs).books) rounds) ∙ v.books;
+      results = ap (λ C. c.run_block.new.results.items ++ results_from (c.loop-rest.index + length block) (blocks_after kind C after).codes) r.books
+          ∙ results-round c.loop-rest.results.items c.run_block.new.results.items _ c.loop-rest.index (length block) first.codes (blocks_after kind first.books after).codes codes r.results
+          (ap (λ bs. c.loop-rest.results.items ++ results_from c.loop-rest.index (blocks_after kind B bs).codes) (sym rounds) ∙ v.results);
+      left = omega (arith, parts, v.left);
+      stamp = omega (arith, v.stamp);
+      kept = r.kept;
+      time = r.time ∙ v.time;
+      empty = r.empty;
+      capacity = r.capacity ∙ v.capacity;
+      room = omega (arith, parts, r.room, v.room);
+      timeouts_room = r.timeouts_room (length later) (subst (λ k. g.E.Event.HasTimeoutRoom k c.loop-rest.rows.timeouts.spare) parts v.timeouts_room);
+      ids = r.ids (length later) (subst (λ k. g.E.Event.HasIdRoom k c.loop-rest.rows.keeps_failed c.loop-rest.rows.failed.spare) parts v.ids);
+      results_len = omega (arith, r.results_len, v.results_len);
+      results_capacity = r.results_capacity ∙ v.results_capacity;
+    }

@@ -1,0 +1,91 @@
+use Rattle.std.proofs.Common.{◌≡◌, ◌<◌, ◌==◌, not, map, length, sym, ap, subst, refl, ◌∙◌, arith}
+use Rattle.tb_ledger.specs.declared.tables.rows.State.TheVariants.{Expired}
+use Rattle.tb_ledger.specs.Kept.{transfer_row_key, row_holds, unlisted, IsTimeout}
+use Rattle.tb_ledger.specs.Timeouts.{timeout_key, TakesDue}
+use Rattle.tb_ledger.proofs.Parts.{both_hold}
+use Rattle.tb_ledger.proofs.Settled.{rising_rows, refound}
+use Rattle.tb_records.proofs.ByKey.{each-find}
+use Rattle.tb_ledger.proofs.Index.{of_due, due_lapses, unlisted_due, ordered_without, index_closed, none_lapses, length-taken_out}
+use Rattle.tb_ledger.proofs.Expiries.{will_be, accounts_stay, transfers_stay, ahead_marked, arrived, none_of}
+use Rattle.tb_ledger.proofs.changes.expiry.release_due.Goals as goal
+
+pub loop-due-init : goal.loop-due-init
+loop-due-init g c =
+    let rows = c.args.rows.now in record {
+      rising = rising_rows rows.accounts.items c.requires.kept.sound.rising;
+      sums = c.requires.kept.kept.sums;
+      ahead = will_be rows.transfers.items rows.time c.args.time c.requires.later c.requires.kept.kept.states;
+      index = c.requires.kept.index;
+      ordered = c.ordered.ensures;
+      accounts = refl;
+      transfers = refl;
+      accounts_room = refl;
+      transfers_room = refl;
+      timeouts_room = omega arith;
+      failed = refl;
+      keeps_failed = refl;
+      time = refl;
+    }
+
+pub waiting-p-requires : goal.waiting-p-requires
+waiting-p-requires g c =
+    let due = c.in-Some.due in
+    each-find (IsTimeout c.loop-due.rows.transfers.items) (λ e. timeout_key e == timeout_key due) due c.loop-due.rows.timeouts.items c.loop-due.invariant.index.all_timed c.in-Some.ensures.1
+
+pub release-requires-clause-found : goal.release-requires-clause-found
+release-requires-clause-found g c = refound transfer_row_key c.in-Some.due.id c.waiting-p.result c.loop-due.rows.transfers.items c.waiting-p.ensures.found
+
+pub release-requires-clause-holds : goal.release-requires-clause-holds
+release-requires-clause-holds g c =
+    let due = c.in-Some.due in
+    let p = c.waiting-p.result in
+    let its = each-find (IsTimeout c.loop-due.rows.transfers.items) (λ e. timeout_key e == timeout_key due) due c.loop-due.rows.timeouts.items c.loop-due.invariant.index.all_timed c.in-Some.ensures.1 in
+    (both_hold (row_holds p) (not (p.recorded.timeout == 0)) (of_due c.loop-due.rows.transfers.items due p its c.waiting-p.ensures.found).0).0
+
+pub loop-due-smaller : goal.loop-due-smaller
+loop-due-smaller g c =
+    let due = c.in-Some.due in
+    let old = c.loop-due.rows.timeouts.items in
+    let left = ap (λ v. v.items) (c.release.ensures.timeouts ∙ c.in-Some.ensures.2) in
+    subst (λ l. length l < length old) (sym left) (length-taken_out timeout_key (timeout_key due) due old c.in-Some.ensures.1)
+
+pub loop-due-preserved : goal.loop-due-preserved
+loop-due-preserved g c =
+    let rows = c.loop-due.rows in
+    let inv = c.loop-due.invariant in
+    let due = c.in-Some.due in
+    let p = c.waiting-p.result in
+    let its = each-find (IsTimeout rows.transfers.items) (λ e. timeout_key e == timeout_key due) due rows.timeouts.items inv.index.all_timed c.in-Some.ensures.1 in
+    let of = of_due rows.transfers.items due p its c.waiting-p.ensures.found in
+    let there = refound transfer_row_key due.id p rows.transfers.items c.waiting-p.ensures.found in
+    let lapsed = due_lapses c.args.time p due of.0 of.1 c.in-Some.ensures.0 in
+    let marked = ap (λ v. v.items) c.release.ensures.transfers in
+    let changed = ap (λ v. v.items) c.release.ensures.accounts in
+    let taken = c.release.ensures.timeouts ∙ c.in-Some.ensures.2 in
+    let unlisted_is : c.release.new.rows.timeouts ≡ unlisted p rows.timeouts = taken ∙ sym (unlisted_due p due rows.timeouts of.0 of.1) in
+    record {
+      rising = c.release.ensures.rising;
+      sums = c.release.ensures.sums;
+      ahead = ahead_marked c.args.time (map (λ t. t.recorded) c.args.rows.now.transfers.items) p rows.transfers.items c.release.new.rows.transfers.items there lapsed marked inv.ahead;
+      index = rw (marked, unlisted_is) (index_closed rows.transfers.items rows.timeouts inv.index p Expired there refl c.release.ensures.transfers_rise inv.ordered);
+      ordered = rw taken (ordered_without due rows.timeouts inv.ordered);
+      accounts = accounts_stay p.recorded rows.accounts.items c.release.new.rows.accounts.items changed ∙ inv.accounts;
+      transfers = transfers_stay p rows.transfers.items c.release.new.rows.transfers.items there marked ∙ inv.transfers;
+      accounts_room = ap (λ v. v.spare) c.release.ensures.accounts ∙ inv.accounts_room;
+      transfers_room = ap (λ v. v.spare) c.release.ensures.transfers ∙ inv.transfers_room;
+      timeouts_room = omega (arith, ap (λ v. v.spare) taken, inv.timeouts_room);
+      failed = c.release.ensures.failed ∙ inv.failed;
+      keeps_failed = c.release.ensures.keeps_failed ∙ inv.keeps_failed;
+      time = c.release.ensures.time ∙ inv.time;
+    }
+
+pub returns-clause-kept : goal.returns-clause-kept
+returns-clause-kept g c =
+    let rows = c.loop-due.rows in
+    let inv = c.loop-due.invariant in
+    let none = none_of c.pop_due.result c.in_default.not-Some in
+    let waits = subst (λ o. TakesDue c.args.time rows.timeouts o c.pop_due.new.self) none c.pop_due.ensures in
+    record {
+      sums = inv.sums;
+      states = arrived rows.transfers.items c.args.time (map (λ t. t.recorded) c.args.rows.now.transfers.items) inv.transfers (none_lapses rows.transfers.items rows.timeouts inv.index c.args.time waits.1) inv.ahead;
+    }

@@ -1,0 +1,14 @@
+use Rattle.std.proofs.Common.{◌≡◌, ◌+◌, ◌≤◌, ◌++◌, length, vec_len, vec_capacity}
+use Rattle.std.specs.List.{filter_map}
+use Rattle.tb_ledger.specs.Lookups.{transfer_in}
+use Rattle.tb_ledger.proofs.lookups.fill_eights_of_transfers.Given as goal
+
+abbrev pub invariant-loop-eight : goal.invariant-loop-eight
+invariant-loop-eight g l = record {
+  items : l.out.items ++ filter_map (transfer_in l.table.items) l.rest ≡ l.initial.out.items ++ filter_map (transfer_in l.table.items) l.ids;
+  room : vec_len l.out + length l.rest ≤ vec_capacity l.out;
+  capacity : vec_capacity l.out ≡ vec_capacity l.initial.out;
+}
+
+abbrev pub decreases-loop-eight : goal.decreases-loop-eight
+decreases-loop-eight g l = length l.rest

@@ -1,0 +1,109 @@
+use Rattle.std.proofs.Common.{◌≡◌, [], ◌∷◌, ◌++◌, subst, sym, ap, ◌∙◌, arith}
+use Rattle.tb_ledger.specs.declared.tables.trail.Undo.TheVariants.{Account, Transfer, AddedAccount, AddedTransfer}
+use Rattle.tb_ledger.specs.Trail.{unwound_accounts, unwound_transfers, unwound_timeouts, CanUnwind}
+use Rattle.tb_ledger.proofs.Trails.{popped_accounts, popped_transfers, popped_timeouts, popped_can}
+use Rattle.tb_ledger.proofs.tables.trail.unwind.Goals as goal
+
+pub loop-undo-preserved-in-Account : goal.loop-undo-preserved-in-Account
+loop-undo-preserved-in-Account g c =
+    let rows = c.loop-undo.rows in
+    let v = c.loop-undo.invariant in
+    let us = c.pop.new.self.items in
+    let more = c.loop-undo.trail.items in
+    let u = Account c.in-Account.row in
+    let is : more ≡ us ++ u ∷ [] = c.in-Some.ensures.items ∙ ap (λ u. us ++ u ∷ []) c.in-Account.is in
+    record {
+      accounts = ap (λ t. unwound_accounts us t.items) c.replace.ensures.table ∙ popped_accounts us more u rows.accounts.items is ∙ v.accounts;
+      transfers = popped_transfers us more u rows.transfers.items is ∙ v.transfers;
+      accounts_room = omega (arith, v.accounts_room, ap (λ t. t.spare) c.replace.ensures.table);
+      transfers_room = v.transfers_room;
+      failed = v.failed;
+      keeps_failed = v.keeps_failed;
+      timeouts = popped_timeouts us more u rows.timeouts is ∙ v.timeouts;
+      can = (popped_can us more u rows.timeouts is v.can).1;
+      time = v.time;
+      capacity = c.pop.ensures.capacity ∙ v.capacity;
+    }
+
+pub list-requires : goal.list-requires
+list-requires g c =
+    let rows = c.loop-undo.rows in
+    let v = c.loop-undo.invariant in
+    let us = c.pop.new.self.items in
+    let more = c.loop-undo.trail.items in
+    let u = Transfer c.in-Transfer.row in
+    let is : more ≡ us ++ u ∷ [] = c.in-Some.ensures.items ∙ ap (λ u. us ++ u ∷ []) c.in-Transfer.is in
+    (popped_can us more u rows.timeouts is v.can).0
+
+pub loop-undo-preserved-in-Transfer : goal.loop-undo-preserved-in-Transfer
+loop-undo-preserved-in-Transfer g c =
+    let rows = c.loop-undo.rows in
+    let v = c.loop-undo.invariant in
+    let us = c.pop.new.self.items in
+    let more = c.loop-undo.trail.items in
+    let u = Transfer c.in-Transfer.row in
+    let is : more ≡ us ++ u ∷ [] = c.in-Some.ensures.items ∙ ap (λ u. us ++ u ∷ []) c.in-Transfer.is in
+    record {
+      accounts = popped_accounts us more u rows.accounts.items is ∙ v.accounts;
+      transfers = ap (λ t. unwound_transfers us t.items) c.replace-in-Transfer.ensures.table ∙ popped_transfers us more u rows.transfers.items is ∙ v.transfers;
+      accounts_room = v.accounts_room;
+      transfers_room = omega (arith, v.transfers_room, ap (λ t. t.spare) c.replace-in-Transfer.ensures.table);
+      failed = v.failed;
+      keeps_failed = v.keeps_failed;
+      timeouts = ap (unwound_timeouts us) c.list.ensures ∙ popped_timeouts us more u rows.timeouts is ∙ v.timeouts;
+      can = subst (CanUnwind us) (sym c.list.ensures) (popped_can us more u rows.timeouts is v.can).1;
+      time = v.time;
+      capacity = c.pop.ensures.capacity ∙ v.capacity;
+    }
+
+pub loop-undo-preserved-in-AddedAccount : goal.loop-undo-preserved-in-AddedAccount
+loop-undo-preserved-in-AddedAccount g c =
+    let rows = c.loop-undo.rows in
+    let v = c.loop-undo.invariant in
+    let us = c.pop.new.self.items in
+    let more = c.loop-undo.trail.items in
+    let u = AddedAccount c.in-AddedAccount.id in
+    let is : more ≡ us ++ u ∷ [] = c.in-Some.ensures.items ∙ ap (λ u. us ++ u ∷ []) c.in-AddedAccount.is in
+    record {
+      accounts = ap (unwound_accounts us) c.remove.ensures.rows ∙ popped_accounts us more u rows.accounts.items is ∙ v.accounts;
+      transfers = popped_transfers us more u rows.transfers.items is ∙ v.transfers;
+      accounts_room = omega (arith, v.accounts_room, c.remove.ensures.room);
+      transfers_room = v.transfers_room;
+      failed = v.failed;
+      keeps_failed = v.keeps_failed;
+      timeouts = popped_timeouts us more u rows.timeouts is ∙ v.timeouts;
+      can = (popped_can us more u rows.timeouts is v.can).1;
+      time = v.time;
+      capacity = c.pop.ensures.capacity ∙ v.capacity;
+    }
+
+pub unlist-requires : goal.unlist-requires
+unlist-requires g c =
+    let rows = c.loop-undo.rows in
+    let v = c.loop-undo.invariant in
+    let us = c.pop.new.self.items in
+    let more = c.loop-undo.trail.items in
+    let u = AddedTransfer c.in-AddedTransfer.row in
+    let is : more ≡ us ++ u ∷ [] = c.in-Some.ensures.items ∙ ap (λ u. us ++ u ∷ []) c.in-AddedTransfer.is in
+    (popped_can us more u rows.timeouts is v.can).0
+
+pub loop-undo-preserved : goal.loop-undo-preserved
+loop-undo-preserved g c =
+    let rows = c.loop-undo.rows in
+    let v = c.loop-undo.invariant in
+    let us = c.pop.new.self.items in
+    let more = c.loop-undo.trail.items in
+    let u = AddedTransfer c.in-AddedTransfer.row in
+    let is : more ≡ us ++ u ∷ [] = c.in-Some.ensures.items ∙ ap (λ u. us ++ u ∷ []) c.in-AddedTransfer.is in
+    record {
+      accounts = popped_accounts us more u rows.accounts.items is ∙ v.accounts;
+      transfers = ap (unwound_transfers us) c.remove-in-AddedTransfer.ensures.rows ∙ popped_transfers us more u rows.transfers.items is ∙ v.transfers;
+      accounts_room = v.accounts_room;
+      transfers_room = omega (arith, v.transfers_room, c.remove-in-AddedTransfer.ensures.room);
+      failed = v.failed;
+      keeps_failed = v.keeps_failed;
+      timeouts = ap (unwound_timeouts us) c.unlist.ensures.timeouts ∙ popped_timeouts us more u rows.timeouts is ∙ v.timeouts;
+      can = subst (CanUnwind us) (sym c.unlist.ensures.timeouts) (popped_can us more u rows.timeouts is v.can).1;
+      time = v.time;
+      capacity = c.pop.ensures.capacity ∙ v.capacity;
+    }

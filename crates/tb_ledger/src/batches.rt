@@ -1,0 +1,50 @@
+//! A batch: its chains, one after another.
+ghost use Rattle.std.specs.Prelude.{◌≡◌, ◌+◌, ◌*◌, ◌^◌, ◌<◌, ◌≤◌, ◌++◌, [], length, vec_len, vec_capacity};
+ghost use Rattle.tb_ledger.specs.Batches.{blocks, blocks_after, timed_from, results_from};
+ghost use Rattle.tb_ledger.specs.Kept.{books_in, IsKept};
+
+pub(crate) mod chains;
+pub(crate) mod events;
+mod results;
+
+use crate::batches::chains::{block_length, run_block};
+use crate::batches::events::Event;
+use crate::tables::rows::Rows;
+use crate::tables::trail::{TRAIL_PER_EVENT, Undo};
+use std::alloc::Allocator;
+use tb_records::EventResult;
+
+/// Runs the chains of a batch, whose first event has the timestamp `time`. Each event that isn't accepted adds its result.
+pub(crate) fn run_batch<E: Event, A: Allocator + Clone, R: Allocator>(
+    rows: &mut Rows<A>,
+    trail: &mut Vec<Undo, A>,
+    results: &mut Vec<EventResult, R>,
+    events: &[E],
+    time: u64,
+)
+    requires kept { IsKept rows.old }
+    requires empty { trail.old.items ≡ [] }
+    requires room { length events.now ≤ E.room rows.old.accounts.spare rows.old.transfers.spare }
+    requires timeouts_room { E.HasTimeoutRoom (length events.now) rows.old.timeouts.spare }
+    requires ids { E.HasIdRoom (length events.now) rows.old.keeps_failed rows.old.failed.spare }
+    requires trail_room { TRAIL_PER_EVENT * length events.now ≤ vec_capacity trail.old }
+    requires results_room { vec_len results.old + length events.now ≤ vec_capacity results.old }
+    requires stamped { rows.old.time < time + 1000000000 }
+    requires index_fits { length events.now < 2 ^ 32 }
+    requires time_fits { time + length events.now < 2 ^ 64 }
+    ensures books { books_in rows.new ≡ (blocks_after E.kind (books_in rows.old) (blocks E.kind (timed_from time events.now))).books }
+    ensures results { results.new.items ≡ results.old.items ++ results_from 0 (blocks_after E.kind (books_in rows.old) (blocks E.kind (timed_from time events.now))).codes }
+    ensures kept { IsKept rows.new }
+    ensures time { rows.new.time ≡ rows.old.time }
+{
+    let mut rest = events;
+    let mut index = 0;
+    let mut stamp = time;
+    while !rest.is_empty() {
+        let (block, later) = rest.split_at(block_length(rest));
+        run_block(rows, trail, results, block, index, stamp);
+        index += block.len() as u32;
+        stamp += block.len() as u64;
+        rest = later;
+    }
+}

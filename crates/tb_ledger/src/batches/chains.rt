@@ -1,0 +1,105 @@
+//! Chains: all of one, or nothing of it.
+ghost use Rattle.std.specs.Prelude.{◌≡◌, ◌≢◌, ℕ, ◌+◌, ◌*◌, ◌^◌, ◌<◌, ◌≤◌, ◌&&◌, ◌++◌, [], length, if◌then◌else◌, vec_len, vec_capacity};
+ghost use Rattle.tb_ledger.specs.Batches.{block_length, block_after, timed_from, results_from};
+ghost use Rattle.tb_ledger.specs.Kept.{books_in, IsKept};
+ghost use Rattle.tb_ledger.specs.Trail.{IsStep};
+
+use crate::batches::events::Event;
+use crate::batches::results::{LINKED_EVENT_CHAIN_OPEN, break_off};
+use crate::tables::rows::Rows;
+use crate::tables::trail::{TRAIL_PER_EVENT, Undo, unwind};
+use std::alloc::Allocator;
+use tb_records::EventResult;
+
+/// The number of events in the first chain: up to the first that isn't linked.
+pub(crate) fn block_length<E: Event>(events: &[E]) -> usize
+    ensures count { result ≡ block_length E.kind events.now }
+    ensures within { result ≤ length events.now }
+    ensures some { 0 < length events.now → 0 < result }
+{
+    let mut n = 0;
+    while n < events.len() {
+        n += 1;
+        if !events[n - 1].linked() {
+            return n;
+        }
+    }
+    n
+}
+
+/// Runs one chain: all of it is recorded, or nothing of it but what the refusal of the failed event leaves. Each event that isn't
+/// accepted adds its result.
+pub(crate) fn run_block<E: Event, A: Allocator + Clone, R: Allocator>(
+    rows: &mut Rows<A>,
+    trail: &mut Vec<Undo, A>,
+    results: &mut Vec<EventResult, R>,
+    block: &[E],
+    index: u32,
+    time: u64,
+)
+    requires kept { IsKept rows.old }
+    requires empty { trail.old.items ≡ [] }
+    requires room { length block.now ≤ E.room rows.old.accounts.spare rows.old.transfers.spare }
+    requires timeouts_room { E.HasTimeoutRoom (length block.now) rows.old.timeouts.spare }
+    requires ids { E.HasIdRoom (length block.now) rows.old.keeps_failed rows.old.failed.spare }
+    requires trail_room { TRAIL_PER_EVENT * length block.now ≤ vec_capacity trail.old }
+    requires results_room { vec_len results.old + length block.now ≤ vec_capacity results.old }
+    requires stamped { rows.old.time < time + 1000000000 }
+    requires index_fits { index + length block.now < 2 ^ 32 }
+    requires time_fits { time + length block.now < 2 ^ 64 }
+    ensures books { books_in rows.new ≡ (block_after E.kind (books_in rows.old) (timed_from time block.now)).books }
+    ensures results { results.new.items ≡ results.old.items ++ results_from index (block_after E.kind (books_in rows.old) (timed_from time block.now)).codes }
+    ensures results_len { vec_len results.new ≤ vec_len results.old + length block.now }
+    ensures results_capacity { vec_capacity results.new ≡ vec_capacity results.old }
+    ensures kept { IsKept rows.new }
+    ensures time { rows.new.time ≡ rows.old.time }
+    ensures room { E.room rows.old.accounts.spare rows.old.transfers.spare ≤ E.room rows.new.accounts.spare rows.new.transfers.spare + length block.now }
+    ensures timeouts_room { (n : ℕ) → E.HasTimeoutRoom (length block.now + n) rows.old.timeouts.spare → E.HasTimeoutRoom n rows.new.timeouts.spare }
+    ensures ids { (n : ℕ) → E.HasIdRoom (length block.now + n) rows.old.keeps_failed rows.old.failed.spare → E.HasIdRoom n rows.new.keeps_failed rows.new.failed.spare }
+    ensures empty { trail.new.items ≡ [] }
+    ensures capacity { vec_capacity trail.new ≡ vec_capacity trail.old }
+{
+    let mut i = 0;
+    let mut stamp = time;
+    while i < block.len() {
+        let event = &block[i];
+        let code = take_in_chain(event, i + 1 == block.len(), rows, trail, stamp);
+        if code != 0 {
+            unwind(rows, trail);
+            event.refuse(rows, code);
+            break_off(results, block, index, i, code);
+            return;
+        }
+        i += 1;
+        stamp += 1;
+    }
+    trail.clear();
+}
+
+/// Takes an event of a chain. Linked with nothing after it, the chain is open: 2.
+fn take_in_chain<E: Event, A: Allocator + Clone>(
+    event: &E,
+    last: bool,
+    rows: &mut Rows<A>,
+    trail: &mut Vec<Undo, A>,
+    time: u64,
+) -> u32
+    requires kept { IsKept rows.old }
+    requires room { 0 < E.room rows.old.accounts.spare rows.old.transfers.spare }
+    requires timeouts_room { E.HasTimeoutRoom 1 rows.old.timeouts.spare }
+    requires stamped { rows.old.time < time + 1000000000 }
+    requires trail_room { vec_len trail.old + TRAIL_PER_EVENT ≤ vec_capacity trail.old }
+    ensures code { result ≡ (if last && E.kind.linked event.now then 2 else E.kind.verdict (books_in rows.old) event.now time) }
+    ensures done { result ≡ 0 → books_in rows.new ≡ E.kind.recorded (books_in rows.old) event.now time }
+    ensures fresh { result ≢ 0 → E.IsNew (books_in rows.old).failed event.now result }
+    ensures kept { IsKept rows.new }
+    ensures step { IsStep TRAIL_PER_EVENT rows.old rows.new trail.old trail.new }
+    ensures room { E.room rows.old.accounts.spare rows.old.transfers.spare ≤ E.room rows.new.accounts.spare rows.new.transfers.spare + 1 }
+    ensures timeouts_room { (n : ℕ) → E.HasTimeoutRoom (1 + n) rows.old.timeouts.spare → E.HasTimeoutRoom n rows.new.timeouts.spare }
+{
+    if last && event.linked() {
+        LINKED_EVENT_CHAIN_OPEN
+    } else {
+        event.take(rows, trail, time)
+    }
+}

@@ -1,0 +1,159 @@
+//! What a batch asks of its events.
+ghost use Rattle.std.specs.Prelude.{◌≡◌, ◌≢◌, ℕ, ◌+◌, ◌<◌, ◌≤◌, ◌==◌, true, false, vec_len, vec_capacity};
+ghost use Rattle.tb_ledger.specs.Kept.{books_in, IsKept};
+ghost use Rattle.tb_ledger.specs.Trail.{IsStep};
+
+use crate::changes::account::take_account;
+use crate::changes::transfer::{note_failed, take_transfer};
+use crate::tables::rows::Rows;
+use crate::tables::trail::{TRAIL_PER_EVENT, Undo};
+use std::alloc::Allocator;
+use tb_records::{Account, Transfer};
+
+/// An event of a batch.
+pub trait Event: Copy {
+    ghost use Rattle.std.specs.Prelude.{ℕ, Bool, List, Option};
+    ghost use Rattle.tb_ledger.specs.Batches.{Kind};
+
+    ghost kind: { Kind Self };
+
+    // the room that counts for it, of that of accounts and of transfers
+    ghost room: { ℕ → ℕ → ℕ };
+
+    // timeouts have room for those of n events
+    ghost HasTimeoutRoom: { ℕ → ℕ → Type 0 };
+
+    // failed ids that are kept or not have room for those of n events
+    ghost HasIdRoom: { ℕ → Bool → ℕ → Type 0 };
+
+    // beside the failed ids, a refusal of the event by a code can be noted
+    ghost IsNew: { Option (List ℕ) → Self → ℕ → Type 0 };
+
+    /// The event is linked to the next one.
+    fn linked(&self) -> bool
+        ensures { result ≡ kind.linked self.now };
+
+    /// Judges the event as of its timestamp, and records it where the verdict is 0. The trail leads back to before it.
+    fn take<A: Allocator + Clone>(
+        &self,
+        rows: &mut Rows<A>,
+        trail: &mut Vec<Undo, A>,
+        time: u64,
+    ) -> u32
+        requires kept { IsKept rows.old }
+        requires room { 0 < room rows.old.accounts.spare rows.old.transfers.spare }
+        requires timeouts_room { HasTimeoutRoom 1 rows.old.timeouts.spare }
+        requires stamped { rows.old.time < time + 1000000000 }
+        requires trail_room { vec_len trail.old + TRAIL_PER_EVENT ≤ vec_capacity trail.old }
+        ensures code { result ≡ kind.verdict (books_in rows.old) self.now time }
+        ensures done { result ≡ 0 → books_in rows.new ≡ kind.recorded (books_in rows.old) self.now time }
+        ensures fresh { result ≢ 0 → IsNew (books_in rows.old).failed self.now result }
+        ensures kept { IsKept rows.new }
+        ensures step { IsStep TRAIL_PER_EVENT rows.old rows.new trail.old trail.new }
+        ensures room { room rows.old.accounts.spare rows.old.transfers.spare ≤ room rows.new.accounts.spare rows.new.transfers.spare + 1 }
+        ensures timeouts_room { (n : ℕ) → HasTimeoutRoom (1 + n) rows.old.timeouts.spare → HasTimeoutRoom n rows.new.timeouts.spare };
+
+    /// Notes what the event's refusal leaves behind.
+    fn refuse<A: Allocator + Clone>(&self, rows: &mut Rows<A>, code: u32)
+        requires kept { IsKept rows.old }
+        requires ids { HasIdRoom 1 rows.old.keeps_failed rows.old.failed.spare }
+        requires fresh { IsNew (books_in rows.old).failed self.now code }
+        ensures books { books_in rows.new ≡ kind.refused (books_in rows.old) self.now code }
+        ensures kept { IsKept rows.new }
+        ensures accounts { rows.new.accounts ≡ rows.old.accounts }
+        ensures transfers { rows.new.transfers ≡ rows.old.transfers }
+        ensures timeouts { rows.new.timeouts ≡ rows.old.timeouts }
+        ensures ids { (n : ℕ) → HasIdRoom (1 + n) rows.old.keeps_failed rows.old.failed.spare → HasIdRoom n rows.new.keeps_failed rows.new.failed.spare }
+        ensures time { rows.new.time ≡ rows.old.time };
+
+    ghost more_room: { (a b c d : ℕ) → a ≤ c → b ≤ d → room a b ≤ room c d };
+
+    ghost fewer_timeouts: { (m n spare more : ℕ) → m ≤ n → spare ≤ more → HasTimeoutRoom n spare → HasTimeoutRoom m more };
+
+    ghost fewer_ids: { (m n : ℕ) (keeps : Bool) (spare : ℕ) → m ≤ n → HasIdRoom n keeps spare → HasIdRoom m keeps spare };
+
+    ghost open_is_new: { (failed : Option (List ℕ)) (e : Self) → IsNew failed e 2 };
+}
+
+impl Event for Account {
+    ghost use Rattle.tb_ledger.specs.Batches.{account_events};
+
+    ghost kind = { account_events };
+
+    ghost room = { λ accounts transfers. accounts };
+
+    ghost HasTimeoutRoom = { λ n spare. Unit {0} };
+
+    ghost HasIdRoom = { λ n keeps spare. Unit {0} };
+
+    ghost IsNew = { λ failed a code. Unit {0} };
+
+    fn linked(&self) -> bool {
+        self.is_linked()
+    }
+
+    fn take<A: Allocator + Clone>(
+        &self,
+        rows: &mut Rows<A>,
+        trail: &mut Vec<Undo, A>,
+        time: u64,
+    ) -> u32 {
+        take_account(rows, trail, self, time)
+    }
+
+    fn refuse<A: Allocator + Clone>(&self, rows: &mut Rows<A>, code: u32) {
+        let _ = rows.time;
+        let _ = code;
+    }
+
+    ghost more_room = { λ a b c d accounts transfers. accounts };
+
+    ghost fewer_timeouts = { λ m n spare more less grown room. tt };
+
+    ghost fewer_ids = { λ m n keeps spare less ids. tt };
+
+    ghost open_is_new = { λ failed a. tt };
+}
+
+impl Event for Transfer {
+    ghost use Rattle.std.specs.List.{list_any};
+    ghost use Rattle.std.specs.Option.{option_map_or};
+    ghost use Rattle.std.proofs.Math.Nat.{le_trans};
+    ghost use Rattle.std.proofs.lemmas.Bool.{false≢true};
+    ghost use Rattle.tb_ledger.specs.Batches.{transfer_events, is_final};
+
+    ghost kind = { transfer_events };
+
+    ghost room = { λ accounts transfers. transfers };
+
+    ghost HasTimeoutRoom = { λ n spare. n ≤ spare };
+
+    ghost HasIdRoom = { λ n keeps spare. keeps ≡ true → n ≤ spare };
+
+    ghost IsNew = { λ failed t code. is_final code ≡ true → option_map_or (list_any (λ id. id == t.id)) failed false ≡ false };
+
+    fn linked(&self) -> bool {
+        self.is_linked()
+    }
+
+    fn take<A: Allocator + Clone>(
+        &self,
+        rows: &mut Rows<A>,
+        trail: &mut Vec<Undo, A>,
+        time: u64,
+    ) -> u32 {
+        take_transfer(rows, trail, self, time)
+    }
+
+    fn refuse<A: Allocator + Clone>(&self, rows: &mut Rows<A>, code: u32) {
+        note_failed(rows, self, code)
+    }
+
+    ghost more_room = { λ a b c d accounts transfers. transfers };
+
+    ghost fewer_timeouts = { λ m n spare more less grown room. le_trans less (le_trans room grown) };
+
+    ghost fewer_ids = { λ m n keeps spare less ids kept. le_trans less (ids kept) };
+
+    ghost open_is_new = { λ failed t final. absurd (false≢true final) };
+}

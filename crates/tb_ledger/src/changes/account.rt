@@ -1,0 +1,83 @@
+//! An account is judged, and added where it is accepted.
+ghost use Rattle.std.specs.Prelude.{◌≡◌, ◌+◌, ◌<◌, ◌≤◌, ◌==◌, vec_len, vec_capacity, ◌-◌, find, None};
+ghost use Rattle.tb_ledger.specs.Batches.{account_events};
+ghost use Rattle.tb_ledger.specs.Books.{account_at};
+ghost use Rattle.tb_ledger.specs.Kept.{books_in, IsKept, account_row_key, new_row};
+ghost use Rattle.tb_ledger.specs.Trail.{IsStep, IsNoted};
+ghost use Rattle.tb_records.specs.Ordered.{put};
+ghost use Rattle.tb_ledger.specs.Sound.{Sound, account_key};
+
+use crate::tables::map::Table;
+use crate::tables::rows::{AccountRow, Rows, Side};
+use crate::tables::trail::{TRAIL_PER_EVENT, Undo};
+use crate::verdicts::account::account_code;
+use std::alloc::Allocator;
+use tb_records::Account;
+
+/// Judges an account, and records it with its timestamp where the verdict is 0.
+pub(crate) fn take_account<A: Allocator + Clone>(
+    rows: &mut Rows<A>,
+    trail: &mut Vec<Undo, A>,
+    a: &Account,
+    time: u64,
+) -> u32
+    requires kept { IsKept rows.old }
+    requires room { 0 < rows.old.accounts.spare }
+    requires trail_room { vec_len trail.old + TRAIL_PER_EVENT ≤ vec_capacity trail.old }
+    ensures code { result ≡ account_events.verdict (books_in rows.old) a.now time }
+    ensures done { result ≡ 0 → books_in rows.new ≡ account_events.recorded (books_in rows.old) a.now time }
+    ensures kept { IsKept rows.new }
+    ensures step { IsStep TRAIL_PER_EVENT rows.old rows.new trail.old trail.new }
+    ensures room { rows.old.accounts.spare ≤ rows.new.accounts.spare + 1 }
+{
+    let code = account_code(rows, a);
+    if code != 0 {
+        return code;
+    }
+    let mut recorded = *a;
+    recorded.timestamp = time;
+    record_account(rows, trail, &recorded);
+    0
+}
+
+/// Adds an account as it is recorded.
+fn record_account<A: Allocator + Clone>(rows: &mut Rows<A>, trail: &mut Vec<Undo, A>, a: &Account)
+    requires kept { IsKept rows.old }
+    requires room { 0 < rows.old.accounts.spare }
+    requires trail_room { vec_len trail.old + TRAIL_PER_EVENT ≤ vec_capacity trail.old }
+    requires fresh { account_at (books_in rows.old) a.now.id ≡ None }
+    requires sound { Sound (record (books_in rows.old) { accounts = put account_key a.now (books_in rows.old).accounts }) }
+    ensures kept { IsKept rows.new }
+    ensures books { books_in rows.new ≡ record (books_in rows.old) { accounts = put account_key a.now (books_in rows.old).accounts } }
+    ensures step { IsStep TRAIL_PER_EVENT rows.old rows.new trail.old trail.new }
+    ensures accounts_room { rows.new.accounts.spare + 1 ≡ rows.old.accounts.spare }
+    ensures transfers_room { rows.new.transfers.spare ≡ rows.old.transfers.spare }
+    ensures timeouts_room { rows.new.timeouts.spare ≡ rows.old.timeouts.spare }
+{
+    add_account_row(&mut rows.accounts, trail, a);
+}
+
+/// Adds the row of an account: no transfer names it yet.
+fn add_account_row<A: Allocator + Clone>(
+    accounts: &mut Table<AccountRow, A>,
+    trail: &mut Vec<Undo, A>,
+    a: &Account,
+)
+    requires room { 0 < accounts.old.spare }
+    requires trail_room { vec_len trail.old < vec_capacity trail.old }
+    requires fresh { find (λ row. row.created.id == a.now.id) accounts.old.items ≡ None }
+    ensures accounts { accounts.new ≡ record { items = put account_row_key (new_row a.now) accounts.old.items; spare = accounts.old.spare - 1 } }
+    ensures noted { IsNoted 1 accounts.old.items accounts.new.items trail.old trail.new }
+{
+    let empty = Side {
+        pending: 0,
+        posted: 0,
+        held_closed: false,
+    };
+    trail.push_reserved(Undo::AddedAccount(a.id));
+    accounts.insert_reserved(AccountRow {
+        created: *a,
+        debits: empty,
+        credits: empty,
+    });
+}

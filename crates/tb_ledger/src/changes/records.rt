@@ -1,0 +1,46 @@
+//! The row of a transfer that is recorded.
+ghost use Rattle.std.specs.Prelude.{◌≡◌, ◌-◌, ◌<◌, ◌≤◌, ◌==◌, true, find, None, vec_len, vec_capacity};
+ghost use Rattle.tb_records.specs.Ordered.{put, Rising};
+ghost use Rattle.tb_ledger.specs.Verdicts.{int_max};
+ghost use Rattle.tb_ledger.specs.Kept.{transfer_row_key, times_out, listed, CanList, new_transfer_row};
+ghost use Rattle.tb_ledger.specs.Trail.{IsMarked};
+
+use crate::tables::index::list;
+use crate::tables::map::Table;
+use crate::tables::rows::{State, TransferRow};
+use crate::tables::timeouts::Timeouts;
+use crate::tables::trail::Undo;
+use std::alloc::Allocator;
+use tb_records::Transfer;
+
+/// The row of a transfer that is new: a pending one is open.
+pub(crate) fn row_of(recorded: Transfer) -> TransferRow
+    ensures row { result ≡ new_transfer_row recorded }
+    ensures fits { recorded.id ≤ int_max }
+{
+    TransferRow {
+        recorded,
+        state: State::Open,
+    }
+}
+
+/// Adds the row of a transfer, and its timeout where it has one.
+pub(crate) fn add_row<A: Allocator + Clone>(
+    transfers: &mut Table<TransferRow, A>,
+    timeouts: &mut Timeouts<A>,
+    trail: &mut Vec<Undo, A>,
+    row: &TransferRow,
+)
+    requires room { 0 < transfers.old.spare }
+    requires trail_room { vec_len trail.old < vec_capacity trail.old }
+    requires fresh { find (λ t. t.recorded.id == row.now.recorded.id) transfers.old.items ≡ None }
+    requires can_list { times_out row.now ≡ true → CanList row.now timeouts.old }
+    ensures transfers { transfers.new ≡ record { items = put transfer_row_key row.now transfers.old.items; spare = transfers.old.spare - 1 } }
+    ensures timeouts { timeouts.new ≡ listed row.now timeouts.old }
+    ensures rising { Rising transfer_row_key transfers.old.items }
+    ensures marked { IsMarked 1 transfers.old.items transfers.new.items timeouts.old timeouts.new trail.old trail.new }
+{
+    trail.push_reserved(Undo::AddedTransfer(*row));
+    transfers.insert_reserved(*row);
+    list(timeouts, row);
+}

@@ -1,0 +1,67 @@
+//! The two sides of an account: what a transfer adds to one, and what leaves it when a pending one ends.
+ghost use Rattle.std.specs.Prelude.{◌≡◌, ◌+◌, ◌≤◌, if◌then◌else◌};
+ghost use Rattle.tb_ledger.specs.Books.{pending, moves};
+ghost use Rattle.tb_ledger.specs.Verdicts.{int_max};
+ghost use Rattle.tb_ledger.specs.Kept.{gained, released};
+
+use crate::tables::rows::Side;
+use tb_records::Transfer;
+
+/// What a transfer holds until it is resolved or expires.
+fn pending_part(t: &Transfer) -> u128
+    ensures { result ≡ (if pending t.now then t.now.amount else 0) }
+{
+    if t.is_pending() { t.amount } else { 0 }
+}
+
+/// What a transfer moves for good.
+fn posted_part(t: &Transfer) -> u128
+    ensures { result ≡ (if moves t.now then t.now.amount else 0) }
+{
+    if !t.is_pending() && !t.is_void() {
+        t.amount
+    } else {
+        0
+    }
+}
+
+pub(crate) fn gain_side(s: Side, t: &Transfer, closes: bool) -> Side
+    requires { s.pending + s.posted + t.now.amount ≤ int_max }
+    ensures { result ≡ gained (λ _. closes) t.now s }
+{
+    let held = pending_part(t);
+    let moved = posted_part(t);
+    let held_closed = s.held_closed || t.is_pending() && closes;
+    Side {
+        pending: s.pending + held,
+        posted: s.posted + moved,
+        held_closed,
+    }
+}
+
+pub(crate) fn release_side(s: Side, p: &Transfer, closes: bool) -> Side
+    requires { p.now.amount ≤ s.pending }
+    ensures { result ≡ released (λ _. closes) p.now s }
+{
+    Side {
+        pending: s.pending - p.amount,
+        posted: s.posted,
+        held_closed: s.held_closed && !closes,
+    }
+}
+
+/// The pending amount leaves before what is posted of it comes.
+pub(crate) fn settle_side(
+    s: Side,
+    p: &Transfer,
+    r: &Transfer,
+    closes: bool,
+    closes_anew: bool,
+) -> Side
+    requires enough { p.now.amount ≤ s.pending }
+    requires fit { s.pending + s.posted ≤ int_max }
+    requires at_most { r.now.amount ≤ p.now.amount }
+    ensures { result ≡ gained (λ _. closes_anew) r.now (released (λ _. closes) p.now s) }
+{
+    gain_side(release_side(s, p, closes), r, closes_anew)
+}

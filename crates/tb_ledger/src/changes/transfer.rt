@@ -1,0 +1,82 @@
+//! A transfer is judged, and recorded where it is accepted; by profile 2 the id of one that fails for good is noted.
+ghost use Rattle.std.specs.Prelude.{◌≡◌, ℕ, ◌+◌, ◌<◌, ◌≤◌, ◌==◌, true, false, vec_len, vec_capacity};
+ghost use Rattle.std.specs.List.{list_any};
+ghost use Rattle.std.specs.Option.{option_map_or};
+ghost use Rattle.tb_ledger.specs.Batches.{is_final, transfer_events};
+ghost use Rattle.tb_ledger.specs.Kept.{books_in, IsKept};
+ghost use Rattle.tb_ledger.specs.Trail.{IsStep};
+
+use crate::changes::resolving::take_resolving;
+use crate::changes::single::take_single;
+use crate::tables::rows::Rows;
+use crate::tables::trail::{TRAIL_PER_EVENT, Undo};
+use crate::verdicts::transfer::{id_code, resolving};
+use std::alloc::Allocator;
+use tb_records::{CreateTransferResult, Transfer};
+
+/// Judges a transfer, and records it where the verdict is 0.
+pub(crate) fn take_transfer<A: Allocator + Clone>(
+    rows: &mut Rows<A>,
+    trail: &mut Vec<Undo, A>,
+    t: &Transfer,
+    time: u64,
+) -> u32
+    requires kept { IsKept rows.old }
+    requires room { 0 < rows.old.transfers.spare }
+    requires timeouts_room { 0 < rows.old.timeouts.spare }
+    requires trail_room { vec_len trail.old + TRAIL_PER_EVENT ≤ vec_capacity trail.old }
+    requires stamped { rows.old.time < time + 1000000000 }
+    ensures code { result ≡ transfer_events.verdict (books_in rows.old) t.now time }
+    ensures done { result ≡ 0 → books_in rows.new ≡ transfer_events.recorded (books_in rows.old) t.now time }
+    ensures kept { IsKept rows.new }
+    ensures step { IsStep TRAIL_PER_EVENT rows.old rows.new trail.old trail.new }
+    ensures room { rows.old.transfers.spare ≤ rows.new.transfers.spare + 1 }
+    ensures timeouts_room { rows.old.timeouts.spare ≤ rows.new.timeouts.spare + 1 }
+{
+    let code = id_code(rows, t);
+    if code != 0 {
+        return code;
+    }
+    if resolving(t) {
+        take_resolving(rows, trail, t, time)
+    } else {
+        take_single(rows, trail, t, time)
+    }
+}
+
+/// By profile 2, notes the id of a transfer that has failed for good.
+pub(crate) fn note_failed<A: Allocator + Clone>(rows: &mut Rows<A>, t: &Transfer, code: u32)
+    requires kept { IsKept rows.old }
+    requires ids { rows.old.keeps_failed ≡ true → 1 ≤ rows.old.failed.spare }
+    requires fresh { is_final code ≡ true → option_map_or (list_any (λ id. id == t.now.id)) (books_in rows.old).failed false ≡ false }
+    ensures books { books_in rows.new ≡ transfer_events.refused (books_in rows.old) t.now code }
+    ensures kept { IsKept rows.new }
+    ensures accounts { rows.new.accounts ≡ rows.old.accounts }
+    ensures transfers { rows.new.transfers ≡ rows.old.transfers }
+    ensures timeouts { rows.new.timeouts ≡ rows.old.timeouts }
+    ensures ids { (n : ℕ) → (rows.old.keeps_failed ≡ true → 1 + n ≤ rows.old.failed.spare) → rows.new.keeps_failed ≡ true → n ≤ rows.new.failed.spare }
+    ensures time { rows.new.time ≡ rows.old.time }
+{
+    if !rows.keeps_failed {
+        return;
+    }
+    if final_code(code) {
+        rows.failed.insert_reserved(t.id);
+    }
+}
+
+/// By profile 2 a transfer's id doesn't outlive this verdict.
+fn final_code(code: u32) -> bool
+    ensures { result ≡ is_final code }
+{
+    [
+        CreateTransferResult::DebitAccountNotFound as u32,
+        CreateTransferResult::CreditAccountNotFound as u32,
+        CreateTransferResult::PendingTransferNotFound as u32,
+        CreateTransferResult::ExceedsCredits as u32,
+        CreateTransferResult::ExceedsDebits as u32,
+        CreateTransferResult::DebitAccountAlreadyClosed as u32,
+        CreateTransferResult::CreditAccountAlreadyClosed as u32,
+    ]
+    .contains(&code)
+}

@@ -1,0 +1,272 @@
+//! A finite map: rows by rising key, in a balanced tree.
+ghost use Rattle.std.specs.Prelude.{◌≡◌, ◌≢◌, ◌⊎◌, ℕ, ◌+◌, ◌-◌, ◌<◌, ◌≤◌, ◌==◌, List, [], length, map, None, find, OnOk, IfSome, IfNone};
+ghost use Rattle.std.specs.Option.{option_copied};
+ghost use Rattle.std.specs.Map.{values_of};
+ghost use Rattle.tb_records.specs.Ordered.{put, replaced, taken_out, Rising};
+ghost use Rattle.avl_tree.specs.Map.{entries};
+ghost use Rattle.tb_ledger.specs.Tables.{IsTable, IsShortSearch, KeepsKeys, ChangedRows};
+
+use avl_tree::AvlMap;
+use std::alloc::{AllocError, Allocator};
+use std::marker::Model;
+
+/// A row that names itself by a key.
+pub trait Keyed: Copy {
+    ghost key: { Self → ℕ };
+
+    fn key(&self) -> u128
+        ensures { result ≡ key self.now };
+}
+
+impl Keyed for u128 {
+    ghost key = { λ id. id };
+
+    fn key(&self) -> u128 {
+        *self
+    }
+}
+
+/// Rows by rising key. A table takes memory only where it is asked to reserve.
+#[derive(Drop)]
+pub struct Table<V: Keyed, A: Allocator + Clone> {
+    rows: Option<AvlMap<u128, V, A>>,
+}
+
+impl<V: Keyed, A: Allocator + Clone> Model for Table<V, A> {
+    ghost use Rattle.tb_ledger.specs.Tables.{pairs_in, rows_in, room_in, IsTable, Stored};
+
+    ghost Value = { Stored V };
+
+    ghost view = { λ t. record { items = rows_in t.rows; spare = room_in t.rows } };
+
+    ghost invariant = { λ t. IsTable V.key (pairs_in t.rows) };
+}
+
+/// The row with the key.
+fn row_of<V: Keyed, A: Allocator + Clone>(rows: &AvlMap<u128, V, A>, id: u128) -> Option<&V>
+    requires { IsTable V.key (entries rows.now) }
+    ensures { option_copied result ≡ find (λ row. V.key row == id) (values_of (entries rows.now)) }
+{
+    rows.get(&id)
+}
+
+/// The rows with eight keys.
+fn rows_of<'a, V: Keyed, A: Allocator + Clone>(
+    rows: &'a AvlMap<u128, V, A>,
+    ids: &[u128; 8],
+) -> [Option<&'a V>; 8]
+    requires { IsTable V.key (entries rows.now) }
+    ensures { map option_copied result ≡ map (λ id. find (λ row. V.key row == id) (values_of (entries rows.now))) ids.now }
+{
+    rows.get_many(ids)
+}
+
+/// The row with the key, and the number of nodes that the search met.
+fn probe_row<V: Keyed, A: Allocator + Clone>(
+    rows: &AvlMap<u128, V, A>,
+    id: u128,
+) -> (Option<&V>, u32)
+    requires { IsTable V.key (entries rows.now) }
+    ensures row { option_copied result.0 ≡ find (λ row. V.key row == id) (values_of (entries rows.now)) }
+    ensures visits { IsShortSearch (length (values_of (entries rows.now))) result.1 }
+{
+    rows.probe(&id)
+}
+
+/// Inserts a row whose key isn't there into a spare node.
+fn insert_row<V: Keyed, A: Allocator + Clone>(rows: &mut AvlMap<u128, V, A>, row: V)
+    requires table { IsTable V.key (entries rows.old) }
+    requires room { 0 < rows.old.spare }
+    requires absent { find (λ y. V.key y == V.key row) (values_of (entries rows.old)) ≡ None }
+    ensures table { IsTable V.key (entries rows.new) }
+    ensures rows { values_of (entries rows.new) ≡ put V.key row (values_of (entries rows.old)) }
+    ensures room { rows.new.spare + 1 ≡ rows.old.spare }
+{
+    rows.insert_reserved(row.key(), row);
+}
+
+/// Puts a row in place of the one that has its key, if there is one.
+fn replace_row<V: Keyed, A: Allocator + Clone>(rows: &mut AvlMap<u128, V, A>, row: V)
+    requires table { IsTable V.key (entries rows.old) }
+    ensures table { IsTable V.key (entries rows.new) }
+    ensures rows { values_of (entries rows.new) ≡ replaced V.key row (values_of (entries rows.old)) }
+    ensures room { rows.new.spare ≡ rows.old.spare }
+{
+    let _ = rows.set(row.key(), row);
+}
+
+/// Calls the closure at the rows of two keys, where both are there.
+fn update_rows<V: Keyed, A: Allocator + Clone, R, F: FnMut(&mut V, &mut V) -> R>(
+    rows: &mut AvlMap<u128, V, A>,
+    a: u128,
+    b: u128,
+    f: &mut F,
+) -> Option<R>
+    requires table { IsTable V.key (entries rows.old) }
+    requires differ { a ≢ b }
+    requires callable { F.IsAlwaysCallable f.old }
+    requires keeps { KeepsKeys V.key F.FnMut }
+    ensures table { IsTable V.key (entries rows.new) }
+    ensures changed { IfSome result (λ r. ChangedRows V.key F.FnMut a b (values_of (entries rows.old)) f.old r f.new (values_of (entries rows.new))) }
+    ensures absent { IfNone result (((find (λ y. V.key y == a) (values_of (entries rows.old)) ≡ None) ⊎ (find (λ y. V.key y == b) (values_of (entries rows.old)) ≡ None)) × (values_of (entries rows.new) ≡ values_of (entries rows.old))) }
+    ensures room { rows.new.spare ≡ rows.old.spare }
+{
+    rows.update_two(&a, &b, f)
+}
+
+/// Takes the row with the key out, if there is one. Its node becomes spare.
+fn remove_row<V: Keyed, A: Allocator + Clone>(rows: &mut AvlMap<u128, V, A>, id: u128)
+    requires table { IsTable V.key (entries rows.old) }
+    ensures table { IsTable V.key (entries rows.new) }
+    ensures rows { values_of (entries rows.new) ≡ taken_out V.key id (values_of (entries rows.old)) }
+    ensures room { rows.old.spare ≤ rows.new.spare }
+{
+    let _ = rows.remove(&id);
+}
+
+impl<V: Keyed, A: Allocator + Clone> Table<V, A> {
+    /// An empty table. No memory is taken.
+    pub fn new() -> Self
+        ensures { result ≡ record { items = []; spare = 0 } }
+    {
+        Table { rows: None }
+    }
+
+    /// Hands out that keys rise.
+    pub fn ordered(&self)
+        ensures { Rising V.key self.now.items }
+    {
+        let _ = &self.rows;
+    }
+
+    /// The row with the key.
+    pub fn get(&self, id: u128) -> Option<&V>
+        ensures { option_copied result ≡ find (λ row. V.key row == id) self.now.items }
+    {
+        match &self.rows {
+            Some(rows) => row_of(rows, id),
+            None => None,
+        }
+    }
+
+    /// The rows with eight keys, each as [`Table::get`] gives it. The searches go on by turns.
+    pub fn get_many<'a>(&'a self, ids: &[u128; 8]) -> [Option<&'a V>; 8]
+        ensures { map option_copied result ≡ map (λ id. find (λ row. V.key row == id) self.now.items) ids.now }
+    {
+        match &self.rows {
+            Some(rows) => rows_of(rows, ids),
+            None => [None; 8],
+        }
+    }
+
+    /// The row with the key, and the number of nodes that the search met.
+    pub fn probe(&self, id: u128) -> (Option<&V>, u32)
+        ensures row { option_copied result.0 ≡ find (λ row. V.key row == id) self.now.items }
+        ensures visits { IsShortSearch (length self.now.items) result.1 }
+    {
+        match &self.rows {
+            Some(rows) => probe_row(rows, id),
+            None => (None, 0),
+        }
+    }
+
+    /// Makes room for `n` more rows. Where there is no memory the rows stay, and no room is lost.
+    pub fn reserve(&mut self, alloc: &A, n: usize) -> Result<(), AllocError>
+        ensures rows { self.new.items ≡ self.old.items }
+        ensures ok { OnOk result (n ≤ self.new.spare) }
+        ensures room { self.old.spare ≤ self.new.spare }
+    {
+        match &mut self.rows {
+            Some(rows) => rows.reserve(n),
+            None => {
+                let mut rows = AvlMap::new_in(alloc.clone()?);
+                let reserved = rows.reserve(n);
+                self.rows = Some(rows);
+                reserved
+            }
+        }
+    }
+
+    /// Inserts a row whose key isn't there, where there is room.
+    pub fn insert_reserved(&mut self, row: V)
+        requires room { 0 < self.old.spare }
+        requires absent { find (λ y. V.key y == V.key row) self.old.items ≡ None }
+        ensures table { self.new ≡ record { items = put V.key row self.old.items; spare = self.old.spare - 1 } }
+        ensures rising { Rising V.key self.old.items }
+    {
+        match &mut self.rows {
+            Some(rows) => insert_row(rows, row),
+            None => {}
+        }
+    }
+
+    /// Puts a row in place of the one that has its key. Where none has it, the table stays.
+    pub fn replace(&mut self, row: V)
+        ensures table { self.new ≡ record self.old { items = replaced V.key row self.old.items } }
+        ensures rising { Rising V.key self.old.items }
+    {
+        match &mut self.rows {
+            Some(rows) => replace_row(rows, row),
+            None => {}
+        }
+    }
+
+    /// Calls the closure at the rows of two keys, which it may change but for the keys. Where one has none, nothing happens.
+    pub fn update_two<R, F: FnMut(&mut V, &mut V) -> R>(
+        &mut self,
+        a: u128,
+        b: u128,
+        f: &mut F,
+    ) -> Option<R>
+        requires differ { a ≢ b }
+        requires callable { F.IsAlwaysCallable f.old }
+        requires keeps { KeepsKeys V.key F.FnMut }
+        ensures changed { IfSome result (λ r. ChangedRows V.key F.FnMut a b self.old.items f.old r f.new self.new.items) }
+        ensures absent { IfNone result (((find (λ y. V.key y == a) self.old.items ≡ None) ⊎ (find (λ y. V.key y == b) self.old.items ≡ None)) × (self.new.items ≡ self.old.items)) }
+        ensures room { self.new.spare ≡ self.old.spare }
+    {
+        match &mut self.rows {
+            Some(rows) => update_rows(rows, a, b, f),
+            None => None,
+        }
+    }
+
+    /// Takes the row with the key out. Where none has it, the table stays.
+    pub fn remove(&mut self, id: u128)
+        ensures rows { self.new.items ≡ taken_out V.key id self.old.items }
+        ensures room { self.old.spare ≤ self.new.spare }
+    {
+        match &mut self.rows {
+            Some(rows) => remove_row(rows, id),
+            None => {}
+        }
+    }
+}
+
+#[cfg(test)]
+mod tests {
+    use super::*;
+    use std::alloc::Global;
+    use std::process::Abort;
+    use std::test::Fail;
+
+    fn expect_row(rt: &impl Abort, ids: &Table<u128, Global>, id: u128, row: Option<u128>) {
+        assert!(rt; ids.get(id).copied() == row);
+    }
+
+    #[test]
+    fn keeps_rows_by_their_keys(rt: HostRuntime) -> Result<(), Fail> {
+        let mut ids: Table<u128, Global> = Table::new();
+        expect_row(&rt, &ids, 5, None);
+        ids.reserve(&rt.alloc(), 3)?;
+        ids.insert_reserved(5);
+        ids.insert_reserved(9);
+        ids.insert_reserved(7);
+        ids.replace(7);
+        ids.remove(5);
+        expect_row(&rt, &ids, 9, Some(9));
+        expect_row(&rt, &ids, 7, Some(7));
+        expect_row(&rt, &ids, 5, None);
+        Ok(())
+    }
+}

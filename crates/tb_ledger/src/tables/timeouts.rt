@@ -1,0 +1,150 @@
+//! When open pending transfers expire: their timeouts, by rising time.
+ghost use Rattle.std.specs.Prelude.{◌≡◌, ◌+◌, ◌-◌, ◌<◌, ◌≤◌, ◌==◌, [], None, find, OnOk};
+ghost use Rattle.tb_records.specs.Ordered.{put, taken_out};
+ghost use Rattle.avl_tree.specs.Map.{entries};
+ghost use Rattle.tb_ledger.specs.Timeouts.{timeout_key, timeouts_of, AreTimeouts, freed, with_timeout, without_timeout, TakesDue, IsFirstDue};
+
+use avl_tree::AvlMap;
+use std::alloc::{AllocError, Allocator};
+use std::marker::Model;
+
+/// When a pending transfer expires, in nanoseconds, and its id.
+#[derive(Clone, Copy, Debug, PartialEq, Eq)]
+pub struct Timeout {
+    pub at: u64,
+    pub id: u128,
+}
+
+/// Timeouts by rising time, and by rising id where times are the same. They take memory only where they are asked to reserve.
+#[derive(Drop)]
+pub struct Timeouts<A: Allocator + Clone> {
+    keys: Option<AvlMap<(u64, u128), (), A>>,
+}
+
+impl<A: Allocator + Clone> Model for Timeouts<A> {
+    ghost use Rattle.tb_ledger.specs.declared.tables.timeouts.Timeout.{Timeout};
+    ghost use Rattle.tb_ledger.specs.Tables.{room_in, Stored};
+    ghost use Rattle.tb_ledger.specs.Timeouts.{timeouts_in, AreTimeouts};
+
+    ghost Value = { Stored Timeout };
+
+    ghost view = { λ t. record { items = timeouts_in t.keys; spare = room_in t.keys } };
+
+    ghost invariant = { λ t. AreTimeouts (timeouts_in t.keys) };
+}
+
+/// Puts a timeout that isn't there into a spare node.
+fn insert_key<A: Allocator + Clone>(keys: &mut AvlMap<(u64, u128), (), A>, timeout: Timeout)
+    requires ordered { AreTimeouts (timeouts_of (entries keys.old)) }
+    requires room { 0 < keys.old.spare }
+    requires absent { find (λ d. timeout_key d == timeout_key timeout) (timeouts_of (entries keys.old)) ≡ None }
+    ensures ordered { AreTimeouts (timeouts_of (entries keys.new)) }
+    ensures timeouts { timeouts_of (entries keys.new) ≡ put timeout_key timeout (timeouts_of (entries keys.old)) }
+    ensures room { keys.new.spare + 1 ≡ keys.old.spare }
+{
+    keys.insert_reserved((timeout.at, timeout.id), ());
+}
+
+/// Takes a timeout out, if it is there. Its node becomes spare.
+fn remove_key<A: Allocator + Clone>(keys: &mut AvlMap<(u64, u128), (), A>, timeout: Timeout)
+    requires ordered { AreTimeouts (timeouts_of (entries keys.old)) }
+    ensures ordered { AreTimeouts (timeouts_of (entries keys.new)) }
+    ensures timeouts { timeouts_of (entries keys.new) ≡ taken_out timeout_key (timeout_key timeout) (timeouts_of (entries keys.old)) }
+    ensures room { keys.new.spare ≡ keys.old.spare + freed (find (λ d. timeout_key d == timeout_key timeout) (timeouts_of (entries keys.old))) }
+{
+    let _ = keys.remove(&(timeout.at, timeout.id));
+}
+
+/// The first timeout, where it is due at the time.
+fn first_due<A: Allocator + Clone>(keys: &AvlMap<(u64, u128), (), A>, time: u64) -> Option<Timeout>
+    requires { AreTimeouts (timeouts_of (entries keys.now)) }
+    ensures { IsFirstDue time (timeouts_of (entries keys.now)) result }
+{
+    let (key, _) = keys.first()?;
+    let (at, id) = *key;
+    if at <= time {
+        Some(Timeout { at, id })
+    } else {
+        None
+    }
+}
+
+// Takes the first timeout out, where it is due at the time. Its node becomes spare.
+fn pop_first_due<A: Allocator + Clone>(
+    keys: &mut AvlMap<(u64, u128), (), A>,
+    time: u64,
+) -> Option<Timeout>
+    requires { AreTimeouts (timeouts_of (entries keys.old)) }
+    ensures ordered { AreTimeouts (timeouts_of (entries keys.new)) }
+    ensures taken { TakesDue time (record { items = timeouts_of (entries keys.old); spare = keys.old.spare }) result (record { items = timeouts_of (entries keys.new); spare = keys.new.spare }) }
+{
+    let due = first_due(keys, time)?;
+    let _ = keys.pop_first();
+    Some(due)
+}
+
+impl<A: Allocator + Clone> Timeouts<A> {
+    /// No timeouts. No memory is taken.
+    pub fn new() -> Self
+        ensures { result ≡ record { items = []; spare = 0 } }
+    {
+        Timeouts { keys: None }
+    }
+
+    /// Hands out that they are in order.
+    pub fn ordered(&self)
+        ensures { AreTimeouts self.now.items }
+    {
+        let _ = &self.keys;
+    }
+
+    /// Makes room for `n` more timeouts. Where there is no memory they stay, and no room is lost.
+    pub fn reserve(&mut self, alloc: &A, n: usize) -> Result<(), AllocError>
+        ensures timeouts { self.new.items ≡ self.old.items }
+        ensures ok { OnOk result (n ≤ self.new.spare) }
+        ensures room { self.old.spare ≤ self.new.spare }
+    {
+        match &mut self.keys {
+            Some(keys) => keys.reserve(n),
+            None => {
+                let mut keys = AvlMap::new_in(alloc.clone()?);
+                let reserved = keys.reserve(n);
+                self.keys = Some(keys);
+                reserved
+            }
+        }
+    }
+
+    /// Inserts a timeout that isn't there, where there is room.
+    pub fn insert_reserved(&mut self, timeout: Timeout)
+        requires room { 0 < self.old.spare }
+        requires absent { find (λ d. timeout_key d == timeout_key timeout) self.old.items ≡ None }
+        ensures { self.new ≡ with_timeout timeout self.old }
+    {
+        match &mut self.keys {
+            Some(keys) => insert_key(keys, timeout),
+            None => {}
+        }
+    }
+
+    /// Takes a timeout out. Where it isn't there, the timeouts stay.
+    pub fn remove(&mut self, timeout: Timeout)
+        ensures timeouts { self.new ≡ without_timeout timeout self.old }
+        ensures ordered { AreTimeouts self.old.items }
+    {
+        match &mut self.keys {
+            Some(keys) => remove_key(keys, timeout),
+            None => {}
+        }
+    }
+
+    /// Takes the first timeout out, where it is due at the time.
+    pub fn pop_due(&mut self, time: u64) -> Option<Timeout>
+        ensures { TakesDue time self.old result self.new }
+    {
+        match &mut self.keys {
+            Some(keys) => pop_first_due(keys, time),
+            None => None,
+        }
+    }
+}

@@ -1,0 +1,8 @@
+//! The code of an event, by the tables as they stand: each group of lines is answered before the next looks anything up.
+
+pub(crate) mod account;
+mod blanks;
+mod lines;
+pub(crate) mod resolving;
+pub(crate) mod single;
+pub(crate) mod transfer;

@@ -1,0 +1,186 @@
+//! The verdict on a transfer between two accounts: its own lines, the pair of accounts, the amount.
+ghost use Rattle.std.specs.Prelude.{◌≡◌, ◌+◌, ◌*◌, nat_lt, Some, IfOk};
+ghost use Rattle.tb_ledger.specs.Found.{Judges};
+ghost use Rattle.tb_ledger.specs.Kept.{row_now};
+ghost use Rattle.tb_ledger.specs.Verdicts.{first_of, int_max, max_time, balanced_amount, amount_lines, pair_code, pair_lines, single_own_lines};
+
+use crate::tables::rows::AccountRow;
+use crate::tables::standing::flags_now;
+use tb_records::{
+    AccountFlag, CreateTransferResult, LAST_MOMENT, NANOSECONDS_PER_SECOND, Transfer, TransferFlag,
+};
+
+/// What is wrong by itself with a transfer that is no post or void, or 0.
+pub(crate) fn single_own(t: &Transfer) -> u32
+    ensures { result ≡ first_of (single_own_lines t.now) }
+{
+    if t.debit_account_id == 0 {
+        return CreateTransferResult::DebitAccountIdMustNotBeZero as u32;
+    }
+    if t.debit_account_id == u128::MAX {
+        return CreateTransferResult::DebitAccountIdMustNotBeIntMax as u32;
+    }
+    if t.credit_account_id == 0 {
+        return CreateTransferResult::CreditAccountIdMustNotBeZero as u32;
+    }
+    if t.credit_account_id == u128::MAX {
+        return CreateTransferResult::CreditAccountIdMustNotBeIntMax as u32;
+    }
+    if t.debit_account_id == t.credit_account_id {
+        return CreateTransferResult::AccountsMustBeDifferent as u32;
+    }
+    if t.pending_id != 0 {
+        return CreateTransferResult::PendingIdMustBeZero as u32;
+    }
+    let pending = t.is_pending();
+    if !pending && t.timeout != 0 {
+        return CreateTransferResult::TimeoutReservedForPendingTransfer as u32;
+    }
+    if !pending && t.is_closing() {
+        return CreateTransferResult::ClosingTransferMustBePending as u32;
+    }
+    if t.ledger == 0 {
+        return CreateTransferResult::LedgerMustNotBeZero as u32;
+    }
+    if t.code == 0 {
+        return CreateTransferResult::CodeMustNotBeZero as u32;
+    }
+    0
+}
+
+/// A transfer between two accounts that are there: a code, or the amount that it moves.
+pub(crate) fn between(d: &AccountRow, c: &AccountRow, t: &Transfer, time: u64) -> Result<u128, u32>
+    ensures judged { Judges result (pair_code (Some (row_now d.now)) (Some (row_now c.now)) t.now time) }
+    ensures amount { IfOk result (λ amount. amount ≡ balanced_amount (row_now d.now) (row_now c.now) t.now) }
+{
+    let code = pair(d, c, t);
+    if code != 0 {
+        return Err(code);
+    }
+    let amount = balanced(d, c, t);
+    let code = amounts(d, c, t, amount, time);
+    if code != 0 {
+        return Err(code);
+    }
+    Ok(amount)
+}
+
+/// Whether two accounts can exchange money: a code, or 0.
+fn pair(d: &AccountRow, c: &AccountRow, t: &Transfer) -> u32
+    ensures { result ≡ first_of (pair_lines (row_now d.now) (row_now c.now) t.now) }
+{
+    if d.created.ledger != c.created.ledger {
+        return CreateTransferResult::AccountsMustHaveTheSameLedger as u32;
+    }
+    if t.ledger != d.created.ledger {
+        return CreateTransferResult::TransferMustHaveTheSameLedgerAsAccounts as u32;
+    }
+    if AccountFlag::Closed.is_in(flags_now(d)) {
+        return CreateTransferResult::DebitAccountAlreadyClosed as u32;
+    }
+    if AccountFlag::Closed.is_in(flags_now(c)) {
+        return CreateTransferResult::CreditAccountAlreadyClosed as u32;
+    }
+    0
+}
+
+/// What a balancing transfer moves between two accounts: at most what keeps its sides balanced.
+fn balanced(d: &AccountRow, c: &AccountRow, t: &Transfer) -> u128
+    ensures { result ≡ balanced_amount (row_now d.now) (row_now c.now) t.now }
+{
+    let mut amount = t.amount;
+    if t.has(TransferFlag::BalancingDebit) {
+        amount = amount.min(
+            d.credits
+                .posted
+                .saturating_sub(d.debits.posted)
+                .saturating_sub(d.debits.pending),
+        );
+    }
+    if t.has(TransferFlag::BalancingCredit) {
+        amount = amount.min(
+            c.debits
+                .posted
+                .saturating_sub(c.credits.posted)
+                .saturating_sub(c.credits.pending),
+        );
+    }
+    amount
+}
+
+/// Whether the amount, balanced, fits both accounts and the timeout the clock: a code, or 0.
+fn amounts(d: &AccountRow, c: &AccountRow, t: &Transfer, amount: u128, time: u64) -> u32
+    ensures { result ≡ first_of (amount_lines (row_now d.now) (row_now c.now) t.now amount time) }
+{
+    let pending = t.is_pending();
+    if pending && above(d.debits.pending, amount) {
+        return CreateTransferResult::OverflowsDebitsPending as u32;
+    }
+    if pending && above(c.credits.pending, amount) {
+        return CreateTransferResult::OverflowsCreditsPending as u32;
+    }
+    if above(d.debits.posted, amount) {
+        return CreateTransferResult::OverflowsDebitsPosted as u32;
+    }
+    if above(c.credits.posted, amount) {
+        return CreateTransferResult::OverflowsCreditsPosted as u32;
+    }
+    if sum_above(d.debits.pending, d.debits.posted, amount) {
+        return CreateTransferResult::OverflowsDebits as u32;
+    }
+    if sum_above(c.credits.pending, c.credits.posted, amount) {
+        return CreateTransferResult::OverflowsCredits as u32;
+    }
+    if overdue(time, t.timeout) {
+        return CreateTransferResult::OverflowsTimeout as u32;
+    }
+    if AccountFlag::DebitsMustNotExceedCredits.is_in(flags_now(d))
+        && sum_exceeds(d.debits.pending, d.debits.posted, amount, d.credits.posted)
+    {
+        return CreateTransferResult::ExceedsCredits as u32;
+    }
+    if AccountFlag::CreditsMustNotExceedDebits.is_in(flags_now(c))
+        && sum_exceeds(c.credits.pending, c.credits.posted, amount, c.debits.posted)
+    {
+        return CreateTransferResult::ExceedsDebits as u32;
+    }
+    0
+}
+
+/// The sum is above the largest number.
+fn above(x: u128, y: u128) -> bool
+    ensures { result ≡ nat_lt int_max (x + y) }
+{
+    x.checked_add(y).is_none()
+}
+
+/// The sum of three is above the largest number.
+fn sum_above(x: u128, y: u128, z: u128) -> bool
+    ensures { result ≡ nat_lt int_max (x + y + z) }
+{
+    match x.checked_add(y) {
+        Some(sum) => above(sum, z),
+        None => true,
+    }
+}
+
+/// The sum of three is above a limit.
+fn sum_exceeds(x: u128, y: u128, z: u128, limit: u128) -> bool
+    ensures { result ≡ nat_lt limit (x + y + z) }
+{
+    match x.checked_add(y) {
+        Some(two) => match two.checked_add(z) {
+            Some(sum) => limit < sum,
+            None => true,
+        },
+        None => true,
+    }
+}
+
+/// A timeout would end after the last moment of the clock.
+fn overdue(time: u64, timeout: u32) -> bool
+    ensures { result ≡ nat_lt max_time (time + timeout * 1000000000) }
+{
+    u128::from(LAST_MOMENT)
+        < u128::from(time) + u128::from(timeout) * u128::from(NANOSECONDS_PER_SECOND)
+}
