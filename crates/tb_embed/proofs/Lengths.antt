@@ -14,9 +14,9 @@ use Rattle.tb_sessions.specs.declared.classes.Class.{Class}
 use Rattle.tb_sessions.specs.declared.classes.Class.TheVariants.{New, Repeat, NoSession, SessionTooLow, NewerSession, Older, Collision, NewerRequest}
 use Rattle.tb_sessions.specs.Judged.{row_of, class_of}
 use Rattle.tb_machine.specs.Histories.{State, is_new, status_of, refusal, answer_by, answer_to}
-use Rattle.tb_machine.specs.Scripts.{Pair, entry_of, moved}
+use Rattle.tb_machine.specs.Scripts.{Pair, entry_of, after_pair}
 use Rattle.tb_machine.specs.Runs.{is_new_in, IsTimely, answer_bytes}
-use Rattle.tb_machine.proofs.Turns.{row_after, answer_after, moved_new, moved_known}
+use Rattle.tb_machine.proofs.Turns.{row_after, answer_after, after_new, after_known}
 use Rattle.tb_embed.specs.Filling.{length_by}
 
 length_frame : (r : Answer) → length (reply_bytes r) ≡ 48 + length (reply_body_bytes r.body)
@@ -60,27 +60,27 @@ module _ (S : State) (p : Pair) (lawful : IsLawful p.1) (timely : IsTimely S p) 
   abbrev Right : State → Class → Type 0
   Right T c = length_by c (row_of T.rows p.1.client) ≡ length (reply_bytes (answer_to T p.1))
 
-  new_length : is_new_in S p ≡ true → Right (moved S p) New
+  new_length : is_new_in S p ≡ true → Right (after_pair S p) New
   new_length new =
       let e = entry_of S p in
-      subst (λ (T : State). Right T New) (sym (moved_new S p new (timely new)))
+      subst (λ (T : State). Right T New) (sym (after_new S p new (timely new)))
       (ap (length_by New) (row_after S e) ∙ sym (ap (λ (a : Answer). length (reply_bytes a)) (answer_after S e lawful)))
 
-  old_length : is_new_in S p ≡ false → Right (moved S p) (class_of S.rows p.1)
-  old_length known = subst (λ (T : State). Right T (class_of S.rows p.1)) (sym (moved_known S p known)) (known_length (class_of S.rows p.1) (row_of S.rows p.1.client) p.1 known)
+  old_length : is_new_in S p ≡ false → Right (after_pair S p) (class_of S.rows p.1)
+  old_length known = subst (λ (T : State). Right T (class_of S.rows p.1)) (sym (after_known S p known)) (known_length (class_of S.rows p.1) (row_of S.rows p.1.client) p.1 known)
 
-  by_class : (c : Class) → c ≡ class_of S.rows p.1 → Right (moved S p) c
+  by_class : (c : Class) → c ≡ class_of S.rows p.1 → Right (after_pair S p) c
   by_class New e = new_length (ap is_new (sym e))
-  by_class Repeat e = subst (Right (moved S p)) (sym e) (old_length (ap is_new (sym e)))
-  by_class NoSession e = subst (Right (moved S p)) (sym e) (old_length (ap is_new (sym e)))
-  by_class SessionTooLow e = subst (Right (moved S p)) (sym e) (old_length (ap is_new (sym e)))
-  by_class NewerSession e = subst (Right (moved S p)) (sym e) (old_length (ap is_new (sym e)))
-  by_class Older e = subst (Right (moved S p)) (sym e) (old_length (ap is_new (sym e)))
-  by_class Collision e = subst (Right (moved S p)) (sym e) (old_length (ap is_new (sym e)))
-  by_class NewerRequest e = subst (Right (moved S p)) (sym e) (old_length (ap is_new (sym e)))
+  by_class Repeat e = subst (Right (after_pair S p)) (sym e) (old_length (ap is_new (sym e)))
+  by_class NoSession e = subst (Right (after_pair S p)) (sym e) (old_length (ap is_new (sym e)))
+  by_class SessionTooLow e = subst (Right (after_pair S p)) (sym e) (old_length (ap is_new (sym e)))
+  by_class NewerSession e = subst (Right (after_pair S p)) (sym e) (old_length (ap is_new (sym e)))
+  by_class Older e = subst (Right (after_pair S p)) (sym e) (old_length (ap is_new (sym e)))
+  by_class Collision e = subst (Right (after_pair S p)) (sym e) (old_length (ap is_new (sym e)))
+  by_class NewerRequest e = subst (Right (after_pair S p)) (sym e) (old_length (ap is_new (sym e)))
 
   -- the reply to a request that was served is as long as its class and its client's row tell
-  pub answered_length : (T : State) (c : Class) (client : ℕ) → c ≡ class_of S.rows p.1 → client ≡ p.1.client → T ≡ moved S p → length_by c (row_of T.rows client) ≡ length (answer_bytes S p)
+  pub answered_length : (T : State) (c : Class) (client : ℕ) → c ≡ class_of S.rows p.1 → client ≡ p.1.client → T ≡ after_pair S p → length_by c (row_of T.rows client) ≡ length (answer_bytes S p)
   answered_length T c client e own is =
       ap (λ (k : ℕ). length_by c (row_of T.rows k)) own
       ∙ subst (λ (U : State). length_by c (row_of U.rows p.1.client) ≡ length (answer_bytes S p)) (sym is) (by_class c e)

@@ -7,7 +7,7 @@ use Rattle.tb_records.specs.declared.limits.Profile.TheVariants.{One, Two}
 use Rattle.tb_records.specs.Messages.{Message}
 use Rattle.tb_records.specs.Frames.{Spells, request_fault}
 use Rattle.tb_machine.specs.Histories.{State, start}
-use Rattle.tb_machine.specs.Scripts.{Pair, has_time, moved}
+use Rattle.tb_machine.specs.Scripts.{Pair, has_time, after_pair}
 use Rattle.tb_machine.specs.Runs.{is_new_in, IsTimely, answer_bytes}
 use Rattle.tb_embed.specs.declared.held.Server.{Server}
 use Rattle.tb_embed.specs.declared.outcomes.Outcome.{Outcome}
@@ -43,8 +43,8 @@ IsMalformed bytes = ((fault : FrameFault) × (request_fault bytes ≡ Some fault
 -- needs more room than there is and can be had by sending the request again; or the machine stands as it stood, since no
 -- time is left for a new request, or no memory
 abbrev pub Answers : Outcome → State → State → Pair → List ℕ → Type 0
-Answers (Done n) S T p room = IsTimely S p × (T ≡ moved S p) × (n ≤ length room) × (take n room ≡ answer_bytes S p)
-Answers (TooSmall n) S T p room = IsTimely S p × (T ≡ moved S p) × (length room < n) × (n ≡ length (answer_bytes S p))
+Answers (Done n) S T p room = IsTimely S p × (T ≡ after_pair S p) × (n ≤ length room) × (take n room ≡ answer_bytes S p)
+Answers (TooSmall n) S T p room = IsTimely S p × (T ≡ after_pair S p) × (length room < n) × (n ≡ length (answer_bytes S p))
 Answers TimeExhausted S T p room = (is_new_in S p ≡ true) × (has_time S p ≡ false) × (T ≡ S)
 Answers NoMemory S T p room = (is_new_in S p ≡ true) × (has_time S p ≡ true) × (T ≡ S)
 Answers outcome S T p room = ⊥
@@ -58,8 +58,8 @@ AnswersFrame outcome S T moment bytes room = (r : Message) × Spells bytes r × 
 -- a request that was served at a moment and comes again at another one moves nothing, and is answered by the same bytes
 abbrev pub IsAnsweredAgain : State → ℕ → ℕ → Message → Type 0
 IsAnsweredAgain S moment again r =
-    (moved (moved S (moment, r)) (again, r) ≡ moved S (moment, r))
-    × (answer_bytes (moved S (moment, r)) (again, r) ≡ answer_bytes S (moment, r))
+    (after_pair (after_pair S (moment, r)) (again, r) ≡ after_pair S (moment, r))
+    × (answer_bytes (after_pair S (moment, r)) (again, r) ≡ answer_bytes S (moment, r))
 
 abbrev pub Serves : Outcome → Option State → Option State → ℕ → List ℕ → List ℕ → Type 0
 Serves outcome (Some S) (Some T) moment bytes room = AnswersFrame outcome S T moment bytes room

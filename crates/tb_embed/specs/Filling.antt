@@ -7,13 +7,13 @@ use Rattle.tb_sessions.specs.declared.classes.Class.TheVariants.{New, Repeat}
 use Rattle.tb_machine.specs.declared.serving.RunFault.{RunFault}
 use Rattle.tb_machine.specs.declared.serving.RunFault.TheVariants as fault
 use Rattle.tb_machine.specs.Histories.{State}
-use Rattle.tb_machine.specs.Scripts.{Pair, has_time, moved}
+use Rattle.tb_machine.specs.Scripts.{Pair, has_time, after_pair}
 use Rattle.tb_machine.specs.Runs.{is_new_in, IsTimely, answer_bytes}
 
 -- the answer fills so many bytes of the room, or a beginning of the answer fills the room
 abbrev pub Fills : Result ℕ RunFault → State → State → Pair → List ℕ → Type 0
-Fills (Ok n) S T p room = IsTimely S p × (T ≡ moved S p) × (n ≤ length room) × (take n room ≡ answer_bytes S p)
-Fills (Err (fault.Frame f)) S T p room = IsTimely S p × (T ≡ moved S p) × ((n : ℕ) × (room ≡ take n (answer_bytes S p)))
+Fills (Ok n) S T p room = IsTimely S p × (T ≡ after_pair S p) × (n ≤ length room) × (take n room ≡ answer_bytes S p)
+Fills (Err (fault.Frame f)) S T p room = IsTimely S p × (T ≡ after_pair S p) × ((n : ℕ) × (room ≡ take n (answer_bytes S p)))
 Fills (Err fault.NoMemory) S T p room = (is_new_in S p ≡ true) × (has_time S p ≡ true) × (T ≡ S)
 Fills (Err fault.TimeExhausted) S T p room = (is_new_in S p ≡ true) × (has_time S p ≡ false) × (T ≡ S)
 Fills (Err fault.TooLong) S T p room = ⊥

@@ -10,7 +10,7 @@ use Rattle.tb_machine.specs.declared.entries.Entry.{Entry}
 use Rattle.tb_machine.specs.declared.serving.RunFault.{RunFault}
 use Rattle.tb_machine.specs.declared.serving.RunFault.TheVariants as fault
 use Rattle.tb_machine.specs.Histories.{State, start, step, after, answer_to}
-use Rattle.tb_machine.specs.Scripts.{Pair, entry_of, is_entered, moved, with_pair, accepted, replies_from, replies_to}
+use Rattle.tb_machine.specs.Scripts.{Pair, entry_of, is_entered, after_pair, with_pair, accepted, replies_from, replies_to}
 use Rattle.tb_machine.specs.Runs.{IsPair, Spell, Reads, IsTimely, answer_bytes, Turns, HasTimes, state_after, Served, EndsBy, Ran}
 use Rattle.tb_machine.specs.Serving.{Serves}
 use Rattle.tb_machine.proofs.Rows.{each_snoc}
@@ -75,8 +75,8 @@ sends_then xs ys a b d first then_it = record {
 module _ (profile : Profile) (clients_max : ℕ) where
   -- one pair more
 
-  after_pair : (h : List Entry) (p : Pair) → after profile clients_max (with_pair profile clients_max h p) ≡ moved (after profile clients_max h) p
-  after_pair h p = parts (is_entered (after profile clients_max h) p)
+  after_with_pair : (h : List Entry) (p : Pair) → after profile clients_max (with_pair profile clients_max h p) ≡ after_pair (after profile clients_max h) p
+  after_with_pair h p = parts (is_entered (after profile clients_max h) p)
     where
       parts : (b : Bool) → after profile clients_max (cond b (h ++ entry_of (after profile clients_max h) p ∷ []) h) ≡ cond b (step (after profile clients_max h) (entry_of (after profile clients_max h) p)) (after profile clients_max h)
       parts true = after_snoc profile clients_max h (entry_of (after profile clients_max h) p)
@@ -85,8 +85,8 @@ module _ (profile : Profile) (clients_max : ℕ) where
   accepted_snoc : (h : List Entry) (ps : List Pair) (p : Pair) → accepted profile clients_max h (ps ++ p ∷ []) ≡ with_pair profile clients_max (accepted profile clients_max h ps) p
   accepted_snoc h ps p = fold_snoc (with_pair profile clients_max) h ps p
 
-  state_snoc : (ps : List Pair) (p : Pair) → state_after profile clients_max (ps ++ p ∷ []) ≡ moved (state_after profile clients_max ps) p
-  state_snoc ps p = ap (after profile clients_max) (accepted_snoc [] ps p) ∙ after_pair (accepted profile clients_max [] ps) p
+  state_snoc : (ps : List Pair) (p : Pair) → state_after profile clients_max (ps ++ p ∷ []) ≡ after_pair (state_after profile clients_max ps) p
+  state_snoc ps p = ap (after profile clients_max) (accepted_snoc [] ps p) ∙ after_with_pair (accepted profile clients_max [] ps) p
 
   replies_snoc : (h : List Entry) (ps : List Pair) (p : Pair)
       → replies_from profile clients_max h (ps ++ p ∷ []) ≡ replies_from profile clients_max h ps ++ answer_to (after profile clients_max (with_pair profile clients_max (accepted profile clients_max h ps) p)) p.1 ∷ []
@@ -103,7 +103,7 @@ module _ (profile : Profile) (clients_max : ℕ) where
       ∙ flat_map-append reply_bytes (replies_to profile clients_max ps) (answer_to (after profile clients_max (with_pair profile clients_max (accepted profile clients_max [] ps) p)) p.1 ∷ [])
       ∙ ap (λ l. flat_map reply_bytes (replies_to profile clients_max ps) ++ l)
       (append-nil (reply_bytes (answer_to (after profile clients_max (with_pair profile clients_max (accepted profile clients_max [] ps) p)) p.1))
-      ∙ ap (λ (S : State). reply_bytes (answer_to S p.1)) (after_pair (accepted profile clients_max [] ps) p))
+      ∙ ap (λ (S : State). reply_bytes (answer_to S p.1)) (after_with_pair (accepted profile clients_max [] ps) p))
 
   -- the loop's invariant: k pairs were served
   pub record Serving (k : ℕ) (S : State) (before middle : Input) (first written : Output) : Type 0 where
@@ -117,7 +117,7 @@ module _ (profile : Profile) (clients_max : ℕ) where
 
   pub serving_on : (k : ℕ) (S T : State) (before middle after : Input) (first written next : Output) → Serving k S before middle first written → Serves (Ok true) S T middle after written next → Serving (k + 1) T before after first next
   serving_on k S T before middle after first written next s n =
-      let turn = subst (λ (U : State). IsTimely U n.pair × (T ≡ moved U n.pair) × Sent (answer_bytes U n.pair) written next) s.state n.turn in
+      let turn = subst (λ (U : State). IsTimely U n.pair × (T ≡ after_pair U n.pair) × Sent (answer_bytes U n.pair) written next) s.state n.turn in
       record {
         pairs = s.pairs ++ n.pair ∷ [];
         long = omega (arith, s.long, length-append s.pairs (n.pair ∷ []));

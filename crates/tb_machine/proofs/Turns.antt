@@ -14,7 +14,7 @@ use Rattle.tb_sessions.specs.Judged.{client_of, row_of, first_class, class_besid
 use Rattle.tb_sessions.specs.Admission.{driven_out, without, admitted}
 use Rattle.tb_machine.specs.declared.entries.Entry.{Entry}
 use Rattle.tb_machine.specs.Histories.{State, is_new, session_of, row_at, reply_at, step, status_of, refusal, answer_by, answer_to}
-use Rattle.tb_machine.specs.Scripts.{Pair, entry_of, has_time, moved}
+use Rattle.tb_machine.specs.Scripts.{Pair, entry_of, has_time, after_pair}
 use Rattle.tb_records.specs.ReplyFrames.{reply_bytes}
 use Rattle.tb_records.specs.Transport.{Output, Sent, CutOff}
 use Rattle.tb_machine.specs.declared.serving.RunFault.{RunFault}
@@ -91,11 +91,11 @@ answer_refused NewerRequest o r other = refl
 
 -- where a pair leads
 
-pub moved_new : (S : State) (p : Pair) → is_new_in S p ≡ true → has_time S p ≡ true → moved S p ≡ step S (entry_of S p)
-moved_new S p new time = ap (λ b. cond b (step S (entry_of S p)) S) (ap (λ b. b && has_time S p) new ∙ time)
+pub after_new : (S : State) (p : Pair) → is_new_in S p ≡ true → has_time S p ≡ true → after_pair S p ≡ step S (entry_of S p)
+after_new S p new time = ap (λ b. cond b (step S (entry_of S p)) S) (ap (λ b. b && has_time S p) new ∙ time)
 
-pub moved_known : (S : State) (p : Pair) → is_new_in S p ≡ false → moved S p ≡ S
-moved_known S p known = ap (λ b. cond b (step S (entry_of S p)) S) (ap (λ b. b && has_time S p) known)
+pub after_known : (S : State) (p : Pair) → is_new_in S p ≡ false → after_pair S p ≡ S
+after_known S p known = ap (λ b. cond b (step S (entry_of S p)) S) (ap (λ b. b && has_time S p) known)
 
 -- what a call answers
 
@@ -108,9 +108,9 @@ entered_stored S T p client entered is =
     (ap (row_of (step S (entry_of S p)).rows) is ∙ row_after S (entry_of S p))
 
 entered_answer : (S : State) (p : Pair) (a : Answer) (o : Option Row) → IsLawful p.1 → is_new_in S p ≡ true → has_time S p ≡ true
-    → o ≡ Some (row_at S (entry_of S p)) → option_map (λ (row : Row). row.reply) o ≡ Some a → answer_to (moved S p) p.1 ≡ a
+    → o ≡ Some (row_at S (entry_of S p)) → option_map (λ (row : Row). row.reply) o ≡ Some a → answer_to (after_pair S p) p.1 ≡ a
 entered_answer S p a o lawful new time found told =
-    ap (λ (U : State). answer_to U p.1) (moved_new S p new time)
+    ap (λ (U : State). answer_to U p.1) (after_new S p new time)
     ∙ answer_after S (entry_of S p) lawful
     ∙ some_one (sym (ap (option_map (λ (row : Row). row.reply)) found) ∙ told)
   where
@@ -127,15 +127,15 @@ entered_turn result S T p client a before after lawful class entered is told sen
     new : is_new_in S p ≡ true
     new = ap is_new class
 
-    answer_is : answer_to (moved S p) p.1 ≡ a
+    answer_is : answer_to (after_pair S p) p.1 ≡ a
     answer_is = entered_answer S p a (row_of T.rows client) lawful new entered.0 (entered_stored S T p client entered is) told
 
     by : (result : Result (Unit {0}) RunFault)
         → Delivers result (reply_bytes a) before after
         → Turns result S T p before after
-    by (Ok done) sent = ((λ _. entered.0), entered.1 ∙ sym (moved_new S p new entered.0), subst (λ (b : Answer). Sent (reply_bytes b) before after) (sym answer_is) sent)
+    by (Ok done) sent = ((λ _. entered.0), entered.1 ∙ sym (after_new S p new entered.0), subst (λ (b : Answer). Sent (reply_bytes b) before after) (sym answer_is) sent)
     by (Err f) sent = subst (λ (f : RunFault). Turns (Err f) S T p before after) (sym sent.0)
-        ((λ _. entered.0), entered.1 ∙ sym (moved_new S p new entered.0), refl, subst (λ (b : Answer). CutOff (reply_bytes b) before after) (sym answer_is) sent.1)
+        ((λ _. entered.0), entered.1 ∙ sym (after_new S p new entered.0), refl, subst (λ (b : Answer). CutOff (reply_bytes b) before after) (sym answer_is) sent.1)
 
 pub known_turn : (result : Result (Unit {0}) RunFault) (S : State) (p : Pair) (before after : Output) → class_of S.rows p.1 ≢ New
     → Delivers result (reply_bytes (answer_to S p.1)) before after
@@ -149,8 +149,8 @@ known_turn result S p before after known sent = by result sent
     old : is_new_in S p ≡ false
     old = not_new (class_of S.rows p.1) known
 
-    stays : moved S p ≡ S
-    stays = moved_known S p old
+    stays : after_pair S p ≡ S
+    stays = after_known S p old
 
     timely : is_new_in S p ≡ true → has_time S p ≡ true
     timely new = absurd (true≢false (sym new ∙ old))

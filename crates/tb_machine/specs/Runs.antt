@@ -14,7 +14,7 @@ use Rattle.tb_machine.specs.declared.entries.Entry.{Entry}
 use Rattle.tb_machine.specs.declared.serving.RunFault.{RunFault}
 use Rattle.tb_machine.specs.declared.serving.RunFault.TheVariants as fault
 use Rattle.tb_machine.specs.Histories.{State, is_new, after, answer_to}
-use Rattle.tb_machine.specs.Scripts.{Pair, has_time, moved, with_pair, accepted, replies_to}
+use Rattle.tb_machine.specs.Scripts.{Pair, has_time, after_pair, with_pair, accepted, replies_to}
 
 -- pairs that a reader's bytes spell, one after another
 abbrev pub IsPair : Pair → Type 0
@@ -41,13 +41,13 @@ IsTimely S p = is_new_in S p ≡ true → has_time S p ≡ true
 
 -- the spelling of the reply to a pair
 abbrev pub answer_bytes : State → Pair → List ℕ
-answer_bytes S p = reply_bytes (answer_to (moved S p) p.1)
+answer_bytes S p = reply_bytes (answer_to (after_pair S p) p.1)
 
 -- a pair is answered: by the reply that its entry has once it is entered, or by the one that its request has as it stands;
 -- where the reply could not be written, the machine has moved on all the same, and a repeat gets that reply
 abbrev pub Turns : Result (Unit {0}) RunFault → State → State → Pair → Output → Output → Type 0
-Turns (Ok done) S T p before after = IsTimely S p × (T ≡ moved S p) × Sent (answer_bytes S p) before after
-Turns (Err (fault.Frame f)) S T p before after = IsTimely S p × (T ≡ moved S p) × (f ≡ Device) × CutOff (answer_bytes S p) before after
+Turns (Ok done) S T p before after = IsTimely S p × (T ≡ after_pair S p) × Sent (answer_bytes S p) before after
+Turns (Err (fault.Frame f)) S T p before after = IsTimely S p × (T ≡ after_pair S p) × (f ≡ Device) × CutOff (answer_bytes S p) before after
 Turns (Err fault.NoMemory) S T p before after = (is_new_in S p ≡ true) × (has_time S p ≡ true) × (T ≡ S) × (after ≡ before)
 Turns (Err fault.TimeExhausted) S T p before after = (is_new_in S p ≡ true) × (has_time S p ≡ false) × (T ≡ S) × (after ≡ before)
 Turns (Err fault.TooLong) S T p before after = ⊥

@@ -22,8 +22,9 @@ has_time S p = nat_le (time_of S p.0 p.1) max_time
 abbrev pub is_entered : State → Pair → Bool
 is_entered S p = is_new (class_of S.rows p.1) && has_time S p
 
-abbrev pub moved : State → Pair → State
-moved S p = if is_entered S p then step S (entry_of S p) else S
+-- the state after the pair: where it isn't entered, as before
+abbrev pub after_pair : State → Pair → State
+after_pair S p = if is_entered S p then step S (entry_of S p) else S
 
 module _ (profile : Profile) (clients_max : ℕ) where
   -- the history with the pair's entry, where the pair is entered

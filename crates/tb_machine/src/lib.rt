@@ -5,6 +5,8 @@
 pub mod answering;
 pub mod dumping;
 pub mod entries;
+#[cfg(test)]
+mod events;
 mod executing;
 pub mod laws;
 pub mod machines;
