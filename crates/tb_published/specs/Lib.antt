@@ -1,7 +1,9 @@
+-- what public contracts cite
 pub mod Lines
-pub mod Counting
 pub mod Orders
-pub mod Sharing
 pub mod Taking
 pub mod Ties
 pub mod SeenLaws
+-- what private functions alone cite
+pub mod Counting
+pub mod Sharing

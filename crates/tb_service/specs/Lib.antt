@@ -1,10 +1,12 @@
+-- what public contracts cite
 pub mod Line
-pub mod Rule
 pub mod Places
 pub mod Names
 pub mod Ports
 pub mod History
 pub mod Clerks
-pub mod Desks
 pub mod Finished
 pub mod Servers
+-- what private functions alone cite
+pub mod Rule
+pub mod Desks

@@ -1,3 +1,5 @@
+-- what public contracts cite
 pub mod Admission
-pub mod Indexed
 pub mod Judged
+-- what private functions alone cite
+pub mod Indexed
