@@ -1,5 +1,5 @@
 -- Accounts, transfers and ids are read as what they are.
-use Rattle.std.proofs.Common.{◌≡◌, ℕ, suc, ◌+◌, ◌-◌, ◌%◌, ◌^◌, ◌<◌, ◌≤◌, Bool, true, false, cond, ◌&&◌, ◌==◌, List, [], ◌∷◌, ◌++◌, length, Option, Some, None, refl, sym, ap, subst, ◌∙◌, append_assoc, arith, lit≤, lit<}
+use Rattle.std.proofs.Common.{◌≡◌, ℕ, ◌+◌, ◌-◌, ◌^◌, ◌<◌, ◌≤◌, Bool, true, false, ◌&&◌, ◌==◌, List, [], ◌∷◌, ◌++◌, length, Option, Some, refl, sym, ap, ◌∙◌, arith, lit≤}
 use Rattle.std.specs.Prelude.{nat_lt}
 use Rattle.std.proofs.lemmas.Bool.Decides.{nat_tests}
 use Rattle.tb_records.specs.declared.records.Account.{Account}
@@ -9,15 +9,14 @@ use Rattle.tb_records.specs.Messages.{Message}
 use Rattle.tb_records.specs.Frames.{IsId}
 use Rattle.tb_text.specs.declared.words.Field.{Field}
 use Rattle.tb_text.specs.declared.words.Field.TheVariants as field
-use Rattle.tb_text.specs.declared.words.Operation.{Operation}
-use Rattle.tb_text.specs.declared.words.Operation.TheVariants.{Register, CreateAccounts, CreateTransfers, LookupAccounts, LookupTransfers}
+use Rattle.tb_text.specs.declared.words.Operation.TheVariants.{CreateAccounts, CreateTransfers, LookupAccounts, LookupTransfers}
 use Rattle.tb_text.specs.declared.places.Place.{Place}
-use Rattle.tb_text.specs.declared.places.Place.TheVariants.{Given, Opened, Parted}
-use Rattle.tb_text.specs.Scan.{Entry, Scan, step, run, awaits_field, entered, value_of, may_have, account_of, transfer_of, finished}
+use Rattle.tb_text.specs.declared.places.Place.TheVariants.{Opened, Parted}
+use Rattle.tb_text.specs.Scan.{Entry, Scan, run, awaits_field, may_have, finished}
 use Rattle.tb_text.specs.Printed.{entries_text, entry_text, account_entries, transfer_entries, account_text, transfer_text, id_text}
 use Rattle.tb_text.proofs.Tokens.{IsBetween, at_gap, if_true}
-use Rattle.tb_text.proofs.Entries.{told, entered_all, InOrder, IsEnd, entries_through, none_or}
-use Rattle.tb_text.proofs.Items.{at, all_at, mid, Holds, IsKind, account_back, transfer_back}
+use Rattle.tb_text.proofs.Entries.{told, InOrder, IsEnd, entries_through, none_or}
+use Rattle.tb_text.proofs.Items.{at, all_at, mid, IsKind, account_back, transfer_back}
 
 pub record Small (limit n : ℕ) : Type 0 where
   pub most : n ≤ limit

@@ -1,11 +1,8 @@
 -- What holds of each word: its bytes, its place among all, and that its text names it.
-use Rattle.std.proofs.Common.{◌≡◌, ℕ, ◌+◌, ◌<◌, ◌≤◌, Bool, true, false, ◌&&◌, ◌||◌, List, [], ◌∷◌, ◌++◌, length, get_or, Option, Some, None, refl, lit<}
-use Rattle.std.specs.Prelude.{nat_le, nat_eq}
-use Rattle.tb_text.specs.declared.words.Field.{Field}
+use Rattle.std.proofs.Common.{◌≡◌, ℕ, ◌<◌, Bool, true, false, ◌&&◌, List, [], ◌∷◌, length, get_or, Some, refl, lit<}
+use Rattle.std.specs.Prelude.{nat_le}
 use Rattle.tb_text.specs.declared.words.Field.TheVariants as field
-use Rattle.tb_text.specs.declared.words.Operation.{Operation}
 use Rattle.tb_text.specs.declared.words.Operation.TheVariants as operation
-use Rattle.tb_text.specs.declared.words.Flag.{Flag}
 use Rattle.tb_text.specs.declared.words.Flag.TheVariants as flag
 use Rattle.tb_text.specs.declared.words.Word.{Word}
 use Rattle.tb_text.specs.declared.words.Word.TheVariants as word

@@ -1,14 +1,11 @@
 -- Entries that are printed one behind the other are read as what they are, and give each field its number.
-use Rattle.std.proofs.Common.{◌≡◌, ℕ, zero, suc, ◌+◌, ◌^◌, ◌<◌, ◌≤◌, Bool, true, false, cond, ◌&&◌, ◌||◌, ◌==◌, not, List, [], ◌∷◌, ◌++◌, Option, Some, None, refl, sym, ap, subst, ◌∙◌, append_assoc, arith, lit<, ◌*◌}
+use Rattle.std.proofs.Common.{◌≡◌, ℕ, zero, suc, ◌+◌, ◌^◌, ◌<◌, ◌≤◌, Bool, true, false, cond, ◌&&◌, ◌||◌, ◌==◌, not, List, [], ◌∷◌, ◌++◌, Option, refl, sym, ap, subst, ◌∙◌, append_assoc, arith, lit<, ◌*◌}
 use Rattle.std.proofs.lemmas.Nat.{or_shifted, or_comm}
-use Rattle.std.specs.Prelude.{nat_eq, bit_or}
+use Rattle.std.specs.Prelude.{bit_or}
 use Rattle.std.proofs.lemmas.Bool.Decides.{nat_tests}
 use Rattle.tb_text.specs.declared.words.Field.{Field}
-use Rattle.tb_text.specs.declared.words.Word.{Word}
 use Rattle.tb_text.specs.declared.words.Word.TheVariants as word
 use Rattle.tb_text.specs.declared.words.Operation.{Operation}
-use Rattle.tb_text.specs.declared.places.Place.{Place}
-use Rattle.tb_text.specs.declared.places.Place.TheVariants.{Given}
 use Rattle.tb_text.specs.Words.{field_max, field_index, same_field}
 use Rattle.tb_text.specs.Scan.{Entry, Scan, run, is_word_byte, may_stand, awaits_field, may_have, is_given, entered, is_positive, value_from}
 use Rattle.tb_text.specs.Printed.{entry_text, further_text, entries_text}

@@ -4,8 +4,9 @@ use Rattle.std.specs.Option.{option_and_then}
 use Rattle.std.proofs.lemmas.List.{take_more, take-append-drop}
 use Rattle.tb_records.specs.Messages.{Message}
 use Rattle.tb_text.specs.Scan.{Scan, behind, step, run, is_at_rest}
-use Rattle.tb_text.specs.Steps.{Means, Stops}
+use Rattle.tb_text.specs.Steps.{BeginsUpTo, Means, Reads, Stops}
 use Rattle.tb_text.proofs.Runs.{run_append, run_behind}
+use Rattle.tb_text.proofs.Endings.{read_begins}
 
 -- no run goes through the byte at the place
 stopped : (text : List ℕ) (place : ℕ) (last : Scan) (more : List ℕ) → place < length text → run (behind []) (take place text) ≡ Some last → step last (get_or text place 0) ≡ None
@@ -47,3 +48,22 @@ no_meaning text pairs others place stops means = by stops.why
         let whole : take place text ≡ text = ap (λ (n : ℕ). take n text) over.0 ∙ take_whole text in
         let same = same_scan stops.last means.last (sym stops.taken ∙ (ap (run (behind [])) whole ∙ means.taken)) in
         true_false (is_at_rest stops.last) (ap is_at_rest same ∙ means.whole) over.1
+
+append_none : (text : List ℕ) → text ++ [] ≡ text
+append_none [] = refl
+append_none (b ∷ bs) = ap (λ (t : List ℕ). b ∷ t) (append_none bs)
+
+not_past : (text : List ℕ) (pairs : List (ℕ × Message)) (place : ℕ) → Stops text pairs place → place ≤ length text
+not_past text pairs place stops = by stops.why
+  where
+    by : ((place < length text) × (step stops.last (get_or text place 0) ≡ None)) ⊎ ((place ≡ length text) × (is_at_rest stops.last ≡ false)) → place ≤ length text
+    by (inl here) = omega (arith, here.0)
+    by (inr over) = omega (arith, over.0)
+
+pub begins_up_to : (text : List ℕ) (pairs : List (ℕ × Message)) (place : Option ℕ) → Reads text pairs place → BeginsUpTo text place
+begins_up_to text pairs None means = ([], pairs, subst (λ (t : List ℕ). Means t pairs) (sym (append_none text)) means)
+begins_up_to text pairs (Some place) stops = (
+  not_past text pairs place stops,
+  read_begins stops.last (take place text) stops.taken,
+  λ below begins. nothing_goes_on text pairs begins.1 place begins.0 below stops begins.2,
+)

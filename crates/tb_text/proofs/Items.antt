@@ -1,6 +1,6 @@
 -- Events that are printed one behind the other are read as what they are.
-use Rattle.std.proofs.Common.{◌≡◌, ℕ, zero, suc, ◌+◌, ◌-◌, ◌%◌, ◌^◌, ◌<◌, ◌≤◌, Bool, true, false, cond, ◌&&◌, ◌||◌, ◌==◌, List, [], ◌∷◌, ◌++◌, length, Option, Some, None, refl, sym, ap, subst, ◌∙◌, append_assoc, arith, length-append}
-use Rattle.std.specs.Prelude.{nat_lt, bit_or}
+use Rattle.std.proofs.Common.{◌≡◌, ℕ, ◌+◌, ◌%◌, ◌^◌, ◌<◌, ◌≤◌, Bool, true, false, cond, ◌==◌, List, [], ◌∷◌, ◌++◌, length, Option, Some, refl, sym, ap, ◌∙◌, append_assoc, arith, length-append}
+use Rattle.std.specs.Prelude.{nat_lt}
 use Rattle.std.specs.List.{AllByRecursion}
 use Rattle.std.specs.Option.{option_and_then}
 use Rattle.std.proofs.lemmas.Bool.Decides.{nat_tests}
@@ -8,18 +8,16 @@ use Rattle.tb_records.specs.declared.records.Account.{Account}
 use Rattle.tb_records.specs.declared.records.Transfer.{Transfer}
 use Rattle.tb_records.specs.RecordBytes.{IsAccount, IsTransfer}
 use Rattle.tb_records.specs.Messages.{Message}
-use Rattle.tb_records.specs.Frames.{IsId}
 use Rattle.tb_text.specs.declared.words.Field.{Field}
 use Rattle.tb_text.specs.declared.words.Field.TheVariants as field
 use Rattle.tb_text.specs.declared.words.Operation.{Operation}
-use Rattle.tb_text.specs.declared.words.Operation.TheVariants.{Register, CreateAccounts, CreateTransfers, LookupAccounts, LookupTransfers}
 use Rattle.tb_text.specs.declared.places.Lexeme.TheVariants.{Gap}
 use Rattle.tb_text.specs.declared.places.Place.{Place}
 use Rattle.tb_text.specs.declared.places.Place.TheVariants.{Given, Opened, Parted}
-use Rattle.tb_text.specs.Scan.{Entry, Scan, step, run, awaits_field, entered, value_from, value_of, account_of, transfer_of, finished, parted_at, closed_at, item_count}
-use Rattle.tb_text.specs.Printed.{entries_text, entry_text, further_text, account_entries, transfer_entries, account_text, transfer_text, id_text, more_text, items_text}
-use Rattle.tb_text.proofs.Tokens.{IsBetween, one_step, at_gap, space, if_true}
-use Rattle.tb_text.proofs.Entries.{told, entered_all, InOrder, IsEnd, entries_through, value_told, none_or}
+use Rattle.tb_text.specs.Scan.{Entry, Scan, step, run, awaits_field, entered, value_of, account_of, transfer_of}
+use Rattle.tb_text.specs.Printed.{account_entries, transfer_entries, more_text, items_text}
+use Rattle.tb_text.proofs.Tokens.{one_step, space}
+use Rattle.tb_text.proofs.Entries.{told, entered_all, IsEnd, value_told, none_or}
 
 -- a field was given, as the last of these
 abbrev pub at : Scan → Field → List Entry → Scan

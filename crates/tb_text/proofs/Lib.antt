@@ -6,4 +6,7 @@ pub mod Entries
 pub mod Items
 pub mod EachKind
 pub mod Statements
+pub mod Ongoing
+pub mod Endings
+pub mod Growing
 pub mod Faults

@@ -38,11 +38,11 @@ taken_pairs s (word.Operation o) = refl
 taken_pairs s (word.Flag f) = refl
 taken_pairs s word.AmountMax = refl
 
-abbrev pairs_of : Option Scan → Scan → Type 0
+abbrev pub pairs_of : Option Scan → Scan → Type 0
 pairs_of None s = Unit {0}
 pairs_of (Some t) s = t.pairs ≡ s.pairs
 
-word_keeps : (s : Scan) → pairs_of (word_ended s) s
+pub word_keeps : (s : Scan) → pairs_of (word_ended s) s
 word_keeps s = by (word_named s.spelled)
   where
     chosen : (w : Word) (b : Bool) → pairs_of (cond b (Some (taken s w)) None) s
@@ -53,7 +53,7 @@ word_keeps s = by (word_named s.spelled)
     by None = tt
     by (Some w) = chosen w (may_stand s w)
 
-number_keeps : (s : Scan) (n : ℕ) → pairs_of (number_ended s n) s
+pub number_keeps : (s : Scan) (n : ℕ) → pairs_of (number_ended s n) s
 number_keeps s n = by (wanted s.place)
   where
     chosen : (f : Field) (b : Bool) → pairs_of (cond b None (Some (entered s f n))) s

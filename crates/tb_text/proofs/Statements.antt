@@ -1,10 +1,9 @@
 -- What is printed of requests is read back.
-use Rattle.std.proofs.Common.{◌≡◌, ℕ, suc, ◌+◌, ◌-◌, ◌%◌, ◌^◌, ◌<◌, ◌≤◌, Bool, true, false, cond, not, ◌&&◌, ◌||◌, ◌==◌, List, [], ◌∷◌, ◌++◌, length, Option, Some, None, All, refl, sym, ap, subst, ◌∙◌, append_assoc, arith, lit≤, lit<}
-use Rattle.std.specs.Prelude.{nat_lt, bit_or, codes}
-use Rattle.std.specs.List.{AllByRecursion, flat_map}
+use Rattle.std.proofs.Common.{◌≡◌, ℕ, ◌%◌, ◌^◌, ◌≤◌, Bool, true, false, cond, not, ◌&&◌, ◌==◌, List, [], ◌∷◌, ◌++◌, Option, Some, None, All, refl, sym, ap, subst, ◌∙◌, append_assoc, arith, lit≤}
+use Rattle.std.specs.Prelude.{nat_lt, codes}
+use Rattle.std.specs.List.{AllByRecursion}
 use Rattle.std.specs.Option.{option_and_then}
 use Rattle.std.proofs.lemmas.List.Elements.{recursion_from_All}
-use Rattle.std.proofs.lemmas.List.Concat.{flat_map-cons}
 use Rattle.tb_records.specs.declared.bodies.Body.{Body}
 use Rattle.tb_records.specs.declared.bodies.Body.TheVariants as body
 use Rattle.tb_records.specs.declared.faults.FrameFault.{FrameFault}
@@ -14,21 +13,19 @@ use Rattle.tb_records.specs.Frames.{IsId, IsRequest, BodyFits}
 use Rattle.tb_records.specs.Inputs.{IsTimed}
 use Rattle.tb_text.specs.declared.words.Field.{Field}
 use Rattle.tb_text.specs.declared.words.Field.TheVariants as field
-use Rattle.tb_text.specs.declared.words.Word.{Word}
 use Rattle.tb_text.specs.declared.words.Word.TheVariants as word
 use Rattle.tb_text.specs.declared.words.Operation.{Operation}
 use Rattle.tb_text.specs.declared.words.Operation.TheVariants.{Register, CreateAccounts, CreateTransfers, LookupAccounts, LookupTransfers}
-use Rattle.tb_text.specs.declared.places.Place.{Place}
-use Rattle.tb_text.specs.declared.places.Place.TheVariants.{Given, Opened, Parted}
+use Rattle.tb_text.specs.declared.places.Place.TheVariants.{Opened}
 use Rattle.tb_text.specs.Words.{word_text}
-use Rattle.tb_text.specs.Scan.{Entry, Scan, behind, step, run, taken, may_stand, value_of, suits, finished, entered, when_lawful, is_at_rest}
+use Rattle.tb_text.specs.Scan.{Entry, Scan, behind, run, value_of, suits, when_lawful}
 use Rattle.std.proofs.lemmas.Bool.Decides.{nat_tests}
-use Rattle.tb_text.specs.Steps.{Means, Reads}
+use Rattle.tb_text.specs.Steps.{Means}
 use Rattle.tb_text.specs.Printed.{entries_text, header_entries, items_text, account_text, transfer_text, id_text, body_text, statement_text, printed}
-use Rattle.tb_text.proofs.Tokens.{IsBetween, one_step, at_gap, space, line_end, word_through}
-use Rattle.tb_text.proofs.Entries.{told, entered_all, InOrder, IsEnd, entries_through, value_told, none_or}
-use Rattle.tb_text.proofs.Items.{at, all_at, mid, IsKind, items_through, low, low_32}
-use Rattle.tb_text.proofs.EachKind.{Small, small_128, small_64, small_32, accounts_state, accounts_ended, accounts_kind, transfers_state, transfers_ended, transfers_kind, sought_accounts_state, sought_accounts_ended, sought_accounts_kind, sought_transfers_state, sought_transfers_ended, sought_transfers_kind}
+use Rattle.tb_text.proofs.Tokens.{one_step, at_gap, space, line_end, word_through}
+use Rattle.tb_text.proofs.Entries.{told, InOrder, IsEnd, entries_through, value_told, none_or}
+use Rattle.tb_text.proofs.Items.{at, all_at, mid, items_through, low, low_32}
+use Rattle.tb_text.proofs.EachKind.{small_128, small_64, small_32, accounts_state, accounts_ended, accounts_kind, transfers_state, transfers_ended, transfers_kind, sought_accounts_state, sought_accounts_ended, sought_accounts_kind, sought_transfers_state, sought_transfers_ended, sought_transfers_kind}
 
 -- the entries of a header
 abbrev header_of : ℕ → Message → List Entry

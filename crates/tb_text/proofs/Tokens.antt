@@ -1,24 +1,17 @@
 -- A word that may stand next, a number that is wanted and a mark are read as what they are.
-use Rattle.std.proofs.Common.{◌≡◌, ℕ, zero, suc, ◌+◌, ◌*◌, ◌-◌, ◌/◌, ◌%◌, ◌^◌, ◌<◌, ◌≤◌, Bool, true, false, cond, ◌&&◌, ◌||◌, ◌==◌, List, [], ◌∷◌, ◌++◌, length, get_or, take, Option, Some, None, refl, sym, ap, subst, ◌∙◌, append_assoc, arith}
-use Rattle.std.specs.Prelude.{nat_le, nat_eq}
+use Rattle.std.proofs.Common.{◌≡◌, ℕ, Bool, true, false, cond, ◌&&◌, ◌==◌, List, [], ◌∷◌, ◌++◌, length, take, Option, Some, None, refl, sym, ap, subst, ◌∙◌, append_assoc, arith}
+use Rattle.std.specs.Prelude.{nat_eq}
 use Rattle.std.specs.Option.{option_and_then}
-use Rattle.std.specs.List.{list_any, starts_with}
-use Rattle.std.specs.Fmt.{decimal}
-use Rattle.std.specs.Cmp.Lexicographic.{pointwise, bytes_decides}
+use Rattle.std.specs.List.{starts_with}
+use Rattle.std.specs.Cmp.Lexicographic.{bytes_decides}
 use Rattle.std.proofs.lemmas.Bool.Decides.{nat_tests}
-use Rattle.std.proofs.lemmas.Fmt.{decimal_by_steps_wide}
 use Rattle.std.proofs.lemmas.List.{take_at}
 use Rattle.std.proofs.lemmas.List.Folds.{list_any_at}
-use Rattle.tb_text.specs.declared.words.Field.{Field}
 use Rattle.tb_text.specs.declared.words.Word.{Word}
 use Rattle.tb_text.specs.declared.words.Word.TheVariants as word
-use Rattle.tb_text.specs.declared.places.Lexeme.{Lexeme}
-use Rattle.tb_text.specs.declared.places.Lexeme.TheVariants.{Gap, Spelled, Zero, Decimal}
-use Rattle.tb_text.specs.declared.places.Place.{Place}
-use Rattle.tb_text.specs.declared.places.Place.TheVariants.{Wanted, Named}
-use Rattle.tb_text.specs.Words.{word_text, all_words, field_max, field_name}
-use Rattle.tb_text.specs.Scan.{Entry, Scan, step, run, gap, is_space, is_digit, is_word_byte, may_stand, taken, spelling, within, moved, entered, word_named, word_grown, begins_word, is_positive, wanted}
-use Rattle.tb_text.specs.Printed.{entry_text}
+use Rattle.tb_text.specs.declared.places.Lexeme.TheVariants.{Gap}
+use Rattle.tb_text.specs.Words.{word_text, all_words}
+use Rattle.tb_text.specs.Scan.{Scan, step, run, gap, is_space, is_digit, is_word_byte, may_stand, taken, spelling, word_named, word_grown, begins_word}
 use Rattle.tb_text.proofs.EachWord.{is_letter, all_word_bytes, begins_with_letter, letter_first, word_bytes, named_by_text, word_place, stands_at, place_below}
 
 -- between words, numbers and marks
@@ -48,14 +41,14 @@ if_false b x y h = ap (λ (c : Bool). cond c x y) h
 pub if_true : {A : Type 0} (b : Bool) (x y : A) → b ≡ true → cond b x y ≡ x
 if_true b x y h = ap (λ (c : Bool). cond c x y) h
 
-and_both : (a b : Bool) → a ≡ true → b ≡ true → (a && b) ≡ true
+pub and_both : (a b : Bool) → a ≡ true → b ≡ true → (a && b) ≡ true
 and_both a b h k = rw (h, k) refl
 
-and_left : (a b : Bool) → (a && b) ≡ true → a ≡ true
+pub and_left : (a b : Bool) → (a && b) ≡ true → a ≡ true
 and_left true b h = refl
 and_left false b h = absurd cc
 
-and_right : (a b : Bool) → (a && b) ≡ true → b ≡ true
+pub and_right : (a b : Bool) → (a && b) ≡ true → b ≡ true
 and_right true b h = h
 and_right false b h = absurd cc
 
@@ -70,7 +63,7 @@ begins_so s w p q e h =
     (subst (λ (v : Word). (may_stand s v && starts_with nat_eq (word_text v) p) ≡ true) (sym (stands_at w))
     (and_both (may_stand s w) (starts_with nat_eq (word_text w) p) h (subst (λ (t : List ℕ). starts_with nat_eq t p ≡ true) e (begins p q))))
 
-stands_spelling : (s : Scan) (p : List ℕ) (w : Word) → may_stand (spelling s p) w ≡ may_stand s w
+pub stands_spelling : (s : Scan) (p : List ℕ) (w : Word) → may_stand (spelling s p) w ≡ may_stand s w
 stands_spelling s p (word.Field f) = refl
 stands_spelling s p (word.Operation o) = refl
 stands_spelling s p (word.Flag f) = refl
@@ -109,7 +102,7 @@ word_longer s w p q b e h y =
     ap (λ (c : Bool). cond c (word_grown (spelling s p) (p ++ b ∷ [])) (left_at s p b (word_named p))) y
     ∙ ap (λ (c : Bool). cond c (Some (spelling s (p ++ b ∷ []))) None) more
 
-word_on : (s : Scan) (w : Word) (p q : List ℕ) (d : ℕ) (rest : List ℕ) → p ++ q ≡ word_text w → may_stand s w ≡ true → all_word_bytes q ≡ true → is_word_byte d ≡ false
+pub word_on : (s : Scan) (w : Word) (p q : List ℕ) (d : ℕ) (rest : List ℕ) → p ++ q ≡ word_text w → may_stand s w ≡ true → all_word_bytes q ≡ true → is_word_byte d ≡ false
     → run (spelling s p) (q ++ d ∷ rest) ≡ run (taken s w) (d ∷ rest)
 word_on s w p [] d rest e h a n =
     same_step (spelling s p) (taken s w) d rest (word_whole s w p d (sym (append_end p) ∙ e) h n ∙ sym (at_gap (taken s w) d (taken_between s w).lexeme))

@@ -1,5 +1,5 @@
 -- Reading byte by byte: what has been read so far, and what a byte makes of it. None says that no statements go on so.
-use Rattle.std.specs.Prelude.{ℕ, Bool, true, false, not, ◌&&◌, ◌||◌, ◌==◌, ◌+◌, ◌-◌, ◌*◌, ◌%◌, ◌^◌, nat_le, nat_lt, nat_eq, List, [], ◌∷◌, ◌++◌, length, Option, Some, None, if◌then◌else◌, bit_or, codes}
+use Rattle.std.specs.Prelude.{ℕ, Bool, true, false, not, ◌&&◌, ◌||◌, ◌==◌, ◌+◌, ◌-◌, ◌*◌, ◌%◌, ◌^◌, nat_le, nat_lt, nat_eq, List, [], ◌∷◌, ◌++◌, length, Option, Some, None, if◌then◌else◌, bit_or}
 use Rattle.std.specs.Option.{option_and_then, is_none}
 use Rattle.std.specs.List.{list_any, find}
 use Rattle.std.specs.Cmp.Lexicographic.{pointwise}
@@ -20,7 +20,7 @@ use Rattle.tb_text.specs.declared.places.Lexeme.{Lexeme}
 use Rattle.tb_text.specs.declared.places.Lexeme.TheVariants.{Gap, Comment, Spelled, Zero, Prefix, Decimal, Hexadecimal}
 use Rattle.tb_text.specs.declared.places.Place.{Place}
 use Rattle.tb_text.specs.declared.places.Place.TheVariants.{Head, Named, Wanted, Given, Opened, Parted}
-use Rattle.tb_text.specs.Words.{field_index, field_max, same_field, is_header_field, has_field, flag_bit, word_text, all_words}
+use Rattle.tb_text.specs.Words.{field_max, same_field, is_header_field, has_field, flag_bit, word_text, all_words}
 
 -- a field and its number
 abbrev pub Entry : Type 0

@@ -1,5 +1,5 @@
 -- What the reader answers: of one byte, and of a text.
-use Rattle.std.specs.Prelude.{ℕ, Bool, false, true, ◌≡◌, ◌<◌, ◌⊎◌, List, [], length, take, get_or, Option, Some, None, Result, Ok, Err}
+use Rattle.std.specs.Prelude.{ℕ, false, true, ◌≡◌, ◌+◌, ◌<◌, ◌≤◌, ◌⊎◌, List, [], ◌++◌, length, take, get_or, Option, Some, None, Result, Ok, Err}
 use Rattle.tb_records.specs.Messages.{Message}
 use Rattle.tb_text.specs.declared.places.Refusal.{Refusal}
 use Rattle.tb_text.specs.declared.places.Refusal.TheVariants.{Memory, Unexpected}
@@ -34,9 +34,22 @@ pub record Stops (text : List ℕ) (pairs : List (ℕ × Message)) (place : ℕ)
   pub pairs_are : last.pairs ≡ pairs
   pub why : ((place < length text) × (step last (get_or text place 0) ≡ None)) ⊎ ((place ≡ length text) × (is_at_rest last ≡ false))
 
+-- these requests stand first among others
+abbrev pub StandFirst : List (ℕ × Message) → List (ℕ × Message) → Type 0
+StandFirst pairs others = (further : List (ℕ × Message)) × (others ≡ pairs ++ further)
+
+-- a text of statements begins with these bytes
+abbrev pub Begins : List ℕ → Type 0
+Begins bytes = (more : List ℕ) × (pairs : List (ℕ × Message)) × Means (bytes ++ more) pairs
+
 abbrev pub Reads : List ℕ → List (ℕ × Message) → Option ℕ → Type 0
 Reads text pairs None = Means text pairs
 Reads text pairs (Some place) = Stops text pairs place
+
+-- how far a text begins a text of statements: as a whole, or up to a place and not with the byte there
+abbrev pub BeginsUpTo : List ℕ → Option ℕ → Type 0
+BeginsUpTo text None = Begins text
+BeginsUpTo text (Some place) = (place ≤ length text) × Begins (take place text) × (place < length text → Begins (take (place + 1) text) → ⊥)
 
 abbrev pub place_of : Option TextFault → Option ℕ
 place_of None = None

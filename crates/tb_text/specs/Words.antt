@@ -1,5 +1,5 @@
 -- The words of statements: their texts, the fields and flags of each operation, and the greatest number of a field.
-use Rattle.std.specs.Prelude.{ℕ, Bool, true, false, ◌==◌, ◌-◌, ◌^◌, List, [], ◌∷◌, Option, Some, None, codes}
+use Rattle.std.specs.Prelude.{ℕ, Bool, true, false, ◌==◌, ◌-◌, ◌^◌, List, [], ◌∷◌, codes}
 use Rattle.tb_text.specs.declared.words.Field.{Field}
 use Rattle.tb_text.specs.declared.words.Field.TheVariants.{At, Client, Session, Request, Id, DebitsPending, DebitsPosted, CreditsPending, CreditsPosted, DebitAccountId, CreditAccountId, Amount, PendingId, UserData128, UserData64, UserData32, Reserved, Timeout, Ledger, Code, Flags, Timestamp}
 use Rattle.tb_text.specs.declared.words.Operation.{Operation}

@@ -1,6 +1,6 @@
 //! Texts of statements, read as requests.
 ghost use Rattle.std.specs.Prelude.{◌≡◌, IfOk};
-ghost use Rattle.tb_text.specs.Steps.{Reads, place_of};
+ghost use Rattle.tb_text.specs.Steps.{BeginsUpTo, Reads, place_of};
 ghost use Rattle.tb_text.specs.Positions.{line_from, column_from};
 
 use crate::places::{Lexeme, Place};
@@ -28,11 +28,9 @@ pub struct Reading {
     pub fault: Option<TextFault>,
 }
 
-/// Reads statements. With no fault the text means the requests; with one the text before its place begins a text of
-/// statements, and what stands there goes on none, or is the end of the text within a statement. AllocError where there
-/// is no memory for the requests.
-pub fn read_text(alloc: Global, text: &[u8]) -> Result<Reading, AllocError>
-    ensures { IfOk result (λ reading. Reads text.now reading.pairs (place_of reading.fault)) }
+/// A reader behind what it takes of a text, and the place where the text goes wrong, if it does.
+fn scan_text(alloc: Global, text: &[u8]) -> Result<(Scanner, Option<usize>), AllocError>
+    ensures { IfOk result (λ stopped. Reads text.now stopped.0.pairs stopped.1) }
 {
     let mut scanner = Scanner::new(alloc);
     let place = match scanner.scan(text)? {
@@ -40,6 +38,17 @@ pub fn read_text(alloc: Global, text: &[u8]) -> Result<Reading, AllocError>
         None if scanner.is_at_rest() => None,
         None => Some(text.len()),
     };
+    Ok((scanner, place))
+}
+
+/// Reads statements. With no fault the text means the requests; with one the text before its place begins a text of
+/// statements, and what stands there goes on none, or is the end of the text within a statement. AllocError where there
+/// is no memory for the requests.
+pub fn read_text(alloc: Global, text: &[u8]) -> Result<Reading, AllocError>
+    ensures reads { IfOk result (λ reading. Reads text.now reading.pairs (place_of reading.fault)) }
+    ensures place { IfOk result (λ reading. BeginsUpTo text.now (place_of reading.fault)) }
+{
+    let (scanner, place) = scan_text(alloc, text)?;
     let (lexeme, awaited) = scanner.stand();
     let fault = match place {
         Some(place) => Some(TextFault {

@@ -1,5 +1,6 @@
 //! The program's forms, over any reader and writer.
-ghost use Rattle.std.specs.Prelude.{◌≡◌, ◌<◌};
+ghost use Rattle.std.specs.Prelude.{◌≡◌, ◌<◌, None, map, string_bytes};
+ghost use Rattle.tbt.specs.Orders.{order_alone, order_of};
 
 use crate::faults::{Fault, frame_fault};
 use crate::lines::{head_line, item_line, reply_line};
@@ -22,16 +23,29 @@ pub enum Order {
     Dump,
 }
 
-/// What the words ask for.
-pub fn read_order(words: &[String]) -> Option<Order> {
-    let [word] = words else {
-        return None;
-    };
-    match word.as_str() {
-        "script" => Some(Order::Script),
-        "requests" => Some(Order::Requests),
-        "replies" => Some(Order::Replies),
-        "dump" => Some(Order::Dump),
+/// What a word asks for.
+fn order_alone(word: &str) -> Option<Order>
+    ensures { result ≡ order_alone word.now }
+{
+    if word == "script" {
+        Some(Order::Script)
+    } else if word == "requests" {
+        Some(Order::Requests)
+    } else if word == "replies" {
+        Some(Order::Replies)
+    } else if word == "dump" {
+        Some(Order::Dump)
+    } else {
+        None
+    }
+}
+
+/// What the words ask for, None where they are not a form of the program's arguments.
+pub fn read_order(words: &[String]) -> Option<Order>
+    ensures { result ≡ order_of (map string_bytes words.now) }
+{
+    match words {
+        [word] => order_alone(word.as_str()),
         _ => None,
     }
 }
@@ -149,8 +163,24 @@ fn dump<R: Source, W: Sink>(alloc: Global, reader: &mut R, writer: &mut W) -> Re
     Ok(())
 }
 
+/// Does what the order asks for.
+fn perform<R: Source, W: Sink>(
+    alloc: Global,
+    order: Order,
+    reader: &mut R,
+    writer: &mut W,
+) -> Result<(), Fault> {
+    match order {
+        Order::Script => script(alloc, reader, writer),
+        Order::Requests => requests(alloc, reader, writer),
+        Order::Replies => replies(alloc, reader, writer),
+        Order::Dump => dump(alloc, reader, writer),
+    }
+}
+
 /// Does what the words ask for, and answers the exit status: 0 done, 1 a device or memory failed, 2 the input or the
-/// arguments are wrong. With a status other than 0 one line goes to `faults`.
+/// arguments are wrong. With a status other than 0 one line goes to `faults`, with 0 nothing. Arguments that are none of
+/// the program's forms are found before any input is read.
 pub fn command<R: Source, W: Sink, E: Sink>(
     alloc: Global,
     words: &[String],
@@ -158,16 +188,15 @@ pub fn command<R: Source, W: Sink, E: Sink>(
     writer: &mut W,
     faults: &mut E,
 ) -> u8
-    ensures { result < 3 }
+    ensures status { result < 3 }
+    ensures quiet { result ≡ 0 → faults.new ≡ faults.old }
+    ensures usage { order_of (map string_bytes words.now) ≡ None → (result ≡ 2) × (reader.new ≡ reader.old) × (writer.new ≡ writer.old) }
 {
-    let done = match read_order(words) {
-        Some(Order::Script) => script(alloc, reader, writer),
-        Some(Order::Requests) => requests(alloc, reader, writer),
-        Some(Order::Replies) => replies(alloc, reader, writer),
-        Some(Order::Dump) => dump(alloc, reader, writer),
-        None => Err(Fault::Usage),
+    let Some(order) = read_order(words) else {
+        Fault::Usage.tell(faults);
+        return 2;
     };
-    match done {
+    match perform(alloc, order, reader, writer) {
         Ok(()) => 0,
         Err(fault) => {
             fault.tell(faults);

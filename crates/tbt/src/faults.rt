@@ -1,5 +1,6 @@
 //! Why the program ends with a status other than 0, and the line that says so.
 ghost use Rattle.std.specs.Prelude.{◌≡◌, ◌<◌, ◌≤◌, length};
+ghost use Rattle.tbt.specs.Statuses.{fault_status};
 
 use std::alloc::{AllocError, Global};
 use tb_records::{DumpFault, FrameFault, Sink, put_all};
@@ -132,7 +133,9 @@ impl Fault {
 
     /// 1 where a device or memory failed, 2 where the input or the arguments are wrong.
     pub fn status(&self) -> u8
-        ensures { result < 3 }
+        ensures status { result ≡ fault_status self.now }
+        ensures failing { 0 < result }
+        ensures known { result < 3 }
     {
         match self {
             Fault::Device => 1,

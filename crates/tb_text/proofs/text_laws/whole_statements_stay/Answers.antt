@@ -1,0 +1,5 @@
+use Rattle.tb_text.proofs.Growing.{whole_statements_stay}
+use Rattle.tb_text.proofs.text_laws.whole_statements_stay.Goals as goal
+
+pub returns : goal.returns
+returns c = whole_statements_stay
