@@ -5,5 +5,7 @@ pub mod ledgers;
 pub mod maps;
 pub mod publishing;
 pub mod retries;
+pub mod sessions;
 #[cfg(test)]
 mod tests;
+pub mod texts;

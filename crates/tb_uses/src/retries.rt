@@ -3,7 +3,7 @@ ghost use Rattle.std.specs.Prelude.{◌≡◌, true, false, IsTrue, MatchOption,
 ghost use Rattle.tb_sessions.specs.Judged.{class_of};
 ghost use Rattle.tb_sessions.specs.declared.classes.Class.TheVariants as class;
 ghost use Rattle.tb_machine.specs.Histories.{reply_at, step};
-ghost use Rattle.tb_machine.specs.Scripts.{entry_of, has_time, moved};
+ghost use Rattle.tb_machine.specs.Scripts.{entry_of, has_time, after_pair};
 
 use std::alloc::Allocator;
 use tb_machine::{Entry, Machine};

@@ -1,0 +1,33 @@
+//! A caller of the sessions.
+ghost use Rattle.std.specs.Prelude.{◌≡◌, ◌<◌, IfOk, IfErr};
+ghost use Rattle.tb_records.specs.Ordered.{Each};
+ghost use Rattle.tb_sessions.specs.Admission.{admitted, leaving};
+
+use tb_records::{Reply, Request};
+use tb_sessions::{Class, Row, Sessions};
+
+/// Keeps a request that is New beside the reply to it, which its commit number belongs to. Answers the row that leaves for it; a
+/// request that isn't New comes back.
+pub fn keep(
+    sessions: &mut Sessions,
+    request: Request,
+    reply: Reply,
+    commit: u64,
+) -> Result<Option<Row>, Request>
+    requires later { Each (λ (row : Row). row.commit < commit) sessions.old.rows }
+    ensures kept { IfOk result (λ _. sessions.new ≡ record sessions.old { rows = admitted sessions.old.clients_max sessions.old.rows (record { client = request.client; session = reply.session; request = request; reply = reply; commit = commit }) }) }
+    ensures left { IfOk result (λ left. left ≡ leaving sessions.old.clients_max sessions.old.rows (record { client = request.client; session = reply.session; request = request; reply = reply; commit = commit })) }
+    ensures back { IfErr result (λ back. (back ≡ request) × (sessions.new ≡ sessions.old)) }
+{
+    if !matches!(sessions.classify(&request), Class::New) {
+        return Err(request);
+    }
+    let row = Row {
+        client: request.client(),
+        session: reply.session(),
+        request,
+        reply,
+        commit,
+    };
+    Ok(sessions.record(row))
+}
