@@ -13,6 +13,7 @@ use std::alloc::Global;
 use std::fmt::Write;
 use std::marker::Brand;
 use std::sync::Wait;
+use std::sync::atomic::{AtomicBool, Ordering};
 use std::thread::{self, Threads};
 use tb_published::{Naming, Opening, Publisher, Seat, SeatCount, open};
 use tb_records::{ClientsMax, Profile, Sink, put_all};
@@ -75,15 +76,35 @@ fn close_all<J: Naming, R: Wait>(rt: &R, clients: Vec<Client<J>>) -> Result<(), 
     first
 }
 
-/// The first client makes the accounts, and then all others their transfers at once, each in a thread of its own. Then all
-/// ports are closed.
+/// So often the clients look whether the server's thread has begun.
+const LOOKS: u32 = 1_000_000;
+
+/// Waits for the server's thread, and says whether it has begun. Where no thread can be made `join` runs the server behind
+/// the clients: an offer would then wait for ever, once the queue is full.
+fn has_begun(begun: &AtomicBool) -> bool {
+    for _ in 0..LOOKS {
+        if begun.load(Ordering::SeqCst) {
+            return true;
+        }
+        thread::yield_now();
+    }
+    false
+}
+
+/// Once the server has begun the first client makes the accounts, and then all others their transfers at once, each in a
+/// thread of its own. Then all ports are closed.
 fn take_part<J: Naming + Send + Sync, R: Threads + Wait + Sync>(
     rt: &R,
+    begun: &AtomicBool,
     mut first: Client<J>,
     mut others: Vec<Client<J>>,
     scale: Scale,
 ) -> (Seat<J>, Result<(), StormFault>) {
-    first.create_accounts(rt, scale.clients);
+    if has_begun(begun) {
+        first.create_accounts(rt, scale.clients);
+    } else {
+        first.give_up();
+    }
     if first.outcome().is_ok() {
         let threads = others.len().max(1);
         thread::for_each_mut(
@@ -126,10 +147,14 @@ fn storm_over<J: Naming + Send + Sync, R: Threads + Wait + Sync>(
     let (server, mut ports) = service(alloc, publisher, rt, count, Ticks(0), Open)?;
     let first = Client::new(alloc, 100, &mut ports, &mut seats)?;
     let others = make_clients(alloc, scale, &mut ports, &mut seats)?;
+    let begun = &AtomicBool::new(false);
     let (finished, (mut seat, outcome)) = thread::join(
         rt,
-        move || server.run(rt),
-        move || take_part(rt, first, others, scale),
+        move || {
+            begun.store(true, Ordering::SeqCst);
+            server.run(rt)
+        },
+        move || take_part(rt, begun, first, others, scale),
     );
     let totals = totals_of(alloc, &finished, &mut seat, scale);
     let ended = finished.ended;

@@ -138,12 +138,20 @@ impl<J: Naming> Client<J> {
         self.request(session, k, Body::CreateTransfers(Items::new(transfers)))
     }
 
-    /// Calls until there is a reply.
+    /// The server takes nothing more: a copy of the request comes back.
+    fn is_gone<R: Wait>(&mut self, rt: &R, request: &Request) -> Result<bool, StormFault> {
+        Ok(self.port.offer(rt, request.copy(self.alloc)?).is_err())
+    }
+
+    /// Calls until there is a reply, or the server is gone.
     fn settle<R: Wait>(&mut self, rt: &R, request: &Request) -> Result<Reply, StormFault> {
         for _ in 0..CALLS {
             let reply = self.port.call(rt, &mut self.seat, request, TURNS)?;
             if reply.status() == Status::Reply {
                 return Ok(reply);
+            }
+            if self.is_gone(rt, request)? {
+                break;
             }
         }
         Err(StormFault::GaveUp)
@@ -197,6 +205,11 @@ impl<J: Naming> Client<J> {
     /// Creates so many transfers.
     pub fn create_transfers<R: Wait>(&mut self, rt: &R, transfers: u32) {
         self.outcome = self.create(rt, transfers);
+    }
+
+    /// Gives up before any call.
+    pub fn give_up(&mut self) {
+        self.outcome = Err(StormFault::GaveUp);
     }
 
     /// How the client fared.
