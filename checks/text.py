@@ -10,6 +10,7 @@ Prints a line for each case, and 'N passed, M failed'. The forms are those of do
 import json
 import os
 import random
+import re
 import struct
 import subprocess
 import sys
@@ -120,6 +121,34 @@ text = run(TBT, ["requests"], SCRIPT)[1]
 cuts = [run(TBT, ["script"], text[:at])[0] for at in range(len(text) + 1)]
 ends = [0] + [at for at in range(1, len(text) + 1) if text[at - 1 : at] in (b";", b"\n")]
 check("cut behind each byte", [at for at, it in enumerate(cuts) if it == 0], ends)
+
+
+
+def place_told(text):
+    """The number of bytes before the place that is told wrong, None where the text is right."""
+    status, out, line = run(TBT, ["script"], text)
+    if status == 0:
+        return None
+    row, column = (int(it) for it in re.match(rb"tbt: line (\d+), column (\d+): found ", line).groups())
+    return sum(len(it) + 1 for it in text.split(b"\n")[: row - 1]) + column - 1
+
+
+def changed(seed, text):
+    """The text with one byte put in, taken out or put in place of another."""
+    at = seed.randrange(len(text))
+    byte = bytes([seed.choice(b"0179=,;| #\nxaz_A\0")])
+    return seed.choice([text[:at] + byte + text[at:], text[:at] + text[at + 1 :], text[:at] + byte + text[at + 1 :]])
+
+
+wrong = []
+while len(wrong) < 60:
+    text = run(TBT, ["requests"], b"".join(random_pair(seed) for _ in range(3)))[1]
+    text = changed(seed, text)
+    place = place_told(text)
+    if place is not None:
+        wrong.append((text, place))
+check("what stands before a wrong place goes on", [it for it in wrong if place_told(it[0][: it[1]]) not in (None, it[1])], [])
+check("with the byte there nothing goes on", [it for it in wrong if it[1] < len(it[0]) and place_told(it[0][: it[1] + 1]) != it[1]], [])
 
 print(f"{PASSED} passed, {FAILED} failed")
 sys.exit(1 if FAILED else 0)

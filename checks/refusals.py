@@ -1,0 +1,446 @@
+#!/usr/bin/env python3
+"""Refuses each growth, each read and each write of the built programs in turn, once each, and looks at what they answer.
+First build them:
+
+    (cd crates/tbs && rt run -- run 2) < examples/first.script > /dev/null
+    (cd crates/tb_refusals && rt run -- take 2) < examples/first.script > /dev/null
+    checks/refusals.py
+
+`tb_refusals` serves a script by each call that may want memory, and makes what was refused again. What is right comes from the
+frames of this file, from examples/first.replies, and from `tbs` when nothing is refused. A loop that refuses nothing shows
+nothing: each case counts its refusals and has a least number of them. Prints a line for each case, and 'N passed, M failed'.
+checks/refusals/refuse.c, which the programs are run over, needs cc and Linux.
+"""
+import collections
+import os
+import struct
+import subprocess
+import sys
+import tempfile
+
+TOP = os.path.dirname(os.path.dirname(os.path.abspath(__file__)))
+PROGRAM = f"{TOP}/crates/tbs/out/tbs"
+AGAIN = f"{TOP}/crates/tb_refusals/out/tb_refusals"
+SECONDS = 60
+passed = failed = 0
+Ran = collections.namedtuple("Ran", "status output lines asked refused blocks")
+
+
+def case(name, why, told=""):
+    """Passed where there is no reason why not."""
+    global passed, failed
+    passed, failed = passed + (not why), failed + bool(why)
+    print(f"FAILED: {name}: {why}" if why else f"ok: {name}{told and ': ' + told}", flush=True)
+
+
+def account(id, flags=0):
+    return id.to_bytes(16, "little") + bytes(80) + struct.pack("<QIIIHHQ", 0, 0, 0, 700, 10, flags, 0)
+
+
+def transfer(id, debit, credit, amount, pending=0, flags=0, timeout=0):
+    ids = b"".join(it.to_bytes(16, "little") for it in (id, debit, credit, amount, pending, 0))
+    return ids + struct.pack("<QIIIHHQ", 0, 0, timeout, 700, 10, flags, 0)
+
+
+class Script:
+    """Pairs of a moment and a frame, and where each begins."""
+
+    def __init__(self, moment=10):
+        self.moment, self.number, self.pairs = moment, 0, []
+
+    def pair(self, client, session, number, operation, body=b""):
+        header = client.to_bytes(16, "little") + struct.pack("<QIB3xI12x", session, number, operation, len(body))
+        self.pairs.append(struct.pack("<Q", self.moment) + header + body)
+
+    def next(self, operation, *items):
+        """The next request of client 7 in session 1."""
+        self.number += 1
+        self.pair(7, 1, self.number, operation, b"".join(items))
+
+    def again(self, back=1):
+        """One of the last pairs once more."""
+        self.pairs.append(self.pairs[-back])
+
+    @property
+    def bytes(self):
+        return b"".join(self.pairs)
+
+
+ACCOUNTS, TRANSFERS, LOOK_ACCOUNTS, LOOK_TRANSFERS = 129, 130, 131, 132
+LINKED, PENDING, POST, VOID, CLOSING = 1, 2, 4, 8, 64
+
+
+def ids(*numbers):
+    return b"".join(it.to_bytes(16, "little") for it in numbers)
+
+
+def rows():
+    """From the first register to the transfer, and one of each refusal."""
+    script = Script()
+    script.pair(7, 0, 0, 2)
+    script.again()
+    script.next(ACCOUNTS, account(1), account(2))
+    script.next(LOOK_ACCOUNTS, ids(2, 9, 1))
+    script.next(TRANSFERS, transfer(11, 1, 2, 100))
+    script.again()
+    script.again(3)
+    script.pair(7, 1, 3, TRANSFERS, transfer(11, 1, 2, 101))
+    script.pair(7, 1, 5, LOOK_ACCOUNTS)
+    script.pair(7, 2, 4, LOOK_ACCOUNTS)
+    script.pair(9, 1, 1, LOOK_ACCOUNTS)
+    return script
+
+
+def chains():
+    """The broken chain, a chain that breaks behind its post, and what is pending, posted, voided and closed."""
+    script = Script()
+    script.pair(7, 0, 0, 2)
+    script.next(ACCOUNTS, account(1), account(2))
+    script.next(TRANSFERS, transfer(50, 1, 2, 1, flags=LINKED), transfer(51, 99, 2, 1, flags=LINKED), transfer(52, 1, 2, 1))
+    script.next(TRANSFERS, transfer(64, 1, 2, 40, flags=PENDING))
+    script.next(TRANSFERS, transfer(65, 0, 0, (1 << 128) - 1, 64, POST | LINKED), transfer(66, 99, 2, 1))
+    script.next(TRANSFERS, transfer(65, 0, 0, (1 << 128) - 1, 64, POST))
+    script.next(TRANSFERS, transfer(67, 1, 2, 7, flags=PENDING), transfer(68, 0, 0, 0, 67, VOID))
+    script.next(TRANSFERS, transfer(40, 1, 2, 0, flags=PENDING | CLOSING), transfer(41, 1, 2, 1))
+    script.next(TRANSFERS, *(transfer(100 + k, 1 + k % 2, 2 - k % 2, 5, flags=PENDING, timeout=k % 3) for k in range(20)))
+    script.moment = 2 * 10**9
+    script.next(LOOK_TRANSFERS, ids(50, 51, 52, 64, 65, 66, 67, 68, 40, 41, 100, 119))
+    script.next(LOOK_ACCOUNTS, ids(1, 2))
+    script.again()
+    return script
+
+
+def evictions():
+    """Three clients by turns in two places."""
+    script = Script()
+    for client, session in (7, 1), (8, 2), (9, 3), (7, 4):
+        script.pair(client, 0, 0, 2)
+        script.pair(client, session, 1, ACCOUNTS, account(client) + account(100 + session))
+    script.pair(8, 2, 2, LOOK_ACCOUNTS, ids(7, 8))
+    return script
+
+
+def run(program, words, script, environment):
+    report = environment.get("REFUSE_REPORT")
+    asked = refused = blocks = 0
+    try:
+        ran = subprocess.run([program, *map(str, words)], input=script, capture_output=True, env=environment, timeout=SECONDS)
+        status, output, lines = ran.returncode, ran.stdout, ran.stderr.decode().splitlines()
+    except subprocess.TimeoutExpired:
+        status, output, lines = None, b"", ["still running"]
+    if report:
+        with open(report, "rb") as it:
+            asked, refused, blocks = struct.unpack("<3q", it.read())
+    return Ran(status, output, lines, asked, refused, blocks)
+
+
+def plain(program, words, script):
+    return run(program, words, script, {})
+
+
+class Refuser:
+    """Runs programs over refuse.c."""
+
+    def __init__(self, folder):
+        self.shared, self.report = f"{folder}/refuse.so", f"{folder}/report"
+        source = f"{TOP}/checks/refusals/refuse.c"
+        subprocess.run(["cc", "-Wall", "-Wextra", "-shared", "-fPIC", "-O2", source, "-o", self.shared], check=True)
+
+    def run(self, program, words, script, kind, at, **most):
+        environment = {"LD_PRELOAD": self.shared, "REFUSE": kind, "REFUSE_AT": str(at), "REFUSE_REPORT": self.report}
+        environment |= {f"REFUSE_{side.upper()}": str(count) for side, count in most.items()}
+        return run(program, words, script, environment)
+
+    def in_turn(self, program, words, script, kind="growth", **most):
+        """The run with the first call of this kind refused, with the second, and so on, up to the first that refuses none."""
+        at = 0
+        while True:
+            at += 1
+            ran = self.run(program, words, script, kind, at, **most)
+            yield at, ran
+            if not ran.refused:
+                return
+
+
+def right(words, script):
+    """What `tbs` answers when nothing is refused."""
+    ran = plain(PROGRAM, words, script)
+    if ran.status:
+        raise SystemExit(f"tbs {words}: {ran.lines}")
+    return ran.output
+
+
+def told(counts):
+    return ", ".join(f"{count} {name}" for name, count in sorted(counts.items()))
+
+
+# What is refused of the program's own, and where no call says so: a block that would have become smaller
+OWN = "SetUp", "copy NoMemory", "no call"
+
+
+def each_growth(refuser, name, form, clients, script, judge, least, wanted):
+    """Each growth refused in turn while a form serves a script: what `judge` says of each run, all memory given back, and at
+    least so many refusals of calls, each of the wanted kinds among them."""
+    counts, whys, runs = collections.Counter(), [], 0
+    for at, ran in refuser.in_turn(AGAIN, [form, clients], script):
+        runs = at
+        why = judge(ran)
+        if ran.blocks:
+            why = why or f"{ran.blocks} blocks were not given back"
+        if why:
+            whys.append(f"growth {at}: {why}")
+        if ran.refused:
+            counts[refusal_of(ran)] += 1
+    calls = sum(count for it, count in counts.items() if it not in OWN)
+    missing = [it for it in wanted if not counts[it]]
+    if calls < least or missing:
+        whys.append(f"only {calls} refusals of calls, none of {missing}")
+    case(name, "; ".join(whys[:3]), f"{runs - 1} growths refused: {told(counts)}")
+
+
+def refusal_of(ran):
+    """Which call a run was refused at."""
+    for line in ran.lines:
+        if line.startswith(("frame", "entering")):
+            return f"{line.split()[0]} NoMemory"
+        if line == "SetUp" or line.endswith(("NoMemory", "NoPlace", "NoCopy", "NoThread", "before", "behind", "Unpublished")):
+            return "enter NoMemory" if line.startswith("refused") else line
+        if line.startswith(("stopped", "run")):
+            return "run NoMemory"
+    return "no call"
+
+
+def set_up(ran):
+    return ran.status == 3 and ran.lines[-1:] == ["SetUp"] and ran.output == b""
+
+
+def answers(wanted):
+    """The whole right answer, whatever was refused once."""
+    def judge(ran):
+        if set_up(ran) or (ran.status, ran.output) == (0, wanted):
+            return ""
+        return f"status {ran.status}, {ran.lines}, {len(ran.output)} bytes of {len(wanted)}"
+    return judge
+
+
+def calls_answer(replies, history):
+    """As `answers`, or a server that ended for want of memory, and a beginning of both."""
+    def judge(ran):
+        if set_up(ran) or (ran.status, ran.output) == (0, replies + history):
+            return ""
+        if ran.status == 4 and "run NoMemory" in ran.lines:
+            for at in range(0, len(replies) + 1):
+                if ran.output[:at] == replies[:at] and ran.output[at:at + 8] == history[:8] and history.startswith(ran.output[at:]):
+                    return ""
+        return f"status {ran.status}, {ran.lines}"
+    return judge
+
+
+def offers_stand(pairs, clients):
+    """The history is that of the requests that were taken, without those at the places that were refused."""
+    def judge(ran):
+        if set_up(ran):
+            return ""
+        if ran.status:
+            return f"status {ran.status}, {ran.lines}"
+        refused = {int(it.split()[1]) for it in ran.lines if it.startswith("refused")}
+        end = next((it.split() for it in ran.lines if it.startswith(("closed", "stopped"))), None)
+        taken = int(end[1])
+        if end[0] == "closed" and taken != len(pairs):
+            return f"only {taken} places"
+        left = b"".join(it for place, it in enumerate(pairs[:taken], 1) if place not in refused)
+        if ran.output != right(["dump", clients], left):
+            return f"another history, {ran.lines}"
+        return ""
+    return judge
+
+
+def ends(pairs, first=0):
+    """Where each pair, or each entry of a dump, ends."""
+    at, all_ends = first, []
+    for pair in pairs:
+        at += len(pair)
+        all_ends.append(at)
+    return all_ends
+
+
+def faults(script, starts, header, written):
+    """A run that ends at its fault: Frame(NoMemory) behind a header whose body finds no room, NoMemory behind a whole pair, or
+    before the first byte; and the output is what belongs to all pairs before."""
+    whole = len(script)
+
+    def judge(ran):
+        if set_up(ran):
+            return ""
+        if ran.status or len(ran.lines) != 1:
+            return f"status {ran.status}, {ran.lines}"
+        kind, unread, *name = ran.lines[0].split()
+        at = whole - int(unread)
+        if kind == "done":
+            return "" if ran.output == written[-1] and at == whole else "another output"
+        if name != ["NoMemory"]:
+            return f"another fault: {ran.lines[0]}"
+        begun = [it + header for it in starts[:-1]]
+        if kind == "frame" and at in begun:
+            return "" if ran.output == written[begun.index(at)] else f"another output at byte {at}"
+        if kind == "entering" and at in starts[1:]:
+            return "" if ran.output == written[starts.index(at) - 1] else f"another output at byte {at}"
+        if kind == "entering" and at <= 16:
+            return "" if ran.output in (b"", written[0]) else f"another output at byte {at}"
+        return f"{ran.lines[0]} at byte {at}"
+    return judge
+
+
+def dumped(script, clients):
+    """The head of a script's dump, and its entries."""
+    dump = right(["dump", clients], script)
+    entries, at = [], 16
+    while at < len(dump):
+        end = at + 64 + struct.unpack_from("<I", dump, at + 48)[0]
+        entries.append(dump[at:end])
+        at = end
+    return dump[:16], entries
+
+
+def beginnings(words, pairs, head=b""):
+    """What `tbs` answers to none of the pairs, to the first, to the first two, and so on."""
+    return [right(words, head + b"".join(pairs[:count])) for count in range(len(pairs) + 1)]
+
+
+def growths(refuser):
+    clients = 2
+    for name, script in ("the rows", rows()), ("the broken chains", chains()), ("evictions", evictions()):
+        replies, history = right(["run", clients], script.bytes), right(["dump", clients], script.bytes)
+        each_growth(refuser, f"apply, {name}", "apply", clients, script.bytes, answers(replies), 4, ["apply NoMemory"])
+        taken = ["open NoMemory", "take NoMemory", "take Unpublished behind"] + ["answer NoMemory"] * (name != "evictions")
+        each_growth(refuser, f"open, take and answer, {name}", "take", clients, script.bytes, answers(replies + history), 20, taken)
+        offered = ["open NoMemory", "service NoMemory", "enter NoMemory", "run NoMemory", "offered_by NoMemory"]
+        each_growth(refuser, f"offers and a server, {name}", "offer", clients, script.bytes, offers_stand(script.pairs, clients), 30, offered)
+        served(refuser, name, script, clients)
+    for name, script in ("the rows", rows()), ("evictions", evictions()):
+        replies, history = right(["run", clients], script.bytes), right(["dump", clients], script.bytes)
+        each_growth(refuser, f"calls beside a server, {name}", "call", clients, script.bytes, calls_answer(replies, history), 30, ["enter NoMemory", "join NoThread"])
+
+
+def storms(refuser):
+    """A storm with each growth refused in turn: its four lines, or NoMemory, or a client that gave up, and all memory given back."""
+    words = ["storm", 2, 3]
+    wanted, counts, whys = plain(PROGRAM, words, b"").output, collections.Counter(), []
+    rights = {(0, wanted, ()): "made up for", (1, b"", ("tbs: NoMemory",)): "NoMemory", (3, b"", ("tbs: GaveUp",)): "GaveUp"}
+    for at, ran in refuser.in_turn(PROGRAM, words, b""):
+        how = rights.get((ran.status, ran.output, tuple(ran.lines)))
+        if not how or ran.blocks:
+            whys.append(f"growth {at}: status {ran.status}, {ran.output}, {ran.lines}, {ran.blocks} blocks left")
+        counts[how or "wrong"] += ran.refused
+    if sum(counts.values()) < 400:
+        whys.append("too few growths were refused")
+    case("storm 2 3", "; ".join(whys[:3]), f"{sum(counts.values())} growths refused: {told(counts)}")
+
+
+def served(refuser, name, script, clients):
+    """`run`, `dump` with a mark, and `replay`."""
+    starts = [0] + ends(script.pairs)
+    written = beginnings(["run", clients], script.pairs)
+    each_growth(refuser, f"run, {name}", "run", clients, script.bytes, faults(script.bytes, starts, 56, written), 8, [])
+    written = beginnings(["dump", clients, 2], script.pairs)
+    each_growth(refuser, f"dump, {name}", "dump", clients, script.bytes, faults(script.bytes, starts, 56, written), 8, [])
+    head, entries = dumped(script.bytes, clients)
+    written = beginnings(["replay"], entries, head)
+    dump = head + b"".join(entries)
+    each_growth(refuser, f"replay, {name}", "replay", clients, dump, faults(dump, [16] + ends(entries, 16), 64, written), 4, [])
+
+
+MOST = 40
+
+
+def each_read(refuser, name, words, script, written, starts):
+    """Each read fails in turn, of 40 bytes at the most: Device, and the output is that of all pairs read in full."""
+    whys, count = [], 0
+    for at, ran in refuser.in_turn(PROGRAM, words, script, "read", read=MOST):
+        if not ran.refused:
+            whys += [] if (ran.status, ran.output) == (0, written[-1]) else ["nothing was refused"]
+            continue
+        read, count = MOST * (at - 1), count + 1
+        whole = sum(it <= read for it in starts) - 1
+        wanted = written[whole] if whole >= 0 else b""
+        if (ran.status, ran.output, ran.lines, ran.blocks) != (1, wanted, ["tbs: Device"], 0):
+            whys.append(f"read {at}: status {ran.status}, {len(ran.output)} bytes for {len(wanted)}, {ran.lines}, {ran.blocks} blocks left")
+    if count < len(script) // MOST:
+        whys.append(f"only {count} reads were refused")
+    case(name, "; ".join(whys[:3]), f"{count} reads refused")
+
+
+def each_write(refuser, name, words, script, kind, wanted, **most):
+    """Each write fails in turn, or takes nothing, once: replies that are passed on before a read, and are not taken then, are
+    offered again, and nothing is lost; else it is Device, and the output is a beginning of the right one."""
+    whys, count, again = [], 0, 0
+    for at, ran in refuser.in_turn(PROGRAM, words, script, kind, write=MOST, **most):
+        count += ran.refused
+        if (ran.status, ran.output, ran.lines, ran.blocks) == (0, wanted, [], 0):
+            again += ran.refused
+            continue
+        whys += stopped_wrongly(f"{kind} {at}", ran, wanted)
+    if count < len(wanted) // MOST:
+        whys.append(f"only {count} writes were refused")
+    case(name, "; ".join(whys[:3]), f"{count} writes refused, {again} of them offered again")
+
+
+def writes_stop(refuser, name, words, script, kind, wanted, **most):
+    """From the first write on, from the second, and so on, all fail or take nothing: Device, and the output is a beginning of
+    the right one."""
+    whys, count = [], 0
+    for at, ran in refuser.in_turn(PROGRAM, words, script, kind, write=MOST, on=1, **most):
+        if ran.refused:
+            count += 1
+            whys += stopped_wrongly(f"{kind} {at} and on", ran, wanted)
+        elif (ran.status, ran.output, ran.lines, ran.blocks) != (0, wanted, [], 0):
+            whys.append(f"status {ran.status} with no write refused")
+    if count < len(wanted) // MOST:
+        whys.append(f"only {count} runs met a refusal")
+    case(name, "; ".join(whys[:3]), f"{count} runs that stopped")
+
+
+def stopped_wrongly(name, ran, wanted):
+    """Why a run whose output was refused did not stop as it must, if so."""
+    stopped = (ran.status, ran.lines, ran.blocks) == (1, ["tbs: Device"], 0) and ran.refused
+    if stopped and wanted.startswith(ran.output) and len(ran.output) < len(wanted):
+        return []
+    return [f"{name}: status {ran.status}, {len(ran.output)} bytes, {ran.lines}, {ran.blocks} blocks left"]
+
+
+def devices(refuser):
+    script = rows()
+    starts = [0] + ends(script.pairs)
+    head, entries = dumped(script.bytes, 2)
+    dump = head + b"".join(entries)
+    forms = [
+        ("run", ["run", 2], script.bytes, beginnings(["run", 2], script.pairs), starts),
+        ("run by profile 2", ["run", 2, 2], script.bytes, beginnings(["run", 2, 2], script.pairs), starts),
+        ("dump", ["dump", 2], script.bytes, beginnings(["dump", 2], script.pairs), starts),
+        ("dump with a mark", ["dump", 2, 2], script.bytes, beginnings(["dump", 2, 2], script.pairs), starts),
+        ("replay", ["replay"], dump, beginnings(["replay"], entries, head), [16] + ends(entries, 16)),
+    ]
+    for name, words, source, written, begins in forms:
+        each_read(refuser, f"{name}, each read fails", words, source, written, begins)
+        for kind, how in ("write", "fails"), ("stall", "takes nothing"):
+            each_write(refuser, f"{name}, each write {how}", words, source, kind, written[-1])
+            each_write(refuser, f"{name}, each write {how} in a conversation", words, source, kind, written[-1], read=MOST)
+            writes_stop(refuser, f"{name}, each write {how} from one on", words, source, kind, written[-1])
+            writes_stop(refuser, f"{name}, each write {how} from one on in a conversation", words, source, kind, written[-1], read=MOST)
+
+
+def main():
+    for path, how in ((PROGRAM, "crates/tbs"), (AGAIN, "crates/tb_refusals")):
+        if not os.access(path, os.X_OK):
+            sys.exit(f"{path} is not there: `rt run` in {how} builds it")
+    with tempfile.TemporaryDirectory() as folder:
+        refuser = Refuser(folder)
+        growths(refuser)
+        storms(refuser)
+        devices(refuser)
+    print(f"{passed} passed, {failed} failed")
+    return 1 if failed else 0
+
+
+if __name__ == "__main__":
+    sys.exit(main())

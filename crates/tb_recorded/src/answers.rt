@@ -1,0 +1,168 @@
+//! Answers, checked against a machine of one thread.
+use crate::asked::{account_ids, transfer_ids};
+use crate::faults::Fault;
+use crate::records::{Answer, Log, Record};
+use crate::rules::Rules;
+use std::alloc::Global;
+use tb_machine::{Entry, Machine, answer_of, status_of};
+use tb_records::{Reply, ReplyBody};
+
+/// What an audit counts.
+#[derive(Clone, Copy)]
+pub struct Tally {
+    pub answers: u64,
+    pub wrong: u64,
+    /// The entries of the history, and the requests that were handed over.
+    pub commits: usize,
+    pub offered: usize,
+    /// Of the answers the replies and refusals by their status, NotYet last.
+    pub statuses: [u64; 8],
+    pub lookups: u64,
+}
+
+impl Tally {
+    /// A tally of nothing.
+    fn new() -> Tally {
+        Tally {
+            answers: 0,
+            wrong: 0,
+            commits: 0,
+            offered: 0,
+            statuses: [0; 8],
+            lookups: 0,
+        }
+    }
+
+    /// So much more is wrong.
+    pub fn count_wrong(&mut self, wrong: u64) {
+        self.wrong = self.wrong.saturating_add(wrong);
+    }
+
+    /// One answer was looked at.
+    fn count(&mut self, answer: &Answer, is_right: bool) {
+        self.answers = self.answers.saturating_add(1);
+        let status = match answer {
+            Answer::Reply(_, reply) => Some(reply.status()),
+            Answer::Status(_, status) => Some(*status),
+            Answer::Accounts(..) | Answer::Transfers(..) => None,
+        };
+        match status.and_then(|status| self.statuses.get_mut(status.code() as usize)) {
+            Some(count) => *count = count.saturating_add(1),
+            None => self.lookups = self.lookups.saturating_add(1),
+        }
+        if !is_right {
+            self.count_wrong(1);
+        }
+    }
+}
+
+/// Says that both bodies have the same results or records.
+fn is_same_body(one: &ReplyBody, other: &ReplyBody) -> bool {
+    match (one, other) {
+        (ReplyBody::Empty, ReplyBody::Empty) => true,
+        (ReplyBody::Results(a), ReplyBody::Results(b)) => a.as_slice() == b.as_slice(),
+        (ReplyBody::Accounts(a), ReplyBody::Accounts(b)) => a.as_slice() == b.as_slice(),
+        (ReplyBody::Transfers(a), ReplyBody::Transfers(b)) => a.as_slice() == b.as_slice(),
+        _ => false,
+    }
+}
+
+/// Says that both replies are the same, field by field.
+fn is_same(one: &Reply, other: &Reply) -> bool {
+    one.client() == other.client()
+        && one.session() == other.session()
+        && one.request() == other.request()
+        && one.operation() == other.operation()
+        && one.status() == other.status()
+        && one.commit() == other.commit()
+        && is_same_body(one.body(), other.body())
+}
+
+/// Says that the machine gives this answer.
+fn is_right(alloc: Global, machine: &Machine<Global>, answer: &Answer) -> Result<bool, Fault> {
+    Ok(match answer {
+        Answer::Reply(asked, reply) => {
+            let right = answer_of(alloc, machine, &asked.request(alloc)?)?;
+            is_same(&right, reply)
+        }
+        Answer::Status(asked, status) => {
+            status_of(machine.class(&asked.request(alloc)?)) == *status
+        }
+        Answer::Accounts(lookup, accounts) => {
+            let ids = account_ids(alloc, *lookup)?;
+            machine.lookup_accounts(ids.as_slice())?.as_slice() == accounts.as_slice()
+        }
+        Answer::Transfers(lookup, transfers) => {
+            let ids = transfer_ids(alloc, *lookup)?;
+            machine.lookup_transfers(ids.as_slice())?.as_slice() == transfers.as_slice()
+        }
+    })
+}
+
+/// Checks a log's records from one on, as far as their commit is not above the machine's, and tells how far that is. A
+/// record whose commit is below stands behind one of a later commit: that is wrong.
+fn check_from(
+    alloc: Global,
+    machine: &Machine<Global>,
+    records: &[Record],
+    from: usize,
+    tally: &mut Tally,
+) -> Result<usize, Fault> {
+    let mut at = from;
+    for record in records.iter().skip(from) {
+        if record.commit > machine.commit() {
+            return Ok(at);
+        }
+        let is_right = record.commit == machine.commit()
+            && is_right(alloc, machine, &record.answer)?;
+        tally.count(&record.answer, is_right);
+        at = at.saturating_add(1);
+    }
+    Ok(at)
+}
+
+/// Checks the answers of all logs at the machine's commit.
+fn check_all(
+    alloc: Global,
+    machine: &Machine<Global>,
+    logs: &[Log],
+    reached: &mut [usize],
+    tally: &mut Tally,
+) -> Result<(), Fault> {
+    for (log, at) in logs.iter().zip(reached) {
+        *at = check_from(alloc, machine, log.records.as_slice(), *at, tally)?;
+    }
+    Ok(())
+}
+
+/// How many records no commit of the history was reached for.
+fn count_unreached(logs: &[Log], reached: &[usize]) -> u64 {
+    let mut count = 0u64;
+    for (log, at) in logs.iter().zip(reached) {
+        count = count.saturating_add(log.records.len().saturating_sub(*at) as u64);
+    }
+    count
+}
+
+/// Replays the history entry by entry, and checks each answer where the machine has the commit at which its seat stood.
+pub fn check_answers(
+    alloc: Global,
+    rules: Rules,
+    history: &[Entry],
+    logs: &[Log],
+) -> Result<Tally, Fault> {
+    let mut tally = Tally::new();
+    let mut machine = rules.machine(alloc)?;
+    let mut reached = Vec::from_elem(alloc, 0usize, logs.len())?;
+    check_all(alloc, &machine, logs, &mut reached, &mut tally)?;
+    for entry in history {
+        if !machine.fits(entry) {
+            break;
+        }
+        machine.apply(entry)?;
+        check_all(alloc, &machine, logs, &mut reached, &mut tally)?;
+    }
+    tally.count_wrong((history.len() as u64).abs_diff(machine.commit()));
+    tally.count_wrong(count_unreached(logs, &reached));
+    Ok(tally)
+}

@@ -1,0 +1,279 @@
+//! Hostile clients: each in a thread of its own, with a port and a seat.
+ghost use Rattle.std.specs.Prelude.{◌≡◌, Some};
+ghost use Rattle.tb_service.specs.Ports.{service, service_by};
+
+use crate::asked::{Asked, account_ids, transfer_ids};
+use crate::chances::Chances;
+use crate::faults::Fault;
+use crate::notes::{Known, Note};
+use crate::records::{Answer, Log, Record};
+use std::alloc::Global;
+use std::marker::PhantomData;
+use std::sync::Wait;
+use std::thread;
+use tb_published::{Naming, Seat};
+use tb_records::{Reply, Request, Status};
+use tb_service::{Closed, Port};
+
+/// How often a patient client asks its seat for a reply.
+const TURNS: u32 = 2000;
+
+/// An order has at most this many requests.
+const REQUESTS_MAX: u64 = 8;
+
+/// Strangers, of whom no thread keeps a session, register by these numbers and the ones above.
+const STRANGERS: u64 = 1000;
+
+/// The service of ports, as a parameter of the types that hold one: the audit takes the ports of its own service alone.
+pub trait Serving {
+    ghost use Rattle.std.specs.Prelude.{Option};
+    ghost use Rattle.tb_service.specs.Names.{Name};
+
+    ghost service: { Option Name };
+}
+
+/// A client: its port, its seat, what it knows of its session, and its log.
+#[derive(Drop)]
+pub struct Client<J: Naming, S: Serving> {
+    place: usize,
+    own: Known,
+    port: Port,
+    seat: Seat<J>,
+    chances: Chances,
+    log: Log,
+    outcome: Result<(), Fault>,
+    alloc: Global,
+    of: PhantomData<S>,
+    ghost served: { S.service ≡ Some (service port) },
+}
+
+/// What a client leaves: its closed port, its log, and how it fared.
+#[derive(Drop)]
+pub struct Left<S: Serving> {
+    pub closed: Closed,
+    pub log: Log,
+    pub outcome: Result<(), Fault>,
+    of: PhantomData<S>,
+    pub ghost served: { S.service ≡ Some (service_by closed) },
+}
+
+impl<J: Naming, S: Serving> Client<J, S> {
+    /// The client at a place among the others, from 0, whose number is one more.
+    pub fn new(alloc: Global, place: usize, seed: u64, port: Port, seat: Seat<J>) -> Client<J, S>
+        requires { S.service ≡ Some (service port) }
+    {
+        let client = (place as u64).saturating_add(1);
+        Client {
+            place,
+            own: Known {
+                client,
+                session: 0,
+                last: 0,
+            },
+            port,
+            seat,
+            chances: Chances::new(seed ^ client.wrapping_mul(1 << 48)),
+            log: Log::new(alloc),
+            outcome: Ok(()),
+            alloc,
+            of: PhantomData,
+        }
+    }
+
+    /// Closes the port.
+    pub fn close<R: Wait>(self, rt: &R) -> Left<S> {
+        let Client {
+            place: _,
+            own: _,
+            port,
+            seat: _,
+            chances: _,
+            log,
+            outcome,
+            alloc: _,
+            of: _,
+        } = self;
+        Left {
+            closed: port.close(rt),
+            log,
+            outcome,
+            of: PhantomData,
+        }
+    }
+
+    /// Whose session the next request is of: mostly its own, else its neighbour's.
+    fn whose(&mut self, notes: &[Note]) -> Known {
+        if self.chances.below(6) != 0 {
+            return self.own;
+        }
+        match notes.get(self.place.saturating_add(1)) {
+            Some(note) => note.read((self.place as u64).saturating_add(2)),
+            None => self.own,
+        }
+    }
+
+    /// The next request: in half of the cases the one that is due, else one that a hostile client sends.
+    fn pick(&mut self, notes: &[Note]) -> Asked {
+        let known = self.whose(notes);
+        let next = known.last.saturating_add(1);
+        let due = known.numbered(next, 0);
+        let some = self.chances.below(5) as u32;
+        match self.chances.below(20) {
+            0 | 1 => known.numbered(known.last, 0),
+            2 => known.numbered(known.last, 1),
+            3 => known.numbered(known.last.saturating_sub(some), 0),
+            4 => known.numbered(next.saturating_add(some).saturating_add(1), 0),
+            5 => Asked {
+                session: known.session.saturating_add(u64::from(some)),
+                ..due
+            },
+            6 => Asked {
+                session: known.session.saturating_sub(u64::from(some)),
+                ..due
+            },
+            7 => Asked::register(known.client),
+            8 => Asked::register(u64::from(some).saturating_add(STRANGERS)),
+            _ => due,
+        }
+    }
+
+    /// Learns from the reply to a request of its own.
+    fn learn(&mut self, asked: Asked, reply: &Reply, notes: &[Note]) {
+        if asked.client != self.own.client {
+            return;
+        }
+        let current = asked.session == self.own.session;
+        match reply.status() {
+            Status::Reply if asked.number == 0 => {
+                self.own.session = reply.session();
+                self.own.last = 0;
+            }
+            Status::Reply if current => self.own.last = self.own.last.max(asked.number),
+            Status::NoSession | Status::SessionTooLow if current => self.own.session = 0,
+            Status::Older if current => self.own.last = self.own.last.saturating_add(1),
+            Status::NewerRequest if current => self.own.last = self.own.last.saturating_sub(1),
+            _ => {}
+        }
+        if let Some(note) = notes.get(self.place) {
+            note.write(self.own);
+        }
+    }
+
+    /// Writes an answer down, with what the seat has seen by then.
+    fn write(&mut self, answer: Answer) -> Result<(), Fault> {
+        let commit = self.seat.seen();
+        self.log.records.push(Record { answer, commit })?;
+        Ok(())
+    }
+
+    /// Asks the seat by turns until the request is answered; an impatient client asks twice at the most.
+    fn poll(&mut self, request: &Request) -> Result<Reply, Fault> {
+        let turns = if self.chances.below(4) == 0 { 1 } else { TURNS };
+        for _ in 0..turns {
+            let reply = self.seat.answer(request)?;
+            if reply.status() != Status::NotYet {
+                return Ok(reply);
+            }
+            thread::yield_now();
+        }
+        Ok(self.seat.answer(request)?)
+    }
+
+    /// A call without turns hands the request over exactly where it answers NotYet. Then the seat is asked.
+    fn call<R: Wait>(&mut self, rt: &R, asked: Asked) -> Result<Reply, Fault> {
+        let request = asked.request(self.alloc)?;
+        let reply = self.port.call(rt, &mut self.seat, &request, 0)?;
+        if reply.status() != Status::NotYet {
+            return Ok(reply);
+        }
+        self.log.offered.push(asked)?;
+        self.poll(&request)
+    }
+
+    /// Hands one request over without a look, and then asks the seat.
+    fn offer<R: Wait>(&mut self, rt: &R, asked: Asked) -> Result<Reply, Fault> {
+        let request = asked.request(self.alloc)?;
+        self.log.offered.push(asked)?;
+        match self.port.offer(rt, asked.request(self.alloc)?) {
+            Ok(()) => self.poll(&request),
+            Err(_) => Err(Fault::Gone),
+        }
+    }
+
+    /// The requests that follow one another from this one on, now and then one of them twice.
+    fn several(&mut self, first: Asked) -> Result<Vec<Request>, Fault> {
+        let mut requests = Vec::new(self.alloc);
+        let mut asked = first;
+        for _ in 0..=self.chances.below(REQUESTS_MAX) {
+            requests.push(asked.request(self.alloc)?)?;
+            self.log.offered.push(asked)?;
+            if self.chances.below(4) != 0 {
+                asked.number = asked.number.saturating_add(1);
+            }
+        }
+        Ok(requests)
+    }
+
+    /// Hands several requests over in one order, and then asks the seat for the first.
+    fn offer_several<R: Wait>(&mut self, rt: &R, asked: Asked) -> Result<Reply, Fault> {
+        let request = asked.request(self.alloc)?;
+        let requests = self.several(asked)?;
+        if requests.is_empty() || requests.len() > REQUESTS_MAX as usize {
+            return Err(Fault::Gone);
+        }
+        match self.port.offer_many(rt, requests) {
+            Ok(()) => self.poll(&request),
+            Err(_) => Err(Fault::Gone),
+        }
+    }
+
+    /// Looks records up through the seat.
+    fn look_up(&mut self) -> Result<(), Fault> {
+        let lookup = self.chances.draw();
+        let (commit, answer) = if self.chances.below(2) == 0 {
+            let ids = account_ids(self.alloc, lookup)?;
+            let (commit, accounts) = self.seat.lookup_accounts(ids.as_slice())?;
+            (commit, Answer::Accounts(lookup, accounts))
+        } else {
+            let ids = transfer_ids(self.alloc, lookup)?;
+            let (commit, transfers) = self.seat.lookup_transfers(ids.as_slice())?;
+            (commit, Answer::Transfers(lookup, transfers))
+        };
+        self.log.records.push(Record { answer, commit })?;
+        Ok(())
+    }
+
+    /// Asks only how a request fares.
+    fn look(&mut self, asked: Asked) -> Result<(), Fault> {
+        let status = self.seat.status(&asked.request(self.alloc)?)?;
+        self.write(Answer::Status(asked, status))
+    }
+
+    /// One step, of which one answer is written down.
+    fn step<R: Wait>(&mut self, rt: &R, notes: &[Note]) -> Result<(), Fault> {
+        let asked = self.pick(notes);
+        let reply = match self.chances.below(16) {
+            0 | 1 => return self.look_up(),
+            2 => return self.look(asked),
+            3 => self.seat.answer(&asked.request(self.alloc)?)?,
+            4 => self.offer(rt, asked)?,
+            5 => self.offer_several(rt, asked)?,
+            _ => self.call(rt, asked)?,
+        };
+        self.learn(asked, &reply, notes);
+        self.write(Answer::Reply(asked, reply))
+    }
+
+    /// So many steps, until one fails.
+    fn take_steps<R: Wait>(&mut self, rt: &R, notes: &[Note], steps: u32) -> Result<(), Fault> {
+        for _ in 0..steps {
+            self.step(rt, notes)?;
+        }
+        Ok(())
+    }
+
+    /// So many steps; how they went is told when the port is closed.
+    pub fn play<R: Wait>(&mut self, rt: &R, notes: &[Note], steps: u32) {
+        self.outcome = self.take_steps(rt, notes, steps);
+    }
+}

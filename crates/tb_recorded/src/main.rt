@@ -1,0 +1,104 @@
+//! `tb_recorded CLIENTS STEPS SEED`: so many hostile clients (4 to 16) take so many steps each against one server, each
+//! in a thread of its own. Every answer is written down with the commit at which its seat stood, and checked afterwards.
+//!
+//! Standard output has what does not depend on the schedule: the clients, the seed, the answers that were checked, and
+//! how many were wrong. Standard error tells the commits, the requests handed over, and the answers by status.
+#![tactic(auto)]
+
+ghost use Rattle.std.specs.Prelude.{◌≡◌};
+
+mod answers;
+mod asked;
+mod auditing;
+mod chances;
+mod clients;
+mod faults;
+mod keys;
+mod notes;
+mod places;
+mod records;
+mod rules;
+mod running;
+
+use answers::Tally;
+use anyhow::{Error, anyhow};
+use rules::Rules;
+use running::{Scale, run_in};
+use std::env;
+use std::marker::Brand;
+use tb_records::{ClientsMax, Profile};
+
+/// The number that a word spells.
+fn number(word: Option<&String>) -> Result<u32, Error> {
+    let word = word.ok_or(anyhow!("a number is missing"))?;
+    Ok(word.as_str().parse::<u32>()?)
+}
+
+/// The scale that the words tell.
+fn scale_of(words: &[String]) -> Result<Scale, Error> {
+    let clients = number(words.get(0))?;
+    let steps = number(words.get(1))?;
+    let seed = u64::from(number(words.get(2))?);
+    if !(4..=16).contains(&clients) {
+        return Err(anyhow!("4 to 16 clients"));
+    }
+    Ok(Scale {
+        clients,
+        steps,
+        seed,
+    })
+}
+
+/// A run's rules: seeds by turns go by profile 1 and 2, and there is a session for each client of a thread, but none more.
+fn rules_of(scale: Scale) -> Result<Rules, Error> {
+    let profile = if scale.seed % 2 == 1 {
+        Profile::One
+    } else {
+        Profile::Two
+    };
+    let clients_max = ClientsMax::new(scale.clients).ok_or(anyhow!("clients"))?;
+    Ok(Rules {
+        profile,
+        clients_max,
+    })
+}
+
+/// Tells what the audit counted.
+fn tell<R: Print + Eprint>(rt: &R, scale: Scale, tally: Tally) -> Result<(), Error> {
+    let [
+        reply,
+        no_session,
+        too_low,
+        newer_session,
+        older,
+        collision,
+        newer,
+        not_yet,
+    ] = tally.statuses;
+    println!(rt; "clients {}", scale.clients)?;
+    println!(rt; "seed {}", scale.seed)?;
+    println!(rt; "answers {}", tally.answers)?;
+    println!(rt; "{} wrong", tally.wrong)?;
+    eprintln!(rt;
+        "commits {}, requests handed over {}",
+        tally.commits, tally.offered
+    )?;
+    eprintln!(rt;
+        "Reply {reply}, NotYet {not_yet}, lookups {}",
+        tally.lookups
+    )?;
+    eprintln!(rt; "NoSession {no_session}, SessionTooLow {too_low}, NewerSession {newer_session}")?;
+    eprintln!(rt; "Older {older}, Collision {collision}, NewerRequest {newer}")?;
+    Ok(())
+}
+
+fn main(rt: HostRuntime) -> Result<(), Error> {
+    let mut words = Vec::new(rt.alloc());
+    for word in env::args(&rt)?.skip(1) {
+        words.push(word)?;
+    }
+    let scale = scale_of(words.as_slice())?;
+    let rules = rules_of(scale)?;
+    let tally = run_in::<Brand, _>(&rt, rt.alloc(), rules.opening(), rules, scale)?;
+    tell(&rt, scale, tally)
+}

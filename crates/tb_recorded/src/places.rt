@@ -1,0 +1,121 @@
+//! What was offered, by place.
+use crate::asked::Asked;
+use crate::faults::Fault;
+use crate::rules::Rules;
+use std::alloc::{AllocError, Global};
+use tb_machine::{Entry, Machine};
+use tb_sessions::Class;
+
+/// The requests of all ports by their places, and what is wrong with these.
+#[derive(Drop)]
+pub struct Line {
+    requests: Vec<Option<Asked>>,
+    misplaced: u64,
+}
+
+impl Line {
+    /// A line with no place.
+    pub fn new(alloc: Global) -> Line {
+        Line {
+            requests: Vec::new(alloc),
+            misplaced: 0,
+        }
+    }
+
+    /// The number of places.
+    pub fn len(&self) -> usize {
+        self.requests.len()
+    }
+
+    /// Makes room for a place.
+    fn reach(&mut self, place: usize) -> Result<(), AllocError> {
+        let missing = place.saturating_sub(self.requests.len());
+        for _ in 0..missing {
+            self.requests.push(None)?;
+        }
+        Ok(())
+    }
+
+    /// Puts a request at its place, which is to be free.
+    fn put(&mut self, place: u64, asked: Asked) -> Result<(), AllocError> {
+        self.reach(place as usize)?;
+        match self.requests.get_mut((place as usize).wrapping_sub(1)) {
+            Some(free) if free.is_none() => *free = Some(asked),
+            _ => self.misplaced = self.misplaced.saturating_add(1),
+        }
+        Ok(())
+    }
+
+    /// One port's requests, in order, at its places, which are to be as many and to rise.
+    pub fn add(&mut self, places: &[u64], offered: &[Asked]) -> Result<(), AllocError> {
+        let rise = places.windows(2).all(|pair| pair[0] < pair[1]);
+        if !rise || places.len() != offered.len() {
+            self.misplaced = self.misplaced.saturating_add(1);
+        }
+        for (place, asked) in places.iter().zip(offered) {
+            self.put(*place, *asked)?;
+        }
+        Ok(())
+    }
+
+    /// How much is wrong with the places: what was found when they were added, and those that nobody's request has.
+    pub fn misplaced(&self) -> u64 {
+        let empty = self.requests.iter().filter(|asked| asked.is_none()).count();
+        self.misplaced.saturating_add(empty as u64)
+    }
+}
+
+/// Says that both are the same entry.
+fn is_same(one: &Entry, other: &Entry) -> bool {
+    let (asked, kept) = (&one.request, &other.request);
+    one.commit == other.commit
+        && one.time == other.time
+        && asked.client() == kept.client()
+        && asked.session() == kept.session()
+        && asked.request() == kept.request()
+        && asked.body().same(kept.body())
+}
+
+/// The request at a place has its turn, as the rules say: where it is new it is to be the next entry of the history.
+fn take_turn(
+    alloc: Global,
+    machine: &mut Machine<Global>,
+    place: u64,
+    asked: Asked,
+    history: &[Entry],
+) -> Result<u64, Fault> {
+    let request = asked.request(alloc)?;
+    if machine.class(&request) != Class::New {
+        return Ok(0);
+    }
+    let events = request.body().event_count() as u64;
+    let Some(time) = machine.next_time(place, events) else {
+        return Ok(1);
+    };
+    let commit = machine.commit() + 1;
+    let entry = Entry {
+        commit,
+        time,
+        request,
+    };
+    let next = history.get(machine.commit() as usize);
+    let wrong = !next.is_some_and(|kept| is_same(&entry, kept));
+    if machine.fits(&entry) && machine.enter(entry).is_err() {
+        return Err(Fault::NoMemory);
+    }
+    Ok(u64::from(wrong))
+}
+
+/// Serves the line in one thread, and counts where the history has something else.
+pub fn rebuild(alloc: Global, rules: Rules, line: &Line, history: &[Entry]) -> Result<u64, Fault> {
+    let mut machine = rules.machine(alloc)?;
+    let mut wrong = 0u64;
+    for (at, asked) in line.requests.iter().enumerate() {
+        if let Some(asked) = asked {
+            let place = (at as u64).saturating_add(1);
+            wrong = wrong.saturating_add(take_turn(alloc, &mut machine, place, *asked, history)?);
+        }
+    }
+    let missing = (history.len() as u64).abs_diff(machine.commit());
+    Ok(wrong.saturating_add(missing))
+}

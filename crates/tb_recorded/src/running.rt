@@ -1,0 +1,203 @@
+//! A run: one server thread, and a thread for each client.
+ghost use Rattle.std.specs.Prelude.{◌≡◌, All, None, Some, IfSome};
+ghost use Rattle.tb_service.specs.Ports.{AreNumbered, service};
+ghost use Rattle.tb_service.specs.Servers.{service_on};
+ghost use Rattle.tb_service.specs.Finished.{service_at};
+
+use crate::answers::Tally;
+use crate::auditing::audit;
+use crate::clients::{Client, Left, Serving};
+use crate::faults::Fault;
+use crate::notes::Note;
+use crate::rules::Rules;
+use std::alloc::{AllocError, Global};
+use std::marker::Brand;
+use std::sync::Wait;
+use std::sync::atomic::{AtomicBool, Ordering};
+use std::thread::{self, Threads};
+use tb_published::{Naming, Opening, Seat, SeatCount, open};
+use tb_service::{Finished, Moments, Open, Port, PortCount, Server, service};
+
+/// How large a run is, and what its chances are drawn from.
+#[derive(Clone, Copy)]
+pub struct Scale {
+    pub clients: u32,
+    /// The steps of each client, of each of which an answer is written down.
+    pub steps: u32,
+    pub seed: u64,
+}
+
+/// Moments 1, 2, 3 and so on, so that a place tells its moment.
+#[derive(Drop)]
+pub struct Ticks(u64);
+
+impl Moments for Ticks {
+    ghost tells = { λ before moment after. moment ≡ after.0 };
+
+    fn now(&mut self) -> u64 {
+        self.0 = self.0.saturating_add(1);
+        self.0
+    }
+}
+
+impl Serving for Brand {
+    ghost service = { None };
+}
+
+/// The last port that is left.
+fn next_port<S: Serving>(ports: &mut Vec<Port>) -> Option<Port>
+    requires { All (λ port. S.service ≡ Some (service port)) ports.old.items }
+    ensures rest { All (λ port. S.service ≡ Some (service port)) ports.new.items }
+    ensures next { IfSome result (λ port. S.service ≡ Some (service port)) }
+{
+    ports.pop()
+}
+
+/// The clients, each with a port and a seat.
+fn make_clients<J: Naming, S: Serving>(
+    alloc: Global,
+    mut ports: Vec<Port>,
+    seats: Vec<Seat<J>>,
+    seed: u64,
+) -> Result<Vec<Client<J, S>>, AllocError>
+    requires { All (λ port. S.service ≡ Some (service port)) ports.items }
+{
+    let mut clients = Vec::new(alloc);
+    for seat in seats {
+        if let Some(port) = next_port::<S>(&mut ports) {
+            let place = clients.len();
+            clients.push(Client::new(alloc, place, seed, port, seat))?;
+        }
+    }
+    Ok(clients)
+}
+
+/// A note for each client.
+fn make_notes(alloc: Global, clients: u32) -> Result<Vec<Note>, AllocError> {
+    let mut notes = Vec::new(alloc);
+    for _ in 0..clients {
+        notes.push(Note::new())?;
+    }
+    Ok(notes)
+}
+
+/// So often the clients look whether the server's thread has begun.
+const LOOKS: u32 = 1_000_000;
+
+/// Waits for the server's thread, and says whether it has begun. Where no thread can be made `join` runs the server behind
+/// the clients: an offer would then wait for ever, once the queue is full.
+fn has_begun(begun: &AtomicBool) -> bool {
+    for _ in 0..LOOKS {
+        if begun.load(Ordering::SeqCst) {
+            return true;
+        }
+        thread::yield_now();
+    }
+    false
+}
+
+/// All clients take their steps at once.
+fn play_all<J: Naming + Send + Sync, S: Serving + Send + Sync, R: Threads + Wait + Sync>(
+    rt: &R,
+    clients: &mut Vec<Client<J, S>>,
+    notes: &[Note],
+    steps: u32,
+) {
+    let threads = clients.len().max(1);
+    thread::for_each_mut(
+        rt,
+        clients.as_mut_slice(),
+        threads,
+        &|_, client: &mut Client<J, S>| { client.play(rt, notes, steps) },
+    );
+}
+
+/// Closes each client's port, and gives out what the clients wrote down.
+fn close_all<J: Naming, S: Serving, R: Wait>(
+    rt: &R,
+    alloc: Global,
+    clients: Vec<Client<J, S>>,
+) -> Result<Vec<Left<S>>, AllocError> {
+    let mut all = Vec::new(alloc);
+    let mut missing = Ok(());
+    for client in clients {
+        if let Err(failed) = all.push(client.close(rt)) {
+            missing = Err(AllocError::from(failed));
+        }
+    }
+    missing.map(|()| all)
+}
+
+/// Once the server has begun all clients take their steps; then the ports are closed.
+fn take_part<J: Naming + Send + Sync, S: Serving + Send + Sync, R: Threads + Wait + Sync>(
+    rt: &R,
+    alloc: Global,
+    begun: &AtomicBool,
+    mut clients: Vec<Client<J, S>>,
+    notes: &[Note],
+    steps: u32,
+) -> Result<Vec<Left<S>>, Fault> {
+    let served = has_begun(begun);
+    if served {
+        play_all(rt, &mut clients, notes, steps);
+    }
+    let left = close_all(rt, alloc, clients)?;
+    if served {
+        Ok(left)
+    } else {
+        Err(Fault::NoThread)
+    }
+}
+
+/// A run over a server and its ports, and its audit.
+fn run_over<J: Naming + Send + Sync, S: Serving + Send + Sync, R: Threads + Wait + Sync>(
+    rt: &R,
+    alloc: Global,
+    server: Server<J, &R, Ticks, Open>,
+    ports: Vec<Port>,
+    seats: Vec<Seat<J>>,
+    rules: Rules,
+    scale: Scale,
+) -> Result<Tally, Fault>
+    requires server { S.service ≡ Some (service_on server) }
+    requires ports { AreNumbered (service_on server) 0 ports.items }
+{
+    let notes = make_notes(alloc, scale.clients)?;
+    let clients = make_clients::<J, S>(alloc, ports, seats, scale.seed)?;
+    let begun = &AtomicBool::new(false);
+    let (mut finished, left) = thread::join(
+        rt,
+        move || -> Finished<J>
+            ensures { service_at result ≡ service_on server.entry }
+        {
+            begun.store(true, Ordering::SeqCst);
+            server.run(rt)
+        },
+        || take_part(rt, alloc, begun, clients, notes.as_slice(), scale.steps),
+    );
+    let tally = match left {
+        Ok(left) => audit(alloc, rules, &mut finished, left),
+        Err(fault) => Err(fault),
+    };
+    finished.close(rt);
+    tally
+}
+
+/// A run of an opening with these rules.
+pub fn run_in<J: Naming + Send + Sync, R: Threads + Wait + Sync>(
+    rt: &R,
+    alloc: Global,
+    opening: Opening,
+    rules: Rules,
+    scale: Scale,
+) -> Result<Tally, Fault>
+    requires { opening ≡ J.opening }
+{
+    let (Some(seats), Some(ports)) = (SeatCount::new(scale.clients), PortCount::new(scale.clients))
+    else {
+        return Err(Fault::NoCopy);
+    };
+    let (publisher, seats) = open::<J, R>(alloc, rt, opening, seats)?;
+    let (server, ports) = service(alloc, publisher, rt, ports, Ticks(0), Open)?;
+    run_over::<J, Brand, R>(rt, alloc, server, ports, seats, rules, scale)
+}

@@ -1,0 +1,203 @@
+//! `tb_refusals FORM CLIENTS_MAX`: serves the script of standard input by calls that may want memory, and makes a call that
+//! was refused again. checks/refusals.py runs it with each growth refused in turn, one a run.
+//!
+//! The forms `apply`, `take`, `offer` and `call` look at what a refused call left behind; `run`, `dump` and `replay` (which
+//! reads a dump) end at their first fault, and tell of which kind it is. What was answered goes to standard output, a line for
+//! each refusal to standard error; Trouble::status tells the statuses.
+#![tactic(auto)]
+
+ghost use Rattle.std.specs.Prelude.{◌≡◌};
+
+mod applying;
+mod calling;
+mod offering;
+mod openings;
+mod running;
+mod scripts;
+mod taking;
+mod troubles;
+
+use scripts::{Pair, read_pairs};
+use std::alloc::Global;
+use std::env;
+use std::io::{Read, Write};
+use std::marker::Brand;
+use std::process::ExitCode;
+use std::sync::Wait;
+use std::thread::Threads;
+use tb_published::{Naming, Opening};
+use tb_records::{ClientsMax, Profile};
+use troubles::{Trouble, Why};
+
+/// The bytes that may be answered.
+const ROOM: usize = 1 << 20;
+
+/// How the script reaches a publisher.
+#[derive(Clone, Copy)]
+enum Way {
+    /// By the publisher's own call.
+    Take,
+    /// By ports that are closed before the server runs.
+    Offer,
+    /// By a port's calls, beside the server's thread.
+    Call,
+}
+
+/// What the script is served by.
+#[derive(Clone, Copy)]
+enum Form {
+    /// One machine.
+    Apply,
+    /// A publisher and a seat.
+    Publish(Way),
+    Run,
+    Dump,
+    Replay,
+}
+
+/// The form that a word names.
+fn form_of(word: &str) -> Option<Form> {
+    match word {
+        "apply" => Some(Form::Apply),
+        "take" => Some(Form::Publish(Way::Take)),
+        "offer" => Some(Form::Publish(Way::Offer)),
+        "call" => Some(Form::Publish(Way::Call)),
+        "run" => Some(Form::Run),
+        "dump" => Some(Form::Dump),
+        "replay" => Some(Form::Replay),
+        _ => None,
+    }
+}
+
+/// The form and the number of clients that the program's words name.
+fn read_words(rt: &HostRuntime) -> Result<(Form, ClientsMax), Trouble> {
+    let mut words = Vec::new(rt.alloc());
+    for word in env::args(rt)?.skip(1) {
+        words.push(word)?;
+    }
+    let form = words.get(0).ok_or(Trouble::SetUp)?;
+    let clients = words.get(1).ok_or(Trouble::SetUp)?;
+    let form = form_of(form.as_str()).ok_or(Trouble::SetUp)?;
+    let clients = clients.as_str().parse::<u32>().map_err(|_| Trouble::SetUp)?;
+    Ok((form, ClientsMax::new(clients).ok_or(Trouble::SetUp)?))
+}
+
+/// Serves a script by an opening. False where the opening, or its service, is refused.
+fn serve_opening<J: Naming + Send + Sync, R: Threads + Wait + Eprint + Sync>(
+    rt: &R,
+    alloc: Global,
+    opening: Opening,
+    way: Way,
+    clients_max: ClientsMax,
+    pairs: &[Pair],
+    out: &mut Vec<u8>,
+) -> Result<bool, Trouble>
+    requires { opening ≡ J.opening }
+{
+    match way {
+        Way::Take => taking::take_all::<J, R>(rt, alloc, opening, clients_max, pairs, out),
+        Way::Offer => offering::offer_all::<J, R>(rt, alloc, opening, clients_max, pairs, out),
+        Way::Call => calling::call_all::<J, R>(rt, alloc, opening, clients_max, pairs, out),
+    }
+}
+
+/// Serves a script by a publisher: by another one where the first is refused, since one growth a run is refused.
+fn serve_published<R: Threads + Wait + Eprint + Sync>(
+    rt: &R,
+    alloc: Global,
+    way: Way,
+    clients_max: ClientsMax,
+    pairs: &[Pair],
+    out: &mut Vec<u8>,
+) -> Result<(), Trouble> {
+    for _ in 0..2 {
+        let opening = Opening::new(Profile::One, clients_max);
+        if serve_opening::<Brand, R>(rt, alloc, opening, way, clients_max, pairs, out)? {
+            return Ok(());
+        }
+    }
+    Err(Trouble::Wrong(Why::RefusedTwice))
+}
+
+/// Serves a script.
+fn serve<R: Threads + Wait + Eprint + Sync>(
+    rt: &R,
+    alloc: Global,
+    form: Form,
+    clients_max: ClientsMax,
+    script: &[u8],
+    out: &mut Vec<u8>,
+) -> Result<(), Trouble> {
+    match form {
+        Form::Run => running::run_once(rt, alloc, clients_max, script, out),
+        Form::Dump => running::dump_once(rt, alloc, clients_max, script, out),
+        Form::Replay => running::replay_once(rt, alloc, script, out),
+        Form::Apply => {
+            let pairs = read_pairs(alloc, script)?;
+            applying::apply_all(rt, alloc, clients_max, pairs.as_slice(), out)
+        }
+        Form::Publish(way) => {
+            let pairs = read_pairs(alloc, script)?;
+            serve_published(rt, alloc, way, clients_max, pairs.as_slice(), out)
+        }
+    }
+}
+
+/// What the program was asked to do.
+#[derive(Drop)]
+struct Task {
+    form: Form,
+    clients_max: ClientsMax,
+    script: Vec<u8>,
+    out: Vec<u8>,
+}
+
+/// Reads the program's words and the script, and makes room for what is answered.
+fn read_task(rt: &HostRuntime) -> Result<Task, Trouble> {
+    let (form, clients_max) = read_words(rt)?;
+    let mut script = Vec::new(rt.alloc());
+    rt.stdin().read_to_end(&mut script)?;
+    let out = Vec::with_capacity(rt.alloc(), ROOM)?;
+    Ok(Task {
+        form,
+        clients_max,
+        script,
+        out,
+    })
+}
+
+/// Serves the script.
+fn serve_task<R: Threads + Wait + Eprint + Sync>(
+    rt: &R,
+    alloc: Global,
+    task: &mut Task,
+) -> Result<(), Trouble> {
+    let script = task.script.as_slice();
+    serve(
+        rt,
+        alloc,
+        task.form,
+        task.clients_max,
+        script,
+        &mut task.out,
+    )
+}
+
+fn main(rt: HostRuntime) -> ExitCode {
+    let served = match read_task(&rt) {
+        Ok(mut task) => {
+            let served = serve_task(&rt, rt.alloc(), &mut task);
+            let written = rt.stdout().write_all(task.out.as_slice());
+            served.and(written.map_err(|_| Trouble::SetUp))
+        }
+        Err(trouble) => Err(trouble),
+    };
+    let status = match served {
+        Ok(()) => 0,
+        Err(trouble) => {
+            let _ = eprintln!(&rt; "{trouble:?}");
+            trouble.status()
+        }
+    };
+    ExitCode::from(status)
+}

@@ -1,0 +1,221 @@
+//! A service: two ports offer a script by turns and are closed, and then the server runs.
+ghost use Rattle.std.specs.Prelude.{◌≡◌, ℕ, IfOk, IfSome};
+ghost use Rattle.tb_service.specs.Names.{Name};
+ghost use Rattle.tb_service.specs.Ports.{AreNumbered, service, service_by};
+ghost use Rattle.tb_service.specs.Servers.{service_on};
+ghost use Rattle.tb_service.specs.Finished.{service_at};
+
+use crate::openings::opened;
+use crate::scripts::{Pair, copy_all, put_history};
+use crate::troubles::{Trouble, Why, expect, note};
+use std::alloc::Global;
+use std::sync::Wait;
+use tb_published::{Naming, Opening, Publisher, Seat, SeatCount, TakeFault};
+use tb_records::{ClientsMax, Request};
+use tb_service::{Closed, Ended, Finished, Moments, Open, Port, PortCount, Server, service};
+
+/// The moments of a script, one for each request; then the last one again and again.
+#[derive(Drop)]
+pub struct Listed {
+    moments: Vec<u64>,
+    next: usize,
+}
+
+impl Listed {
+    pub fn new(alloc: Global, pairs: &[Pair]) -> Result<Listed, Trouble> {
+        let mut moments = Vec::with_capacity(alloc, pairs.len())?;
+        for pair in pairs {
+            moments.push(pair.moment)?;
+        }
+        Ok(Listed { moments, next: 0 })
+    }
+}
+
+impl Moments for Listed {
+    ghost tells = { λ before moment after. Unit {0} };
+
+    fn now(&mut self) -> u64 {
+        let last = self.moments.last().copied().unwrap_or(0);
+        let moment = self.moments.get(self.next).copied().unwrap_or(last);
+        self.next = self.next.saturating_add(1);
+        moment
+    }
+}
+
+/// The last port that is left.
+pub fn next_port(ports: &mut Vec<Port>) -> Result<Port, Trouble>
+    ensures { IfOk result (λ port. (name : Name) (n : ℕ) → AreNumbered name n ports.old.items → AreNumbered name n ports.new.items × (service port ≡ name)) }
+{
+    if let Some(port) = ports.pop() {
+        return Ok(port);
+    }
+    Err(Trouble::Wrong(Why::NoPort))
+}
+
+type Started<'a, J, R> = Server<J, &'a R, Listed, Open>;
+
+/// A server and two ports; None where they are refused.
+fn two_ports<'a, J: Naming, R: Wait + Eprint>(
+    rt: &'a R,
+    alloc: Global,
+    publisher: Publisher<J>,
+    count: PortCount,
+    moments: Listed,
+) -> Result<Option<(Started<'a, J, R>, Port, Port)>, Trouble>
+    ensures { IfOk result (λ some. IfSome some (λ made. (service made.1 ≡ service_on made.0) × (service made.2 ≡ service_on made.0))) }
+{
+    match service(alloc, publisher, rt, count, moments, Open) {
+        Ok((server, mut ports)) => {
+            let second = next_port(&mut ports)?;
+            let first = next_port(&mut ports)?;
+            Ok(Some((server, first, second)))
+        }
+        Err(_) => {
+            note(rt, "service NoMemory");
+            Ok(None)
+        }
+    }
+}
+
+/// Offers a request by the port whose turn it is; false where it comes back.
+fn offer_in_turn<R: Wait>(
+    rt: &R,
+    request: Request,
+    first: &mut Port,
+    second: &mut Port,
+    turn: bool,
+) -> bool
+    ensures { (service first.new ≡ service first.old) × (service second.new ≡ service second.old) }
+{
+    if turn {
+        second.offer(rt, request).is_ok()
+    } else {
+        first.offer(rt, request).is_ok()
+    }
+}
+
+/// Offers requests by turns, and closes the ports. An offer is never refused while the server is there.
+fn offer_by_turns<R: Wait>(
+    rt: &R,
+    requests: Vec<Request>,
+    mut first: Port,
+    mut second: Port,
+) -> (bool, Closed, Closed)
+    ensures { (service_by result.1 ≡ service first) × (service_by result.2 ≡ service second) }
+{
+    let mut offered = true;
+    let mut turn = false;
+    for request in requests {
+        offered = offer_in_turn(rt, request, &mut first, &mut second, turn) && offered;
+        turn = !turn;
+    }
+    (offered, first.close(rt), second.close(rt))
+}
+
+/// The places of a port, asked for again where that is refused.
+fn places<J: Naming, R: Eprint>(
+    rt: &R,
+    finished: &mut Finished<J>,
+    closed: Closed,
+) -> Option<Vec<u64>>
+    requires { service_by closed ≡ service_at finished.old }
+    ensures { service_at finished.new ≡ service_at finished.old }
+{
+    match finished.offered_by(closed) {
+        Ok(places) => Some(places),
+        Err(closed) => {
+            note(rt, "offered_by NoMemory");
+            finished.offered_by(closed).ok()
+        }
+    }
+}
+
+/// Places that begin at a number and rise by two.
+fn rise_by_two(places: &[u64], first: u64) -> bool {
+    let mut next = first;
+    for place in places {
+        if *place != next {
+            return false;
+        }
+        next = next.saturating_add(2);
+    }
+    true
+}
+
+/// The places of both ports are those of their turns; answers how many there are.
+fn check_places(first: Option<Vec<u64>>, second: Option<Vec<u64>>) -> Result<u64, Trouble> {
+    let first = first.ok_or(Trouble::Wrong(Why::RefusedTwice))?;
+    let second = second.ok_or(Trouble::Wrong(Why::RefusedTwice))?;
+    let right = rise_by_two(first.as_slice(), 1) && rise_by_two(second.as_slice(), 2);
+    expect(right, Why::OtherPlace)?;
+    Ok((first.len() as u64).saturating_add(second.len() as u64))
+}
+
+/// Shows the whole history, and has a seat see it.
+fn show_all<J: Naming, R: Wait + Eprint>(
+    rt: &R,
+    finished: &mut Finished<J>,
+    seats: &mut Vec<Seat<J>>,
+) -> Result<(), Trouble> {
+    let last = finished.publisher.history().len() as u64;
+    let mut shown = finished.publisher.show(rt);
+    if shown == Err(TakeFault::Unpublished(last)) {
+        note(rt, "show Unpublished");
+        shown = finished.publisher.show(rt);
+    }
+    expect(shown == Ok(last), Why::NotShown)?;
+    let mut seat = seats.pop().ok_or(Trouble::Wrong(Why::NoSeat))?;
+    if seat.lookup_accounts(&[1, 2]).is_err() {
+        note(rt, "lookup NoMemory");
+        expect(seat.lookup_accounts(&[1, 2]).is_ok(), Why::RefusedTwice)?;
+    }
+    expect(seat.seen() == last, Why::SeenTooLittle)
+}
+
+/// Says which places were refused, and how the run ended.
+fn tell_end<J: Naming, R: Eprint>(rt: &R, finished: &Finished<J>, taken: u64) {
+    for (place, fault) in finished.refused.as_slice() {
+        let _ = eprintln!(rt; "refused {place} {fault}");
+    }
+    let _ = match finished.ended {
+        Ended::Closed => eprintln!(rt; "closed {taken}"),
+        Ended::NoMemory => eprintln!(rt; "stopped {taken}"),
+    };
+}
+
+/// Serves the pairs of a script, and appends the history; false where the opening or the service is refused.
+pub fn offer_all<J: Naming, R: Wait + Eprint>(
+    rt: &R,
+    alloc: Global,
+    opening: Opening,
+    clients_max: ClientsMax,
+    pairs: &[Pair],
+    out: &mut Vec<u8>,
+) -> Result<bool, Trouble>
+    requires { opening ≡ J.opening }
+{
+    let count = PortCount::new(2).ok_or(Trouble::SetUp)?;
+    let seats = SeatCount::new(2).ok_or(Trouble::SetUp)?;
+    let moments = Listed::new(alloc, pairs)?;
+    let requests = copy_all(rt, alloc, pairs)?;
+    let Some((publisher, mut seats)) = opened::<J, R>(rt, alloc, opening, seats) else {
+        return Ok(false);
+    };
+    let Some((server, first, second)) = two_ports(rt, alloc, publisher, count, moments)? else {
+        return Ok(false);
+    };
+    let (offered, first, second) = offer_by_turns(rt, requests, first, second);
+    let mut finished = server.run(rt);
+    let first = places(rt, &mut finished, first);
+    let second = places(rt, &mut finished, second);
+    let taken = check_places(first, second);
+    let shown = show_all(rt, &mut finished, &mut seats);
+    let written = put_history(clients_max, finished.publisher.history(), out);
+    tell_end(rt, &finished, taken.unwrap_or(0));
+    finished.close(rt);
+    expect(offered, Why::OfferRefused)?;
+    taken?;
+    shown?;
+    written?;
+    Ok(true)
+}

@@ -1,0 +1,73 @@
+//! The pairs of a script, and what is written of a history.
+use crate::troubles::{Trouble, Why, expect, note};
+use std::alloc::Global;
+use tb_machine::Entry;
+use tb_records::dumps::{send_entry, send_head};
+use tb_records::{
+    ClientsMax, Counting, DumpHead, Profile, Reply, Request, RequestStream, write_reply,
+};
+
+/// A script has at most this many pairs, so that the queue of a server holds all of them.
+const PAIRS_MAX: u32 = 60;
+
+/// A request, and the moment at which it comes.
+#[derive(Drop)]
+pub struct Pair {
+    pub moment: u64,
+    pub request: Request,
+}
+
+/// All pairs of a script.
+pub fn read_pairs(alloc: Global, script: &[u8]) -> Result<Vec<Pair>, Trouble> {
+    let mut pairs = Vec::new(alloc);
+    let mut stream = RequestStream::new(Counting::new(script));
+    for _ in 0..=PAIRS_MAX {
+        match stream.next_timed(alloc) {
+            Ok(Some((moment, request))) => pairs.push(Pair { moment, request })?,
+            Ok(None) => return Ok(pairs),
+            Err(_) => return Err(Trouble::SetUp),
+        }
+    }
+    Err(Trouble::Wrong(Why::TooManyPairs))
+}
+
+/// A copy of a request; the growth for it may be refused once.
+pub fn copy_of<R: Eprint>(rt: &R, alloc: Global, request: &Request) -> Result<Request, Trouble> {
+    if let Ok(copy) = request.copy(alloc) {
+        return Ok(copy);
+    }
+    note(rt, "copy NoMemory");
+    Ok(request.copy(alloc)?)
+}
+
+/// Copies of all requests.
+pub fn copy_all<R: Eprint>(rt: &R, alloc: Global, pairs: &[Pair]) -> Result<Vec<Request>, Trouble> {
+    let mut all = Vec::with_capacity(alloc, pairs.len())?;
+    for pair in pairs {
+        all.push(copy_of(rt, alloc, &pair.request)?)?;
+    }
+    Ok(all)
+}
+
+/// Appends a reply, for which there is room.
+pub fn put_reply(reply: &Reply, out: &mut Vec<u8>) -> Result<(), Trouble> {
+    expect(write_reply(reply, out).is_ok(), Why::NoRoom)
+}
+
+/// Appends a history as a dump, for which there is room.
+pub fn put_history(
+    clients_max: ClientsMax,
+    history: &[Entry],
+    out: &mut Vec<u8>,
+) -> Result<(), Trouble> {
+    let head = DumpHead {
+        profile: Profile::One,
+        clients_max,
+    };
+    let mut writer = Counting::new(out);
+    let mut whole = send_head(&mut writer, head).is_ok();
+    for entry in history {
+        whole = send_entry(&mut writer, entry.commit, entry.time, &entry.request).is_ok() && whole;
+    }
+    expect(whole, Why::NoRoom)
+}
