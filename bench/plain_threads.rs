@@ -1,6 +1,7 @@
 //! Readers of a plain Rust store beside a writer, for comparison with seats: one RwLock round the maps of sessions, accounts
 //! and transfers.
-//! rustc -O -C target-cpu=x86-64-v2 plain_threads.rs && ./plain_threads THREADS READS
+//! rustc -O -C target-cpu=x86-64-v2 plain_threads.rs && ./plain_threads THREADS READS [calm]
+//! With `calm` nothing is written.
 //! It prints what tb_bench does: `reads`, and in nanoseconds, summed over the threads, `status` and `lookup`; then `takes`.
 use std::collections::HashMap;
 use std::hint::black_box;
@@ -69,7 +70,8 @@ fn read(store: &RwLock<Store>, reads: u32) -> (u128, u128) {
 }
 
 fn main() {
-    let words: Vec<u32> = std::env::args().skip(1).map(|word| word.parse().unwrap()).collect();
+    let words: Vec<u32> = std::env::args().skip(1).take(2).map(|word| word.parse().unwrap()).collect();
+    let is_calm = std::env::args().nth(3).is_some();
     let (threads, reads) = (words[0], words[1]);
     let store = Store {
         sessions: HashMap::from([(7, Session { session: 1, request: 1, transfers: Vec::new() })]),
@@ -82,7 +84,7 @@ fn main() {
     std::thread::scope(|scope| {
         let writer = scope.spawn(move || {
             let mut number = 2;
-            while !stop.load(Ordering::SeqCst) {
+            while !is_calm && !stop.load(Ordering::SeqCst) {
                 store.write().unwrap().take(7, number, vec![transfer(number.into())]);
                 number += 1;
             }

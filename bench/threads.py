@@ -1,12 +1,14 @@
 #!/usr/bin/env python3
-"""What published copies cost: takes beside the one-thread machine, and reads beside a busy writer, against plain Rust.
+"""What published copies and ports cost: takes beside the one-thread machine, reads beside a busy writer and orders of ports,
+against plain Rust.
 
-  (cd crates/tb_bench && rt run)            # builds crates/tb_bench/out/tb_bench
-  python3 bench/threads.py [TURNS]          # prints the tables; the least of TURNS turns (5)
+  (cd crates/tb_bench && rt run)                    # builds crates/tb_bench/out/tb_bench
+  python3 bench/threads.py [TURNS [TABLE..]]        # prints the tables; the least of TURNS turns (5)
 
-Memory is the growth of the resident size over 50 batches of 8190 transfers, in bytes a transfer.
+A TABLE is takes, reads, ports or memory; with none, all four. Programs that are compared run by turns. Memory is the growth of
+the resident size over 50 batches of 8190 transfers, in bytes a transfer.
 """
-import pathlib, resource, subprocess, sys, tempfile
+import os, pathlib, subprocess, sys, tempfile
 
 TOP = pathlib.Path(__file__).resolve().parent.parent
 BENCH = TOP / "crates" / "tb_bench" / "out" / "tb_bench"
@@ -16,17 +18,71 @@ def run(program, words):
     """The times that a program tells, and its greatest resident size in bytes."""
     child = subprocess.Popen([str(program), *map(str, words)], stdout=subprocess.DEVNULL, stderr=subprocess.PIPE, text=True)
     told = dict(line.split() for line in child.stderr.read().splitlines())
-    _, status, usage = __import__("os").wait4(child.pid, 0)
+    _, status, usage = os.wait4(child.pid, 0)
     child.returncode = 0
     if status != 0:
         sys.exit(f"{program} {words}: status {status}")
     return {name: int(value) for name, value in told.items()}, usage.ru_maxrss * 1024
 
 
-def least(turns, program, words):
-    """The least of each time."""
-    all_told = [run(program, words)[0] for _ in range(turns)]
-    return {name: min(told[name] for told in all_told) for name in all_told[0]}
+def least(turns, *calls):
+    """The least of each time that each call of a program tells, where the calls take turns."""
+    told = [[] for _ in calls]
+    for _ in range(turns):
+        for words, times in zip(calls, told):
+            times.append(run(*words)[0])
+    return [{name: min(time[name] for time in times) for name in times[0]} for times in told]
+
+
+def compile_plain(folder, name):
+    program = pathlib.Path(folder) / name
+    subprocess.run(["rustc", "-O", "-C", "target-cpu=x86-64-v2", "-o", program, TOP / "bench" / f"{name}.rs"], check=True)
+    return program
+
+
+def print_takes(turns, _folder):
+    print("\n| Takes beside applies | take, us | apply, us | ratio |\n|---|---|---|---|")
+    for words, label, each in ((("take", 30), "a batch of 8190", 30), (("single", 50), "a single transfer, a show each", 50000), (("eights", 50), "a single transfer, a show for eight", 50000)):
+        told, = least(turns, (BENCH, words))
+        print(f"| {label} | {told['take'] / each / 1000:.2f} | {told['apply'] / each / 1000:.2f} | {told['take'] / told['apply']:.2f} |")
+
+
+def print_reads(turns, folder):
+    plain = compile_plain(folder, "plain_threads")
+    print("\nNanoseconds a read in each thread, and in brackets million reads a second of all threads.")
+    told = {}
+    for threads, reads in ((1, 2000000), (2, 1500000), (4, 1000000)):
+        calls = (BENCH, ("calm", threads, reads)), (plain, (threads, reads, "calm")), (BENCH, ("reads", threads, reads)), (plain, (threads, reads // 8))
+        counts = [threads * count for count in (reads, reads, reads, reads // 8)]
+        told[threads] = list(zip(least(turns, *calls), counts))
+    for kind in ("status", "lookup"):
+        print(f"\n| Threads | {kind}: seats, no writer | RwLock, no writer | seats beside a writer | RwLock beside a writer |\n|---|---|---|---|---|")
+        for threads, rows in told.items():
+            each = [times[kind] / count for times, count in rows]
+            print(f"| {threads} | " + " | ".join(f"{one:.0f} ({1000 * threads / one:.1f})" for one in each) + " |")
+
+
+def print_ports(turns, folder):
+    plain = compile_plain(folder, "plain_ports")
+    print("\nThousand requests a second.\n")
+    print("| Ports | one request an order: ports | Mutex | time to the Mutex's | eight an order: ports | Mutex | time to the Mutex's |\n|---|---|---|---|---|---|---|")
+    for ports in (1, 2, 4):
+        cells = []
+        for each in (1, 8):
+            orders = 400000 // ports // each
+            ours, theirs = least(turns, (BENCH, ("ports", ports, orders, each)), (plain, (ports, orders, each)))
+            count = ports * orders * each * 1000000
+            cells.append(f"{count / ours['orders']:.0f} | {count / theirs['orders']:.0f} | {ours['orders'] / theirs['orders']:.2f}")
+        print(f"| {ports} | {' | '.join(cells)} |")
+
+
+def print_memory(turns, _folder):
+    sizes = {(kind, size): min(run(BENCH, (kind, size))[1] for _ in range(turns)) for kind in ("take", "memory") for size in (10, 60)}
+    took, alone = ((sizes[kind, 60] - sizes[kind, 10]) / (50 * 8190) for kind in ("take", "memory"))
+    print(f"\nbytes a transfer: {took - alone:.0f} in history and copies, {alone:.0f} in one machine")
+
+
+TABLES = {"takes": print_takes, "reads": print_reads, "ports": print_ports, "memory": print_memory}
 
 
 def main():
@@ -34,21 +90,8 @@ def main():
     if not BENCH.exists():
         sys.exit(f"build {BENCH} first: (cd crates/tb_bench && rt run)")
     with tempfile.TemporaryDirectory() as folder:
-        plain = pathlib.Path(folder) / "plain_threads"
-        subprocess.run(["rustc", "-O", "-C", "target-cpu=x86-64-v2", "-o", plain, TOP / "bench" / "plain_threads.rs"], check=True)
-        print("| Takes beside applies | take, us | apply, us | ratio |\n|---|---|---|---|")
-        for words, label, each in ((("take", 30), "a batch of 8190", 30), (("single", 50), "a single transfer, a show each", 50000), (("eights", 50), "a single transfer, a show for eight", 50000)):
-            told = least(turns, BENCH, words)
-            print(f"| {label} | {told['take'] / each / 1000:.2f} | {told['apply'] / each / 1000:.2f} | {told['take'] / told['apply']:.2f} |")
-        reads = 300000
-        print("\n| Reads beside a writer | seats: status, ns | RwLock: status, ns | seats: lookup, ns | RwLock: lookup, ns |\n|---|---|---|---|---|")
-        for threads in (1, 2, 4):
-            ours, theirs = least(turns, BENCH, ("reads", threads, reads)), least(turns, plain, (threads, reads))
-            each = threads * reads
-            print(f"| {threads} threads | {ours['status'] / each:.0f} | {theirs['status'] / each:.0f} | {ours['lookup'] / each:.0f} | {theirs['lookup'] / each:.0f} |")
-        sizes = {(kind, size): min(run(BENCH, (kind, size))[1] for _ in range(turns)) for kind in ("take", "memory") for size in (10, 60)}
-        took, alone = ((sizes[kind, 60] - sizes[kind, 10]) / (50 * 8190) for kind in ("take", "memory"))
-        print(f"\nbytes a transfer: {took - alone:.0f} in history and copies, {alone:.0f} in one machine")
+        for name in sys.argv[2:] or TABLES:
+            TABLES[name](turns, folder)
 
 
 if __name__ == "__main__":

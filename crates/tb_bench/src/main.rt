@@ -1,12 +1,15 @@
-//! `tb_bench`: what takes and reads of published copies cost beside the one-thread machine. Counts go to standard output,
-//! times in nanoseconds to standard error.
+//! `tb_bench`: what takes and reads of published copies cost beside the one-thread machine, and what ports cost. Counts go to
+//! standard output, times in nanoseconds to standard error.
 //!
 //! `take SIZE` takes SIZE batches of 8190 transfers, `single N` N thousands of single transfers with a show each, `eights N`
-//! the same with one show for eight, `memory SIZE` applies the batches to a machine alone, and `reads THREADS N` reads N times in each of 1, 2 or 4 threads beside a busy writer.
+//! the same with one show for eight, `memory SIZE` applies the batches to a machine alone, `reads THREADS N` reads N times in
+//! each of 1, 2 or 4 threads beside a busy writer, `calm THREADS N` the same beside none, and `ports PORTS N EACH` hands N
+//! orders of 1 to 8 transfers to a server from each of 1 to 32 ports.
 #![tactic(auto)]
 
 ghost use Rattle.std.specs.Prelude.{◌≡◌};
 
+mod offering;
 mod reading;
 mod requests;
 mod taking;
@@ -43,8 +46,18 @@ fn main(rt: HostRuntime) -> Result<(), Error> {
         taking::measure::<Brand, _>(&rt, rt.alloc(), opening()?, taking::Kind::Eights, first)
     } else if kind == "memory" {
         taking::fill_machine(&rt, rt.alloc(), first)
+    } else if kind == "ports" {
+        let orders = number(words.get(2))?;
+        let each = number(words.get(3))?;
+        let scale = offering::Scale {
+            ports: first,
+            orders,
+            each,
+        };
+        offering::measure::<Brand, _>(&rt, rt.alloc(), opening()?, scale)
     } else {
         let reads = number(words.get(2))?;
-        reading::measure::<Brand, _>(&rt, rt.alloc(), opening()?, first, reads)
+        let is_calm = kind == "calm";
+        reading::measure::<Brand, _>(&rt, rt.alloc(), opening()?, first, reads, is_calm)
     }
 }

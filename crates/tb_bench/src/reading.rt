@@ -113,12 +113,12 @@ fn write<J: Naming, R: Wait>(
     publisher: &mut Publisher<J>,
     stop: &AtomicBool,
 ) -> u32 {
-    for number in 2..u32::MAX {
+    for number in 3..u32::MAX {
         if stop.load(Ordering::SeqCst) {
-            return number - 2;
+            return number - 3;
         }
         let Ok(requests) = round(alloc, number, 1, 1) else {
-            return number - 2;
+            return number - 3;
         };
         for request in requests {
             let _ = publisher.take(rt, request, 0);
@@ -127,23 +127,43 @@ fn write<J: Naming, R: Wait>(
     u32::MAX
 }
 
-/// Measures reads beside a writer.
+/// Takes what comes first, and one transfer, so that the request that seats are asked for is an older one throughout.
+fn prepare<J: Naming, R: Wait>(
+    rt: &R,
+    alloc: Global,
+    publisher: &mut Publisher<J>,
+) -> Result<(), Error> {
+    for request in first_requests(alloc)? {
+        publisher.take(rt, request, 0)?;
+    }
+    for request in round(alloc, 2, 1, 1)? {
+        publisher.take(rt, request, 0)?;
+    }
+    Ok(())
+}
+
+/// Measures reads beside a writer, or, where it is calm, beside none.
 fn measure_reads<J: Naming + Send + Sync, R: Threads + Wait + Clock + Print + Eprint + Sync>(
     rt: &R,
     alloc: Global,
     publisher: &mut Publisher<J>,
     seats: &mut [Seat<J>],
     reads: u32,
+    is_calm: bool,
 ) -> Result<(), Error> {
     let asked = first_requests(alloc)?;
-    for request in first_requests(alloc)? {
-        publisher.take(rt, request, 0)?;
-    }
+    prepare(rt, alloc, publisher)?;
     let request = asked.get(1).ok_or(anyhow!("a request"))?;
     let stop = AtomicBool::new(false);
     let (taken, times) = join(
         rt,
-        || write(rt, alloc, publisher, &stop),
+        || {
+            if is_calm {
+                0
+            } else {
+                write(rt, alloc, publisher, &stop)
+            }
+        },
         || read_in_threads(rt, seats, request, reads, &stop),
     );
     let (asked, found) = times.ok_or(anyhow!("a seat failed"))?;
@@ -154,18 +174,26 @@ fn measure_reads<J: Naming + Send + Sync, R: Threads + Wait + Clock + Print + Ep
     Ok(())
 }
 
-/// Opens a publisher with so many seats, and measures their reads.
+/// Opens a publisher with so many seats, and measures their reads, beside a busy writer unless it is calm.
 pub fn measure<J: Naming + Send + Sync, R: Threads + Wait + Clock + Print + Eprint + Sync>(
     rt: &R,
     alloc: Global,
     opening: Opening,
     threads: u32,
     reads: u32,
+    is_calm: bool,
 ) -> Result<(), Error>
     requires { opening ≡ J.opening }
 {
     let seats = SeatCount::new(threads).ok_or(anyhow!("seats"))?;
     let (publisher, mut seats) = open::<J, R>(alloc, rt, opening, seats)?;
     let mut held = Held::new(publisher, rt);
-    measure_reads(rt, alloc, &mut held.publisher, seats.as_mut_slice(), reads)
+    measure_reads(
+        rt,
+        alloc,
+        &mut held.publisher,
+        seats.as_mut_slice(),
+        reads,
+        is_calm,
+    )
 }

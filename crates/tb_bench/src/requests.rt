@@ -1,4 +1,4 @@
-//! The requests of a measure: client 7 creates accounts 1 to 1000, and transfers between them with rising ids.
+//! The requests of a measure: a client creates accounts 1 to 1000, and transfers between them with rising ids.
 use anyhow::Error;
 use std::alloc::Global;
 use tb_records::{Account, Body, Items, Request, Transfer};
@@ -43,15 +43,20 @@ fn transfer(id: u64) -> Transfer {
     }
 }
 
-/// The two requests that come first: a register, and the accounts.
+/// The two requests of client 7 that come first: a register, and the accounts.
 pub fn first_requests(alloc: Global) -> Result<Vec<Request>, Error> {
+    accounts_of(alloc, 7)
+}
+
+/// A client's register, and its request that creates the accounts.
+fn accounts_of(alloc: Global, client: u128) -> Result<Vec<Request>, Error> {
     let mut accounts = Vec::with_capacity(alloc, ACCOUNTS as usize)?;
     for id in 1..=ACCOUNTS {
         accounts.push(account(u128::from(id)))?;
     }
     let mut all = Vec::new(alloc);
-    all.push(Request::new(7, 0, 0, Body::Register)?)?;
-    all.push(Request::new(7, 1, 1, Body::CreateAccounts(Items::new(accounts)))?)?;
+    all.push(Request::new(client, 0, 0, Body::Register)?)?;
+    all.push(Request::new(client, 1, 1, Body::CreateAccounts(Items::new(accounts)))?)?;
     Ok(all)
 }
 
@@ -72,4 +77,27 @@ fn batch(alloc: Global, number: u32, each: u32) -> Result<Request, Error> {
         transfers.push(transfer(first.saturating_add(u64::from(k))))?;
     }
     Ok(Request::new(7, 1, number, Body::CreateTransfers(Items::new(transfers)))?)
+}
+
+/// The requests that come before those of ports: client 100 creates the accounts, and a client of each port registers, so that
+/// client n has the session n + 2.
+pub fn before_ports(alloc: Global, ports: u32) -> Result<Vec<Request>, Error> {
+    let mut all = accounts_of(alloc, 100)?;
+    for client in 1..=ports {
+        all.push(Request::new(u128::from(client), 0, 0, Body::Register)?)?;
+    }
+    Ok(all)
+}
+
+/// The kth request of a client of one of so many ports: a transfer. The ids of all ports rise by turns.
+pub fn transfer_of(alloc: Global, client: u32, ports: u32, k: u32) -> Result<Request, Error> {
+    let id = u64::from(k) * u64::from(ports) + u64::from(client);
+    let transfers = Vec::from_slice(alloc, &[transfer(id)])?;
+    let body = Body::CreateTransfers(Items::new(transfers));
+    Ok(Request::new(
+        u128::from(client),
+        u64::from(client) + 2,
+        k.saturating_add(1),
+        body,
+    )?)
 }
