@@ -45,7 +45,7 @@ pub fn exchange<K: Ord, V, A: Allocator>(tree: &mut Tree<K, V, A>, key: &K, valu
     }
 }
 
-/// Balances the root after one of its sides grew, and says whether the tree is higher than before.
+/// Balances the root after one of its sides grew or shrank, and says whether the tree is of another height than before.
 fn regrow<K, V, A: Allocator>(tree: &mut Tree<K, V, A>) -> bool
     requires { IsNearlyAvl tree.old }
     ensures settled { SettlesTo tree.old tree.new }
@@ -111,23 +111,33 @@ fn take_top<K, V, A: Allocator>(tree: &mut Tree<K, V, A>) -> Option<Box<Node<K, 
     }
 }
 
-/// Takes the node of the least key off.
-pub fn take_first<K, V, A: Allocator>(tree: &mut Tree<K, V, A>) -> Option<Box<Node<K, V, A>, A>>
+/// Takes the node of the least key off, and says whether the tree is lower than before. Above a side that is not, nothing
+/// changes.
+pub fn take_first<K, V, A: Allocator>(
+    tree: &mut Tree<K, V, A>,
+    lower: &mut bool,
+) -> Option<Box<Node<K, V, A>, A>>
     requires balanced { IsAvl tree.old }
     requires height_fits { stored_height tree.old < 200 }
     ensures balanced { IsAvl tree.new }
     ensures entries { entries tree.old ≡ with_first (option_and_then (λ b. b.value.entry) result) (entries tree.new) }
     ensures taken { MatchOption result ((tree.old ≡ Empty) × (tree.new ≡ Empty)) (λ b. IsBare b.value × IsSome b.value.entry) }
     ensures height { IsShrunk (stored_height tree.old) (stored_height tree.new) }
+    ensures stopped { lower.new ≡ false → stored_height tree.new ≡ stored_height tree.old }
 {
     let taken = match tree {
         Tree::Empty => return None,
-        Tree::Fork(_, node) => take_first(&mut node.left),
+        Tree::Fork(_, node) => take_first(&mut node.left, lower),
     };
     match taken {
-        None => take_top(tree),
+        None => {
+            *lower = true;
+            take_top(tree)
+        }
         Some(first) => {
-            settle(tree);
+            if *lower {
+                *lower = regrow(tree);
+            }
             Some(first)
         }
     }
@@ -147,7 +157,8 @@ fn take_root<K, V, A: Allocator>(tree: &mut Tree<K, V, A>) -> Option<Box<Node<K,
         Tree::Empty => None,
         Tree::Fork(_, node) => {
             let (left, node, mut right) = split(node);
-            match take_first(&mut right) {
+            let mut lower = false;
+            match take_first(&mut right, &mut lower) {
                 None => {
                     put(&mut right, left);
                     put(tree, right);
@@ -159,10 +170,32 @@ fn take_root<K, V, A: Allocator>(tree: &mut Tree<K, V, A>) -> Option<Box<Node<K,
     }
 }
 
-/// Takes the node off whose key compares equal.
+/// Takes the root off, and says whether the tree is lower than before.
+fn take_root_off<K, V, A: Allocator>(
+    tree: &mut Tree<K, V, A>,
+    lower: &mut bool,
+) -> Option<Box<Node<K, V, A>, A>>
+    requires balanced { IsAvl tree.old }
+    requires height_fits { stored_height tree.old < 200 }
+    ensures balanced { IsAvl tree.new }
+    ensures entries { entries tree.new ≡ beside_root tree.old }
+    ensures root { option_and_then (λ b. b.value.entry) result ≡ root_entry tree.old }
+    ensures taken { IfSome result (λ b. IsBare b.value × IsSome b.value.entry) }
+    ensures height { IsShrunk (stored_height tree.old) (stored_height tree.new) }
+    ensures stopped { lower.new ≡ false → stored_height tree.new ≡ stored_height tree.old }
+{
+    let before = height(tree);
+    let taken = take_root(tree);
+    *lower = height(tree) != before;
+    taken
+}
+
+/// Takes the node off whose key compares equal, and says whether the tree is lower than before. Above a side that is not,
+/// nothing changes.
 pub fn remove<K: Ord, V, A: Allocator>(
     tree: &mut Tree<K, V, A>,
     key: &K,
+    lower: &mut bool,
 ) -> Option<Box<Node<K, V, A>, A>>
     requires balanced { IsAvl tree.old }
     requires sorted { IsOrdered K.cmp (entries tree.old) }
@@ -172,15 +205,19 @@ pub fn remove<K: Ord, V, A: Allocator>(
     ensures value { option_and_then (λ b. option_map (λ e. e.1) b.value.entry) result ≡ lookup (is_at (K.cmp key.now)) (entries tree.old) }
     ensures taken { IfSome result (λ b. IsBare b.value × IsSome b.value.entry) }
     ensures height { IsShrunk (stored_height tree.old) (stored_height tree.new) }
+    ensures stopped { lower.new ≡ false → stored_height tree.new ≡ stored_height tree.old }
 {
     let taken = match tree {
         Tree::Empty => return None,
         Tree::Fork(_, node) => match compare(key, node) {
-            Ordering::Less => remove(&mut node.left, key),
-            Ordering::Greater => remove(&mut node.right, key),
-            Ordering::Equal => return take_root(tree),
+            Ordering::Less => remove(&mut node.left, key, lower),
+            Ordering::Greater => remove(&mut node.right, key, lower),
+            Ordering::Equal => return take_root_off(tree, lower),
         },
     };
-    settle(tree);
+    if !*lower {
+        return taken;
+    }
+    *lower = regrow(tree);
     taken
 }

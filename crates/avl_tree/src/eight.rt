@@ -11,6 +11,9 @@ use std::alloc::Allocator;
 use std::cmp::Ordering;
 
 /// The side of the root that a search for the key goes on in, or the tree itself where the search ends.
+///
+/// Two choices between addresses in place of a jump to one of three: which side comes next can't be foretold, and a jump that was
+/// foretold wrongly would hold up all eight searches.
 fn step<'a, K: Ord, V, A: Allocator>(tree: &'a Tree<K, V, A>, key: &K) -> &'a Tree<K, V, A>
     requires balanced { IsAvl tree.now }
     requires sorted { IsOrdered K.cmp (entries tree.now) }
@@ -19,10 +22,16 @@ fn step<'a, K: Ord, V, A: Allocator>(tree: &'a Tree<K, V, A>, key: &K) -> &'a Tr
     let Tree::Fork(_, node) = tree else {
         return tree;
     };
-    match compare(key, node) {
-        Ordering::Less => &node.left,
-        Ordering::Greater => &node.right,
-        Ordering::Equal => tree,
+    let order = compare(key, node);
+    let side = if matches!(order, Ordering::Greater) {
+        &node.right
+    } else {
+        &node.left
+    };
+    if matches!(order, Ordering::Equal) {
+        tree
+    } else {
+        side
     }
 }
 

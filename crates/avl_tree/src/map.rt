@@ -238,7 +238,8 @@ impl<K: Ord + Copy, V, A: Allocator + Clone> AvlMap<K, V, A> {
         ensures entries { entries self.new ≡ remove_entry (is_at (K.cmp key.now)) (entries self.old) }
         ensures spare { self.new.spare ≡ self.old.spare + (if is_some result then 1 else 0) }
     {
-        let node = edits::remove(&mut self.root, key)?;
+        let mut lower = false;
+        let node = edits::remove(&mut self.root, key, &mut lower)?;
         value_of(retire(node, &mut self.len, &mut self.spare))
     }
 
@@ -249,7 +250,8 @@ impl<K: Ord + Copy, V, A: Allocator + Clone> AvlMap<K, V, A> {
         ensures ordered { IsStrictlySortedBy K.cmp (keys_of (entries self.old)) }
         ensures spare { self.new.spare ≡ self.old.spare + (if is_some result then 1 else 0) }
     {
-        let node = edits::take_first(&mut self.root)?;
+        let mut lower = false;
+        let node = edits::take_first(&mut self.root, &mut lower)?;
         retire(node, &mut self.len, &mut self.spare)
     }
 

@@ -135,6 +135,8 @@ fn beside_right<K: Ord, V, A: Allocator, R, F: FnMut(&mut V, &mut V) -> R>(
 }
 
 /// Looks for one key in each of two trees, a level of either by turns, so that their waits for memory overlap.
+///
+/// The end is tested first, so that which side comes next is a choice between two addresses, and not a jump that can't be foretold.
 fn apart<K: Ord, V, A: Allocator, R, F: FnMut(&mut V, &mut V) -> R>(
     tree: &mut Tree<K, V, A>,
     other: &mut Tree<K, V, A>,
@@ -153,13 +155,18 @@ fn apart<K: Ord, V, A: Allocator, R, F: FnMut(&mut V, &mut V) -> R>(
     ensures callable { F.IsAlwaysCallable f.new }
     ensures changes { ChangesApart F.FnMut in_order (is_at (K.cmp key.now)) (is_at (K.cmp other_key.now)) tree.old other.old f.old out.new f.new tree.new other.new }
 {
-    match tree {
-        Tree::Empty => {}
-        Tree::Fork(_, node) => match compare(key, node) {
-            Ordering::Less => apart(other, &mut node.left, other_key, key, !in_order, f, out),
-            Ordering::Greater => apart(other, &mut node.right, other_key, key, !in_order, f, out),
-            Ordering::Equal => beside(other, other_key, &mut node.entry, in_order, f, out),
-        },
+    let Tree::Fork(_, node) = tree else {
+        return;
+    };
+    let order = compare(key, node);
+    if matches!(order, Ordering::Equal) {
+        beside(other, other_key, &mut node.entry, in_order, f, out);
+        return;
+    }
+    match order {
+        Ordering::Less => apart(other, &mut node.left, other_key, key, !in_order, f, out),
+        Ordering::Greater => apart(other, &mut node.right, other_key, key, !in_order, f, out),
+        Ordering::Equal => unreachable!(),
     }
 }
 

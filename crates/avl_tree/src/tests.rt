@@ -20,14 +20,14 @@ fn put<K: Ord + Copy, V, A: Allocator + Clone>(
     map.insert_reserved(key, value);
 }
 
-/// The keys from 1 to `last`, put in by rising order.
-fn rising(rt: &impl Abort, alloc: Global, last: u32) -> Result<AvlMap<u32, u64, Global>, Fail> {
-    let mut map = AvlMap::new_in(alloc);
+/// Puts the keys from 1 to `last` in, by rising order. The map is lent, here and below: where a step fails, who made it
+/// lets it go, once.
+fn put_rising(rt: &impl Abort, map: &mut AvlMap<u32, u64, Global>, last: u32) -> Result<(), Fail> {
     map.reserve(last as usize)?;
     for key in 1..=last {
-        put(rt, &mut map, key, u64::from(key) * 10);
+        put(rt, map, key, u64::from(key) * 10);
     }
-    Ok(map)
+    Ok(())
 }
 
 /// The most nodes that a search for a key from 1 to `last` meets.
@@ -41,22 +41,29 @@ fn longest_path(rt: &impl Abort, map: &AvlMap<u32, u64, Global>, last: u32) -> u
     longest
 }
 
-#[test]
-fn probes_stay_short(rt: HostRuntime) -> Result<(), Fail> {
-    let seven = rising(&rt, rt.alloc(), 7)?;
-    assert!(rt; longest_path(&rt, &seven, 7) <= 4);
+fn probe_seven(rt: &impl Abort, map: &mut AvlMap<u32, u64, Global>) -> Result<(), Fail> {
+    put_rising(rt, map, 7)?;
+    assert!(rt; longest_path(rt, map, 7) <= 4);
+    Ok(())
+}
 
-    let thousand = rising(&rt, rt.alloc(), 1000)?;
-    assert!(rt; longest_path(&rt, &thousand, 1000) <= 14);
-    let (value, visits) = thousand.probe(&1001);
+fn probe_thousand(rt: &impl Abort, map: &mut AvlMap<u32, u64, Global>) -> Result<(), Fail> {
+    put_rising(rt, map, 1000)?;
+    assert!(rt; longest_path(rt, map, 1000) <= 14);
+    let (value, visits) = map.probe(&1001);
     assert!(rt; value.is_none());
     assert!(rt; visits <= 14);
     Ok(())
 }
 
 #[test]
-fn eight_are_looked_up_at_once(rt: HostRuntime) -> Result<(), Fail> {
-    let map = rising(&rt, rt.alloc(), 100)?;
+fn probes_stay_short(rt: HostRuntime) -> Result<(), Fail> {
+    probe_seven(&rt, &mut AvlMap::new_in(rt.alloc()))?;
+    probe_thousand(&rt, &mut AvlMap::new_in(rt.alloc()))
+}
+
+fn look_eight_up(rt: &impl Abort, map: &mut AvlMap<u32, u64, Global>) -> Result<(), Fail> {
+    put_rising(rt, map, 100)?;
     let [a, b, c, d, e, f, g, h] = map.get_many(&[50, 1, 101, 100, 0, 7, 7, 64]);
     assert_eq!(rt;
         (a.copied(), b.copied(), c.copied()),
@@ -70,6 +77,11 @@ fn eight_are_looked_up_at_once(rt: HostRuntime) -> Result<(), Fail> {
     Ok(())
 }
 
+#[test]
+fn eight_are_looked_up_at_once(rt: HostRuntime) -> Result<(), Fail> {
+    look_eight_up(&rt, &mut AvlMap::new_in(rt.alloc()))
+}
+
 /// The keys from `low` to `high`, below 10, as the digits of a number in the order in which they come.
 fn digits<A: Allocator + Clone>(map: &AvlMap<u64, u128, A>, low: u64, high: u64) -> u64 {
     let mut digits = 0u64;
@@ -81,32 +93,50 @@ fn digits<A: Allocator + Clone>(map: &AvlMap<u64, u128, A>, low: u64, high: u64)
     digits
 }
 
-#[test]
-fn spare_nodes_are_kept(rt: HostRuntime) -> Result<(), Fail> {
-    let mut map = AvlMap::new_in(rt.alloc());
+/// The keys 2, 1 and 3 take three of the spare nodes.
+fn put_three(rt: &impl Abort, map: &mut AvlMap<u64, u128, Global>) -> Result<(), Fail> {
     map.reserve(3)?;
     let reserved = map.spare();
     assert!(rt; reserved >= 3);
-    put(&rt, &mut map, 2u64, 20u128);
-    put(&rt, &mut map, 1, 10);
-    put(&rt, &mut map, 3, 30);
-    let before = map.spare();
-    assert_eq!(rt; reserved.checked_sub(before), Some(3));
+    put(rt, map, 2, 20);
+    put(rt, map, 1, 10);
+    put(rt, map, 3, 30);
+    assert_eq!(rt; reserved.checked_sub(map.spare()), Some(3));
     assert_eq!(rt; map.len(), 3);
+    Ok(())
+}
 
+/// Key 2 leaves its node, and only once.
+fn remove_twice(rt: &impl Abort, map: &mut AvlMap<u64, u128, Global>) {
+    let before = map.spare();
     assert_eq!(rt; map.remove(&2), Some(20));
     assert_eq!(rt; map.spare().checked_sub(before), Some(1));
     assert_eq!(rt; map.remove(&2), None);
     assert_eq!(rt; map.spare().checked_sub(before), Some(1));
+}
+
+/// Keys 1 and 3 are left.
+fn expect_two(rt: &impl Abort, map: &mut AvlMap<u64, u128, Global>) {
     assert_eq!(rt; map.set(4, 40), Err(40));
     assert_eq!(rt; map.set(3, 33), Ok(30));
     assert_eq!(rt; map.get(&3).copied(), Some(33));
     assert_eq!(rt; map.get(&2).copied(), None);
     assert_eq!(rt; map.first().map(|(key, _)| *key), Some(1));
 
-    assert_eq!(rt; digits(&map, 0, 9), 13);
-    assert_eq!(rt; digits(&map, 9, 0), 0);
+    assert_eq!(rt; digits(map, 0, 9), 13);
+    assert_eq!(rt; digits(map, 9, 0), 0);
+}
+
+fn keep_spare_nodes(rt: &impl Abort, map: &mut AvlMap<u64, u128, Global>) -> Result<(), Fail> {
+    put_three(rt, map)?;
+    remove_twice(rt, map);
+    expect_two(rt, map);
     Ok(())
+}
+
+#[test]
+fn spare_nodes_are_kept(rt: HostRuntime) -> Result<(), Fail> {
+    keep_spare_nodes(&rt, &mut AvlMap::new_in(rt.alloc()))
 }
 
 /// Doubles the value of the key where it stands, and answers what it was.
@@ -148,42 +178,58 @@ fn transfer<A: Allocator + Clone>(
     )
 }
 
-#[test]
-fn two_values_change_at_once(rt: HostRuntime) -> Result<(), Fail> {
-    let mut map = AvlMap::new_in(rt.alloc());
-    map.reserve(7)?;
-    put_all(&rt, &mut map, 1, 7);
-    for from in 1..=7 {
-        for to in 1..=7 {
-            let moved = transfer(&mut map, from, to, 10);
-            assert_eq!(rt; moved, (from != to).then_some(true), "{from} {to}");
-            let back = transfer(&mut map, to, from, 10);
-            assert_eq!(rt; back, moved, "{to} {from}");
-            look_up_all(&rt, &map, 1, 7);
-        }
+/// Ten from one key to each other, and back.
+fn move_there_and_back(rt: &impl Abort, map: &mut AvlMap<u64, u128, Global>, from: u64) {
+    for to in 1..=7 {
+        let moved = transfer(map, from, to, 10);
+        assert_eq!(rt; moved, (from != to).then_some(true), "{from} {to}");
+        let back = transfer(map, to, from, 10);
+        assert_eq!(rt; back, moved, "{to} {from}");
+        look_up_all(rt, map, 1, 7);
     }
-    assert_eq!(rt; transfer(&mut map, 1, 7, 11), Some(false));
-    assert_eq!(rt; transfer(&mut map, 1, 8, 1), None);
-    assert_eq!(rt; transfer(&mut map, 8, 1, 1), None);
-    look_up_all(&rt, &map, 1, 7);
-    assert_eq!(rt; transfer(&mut map, 7, 1, 70), Some(true));
+}
+
+/// Too much, a key that is absent, and all that there is.
+fn move_what_there_is(rt: &impl Abort, map: &mut AvlMap<u64, u128, Global>) {
+    assert_eq!(rt; transfer(map, 1, 7, 11), Some(false));
+    assert_eq!(rt; transfer(map, 1, 8, 1), None);
+    assert_eq!(rt; transfer(map, 8, 1, 1), None);
+    look_up_all(rt, map, 1, 7);
+    assert_eq!(rt; transfer(map, 7, 1, 70), Some(true));
     assert_eq!(rt; map.get(&7).copied(), Some(0));
     assert_eq!(rt; map.get(&1).copied(), Some(80));
+}
+
+fn change_two(rt: &impl Abort, map: &mut AvlMap<u64, u128, Global>) -> Result<(), Fail> {
+    map.reserve(7)?;
+    put_all(rt, map, 1, 7);
+    for from in 1..=7 {
+        move_there_and_back(rt, map, from);
+    }
+    move_what_there_is(rt, map);
+    Ok(())
+}
+
+#[test]
+fn two_values_change_at_once(rt: HostRuntime) -> Result<(), Fail> {
+    change_two(&rt, &mut AvlMap::new_in(rt.alloc()))
+}
+
+fn change_in_place(rt: &impl Abort, map: &mut AvlMap<u64, u128, Global>) -> Result<(), Fail> {
+    map.reserve(3)?;
+    put_all(rt, map, 1, 3);
+    assert_eq!(rt; double(map, 3), Some(30));
+    assert_eq!(rt; double(map, 3), Some(60));
+    assert_eq!(rt; double(map, 4), None);
+    assert_eq!(rt; map.get(&3).copied(), Some(120));
+    look_up_all(rt, map, 1, 2);
+    assert_eq!(rt; map.len(), 3);
     Ok(())
 }
 
 #[test]
 fn values_change_in_place(rt: HostRuntime) -> Result<(), Fail> {
-    let mut map = AvlMap::new_in(rt.alloc());
-    map.reserve(3)?;
-    put_all(&rt, &mut map, 1, 3);
-    assert_eq!(rt; double(&mut map, 3), Some(30));
-    assert_eq!(rt; double(&mut map, 3), Some(60));
-    assert_eq!(rt; double(&mut map, 4), None);
-    assert_eq!(rt; map.get(&3).copied(), Some(120));
-    look_up_all(&rt, &map, 1, 2);
-    assert_eq!(rt; map.len(), 3);
-    Ok(())
+    change_in_place(&rt, &mut AvlMap::new_in(rt.alloc()))
 }
 
 /// A number that looks like chance, different for each `n`.
@@ -194,20 +240,19 @@ fn mixed(n: u64) -> u128 {
     u128::from(c ^ c / 0x8000_0000).wrapping_mul(0x1_0000_0000_0000_0001) ^ u128::from(a)
 }
 
-/// Two maps with the same `keys` keys that look like chance.
-fn both_filled(
+/// Puts the same `keys` keys that look like chance into both maps.
+fn fill_both(
     rt: &impl Abort,
-    alloc: Global,
+    map: &mut AvlMap<u128, u64, Global>,
+    other: &mut BTreeMap<u128, u64>,
     keys: u64,
-) -> Result<(AvlMap<u128, u64, Global>, BTreeMap<u128, u64>), Fail> {
-    let mut map = AvlMap::new_in(alloc);
-    let mut other = BTreeMap::new(alloc);
+) -> Result<(), Fail> {
     map.reserve(keys as usize)?;
     for n in 0..keys {
-        put(rt, &mut map, mixed(n), n);
+        put(rt, map, mixed(n), n);
         other.insert(mixed(n), n)?;
     }
-    Ok((map, other))
+    Ok(())
 }
 
 /// Takes two in three of the keys out of both maps.
@@ -236,14 +281,8 @@ fn look_up_both(
     }
 }
 
-#[test]
-fn agrees_with_another_map(rt: HostRuntime) -> Result<(), Fail> {
-    const KEYS: u64 = 1_000_000;
-    let (mut map, mut other) = both_filled(&rt, rt.alloc(), KEYS)?;
-    thin_both(&rt, &mut map, &mut other, KEYS);
-    assert_eq!(rt; map.len(), other.len());
-    look_up_both(&rt, &map, &other, KEYS);
-
+/// Goes over all pairs of both maps at once.
+fn expect_same(rt: &impl Abort, map: &AvlMap<u128, u64, Global>, other: &BTreeMap<u128, u64>) {
     let mut others = other.iter();
     let mut same = true;
     map.for_range(
@@ -252,16 +291,34 @@ fn agrees_with_another_map(rt: HostRuntime) -> Result<(), Fail> {
         &mut |key: &u128, value: &u64| { same = same && others.next() == Some((key, value)) },
     );
     assert!(rt; same && others.next().is_none());
+}
+
+fn compare(
+    rt: &impl Abort,
+    map: &mut AvlMap<u128, u64, Global>,
+    other: &mut BTreeMap<u128, u64>,
+) -> Result<(), Fail> {
+    const KEYS: u64 = 1_000_000;
+    fill_both(rt, map, other, KEYS)?;
+    thin_both(rt, map, other, KEYS);
+    assert_eq!(rt; map.len(), other.len());
+    look_up_both(rt, map, other, KEYS);
+    expect_same(rt, map, other);
     Ok(())
 }
 
 #[test]
-fn pairs_come_by_both_parts(rt: HostRuntime) -> Result<(), Fail> {
+fn agrees_with_another_map(rt: HostRuntime) -> Result<(), Fail> {
     let mut map = AvlMap::new_in(rt.alloc());
+    let mut other = BTreeMap::new(rt.alloc());
+    compare(&rt, &mut map, &mut other)
+}
+
+fn order_pairs(rt: &impl Abort, map: &mut AvlMap<(u64, u128), (), Global>) -> Result<(), Fail> {
     map.reserve(3)?;
-    put(&rt, &mut map, (2u64, 1u128), ());
-    put(&rt, &mut map, (1, 9), ());
-    put(&rt, &mut map, (1, 8), ());
+    put(rt, map, (2, 1), ());
+    put(rt, map, (1, 9), ());
+    put(rt, map, (1, 8), ());
     assert_eq!(rt; map.first().map(|(key, _)| *key), Some((1, 8)));
     assert_eq!(rt; map.remove(&(1, 8)), Some(()));
     assert_eq!(rt; map.first().map(|(key, _)| *key), Some((1, 9)));
@@ -273,6 +330,11 @@ fn pairs_come_by_both_parts(rt: HostRuntime) -> Result<(), Fail> {
     assert_eq!(rt; map.len(), 0);
     assert_eq!(rt; map.spare().checked_sub(before), Some(2));
     Ok(())
+}
+
+#[test]
+fn pairs_come_by_both_parts(rt: HostRuntime) -> Result<(), Fail> {
+    order_pairs(&rt, &mut AvlMap::new_in(rt.alloc()))
 }
 
 #[test]
@@ -307,13 +369,16 @@ fn look_up_all<A: Allocator + Clone>(
     }
 }
 
-/// Asks for eight spare nodes where the allocator gives `given` blocks, too few, and then where it gives enough.
+/// Three keys of five spare nodes; then asks for eight spare nodes where the allocator gives `given` blocks, too few, and
+/// then where it gives enough.
 fn reserve_twice(
     rt: &impl Abort,
     limited: &Limited<Global>,
     map: &mut AvlMap<u64, u128, &Limited<Global>>,
     given: u64,
 ) -> Result<(), Fail> {
+    map.reserve(5)?;
+    put_all(rt, map, 1, 3);
     let before = map.spare();
     limited.allow(given);
     assert!(rt; map.reserve(8).is_err(), "after {given} blocks");
@@ -328,19 +393,27 @@ fn reserve_twice(
     Ok(())
 }
 
+/// The same, and then fills the map with no further block.
+fn reserve_and_fill(
+    rt: &impl Abort,
+    limited: &Limited<Global>,
+    map: &mut AvlMap<u64, u128, &Limited<Global>>,
+    given: u64,
+) -> Result<(), Fail> {
+    reserve_twice(rt, limited, map, given)?;
+    limited.allow(0);
+    put_all(rt, map, 4, 9);
+    assert_eq!(rt; digits(map, 0, 9), 123_456_789);
+    look_up_all(rt, map, 4, 9);
+    Ok(())
+}
+
 #[test]
 fn refused_reserve_leaves_the_map(rt: HostRuntime) -> Result<(), Fail> {
     for given in 0..6 {
         let limited = Limited::new(rt.alloc(), 5);
         let mut map = AvlMap::new_in(&limited);
-        map.reserve(5)?;
-        put_all(&rt, &mut map, 1, 3);
-        reserve_twice(&rt, &limited, &mut map, given)?;
-
-        limited.allow(0);
-        put_all(&rt, &mut map, 4, 9);
-        assert_eq!(rt; digits(&map, 0, 9), 123_456_789);
-        look_up_all(&rt, &map, 4, 9);
+        reserve_and_fill(&rt, &limited, &mut map, given)?;
     }
     Ok(())
 }

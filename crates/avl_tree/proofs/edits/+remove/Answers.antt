@@ -39,7 +39,7 @@ returns-in-Equal-clause-entries g t c =
     let s = subst (λ t. IsOrdered g.K.Ord.cmp (entries t)) c.in-Fork.is c.requires.sorted in
     let p = rw c.deref.ensures at c.in-Equal.ensures in
     let w = stands_here g.met.K.Ord.total c.args.key.now _ _ _ avl.0 p s in
-    rw c.in-Fork.is (c.take_root.ensures.entries ∙ sym w.removed)
+    rw c.in-Fork.is (c.take_root_off.ensures.entries ∙ sym w.removed)
 
 pub returns-in-Equal-clause-value : goal.returns-in-Equal-clause-value
 returns-in-Equal-clause-value g t c =
@@ -47,7 +47,7 @@ returns-in-Equal-clause-value g t c =
     let s = subst (λ t. IsOrdered g.K.Ord.cmp (entries t)) c.in-Fork.is c.requires.sorted in
     let p = rw c.deref.ensures at c.in-Equal.ensures in
     let w = stands_here g.met.K.Ord.total c.args.key.now _ _ _ avl.0 p s in
-    rw c.in-Fork.is (map_and_then _ (λ e. e.1) c.take_root.result ∙ ap (λ e. option_map (λ f. f.1) e) c.take_root.ensures.root ∙ sym w.found)
+    rw c.in-Fork.is (map_and_then _ (λ e. e.1) c.take_root_off.result ∙ ap (λ e. option_map (λ f. f.1) e) c.take_root_off.ensures.root ∙ sym w.found)
 
 pub returns-clause-entries : goal.returns-clause-entries
 returns-clause-entries g t c =
@@ -57,19 +57,55 @@ returns-clause-entries g t c =
       | in-Less b ↦
           let p = rw c.deref.ensures at b.in-Less.ensures in
           let w = goes_left g.met.K.Ord.total c.args.key.now _ _ _ avl.0 p s in
-          let moved = rw b.deref_mut.ensures.value at (rw b.tree-is at c.settle.ensures) in
+          let moved = rw b.deref_mut.ensures.value at (rw b.tree-is at c.regrow.ensures.settled) in
           let less = rw b.deref_mut.ensures.value at b.remove.ensures.entries in
           rw c.in-Fork.is (moved.1 ∙ ap (λ m. m ++ with_first c.in-Fork.node.value.entry (entries c.in-Fork.node.value.right)) less ∙ sym w.removed)
       | in-Greater b ↦
           let p = rw c.deref.ensures at b.in-Greater.ensures in
           let w = goes_right g.met.K.Ord.total c.args.key.now _ _ _ avl.0 p s in
-          let moved = rw b.deref_mut-in-Greater.ensures.value at (rw b.tree-is at c.settle.ensures) in
+          let moved = rw b.deref_mut-in-Greater.ensures.value at (rw b.tree-is at c.regrow.ensures.settled) in
           let less = rw b.deref_mut-in-Greater.ensures.value at b.remove-in-Greater.ensures.entries in
           rw c.in-Fork.is (moved.1 ∙ ap (λ m. entries c.in-Fork.node.value.left ++ with_first c.in-Fork.node.value.entry m) less ∙ sym w.removed)
     ]
 
 pub returns-clause-value : goal.returns-clause-value
 returns-clause-value g t c =
+    let avl = subst IsAvl c.in-Fork.is c.requires.balanced in
+    let s = subst (λ t. IsOrdered g.K.Ord.cmp (entries t)) c.in-Fork.is c.requires.sorted in
+    elim c.match-compare.branch [
+      | in-Less b ↦
+          let p = rw c.deref.ensures at b.in-Less.ensures in
+          let w = goes_left g.met.K.Ord.total c.args.key.now _ _ _ avl.0 p s in
+          let less = rw b.deref_mut.ensures.value at b.remove.ensures.value in
+          rw (c.in-Fork.is, b.taken-is) (less ∙ sym w.found)
+      | in-Greater b ↦
+          let p = rw c.deref.ensures at b.in-Greater.ensures in
+          let w = goes_right g.met.K.Ord.total c.args.key.now _ _ _ avl.0 p s in
+          let less = rw b.deref_mut-in-Greater.ensures.value at b.remove-in-Greater.ensures.value in
+          rw (c.in-Fork.is, b.taken-is) (less ∙ sym w.found)
+    ]
+
+pub returns-then-not-lower-clause-entries : goal.returns-then-not-lower-clause-entries
+returns-then-not-lower-clause-entries g t c =
+    let avl = subst IsAvl c.in-Fork.is c.requires.balanced in
+    let s = subst (λ t. IsOrdered g.K.Ord.cmp (entries t)) c.in-Fork.is c.requires.sorted in
+    elim c.match-compare.branch [
+      | in-Less b ↦
+          let p = rw c.deref.ensures at b.in-Less.ensures in
+          let w = goes_left g.met.K.Ord.total c.args.key.now _ _ _ avl.0 p s in
+          let moved = rw b.deref_mut.ensures.value at (ap entries b.tree-is) in
+          let less = rw b.deref_mut.ensures.value at b.remove.ensures.entries in
+          rw c.in-Fork.is (moved ∙ ap (λ m. m ++ with_first c.in-Fork.node.value.entry (entries c.in-Fork.node.value.right)) less ∙ sym w.removed)
+      | in-Greater b ↦
+          let p = rw c.deref.ensures at b.in-Greater.ensures in
+          let w = goes_right g.met.K.Ord.total c.args.key.now _ _ _ avl.0 p s in
+          let moved = rw b.deref_mut-in-Greater.ensures.value at (ap entries b.tree-is) in
+          let less = rw b.deref_mut-in-Greater.ensures.value at b.remove-in-Greater.ensures.entries in
+          rw c.in-Fork.is (moved ∙ ap (λ m. entries c.in-Fork.node.value.left ++ with_first c.in-Fork.node.value.entry m) less ∙ sym w.removed)
+    ]
+
+pub returns-then-not-lower-clause-value : goal.returns-then-not-lower-clause-value
+returns-then-not-lower-clause-value g t c =
     let avl = subst IsAvl c.in-Fork.is c.requires.balanced in
     let s = subst (λ t. IsOrdered g.K.Ord.cmp (entries t)) c.in-Fork.is c.requires.sorted in
     elim c.match-compare.branch [

@@ -1,20 +1,36 @@
-use Rattle.std.proofs.Common.{sym, subst}
+use Rattle.std.proofs.Common.{◌≡◌, refl, sym, subst, Ordering, Less, Equal, Greater}
+use Rattle.std.specs.Option.{IfSome}
 use Rattle.avl_tree.specs.Nodes.{entries, IsAvl, IsOrdered}
 use Rattle.avl_tree.proofs.Steps.{goes_left, goes_right}
 use Rattle.avl_tree.proofs.eight.step.Goals as goal
+use Rattle.avl_tree.proofs.eight.step.Goals.{in-Greater, in_default-matches, then-matches, else-matches, in-Equal, in_default-matches-2}
 
-pub returns-in-Less : goal.returns-in-Less
-returns-in-Less g c =
+only_less : (o : Ordering) → (o ≡ Greater → ⊥) → (o ≡ Equal → ⊥) → o ≡ Less
+only_less Less _ _ = refl
+only_less Equal _ not_equal = absurd (not_equal refl)
+only_less Greater not_greater _ = absurd (not_greater refl)
+
+pub returns-else-matches-2 : goal.returns-else-matches-2
+returns-else-matches-2 g c =
     let avl = subst IsAvl c.in-Fork.is c.requires.balanced in
     let s = subst (λ t. IsOrdered g.K.Ord.cmp (entries t)) c.in-Fork.is c.requires.sorted in
-    let p = rw c.deref.ensures at c.in-Less.ensures in
-    let w = goes_left g.met.K.Ord.total c.args.key.now _ _ _ avl.0 p s in
-    rw (c.deref-in-Less.ensures, c.in-Fork.is) (record { balanced = avl.1; sorted = w.sorted; same = sym w.found })
-
-pub returns-in-Greater : goal.returns-in-Greater
-returns-in-Greater g c =
-    let avl = subst IsAvl c.in-Fork.is c.requires.balanced in
-    let s = subst (λ t. IsOrdered g.K.Ord.cmp (entries t)) c.in-Fork.is c.requires.sorted in
-    let p = rw c.deref.ensures at c.in-Greater.ensures in
-    let w = goes_right g.met.K.Ord.total c.args.key.now _ _ _ avl.0 p s in
-    rw (c.deref-in-Greater.ensures, c.in-Fork.is) (record { balanced = avl.2; sorted = w.sorted; same = sym w.found })
+    elim c.if-matches.branch [
+      | then-matches w ↦ elim c.match-matches.branch [
+        | in-Greater v ↦
+            let p = rw c.deref.ensures at v.in-Greater.ensures in
+            let r = goes_right g.met.K.Ord.total c.args.key.now _ _ _ avl.0 p s in
+            rw (w.side-is, w.deref-then-matches.ensures, c.in-Fork.is) (record { balanced = avl.2; sorted = r.sorted; same = sym r.found })
+        | in_default-matches v ↦ absurd (let yes = w.if-matches.true in let no = v.matches-is in cc)
+      ]
+      | else-matches w ↦ elim c.match-matches.branch [
+        | in-Greater v ↦ absurd (let no = w.if-matches.false in let yes = v.matches-is in cc)
+        | in_default-matches v ↦ elim c.match-matches-2.branch [
+          | in-Equal u ↦ absurd (let no = c.if-matches-2.false in let yes = u.matches-is in cc)
+          | in_default-matches-2 u ↦
+              let less = only_less c.compare-order.result v.in_default-matches.not-Greater u.in_default-matches-2.not-Equal in
+              let p = subst (λ o. IfSome c.in-Fork.node.value.entry (λ e. o ≡ g.K.Ord.cmp c.args.key.now e.0)) less (rw c.deref.ensures at c.compare-order.ensures) in
+              let l = goes_left g.met.K.Ord.total c.args.key.now _ _ _ avl.0 p s in
+              rw (w.side-is, w.deref-else-matches.ensures, c.in-Fork.is) (record { balanced = avl.1; sorted = l.sorted; same = sym l.found })
+        ]
+      ]
+    ]
