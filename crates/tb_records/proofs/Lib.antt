@@ -2,6 +2,7 @@ pub mod AccountFlagNames
 pub mod AccountResultNames
 pub mod ByKey
 pub mod DumpAnswers
+pub mod Entries
 pub mod FirstFaults
 pub mod Found
 pub mod FrameFaults

@@ -1,10 +1,11 @@
--- Each record has one spelling.
-use Rattle.std.proofs.Common.{◌≡◌}
+-- Each record has one spelling, and so has a row of them.
+use Rattle.std.proofs.Common.{◌≡◌, ℕ, ◌<◌, List, [], ◌∷◌, length, flat_map, All, refl, sym, ap, ◌∙◌, arith, length-append}
+use Rattle.std.proofs.lemmas.List.Elements.{All-head, All-tail}
 use Rattle.tb_records.specs.declared.records.Account.{Account}
 use Rattle.tb_records.specs.declared.records.Transfer.{Transfer}
 use Rattle.tb_records.specs.declared.records.EventResult.{EventResult}
 use Rattle.tb_records.specs.RecordBytes.{account_bytes, transfer_bytes, result_bytes, IsAccount, IsTransfer, IsResult}
-use Rattle.tb_records.proofs.NumberBytes.{last_field, le_bytes-one}
+use Rattle.tb_records.proofs.NumberBytes.{last_field, le_bytes-one, split_at}
 
 pub one_account : (a b : Account) → IsAccount a → IsAccount b → account_bytes a ≡ account_bytes b → a ≡ b
 unfolding account_bytes
@@ -48,3 +49,18 @@ one_result a b fa fb e =
     let f1 = last_field 4 a.result b.result _ _ fa.result fb.result e in
     let f0 = le_bytes-one 4 a.index b.index fa.index fb.index f1.0 in
     λ i. record { index = f0 i; result = f1.1 i }
+
+-- items of one size, each of which has one spelling
+pub items_one : {X : Type 0} (spelling : X → List ℕ) (Fits : X → Type 0) (size : ℕ) → 0 < size → ((x : X) → length (spelling x) ≡ size)
+    → ((x y : X) → Fits x → Fits y → spelling x ≡ spelling y → x ≡ y)
+    → (xs ys : List X) → All Fits xs → All Fits ys → flat_map spelling xs ≡ flat_map spelling ys → xs ≡ ys
+items_one spelling Fits size some each one [] [] fx fy e = refl
+items_one spelling Fits size some each one [] (y ∷ ys) fx fy e =
+    absurd (omega (arith, ap length e, length-append (spelling y) (flat_map spelling ys), each y))
+items_one spelling Fits size some each one (x ∷ xs) [] fx fy e =
+    absurd (omega (arith, ap length e, length-append (spelling x) (flat_map spelling xs), each x))
+items_one spelling Fits size some each one (x ∷ xs) (y ∷ ys) fx fy e =
+    let cut = split_at (spelling x) (spelling y) (flat_map spelling xs) (flat_map spelling ys) (each x ∙ sym (each y)) e in
+    let head : x ≡ y = one x y (All-head Fits x xs fx) (All-head Fits y ys fy) cut.0 in
+    let tail : xs ≡ ys = items_one spelling Fits size some each one xs ys (All-tail Fits x xs fx) (All-tail Fits y ys fy) cut.1 in
+    λ i. head i ∷ tail i

@@ -3,8 +3,6 @@ use Rattle.std.proofs.Common.{◌≡◌, ℕ, ◌+◌, ◌*◌, ◌/◌, ◌^◌
 use Rattle.std.proofs.lemmas.Bool.{ltb-false, eqb-true, eq-eqb}
 use Rattle.std.proofs.lemmas.Bool.Decides.{nat_tests}
 use Rattle.std.proofs.lemmas.List.{take-append-drop, length-take-le}
-use Rattle.std.proofs.lemmas.List.Elements.{All-head, All-tail}
-use Rattle.std.specs.List.{All, flat_map}
 use Rattle.tb_records.specs.declared.bodies.ReplyBody.{ReplyBody}
 use Rattle.tb_records.specs.declared.bodies.ReplyBody.TheVariants.{Empty, Results, Accounts, Transfers}
 use Rattle.tb_records.specs.declared.faults.FrameFault.{FrameFault}
@@ -17,7 +15,7 @@ use Rattle.tb_records.specs.RecordBytes.{account_bytes, transfer_bytes, result_b
 use Rattle.tb_records.specs.ReplyFrames.{header_of_reply, reply_body_bytes, reply_bytes, reply_fault, reply_header_fault, reply_header_tests, reply_item_size, has_reply_length, status_at, commit_at, ReplyBodyFits, FitsFrame, HasKind, IsReply, SpellsReply, FoundReply, OnlyThisReply}
 use Rattle.tb_records.specs.Sizes.{length-account, length-transfer, length-result}
 use Rattle.tb_records.proofs.NumberBytes.{split_at}
-use Rattle.tb_records.proofs.OneSpelling.{one_account, one_transfer, one_result}
+use Rattle.tb_records.proofs.OneSpelling.{one_account, one_transfer, one_result, items_one}
 use Rattle.tb_records.proofs.ReplyFaults.{reply_tests_of, whole_reply}
 use Rattle.tb_records.proofs.ReplyHeaderBytes.{answer_tests_of, is_true}
 use Rattle.tb_records.proofs.ReplyPlaces.{ReplyPlaces, reply_places, length-reply_header}
@@ -176,28 +174,13 @@ one_fault r more fits kind =
 pub spelled_whole : (r : Answer) (more : List ℕ) → IsReply r → reply_fault (reply_bytes r ++ more) ≡ None
 spelled_whole r more is = one_fault r more (fits_frame r is) (kind_right r is) ∙ is.right
 
--- items of one size, each of which has one spelling
-items_one : {X : Type 0} (spelling : X → List ℕ) (Fits : X → Type 0) (size : ℕ) → ((x : X) → length (spelling x) ≡ size) → 0 < size
-    → ((x y : X) → Fits x → Fits y → spelling x ≡ spelling y → x ≡ y)
-    → (xs ys : List X) → All Fits xs → All Fits ys → flat_map spelling xs ≡ flat_map spelling ys → xs ≡ ys
-items_one spelling Fits size each h one [] [] fx fy e = refl
-items_one spelling Fits size each h one [] (y ∷ ys) fx fy e =
-    absurd (omega (arith, ap length e, length-append (spelling y) (flat_map spelling ys), each y))
-items_one spelling Fits size each h one (x ∷ xs) [] fx fy e =
-    absurd (omega (arith, ap length e, length-append (spelling x) (flat_map spelling xs), each x))
-items_one spelling Fits size each h one (x ∷ xs) (y ∷ ys) fx fy e =
-    let cut = split_at (spelling x) (spelling y) (flat_map spelling xs) (flat_map spelling ys) (each x ∙ sym (each y)) e in
-    let head : x ≡ y = one x y (All-head Fits x xs fx) (All-head Fits y ys fy) cut.0 in
-    let tail : xs ≡ ys = items_one spelling Fits size each h one xs ys (All-tail Fits x xs fx) (All-tail Fits y ys fy) cut.1 in
-    λ i. head i ∷ tail i
-
 -- bodies of one kind have one spelling
 body_one : (b d : ReplyBody) → kind_of b ≡ kind_of d → ReplyBodyFits b → ReplyBodyFits d → reply_body_bytes b ≡ reply_body_bytes d → b ≡ d
 unfolding reply_body_bytes
 body_one Empty Empty k fb fd e = refl
-body_one (Results xs) (Results ys) k fb fd e = ap Results (items_one result_bytes IsResult 8 length-result (omega arith) one_result xs ys fb fd e)
-body_one (Accounts xs) (Accounts ys) k fb fd e = ap Accounts (items_one account_bytes IsAccount 128 length-account (omega arith) one_account xs ys fb fd e)
-body_one (Transfers xs) (Transfers ys) k fb fd e = ap Transfers (items_one transfer_bytes IsTransfer 128 length-transfer (omega arith) one_transfer xs ys fb fd e)
+body_one (Results xs) (Results ys) k fb fd e = ap Results (items_one result_bytes IsResult 8 (omega arith) length-result one_result xs ys fb fd e)
+body_one (Accounts xs) (Accounts ys) k fb fd e = ap Accounts (items_one account_bytes IsAccount 128 (omega arith) length-account one_account xs ys fb fd e)
+body_one (Transfers xs) (Transfers ys) k fb fd e = ap Transfers (items_one transfer_bytes IsTransfer 128 (omega arith) length-transfer one_transfer xs ys fb fd e)
 body_one b d k fb fd e = absurd (omega (arith, k))
 
 -- no spelling of a reply begins that of another

@@ -1,5 +1,5 @@
 -- What is spelled is read: the fields of a spelling, and that a spelling has no fault and begins no other.
-use Rattle.std.proofs.Common.{◌≡◌, ℕ, suc, ◌+◌, ◌*◌, ◌/◌, ◌%◌, ◌^◌, ◌<◌, ◌≤◌, Bool, false, not, ◌&&◌, if◌then◌else◌, ◌==◌, nat_lt, List, [], ◌∷◌, ◌++◌, length, take, drop, flat_map, All, None, Result, Ok, Err, refl, sym, ap, ◌∙◌, arith, length-append, length-take, append_assoc, take-append-drop}
+use Rattle.std.proofs.Common.{◌≡◌, ℕ, ◌+◌, ◌*◌, ◌/◌, ◌%◌, ◌^◌, ◌<◌, ◌≤◌, Bool, false, not, ◌&&◌, if◌then◌else◌, ◌==◌, nat_lt, List, [], ◌∷◌, ◌++◌, length, take, drop, None, Result, Ok, Err, refl, sym, ap, ◌∙◌, arith, length-append, length-take, append_assoc, take-append-drop}
 use Rattle.std.proofs.Math.Nat.{mul-mod_left, mul-div_left}
 use Rattle.std.proofs.lemmas.Bool.{ltb-false}
 use Rattle.tb_records.specs.declared.bodies.Body.{Body}
@@ -14,7 +14,7 @@ use Rattle.tb_records.specs.Frames.{header_bytes, body_bytes, request_bytes, req
 use Rattle.tb_records.specs.HeaderFields.{numbers_tests}
 use Rattle.tb_records.specs.Inputs.{Found, OnlyThis}
 use Rattle.tb_records.proofs.NumberBytes.{le_at-append, le_at-last, le_bytes-one, split_at}
-use Rattle.tb_records.proofs.OneSpelling.{one_account, one_transfer}
+use Rattle.tb_records.proofs.OneSpelling.{one_account, one_transfer, items_one}
 use Rattle.tb_records.proofs.StreamAnswers.{length-body}
 use Rattle.tb_records.proofs.FrameFaults.{tests_of, header_fault-append, length_at-append, whole_frame}
 use Rattle.tb_records.proofs.FirstFaults.{none_each}
@@ -181,22 +181,6 @@ one_fault r more fits =
 -- what is spelled has no fault, whatever stands behind it
 pub spelled_sound : (r : Message) (more : List ℕ) → IsRequest r → request_fault (request_bytes r ++ more) ≡ None
 spelled_sound r more is = one_fault r more (fits_frame r is) ∙ is.lawful
-
--- rows of items of one size that are spelled alike
-items_one : {X : Type 0} (spelling : X → List ℕ) (Fits : X → Type 0) (size : ℕ) → 0 < size → ((x : X) → length (spelling x) ≡ size)
-    → ((x y : X) → Fits x → Fits y → spelling x ≡ spelling y → x ≡ y)
-    → (xs ys : List X) → All Fits xs → All Fits ys → flat_map spelling xs ≡ flat_map spelling ys → xs ≡ ys
-items_one spelling Fits size pos each one [] [] fx fy e = refl
-items_one spelling Fits size pos each one [] (y ∷ ys) fx fy e =
-    absurd (omega (arith, ap length e, length-append (spelling y) (flat_map spelling ys), each y))
-items_one spelling Fits size pos each one (x ∷ xs) [] fx fy e =
-    absurd (omega (arith, ap length e, length-append (spelling x) (flat_map spelling xs), each x))
-items_one spelling Fits size pos each one (x ∷ xs) (y ∷ ys) fx fy e =
-    let parts = split_at (spelling x) (spelling y) (flat_map spelling xs) (flat_map spelling ys) (each x ∙ sym (each y)) e in
-    let first : x ≡ y = one x y (fx 0 x (omega arith)) (fy 0 y (omega arith)) parts.0 in
-    let rest : xs ≡ ys = items_one spelling Fits size pos each one xs ys
-    (λ k d h. fx (suc k) d (omega arith)) (λ k d h. fy (suc k) d (omega arith)) parts.1 in
-    λ i. first i ∷ rest i
 
 -- an id has one spelling
 one_id : (x y : ℕ) → IsId x → IsId y → le_bytes 16 x ≡ le_bytes 16 y → x ≡ y

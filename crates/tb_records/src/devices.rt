@@ -244,19 +244,10 @@ pub(crate) fn items_from<S: Source, T: Item>(
         (λ f. BodyFault f (count * T.SIZE) (S.input source.old).left (S.input source.new).left) }
     ensures counted { Counts result (S.input source.old) (S.input source.new) }
 {
-    let mut items = match Vec::with_capacity(alloc, count) {
-        Ok(items) => items,
-        Err(_) => return Err(FrameFault::NoMemory),
-    };
+    let mut items = Vec::with_capacity(alloc, count)?;
     let mut buf = [0; 128];
     for _ in 0..count {
-        let item = match item_from(source, &mut buf) {
-            Ok(item) => item,
-            Err(fault) => return Err(fault),
-        };
-        if items.push(item).is_err() {
-            return Err(FrameFault::NoMemory);
-        }
+        items.push(item_from(source, &mut buf)?)?;
     }
     Ok(items)
 }
@@ -271,10 +262,7 @@ pub(crate) fn put_items<W: Sink, T: Item>(sink: &mut W, items: &[T]) -> Result<(
     for item in items {
         item.write(&mut buf);
         let bytes: &[u8] = &buf;
-        match put_all(sink, &bytes[..T::SIZE]) {
-            Ok(()) => {}
-            Err(fault) => return Err(fault),
-        }
+        put_all(sink, &bytes[..T::SIZE])?;
     }
     Ok(())
 }

@@ -12,7 +12,7 @@ use crate::limits::{ClientsMax, Profile};
 use crate::requests::Request;
 use crate::streams::request_from;
 use crate::writing::send_request;
-use std::alloc::Global;
+use std::alloc::{AllocError, Global};
 use std::fmt;
 use thiserror::Error;
 
@@ -60,6 +60,26 @@ impl DumpFault {
             DumpFault::NotLegal => "NotLegal",
             DumpFault::NoMemory => "NoMemory",
         }
+    }
+}
+
+impl From<FrameFault> for DumpFault {
+    ghost use Rattle.tb_records.specs.declared.dumps.DumpFault.TheVariants.{Frame};
+
+    ghost from_gives = { λ of_frame fault. fault ≡ Frame of_frame };
+
+    fn from(fault: FrameFault) -> DumpFault {
+        DumpFault::Frame(fault)
+    }
+}
+
+impl From<AllocError> for DumpFault {
+    ghost use Rattle.tb_records.specs.declared.dumps.DumpFault.TheVariants.{NoMemory};
+
+    ghost from_gives = { λ _ fault. fault ≡ NoMemory };
+
+    fn from(_: AllocError) -> DumpFault {
+        DumpFault::NoMemory
     }
 }
 
@@ -145,13 +165,12 @@ pub fn read_head_from<S: Source>(source: &mut S) -> Result<DumpHead, DumpFault>
 {
     let mut bytes = [0; 16];
     let bytes: &mut [u8] = &mut bytes;
-    match fill(source, bytes) {
-        Ok(n) if n < 16 => Err(DumpFault::Head),
-        Ok(_) => match head_in(bytes) {
-            Some(head) => Ok(head),
-            None => Err(DumpFault::Head),
-        },
-        Err(fault) => Err(DumpFault::Frame(fault)),
+    if fill(source, bytes)? < 16 {
+        return Err(DumpFault::Head);
+    }
+    match head_in(bytes) {
+        Some(head) => Ok(head),
+        None => Err(DumpFault::Head),
     }
 }
 
@@ -162,11 +181,10 @@ fn numbers_from<S: Source>(source: &mut S) -> Result<Option<(u64, u64)>, FrameFa
 {
     let mut bytes = [0; 16];
     let bytes: &mut [u8] = &mut bytes;
-    match fill(source, bytes) {
-        Ok(0) => Ok(None),
-        Ok(n) if n < 16 => Err(FrameFault::Short),
-        Ok(_) => Ok(Some((u64_at(bytes, 0), u64_at(bytes, 8)))),
-        Err(fault) => Err(fault),
+    match fill(source, bytes)? {
+        0 => Ok(None),
+        n if n < 16 => Err(FrameFault::Short),
+        _ => Ok(Some((u64_at(bytes, 0), u64_at(bytes, 8)))),
     }
 }
 
@@ -180,10 +198,8 @@ pub fn read_item_from<S: Source>(
     ensures answer { ItemAnswers result (S.input source.old).left (S.input source.new).left }
     ensures counted { ItemCounts result (S.input source.old) (S.input source.new) }
 {
-    let (commit, time) = match numbers_from(source) {
-        Ok(Some(numbers)) => numbers,
-        Ok(None) => return Ok(None),
-        Err(fault) => return Err(DumpFault::Frame(fault)),
+    let Some((commit, time)) = numbers_from(source)? else {
+        return Ok(None)
     };
     if commit == 0 {
         return if time == 2 {
@@ -192,14 +208,13 @@ pub fn read_item_from<S: Source>(
             Err(DumpFault::Mark)
         };
     }
-    match request_from(alloc, source) {
-        Ok(Some(request)) => Ok(Some(DumpItem::Entry {
+    match request_from(alloc, source)? {
+        Some(request) => Ok(Some(DumpItem::Entry {
             commit,
             time,
             request,
         })),
-        Ok(None) => Err(DumpFault::Frame(FrameFault::Short)),
-        Err(fault) => Err(DumpFault::Frame(fault)),
+        None => Err(DumpFault::Frame(FrameFault::Short)),
     }
 }
 
@@ -256,8 +271,6 @@ pub fn send_entry<W: Sink>(
         (λ _. Sent (entry_bytes commit time request.now) (W.output sink.old) (W.output sink.new))
         (λ f. (f ≡ FrameFault.Device) × CutOff (entry_bytes commit time request.now) (W.output sink.old) (W.output sink.new)) }
 {
-    match put_all(sink, &bytes_of_numbers(commit, time)) {
-        Ok(()) => send_request(sink, request),
-        Err(fault) => Err(fault),
-    }
+    put_all(sink, &bytes_of_numbers(commit, time))?;
+    send_request(sink, request)
 }

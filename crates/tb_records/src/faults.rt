@@ -2,6 +2,7 @@
 ghost use Rattle.std.specs.Prelude.{◌≡◌, Some};
 ghost use Rattle.tb_records.specs.Faults.{fault_number, fault_name};
 
+use std::alloc::{AllocError, AllocFailed};
 use std::fmt;
 use thiserror::Error;
 
@@ -69,6 +70,26 @@ impl FrameFault {
             FrameFault::NoMemory => "NoMemory",
             FrameFault::ReplyNumbers => "ReplyNumbers",
         }
+    }
+}
+
+impl From<AllocError> for FrameFault {
+    ghost use Rattle.tb_records.specs.declared.faults.FrameFault.TheVariants.{NoMemory};
+
+    ghost from_gives = { λ _ fault. fault ≡ NoMemory };
+
+    fn from(_: AllocError) -> FrameFault {
+        FrameFault::NoMemory
+    }
+}
+
+impl<T: Drop> From<AllocFailed<T>> for FrameFault {
+    ghost use Rattle.tb_records.specs.declared.faults.FrameFault.TheVariants.{NoMemory};
+
+    ghost from_gives = { λ _ fault. fault ≡ NoMemory };
+
+    fn from(_: AllocFailed<T>) -> FrameFault {
+        FrameFault::NoMemory
     }
 }
 

@@ -26,10 +26,7 @@ fn read(alloc: Global, bytes: &[u8]) -> Result<(Request, usize), FrameFault>
     if bytes.len() < 48 {
         return Err(FrameFault::Short);
     }
-    let header = match request_header(bytes) {
-        Ok(header) => header,
-        Err(fault) => return Err(fault),
-    };
+    let header = request_header(bytes)?;
     if bytes.len() - 48 < header.length {
         return Err(FrameFault::Short);
     }

@@ -77,10 +77,7 @@ fn header_in(bytes: &[u8]) -> Result<ReplyHeader, FrameFault>
     requires { 48 ≤ length bytes.now }
     ensures { MatchResult result (λ h. IsReplyHeader bytes.now h) (λ f. reply_header_fault bytes.now ≡ Some f) }
 {
-    let header = match fields_in(bytes) {
-        Ok(header) => header,
-        Err(fault) => return Err(fault),
-    };
+    let header = fields_in(bytes)?;
     let status = header.status.code();
     if let Some(fault) = numbers_fault(
         header.operation,
@@ -158,23 +155,13 @@ fn read(alloc: Global, bytes: &[u8]) -> Result<(Reply, usize), FrameFault>
     if bytes.len() < 48 {
         return Err(FrameFault::Short);
     }
-    let header = match header_in(bytes) {
-        Ok(header) => header,
-        Err(fault) => return Err(fault),
-    };
+    let header = header_in(bytes)?;
     let end = 48 + header.len as usize;
     if bytes.len() < end {
         return Err(FrameFault::Short);
     }
-    let body = match body_in(
-        alloc,
-        header.operation,
-        header.status.code(),
-        &bytes[48..end],
-    ) {
-        Ok(body) => body,
-        Err(_) => return Err(FrameFault::NoMemory),
-    };
+    let status = header.status.code();
+    let body = body_in(alloc, header.operation, status, &bytes[48..end])?;
     Ok((
         Reply::lawful(
             header.client,

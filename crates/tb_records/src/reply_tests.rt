@@ -366,18 +366,12 @@ fn refusals_name_the_request(rt: HostRuntime) {
 
 /// A copy of the reply to the lookup.
 fn found_copy(alloc: Global) -> Result<Reply, FrameFault> {
-    match found(alloc)?.copy(alloc) {
-        Ok(reply) => Ok(reply),
-        Err(_) => Err(FrameFault::NoMemory),
-    }
+    Ok(found(alloc)?.copy(alloc)?)
 }
 
 /// A copy of the request that creates two accounts.
 fn creating_copy(alloc: Global) -> Result<Request, FrameFault> {
-    match creating(alloc)?.copy(alloc) {
-        Ok(request) => Ok(request),
-        Err(_) => Err(FrameFault::NoMemory),
-    }
+    Ok(creating(alloc)?.copy(alloc)?)
 }
 
 #[test]
@@ -439,13 +433,9 @@ fn read_back(alloc: Global, reply: &Reply) -> Result<Reply, FrameFault>
     ensures { MatchResult result (λ read. read ≡ reply.now) (λ fault. fault ≡ FrameFault.NoMemory) }
 {
     let mut bytes = Vec::new(alloc);
-    match write_reply(reply, &mut bytes) {
-        Ok(()) => match read_reply(alloc, bytes.as_slice()) {
-            Ok((read, _)) => Ok(read),
-            Err(fault) => Err(fault),
-        },
-        Err(AllocError) => Err(FrameFault::NoMemory),
-    }
+    write_reply(reply, &mut bytes)?;
+    let (read, _) = read_reply(alloc, bytes.as_slice())?;
+    Ok(read)
 }
 
 #[test]

@@ -155,16 +155,12 @@ fn header_from<S: Source>(source: &mut S) -> Result<Option<Header>, FrameFault>
 {
     let mut bytes = [0; 48];
     let bytes: &mut [u8] = &mut bytes;
-    match fill(source, bytes) {
-        Ok(0) => return Ok(None),
-        Ok(n) if n < 48 => return Err(FrameFault::Short),
-        Ok(_) => {}
-        Err(fault) => return Err(fault),
+    match fill(source, bytes)? {
+        0 => return Ok(None),
+        n if n < 48 => return Err(FrameFault::Short),
+        _ => {}
     }
-    match request_header(bytes) {
-        Ok(header) => Ok(Some(header)),
-        Err(fault) => Err(fault),
-    }
+    Ok(Some(request_header(bytes)?))
 }
 
 /// Reads one request. None where the input ends before the first byte.
@@ -176,15 +172,10 @@ pub(crate) fn request_from<S: Source>(
     ensures right { IfOk result (λ read. IfSome read IsRequest) }
     ensures counted { Counts result (S.input source.old) (S.input source.new) }
 {
-    let header = match header_from(source) {
-        Ok(Some(header)) => header,
-        Ok(None) => return Ok(None),
-        Err(fault) => return Err(fault),
+    let Some(header) = header_from(source)? else {
+        return Ok(None)
     };
-    match request_behind(alloc, source, &header) {
-        Ok(request) => Ok(Some(request)),
-        Err(fault) => Err(fault),
-    }
+    Ok(Some(request_behind(alloc, source, &header)?))
 }
 
 /// Reads a moment of 8 bytes, and the request behind it. None where the input ends before the first byte; Short where it
@@ -198,15 +189,12 @@ pub fn read_timed_from<R: Source>(
     ensures right { IfOk result (λ read. IfSome read IsTimed) }
     ensures counted { Counts result (R.input source.old) (R.input source.new) }
 {
-    let moment = match moment_from(source) {
-        Ok(Some(moment)) => moment,
-        Ok(None) => return Ok(None),
-        Err(fault) => return Err(fault),
+    let Some(moment) = moment_from(source)? else {
+        return Ok(None)
     };
-    match request_from(alloc, source) {
-        Ok(Some(request)) => Ok(Some((moment, request))),
-        Ok(None) => Err(FrameFault::Short),
-        Err(fault) => Err(fault),
+    match request_from(alloc, source)? {
+        Some(request) => Ok(Some((moment, request))),
+        None => Err(FrameFault::Short),
     }
 }
 
@@ -217,10 +205,9 @@ fn moment_from<S: Source>(source: &mut S) -> Result<Option<u64>, FrameFault>
 {
     let mut bytes = [0; 8];
     let bytes: &mut [u8] = &mut bytes;
-    match fill(source, bytes) {
-        Ok(0) => Ok(None),
-        Ok(n) if n < 8 => Err(FrameFault::Short),
-        Ok(_) => Ok(Some(u64_at(bytes, 0))),
-        Err(fault) => Err(fault),
+    match fill(source, bytes)? {
+        0 => Ok(None),
+        n if n < 8 => Err(FrameFault::Short),
+        _ => Ok(Some(u64_at(bytes, 0))),
     }
 }

@@ -71,10 +71,9 @@ fn next_frame<R: Source + Drop>(
     alloc: Global,
     stream: &mut RequestStream<R>,
 ) -> Result<Option<u32>, FrameFault> {
-    match stream.next_request(alloc) {
-        Ok(Some(request)) => Ok(Some(frame_of(&request))),
-        Ok(None) => Ok(None),
-        Err(fault) => Err(fault),
+    match stream.next_request(alloc)? {
+        Some(request) => Ok(Some(frame_of(&request))),
+        None => Ok(None),
     }
 }
 
@@ -82,10 +81,9 @@ fn next_frame<R: Source + Drop>(
 fn timed_frame(
     answer: Result<Option<(u64, Request)>, FrameFault>,
 ) -> Result<Option<(u64, u32)>, FrameFault> {
-    match answer {
-        Ok(Some((moment, request))) => Ok(Some((moment, frame_of(&request)))),
-        Ok(None) => Ok(None),
-        Err(fault) => Err(fault),
+    match answer? {
+        Some((moment, request)) => Ok(Some((moment, frame_of(&request)))),
+        None => Ok(None),
     }
 }
 
@@ -175,10 +173,8 @@ fn many(alloc: Global, low: u8) -> Result<Vec<u8>, AllocError> {
 
 /// The number of items that are read, and the length of their frame.
 fn read_count(alloc: Global, bytes: &[u8]) -> Result<(usize, usize), FrameFault> {
-    match read_request(alloc, bytes) {
-        Ok((request, n)) => Ok((request.body().len(), n)),
-        Err(fault) => Err(fault),
-    }
+    let (request, n) = read_request(alloc, bytes)?;
+    Ok((request.body().len(), n))
 }
 
 #[test]

@@ -187,10 +187,8 @@ pub fn send_request<W: Sink>(sink: &mut W, request: &Request) -> Result<(), Fram
 {
     let body = request.body();
     let len = body_len(body);
-    match put_all(sink, &request_header(request, len)) {
-        Ok(()) => send_request_body(sink, body),
-        Err(fault) => Err(fault),
-    }
+    put_all(sink, &request_header(request, len))?;
+    send_request_body(sink, body)
 }
 
 /// Writes the body of a reply to a sink.
@@ -217,8 +215,6 @@ pub fn send_reply<W: Sink>(sink: &mut W, reply: &Reply) -> Result<(), FrameFault
 {
     let body = reply.body();
     let len = reply_body_len(body);
-    match put_all(sink, &reply_header(reply, len)) {
-        Ok(()) => send_body(sink, body),
-        Err(fault) => Err(fault),
-    }
+    put_all(sink, &reply_header(reply, len))?;
+    send_body(sink, body)
 }

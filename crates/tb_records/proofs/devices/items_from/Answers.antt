@@ -1,11 +1,10 @@
 use Rattle.std.proofs.Common.{arith}
-use Rattle.tb_records.proofs.Pieces.{items_cut, fault_since}
+use Rattle.std.proofs.lemmas.Result.{err_from_is_err_and}
+use Rattle.tb_records.proofs.Pieces.{items_cut}
 use Rattle.tb_records.proofs.devices.items_from.Goals as goal
 
-pub returns-in-Err-item_from-clause-bytes : goal.returns-in-Err-item_from-clause-bytes
-returns-in-Err-item_from-clause-bytes g c =
-    items_cut c.in-Err-item_from.fault g.T.Item.spelling c.args.count g.T.Item.SIZE c.loop.items.items _ _ _
-    (omega arith) g.met.T.Item.length_spelling c.loop.invariant.bytes c.in-Err-item_from.ensures.bytes
-
-pub returns-in-Err-item_from-clause-counted : goal.returns-in-Err-item_from-clause-counted
-returns-in-Err-item_from-clause-counted g c = fault_since c.in-Err-item_from.fault (g.S.Source.input c.args.source.now) (g.S.Source.input c.loop.source) (g.S.Source.input c.item_from.new.source) c.loop.invariant.counted c.in-Err-item_from.ensures.counted
+pub returns-in_err-item_from-clause-bytes : goal.returns-in_err-item_from-clause-bytes
+returns-in_err-item_from-clause-bytes g c =
+    let p = err_from_is_err_and c.from_residual-in_err-item_from.result c.from_residual-in_err-item_from.ensures.1 in
+    rw (p.1, p.2) (items_cut c.in_err-item_from.field-0.0 g.T.Item.spelling c.args.count g.T.Item.SIZE c.loop.items.items _ _ _
+    (omega arith) g.met.T.Item.length_spelling c.loop.invariant.bytes c.in_err-item_from.ensures.bytes)

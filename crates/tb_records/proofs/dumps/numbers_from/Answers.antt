@@ -2,6 +2,6 @@ use Rattle.std.proofs.Common.{arith}
 use Rattle.tb_records.proofs.DumpAnswers.{two_numbers}
 use Rattle.tb_records.proofs.dumps.numbers_from.Goals as goal
 
-pub returns-in-Ok-2-clause-answer : goal.returns-in-Ok-2-clause-answer
-returns-in-Ok-2-clause-answer g c =
-    two_numbers c.fill.new.buf c.in-Ok-2.field-0 _ _ _ _ (omega arith) (omega arith) c.in-Ok-2.ensures.bytes c.u64_at.ensures.spelled c.u64_at-in-Ok-2.ensures.spelled c.u64_at.type_inv c.u64_at-in-Ok-2.type_inv
+pub returns-in_default-2-clause-answer : goal.returns-in_default-2-clause-answer
+returns-in_default-2-clause-answer g c =
+    two_numbers c.fill.new.buf c.in_ok-n.n _ _ _ _ (omega arith) (omega arith) c.in_ok-n.ensures.bytes c.u64_at.ensures.spelled c.u64_at-in_default-2.ensures.spelled c.u64_at.type_inv c.u64_at-in_default-2.type_inv

@@ -1,4 +1,5 @@
 use Rattle.std.proofs.Common.{◌+◌, ◌-◌, ◌<◌, ◌≤◌, length, take, drop, ap, ◌∙◌, subst, sym, arith}
+use Rattle.std.proofs.lemmas.Result.{err_from_is_err_and}
 use Rattle.tb_records.specs.Frames.{length_at}
 use Rattle.tb_records.specs.ReplyFrames.{has_reply_length, SpellsReply}
 use Rattle.tb_records.specs.ReplyHeaders.{IsReplyBody}
@@ -9,36 +10,39 @@ use Rattle.tb_records.proofs.reply_reading.read.Goals as goal
 pub returns-then-bytes-lt48 : goal.returns-then-bytes-lt48
 returns-then-bytes-lt48 c = cut_reply_header c.args.bytes.now c.if-bytes-lt48.true
 
-pub returns-in-Err : goal.returns-in-Err
-returns-in-Err c = found_header_fault c.args.bytes.now c.in-Err.fault c.if-bytes-lt48.false c.in-Err.ensures
+pub returns-in_err-header : goal.returns-in_err-header
+returns-in_err-header c =
+    let p = err_from_is_err_and c.from_residual.result c.from_residual.ensures.1 in
+    rw (p.1, p.2) (found_header_fault c.args.bytes.now c.in_err-header.field-0.0 c.if-bytes-lt48.false c.in_err-header.ensures)
 
 pub returns-then-bytes-end : goal.returns-then-bytes-end
 returns-then-bytes-end c =
-    let short : length c.args.bytes.now < 48 + length_at c.args.bytes.now = omega (arith, c.in-Ok.ensures.len) in
-    cut_reply_body c.args.bytes.now c.if-bytes-lt48.false c.in-Ok.ensures.none short
+    let short : length c.args.bytes.now < 48 + length_at c.args.bytes.now = omega (arith, c.in_ok-header.ensures.len) in
+    cut_reply_body c.args.bytes.now c.if-bytes-lt48.false c.in_ok-header.ensures.none short
 
 pub body_in-requires : goal.body_in-requires
 body_in-requires c =
-    let h = c.in-Ok.header in
-    ap (λ n. has_reply_length h.operation c.code.result n) (body_behind c.args.bytes.now h.len c.if-bytes-end.false)
-    ∙ ap (λ s. has_reply_length h.operation s h.len) c.code.ensures
-    ∙ header_length c.args.bytes.now h c.in-Ok.ensures
+    let h = c.in_ok-header.header in
+    ap (λ n. has_reply_length h.operation c.code-status.result n) (body_behind c.args.bytes.now h.len c.if-bytes-end.false)
+    ∙ ap (λ s. has_reply_length h.operation s h.len) c.code-status.ensures
+    ∙ header_length c.args.bytes.now h c.in_ok-header.ensures
 
-pub returns-in-Err-body_in : goal.returns-in-Err-body_in
-returns-in-Err-body_in c =
-    let long : 48 + length_at c.args.bytes.now ≤ length c.args.bytes.now = omega (arith, c.in-Ok.ensures.len) in
-    whole_reply c.args.bytes.now c.if-bytes-lt48.false long ∙ c.in-Ok.ensures.none
+pub returns-in_err-body : goal.returns-in_err-body
+returns-in_err-body c =
+    let long : 48 + length_at c.args.bytes.now ≤ length c.args.bytes.now = omega (arith, c.in_ok-header.ensures.len) in
+    let p = err_from_is_err_and c.from_residual-in_err-body.result c.from_residual-in_err-body.ensures.1 in
+    rw (p.1, p.2) (whole_reply c.args.bytes.now c.if-bytes-lt48.false long ∙ c.in_ok-header.ensures.none)
 
 pub lawful-requires : goal.lawful-requires
 lawful-requires c =
-    let h = c.in-Ok.header in
+    let h = c.in_ok-header.header in
     let b = c.args.bytes.now in
-    let is = subst (λ s. IsReplyBody h.operation s c.in-Ok-body_in.body (take (48 + h.len - 48) (drop 48 b))) c.code.ensures c.in-Ok-body_in.ensures in
-    header_right b h c.in-Ok-body_in.body (take (48 + h.len - 48) (drop 48 b)) c.in-Ok.ensures is (body_behind b h.len c.if-bytes-end.false)
+    let is = subst (λ s. IsReplyBody h.operation s c.in_ok-body.body (take (48 + h.len - 48) (drop 48 b))) c.code-status.ensures c.in_ok-body.ensures in
+    header_right b h c.in_ok-body.body (take (48 + h.len - 48) (drop 48 b)) c.in_ok-header.ensures is (body_behind b h.len c.if-bytes-end.false)
 
 pub returns : goal.returns
 returns c =
-    let h = c.in-Ok.header in
+    let h = c.in_ok-header.header in
     let b = c.args.bytes.now in
-    let is = subst (λ s. IsReplyBody h.operation s c.in-Ok-body_in.body (take (48 + h.len - 48) (drop 48 b))) c.code.ensures c.in-Ok-body_in.ensures in
-    (c.if-bytes-end.false, subst (λ r. SpellsReply (take (48 + h.len) b) r) (sym c.lawful.ensures) (found_reply b h c.in-Ok-body_in.body (λ i. omega (arith, c.type_inv.bytes i)) c.in-Ok.ensures c.if-bytes-end.false is))
+    let is = subst (λ s. IsReplyBody h.operation s c.in_ok-body.body (take (48 + h.len - 48) (drop 48 b))) c.code-status.ensures c.in_ok-body.ensures in
+    (c.if-bytes-end.false, subst (λ r. SpellsReply (take (48 + h.len) b) r) (sym c.lawful.ensures) (found_reply b h c.in_ok-body.body (λ i. omega (arith, c.type_inv.bytes i)) c.in_ok-header.ensures c.if-bytes-end.false is))

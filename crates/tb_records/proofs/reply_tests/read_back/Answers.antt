@@ -1,4 +1,5 @@
 use Rattle.std.proofs.Common.{ℕ, ◌≡◌, [], ◌++◌, List, length, Err, ◌∙◌, refl, sym, ap, append-nil}
+use Rattle.std.proofs.lemmas.Result.{err_from_is_err_and}
 use Rattle.tb_records.specs.declared.faults.FrameFault.{FrameFault}
 use Rattle.tb_records.specs.declared.faults.FrameFault.TheVariants.{NoMemory}
 use Rattle.tb_records.specs.Messages.{Answer}
@@ -14,13 +15,14 @@ only_memory : (fault : FrameFault) (r : Answer) (n : ℕ) → OnlyThisReply (Err
 only_memory NoMemory r n only = refl
 only_memory fault r n only = absurd only
 
-pub returns-in-Ok-read_reply : goal.returns-in-Ok-read_reply
-returns-in-Ok-read_reply c =
-    let is = spelled c.as_slice.result.now _ _ c.args.reply.now c.as_slice.ensures.value c.in-Ok.ensures.ok c.new-bytes.ensures.items c.in-Ok.ensures.fits in
-    (c.in-Ok-read_reply.ensures.only c.args.reply.now c.as_slice.result.now [] is (sym (append-nil c.as_slice.result.now))).0
+pub returns : goal.returns
+returns c =
+    let is = spelled c.as_slice.result.now _ _ c.args.reply.now c.as_slice.ensures.value c.in_ok-write_reply.ensures.ok c.new-bytes.ensures.items c.in_ok-write_reply.ensures.fits in
+    (c.in_ok-read.ensures.only c.args.reply.now c.as_slice.result.now [] is (sym (append-nil c.as_slice.result.now))).0
 
-pub returns-in-Ok : goal.returns-in-Ok
-returns-in-Ok c =
-    let is = spelled c.as_slice.result.now _ _ c.args.reply.now c.as_slice.ensures.value c.in-Ok.ensures.ok c.new-bytes.ensures.items c.in-Ok.ensures.fits in
-    only_memory c.in-Err-read_reply.fault c.args.reply.now (length c.as_slice.result.now)
-    (c.in-Err-read_reply.ensures.only c.args.reply.now c.as_slice.result.now [] is (sym (append-nil c.as_slice.result.now)))
+pub returns-in_err-read : goal.returns-in_err-read
+returns-in_err-read c =
+    let is = spelled c.as_slice.result.now _ _ c.args.reply.now c.as_slice.ensures.value c.in_ok-write_reply.ensures.ok c.new-bytes.ensures.items c.in_ok-write_reply.ensures.fits in
+    let p = err_from_is_err_and c.from_residual-in_err-read.result c.from_residual-in_err-read.ensures.1 in
+    rw (p.1, p.2) (only_memory c.in_err-read.field-0.0 c.args.reply.now (length c.as_slice.result.now)
+    (c.in_err-read.ensures.only c.args.reply.now c.as_slice.result.now [] is (sym (append-nil c.as_slice.result.now))))

@@ -1,17 +1,15 @@
-use Rattle.tb_records.proofs.Pieces.{fault_since}
+use Rattle.std.proofs.lemmas.Result.{err_from_is_err_and}
 use Rattle.tb_records.proofs.StreamAnswers.{no_frame, bad_frame}
 use Rattle.tb_records.proofs.streams.read_timed_from.Goals as goal
 
-pub returns-in-Ok-None-request_from-clause-answer : goal.returns-in-Ok-None-request_from-clause-answer
-returns-in-Ok-None-request_from-clause-answer g c =
-    let read = rw c.in-Ok-Some.field-0-is at c.in-Ok-Some.ensures.answer in
-    let rest = rw c.in-Ok-None-request_from.field-0-is at c.in-Ok-None-request_from.ensures.answer in
+pub returns-in-None-clause-answer : goal.returns-in-None-clause-answer
+returns-in-None-clause-answer g c =
+    let read = rw c.in-Some.is at c.in_ok-moment.ensures.answer in
+    let rest = rw c.in-None.is at c.in_ok-request.ensures.answer in
     no_frame _ _ _ _ read rest
 
-pub returns-in-Err-request_from-clause-answer : goal.returns-in-Err-request_from-clause-answer
-returns-in-Err-request_from-clause-answer g c =
-    let read = rw c.in-Ok-Some.field-0-is at c.in-Ok-Some.ensures.answer in
-    bad_frame c.in-Err-request_from.fault _ _ _ _ read c.in-Err-request_from.ensures.answer
-
-pub returns-in-Err-request_from-clause-counted : goal.returns-in-Err-request_from-clause-counted
-returns-in-Err-request_from-clause-counted g c = fault_since c.in-Err-request_from.fault (g.R.Source.input c.args.source.now) (g.R.Source.input c.moment_from.new.source) (g.R.Source.input c.request_from.new.source) c.in-Ok-Some.ensures.counted c.in-Err-request_from.ensures.counted
+pub returns-in_err-request-clause-answer : goal.returns-in_err-request-clause-answer
+returns-in_err-request-clause-answer g c =
+    let read = rw c.in-Some.is at c.in_ok-moment.ensures.answer in
+    let p = err_from_is_err_and c.from_residual-in_err-request.result c.from_residual-in_err-request.ensures.1 in
+    rw (p.1, p.2) (bad_frame c.in_err-request.field-0.0 _ _ _ _ read c.in_err-request.ensures.answer)

@@ -1,12 +1,14 @@
+use Rattle.std.proofs.lemmas.Result.{err_from_is_err_and}
 use Rattle.tb_records.proofs.Sendings.{sent_rest, sent_few, reply_frame}
 use Rattle.tb_records.proofs.writing.send_reply.Goals as goal
 
-pub returns-in-Ok : goal.returns-in-Ok
-returns-in-Ok g c =
+pub returns : goal.returns
+returns g c =
     let whole = reply_frame c.args.reply.now c.reply_header.result c.reply_body_len-len.result c.body-body.result.now c.reply_header.ensures.header c.reply_body_len-len.ensures c.body-body.ensures.value in
-    sent_rest _ _ _ _ _ _ whole c.in-Ok.ensures c.send_body.result c.send_body.ensures
+    sent_rest _ _ _ _ _ _ whole c.in_ok-put_all.ensures c.send_body.result c.send_body.ensures
 
-pub returns-in-Err : goal.returns-in-Err
-returns-in-Err g c =
+pub returns-in_err-put_all : goal.returns-in_err-put_all
+returns-in_err-put_all g c =
     let whole = reply_frame c.args.reply.now c.reply_header.result c.reply_body_len-len.result c.body-body.result.now c.reply_header.ensures.header c.reply_body_len-len.ensures c.body-body.ensures.value in
-    (c.in-Err.ensures.0, sent_few _ _ _ _ _ whole c.in-Err.ensures.1)
+    let p = err_from_is_err_and c.from_residual.result c.from_residual.ensures.1 in
+    rw (p.1, p.2) (c.in_err-put_all.ensures.0, sent_few _ _ _ _ _ whole c.in_err-put_all.ensures.1)
