@@ -75,13 +75,17 @@ id_passes B t time ok = (none_fails (id_code B t ∷ (if resolves t then resolve
 own_code : (B : Books) (t : Transfer) (time : ℕ) → transfer_verdict B t time ≡ 0 → (if resolves t then resolve_code B t else single_code B t time) ≡ 0
 own_code B t time ok = (none_fails (id_code B t ∷ (if resolves t then resolve_code B t else single_code B t time) ∷ []) ok).1.0
 
--- an accepted transfer is new
-pub new_transfer : (B : Books) (t : Transfer) (time : ℕ) → transfer_verdict B t time ≡ 0 → transfer_at B t.id ≡ None
-new_transfer B t time ok = by (transfer_at B t.id) (none_fails (first_of (transfer_own_lines t) ∷ first_of (transfer_exists_lines (transfer_at B t.id) (filled B t)) ∷ first_of (failed_lines B.failed t) ∷ []) (id_passes B t time ok)).1.0
+-- an id that is free, no transfer has
+pub id_free : (B : Books) (t : Transfer) → id_code B t ≡ 0 → transfer_at B t.id ≡ None
+id_free B t free = by (transfer_at B t.id) (none_fails (first_of (transfer_own_lines t) ∷ first_of (transfer_exists_lines (transfer_at B t.id) (filled B t)) ∷ first_of (failed_lines B.failed t) ∷ []) free).1.0
   where
     by : (o : Option Transfer) → first_of (transfer_exists_lines o (filled B t)) ≡ 0 → o ≡ None
     by None is = refl
     by (Some e) is = let lines = fail (transfer_exists_lines (Some e) (filled B t)) refl is in let there : true ≡ false = lines.1.1.1.1.1.1.1.1.1.1.1.0 in absurd (cc)
+
+-- an accepted transfer is new
+pub new_transfer : (B : Books) (t : Transfer) (time : ℕ) → transfer_verdict B t time ≡ 0 → transfer_at B t.id ≡ None
+new_transfer B t time ok = id_free B t (id_passes B t time ok)
 
 open_of : (s : State) → is_posted s ≡ false → is_voided s ≡ false → is_expired s ≡ false → is_open s ≡ true
 open_of Open a b c = refl
@@ -105,11 +109,10 @@ pub filled_found : (B : Books) (t p : Transfer) → resolves t ≡ true → tran
 filled_found B t p is found = rw (is, found) refl
 
 -- a post or void, filled from the pending transfer that it names
-found_from : (B : Books) (t p : Transfer) → transfer_at B t.pending_id ≡ Some p → first_of (resolve_own_lines t) ≡ 0 → named_code B t (Some p) ≡ 0 → FoundPending B (filled_from p t)
+pub found_from : (B : Books) (t p : Transfer) → transfer_at B t.pending_id ≡ Some p → first_of (resolve_own_lines t) ≡ 0 → first_of (named_lines t p (state_of B p)) ≡ 0 → FoundPending B (filled_from p t)
 found_from B t p named own_is named_is =
     let own = fail (resolve_own_lines t) refl own_is in
-    let codes = none_fails (first_of (named_lines t p (state_of B p)) ∷ first_of (closed_lines t (closed_at B p.debit_account_id) (closed_at B p.credit_account_id)) ∷ []) named_is in
-    let lines = fail (named_lines t p (state_of B p)) refl codes.0 in record {
+    let lines = fail (named_lines t p (state_of B p)) refl named_is in record {
       p = p;
       named = named;
       held = and_from (pending p) (is_open (state_of B p)) (is_true (pending p) lines.0) (open_of (state_of B p) lines.1.1.1.1.1.1.1.0 lines.1.1.1.1.1.1.1.1.0 lines.1.1.1.1.1.1.1.1.1.0);
@@ -129,7 +132,9 @@ found_pending B t time is ok = by (transfer_at B t.pending_id) refl codes.1.0
 
     by : (o : Option Transfer) → transfer_at B t.pending_id ≡ o → named_code B t o ≡ 0 → FoundPending B (filled B t)
     by None e z = absurd (omega arith)
-    by (Some p) e z = subst (FoundPending B) (sym (filled_found B t p is e)) (found_from B t p e codes.0 z)
+    by (Some p) e z =
+        let named = (none_fails (first_of (named_lines t p (state_of B p)) ∷ first_of (closed_lines t (closed_at B p.debit_account_id) (closed_at B p.credit_account_id)) ∷ []) z).0 in
+        subst (FoundPending B) (sym (filled_found B t p is e)) (found_from B t p e codes.0 named)
 
 -- a pair of accounts that is there
 pair_of : (B : Books) (t : Transfer) (time : ℕ) (d c : Account) → account_at B t.debit_account_id ≡ Some d → account_at B t.credit_account_id ≡ Some c → t.debit_account_id ≢ t.credit_account_id → pair_code (Some (as_it_stands B d)) (Some (as_it_stands B c)) t time ≡ 0 → FoundPair B (record t { amount = balanced_amount (as_it_stands B d) (as_it_stands B c) t; timestamp = time })

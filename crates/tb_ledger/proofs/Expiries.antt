@@ -2,16 +2,16 @@
 use Rattle.std.proofs.Common.{◌≡◌, ◌≢◌, ℕ, ◌≤◌, Bool, true, false, ◌&&◌, ◌==◌, List, map, find, if◌then◌else◌, Option, Some, None, option_map, IsSome, refl, sym, ap, subst, ◌∙◌}
 use Rattle.tb_records.specs.declared.records.Transfer.{Transfer}
 use Rattle.tb_records.specs.Ordered.{replaced, changed, Each, Rising}
-use Rattle.tb_records.proofs.ByKey.{each-map, each-both, each-find, each-replaced_all, find-map, map-replaced, map-changed, found_key, rising-changed}
+use Rattle.tb_records.proofs.ByKey.{each-map, each-both, each-find, each-replaced_all, find-map, map-replaced, map-changed, rising-changed}
 use Rattle.tb_ledger.specs.declared.tables.rows.State.{State}
 use Rattle.tb_ledger.specs.declared.tables.rows.State.TheVariants.{Posted, Voided, Expired}
 use Rattle.tb_ledger.specs.declared.tables.rows.AccountRow.{AccountRow}
 use Rattle.tb_ledger.specs.declared.tables.rows.TransferRow.{TransferRow}
 use Rattle.tb_ledger.specs.declared.tables.timeouts.Timeout.{Timeout}
-use Rattle.tb_ledger.specs.Books.{posts, pending, resolves, is_open, is_due, state_by, closing_debit, closing_credit, debit, credit}
-use Rattle.tb_ledger.specs.Sound.{Sound}
-use Rattle.tb_ledger.specs.Kept.{account_row_key, transfer_row_key, books_of, row_holds, lapses, IsIndex, HasSide, HasSums, HasState, AreKept, IsLedger, on_debits, on_credits, released, settled, accounts_released}
-use Rattle.tb_ledger.proofs.Parts.{both_hold, held_enough}
+use Rattle.tb_ledger.specs.Books.{Books, posts, pending, resolves, is_open, is_due, state_by, closing_debit, closing_credit, debit, credit}
+use Rattle.tb_ledger.specs.Sound.{ledger_at, Sound}
+use Rattle.tb_ledger.specs.Kept.{account_row_key, transfer_row_key, books_of, row_holds, lapses, IsIndex, HasSums, HasState, AreKept, IsLedger, on_debits, on_credits, released, settled, accounts_released}
+use Rattle.tb_ledger.proofs.Parts.{both_hold}
 use Rattle.tb_ledger.proofs.Pairs.{sums_released}
 use Rattle.tb_ledger.proofs.Sides.{due_later}
 use Rattle.tb_ledger.proofs.SoundLaws.{sound_later}
@@ -82,22 +82,37 @@ marked_will T records p lapsed has =
 -- a transfer that lapses is released
 module _ (accounts : List AccountRow) (transfers : List TransferRow) (p : TransferRow) (rising : Rising account_row_key accounts) (sums : Each (HasSums transfers) accounts)
     (found : find (λ q. q.recorded.id == p.recorded.id) transfers ≡ Some p) (holds : row_holds p ≡ true) where
-  pub debit_has : (a : AccountRow) → find (λ a. a.created.id == p.recorded.debit_account_id) accounts ≡ Some a → p.recorded.amount ≤ a.debits.pending
-  debit_has a there =
-      let has = (each-find (HasSums transfers) (λ a. a.created.id == p.recorded.debit_account_id) a accounts sums there).debits in
-      held_enough debit closing_debit transfers p Expired found holds refl a.debits (subst (λ k. HasSide debit closing_debit transfers k a.debits) (found_key account_row_key p.recorded.debit_account_id a accounts there) has)
-
-  pub credit_has : (a : AccountRow) → find (λ a. a.created.id == p.recorded.credit_account_id) accounts ≡ Some a → p.recorded.amount ≤ a.credits.pending
-  credit_has a there =
-      let has = (each-find (HasSums transfers) (λ a. a.created.id == p.recorded.credit_account_id) a accounts sums there).credits in
-      held_enough credit closing_credit transfers p Expired found holds refl a.credits (subst (λ k. HasSide credit closing_credit transfers k a.credits) (found_key account_row_key p.recorded.credit_account_id a accounts there) has)
-
   pub rising_released : (later : List AccountRow) → later ≡ accounts_released p.recorded accounts → Rising account_row_key later
   rising_released later is = rw is (rising-changed account_row_key p.recorded.credit_account_id (on_credits (released closing_credit p.recorded)) (changed account_row_key p.recorded.debit_account_id (on_debits (released closing_debit p.recorded)) accounts) (λ y. refl)
       (rising-changed account_row_key p.recorded.debit_account_id (on_debits (released closing_debit p.recorded)) accounts (λ y. refl) rising))
 
   pub sums_after : (later : List AccountRow) (marked : List TransferRow) → later ≡ accounts_released p.recorded accounts → marked ≡ replaced transfer_row_key (settled Expired p) transfers → Each (HasSums marked) later
   sums_after later marked is put = rw (is, put) (sums_released accounts transfers p Expired rising found holds refl sums)
+
+-- a transfer's accounts differ, and are there, while records stay as they were in books that are sound
+module _ (B : Books) (sound : Sound B) (accounts : List AccountRow) (transfers : List TransferRow) (id : ℕ) (p : TransferRow) (same_accounts : map (λ a. a.created) accounts ≡ B.accounts) (same_transfers : map (λ t. t.recorded) transfers ≡ B.transfers) (found : find (λ t. t.recorded.id == id) transfers ≡ Some p) where
+  recorded_p : find (λ t. t.id == id) B.transfers ≡ Some p.recorded
+  recorded_p = ap (find (λ t. t.id == id)) (sym same_transfers) ∙ find-map (λ t. t.id == id) (λ t. t.recorded) transfers ∙ ap (option_map (λ t. t.recorded)) found
+
+  pub accounts_apart : p.recorded.debit_account_id ≢ p.recorded.credit_account_id
+  accounts_apart = each-find (λ t. debit t ≢ credit t) (λ t. t.id == id) p.recorded B.transfers sound.apart recorded_p
+
+  some_of : {X Y : Type 0} (g : X → Y) (y : Y) (o : Option X) → option_map g o ≡ Some y → IsSome o
+  some_of g y None is = absurd (cc)
+  some_of g y (Some x) is = refl
+
+  party_there : (side : Transfer → ℕ) → Each (λ t. ledger_at B.accounts (side t) ≡ Some t.ledger) B.transfers → IsSome (find (λ a. a.created.id == side p.recorded) accounts)
+  party_there side named =
+      let ledger = each-find (λ t. ledger_at B.accounts (side t) ≡ Some t.ledger) (λ t. t.id == id) p.recorded B.transfers named recorded_p in
+      let there = some_of (λ a. a.ledger) p.recorded.ledger (find (λ a. a.id == side p.recorded) B.accounts) ledger in
+      some_before (λ a. a.created) (find (λ a. a.created.id == side p.recorded) accounts)
+      (subst IsSome (find-map (λ a. a.id == side p.recorded) (λ a. a.created) accounts) (subst (λ l. IsSome (find (λ a. a.id == side p.recorded) l)) (sym same_accounts) there))
+
+  pub debit_party : IsSome (find (λ a. a.created.id == p.recorded.debit_account_id) accounts)
+  debit_party = party_there debit sound.debits.named
+
+  pub credit_party : IsSome (find (λ a. a.created.id == p.recorded.credit_account_id) accounts)
+  credit_party = party_there credit sound.credits.named
 
 -- the records of accounts stay
 pub accounts_stay : (p : Transfer) (accounts later : List AccountRow) → later ≡ accounts_released p accounts → map (λ a. a.created) later ≡ map (λ a. a.created) accounts

@@ -26,3 +26,4 @@ pub mod ReadLaws
 pub mod FailedLaws
 pub mod Profiles
 pub mod Many
+pub mod KnownKeys

@@ -6,7 +6,7 @@ use Rattle.std.specs.BTreeMap.{is_at}
 use Rattle.std.specs.Ordering.{nat_cmp}
 use Rattle.std.proofs.lemmas.List.{length-append, length-map, take-append-drop}
 use Rattle.tb_records.specs.Ordered.{Each}
-use Rattle.tb_ledger.proofs.Entries.{Own, found-row}
+use Rattle.tb_records.proofs.Entries.{Own, found-row}
 
 pub found-rows : {V : Type 0} (key : V → ℕ) (ks : List ℕ) (es : List (ℕ × V)) → Each (Own key) es → map (λ k. lookup (is_at (nat_cmp k)) es) ks ≡ map (λ k. find (λ row. key row == k) (values_of es)) ks
 found-rows key [] es own = refl

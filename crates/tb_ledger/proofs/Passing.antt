@@ -1,4 +1,4 @@
--- What passes between two accounts changes their rows as the books say.
+-- What passes between two accounts, or is settled there, changes their rows as the books say.
 use Rattle.std.proofs.Common.{◌≡◌, ◌≢◌, ℕ, Bool, true, false, cond, eqb, ◌==◌, ◌+◌, List, [], ◌∷◌, ◌++◌, Vec, vec_len, vec_capacity, find, Some, Result, Ok, Err, option_map, refl, sym, subst, ap, ◌∙◌, arith}
 use Rattle.tb_records.specs.declared.records.Transfer.{Transfer}
 use Rattle.tb_records.specs.Ordered.{replaced, changed}
@@ -11,10 +11,12 @@ use Rattle.tb_ledger.specs.declared.tables.trail.Undo.TheVariants.{Account}
 use Rattle.tb_ledger.specs.Trail.{undo_account, undo_transfer, undo_timeouts, unwound_accounts, unwound_transfers, unwound_timeouts, CanUndo, CanUnwind, IsNoted}
 use Rattle.tb_ledger.specs.declared.changes.single.Passed.{Passed}
 use Rattle.tb_ledger.specs.Books.{closing_debit, closing_credit}
-use Rattle.tb_ledger.specs.Kept.{account_row_key, row_now, gained, on_debits, on_credits, accounts_gained}
+use Rattle.tb_ledger.specs.Kept.{account_row_key, row_now, gained, released_and_gained, on_debits, on_credits, accounts_gained}
 use Rattle.tb_ledger.specs.Exchanges.{as_recorded, Exchanges, ExchangesIn, row_at}
 use Rattle.tb_ledger.specs.Verdicts.{pair_code, balanced_amount}
-use Rattle.tb_ledger.proofs.Settled.{found_still, refound}
+use Rattle.tb_ledger.specs.declared.changes.resolving.Parties.{Parties}
+use Rattle.tb_ledger.specs.Settlings.{CanSettle, Settles, SettlesIn}
+use Rattle.tb_ledger.proofs.Settled.{both_written, found_still, refound}
 use Rattle.tb_ledger.specs.Tables.{Stored}
 
 -- a row put in its own place changes nothing
@@ -31,23 +33,42 @@ pub passed_in : (t : Transfer) (time : ℕ) (accounts later : List AccountRow) (
     → ExchangesIn t time accounts r later
 passed_in t time accounts later d c d' c' (Ok x) apart d_is c_is passes wrote =
     let recorded = as_recorded t x.amount time in
-    let x_debit : x.debit ≡ d = ap (λ x. x.debit) passes.1 in
-    let x_credit : x.credit ≡ c = ap (λ x. x.credit) passes.1 in
-    let code : pair_code (Some (row_now x.debit)) (Some (row_now x.credit)) t time ≡ 0 = rw (x_debit, x_credit) passes.0 in
-    let amount : x.amount ≡ balanced_amount (row_now x.debit) (row_now x.credit) t = rw (x_debit, x_credit) (ap (λ x. x.amount) passes.1) in
+    let x_debit : x.debit ≡ d = ap (λ x. x.debit) passes.1.0 in
+    let x_credit : x.credit ≡ c = ap (λ x. x.credit) passes.1.0 in
+    let code : pair_code (option_map row_now (row_at accounts t.debit_account_id)) (option_map row_now (row_at accounts t.credit_account_id)) t time ≡ 0 = rw (d_is, c_is) passes.0 in
+    let amount : x.amount ≡ balanced_amount (row_now x.debit) (row_now x.credit) t = rw (x_debit, x_credit) (ap (λ x. x.amount) passes.1.0) in
     let gains : AccountRow → AccountRow = on_debits (gained closing_debit recorded) in
     let gives : AccountRow → AccountRow = on_credits (gained closing_credit recorded) in
     let first : changed account_row_key t.debit_account_id gains accounts ≡ replaced account_row_key d' accounts =
-    changed_found account_row_key t.debit_account_id gains d accounts (λ y. refl) d_is ∙ ap (λ row. replaced account_row_key row accounts) (sym passes.2) in
+    changed_found account_row_key t.debit_account_id gains d accounts (λ y. refl) d_is ∙ ap (λ row. replaced account_row_key row accounts) (sym passes.1.1) in
     let still = found_still t.debit_account_id t.credit_account_id gains c accounts (λ y. refl) apart c_is in
     let second : changed account_row_key t.credit_account_id gives (changed account_row_key t.debit_account_id gains accounts) ≡ replaced account_row_key c' (changed account_row_key t.debit_account_id gains accounts) =
-    changed_found account_row_key t.credit_account_id gives c (changed account_row_key t.debit_account_id gains accounts) (λ y. refl) still ∙ ap (λ row. replaced account_row_key row (changed account_row_key t.debit_account_id gains accounts)) (sym passes.3) in
-    (d_is ∙ ap (λ row. Some row) (sym x_debit), c_is ∙ ap (λ row. Some row) (sym x_credit), code, amount, wrote ∙ ap (replaced account_row_key c') (sym first) ∙ sym second)
+    changed_found account_row_key t.credit_account_id gives c (changed account_row_key t.debit_account_id gains accounts) (λ y. refl) still ∙ ap (λ row. replaced account_row_key row (changed account_row_key t.debit_account_id gains accounts)) (sym passes.1.2) in
+    (code, (d_is ∙ ap (λ row. Some row) (sym x_debit), c_is ∙ ap (λ row. Some row) (sym x_credit), amount, wrote ∙ ap (replaced account_row_key c') (sym first) ∙ sym second))
 passed_in t time accounts later d c d' c' (Err code) apart d_is c_is refused wrote =
-    let first : replaced account_row_key d' accounts ≡ accounts = rw refused.2 (replaced_same account_row_key d accounts (refound account_row_key t.debit_account_id d accounts d_is)) in
-    let second : replaced account_row_key c' accounts ≡ accounts = rw refused.3 (replaced_same account_row_key c accounts (refound account_row_key t.credit_account_id c accounts c_is)) in
-    let is : pair_code (option_map row_now (row_at accounts t.debit_account_id)) (option_map row_now (row_at accounts t.credit_account_id)) t time ≡ code = rw (d_is, c_is) refused.0 in
-    (is, refused.1, wrote ∙ ap (replaced account_row_key c') first ∙ second)
+    let first : replaced account_row_key d' accounts ≡ accounts = rw refused.1.0 (replaced_same account_row_key d accounts (refound account_row_key t.debit_account_id d accounts d_is)) in
+    let second : replaced account_row_key c' accounts ≡ accounts = rw refused.1.1 (replaced_same account_row_key c accounts (refound account_row_key t.credit_account_id c accounts c_is)) in
+    let is : pair_code (option_map row_now (row_at accounts t.debit_account_id)) (option_map row_now (row_at accounts t.credit_account_id)) t time ≡ code = rw (d_is, c_is) refused.0.0 in
+    ((is, refused.0.1), wrote ∙ ap (replaced account_row_key c') first ∙ second)
+
+pub settled_in : (p r : Transfer) (accounts later : List AccountRow) (d c d' c' : AccountRow) (x : Result Parties ℕ) → r.debit_account_id ≢ r.credit_account_id
+    → row_at accounts r.debit_account_id ≡ Some d → row_at accounts r.credit_account_id ≡ Some c → CanSettle p r d.debits → CanSettle p r c.credits → Settles p r d c x d' c' → later ≡ replaced account_row_key c' (replaced account_row_key d' accounts)
+    → SettlesIn p r accounts x later
+settled_in p r accounts later d c d' c' (Ok x) apart d_is c_is can_d can_c passes wrote = record {
+  debit = d;
+  credit = c;
+  debit_there = d_is;
+  credit_there = c_is;
+  judged = passes.0;
+  leaves = (
+    passes.1.0,
+    both_written r.debit_account_id r.credit_account_id (on_debits (released_and_gained closing_debit p r)) (on_credits (released_and_gained closing_credit p r)) d d' c c' accounts later (λ y. refl) (λ y. refl) apart d_is c_is (passes.1.1 can_d) (passes.1.2 can_c) wrote,
+  );
+}
+settled_in p r accounts later d c d' c' (Err code) apart d_is c_is can_d can_c refused wrote =
+    let first : replaced account_row_key d' accounts ≡ accounts = rw refused.1.0 (replaced_same account_row_key d accounts (refound account_row_key r.debit_account_id d accounts d_is)) in
+    let second : replaced account_row_key c' accounts ≡ accounts = rw refused.1.1 (replaced_same account_row_key c accounts (refound account_row_key r.credit_account_id c accounts c_is)) in
+    record { debit = d; credit = c; debit_there = d_is; credit_there = c_is; judged = refused.0; leaves = wrote ∙ ap (replaced account_row_key c') first ∙ second }
 
 -- both rows put back
 
@@ -67,15 +88,14 @@ can_two : (us : List Undo) (d c : AccountRow) (ts : Stored Timeout) → CanUnwin
 can_two [] d c ts can = (tt, (tt, tt))
 can_two (w ∷ us) d c ts can = (subst (CanUndo w) (sym (unwound_timeouts_two us d c ts)) can.0, can_two us d c ts can.1)
 
-pub noted_passed : {A : Type 0} (t : Transfer) (d c : AccountRow) (accounts later : List AccountRow) (trail grown : Vec Undo A) → grown.items ≡ trail.items ++ Account d ∷ Account c ∷ [] → vec_len grown ≡ vec_len trail + 2 → vec_capacity grown ≡ vec_capacity trail
-    → t.debit_account_id ≢ t.credit_account_id → row_at accounts t.debit_account_id ≡ Some d → row_at accounts t.credit_account_id ≡ Some c → later ≡ accounts_gained t accounts → IsNoted 2 accounts later trail grown
-noted_passed t d c accounts later trail grown pushed len cap apart d_is c_is gains =
-    let takes : AccountRow → AccountRow = on_debits (gained closing_debit t) in
-    let gives : AccountRow → AccountRow = on_credits (gained closing_credit t) in
-    let between = changed account_row_key t.debit_account_id takes accounts in
-    let still = found_still t.debit_account_id t.credit_account_id takes c accounts (λ y. refl) apart c_is in
-    let second : replaced account_row_key c later ≡ between = ap (replaced account_row_key c) gains ∙ replaced-changed account_row_key t.credit_account_id gives c between (λ y. refl) still in
-    let first : replaced account_row_key d between ≡ accounts = replaced-changed account_row_key t.debit_account_id takes d accounts (λ y. refl) d_is in
+pub noted_two : {A : Type 0} (d_id c_id : ℕ) (takes gives : AccountRow → AccountRow) (d c : AccountRow) (accounts later : List AccountRow) (trail grown : Vec Undo A) → ((y : AccountRow) → account_row_key (takes y) ≡ account_row_key y) → ((y : AccountRow) → account_row_key (gives y) ≡ account_row_key y)
+    → grown.items ≡ trail.items ++ Account d ∷ Account c ∷ [] → vec_len grown ≡ vec_len trail + 2 → vec_capacity grown ≡ vec_capacity trail
+    → d_id ≢ c_id → row_at accounts d_id ≡ Some d → row_at accounts c_id ≡ Some c → later ≡ changed account_row_key c_id gives (changed account_row_key d_id takes accounts) → IsNoted 2 accounts later trail grown
+noted_two d_id c_id takes gives d c accounts later trail grown same same' pushed len cap apart d_is c_is changes =
+    let between = changed account_row_key d_id takes accounts in
+    let still = found_still d_id c_id takes c accounts same apart c_is in
+    let second : replaced account_row_key c later ≡ between = ap (replaced account_row_key c) changes ∙ replaced-changed account_row_key c_id gives c between same' still in
+    let first : replaced account_row_key d between ≡ accounts = replaced-changed account_row_key d_id takes d accounts same d_is in
     record {
       undo_accounts = ap (λ us. unwound_accounts us later) pushed ∙ unwound_two trail.items (Account d) (Account c) later ∙ ap (unwound_accounts trail.items) (ap (replaced account_row_key d) second ∙ first);
       undo_transfers = λ rows. ap (λ us. unwound_transfers us rows) pushed ∙ unwound_transfers_two trail.items d c rows;
@@ -84,3 +104,8 @@ noted_passed t d c accounts later trail grown pushed len cap apart d_is c_is gai
       length = omega (arith, len);
       capacity = cap;
     }
+
+pub noted_passed : {A : Type 0} (t : Transfer) (d c : AccountRow) (accounts later : List AccountRow) (trail grown : Vec Undo A) → grown.items ≡ trail.items ++ Account d ∷ Account c ∷ [] → vec_len grown ≡ vec_len trail + 2 → vec_capacity grown ≡ vec_capacity trail
+    → t.debit_account_id ≢ t.credit_account_id → row_at accounts t.debit_account_id ≡ Some d → row_at accounts t.credit_account_id ≡ Some c → later ≡ accounts_gained t accounts → IsNoted 2 accounts later trail grown
+noted_passed t d c accounts later trail grown pushed len cap apart d_is c_is gains =
+    noted_two t.debit_account_id t.credit_account_id (on_debits (gained closing_debit t)) (on_credits (gained closing_credit t)) d c accounts later trail grown (λ y. refl) (λ y. refl) pushed len cap apart d_is c_is gains

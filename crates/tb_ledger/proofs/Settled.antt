@@ -4,8 +4,7 @@ use Rattle.std.proofs.lemmas.Bool.Decides.{nat_tests}
 use Rattle.tb_records.specs.declared.records.Account.{Account}
 use Rattle.tb_records.specs.declared.records.Transfer.{Transfer}
 use Rattle.tb_records.specs.Ordered.{put, replaced, changed, Each, Rising}
-use Rattle.tb_records.proofs.ByKey.{found_key, changed_found, changed_absent, find-changed, found-changed, find-map, each-back, each-map, each-put, each-find, map-put, map-changed, map-replaced}
-use Rattle.tb_ledger.specs.declared.tables.rows.Side.{Side}
+use Rattle.tb_records.proofs.ByKey.{found_key, changed_found, find-changed, find-map, each-back, each-map, each-put, each-find, map-put, map-changed, map-replaced}
 use Rattle.tb_ledger.specs.declared.tables.rows.AccountRow.{AccountRow}
 use Rattle.tb_ledger.specs.declared.tables.rows.TransferRow.{TransferRow}
 use Rattle.tb_ledger.specs.declared.tables.timeouts.Timeout.{Timeout}
@@ -29,32 +28,6 @@ use Rattle.tb_ledger.specs.Tables.{Stored}
 pub refound : {X : Type 0} (key : X → ℕ) (id : ℕ) (x : X) (xs : List X) → find (λ y. key y == id) xs ≡ Some x → find (λ y. key y == key x) xs ≡ Some x
 refound key id x xs found = subst (λ k. find (λ y. key y == k) xs ≡ Some x) (sym (found_key key id x xs found)) found
 
-module _ (id : ℕ) (f : Side → Side) (accounts : List AccountRow) (spare : ℕ) where
-  abbrev with_room : List AccountRow → Stored AccountRow
-  with_room rows = record { items = rows; spare = spare }
-
-  pub wrote_debits : (old : AccountRow) (s : Side) (later : Stored AccountRow) → find (λ a. a.created.id == id) accounts ≡ Some old → s ≡ f old.debits → later ≡ with_room (replaced account_row_key (record old { debits = s }) accounts) → later ≡ with_room (changed account_row_key id (on_debits f) accounts)
-  wrote_debits old s later found is wrote = wrote ∙ ap (λ s. with_room (replaced account_row_key (record old { debits = s }) accounts)) is ∙ ap with_room (sym (changed_found account_row_key id (on_debits f) old accounts (λ y. refl) found))
-
-  pub wrote_credits : (old : AccountRow) (s : Side) (later : Stored AccountRow) → find (λ a. a.created.id == id) accounts ≡ Some old → s ≡ f old.credits → later ≡ with_room (replaced account_row_key (record old { credits = s }) accounts) → later ≡ with_room (changed account_row_key id (on_credits f) accounts)
-  wrote_credits old s later found is wrote = wrote ∙ ap (λ s. with_room (replaced account_row_key (record old { credits = s }) accounts)) is ∙ ap with_room (sym (changed_found account_row_key id (on_credits f) old accounts (λ y. refl) found))
-
-pub none_debits : (id : ℕ) (f : Side → Side) (table : Stored AccountRow) → find (λ a. a.created.id == id) table.items ≡ None → table ≡ record table { items = changed account_row_key id (on_debits f) table.items }
-none_debits id f table none = let wrap : List AccountRow → Stored AccountRow = λ rows. record table { items = rows } in ap wrap (sym (changed_absent account_row_key id (on_debits f) table.items none))
-
-pub none_credits : (id : ℕ) (f : Side → Side) (table : Stored AccountRow) → find (λ a. a.created.id == id) table.items ≡ None → table ≡ record table { items = changed account_row_key id (on_credits f) table.items }
-none_credits id f table none = let wrap : List AccountRow → Stored AccountRow = λ rows. record table { items = rows } in ap wrap (sym (changed_absent account_row_key id (on_credits f) table.items none))
-
--- a change of debits leaves credits
-pub credits_before : (d : ℕ) (f : Side → Side) (c : ℕ) (z : AccountRow) (xs : List AccountRow) → find (λ a. a.created.id == c) (changed account_row_key d (on_debits f) xs) ≡ Some z → (y : AccountRow) × (find (λ a. a.created.id == c) xs ≡ Some y) × (z.credits ≡ y.credits)
-credits_before d f c z xs found =
-    let was = found-changed account_row_key d (on_debits f) c z xs (λ y. refl) found in
-    (was.0, was.1, ap (λ a. a.credits) was.2 ∙ same (account_row_key was.0 == d) was.0)
-  where
-    same : (b : Bool) (y : AccountRow) → (if b then on_debits f y else y).credits ≡ y.credits
-    same true y = refl
-    same false y = refl
-
 -- a change of one account leaves the row of another
 pub found_still : (d c : ℕ) (f : AccountRow → AccountRow) (z : AccountRow) (xs : List AccountRow) → ((y : AccountRow) → account_row_key (f y) ≡ account_row_key y) → d ≢ c → find (λ a. a.created.id == c) xs ≡ Some z → find (λ a. a.created.id == c) (changed account_row_key d f xs) ≡ Some z
 found_still d c f z xs same apart found =
@@ -63,10 +36,18 @@ found_still d c f z xs same apart found =
     let left : option_map (λ y. if account_row_key y == d then f y else y) (find (λ a. a.created.id == c) xs) ≡ Some z = rw (found, other) refl in
     find-changed account_row_key d f c xs same ∙ left
 
--- two changes, one after the other
-pub both_changed : (d c : ℕ) (f h : AccountRow → AccountRow) (before between after : Stored AccountRow) → between ≡ record before { items = changed account_row_key d f before.items } → after ≡ record between { items = changed account_row_key c h between.items } → (after.items ≡ changed account_row_key c h (changed account_row_key d f before.items)) × (after.spare ≡ before.spare)
-both_changed d c f h before between after first second =
-    (ap (λ v. v.items) second ∙ ap (λ v. changed account_row_key c h v.items) first, ap (λ v. v.spare) second ∙ ap (λ v. v.spare) first)
+-- a table by its rows and its room
+pub stored : {X : Type 0} (table : Stored X) (rows : List X) (room : ℕ) → table.items ≡ rows → table.spare ≡ room → table ≡ record { items = rows; spare = room }
+stored table rows room is left = λ i. record { items = is i; spare = left i }
+
+-- the rows of two accounts, written one after the other
+pub both_written : (d c : ℕ) (f h : AccountRow → AccountRow) (row left other other_left : AccountRow) (before after : List AccountRow) → ((y : AccountRow) → account_row_key (f y) ≡ account_row_key y) → ((y : AccountRow) → account_row_key (h y) ≡ account_row_key y) → d ≢ c
+    → find (λ a. a.created.id == d) before ≡ Some row → find (λ a. a.created.id == c) before ≡ Some other → left ≡ f row → other_left ≡ h other → after ≡ replaced account_row_key other_left (replaced account_row_key left before) → after ≡ changed account_row_key c h (changed account_row_key d f before)
+both_written d c f h row left other other_left before after same same' apart d_is c_is left_is other_is wrote =
+    let first : changed account_row_key d f before ≡ replaced account_row_key left before = changed_found account_row_key d f row before same d_is ∙ ap (λ y. replaced account_row_key y before) (sym left_is) in
+    let still = found_still d c f other before same apart c_is in
+    let second = changed_found account_row_key c h other (changed account_row_key d f before) same' still ∙ ap (λ y. replaced account_row_key y (changed account_row_key d f before)) (sym other_is) in
+    wrote ∙ ap (replaced account_row_key other_left) (sym first) ∙ sym second
 
 -- the order of accounts, by their rows
 pub rising_rows : (accounts : List AccountRow) → Rising account_key (map (λ a. a.created) accounts) → Rising account_row_key accounts

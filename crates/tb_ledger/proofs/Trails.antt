@@ -1,12 +1,12 @@
 -- The last change of a trail is undone first.
-use Rattle.std.proofs.Common.{◌≡◌, ◌==◌, ℕ, List, [], ◌∷◌, ◌++◌, find, Some, None, refl, sym, subst, ap, ◌∙◌}
+use Rattle.std.proofs.Common.{◌≡◌, ◌==◌, List, [], ◌∷◌, ◌++◌, find, Some, None, refl, sym, subst, ap, ◌∙◌}
 use Rattle.tb_records.specs.Ordered.{put, replaced, taken_out}
 use Rattle.tb_records.proofs.ByKey.{replaced-replaced, taken_out-put}
 use Rattle.tb_ledger.specs.declared.tables.rows.AccountRow.{AccountRow}
 use Rattle.tb_ledger.specs.declared.tables.rows.TransferRow.{TransferRow}
 use Rattle.tb_ledger.specs.declared.tables.timeouts.Timeout.{Timeout}
 use Rattle.tb_ledger.specs.declared.tables.trail.Undo.{Undo}
-use Rattle.tb_ledger.specs.declared.tables.trail.Undo.TheVariants.{Account, Transfer, AddedAccount, AddedTransfer}
+use Rattle.tb_ledger.specs.declared.tables.trail.Undo.TheVariants.{Transfer, AddedAccount, AddedTransfer}
 use Rattle.tb_ledger.specs.Kept.{account_row_key, transfer_row_key}
 use Rattle.tb_ledger.specs.Trail.{undo_account, undo_transfer, undo_timeouts, unwound_accounts, unwound_transfers, unwound_timeouts, CanUndo, CanUnwind}
 use Rattle.tb_ledger.specs.Tables.{Stored}
@@ -51,11 +51,7 @@ undone_timeouts us more u ts moved pushed back = ap (λ vs. unwound_timeouts vs 
 pub can_undone : (us more : List Undo) (u : Undo) (ts moved : Stored Timeout) → more ≡ us ++ u ∷ [] → undo_timeouts u moved ≡ ts → CanUndo u moved → CanUnwind us ts → CanUnwind more moved
 can_undone us more u ts moved pushed back can rest = subst (λ vs. CanUnwind vs moved) (sym pushed) (can_push us u moved can (subst (CanUnwind us) (sym back) rest))
 
--- a row changed, and put back
-pub undone_change : (us more : List Undo) (old new : AccountRow) (accounts later : List AccountRow) → more ≡ us ++ Account old ∷ [] → later ≡ replaced account_row_key new accounts → find (λ a. account_row_key a == account_row_key new) accounts ≡ Some old → unwound_accounts more later ≡ unwound_accounts us accounts
-undone_change us more old new accounts later pushed is found =
-    ap (λ vs. unwound_accounts vs later) pushed ∙ unwound_accounts_push us (Account old) later ∙ ap (unwound_accounts us) (ap (replaced account_row_key old) is ∙ replaced-replaced account_row_key new old accounts found)
-
+-- a row changed or added, and put back as it was
 pub undone_add : (us more : List Undo) (row : AccountRow) (accounts later : List AccountRow) → more ≡ us ++ AddedAccount row.created.id ∷ [] → later ≡ put account_row_key row accounts → find (λ a. account_row_key a == account_row_key row) accounts ≡ None → unwound_accounts more later ≡ unwound_accounts us accounts
 undone_add us more row accounts later pushed is fresh =
     ap (λ vs. unwound_accounts vs later) pushed ∙ unwound_accounts_push us (AddedAccount row.created.id) later ∙ ap (unwound_accounts us) (ap (taken_out account_row_key row.created.id) is ∙ taken_out-put account_row_key row accounts fresh)

@@ -1,11 +1,11 @@
 -- The verdicts, by the rows that are found.
-use Rattle.std.proofs.Common.{◌≡◌, ◌≢◌, ℕ, suc, zero, eqb, ◌==◌, ◌||◌, Bool, true, false, List, [], ◌∷◌, find, is_some, IsSome, Option, Some, None, option_map, if◌then◌else◌, refl, sym, ap, subst, ◌∙◌, arith, Bor, not, bit_or}
+use Rattle.std.proofs.Common.{◌≡◌, ◌≢◌, ℕ, suc, zero, eqb, ◌==◌, ◌||◌, ◌&&◌, Bool, true, false, List, [], ◌∷◌, find, is_some, IsSome, Option, Some, None, option_map, if◌then◌else◌, refl, sym, ap, ap₂, subst, ◌∙◌, arith, Bor, not, bit_or}
 use Rattle.std.proofs.lemmas.Bool.Decides.{nat_tests}
 use Rattle.std.specs.List.{list_any}
 use Rattle.std.specs.Option.{option_map_or, option_copied}
 use Rattle.tb_records.specs.declared.records.Account.{Account}
 use Rattle.tb_records.specs.declared.records.Transfer.{Transfer}
-use Rattle.tb_ledger.specs.Books.{Books, has, closed, resolves, pending, transfer_at, account_now, as_it_stands, state_of, debit, credit}
+use Rattle.tb_ledger.specs.Books.{Books, has, closed, posts, resolves, pending, transfer_at, account_now, as_it_stands, state_of, debit, credit}
 use Rattle.tb_ledger.specs.Verdicts.{recorded_transfer, Line, closed_lines, closed_at, named_lines, named_code, resolve_own_lines, resolve_code, transfer_verdict, first_of, first_code, account_own_lines, account_exists_lines, account_new_lines, account_verdict, transfer_own_lines, transfer_exists_lines, failed_lines, filled, filled_from, single_own_lines, pair_lines, amount_lines, balanced_amount, balanced_between, single_code, pair_code, id_code, closed_lines}
 use Rattle.tb_ledger.specs.declared.tables.rows.Rows.{Rows}
 use Rattle.tb_ledger.specs.Kept.{books_in, IsKept, row_now, row_closed, HasSums, HasState}
@@ -15,11 +15,13 @@ use Rattle.tb_ledger.proofs.Standing.{row_stands}
 use Rattle.std.proofs.lemmas.Nat.{and_or_self}
 use Rattle.tb_ledger.specs.declared.tables.rows.State.{State}
 use Rattle.tb_ledger.specs.declared.tables.rows.TransferRow.{TransferRow}
-use Rattle.tb_ledger.proofs.Accepted.{fail, found_pair, found_pending, found_stamped}
+use Rattle.tb_ledger.proofs.Accepted.{fail, found_from, found_pair, found_pending, found_stamped}
 use Rattle.tb_records.specs.Ordered.{Each}
 use Rattle.tb_ledger.specs.Sound.{ledger_at}
 use Rattle.tb_ledger.proofs.FoundPairs.{FoundPair}
 use Rattle.tb_ledger.specs.Found.{FoundPending}
+use Rattle.tb_ledger.specs.Exchanges.{row_at}
+use Rattle.tb_ledger.specs.Settlings.{closed_code}
 
 -- an id is found among ids
 pub any-found : {X : Type 0} (p : X → Bool) (xs : List X) → list_any p xs ≡ is_some (find p xs)
@@ -63,11 +65,6 @@ id_there B t e own found = rw found (sym (second_code _ _ (first_of (failed_line
 pub id_free : (B : Books) (t : Transfer) → first_of (transfer_own_lines t) ≡ 0 → transfer_at B t.id ≡ None
     → first_of (failed_lines B.failed t) ≡ id_code B t
 id_free B t own found = rw (own, found) (sym (only (first_of (failed_lines B.failed t))))
-
--- a transfer between two accounts
-pub two_accounts : (B : Books) (t : Transfer) (time : ℕ) (d c : Account) → first_of (single_own_lines t) ≡ 0 → account_now B t.debit_account_id ≡ Some d → account_now B t.credit_account_id ≡ Some c
-    → single_code B t time ≡ pair_code (Some d) (Some c) t time
-two_accounts B t time d c own d_is c_is = rw (own, d_is, c_is) (only (pair_code (Some d) (Some c) t time))
 
 -- two accounts that can't exchange the amount, and two that may
 pub pair_refused : (d c : Account) (t : Transfer) (time pair : ℕ) → pair ≡ first_of (pair_lines d c t) → (pair ≡ 0 → ⊥) → pair_code (Some d) (Some c) t time ≡ pair
@@ -166,6 +163,15 @@ named_row rows kept id p found t named closed_code named_is closed_is =
     let same : named ≡ first_of (named_lines t p.recorded (state_of B p.recorded)) = named_is ∙ named_same t p.recorded p.state (state_of B p.recorded) has.state_is in
     ap (λ n. first_code (n ∷ first_of (closed_lines t (closed_at B p.recorded.debit_account_id) (closed_at B p.recorded.credit_account_id)) ∷ [])) (sym same) ∙ ap (λ n. first_code (named ∷ n ∷ [])) (sym closed_is)
 
+-- a post or void that fits its pending transfer has found it
+pub pending_fits : {A : Type 0} (rows : Rows A) → IsKept rows → (p : TransferRow) (t : Transfer) → find (λ row. row.recorded.id == t.pending_id) rows.transfers.items ≡ Some p → resolves t ≡ true → (own named : ℕ)
+    → own ≡ first_of (resolve_own_lines t) → own ≡ 0 → named ≡ first_of (named_lines t p.recorded p.state) → named ≡ 0 → FoundPending (books_in rows) (filled_from p.recorded t)
+pending_fits rows kept p t found resolving own named own_is no_own named_is fits =
+    let B = books_in rows in
+    let has = each-find (HasState rows.transfers.items rows.time) (λ row. row.recorded.id == t.pending_id) p rows.transfers.items kept.kept.states found in
+    let stands = transfer_stands rows t.pending_id ∙ ap (option_map (λ t. t.recorded)) found in
+    found_from B t p.recorded stands (sym own_is ∙ no_own) (sym (named_is ∙ named_same t p.recorded p.state (state_of B p.recorded) has.state_is) ∙ fits)
+
 pub pair_first : (x y : ℕ) → (x ≡ 0 → ⊥) → first_code (x ∷ y ∷ []) ≡ x
 pair_first x y refused = let e : (x == 0) ≡ false = grind (arith, nat_tests) in rw e refl
 
@@ -209,6 +215,18 @@ filled_pending_id B t = by (resolves t) (transfer_at B t.pending_id)
     by true (Some p) = refl
     by false o = refl
 
+-- and whether it posts
+pub filled_posts : (B : Books) (t : Transfer) → posts (filled B t) ≡ posts t
+filled_posts B t = by (resolves t) (transfer_at B t.pending_id)
+  where
+    by : (b : Bool) (o : Option Transfer) → posts (if b then option_map_or (λ p. filled_from p t) o t else t) ≡ posts t
+    by true None = refl
+    by true (Some p) = refl
+    by false o = refl
+
+pub same_closed_code : (B : Books) (r t p : Transfer) → posts r ≡ posts t → closed_code B r p ≡ closed_code B t p
+same_closed_code B r t p same = ap (λ b. first_of ((65, b && closed_at B p.debit_account_id) ∷ (66, b && closed_at B p.credit_account_id) ∷ [])) same
+
 -- what the record of an accepted transfer found
 pub recorded_pair : (B : Books) (t : Transfer) (time amount : ℕ) → resolves t ≡ false → transfer_verdict B t time ≡ 0
     → amount ≡ balanced_between (account_now B t.debit_account_id) (account_now B t.credit_account_id) t → FoundPair B (record t { amount = amount; timestamp = time })
@@ -224,8 +242,15 @@ own_refused B t time code is refused =
     let here : single_code B t time ≡ first_of (single_own_lines t) = rw some refl in
     here ∙ sym is
 
-pub pair_left : (B : Books) (t : Transfer) (time : ℕ) → first_of (single_own_lines t) ≡ 0 → single_code B t time ≡ pair_code (account_now B t.debit_account_id) (account_now B t.credit_account_id) t time
+pair_left : (B : Books) (t : Transfer) (time : ℕ) → first_of (single_own_lines t) ≡ 0 → single_code B t time ≡ pair_code (account_now B t.debit_account_id) (account_now B t.credit_account_id) t time
 pair_left B t time own = rw own (only (pair_code (account_now B t.debit_account_id) (account_now B t.credit_account_id) t time))
+
+-- its verdict, by the rows of its accounts
+pub verdict_by_rows : {A : Type 0} (rows : Rows A) → IsKept rows → (t : Transfer) (time : ℕ) → id_code (books_in rows) t ≡ 0 → resolves t ≡ false → first_of (single_own_lines t) ≡ 0
+    → transfer_verdict (books_in rows) t time ≡ pair_code (option_map row_now (row_at rows.accounts.items t.debit_account_id)) (option_map row_now (row_at rows.accounts.items t.credit_account_id)) t time
+verdict_by_rows rows kept t time free single own =
+    let B = books_in rows in
+    single_verdict B t time free single ∙ pair_left B t time own ∙ ap₂ (λ d c. pair_code d c t time) (account_stands rows kept t.debit_account_id) (account_stands rows kept t.credit_account_id)
 
 pub recorded_single : (B : Books) (t : Transfer) (time amount : ℕ) → resolves t ≡ false → amount ≡ balanced_between (account_now B t.debit_account_id) (account_now B t.credit_account_id) t
     → recorded_transfer B t time ≡ record t { amount = amount; timestamp = time }

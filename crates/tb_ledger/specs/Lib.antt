@@ -13,5 +13,6 @@ pub mod Kept
 pub mod Timeouts
 pub mod Found
 pub mod Exchanges
+pub mod Settlings
 pub mod Trail
 pub mod Lookups

@@ -1,12 +1,13 @@
 -- What a table keeps in a tree.
-use Rattle.std.specs.Prelude.{ℕ, ◌≡◌, ◌≤◌, ◌==◌, find, List, [], Option, Some}
-use Rattle.std.specs.Fn.{Mut, CalledAtPairMut}
+use Rattle.std.specs.Prelude.{ℕ, ◌≡◌, ◌≢◌, ◌<◌, ◌≤◌, ◌==◌, find, map, true, List, [], ◌∷◌, Option, Some, if◌then◌else◌}
+use Rattle.std.specs.Fn.{Mut, CalledAtMut, CalledAtPairMut}
 use denote.Ref.{MutBor}
-use Rattle.std.specs.Option.{option_map_or}
+use Rattle.std.specs.Option.{is_some, option_map_or}
 use Rattle.std.specs.Map.{values_of}
 use Rattle.tb_records.specs.Ordered.{replaced, Each, Rising}
 use Rattle.avl_tree.specs.Map.{Map, entries}
 use Rattle.avl_tree.specs.Search.{least}
+use Rattle.tb_ledger.specs.declared.tables.known.Known.{Known}
 
 -- of a map that is made once there is something to keep: its pairs, its rows, and the number of spare nodes
 abbrev pub pairs_in : {K V : Type 0} → Option (Map K V) → List (K × V)
@@ -28,12 +29,44 @@ pub record IsTable {V : Type 0} (key : V → ℕ) (es : List (ℕ × V)) : Type 
   pub own : Each (λ e. key e.1 ≡ e.0) es
   pub rising : Rising key (values_of es)
 
+-- by what a table knows of its keys, k may be one: it is at most the top, and where ids were sought, unlike each that was not found (0 stands for no id)
+pub record MayBeKey (known : Known) (k : ℕ) : Type 0 where
+  pub at_most : k ≤ known.top
+  pub unlike : known.sought ≡ true → Each (λ id. 0 < id → k ≢ id) known.absent
+
+-- a table, and what it knows of its keys
+pub record IsKnown {V : Type 0} (key : V → ℕ) (known : Known) (es : List (ℕ × V)) : Type 0 where
+  pub table : IsTable key es
+  pub may : Each (λ row. MayBeKey known (key row)) (values_of es)
+
+-- the ids that were not found, and 0 for each other
+abbrev pub unfound : {V : Type 0} → List ℕ → List (Option V) → List ℕ
+unfound [] rows = []
+unfound (id ∷ ids) [] = []
+unfound (id ∷ ids) (row ∷ rows) = (if is_some row then 0 else id) ∷ unfound ids rows
+
+-- with 0 for an id
+abbrev pub without_id : ℕ → List ℕ → List ℕ
+without_id id ids = map (λ x. if x == id then 0 else x) ids
+
 -- a search among so many rows met so many nodes: no more than a balanced tree of them is high, and none only where there is no row
 pub record IsShortSearch (rows visits : ℕ) : Type 0 where
   pub height : ℕ
   pub at_most : visits ≤ height
   pub enough : least height ≤ rows
   pub none : visits ≡ 0 → rows ≡ 0
+
+-- a call at a row leaves its key
+abbrev pub KeepsKey : {F V R : Type 0} → (V → ℕ) → Mut F (MutBor V × Unit {0}) (R × (MutBor V × Unit {0})) → Type 0
+KeepsKey {F} {V} {R} key c = (f : F) (x : V) (r : R) (f' : F) (x' : V) → CalledAtMut c f x r f' x' → key x' ≡ key x
+
+-- a call of f at the row of a key gave r, left f', and left another row there
+pub record ChangedRow {F V R : Type 0} (key : V → ℕ) (c : Mut F (MutBor V × Unit {0}) (R × (MutBor V × Unit {0}))) (id : ℕ) (rows : List V) (f : F) (r : R) (f' : F) (later : List V) : Type 0 where
+  pub row : V
+  pub left : V
+  pub found : find (λ x. key x == id) rows ≡ Some row
+  pub called : CalledAtMut c f row r f' left
+  pub written : later ≡ replaced key left rows
 
 -- a call at two rows leaves the keys of both
 abbrev pub KeepsKeys : {F V R : Type 0} → (V → ℕ) → Mut F (MutBor V × (MutBor V × Unit {0})) (R × (MutBor V × (MutBor V × Unit {0}))) → Type 0

@@ -14,6 +14,16 @@ use crate::tables::trail::{TRAIL_PER_EVENT, Undo};
 use std::alloc::Allocator;
 use tb_records::EventResult;
 
+/// Looks ahead before a chain of `n` events that has one whose index is a multiple of eight.
+fn look_ahead<E: Event, A: Allocator + Clone>(rows: &mut Rows<A>, rest: &[E], index: u32, n: usize)
+    ensures { rows.new ≡ rows.old }
+{
+    let to_next = (8 - index % 8) % 8;
+    if (to_next as usize) < n {
+        E::look_ahead(rest, rows);
+    }
+}
+
 /// Runs the chains of a batch, whose first event has the timestamp `time`. Each event that isn't accepted adds its result.
 pub(crate) fn run_batch<E: Event, A: Allocator + Clone, R: Allocator>(
     rows: &mut Rows<A>,
@@ -42,6 +52,7 @@ pub(crate) fn run_batch<E: Event, A: Allocator + Clone, R: Allocator>(
     let mut stamp = time;
     while !rest.is_empty() {
         let (block, later) = rest.split_at(block_length(rest));
+        look_ahead(rows, rest, index, block.len());
         run_block(rows, trail, results, block, index, stamp);
         index += block.len() as u32;
         stamp += block.len() as u64;

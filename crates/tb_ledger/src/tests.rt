@@ -157,41 +157,28 @@ fn time_at(rt: &impl Abort, run: &Run, moment: u64, n: usize) -> u64
     moment.max(run.ledger.time() + (n as u64).max(1))
 }
 
-/// Accounts in one request.
-fn create(
-    rt: &impl Abort,
-    run: &mut Run,
-    events: &[Account],
-    want: &[(u32, u32)],
-) -> Result<(), Fail> {
+/// Accounts in one request. As with each of these calls, want of memory ends the test there and then, so that no row has
+/// to let its ledger go.
+fn create(rt: &impl Abort, run: &mut Run, events: &[Account], want: &[(u32, u32)]) {
     let t = time_at(rt, run, 10, events.len());
-    let results = run.ledger.create_accounts(run.alloc, t, events)?;
-    expect_results(rt, &results, want);
-    Ok(())
+    match run.ledger.create_accounts(run.alloc, t, events) {
+        Ok(results) => expect_results(rt, &results, want),
+        Err(_) => panic!(rt; "no memory for accounts"),
+    }
 }
 
 /// A request of transfers at a moment.
-fn ask_at(
-    rt: &impl Abort,
-    run: &mut Run,
-    moment: u64,
-    events: &[Transfer],
-    want: &[(u32, u32)],
-) -> Result<(), Fail> {
+fn ask_at(rt: &impl Abort, run: &mut Run, moment: u64, events: &[Transfer], want: &[(u32, u32)]) {
     let t = time_at(rt, run, moment, events.len());
-    let results = run.ledger.create_transfers(run.alloc, t, events)?;
-    expect_results(rt, &results, want);
-    Ok(())
+    match run.ledger.create_transfers(run.alloc, t, events) {
+        Ok(results) => expect_results(rt, &results, want),
+        Err(_) => panic!(rt; "no memory for transfers"),
+    }
 }
 
 /// A request of transfers as soon as it may come.
-fn ask(
-    rt: &impl Abort,
-    run: &mut Run,
-    events: &[Transfer],
-    want: &[(u32, u32)],
-) -> Result<(), Fail> {
-    ask_at(rt, run, 10, events, want)
+fn ask(rt: &impl Abort, run: &mut Run, events: &[Transfer], want: &[(u32, u32)]) {
+    ask_at(rt, run, 10, events, want);
 }
 
 /// A request of one transfer at a moment, with the code that it gets.
@@ -201,25 +188,20 @@ fn ask_one(
     moment: u64,
     event: Transfer,
     want: CreateTransferResult,
-) -> Result<(), Fail> {
+) {
     let code = want as u32;
     if code == 0 {
-        ask_at(rt, run, moment, &[event], &[])
+        ask_at(rt, run, moment, &[event], &[]);
     } else {
-        ask_at(rt, run, moment, &[event], &[(0, code)])
+        ask_at(rt, run, moment, &[event], &[(0, code)]);
     }
 }
 
 /// Each transfer in a request of its own, with the code that it gets.
-fn ask_each(
-    rt: &impl Abort,
-    run: &mut Run,
-    rows: &[(Transfer, CreateTransferResult)],
-) -> Result<(), Fail> {
+fn ask_each(rt: &impl Abort, run: &mut Run, rows: &[(Transfer, CreateTransferResult)]) {
     for (event, want) in rows {
-        ask_one(rt, run, 10, *event, *want)?;
+        ask_one(rt, run, 10, *event, *want);
     }
-    Ok(())
 }
 
 /// Moves the time on to `t`, as a lookup's entry does.
@@ -260,17 +242,48 @@ fn expect_timestamp(rt: &impl Abort, run: &Run, id: u128, timestamp: u64) {
     }
 }
 
+/// Looks accounts up, and compares the records that are found.
+fn expect_accounts(rt: &impl Abort, run: &Run, ids: &[u128], want: &[Account]) {
+    match run.ledger.lookup_accounts(run.alloc, ids) {
+        Ok(found) => {
+            assert!(rt; found.len() == want.len(), "{} accounts", found.len());
+            for (account, due) in found.iter().zip(want.iter()) {
+                assert!(rt; *account == *due, "account {}", due.id);
+            }
+        }
+        Err(_) => panic!(rt; "no memory for accounts"),
+    }
+}
+
+/// Looks transfers up, and compares the records that are found.
+fn expect_transfers(rt: &impl Abort, run: &Run, ids: &[u128], want: &[Transfer]) {
+    match run.ledger.lookup_transfers(run.alloc, ids) {
+        Ok(found) => {
+            assert!(rt; found.len() == want.len(), "{} transfers", found.len());
+            for (transfer, due) in found.iter().zip(want.iter()) {
+                assert!(rt; *transfer == *due, "transfer {}", due.id);
+            }
+        }
+        Err(_) => panic!(rt; "no memory for transfers"),
+    }
+}
+
 fn expect_no_transfer(rt: &impl Abort, run: &Run, id: u128) {
     assert!(rt; run.ledger.transfer(id).is_none(), "transfer {id}");
 }
 
-/// The time 10, then accounts 1 and 2.
-fn start(rt: &impl Abort, alloc: Global, profile: Profile) -> Result<Run, Fail> {
-    let mut run = Run {
+fn empty(alloc: Global, profile: Profile) -> Run {
+    Run {
         alloc,
         ledger: Ledger::new_in(alloc, profile),
-    };
+    }
+}
+
+/// The time 10, then accounts 1 and 2.
+fn start(rt: &impl Abort, alloc: Global, profile: Profile) -> Run {
+    let mut run = empty(alloc, profile);
+    assert!(rt; run.ledger.time() < 10);
     run.ledger.expire(10);
-    create(rt, &mut run, &[account(1), account(2)], &[])?;
-    Ok(run)
+    create(rt, &mut run, &[account(1), account(2)], &[]);
+    run
 }

@@ -33,6 +33,10 @@ pub trait Event: Copy {
     fn linked(&self) -> bool
         ensures { result ≡ kind.linked self.now };
 
+    /// Looks for the ids of the first eight events by turns, where there are so many. The rows stay.
+    fn look_ahead<A: Allocator + Clone>(events: &[Self], rows: &mut Rows<A>)
+        ensures { rows.new ≡ rows.old };
+
     /// Judges the event as of its timestamp, and records it where the verdict is 0. The trail leads back to before it.
     fn take<A: Allocator + Clone>(
         &self,
@@ -92,6 +96,12 @@ impl Event for Account {
         self.is_linked()
     }
 
+    // accounts are few: their ids are looked for one at a time
+    fn look_ahead<A: Allocator + Clone>(events: &[Account], rows: &mut Rows<A>) {
+        let _ = events.len();
+        let _ = rows.time;
+    }
+
     fn take<A: Allocator + Clone>(
         &self,
         rows: &mut Rows<A>,
@@ -115,6 +125,12 @@ impl Event for Account {
     ghost open_is_new = { λ failed a. tt };
 }
 
+/// The ids of eight transfers.
+fn ids_of(eight: &[Transfer; 8]) -> [u128; 8] {
+    let [a, b, c, d, e, f, g, h] = eight;
+    [a.id, b.id, c.id, d.id, e.id, f.id, g.id, h.id]
+}
+
 impl Event for Transfer {
     ghost use Rattle.std.specs.List.{list_any};
     ghost use Rattle.std.specs.Option.{option_map_or};
@@ -134,6 +150,12 @@ impl Event for Transfer {
 
     fn linked(&self) -> bool {
         self.is_linked()
+    }
+
+    fn look_ahead<A: Allocator + Clone>(events: &[Transfer], rows: &mut Rows<A>) {
+        if let Some((eight, _)) = events.split_first_chunk::<8>() {
+            rows.transfers.seek(&ids_of(eight));
+        }
     }
 
     fn take<A: Allocator + Clone>(

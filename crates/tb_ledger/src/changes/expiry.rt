@@ -1,8 +1,8 @@
 //! Pending transfers whose timeout has passed.
-ghost use Rattle.std.specs.Prelude.{◌≡◌, ℕ, ◌+◌, ◌-◌, ◌<◌, ◌≤◌, ◌==◌, true, false, find, if◌then◌else◌, Some, None, map};
-ghost use Rattle.tb_records.specs.Ordered.{replaced, changed, Each, Rising};
+ghost use Rattle.std.specs.Prelude.{◌≡◌, ◌≢◌, ◌≤◌, ◌==◌, find, Some, IsSome, map};
+ghost use Rattle.tb_records.specs.Ordered.{replaced, Rising};
 ghost use Rattle.tb_ledger.specs.Books.{closing_debit, closing_credit};
-ghost use Rattle.tb_ledger.specs.Kept.{books_in, IsKept, AreKept, HasSums, IsIndex, IsTimeout, account_row_key, transfer_row_key, row_holds, on_debits, on_credits, released, settled, accounts_released};
+ghost use Rattle.tb_ledger.specs.Kept.{books_in, IsKept, AreKept, IsIndex, IsTimeout, transfer_row_key, on_debits, on_credits, released, settled, accounts_released};
 ghost use Rattle.tb_ledger.specs.declared.tables.rows.State.TheVariants.{Expired};
 
 use crate::changes::sides::release_side;
@@ -12,73 +12,61 @@ use crate::tables::timeouts::Timeout;
 use std::alloc::Allocator;
 use tb_records::{Transfer, TransferFlag};
 
-fn release_debit<A: Allocator + Clone>(accounts: &mut Table<AccountRow, A>, p: &Transfer)
-    requires enough { (a : AccountRow) → find (λ a. a.created.id == p.now.debit_account_id) accounts.old.items ≡ Some a → p.now.amount ≤ a.debits.pending }
-    ensures { accounts.new ≡ record accounts.old { items = changed account_row_key p.now.debit_account_id (on_debits (released closing_debit p.now)) accounts.old.items } }
+/// Takes what a pending transfer holds from the rows of its accounts.
+fn release_rows(debit: &mut AccountRow, credit: &mut AccountRow, p: &Transfer)
+    ensures debit { debit.new ≡ on_debits (released closing_debit p.now) debit.old }
+    ensures credit { credit.new ≡ on_credits (released closing_credit p.now) credit.old }
 {
-    match accounts.get(p.debit_account_id) {
-        Some(row) => {
-            let old = *row;
-            let debits = release_side(old.debits, p, p.has(TransferFlag::ClosingDebit));
-            accounts.replace(AccountRow {
-                created: old.created,
-                debits,
-                credits: old.credits,
-            });
-        }
-        None => {}
+    debit.debits = release_side(debit.debits, p, p.has(TransferFlag::ClosingDebit));
+    credit.credits = release_side(credit.credits, p, p.has(TransferFlag::ClosingCredit));
+}
+
+/// Takes what a pending transfer holds from both of its accounts, where their rows stand.
+fn release<A: Allocator + Clone>(accounts: &mut Table<AccountRow, A>, p: &Transfer)
+    requires apart { p.now.debit_account_id ≢ p.now.credit_account_id }
+    requires debit { IsSome (find (λ a. a.created.id == p.now.debit_account_id) accounts.old.items) }
+    requires credit { IsSome (find (λ a. a.created.id == p.now.credit_account_id) accounts.old.items) }
+    ensures { accounts.new ≡ record accounts.old { items = accounts_released p.now accounts.old.items } }
+{
+    let released = accounts.update_two(
+        p.debit_account_id,
+        p.credit_account_id,
+        &mut |debit: &mut AccountRow, credit: &mut AccountRow| release_rows(debit, credit, p),
+    );
+    match released {
+        Some(()) => {}
+        None => unreachable!(),
     }
 }
 
-fn release_credit<A: Allocator + Clone>(accounts: &mut Table<AccountRow, A>, p: &Transfer)
-    requires enough { (a : AccountRow) → find (λ a. a.created.id == p.now.credit_account_id) accounts.old.items ≡ Some a → p.now.amount ≤ a.credits.pending }
-    ensures { accounts.new ≡ record accounts.old { items = changed account_row_key p.now.credit_account_id (on_credits (released closing_credit p.now)) accounts.old.items } }
+/// Marks the row of a transfer as expired. The row from before is large, so it goes into a place of its own, and not through
+/// the search that calls this.
+fn expire_row(row: &mut TransferRow, before: &mut Option<TransferRow>)
+    ensures before { before.new ≡ Some row.old }
+    ensures row { row.new ≡ settled Expired row.old }
 {
-    match accounts.get(p.credit_account_id) {
-        Some(row) => {
-            let old = *row;
-            let credits = release_side(old.credits, p, p.has(TransferFlag::ClosingCredit));
-            accounts.replace(AccountRow {
-                created: old.created,
-                debits: old.debits,
-                credits,
-            });
-        }
-        None => {}
-    }
+    *before = Some(*row);
+    row.state = State::Expired;
 }
 
-/// Marks a pending transfer that holds as expired, and takes its amount from both accounts.
-fn release<A: Allocator + Clone>(rows: &mut Rows<A>, p: &TransferRow)
-    requires rising { Rising account_row_key rows.old.accounts.items }
-    requires sums { Each (HasSums rows.old.transfers.items) rows.old.accounts.items }
-    requires found { find (λ q. q.recorded.id == p.now.recorded.id) rows.old.transfers.items ≡ Some p.now }
-    requires holds { row_holds p.now ≡ true }
-    ensures rising { Rising account_row_key rows.new.accounts.items }
-    ensures sums { Each (HasSums rows.new.transfers.items) rows.new.accounts.items }
-    ensures accounts { rows.new.accounts ≡ record rows.old.accounts { items = accounts_released p.now.recorded rows.old.accounts.items } }
-    ensures transfers { rows.new.transfers ≡ record rows.old.transfers { items = replaced transfer_row_key (settled Expired p.now) rows.old.transfers.items } }
-    ensures transfers_rise { Rising transfer_row_key rows.old.transfers.items }
-    ensures failed { rows.new.failed ≡ rows.old.failed }
-    ensures keeps_failed { rows.new.keeps_failed ≡ rows.old.keeps_failed }
-    ensures timeouts { rows.new.timeouts ≡ rows.old.timeouts }
-    ensures time { rows.new.time ≡ rows.old.time }
+/// Marks the transfer that a timeout names as expired, where its row stands, and answers the row from before.
+fn mark_expired<A: Allocator + Clone>(
+    transfers: &mut Table<TransferRow, A>,
+    due: Timeout,
+) -> TransferRow
+    requires { IsTimeout transfers.old.items due }
+    ensures found { find (λ t. t.recorded.id == due.id) transfers.old.items ≡ Some result }
+    ensures transfers { transfers.new ≡ record transfers.old { items = replaced transfer_row_key (settled Expired result) transfers.old.items } }
+    ensures rising { Rising transfer_row_key transfers.old.items }
 {
-    release_debit(&mut rows.accounts, &p.recorded);
-    release_credit(&mut rows.accounts, &p.recorded);
-    rows.transfers.replace(TransferRow {
-        recorded: p.recorded,
-        state: State::Expired,
-    });
-}
-
-/// The row of a transfer that a timeout names.
-fn waiting<A: Allocator + Clone>(rows: &Rows<A>, due: Timeout) -> TransferRow
-    requires { IsTimeout rows.now.transfers.items due }
-    ensures found { find (λ t. t.recorded.id == due.id) rows.now.transfers.items ≡ Some result }
-{
-    match rows.transfers.get(due.id) {
-        Some(row) => *row,
+    transfers.ordered();
+    let mut before = None;
+    let marked = transfers.update(
+        due.id,
+        &mut |row: &mut TransferRow| { expire_row(row, &mut before) },
+    );
+    match marked.and(before) {
+        Some(row) => row,
         None => unreachable!(),
     }
 }
@@ -100,8 +88,8 @@ fn release_due<A: Allocator + Clone>(rows: &mut Rows<A>, time: u64)
 {
     rows.timeouts.ordered();
     while let Some(due) = rows.timeouts.pop_due(time) {
-        let p = waiting(rows, due);
-        release(rows, &p);
+        let p = mark_expired(&mut rows.transfers, due);
+        release(&mut rows.accounts, &p.recorded);
     }
 }
 

@@ -1,11 +1,14 @@
 //! A post or void: the pending transfer that it names is closed, and the sums of both accounts settled.
-ghost use Rattle.std.specs.Prelude.{◌≡◌, ◌+◌, ◌<◌, ◌≤◌, ◌==◌, true, vec_len, vec_capacity, find, Some, None};
+ghost use Rattle.std.specs.Prelude.{◌≡◌, ◌≢◌, ◌+◌, ◌<◌, ◌≤◌, ◌==◌, true, vec_len, vec_capacity, find, Some, None, IsSome};
+ghost use Rattle.std.specs.Option.{ok_or};
 ghost use Rattle.tb_ledger.specs.Batches.{transfer_events};
-ghost use Rattle.tb_ledger.specs.Books.{resolves, closing_debit, closing_credit, transfer_at};
-ghost use Rattle.tb_ledger.specs.Kept.{books_in, IsKept, account_row_key, transfer_row_key, times_out, unlisted, IsListed, on_debits, on_credits, released_and_gained, settled, state_given_by};
-ghost use Rattle.tb_ledger.specs.Trail.{IsStep, IsNoted, IsMarked};
-ghost use Rattle.tb_ledger.specs.Verdicts.{id_code, int_max};
-ghost use Rattle.tb_records.specs.Ordered.{put, replaced, changed, Rising};
+ghost use Rattle.tb_ledger.specs.Books.{resolves, transfer_at};
+ghost use Rattle.tb_ledger.specs.Exchanges.{row_at};
+ghost use Rattle.tb_ledger.specs.Kept.{books_in, IsKept, transfer_row_key, times_out, unlisted, IsListed, settled, state_given_by};
+ghost use Rattle.tb_ledger.specs.Trail.{IsStep, IsMarked};
+ghost use Rattle.tb_ledger.specs.Settlings.{closed_code, CanSettle, Settles, SettlesIn};
+ghost use Rattle.tb_ledger.specs.Verdicts.{id_code};
+ghost use Rattle.tb_records.specs.Ordered.{put, replaced, Rising};
 ghost use Rattle.tb_ledger.specs.Sound.{transfer_key};
 ghost use Rattle.tb_ledger.specs.Timeouts.{AreTimeouts};
 ghost use Rattle.tb_ledger.specs.Found.{FoundPending};
@@ -17,7 +20,7 @@ use crate::tables::map::Table;
 use crate::tables::rows::{AccountRow, Rows, State, TransferRow};
 use crate::tables::timeouts::Timeouts;
 use crate::tables::trail::{TRAIL_PER_EVENT, Undo};
-use crate::verdicts::resolving::{Resolution, judge_resolving};
+use crate::verdicts::resolving::{Resolution, closed_code, judge_resolving};
 use std::alloc::Allocator;
 use tb_records::{Transfer, TransferFlag};
 
@@ -44,31 +47,24 @@ pub(crate) fn take_resolving<A: Allocator + Clone>(
         Ok(found) => {
             let Resolution {
                 pending,
-                debit,
-                credit,
                 mut record,
             } = found;
             let pending = *pending;
-            let debit = *debit;
-            let credit = *credit;
             record.timestamp = time;
-            settle(rows, trail, &pending, &debit, &credit, &record);
-            0
+            settle(rows, trail, &pending, &record)
         }
         Err(code) => code,
     }
 }
 
-/// Records a post or void, filled and stamped, of the pending transfer `p`. The rows of its accounts, as they stand before it,
-/// are handed in.
+/// Judges a post or void, filled and stamped, of the pending transfer `p` by the accounts, and records it where it passes: a code,
+/// or 0. A void passes closed accounts too.
 fn settle<A: Allocator + Clone>(
     rows: &mut Rows<A>,
     trail: &mut Vec<Undo, A>,
     p: &TransferRow,
-    debit: &AccountRow,
-    credit: &AccountRow,
     r: &Transfer,
-)
+) -> u32
     requires kept { IsKept rows.old }
     requires room { 0 < rows.old.transfers.spare }
     requires trail_room { vec_len trail.old + TRAIL_PER_EVENT ≤ vec_capacity trail.old }
@@ -76,95 +72,103 @@ fn settle<A: Allocator + Clone>(
     requires found { find (λ row. row.recorded.id == r.now.pending_id) rows.old.transfers.items ≡ Some p.now }
     requires is_resolver { resolves r.now ≡ true }
     requires resolves { FoundPending (books_in rows.old) r.now }
-    requires debit { find (λ a. a.created.id == p.now.recorded.debit_account_id) rows.old.accounts.items ≡ Some debit.now }
-    requires credit { find (λ a. a.created.id == p.now.recorded.credit_account_id) rows.old.accounts.items ≡ Some credit.now }
+    ensures code { result ≡ closed_code (books_in rows.old) r.now p.now.recorded }
     ensures kept { IsKept rows.new }
-    ensures books { books_in rows.new ≡ record (books_in rows.old) { transfers = put transfer_key r.now (books_in rows.old).transfers } }
+    ensures books { result ≡ 0 → books_in rows.new ≡ record (books_in rows.old) { transfers = put transfer_key r.now (books_in rows.old).transfers } }
     ensures step { IsStep TRAIL_PER_EVENT rows.old rows.new trail.old trail.new }
-    ensures accounts_room { rows.new.accounts.spare ≡ rows.old.accounts.spare }
-    ensures transfers_room { rows.new.transfers.spare + 1 ≡ rows.old.transfers.spare }
+    ensures transfers_room { rows.old.transfers.spare ≤ rows.new.transfers.spare + 1 }
     ensures timeouts_room { rows.old.timeouts.spare ≤ rows.new.timeouts.spare + 1 }
 {
-    settle_debit(&mut rows.accounts, trail, debit, &p.recorded, r);
-    settle_credit(&mut rows.accounts, trail, credit, &p.recorded, r);
-    let state = state_given(r);
-    close_row(&mut rows.transfers, &mut rows.timeouts, trail, p, state);
-    let row = row_of(*r);
-    add_row(&mut rows.transfers, &mut rows.timeouts, trail, &row);
+    match settle_accounts(&mut rows.accounts, &p.recorded, r) {
+        Ok(before) => {
+            trail.push_reserved(Undo::Account(before.debit));
+            trail.push_reserved(Undo::Account(before.credit));
+            let state = state_given(r);
+            close_row(&mut rows.transfers, &mut rows.timeouts, trail, p, state);
+            let row = row_of(*r);
+            add_row(&mut rows.transfers, &mut rows.timeouts, trail, &row);
+            0
+        }
+        Err(code) => code,
+    }
 }
 
-fn settle_debit<A: Allocator + Clone>(
+/// The rows of both accounts of a transfer.
+#[derive(Clone, Copy)]
+struct Parties {
+    pub debit: AccountRow,
+    pub credit: AccountRow,
+}
+
+/// Judges a post or void by its accounts, and settles both where it passes: their rows from before, or a code.
+fn settle_accounts<A: Allocator + Clone>(
     accounts: &mut Table<AccountRow, A>,
-    trail: &mut Vec<Undo, A>,
-    old: &AccountRow,
     p: &Transfer,
     r: &Transfer,
-)
-    requires room { vec_len trail.old < vec_capacity trail.old }
-    requires found { find (λ a. a.created.id == r.now.debit_account_id) accounts.old.items ≡ Some old.now }
-    requires enough { p.now.amount ≤ old.now.debits.pending }
-    requires fit { old.now.debits.pending + old.now.debits.posted ≤ int_max }
-    requires at_most { r.now.amount ≤ p.now.amount }
-    ensures accounts { accounts.new ≡ record accounts.old { items = changed account_row_key r.now.debit_account_id (on_debits (released_and_gained closing_debit p.now r.now)) accounts.old.items } }
-    ensures noted { IsNoted 1 accounts.old.items accounts.new.items trail.old trail.new }
+) -> Result<Parties, u32>
+    requires apart { r.now.debit_account_id ≢ r.now.credit_account_id }
+    requires debit { IsSome (row_at accounts.old.items r.now.debit_account_id) }
+    requires credit { IsSome (row_at accounts.old.items r.now.credit_account_id) }
+    requires can_debit { (a : AccountRow) → row_at accounts.old.items r.now.debit_account_id ≡ Some a → CanSettle p.now r.now a.debits }
+    requires can_credit { (a : AccountRow) → row_at accounts.old.items r.now.credit_account_id ≡ Some a → CanSettle p.now r.now a.credits }
+    ensures settled { SettlesIn p.now r.now accounts.old.items result accounts.new.items }
+    ensures room { accounts.new.spare ≡ accounts.old.spare }
 {
-    let new = AccountRow {
-        created: old.created,
-        debits: settle_side(
-            old.debits,
+    let mut before = None;
+    let settled = accounts.update_two(
+        r.debit_account_id,
+        r.credit_account_id,
+        &mut |debit: &mut AccountRow, credit: &mut AccountRow| settle_rows(
+            debit,
+            credit,
             p,
             r,
-            p.has(TransferFlag::ClosingDebit),
-            r.has(TransferFlag::ClosingDebit),
+            &mut before,
         ),
-        credits: old.credits,
-    };
-    change(accounts, trail, old, new);
+    );
+    match settled {
+        Some(code) => before.ok_or(code),
+        None => unreachable!(),
+    }
 }
 
-fn settle_credit<A: Allocator + Clone>(
-    accounts: &mut Table<AccountRow, A>,
-    trail: &mut Vec<Undo, A>,
-    old: &AccountRow,
+/// Judges a post or void by the rows of its accounts, and settles both where it passes: a code, or 0. The rows from before
+/// are large, so they go into a place of their own, and not through the search that calls this.
+fn settle_rows(
+    debit: &mut AccountRow,
+    credit: &mut AccountRow,
     p: &Transfer,
     r: &Transfer,
-)
-    requires room { vec_len trail.old < vec_capacity trail.old }
-    requires found { find (λ a. a.created.id == r.now.credit_account_id) accounts.old.items ≡ Some old.now }
-    requires enough { p.now.amount ≤ old.now.credits.pending }
-    requires fit { old.now.credits.pending + old.now.credits.posted ≤ int_max }
-    requires at_most { r.now.amount ≤ p.now.amount }
-    ensures accounts { accounts.new ≡ record accounts.old { items = changed account_row_key r.now.credit_account_id (on_credits (released_and_gained closing_credit p.now r.now)) accounts.old.items } }
-    ensures noted { IsNoted 1 accounts.old.items accounts.new.items trail.old trail.new }
+    before: &mut Option<Parties>,
+) -> u32
+    ensures settled { Settles p.now r.now debit.old credit.old (ok_or before.new result) debit.new credit.new }
+    ensures same_debit { debit.new.created ≡ debit.old.created }
+    ensures same_credit { credit.new.created ≡ credit.old.created }
 {
-    let new = AccountRow {
-        created: old.created,
-        debits: old.debits,
-        credits: settle_side(
-            old.credits,
-            p,
-            r,
-            p.has(TransferFlag::ClosingCredit),
-            r.has(TransferFlag::ClosingCredit),
-        ),
-    };
-    change(accounts, trail, old, new);
-}
-
-/// Writes an account's row, and notes the one from before.
-fn change<A: Allocator + Clone>(
-    accounts: &mut Table<AccountRow, A>,
-    trail: &mut Vec<Undo, A>,
-    old: &AccountRow,
-    new: AccountRow,
-)
-    requires room { vec_len trail.old < vec_capacity trail.old }
-    requires found { find (λ a. a.created.id == new.created.id) accounts.old.items ≡ Some old.now }
-    ensures accounts { accounts.new ≡ record accounts.old { items = replaced account_row_key new accounts.old.items } }
-    ensures noted { IsNoted 1 accounts.old.items accounts.new.items trail.old trail.new }
-{
-    trail.push_reserved(Undo::Account(*old));
-    accounts.replace(new);
+    *before = None;
+    let code = closed_code(r, debit, credit);
+    if code != 0 {
+        return code;
+    }
+    *before = Some(Parties {
+        debit: *debit,
+        credit: *credit,
+    });
+    debit.debits = settle_side(
+        debit.debits,
+        p,
+        r,
+        p.has(TransferFlag::ClosingDebit),
+        r.has(TransferFlag::ClosingDebit),
+    );
+    credit.credits = settle_side(
+        credit.credits,
+        p,
+        r,
+        p.has(TransferFlag::ClosingCredit),
+        r.has(TransferFlag::ClosingCredit),
+    );
+    0
 }
 
 /// Gives a pending transfer its state, and takes its timeout where it has one.
@@ -184,11 +188,18 @@ fn close_row<A: Allocator + Clone>(
     ensures ordered { AreTimeouts timeouts.old.items }
     ensures marked { IsMarked 1 transfers.old.items transfers.new.items timeouts.old timeouts.new trail.old trail.new }
 {
+    transfers.ordered();
     trail.push_reserved(Undo::Transfer(*p));
-    transfers.replace(TransferRow {
-        recorded: p.recorded,
-        state,
-    });
+    let closed = transfers.update(
+        p.recorded.id,
+        &mut |row: &mut TransferRow| {
+            row.state = state;
+        },
+    );
+    match closed {
+        Some(()) => {}
+        None => unreachable!(),
+    }
     unlist(timeouts, p);
 }
 

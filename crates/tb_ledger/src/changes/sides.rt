@@ -3,6 +3,7 @@ ghost use Rattle.std.specs.Prelude.{◌≡◌, ◌+◌, ◌≤◌, if◌then◌e
 ghost use Rattle.tb_ledger.specs.Books.{pending, moves};
 ghost use Rattle.tb_ledger.specs.Verdicts.{int_max};
 ghost use Rattle.tb_ledger.specs.Kept.{gained, released};
+ghost use Rattle.tb_ledger.specs.Settlings.{CanSettle};
 
 use crate::tables::rows::Side;
 use tb_records::Transfer;
@@ -39,18 +40,19 @@ pub(crate) fn gain_side(s: Side, t: &Transfer, closes: bool) -> Side
     }
 }
 
+/// A side never holds less than a pending transfer that is open; where it did, nothing would be left.
 pub(crate) fn release_side(s: Side, p: &Transfer, closes: bool) -> Side
-    requires { p.now.amount ≤ s.pending }
     ensures { result ≡ released (λ _. closes) p.now s }
 {
     Side {
-        pending: s.pending - p.amount,
+        pending: s.pending.saturating_sub(p.amount),
         posted: s.posted,
         held_closed: s.held_closed && !closes,
     }
 }
 
-/// The pending amount leaves before what is posted of it comes.
+/// The pending amount leaves before what is posted of it comes. A side that can settle has room for the sums; where one had not,
+/// they would stop at the greatest number.
 pub(crate) fn settle_side(
     s: Side,
     p: &Transfer,
@@ -58,10 +60,15 @@ pub(crate) fn settle_side(
     closes: bool,
     closes_anew: bool,
 ) -> Side
-    requires enough { p.now.amount ≤ s.pending }
-    requires fit { s.pending + s.posted ≤ int_max }
-    requires at_most { r.now.amount ≤ p.now.amount }
-    ensures { result ≡ gained (λ _. closes_anew) r.now (released (λ _. closes) p.now s) }
+    ensures { CanSettle p.now r.now s → result ≡ gained (λ _. closes_anew) r.now (released (λ _. closes) p.now s) }
 {
-    gain_side(release_side(s, p, closes), r, closes_anew)
+    let left = release_side(s, p, closes);
+    let held = pending_part(r);
+    let moved = posted_part(r);
+    let held_closed = left.held_closed || r.is_pending() && closes_anew;
+    Side {
+        pending: left.pending.saturating_add(held),
+        posted: left.posted.saturating_add(moved),
+        held_closed,
+    }
 }

@@ -4,8 +4,9 @@ ghost use Rattle.std.specs.Option.{option_copied};
 ghost use Rattle.std.specs.Map.{values_of};
 ghost use Rattle.tb_records.specs.Ordered.{put, replaced, taken_out, Rising};
 ghost use Rattle.avl_tree.specs.Map.{entries};
-ghost use Rattle.tb_ledger.specs.Tables.{IsTable, IsShortSearch, KeepsKeys, ChangedRows};
+ghost use Rattle.tb_ledger.specs.Tables.{IsTable, IsShortSearch, KeepsKey, ChangedRow, KeepsKeys, ChangedRows};
 
+use crate::tables::known::{Known, unfound};
 use avl_tree::AvlMap;
 use std::alloc::{AllocError, Allocator};
 use std::marker::Model;
@@ -30,17 +31,22 @@ impl Keyed for u128 {
 #[derive(Drop)]
 pub struct Table<V: Keyed, A: Allocator + Clone> {
     rows: Option<AvlMap<u128, V, A>>,
+    /// What is known of their keys. It stays where rows are taken out.
+    known: Known,
 }
 
 impl<V: Keyed, A: Allocator + Clone> Model for Table<V, A> {
-    ghost use Rattle.tb_ledger.specs.Tables.{pairs_in, rows_in, room_in, IsTable, Stored};
+    ghost use Rattle.tb_ledger.specs.Tables.{pairs_in, rows_in, room_in, IsKnown, Stored};
 
     ghost Value = { Stored V };
 
     ghost view = { λ t. record { items = rows_in t.rows; spare = room_in t.rows } };
 
-    ghost invariant = { λ t. IsTable V.key (pairs_in t.rows) };
+    ghost invariant = { λ t. IsKnown V.key t.known (pairs_in t.rows) };
 }
+
+/// So many rows no longer stand in a core's own memory, where a search for one of them hardly waits.
+const MANY_ROWS: usize = 4096;
 
 /// The row with the key.
 fn row_of<V: Keyed, A: Allocator + Clone>(rows: &AvlMap<u128, V, A>, id: u128) -> Option<&V>
@@ -95,6 +101,23 @@ fn replace_row<V: Keyed, A: Allocator + Clone>(rows: &mut AvlMap<u128, V, A>, ro
     let _ = rows.set(row.key(), row);
 }
 
+/// Calls the closure at the row with the key, where it is there.
+fn update_row<V: Keyed, A: Allocator + Clone, R, F: FnMut(&mut V) -> R>(
+    rows: &mut AvlMap<u128, V, A>,
+    id: u128,
+    f: &mut F,
+) -> Option<R>
+    requires table { IsTable V.key (entries rows.old) }
+    requires callable { F.IsAlwaysCallable f.old }
+    requires keeps { KeepsKey V.key F.FnMut }
+    ensures table { IsTable V.key (entries rows.new) }
+    ensures changed { IfSome result (λ r. ChangedRow V.key F.FnMut id (values_of (entries rows.old)) f.old r f.new (values_of (entries rows.new))) }
+    ensures absent { IfNone result ((find (λ y. V.key y == id) (values_of (entries rows.old)) ≡ None) × (values_of (entries rows.new) ≡ values_of (entries rows.old))) }
+    ensures room { rows.new.spare ≡ rows.old.spare }
+{
+    rows.update(&id, f)
+}
+
 /// Calls the closure at the rows of two keys, where both are there.
 fn update_rows<V: Keyed, A: Allocator + Clone, R, F: FnMut(&mut V, &mut V) -> R>(
     rows: &mut AvlMap<u128, V, A>,
@@ -129,7 +152,10 @@ impl<V: Keyed, A: Allocator + Clone> Table<V, A> {
     pub fn new() -> Self
         ensures { result ≡ record { items = []; spare = 0 } }
     {
-        Table { rows: None }
+        Table {
+            rows: None,
+            known: Known::new(),
+        }
     }
 
     /// Hands out that keys rise.
@@ -139,10 +165,13 @@ impl<V: Keyed, A: Allocator + Clone> Table<V, A> {
         let _ = &self.rows;
     }
 
-    /// The row with the key.
+    /// The row with the key. One that is known to be none is not searched for.
     pub fn get(&self, id: u128) -> Option<&V>
         ensures { option_copied result ≡ find (λ row. V.key row == id) self.now.items }
     {
+        if self.known.excludes(id) {
+            return None;
+        }
         match &self.rows {
             Some(rows) => row_of(rows, id),
             None => None,
@@ -157,6 +186,29 @@ impl<V: Keyed, A: Allocator + Clone> Table<V, A> {
             Some(rows) => rows_of(rows, ids),
             None => [None; 8],
         }
+    }
+
+    /// A search for the ids by turns spares time: the rows are so many that a search for one waits for memory, and most of the
+    /// ids may be there.
+    fn is_worth_seeking(&self, ids: &[u128; 8]) -> bool {
+        match &self.rows {
+            Some(rows) => MANY_ROWS <= rows.len() && self.known.is_worth_seeking(ids),
+            None => false,
+        }
+    }
+
+    /// Looks for eight ids by turns, and keeps in mind those that aren't there: the next search for one of them is spared. Where
+    /// rows are few, or most ids are above all keys, nothing is looked for.
+    pub fn seek(&mut self, ids: &[u128; 8])
+        ensures { self.new ≡ self.old }
+    {
+        if !self.is_worth_seeking(ids) {
+            self.known.sought = false;
+            return;
+        }
+        let absent = unfound(ids, &self.get_many(ids));
+        self.known.absent = absent;
+        self.known.sought = true;
     }
 
     /// The row with the key, and the number of nodes that the search met.
@@ -194,6 +246,7 @@ impl<V: Keyed, A: Allocator + Clone> Table<V, A> {
         ensures table { self.new ≡ record { items = put V.key row self.old.items; spare = self.old.spare - 1 } }
         ensures rising { Rising V.key self.old.items }
     {
+        self.known.admit(row.key());
         match &mut self.rows {
             Some(rows) => insert_row(rows, row),
             None => {}
@@ -208,6 +261,20 @@ impl<V: Keyed, A: Allocator + Clone> Table<V, A> {
         match &mut self.rows {
             Some(rows) => replace_row(rows, row),
             None => {}
+        }
+    }
+
+    /// Calls the closure at the row with the key, which it may change but for the key. Where none has it, nothing happens.
+    pub fn update<R, F: FnMut(&mut V) -> R>(&mut self, id: u128, f: &mut F) -> Option<R>
+        requires callable { F.IsAlwaysCallable f.old }
+        requires keeps { KeepsKey V.key F.FnMut }
+        ensures changed { IfSome result (λ r. ChangedRow V.key F.FnMut id self.old.items f.old r f.new self.new.items) }
+        ensures absent { IfNone result ((find (λ y. V.key y == id) self.old.items ≡ None) × (self.new.items ≡ self.old.items)) }
+        ensures room { self.new.spare ≡ self.old.spare }
+    {
+        match &mut self.rows {
+            Some(rows) => update_row(rows, id, f),
+            None => None,
         }
     }
 

@@ -2,9 +2,9 @@
 use super::*;
 
 #[test]
-fn accounts_created(rt: HostRuntime) -> Result<(), Fail> {
+fn accounts_created(rt: HostRuntime) {
     for profile in &BOTH {
-        let run = start(&rt, rt.alloc(), *profile)?;
+        let run = start(&rt, rt.alloc(), *profile);
         assert!(rt; run.ledger.time() == 12);
         let second = Account {
             timestamp: 12,
@@ -14,11 +14,8 @@ fn accounts_created(rt: HostRuntime) -> Result<(), Fail> {
             timestamp: 11,
             ..account(1)
         };
-        let found = run.ledger.lookup_accounts(run.alloc, &[2, 9, 1, 2])?;
-        assert!(rt; found.len() == 3);
-        assert!(rt; found[0] == second && found[1] == first && found[2] == second);
+        expect_accounts(&rt, &run, &[2, 9, 1, 2], &[second, first, second]);
     }
-    Ok(())
 }
 
 /// What is wrong with nine accounts of one request: the last is right.
@@ -49,9 +46,9 @@ fn nine_accounts() -> [Account; 9] {
 }
 
 #[test]
-fn account_refusals(rt: HostRuntime) -> Result<(), Fail> {
+fn account_refusals(rt: HostRuntime) {
     for profile in &BOTH {
-        let mut run = start(&rt, rt.alloc(), *profile)?;
+        let mut run = start(&rt, rt.alloc(), *profile);
         let want = [
             (0, CreateAccountResult::IdMustNotBeZero as u32),
             (1, CreateAccountResult::IdMustNotBeIntMax as u32),
@@ -62,18 +59,17 @@ fn account_refusals(rt: HostRuntime) -> Result<(), Fail> {
             (6, CreateAccountResult::Exists as u32),
             (7, CreateAccountResult::ExistsWithDifferentLedger as u32),
         ];
-        create(&rt, &mut run, &nine_accounts(), &want)?;
+        create(&rt, &mut run, &nine_accounts(), &want);
     }
-    Ok(())
 }
 
 #[test]
-fn limits_of_accounts(rt: HostRuntime) -> Result<(), Fail> {
+fn limits_of_accounts(rt: HostRuntime) {
     for profile in &BOTH {
-        let mut run = start(&rt, rt.alloc(), *profile)?;
+        let mut run = start(&rt, rt.alloc(), *profile);
         let no_credit = with_flag(AccountFlag::DebitsMustNotExceedCredits, account(3));
         let no_debit = with_flag(AccountFlag::CreditsMustNotExceedDebits, account(4));
-        create(&rt, &mut run, &[no_credit, no_debit], &[])?;
+        create(&rt, &mut run, &[no_credit, no_debit], &[]);
         ask_each(
             &rt,
             &mut run,
@@ -82,15 +78,14 @@ fn limits_of_accounts(rt: HostRuntime) -> Result<(), Fail> {
                 (transfer(81, 1, 4, 1), CreateTransferResult::ExceedsDebits),
                 (transfer(82, 3, 1, 0), CreateTransferResult::Ok),
             ],
-        )?;
+        );
     }
-    Ok(())
 }
 
 #[test]
-fn sums_overflow(rt: HostRuntime) -> Result<(), Fail> {
+fn sums_overflow(rt: HostRuntime) {
     for profile in &BOTH {
-        let mut run = start(&rt, rt.alloc(), *profile)?;
+        let mut run = start(&rt, rt.alloc(), *profile);
         ask_each(
             &rt,
             &mut run,
@@ -101,7 +96,6 @@ fn sums_overflow(rt: HostRuntime) -> Result<(), Fail> {
                     CreateTransferResult::OverflowsDebitsPosted,
                 ),
             ],
-        )?;
+        );
     }
-    Ok(())
 }

@@ -2,15 +2,14 @@
 use super::*;
 
 #[test]
-fn transfer_sums(rt: HostRuntime) -> Result<(), Fail> {
+fn transfer_sums(rt: HostRuntime) {
     for profile in &BOTH {
-        let mut run = start(&rt, rt.alloc(), *profile)?;
-        ask(&rt, &mut run, &[transfer(11, 1, 2, 100)], &[])?;
+        let mut run = start(&rt, rt.alloc(), *profile);
+        ask(&rt, &mut run, &[transfer(11, 1, 2, 100)], &[]);
         expect_account(&rt, &run, 1, [0, 100, 0, 0], 0);
         expect_account(&rt, &run, 2, [0, 0, 0, 100], 0);
         expect_amount(&rt, &run, 11, 100);
     }
-    Ok(())
 }
 
 /// A transfer that moves at most what its debit account has left.
@@ -30,7 +29,7 @@ fn both_balanced(id: u128, debit: u128, credit: u128, amount: u128) -> Transfer 
 }
 
 /// Account 1 has 50 left; transfer 4 asks for 80.
-fn lowered(rt: &impl Abort, run: &mut Run) -> Result<(), Fail> {
+fn lowered(rt: &impl Abort, run: &mut Run) {
     ask_each(
         rt,
         run,
@@ -39,7 +38,7 @@ fn lowered(rt: &impl Abort, run: &mut Run) -> Result<(), Fail> {
             (transfer(2, 1, 2, 20), CreateTransferResult::Ok),
             (held(3, 30), CreateTransferResult::Ok),
         ],
-    )?;
+    );
     expect_account(rt, run, 1, [30, 20, 0, 100], 0);
     ask_each(
         rt,
@@ -53,37 +52,34 @@ fn lowered(rt: &impl Abort, run: &mut Run) -> Result<(), Fail> {
                 CreateTransferResult::ExistsWithDifferentAmount,
             ),
         ],
-    )?;
+    );
     expect_amount(rt, run, 4, 50);
-    Ok(())
 }
 
 #[test]
-fn balancing_debit_lowers(rt: HostRuntime) -> Result<(), Fail> {
+fn balancing_debit_lowers(rt: HostRuntime) {
     for profile in &BOTH {
-        let mut run = start(&rt, rt.alloc(), *profile)?;
-        lowered(&rt, &mut run)?;
+        let mut run = start(&rt, rt.alloc(), *profile);
+        lowered(&rt, &mut run);
     }
-    Ok(())
 }
 
 #[test]
-fn balancing_debit_to_zero(rt: HostRuntime) -> Result<(), Fail> {
+fn balancing_debit_to_zero(rt: HostRuntime) {
     for profile in &BOTH {
-        let mut run = start(&rt, rt.alloc(), *profile)?;
-        lowered(&rt, &mut run)?;
-        ask(&rt, &mut run, &[debit_balanced(5, 1, 2, 10)], &[])?;
+        let mut run = start(&rt, rt.alloc(), *profile);
+        lowered(&rt, &mut run);
+        ask(&rt, &mut run, &[debit_balanced(5, 1, 2, 10)], &[]);
         expect_amount(&rt, &run, 5, 0);
     }
-    Ok(())
 }
 
 #[test]
-fn balancing_both_ways(rt: HostRuntime) -> Result<(), Fail> {
+fn balancing_both_ways(rt: HostRuntime) {
     for profile in &BOTH {
-        let mut run = start(&rt, rt.alloc(), *profile)?;
+        let mut run = start(&rt, rt.alloc(), *profile);
         let closed = with_flag(AccountFlag::Closed, account(6));
-        create(&rt, &mut run, &[account(3), closed], &[])?;
+        create(&rt, &mut run, &[account(3), closed], &[]);
         ask_each(
             &rt,
             &mut run,
@@ -104,10 +100,9 @@ fn balancing_both_ways(rt: HostRuntime) -> Result<(), Fail> {
                     CreateTransferResult::CreditAccountAlreadyClosed,
                 ),
             ],
-        )?;
+        );
         expect_amount(&rt, &run, 3, 30);
         expect_amount(&rt, &run, 4, 70);
         expect_amount(&rt, &run, 5, 0);
     }
-    Ok(())
 }

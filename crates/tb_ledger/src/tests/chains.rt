@@ -17,109 +17,105 @@ fn wrong(id: u128) -> Transfer {
 }
 
 #[test]
-fn chains_whole_or_not(rt: HostRuntime) -> Result<(), Fail> {
+fn chains_whole_or_not(rt: HostRuntime) {
     for profile in &BOTH {
-        let mut run = start(&rt, rt.alloc(), *profile)?;
+        let mut run = start(&rt, rt.alloc(), *profile);
         let broken = [linked(right(50)), linked(wrong(51)), right(52)];
         let want = [
             (0, LINKED_FAILED),
             (1, NO_DEBIT_ACCOUNT),
             (2, LINKED_FAILED),
         ];
-        ask(&rt, &mut run, &broken, &want)?;
+        ask(&rt, &mut run, &broken, &want);
         expect_account(&rt, &run, 1, [0, 0, 0, 0], 0);
         expect_no_transfer(&rt, &run, 50);
-        ask(&rt, &mut run, &[linked(right(53))], &[(0, CHAIN_OPEN)])?;
+        ask(&rt, &mut run, &[linked(right(53))], &[(0, CHAIN_OPEN)]);
         let open = [linked(right(54)), linked(right(55))];
-        ask(&rt, &mut run, &open, &[(0, LINKED_FAILED), (1, CHAIN_OPEN)])?;
+        ask(&rt, &mut run, &open, &[(0, LINKED_FAILED), (1, CHAIN_OPEN)]);
         let both = [linked(wrong(56)), linked(right(57))];
         ask(
             &rt,
             &mut run,
             &both,
             &[(0, NO_DEBIT_ACCOUNT), (1, CHAIN_OPEN)],
-        )?;
+        );
     }
-    Ok(())
 }
 
 /// What a chain did stays once it is whole, however the next one breaks.
 #[test]
-fn whole_chain_before_a_broken_one(rt: HostRuntime) -> Result<(), Fail> {
+fn whole_chain_before_a_broken_one(rt: HostRuntime) {
     for profile in &BOTH {
-        let mut run = start(&rt, rt.alloc(), *profile)?;
+        let mut run = start(&rt, rt.alloc(), *profile);
         let chains = [linked(right(1)), right(2), linked(right(3)), wrong(4)];
         ask(
             &rt,
             &mut run,
             &chains,
             &[(2, LINKED_FAILED), (3, NO_DEBIT_ACCOUNT)],
-        )?;
+        );
         expect_account(&rt, &run, 1, [0, 2, 0, 0], 0);
         expect_amount(&rt, &run, 2, 1);
         expect_no_transfer(&rt, &run, 3);
     }
-    Ok(())
 }
 
 #[test]
-fn broken_chain_frees_its_post(rt: HostRuntime) -> Result<(), Fail> {
+fn broken_chain_frees_its_post(rt: HostRuntime) {
     for profile in &BOTH {
-        let mut run = start(&rt, rt.alloc(), *profile)?;
-        ask(&rt, &mut run, &[held(64, 40)], &[])?;
+        let mut run = start(&rt, rt.alloc(), *profile);
+        ask(&rt, &mut run, &[held(64, 40)], &[]);
         let broken = [linked(post(65, 64, MAX)), wrong(66)];
         ask(
             &rt,
             &mut run,
             &broken,
             &[(0, LINKED_FAILED), (1, NO_DEBIT_ACCOUNT)],
-        )?;
+        );
         expect_account(&rt, &run, 1, [40, 0, 0, 0], 0);
         expect_no_transfer(&rt, &run, 65);
-        ask(&rt, &mut run, &[post(65, 64, MAX)], &[])?;
+        ask(&rt, &mut run, &[post(65, 64, MAX)], &[]);
         expect_account(&rt, &run, 1, [0, 40, 0, 0], 0);
     }
-    Ok(())
 }
 
 #[test]
-fn failed_id_is_refused_again(rt: HostRuntime) -> Result<(), Fail> {
+fn failed_id_is_refused_again(rt: HostRuntime) {
     for profile in &BOTH {
-        let mut run = start(&rt, rt.alloc(), *profile)?;
-        ask(&rt, &mut run, &[wrong(70)], &[(0, NO_DEBIT_ACCOUNT)])?;
-        ask_each(&rt, &mut run, &[(right(70), again(*profile))])?;
+        let mut run = start(&rt, rt.alloc(), *profile);
+        ask(&rt, &mut run, &[wrong(70)], &[(0, NO_DEBIT_ACCOUNT)]);
+        ask_each(&rt, &mut run, &[(right(70), again(*profile))]);
         let broken = [linked(right(71)), wrong(72)];
         ask(
             &rt,
             &mut run,
             &broken,
             &[(0, LINKED_FAILED), (1, NO_DEBIT_ACCOUNT)],
-        )?;
-        ask(&rt, &mut run, &[right(71)], &[])?;
-        ask_each(&rt, &mut run, &[(right(72), again(*profile))])?;
+        );
+        ask(&rt, &mut run, &[right(71)], &[]);
+        ask_each(&rt, &mut run, &[(right(72), again(*profile))]);
     }
-    Ok(())
 }
 
 #[test]
-fn failed_ids_outlive_their_chain(rt: HostRuntime) -> Result<(), Fail> {
+fn failed_ids_outlive_their_chain(rt: HostRuntime) {
     let failed = CreateTransferResult::IdAlreadyFailed;
     let other_flags = CreateTransferResult::ExistsWithDifferentFlags as u32;
-    let mut run = start(&rt, rt.alloc(), Profile::Two)?;
+    let mut run = start(&rt, rt.alloc(), Profile::Two);
     let same = [wrong(74), right(74)];
     ask(
         &rt,
         &mut run,
         &same,
         &[(0, NO_DEBIT_ACCOUNT), (1, failed as u32)],
-    )?;
+    );
     let twice = [linked(right(75)), wrong(75)];
     ask(
         &rt,
         &mut run,
         &twice,
         &[(0, LINKED_FAILED), (1, other_flags)],
-    )?;
+    );
     ask_each(
         &rt,
         &mut run,
@@ -142,10 +138,10 @@ fn go_to_two(rt: &impl Abort, run: &mut Run) {
 
 /// An id that failed before the step from profile 1 to 2 does not count, one that fails after it does; the books stay.
 #[test]
-fn failed_ids_begin_at_profile_two(rt: HostRuntime) -> Result<(), Fail> {
-    let mut run = start(&rt, rt.alloc(), Profile::One)?;
-    ask(&rt, &mut run, &[wrong(70)], &[(0, NO_DEBIT_ACCOUNT)])?;
-    ask(&rt, &mut run, &[transfer(71, 1, 2, 5)], &[])?;
+fn failed_ids_begin_at_profile_two(rt: HostRuntime) {
+    let mut run = start(&rt, rt.alloc(), Profile::One);
+    ask(&rt, &mut run, &[wrong(70)], &[(0, NO_DEBIT_ACCOUNT)]);
+    ask(&rt, &mut run, &[transfer(71, 1, 2, 5)], &[]);
     go_to_two(&rt, &mut run);
     expect_account(&rt, &run, 1, [0, 5, 0, 0], 0);
     ask_each(

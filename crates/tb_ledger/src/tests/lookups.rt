@@ -8,19 +8,35 @@ fn expect_ids(rt: &impl Abort, found: &[Account], ids: &[u128]) {
     }
 }
 
+/// Accounts 2, 2, 9 and 1 are filled in, two at a time.
+fn fill_four(rt: &impl Abort, run: &Run) -> Result<(), Fail> {
+    let mut out = Vec::with_capacity(run.alloc, 4)?;
+    run.ledger.fill_accounts(&[2, 2], &mut out);
+    expect_ids(rt, &out, &[2, 2]);
+    assert!(rt; out.len() == 2 && out.capacity() >= 4);
+    run.ledger.fill_accounts(&[9, 1], &mut out);
+    expect_ids(rt, &out, &[2, 2, 1]);
+    Ok(())
+}
+
+/// A transfer that is not there is looked for.
+fn fill_none(rt: &impl Abort, run: &Run) -> Result<(), Fail> {
+    let mut out = Vec::with_capacity(run.alloc, 1)?;
+    run.ledger.fill_transfers(&[7], &mut out);
+    assert!(rt; out.is_empty());
+    Ok(())
+}
+
+fn fill(rt: &impl Abort, run: &Run) -> Result<(), Fail> {
+    fill_four(rt, run)?;
+    fill_none(rt, run)
+}
+
 #[test]
 fn fills_append_in_the_order_of_ids(rt: HostRuntime) -> Result<(), Fail> {
     for profile in &BOTH {
-        let run = start(&rt, rt.alloc(), *profile)?;
-        let mut out = Vec::with_capacity(run.alloc, 4)?;
-        run.ledger.fill_accounts(&[2, 2], &mut out);
-        expect_ids(&rt, &out, &[2, 2]);
-        assert!(rt; out.len() == 2 && out.capacity() >= 4);
-        run.ledger.fill_accounts(&[9, 1], &mut out);
-        expect_ids(&rt, &out, &[2, 2, 1]);
-        let mut out = Vec::with_capacity(run.alloc, 1)?;
-        run.ledger.fill_transfers(&[7], &mut out);
-        assert!(rt; out.is_empty());
+        let run = start(&rt, rt.alloc(), *profile);
+        fill(&rt, &run)?;
     }
     Ok(())
 }
@@ -32,6 +48,15 @@ fn many_accounts(alloc: Global, last: u128) -> Result<Vec<Account>, Fail> {
         accounts.push(account(id))?;
     }
     Ok(accounts)
+}
+
+/// Creates accounts of the ids from 1 to 8190.
+fn create_many(rt: &impl Abort, run: &mut Run) -> Result<(), Fail> {
+    let accounts = many_accounts(run.alloc, 8190)?;
+    assert!(rt; run.ledger.time() == 0 && accounts.len() <= 8190);
+    let refused = run.ledger.create_accounts(run.alloc, 8190, &accounts)?;
+    assert!(rt; refused.is_empty());
+    Ok(())
 }
 
 /// The most nodes that a search for an account from 1 to `last` meets.
@@ -46,15 +71,16 @@ fn longest_search(rt: &impl Abort, ledger: &Ledger<Global>, last: u128) -> u32 {
     longest
 }
 
-#[test]
-fn probes_stay_short(rt: HostRuntime) -> Result<(), Fail> {
-    let accounts = many_accounts(rt.alloc(), 8190)?;
-    let mut ledger = Ledger::new_in(rt.alloc(), Profile::One);
-    assert!(rt; ledger.time() == 0 && accounts.len() <= 8190);
-    let refused = ledger.create_accounts(rt.alloc(), 8190, &accounts)?;
-    assert!(rt; refused.is_empty());
-    assert!(rt; longest_search(&rt, &ledger, 8190) <= 18);
+fn expect_short_searches(rt: &impl Abort, ledger: &Ledger<Global>) {
+    assert!(rt; longest_search(rt, ledger, 8190) <= 18);
     let (none, visits) = ledger.probe_account(9000);
     assert!(rt; none.is_none() && visits <= 18);
+}
+
+#[test]
+fn probes_stay_short(rt: HostRuntime) -> Result<(), Fail> {
+    let mut run = empty(rt.alloc(), Profile::One);
+    create_many(&rt, &mut run)?;
+    expect_short_searches(&rt, &run.ledger);
     Ok(())
 }

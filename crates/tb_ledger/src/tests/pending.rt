@@ -2,7 +2,7 @@
 use super::*;
 
 /// Three pending transfers of 40: one is posted whole, one by 15, one by nothing.
-fn posted(rt: &impl Abort, run: &mut Run) -> Result<(), Fail> {
+fn posted(rt: &impl Abort, run: &mut Run) {
     ask_each(
         rt,
         run,
@@ -14,13 +14,12 @@ fn posted(rt: &impl Abort, run: &mut Run) -> Result<(), Fail> {
             (held(24, 40), CreateTransferResult::Ok),
             (post(25, 24, 0), CreateTransferResult::Ok),
         ],
-    )?;
+    );
     expect_amount(rt, run, 25, 0);
-    Ok(())
 }
 
 /// What 55 posted leave on both accounts.
-fn expect_accounts(rt: &impl Abort, run: &Run) -> Result<(), Fail> {
+fn expect_sums(rt: &impl Abort, run: &Run) {
     let first = Account {
         debits_posted: 55,
         timestamp: 11,
@@ -31,13 +30,11 @@ fn expect_accounts(rt: &impl Abort, run: &Run) -> Result<(), Fail> {
         timestamp: 12,
         ..account(2)
     };
-    let found = run.ledger.lookup_accounts(run.alloc, &[1, 2])?;
-    assert!(rt; found.len() == 2 && found[0] == first && found[1] == second);
-    Ok(())
+    expect_accounts(rt, run, &[1, 2], &[first, second]);
 }
 
 /// The records of a whole post and of a part: their accounts are the pending transfer's.
-fn expect_posts(rt: &impl Abort, run: &Run) -> Result<(), Fail> {
+fn expect_posts(rt: &impl Abort, run: &Run) {
     let whole = Transfer {
         pending_id: 20,
         flags: POST,
@@ -50,23 +47,20 @@ fn expect_posts(rt: &impl Abort, run: &Run) -> Result<(), Fail> {
         timestamp: 16,
         ..transfer(23, 1, 2, 15)
     };
-    let found = run.ledger.lookup_transfers(run.alloc, &[21, 23])?;
-    assert!(rt; found.len() == 2 && found[0] == whole && found[1] == part);
-    Ok(())
+    expect_transfers(rt, run, &[21, 23], &[whole, part]);
 }
 
 #[test]
-fn posts_whole_part_and_none(rt: HostRuntime) -> Result<(), Fail> {
+fn posts_whole_part_and_none(rt: HostRuntime) {
     for profile in &BOTH {
-        let mut run = start(&rt, rt.alloc(), *profile)?;
-        posted(&rt, &mut run)?;
-        expect_accounts(&rt, &run)?;
-        expect_posts(&rt, &run)?;
+        let mut run = start(&rt, rt.alloc(), *profile);
+        posted(&rt, &mut run);
+        expect_sums(&rt, &run);
+        expect_posts(&rt, &run);
     }
-    Ok(())
 }
 
-fn voided(rt: &impl Abort, run: &mut Run) -> Result<(), Fail> {
+fn voided(rt: &impl Abort, run: &mut Run) {
     ask_each(
         rt,
         run,
@@ -95,10 +89,10 @@ fn voided(rt: &impl Abort, run: &mut Run) -> Result<(), Fail> {
 }
 
 #[test]
-fn voids_and_resolved_pendings(rt: HostRuntime) -> Result<(), Fail> {
+fn voids_and_resolved_pendings(rt: HostRuntime) {
     for profile in &BOTH {
-        let mut run = start(&rt, rt.alloc(), *profile)?;
-        posted(&rt, &mut run)?;
+        let mut run = start(&rt, rt.alloc(), *profile);
+        posted(&rt, &mut run);
         let posted_already = CreateTransferResult::PendingTransferAlreadyPosted;
         ask_each(
             &rt,
@@ -107,27 +101,25 @@ fn voids_and_resolved_pendings(rt: HostRuntime) -> Result<(), Fail> {
                 (post(26, 20, 0), posted_already),
                 (void(26, 20, 0), posted_already),
             ],
-        )?;
-        voided(&rt, &mut run)?;
+        );
+        voided(&rt, &mut run);
         expect_amount(&rt, &run, 31, 40);
         expect_account(&rt, &run, 1, [40, 55, 0, 0], 0);
     }
-    Ok(())
 }
 
 #[test]
-fn expiry_at_the_moment(rt: HostRuntime) -> Result<(), Fail> {
+fn expiry_at_the_moment(rt: HostRuntime) {
     for profile in &BOTH {
-        let mut run = start(&rt, rt.alloc(), *profile)?;
+        let mut run = start(&rt, rt.alloc(), *profile);
         let lasting = with_timeout(1, held(60, 40));
-        ask_one(&rt, &mut run, 100, lasting, CreateTransferResult::Ok)?;
+        ask_one(&rt, &mut run, 100, lasting, CreateTransferResult::Ok);
         expect_timestamp(&rt, &run, 60, 100);
         pass_to(&rt, &mut run, 1_000_000_099);
         expect_account(&rt, &run, 1, [40, 0, 0, 0], 0);
         pass_to(&rt, &mut run, 1_000_000_100);
         expect_account(&rt, &run, 1, [0, 0, 0, 0], 0);
         let late = CreateTransferResult::PendingTransferExpired;
-        ask_one(&rt, &mut run, 1_000_000_101, post(61, 60, MAX), late)?;
+        ask_one(&rt, &mut run, 1_000_000_101, post(61, 60, MAX), late);
     }
-    Ok(())
 }

@@ -1,9 +1,10 @@
 //! The verdict on a post or void: its own lines, those of the pending transfer that it names, the closed accounts.
-ghost use Rattle.std.specs.Prelude.{◌≡◌, ◌==◌, true, Some, find, IsSome, IfOk};
+ghost use Rattle.std.specs.Prelude.{◌≡◌, ◌≢◌, ◌==◌, true, Some, find, IfOk, IfErr};
 ghost use Rattle.tb_ledger.specs.Books.{resolves};
-ghost use Rattle.tb_ledger.specs.Found.{Judges};
+ghost use Rattle.tb_ledger.specs.Found.{FoundPending};
 ghost use Rattle.tb_ledger.specs.Kept.{books_in, row_closed, IsKept};
-ghost use Rattle.tb_ledger.specs.Verdicts.{closed_lines, filled, filled_from, first_of, named_code, resolve_code, resolve_own_lines, differs, named_lines};
+ghost use Rattle.tb_ledger.specs.Settlings.{closed_code};
+ghost use Rattle.tb_ledger.specs.Verdicts.{closed_lines, filled, first_of, resolve_code, resolve_own_lines, differs, named_lines};
 
 use crate::tables::rows::{AccountRow, Rows, State, TransferRow};
 use crate::tables::standing::closed;
@@ -12,35 +13,42 @@ use crate::verdicts::lines::first_line;
 use std::alloc::Allocator;
 use tb_records::{CreateTransferResult, Transfer};
 
-/// A post or void that passes: the row of the pending transfer that it names, the rows of both accounts, and its record,
+/// A post or void that passes as far as its accounts are open: the row of the pending transfer that it names, and its record,
 /// filled and not yet stamped.
 #[derive(Clone, Copy)]
 pub(crate) struct Resolution<'a> {
     pub pending: &'a TransferRow,
-    pub debit: &'a AccountRow,
-    pub credit: &'a AccountRow,
     pub record: Transfer,
 }
 
-/// The verdict on a post or void, once its id is free: a code, or what it resolves.
+/// The verdict on a post or void, once its id is free, but for closed accounts: a code, or what it resolves.
 pub(crate) fn judge_resolving<'a, A: Allocator + Clone>(
     rows: &'a Rows<A>,
     t: &Transfer,
 ) -> Result<Resolution<'a>, u32>
     requires kept { IsKept rows.now }
     requires resolving { resolves t.now ≡ true }
-    ensures judged { Judges result (resolve_code (books_in rows.now) t.now) }
+    ensures refused { IfErr result (λ code. (resolve_code (books_in rows.now) t.now ≡ code) × (code ≢ 0)) }
+    ensures left { IfOk result (λ x. resolve_code (books_in rows.now) t.now ≡ closed_code (books_in rows.now) t.now x.pending.now.recorded) }
     ensures pending { IfOk result (λ x. find (λ row. row.recorded.id == t.now.pending_id) rows.now.transfers.items ≡ Some x.pending.now) }
-    ensures debit { IfOk result (λ x. find (λ a. a.created.id == x.pending.now.recorded.debit_account_id) rows.now.accounts.items ≡ Some x.debit.now) }
-    ensures credit { IfOk result (λ x. find (λ a. a.created.id == x.pending.now.recorded.credit_account_id) rows.now.accounts.items ≡ Some x.credit.now) }
     ensures record { IfOk result (λ x. x.record ≡ filled (books_in rows.now) t.now) }
+    ensures found { IfOk result (λ x. FoundPending (books_in rows.now) x.record) }
 {
     let code = resolve_own(t);
     if code != 0 {
         return Err(code);
     }
     match rows.transfers.get(t.pending_id) {
-        Some(p) => judge_named(rows, t, p),
+        Some(p) => {
+            let code = resolve_named(t, &p.recorded, p.state);
+            if code != 0 {
+                return Err(code);
+            }
+            Ok(Resolution {
+                pending: p,
+                record: filled(t, &p.recorded),
+            })
+        }
         None => Err(CreateTransferResult::PendingTransferNotFound as u32),
     }
 }
@@ -85,39 +93,6 @@ fn resolve_own(t: &Transfer) -> u32
     ])
 }
 
-/// The verdict on a post or void that is right by itself, by the pending transfer that it names. No account is looked up
-/// before the two fit, and then each once.
-fn judge_named<'a, A: Allocator + Clone>(
-    rows: &'a Rows<A>,
-    t: &Transfer,
-    p: &'a TransferRow,
-) -> Result<Resolution<'a>, u32>
-    requires kept { IsKept rows.now }
-    requires found { find (λ row. row.recorded.id == t.now.pending_id) rows.now.transfers.items ≡ Some p.now }
-    ensures judged { Judges result (named_code (books_in rows.now) t.now (Some p.now.recorded)) }
-    ensures pending { IfOk result (λ x. x.pending.now ≡ p.now) }
-    ensures debit { IfOk result (λ x. find (λ a. a.created.id == x.pending.now.recorded.debit_account_id) rows.now.accounts.items ≡ Some x.debit.now) }
-    ensures credit { IfOk result (λ x. find (λ a. a.created.id == x.pending.now.recorded.credit_account_id) rows.now.accounts.items ≡ Some x.credit.now) }
-    ensures record { IfOk result (λ x. x.record ≡ filled_from p.now.recorded t.now) }
-{
-    let code = resolve_named(t, &p.recorded, p.state);
-    if code != 0 {
-        return Err(code);
-    }
-    let debit = party(rows, p.recorded.debit_account_id);
-    let credit = party(rows, p.recorded.credit_account_id);
-    let code = closed_code(t, debit, credit);
-    if code != 0 {
-        return Err(code);
-    }
-    Ok(Resolution {
-        pending: p,
-        debit,
-        credit,
-        record: filled(t, &p.recorded),
-    })
-}
-
 /// Whether a post or void fits the pending transfer that it names: a code, or 0.
 fn resolve_named(t: &Transfer, p: &Transfer, state: State) -> u32
     ensures { result ≡ first_of (named_lines t.now p.now state) }
@@ -159,19 +134,8 @@ fn differs(x: u128, other: u128) -> bool
     x != 0 && x != other
 }
 
-/// The row of an account that a recorded transfer names.
-fn party<'a, A: Allocator + Clone>(rows: &'a Rows<A>, id: u128) -> &'a AccountRow
-    requires { IsSome (find (λ a. a.created.id == id) rows.now.accounts.items) }
-    ensures { find (λ a. a.created.id == id) rows.now.accounts.items ≡ Some result.now }
-{
-    match rows.accounts.get(id) {
-        Some(row) => row,
-        None => unreachable!(),
-    }
-}
-
 /// A post needs both accounts open: a code, or 0.
-fn closed_code(t: &Transfer, debit: &AccountRow, credit: &AccountRow) -> u32
+pub(crate) fn closed_code(t: &Transfer, debit: &AccountRow, credit: &AccountRow) -> u32
     ensures { result ≡ first_of (closed_lines t.now (row_closed debit.now) (row_closed credit.now)) }
 {
     if !t.is_post() {

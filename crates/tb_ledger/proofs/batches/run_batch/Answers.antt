@@ -10,7 +10,7 @@ pub loop-rest-preserved : goal.loop-rest-preserved
 loop-rest-preserved g c =
     let kind = g.E.Event.kind in
     let v = c.loop-rest.invariant in
-    let r = c.run_block.ensures in
+    let r = rw c.look_ahead.ensures at c.run_block.ensures in
     let rest = c.loop-rest.rest.now in
     let block = c.split_at.result.0.now in
     let later = c.split_at.result.1.now in

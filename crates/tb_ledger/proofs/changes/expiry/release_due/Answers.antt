@@ -1,12 +1,12 @@
 use Rattle.std.proofs.Common.{◌≡◌, ◌<◌, ◌==◌, not, map, length, sym, ap, subst, refl, ◌∙◌, arith}
 use Rattle.tb_ledger.specs.declared.tables.rows.State.TheVariants.{Expired}
-use Rattle.tb_ledger.specs.Kept.{transfer_row_key, row_holds, unlisted, IsTimeout}
+use Rattle.tb_ledger.specs.Kept.{books_in, transfer_row_key, row_holds, unlisted, IsTimeout}
 use Rattle.tb_ledger.specs.Timeouts.{timeout_key, TakesDue}
 use Rattle.tb_ledger.proofs.Parts.{both_hold}
 use Rattle.tb_ledger.proofs.Settled.{rising_rows, refound}
 use Rattle.tb_records.proofs.ByKey.{each-find}
 use Rattle.tb_ledger.proofs.Index.{of_due, due_lapses, unlisted_due, ordered_without, index_closed, none_lapses, length-taken_out}
-use Rattle.tb_ledger.proofs.Expiries.{will_be, accounts_stay, transfers_stay, ahead_marked, arrived, none_of}
+use Rattle.tb_ledger.proofs.Expiries.{will_be, accounts_apart, debit_party, credit_party, rising_released, sums_after, accounts_stay, transfers_stay, ahead_marked, arrived, none_of}
 use Rattle.tb_ledger.proofs.changes.expiry.release_due.Goals as goal
 
 pub loop-due-init : goal.loop-due-init
@@ -27,26 +27,31 @@ loop-due-init g c =
       time = refl;
     }
 
-pub waiting-p-requires : goal.waiting-p-requires
-waiting-p-requires g c =
+pub mark_expired-p-requires : goal.mark_expired-p-requires
+mark_expired-p-requires g c =
     let due = c.in-Some.due in
     each-find (IsTimeout c.loop-due.rows.transfers.items) (λ e. timeout_key e == timeout_key due) due c.loop-due.rows.timeouts.items c.loop-due.invariant.index.all_timed c.in-Some.ensures.1
 
-pub release-requires-clause-found : goal.release-requires-clause-found
-release-requires-clause-found g c = refound transfer_row_key c.in-Some.due.id c.waiting-p.result c.loop-due.rows.transfers.items c.waiting-p.ensures.found
+pub release-requires-clause-apart : goal.release-requires-clause-apart
+release-requires-clause-apart g c =
+    let rows = c.loop-due.rows in
+    accounts_apart (books_in c.args.rows.now) c.requires.kept.sound rows.accounts.items rows.transfers.items c.in-Some.due.id c.mark_expired-p.result c.loop-due.invariant.accounts c.loop-due.invariant.transfers c.mark_expired-p.ensures.found
 
-pub release-requires-clause-holds : goal.release-requires-clause-holds
-release-requires-clause-holds g c =
-    let due = c.in-Some.due in
-    let p = c.waiting-p.result in
-    let its = each-find (IsTimeout c.loop-due.rows.transfers.items) (λ e. timeout_key e == timeout_key due) due c.loop-due.rows.timeouts.items c.loop-due.invariant.index.all_timed c.in-Some.ensures.1 in
-    (both_hold (row_holds p) (not (p.recorded.timeout == 0)) (of_due c.loop-due.rows.transfers.items due p its c.waiting-p.ensures.found).0).0
+pub release-requires-clause-debit : goal.release-requires-clause-debit
+release-requires-clause-debit g c =
+    let rows = c.loop-due.rows in
+    debit_party (books_in c.args.rows.now) c.requires.kept.sound rows.accounts.items rows.transfers.items c.in-Some.due.id c.mark_expired-p.result c.loop-due.invariant.accounts c.loop-due.invariant.transfers c.mark_expired-p.ensures.found
+
+pub release-requires-clause-credit : goal.release-requires-clause-credit
+release-requires-clause-credit g c =
+    let rows = c.loop-due.rows in
+    credit_party (books_in c.args.rows.now) c.requires.kept.sound rows.accounts.items rows.transfers.items c.in-Some.due.id c.mark_expired-p.result c.loop-due.invariant.accounts c.loop-due.invariant.transfers c.mark_expired-p.ensures.found
 
 pub loop-due-smaller : goal.loop-due-smaller
 loop-due-smaller g c =
     let due = c.in-Some.due in
     let old = c.loop-due.rows.timeouts.items in
-    let left = ap (λ v. v.items) (c.release.ensures.timeouts ∙ c.in-Some.ensures.2) in
+    let left = ap (λ v. v.items) c.in-Some.ensures.2 in
     subst (λ l. length l < length old) (sym left) (length-taken_out timeout_key (timeout_key due) due old c.in-Some.ensures.1)
 
 pub loop-due-preserved : goal.loop-due-preserved
@@ -54,29 +59,32 @@ loop-due-preserved g c =
     let rows = c.loop-due.rows in
     let inv = c.loop-due.invariant in
     let due = c.in-Some.due in
-    let p = c.waiting-p.result in
+    let p = c.mark_expired-p.result in
     let its = each-find (IsTimeout rows.transfers.items) (λ e. timeout_key e == timeout_key due) due rows.timeouts.items inv.index.all_timed c.in-Some.ensures.1 in
-    let of = of_due rows.transfers.items due p its c.waiting-p.ensures.found in
-    let there = refound transfer_row_key due.id p rows.transfers.items c.waiting-p.ensures.found in
+    let of = of_due rows.transfers.items due p its c.mark_expired-p.ensures.found in
+    let there = refound transfer_row_key due.id p rows.transfers.items c.mark_expired-p.ensures.found in
     let lapsed = due_lapses c.args.time p due of.0 of.1 c.in-Some.ensures.0 in
-    let marked = ap (λ v. v.items) c.release.ensures.transfers in
-    let changed = ap (λ v. v.items) c.release.ensures.accounts in
-    let taken = c.release.ensures.timeouts ∙ c.in-Some.ensures.2 in
-    let unlisted_is : c.release.new.rows.timeouts ≡ unlisted p rows.timeouts = taken ∙ sym (unlisted_due p due rows.timeouts of.0 of.1) in
+    let holds = (both_hold (row_holds p) (not (p.recorded.timeout == 0)) of.0).0 in
+    let later = c.release.new.accounts in
+    let left = c.mark_expired-p.new.transfers in
+    let marked = ap (λ v. v.items) c.mark_expired-p.ensures.transfers in
+    let changed = ap (λ v. v.items) c.release.ensures in
+    let taken = c.in-Some.ensures.2 in
+    let unlisted_is : c.pop_due.new.self ≡ unlisted p rows.timeouts = taken ∙ sym (unlisted_due p due rows.timeouts of.0 of.1) in
     record {
-      rising = c.release.ensures.rising;
-      sums = c.release.ensures.sums;
-      ahead = ahead_marked c.args.time (map (λ t. t.recorded) c.args.rows.now.transfers.items) p rows.transfers.items c.release.new.rows.transfers.items there lapsed marked inv.ahead;
-      index = rw (marked, unlisted_is) (index_closed rows.transfers.items rows.timeouts inv.index p Expired there refl c.release.ensures.transfers_rise inv.ordered);
+      rising = rising_released rows.accounts.items rows.transfers.items p inv.rising inv.sums there holds later.items changed;
+      sums = sums_after rows.accounts.items rows.transfers.items p inv.rising inv.sums there holds later.items left.items changed marked;
+      ahead = ahead_marked c.args.time (map (λ t. t.recorded) c.args.rows.now.transfers.items) p rows.transfers.items left.items there lapsed marked inv.ahead;
+      index = rw (marked, unlisted_is) (index_closed rows.transfers.items rows.timeouts inv.index p Expired there refl c.mark_expired-p.ensures.rising inv.ordered);
       ordered = rw taken (ordered_without due rows.timeouts inv.ordered);
-      accounts = accounts_stay p.recorded rows.accounts.items c.release.new.rows.accounts.items changed ∙ inv.accounts;
-      transfers = transfers_stay p rows.transfers.items c.release.new.rows.transfers.items there marked ∙ inv.transfers;
-      accounts_room = ap (λ v. v.spare) c.release.ensures.accounts ∙ inv.accounts_room;
-      transfers_room = ap (λ v. v.spare) c.release.ensures.transfers ∙ inv.transfers_room;
+      accounts = accounts_stay p.recorded rows.accounts.items later.items changed ∙ inv.accounts;
+      transfers = transfers_stay p rows.transfers.items left.items there marked ∙ inv.transfers;
+      accounts_room = ap (λ v. v.spare) c.release.ensures ∙ inv.accounts_room;
+      transfers_room = ap (λ v. v.spare) c.mark_expired-p.ensures.transfers ∙ inv.transfers_room;
       timeouts_room = omega (arith, ap (λ v. v.spare) taken, inv.timeouts_room);
-      failed = c.release.ensures.failed ∙ inv.failed;
-      keeps_failed = c.release.ensures.keeps_failed ∙ inv.keeps_failed;
-      time = c.release.ensures.time ∙ inv.time;
+      failed = inv.failed;
+      keeps_failed = inv.keeps_failed;
+      time = inv.time;
     }
 
 pub returns-clause-kept : goal.returns-clause-kept

@@ -1,6 +1,7 @@
-use Rattle.std.proofs.Common.{refl, ap, arith}
+use Rattle.std.proofs.Common.{◌≡◌, Some, refl, sym, ap, ◌∙◌, arith, rules}
+use Rattle.tb_records.specs.Ordered.{replaced}
 use Rattle.tb_ledger.specs.declared.tables.trail.Undo.TheVariants.{Transfer}
-use Rattle.tb_ledger.specs.Kept.{settled}
+use Rattle.tb_ledger.specs.Kept.{settled, transfer_row_key}
 use Rattle.tb_ledger.proofs.Trails.{undone_close, undone_timeouts, can_undone, other_accounts}
 use Rattle.tb_ledger.proofs.Index.{undone_unlisted, can_relist}
 use Rattle.tb_ledger.proofs.changes.resolving.close_row.Goals as goal
@@ -16,9 +17,16 @@ returns-clause-marked g c =
     let taken = c.unlist.ensures.timeouts in
     let back = undone_unlisted p ts c.unlist.ensures.ordered c.requires.is_listed in
     let can = can_relist p ts c.unlist.ensures.ordered c.requires.is_listed in
+    let transfers = c.args.transfers.now.items in
+    let later = c.update-closed.new.self.items in
+    let ch = c.in-Some.ensures.changed in
+    let called = ch.called in
+    let left_is : ch.left ≡ settled c.args.state ch.row = search rules in
+    let the_row : ch.row ≡ p = let e : Some ch.row ≡ Some p = sym ch.found ∙ c.requires.found in cc in
+    let closed : later ≡ replaced transfer_row_key (settled c.args.state p) transfers = ch.written ∙ ap (λ row. replaced transfer_row_key row transfers) (left_is ∙ ap (settled c.args.state) the_row) in
     record {
       undo_accounts = other_accounts c.args.trail.now.items c.push_reserved.new.self.items (Transfer p) (λ rows. refl) c.push_reserved.ensures.items;
-      undo_transfers = undone_close c.args.trail.now.items c.push_reserved.new.self.items p (settled c.args.state p) c.args.transfers.now.items c.replace.new.self.items c.push_reserved.ensures.items (ap (λ v. v.items) c.replace.ensures.table) c.requires.found;
+      undo_transfers = undone_close c.args.trail.now.items c.push_reserved.new.self.items p (settled c.args.state p) transfers later c.push_reserved.ensures.items closed c.requires.found;
       undo_timeouts = undone_timeouts c.args.trail.now.items c.push_reserved.new.self.items (Transfer p) ts moved c.push_reserved.ensures.items (rw taken back);
       can_unwind = can_undone c.args.trail.now.items c.push_reserved.new.self.items (Transfer p) ts moved c.push_reserved.ensures.items (rw taken back) (rw taken can);
       length = omega arith;

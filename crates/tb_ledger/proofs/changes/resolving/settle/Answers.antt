@@ -1,62 +1,40 @@
-use Rattle.std.proofs.Common.{refl, ap, ◌∙◌, ◌==◌, find}
+use Rattle.std.proofs.Common.{◌≡◌, ◌++◌, [], ◌∷◌, append_assoc, refl, sym, subst, ap, ◌∙◌, ◌==◌, find, Some, IsSome, arith}
 use Rattle.tb_records.specs.Ordered.{put, replaced}
+use Rattle.tb_ledger.specs.declared.tables.trail.Undo.TheVariants.{Account}
 use Rattle.tb_ledger.specs.Books.{closing_debit, closing_credit}
+use Rattle.tb_ledger.specs.Exchanges.{row_at}
 use Rattle.tb_ledger.specs.Kept.{on_debits, on_credits, released_and_gained, settled, listed, IsIndex, transfer_row_key, new_transfer_row}
-use Rattle.tb_ledger.proofs.Settled.{both_changed, found_still, refound, same_debit, same_credit, apart, at_most, debit_enough, credit_enough, fresh_still, listed_before, not_timed, index_with_resolver, books_with_resolver, ledger_with_resolver}
+use Rattle.tb_ledger.proofs.Passing.{noted_two}
+use Rattle.tb_ledger.proofs.Settled.{refound, same_debit, same_credit, apart, at_most, debit_enough, credit_enough, fresh_still, listed_before, not_timed, index_with_resolver, books_with_resolver, ledger_with_resolver}
+use Rattle.tb_ledger.proofs.VerdictLaws.{debit_there, credit_there, closed_by_rows}
 use Rattle.tb_ledger.proofs.changes.resolving.settle.Goals as goal
 
-pub settle_debit-requires-clause-found : goal.settle_debit-requires-clause-found
-settle_debit-requires-clause-found g c =
+pub settle_accounts-requires-clause-apart : goal.settle_accounts-requires-clause-apart
+settle_accounts-requires-clause-apart g c =
     let rows = c.args.rows.now in
-    ap (λ id. find (λ a. a.created.id == id) rows.accounts.items) (same_debit rows.accounts.items rows.transfers.items rows.failed.items rows.keeps_failed rows.timeouts.items rows.time c.requires.kept c.args.p.now c.args.r.now c.requires.found c.requires.resolves c.requires.is_resolver) ∙ c.requires.debit
+    apart rows.accounts.items rows.transfers.items rows.failed.items rows.keeps_failed rows.timeouts.items rows.time c.requires.kept c.args.p.now c.args.r.now c.requires.found c.requires.resolves c.requires.is_resolver
 
-pub settle_debit-requires-clause-enough : goal.settle_debit-requires-clause-enough
-settle_debit-requires-clause-enough g c =
+pub settle_accounts-requires-clause-debit : goal.settle_accounts-requires-clause-debit
+settle_accounts-requires-clause-debit g c =
     let rows = c.args.rows.now in
-    let same = same_debit rows.accounts.items rows.transfers.items rows.failed.items rows.keeps_failed rows.timeouts.items rows.time c.requires.kept c.args.p.now c.args.r.now c.requires.found c.requires.resolves c.requires.is_resolver in
-    let there = ap (λ id. find (λ a. a.created.id == id) rows.accounts.items) same ∙ c.requires.debit in
-    (debit_enough rows.accounts.items rows.transfers.items rows.failed.items rows.keeps_failed rows.timeouts.items rows.time c.requires.kept c.args.p.now c.args.r.now c.requires.found c.requires.resolves c.requires.is_resolver c.args.debit.now there).0
+    subst (λ id. IsSome (row_at rows.accounts.items id)) (sym (same_debit rows.accounts.items rows.transfers.items rows.failed.items rows.keeps_failed rows.timeouts.items rows.time c.requires.kept c.args.p.now c.args.r.now c.requires.found c.requires.resolves c.requires.is_resolver)) (debit_there rows c.requires.kept c.args.r.now.pending_id c.args.p.now c.requires.found)
 
-pub settle_debit-requires-clause-fit : goal.settle_debit-requires-clause-fit
-settle_debit-requires-clause-fit g c =
+pub settle_accounts-requires-clause-credit : goal.settle_accounts-requires-clause-credit
+settle_accounts-requires-clause-credit g c =
     let rows = c.args.rows.now in
-    let same = same_debit rows.accounts.items rows.transfers.items rows.failed.items rows.keeps_failed rows.timeouts.items rows.time c.requires.kept c.args.p.now c.args.r.now c.requires.found c.requires.resolves c.requires.is_resolver in
-    let there = ap (λ id. find (λ a. a.created.id == id) rows.accounts.items) same ∙ c.requires.debit in
-    (debit_enough rows.accounts.items rows.transfers.items rows.failed.items rows.keeps_failed rows.timeouts.items rows.time c.requires.kept c.args.p.now c.args.r.now c.requires.found c.requires.resolves c.requires.is_resolver c.args.debit.now there).1
+    subst (λ id. IsSome (row_at rows.accounts.items id)) (sym (same_credit rows.accounts.items rows.transfers.items rows.failed.items rows.keeps_failed rows.timeouts.items rows.time c.requires.kept c.args.p.now c.args.r.now c.requires.found c.requires.resolves c.requires.is_resolver)) (credit_there rows c.requires.kept c.args.r.now.pending_id c.args.p.now c.requires.found)
 
-pub settle_debit-requires-clause-at_most : goal.settle_debit-requires-clause-at_most
-settle_debit-requires-clause-at_most g c =
+pub settle_accounts-requires-clause-can_debit : goal.settle_accounts-requires-clause-can_debit
+settle_accounts-requires-clause-can_debit g c a there =
     let rows = c.args.rows.now in
-    at_most rows.accounts.items rows.transfers.items rows.failed.items rows.keeps_failed rows.timeouts.items rows.time c.requires.kept c.args.p.now c.args.r.now c.requires.found c.requires.resolves c.requires.is_resolver
+    let its = debit_enough rows.accounts.items rows.transfers.items rows.failed.items rows.keeps_failed rows.timeouts.items rows.time c.requires.kept c.args.p.now c.args.r.now c.requires.found c.requires.resolves c.requires.is_resolver a there in
+    record { enough = its.0; fit = its.1; at_most = at_most rows.accounts.items rows.transfers.items rows.failed.items rows.keeps_failed rows.timeouts.items rows.time c.requires.kept c.args.p.now c.args.r.now c.requires.found c.requires.resolves c.requires.is_resolver }
 
-pub settle_credit-requires-clause-found : goal.settle_credit-requires-clause-found
-settle_credit-requires-clause-found g c =
+pub settle_accounts-requires-clause-can_credit : goal.settle_accounts-requires-clause-can_credit
+settle_accounts-requires-clause-can_credit g c a there =
     let rows = c.args.rows.now in
-    let r = c.args.r.now in
-    let same = same_credit rows.accounts.items rows.transfers.items rows.failed.items rows.keeps_failed rows.timeouts.items rows.time c.requires.kept c.args.p.now c.args.r.now c.requires.found c.requires.resolves c.requires.is_resolver in
-    let there = ap (λ id. find (λ a. a.created.id == id) rows.accounts.items) same ∙ c.requires.credit in
-    let other = apart rows.accounts.items rows.transfers.items rows.failed.items rows.keeps_failed rows.timeouts.items rows.time c.requires.kept c.args.p.now c.args.r.now c.requires.found c.requires.resolves c.requires.is_resolver in
-    let still = found_still r.debit_account_id r.credit_account_id (on_debits (released_and_gained closing_debit c.args.p.now.recorded r)) c.args.credit.now rows.accounts.items (λ y. refl) other there in
-    ap (λ v. find (λ a. a.created.id == r.credit_account_id) v.items) c.settle_debit.ensures.accounts ∙ still
-
-pub settle_credit-requires-clause-enough : goal.settle_credit-requires-clause-enough
-settle_credit-requires-clause-enough g c =
-    let rows = c.args.rows.now in
-    let same = same_credit rows.accounts.items rows.transfers.items rows.failed.items rows.keeps_failed rows.timeouts.items rows.time c.requires.kept c.args.p.now c.args.r.now c.requires.found c.requires.resolves c.requires.is_resolver in
-    let there = ap (λ id. find (λ a. a.created.id == id) rows.accounts.items) same ∙ c.requires.credit in
-    (credit_enough rows.accounts.items rows.transfers.items rows.failed.items rows.keeps_failed rows.timeouts.items rows.time c.requires.kept c.args.p.now c.args.r.now c.requires.found c.requires.resolves c.requires.is_resolver c.args.credit.now there).0
-
-pub settle_credit-requires-clause-fit : goal.settle_credit-requires-clause-fit
-settle_credit-requires-clause-fit g c =
-    let rows = c.args.rows.now in
-    let same = same_credit rows.accounts.items rows.transfers.items rows.failed.items rows.keeps_failed rows.timeouts.items rows.time c.requires.kept c.args.p.now c.args.r.now c.requires.found c.requires.resolves c.requires.is_resolver in
-    let there = ap (λ id. find (λ a. a.created.id == id) rows.accounts.items) same ∙ c.requires.credit in
-    (credit_enough rows.accounts.items rows.transfers.items rows.failed.items rows.keeps_failed rows.timeouts.items rows.time c.requires.kept c.args.p.now c.args.r.now c.requires.found c.requires.resolves c.requires.is_resolver c.args.credit.now there).1
-
-pub settle_credit-requires-clause-at_most : goal.settle_credit-requires-clause-at_most
-settle_credit-requires-clause-at_most g c =
-    let rows = c.args.rows.now in
-    at_most rows.accounts.items rows.transfers.items rows.failed.items rows.keeps_failed rows.timeouts.items rows.time c.requires.kept c.args.p.now c.args.r.now c.requires.found c.requires.resolves c.requires.is_resolver
+    let its = credit_enough rows.accounts.items rows.transfers.items rows.failed.items rows.keeps_failed rows.timeouts.items rows.time c.requires.kept c.args.p.now c.args.r.now c.requires.found c.requires.resolves c.requires.is_resolver a there in
+    record { enough = its.0; fit = its.1; at_most = at_most rows.accounts.items rows.transfers.items rows.failed.items rows.keeps_failed rows.timeouts.items rows.time c.requires.kept c.args.p.now c.args.r.now c.requires.found c.requires.resolves c.requires.is_resolver }
 
 pub close_row-requires-clause-found : goal.close_row-requires-clause-found
 close_row-requires-clause-found g c = refound transfer_row_key c.args.r.now.pending_id c.args.p.now c.args.rows.now.transfers.items c.requires.found
@@ -80,24 +58,71 @@ add_row-requires-clause-can_list g c is =
     let dates = rw c.row_of-row.ensures.row at is in
     absurd (cc)
 
-pub returns-clause-kept : goal.returns-clause-kept
-returns-clause-kept g c =
+pub returns-in-Ok-clause-code : goal.returns-in-Ok-clause-code
+returns-in-Ok-clause-code g c =
     let rows = c.args.rows.now in
     let p = c.args.p.now in
     let r = c.args.r.now in
-    let both = both_changed r.debit_account_id r.credit_account_id (on_debits (released_and_gained closing_debit p.recorded r)) (on_credits (released_and_gained closing_credit p.recorded r)) rows.accounts c.settle_debit.new.accounts c.settle_credit.new.accounts c.settle_debit.ensures.accounts c.settle_credit.ensures.accounts in
+    let at = c.in-Ok.ensures.settled in
+    let debit = ap (λ id. row_at rows.accounts.items id) (sym (same_debit rows.accounts.items rows.transfers.items rows.failed.items rows.keeps_failed rows.timeouts.items rows.time c.requires.kept c.args.p.now c.args.r.now c.requires.found c.requires.resolves c.requires.is_resolver)) ∙ at.debit_there in
+    let credit = ap (λ id. row_at rows.accounts.items id) (sym (same_credit rows.accounts.items rows.transfers.items rows.failed.items rows.keeps_failed rows.timeouts.items rows.time c.requires.kept c.args.p.now c.args.r.now c.requires.found c.requires.resolves c.requires.is_resolver)) ∙ at.credit_there in
+    closed_by_rows rows c.requires.kept r p.recorded at.debit at.credit debit credit 0 (sym at.judged)
+
+pub returns-in-Err-clause-code : goal.returns-in-Err-clause-code
+returns-in-Err-clause-code g c =
+    let rows = c.args.rows.now in
+    let p = c.args.p.now in
+    let r = c.args.r.now in
+    let at = c.in-Err.ensures.settled in
+    let debit = ap (λ id. row_at rows.accounts.items id) (sym (same_debit rows.accounts.items rows.transfers.items rows.failed.items rows.keeps_failed rows.timeouts.items rows.time c.requires.kept c.args.p.now c.args.r.now c.requires.found c.requires.resolves c.requires.is_resolver)) ∙ at.debit_there in
+    let credit = ap (λ id. row_at rows.accounts.items id) (sym (same_credit rows.accounts.items rows.transfers.items rows.failed.items rows.keeps_failed rows.timeouts.items rows.time c.requires.kept c.args.p.now c.args.r.now c.requires.found c.requires.resolves c.requires.is_resolver)) ∙ at.credit_there in
+    closed_by_rows rows c.requires.kept r p.recorded at.debit at.credit debit credit c.in-Err.code (sym at.judged.0)
+
+pub returns-in-Ok-clause-kept : goal.returns-in-Ok-clause-kept
+returns-in-Ok-clause-kept g c =
+    let rows = c.args.rows.now in
+    let p = c.args.p.now in
+    let r = c.args.r.now in
+    let moved_on = c.in-Ok.ensures.settled.leaves.1 in
     let closed = ap (λ v. v.items) c.close_row.ensures.transfers ∙ ap (λ s. replaced transfer_row_key (settled s p) rows.transfers.items) c.state_given-state.ensures in
     let added = ap (λ v. v.items) c.add_row.ensures.transfers ∙ ap (λ row. put transfer_row_key row c.close_row.new.transfers.items) c.row_of-row.ensures.row ∙ ap (put transfer_row_key (new_transfer_row r)) closed in
     let moved = c.add_row.ensures.timeouts ∙ ap (λ row. listed row c.close_row.new.timeouts) c.row_of-row.ensures.row ∙ ap (listed (new_transfer_row r)) c.close_row.ensures.timeouts in
     let index : IsIndex c.add_row.new.transfers.items c.add_row.new.timeouts.items = rw (moved, added) (index_with_resolver rows.accounts.items rows.transfers.items rows.failed.items rows.keeps_failed rows.timeouts.items rows.time c.requires.kept p r c.requires.found c.requires.resolves c.requires.is_resolver rows.timeouts.spare c.requires.fresh c.close_row.ensures.rising c.close_row.ensures.ordered) in
-    ledger_with_resolver rows.accounts.items rows.transfers.items rows.failed.items rows.keeps_failed rows.timeouts.items rows.time c.requires.kept p r c.requires.found c.requires.resolves c.requires.is_resolver c.settle_credit.new.accounts.items c.add_row.new.transfers.items both.0 added c.add_row.new.timeouts.items index c.close_row.ensures.rising
+    ledger_with_resolver rows.accounts.items rows.transfers.items rows.failed.items rows.keeps_failed rows.timeouts.items rows.time c.requires.kept p r c.requires.found c.requires.resolves c.requires.is_resolver c.settle_accounts.new.accounts.items c.add_row.new.transfers.items moved_on added c.add_row.new.timeouts.items index c.close_row.ensures.rising
 
-pub returns-clause-books : goal.returns-clause-books
-returns-clause-books g c =
+pub returns-in-Ok-clause-books : goal.returns-in-Ok-clause-books
+returns-in-Ok-clause-books g c _ =
     let rows = c.args.rows.now in
     let p = c.args.p.now in
     let r = c.args.r.now in
-    let both = both_changed r.debit_account_id r.credit_account_id (on_debits (released_and_gained closing_debit p.recorded r)) (on_credits (released_and_gained closing_credit p.recorded r)) rows.accounts c.settle_debit.new.accounts c.settle_credit.new.accounts c.settle_debit.ensures.accounts c.settle_credit.ensures.accounts in
+    let moved_on = c.in-Ok.ensures.settled.leaves.1 in
     let closed = ap (λ v. v.items) c.close_row.ensures.transfers ∙ ap (λ s. replaced transfer_row_key (settled s p) rows.transfers.items) c.state_given-state.ensures in
     let added = ap (λ v. v.items) c.add_row.ensures.transfers ∙ ap (λ row. put transfer_row_key row c.close_row.new.transfers.items) c.row_of-row.ensures.row ∙ ap (put transfer_row_key (new_transfer_row r)) closed in
-    books_with_resolver rows.accounts.items rows.transfers.items rows.failed.items rows.keeps_failed rows.timeouts.items rows.time c.requires.kept p r c.requires.found c.requires.resolves c.requires.is_resolver c.settle_credit.new.accounts.items c.add_row.new.transfers.items both.0 added
+    books_with_resolver rows.accounts.items rows.transfers.items rows.failed.items rows.keeps_failed rows.timeouts.items rows.time c.requires.kept p r c.requires.found c.requires.resolves c.requires.is_resolver c.settle_accounts.new.accounts.items c.add_row.new.transfers.items moved_on added
+
+pub returns-in-Ok-clause-step : goal.returns-in-Ok-clause-step
+returns-in-Ok-clause-step g c =
+    let rows = c.args.rows.now in
+    let p = c.args.p.now.recorded in
+    let r = c.args.r.now in
+    let d = c.in-Ok.before.debit in
+    let k = c.in-Ok.before.credit in
+    let has = c.in-Ok.ensures.settled in
+    let us = c.args.trail.now.items in
+    let pushed : c.push_reserved-in-Ok.new.self.items ≡ us ++ Account d ∷ Account k ∷ [] = c.push_reserved-in-Ok.ensures.items ∙ ap (λ vs. vs ++ Account k ∷ []) c.push_reserved.ensures.items ∙ append_assoc us (Account d ∷ []) (Account k ∷ []) in
+    let differ = apart rows.accounts.items rows.transfers.items rows.failed.items rows.keeps_failed rows.timeouts.items rows.time c.requires.kept c.args.p.now c.args.r.now c.requires.found c.requires.resolves c.requires.is_resolver in
+    let noted = noted_two r.debit_account_id r.credit_account_id (on_debits (released_and_gained closing_debit p r)) (on_credits (released_and_gained closing_credit p r)) d k rows.accounts.items c.settle_accounts.new.accounts.items c.args.trail.now c.push_reserved-in-Ok.new.self (λ y. refl) (λ y. refl) pushed
+    (omega (arith, c.push_reserved.ensures.len, c.push_reserved-in-Ok.ensures.len)) (c.push_reserved-in-Ok.ensures.capacity ∙ c.push_reserved.ensures.capacity) differ (has.debit_there ∙ ap (λ x. Some x.debit) (sym has.leaves.0)) (has.credit_there ∙ ap (λ x. Some x.credit) (sym has.leaves.0)) has.leaves.1 in
+    let closed = c.close_row.ensures.marked in
+    let added = c.add_row.ensures.marked in
+    record {
+      undo_accounts = added.undo_accounts c.settle_accounts.new.accounts.items ∙ closed.undo_accounts c.settle_accounts.new.accounts.items ∙ noted.undo_accounts;
+      undo_transfers = added.undo_transfers ∙ closed.undo_transfers ∙ noted.undo_transfers rows.transfers.items;
+      undo_timeouts = added.undo_timeouts ∙ closed.undo_timeouts ∙ noted.undo_timeouts rows.timeouts;
+      can_unwind = λ can. added.can_unwind (closed.can_unwind (noted.can_unwind rows.timeouts can));
+      failed = refl;
+      keeps_failed = refl;
+      time = refl;
+      length = omega (arith, added.length, closed.length, noted.length);
+      capacity = added.capacity ∙ closed.capacity ∙ noted.capacity;
+    }

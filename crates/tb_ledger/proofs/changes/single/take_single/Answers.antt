@@ -5,12 +5,12 @@ use Rattle.tb_ledger.specs.Books.{account_now}
 use Rattle.tb_ledger.specs.Exchanges.{as_recorded}
 use Rattle.tb_ledger.specs.Kept.{books_in, row_now, transfer_row_key, times_out, listed, new_transfer_row, CanList, IsIndex}
 use Rattle.tb_ledger.specs.Sound.{transfer_key}
-use Rattle.tb_ledger.specs.Verdicts.{first_of, single_own_lines, single_code, transfer_verdict, balanced_between}
+use Rattle.tb_ledger.specs.Verdicts.{first_of, single_own_lines, transfer_verdict, balanced_between}
 use Rattle.tb_ledger.proofs.Accepted.{new_transfer, accounts_apart}
 use Rattle.tb_ledger.proofs.Index.{not_listed_yet, index_added}
 use Rattle.tb_ledger.proofs.Passing.{noted_passed}
 use Rattle.tb_ledger.proofs.Settled.{no_row, books_with_single, ledger_with_single}
-use Rattle.tb_ledger.proofs.VerdictLaws.{account_stands, single_verdict, two_accounts, balanced_found, recorded_pair, own_refused, pair_left, recorded_single}
+use Rattle.tb_ledger.proofs.VerdictLaws.{account_stands, single_verdict, verdict_by_rows, balanced_found, recorded_pair, own_refused, recorded_single}
 use Rattle.tb_ledger.proofs.changes.single.take_single.Goals as goal
 
 pub returns-then-code-ne0-clause-code : goal.returns-then-code-ne0-clause-code
@@ -30,10 +30,10 @@ add_row-requires-clause-fresh g c =
     let own : first_of (single_own_lines t) ≡ 0 = sym c.single_own-code.ensures ∙ c.if-code-ne0.false in
     let x = c.in-Ok.passed in
     let ex = c.in-Ok.ensures.exchanged in
-    let debit = account_stands rows c.requires.kept t.debit_account_id ∙ ap (option_map row_now) ex.0 in
-    let credit = account_stands rows c.requires.kept t.credit_account_id ∙ ap (option_map row_now) ex.1 in
-    let verdict : transfer_verdict B t c.args.time ≡ 0 = single_verdict B t c.args.time c.requires.free c.requires.single ∙ two_accounts B t c.args.time (row_now x.debit) (row_now x.credit) own debit credit ∙ ex.2 in
-    let amount : x.amount ≡ balanced_between (account_now B t.debit_account_id) (account_now B t.credit_account_id) t = ex.3 ∙ balanced_found B t (row_now x.debit) (row_now x.credit) debit credit in
+    let debit = account_stands rows c.requires.kept t.debit_account_id ∙ ap (option_map row_now) ex.1.0 in
+    let credit = account_stands rows c.requires.kept t.credit_account_id ∙ ap (option_map row_now) ex.1.1 in
+    let verdict : transfer_verdict B t c.args.time ≡ 0 = verdict_by_rows rows c.requires.kept t c.args.time c.requires.free c.requires.single own ∙ ex.0 in
+    let amount : x.amount ≡ balanced_between (account_now B t.debit_account_id) (account_now B t.credit_account_id) t = ex.1.2 ∙ balanced_found B t (row_now x.debit) (row_now x.credit) debit credit in
     let moves = recorded_pair B t c.args.time x.amount c.requires.single verdict amount in
     let recorded = as_recorded t x.amount c.args.time in
     let new = new_transfer B t c.args.time verdict in
@@ -48,10 +48,10 @@ add_row-requires-clause-can_list g c =
     let own : first_of (single_own_lines t) ≡ 0 = sym c.single_own-code.ensures ∙ c.if-code-ne0.false in
     let x = c.in-Ok.passed in
     let ex = c.in-Ok.ensures.exchanged in
-    let debit = account_stands rows c.requires.kept t.debit_account_id ∙ ap (option_map row_now) ex.0 in
-    let credit = account_stands rows c.requires.kept t.credit_account_id ∙ ap (option_map row_now) ex.1 in
-    let verdict : transfer_verdict B t c.args.time ≡ 0 = single_verdict B t c.args.time c.requires.free c.requires.single ∙ two_accounts B t c.args.time (row_now x.debit) (row_now x.credit) own debit credit ∙ ex.2 in
-    let amount : x.amount ≡ balanced_between (account_now B t.debit_account_id) (account_now B t.credit_account_id) t = ex.3 ∙ balanced_found B t (row_now x.debit) (row_now x.credit) debit credit in
+    let debit = account_stands rows c.requires.kept t.debit_account_id ∙ ap (option_map row_now) ex.1.0 in
+    let credit = account_stands rows c.requires.kept t.credit_account_id ∙ ap (option_map row_now) ex.1.1 in
+    let verdict : transfer_verdict B t c.args.time ≡ 0 = verdict_by_rows rows c.requires.kept t c.args.time c.requires.free c.requires.single own ∙ ex.0 in
+    let amount : x.amount ≡ balanced_between (account_now B t.debit_account_id) (account_now B t.credit_account_id) t = ex.1.2 ∙ balanced_found B t (row_now x.debit) (row_now x.credit) debit credit in
     let moves = recorded_pair B t c.args.time x.amount c.requires.single verdict amount in
     let recorded = as_recorded t x.amount c.args.time in
     let new = new_transfer B t c.args.time verdict in
@@ -65,16 +65,8 @@ add_row-requires-clause-can_list g c =
 
 pub returns-in-Ok-clause-code : goal.returns-in-Ok-clause-code
 returns-in-Ok-clause-code g c =
-    let rows = c.args.rows.now in
-    let B = books_in rows in
-    let t = c.args.t.now in
-    let own : first_of (single_own_lines t) ≡ 0 = sym c.single_own-code.ensures ∙ c.if-code-ne0.false in
-    let x = c.in-Ok.passed in
-    let ex = c.in-Ok.ensures.exchanged in
-    let debit = account_stands rows c.requires.kept t.debit_account_id ∙ ap (option_map row_now) ex.0 in
-    let credit = account_stands rows c.requires.kept t.credit_account_id ∙ ap (option_map row_now) ex.1 in
-    let verdict : transfer_verdict B t c.args.time ≡ 0 = single_verdict B t c.args.time c.requires.free c.requires.single ∙ two_accounts B t c.args.time (row_now x.debit) (row_now x.credit) own debit credit ∙ ex.2 in
-    sym verdict
+    let own : first_of (single_own_lines c.args.t.now) ≡ 0 = sym c.single_own-code.ensures ∙ c.if-code-ne0.false in
+    sym (verdict_by_rows c.args.rows.now c.requires.kept c.args.t.now c.args.time c.requires.free c.requires.single own ∙ c.in-Ok.ensures.exchanged.0)
 
 pub returns-in-Ok-clause-done : goal.returns-in-Ok-clause-done
 returns-in-Ok-clause-done g c _ =
@@ -84,13 +76,13 @@ returns-in-Ok-clause-done g c _ =
     let own : first_of (single_own_lines t) ≡ 0 = sym c.single_own-code.ensures ∙ c.if-code-ne0.false in
     let x = c.in-Ok.passed in
     let ex = c.in-Ok.ensures.exchanged in
-    let debit = account_stands rows c.requires.kept t.debit_account_id ∙ ap (option_map row_now) ex.0 in
-    let credit = account_stands rows c.requires.kept t.credit_account_id ∙ ap (option_map row_now) ex.1 in
-    let verdict : transfer_verdict B t c.args.time ≡ 0 = single_verdict B t c.args.time c.requires.free c.requires.single ∙ two_accounts B t c.args.time (row_now x.debit) (row_now x.credit) own debit credit ∙ ex.2 in
-    let amount : x.amount ≡ balanced_between (account_now B t.debit_account_id) (account_now B t.credit_account_id) t = ex.3 ∙ balanced_found B t (row_now x.debit) (row_now x.credit) debit credit in
+    let debit = account_stands rows c.requires.kept t.debit_account_id ∙ ap (option_map row_now) ex.1.0 in
+    let credit = account_stands rows c.requires.kept t.credit_account_id ∙ ap (option_map row_now) ex.1.1 in
+    let verdict : transfer_verdict B t c.args.time ≡ 0 = verdict_by_rows rows c.requires.kept t c.args.time c.requires.free c.requires.single own ∙ ex.0 in
+    let amount : x.amount ≡ balanced_between (account_now B t.debit_account_id) (account_now B t.credit_account_id) t = ex.1.2 ∙ balanced_found B t (row_now x.debit) (row_now x.credit) debit credit in
     let recorded = as_recorded t x.amount c.args.time in
     let added : c.add_row.new.transfers.items ≡ put transfer_row_key (new_transfer_row recorded) rows.transfers.items = ap (λ v. v.items) c.add_row.ensures.transfers ∙ ap (λ row. put transfer_row_key row rows.transfers.items) c.row_of-row.ensures.row in
-    books_with_single rows.accounts.items rows.transfers.items rows.failed.items rows.keeps_failed rows.timeouts.items rows.time c.requires.kept recorded c.exchange.new.accounts.items c.add_row.new.transfers.items ex.4 added
+    books_with_single rows.accounts.items rows.transfers.items rows.failed.items rows.keeps_failed rows.timeouts.items rows.time c.requires.kept recorded c.exchange.new.accounts.items c.add_row.new.transfers.items ex.1.3 added
     ∙ ap (λ r. record B { transfers = put transfer_key r B.transfers }) (sym (recorded_single B t c.args.time x.amount c.requires.single amount))
 
 pub returns-in-Ok-clause-kept : goal.returns-in-Ok-clause-kept
@@ -101,10 +93,10 @@ returns-in-Ok-clause-kept g c =
     let own : first_of (single_own_lines t) ≡ 0 = sym c.single_own-code.ensures ∙ c.if-code-ne0.false in
     let x = c.in-Ok.passed in
     let ex = c.in-Ok.ensures.exchanged in
-    let debit = account_stands rows c.requires.kept t.debit_account_id ∙ ap (option_map row_now) ex.0 in
-    let credit = account_stands rows c.requires.kept t.credit_account_id ∙ ap (option_map row_now) ex.1 in
-    let verdict : transfer_verdict B t c.args.time ≡ 0 = single_verdict B t c.args.time c.requires.free c.requires.single ∙ two_accounts B t c.args.time (row_now x.debit) (row_now x.credit) own debit credit ∙ ex.2 in
-    let amount : x.amount ≡ balanced_between (account_now B t.debit_account_id) (account_now B t.credit_account_id) t = ex.3 ∙ balanced_found B t (row_now x.debit) (row_now x.credit) debit credit in
+    let debit = account_stands rows c.requires.kept t.debit_account_id ∙ ap (option_map row_now) ex.1.0 in
+    let credit = account_stands rows c.requires.kept t.credit_account_id ∙ ap (option_map row_now) ex.1.1 in
+    let verdict : transfer_verdict B t c.args.time ≡ 0 = verdict_by_rows rows c.requires.kept t c.args.time c.requires.free c.requires.single own ∙ ex.0 in
+    let amount : x.amount ≡ balanced_between (account_now B t.debit_account_id) (account_now B t.credit_account_id) t = ex.1.2 ∙ balanced_found B t (row_now x.debit) (row_now x.credit) debit credit in
     let moves = recorded_pair B t c.args.time x.amount c.requires.single verdict amount in
     let recorded = as_recorded t x.amount c.args.time in
     let new = new_transfer B t c.args.time verdict in
@@ -117,7 +109,7 @@ returns-in-Ok-clause-kept g c =
     let added : c.add_row.new.transfers.items ≡ put transfer_row_key (new_transfer_row recorded) rows.transfers.items = ap (λ v. v.items) c.add_row.ensures.transfers ∙ ap (λ row. put transfer_row_key row rows.transfers.items) c.row_of-row.ensures.row in
     let listed_is = c.add_row.ensures.timeouts ∙ ap (λ row. listed row rows.timeouts) c.row_of-row.ensures.row in
     let index : IsIndex c.add_row.new.transfers.items c.add_row.new.timeouts.items = rw (listed_is, added) (index_added rows.transfers.items rows.timeouts c.requires.kept.index (new_transfer_row recorded) fresh can) in
-    ledger_with_single rows.accounts.items rows.transfers.items rows.failed.items rows.keeps_failed rows.timeouts.items rows.time c.requires.kept recorded c.exchange.new.accounts.items c.add_row.new.transfers.items ex.4 added c.add_row.new.timeouts.items new c.requires.single c.requires.stamped moves index
+    ledger_with_single rows.accounts.items rows.transfers.items rows.failed.items rows.keeps_failed rows.timeouts.items rows.time c.requires.kept recorded c.exchange.new.accounts.items c.add_row.new.transfers.items ex.1.3 added c.add_row.new.timeouts.items new c.requires.single c.requires.stamped moves index
 
 pub returns-in-Ok-clause-step : goal.returns-in-Ok-clause-step
 returns-in-Ok-clause-step g c =
@@ -128,7 +120,7 @@ returns-in-Ok-clause-step g c =
     let us = c.args.trail.now.items in
     let apart = accounts_apart t (sym c.single_own-code.ensures ∙ c.if-code-ne0.false) in
     let pushed : c.push_reserved-in-Ok.new.self.items ≡ us ++ Account x.debit ∷ Account x.credit ∷ [] = c.push_reserved-in-Ok.ensures.items ∙ ap (λ vs. vs ++ Account x.credit ∷ []) c.push_reserved.ensures.items ∙ append_assoc us (Account x.debit ∷ []) (Account x.credit ∷ []) in
-    let noted = noted_passed (as_recorded t x.amount c.args.time) x.debit x.credit rows.accounts.items c.exchange.new.accounts.items c.args.trail.now c.push_reserved-in-Ok.new.self pushed (omega (arith, c.push_reserved.ensures.len, c.push_reserved-in-Ok.ensures.len)) (c.push_reserved-in-Ok.ensures.capacity ∙ c.push_reserved.ensures.capacity) apart ex.0 ex.1 ex.4 in
+    let noted = noted_passed (as_recorded t x.amount c.args.time) x.debit x.credit rows.accounts.items c.exchange.new.accounts.items c.args.trail.now c.push_reserved-in-Ok.new.self pushed (omega (arith, c.push_reserved.ensures.len, c.push_reserved-in-Ok.ensures.len)) (c.push_reserved-in-Ok.ensures.capacity ∙ c.push_reserved.ensures.capacity) apart ex.1.0 ex.1.1 ex.1.3 in
     let marked = c.add_row.ensures.marked in
     record {
       undo_accounts = marked.undo_accounts c.exchange.new.accounts.items ∙ noted.undo_accounts;
@@ -144,12 +136,5 @@ returns-in-Ok-clause-step g c =
 
 pub returns-in-Err-clause-code : goal.returns-in-Err-clause-code
 returns-in-Err-clause-code g c =
-    let rows = c.args.rows.now in
-    let B = books_in rows in
-    let t = c.args.t.now in
-    let own : first_of (single_own_lines t) ≡ 0 = sym c.single_own-code.ensures ∙ c.if-code-ne0.false in
-    let ex = c.in-Err.ensures.exchanged in
-    let debit = account_stands rows c.requires.kept t.debit_account_id in
-    let credit = account_stands rows c.requires.kept t.credit_account_id in
-    let code : single_code B t c.args.time ≡ c.in-Err.code = pair_left B t c.args.time own ∙ rw (debit, credit) ex.0 in
-    sym (single_verdict B t c.args.time c.requires.free c.requires.single ∙ code)
+    let own : first_of (single_own_lines c.args.t.now) ≡ 0 = sym c.single_own-code.ensures ∙ c.if-code-ne0.false in
+    sym (verdict_by_rows c.args.rows.now c.requires.kept c.args.t.now c.args.time c.requires.free c.requires.single own ∙ c.in-Err.ensures.exchanged.0.0)

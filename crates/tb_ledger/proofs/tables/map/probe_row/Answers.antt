@@ -3,7 +3,8 @@ use Rattle.std.specs.Ordering.{nat_cmp}
 use Rattle.std.proofs.lemmas.Map.Entries.{length-values_of}
 use Rattle.avl_tree.specs.Map.{entries}
 use Rattle.avl_tree.specs.Search.{least}
-use Rattle.tb_ledger.proofs.Entries.{found-row, no_visits}
+use Rattle.tb_records.proofs.Entries.{found-row}
+use Rattle.tb_ledger.proofs.Entries.{no_visits}
 use Rattle.tb_ledger.proofs.tables.map.probe_row.Goals as goal
 
 pub returns-clause-row : goal.returns-clause-row

@@ -2,8 +2,9 @@ use Rattle.std.proofs.Common.{refl, sym, ap, subst, ◌∙◌}
 use Rattle.std.specs.Map.{values_of}
 use Rattle.tb_records.specs.Ordered.{Each, Rising}
 use Rattle.tb_records.proofs.ByKey.{rising-replaced}
+use Rattle.tb_records.proofs.Entries.{Own, own-replaced, rows-replaced}
 use Rattle.avl_tree.specs.Map.{entries}
-use Rattle.tb_ledger.proofs.Entries.{Own, own-replaced, rows-replaced, set-either}
+use Rattle.tb_ledger.proofs.Entries.{set-either}
 use Rattle.tb_ledger.proofs.tables.map.replace_row.Goals as goal
 
 pub returns-clause-table : goal.returns-clause-table
@@ -11,7 +12,7 @@ returns-clause-table g c =
     let key = g.V.Keyed.key in
     let row = c.args.row in
     let es = entries c.args.rows.now in
-    let wrote = rw c.key.ensures at (set-either key c.args.rows.now c.set.new.self c.set.result c.key.result row c.set.ensures.written c.set.ensures.absent) in
+    let wrote = rw c.key.ensures at (set-either c.args.rows.now c.set.new.self c.set.result c.key.result row c.set.ensures.written c.set.ensures.absent) in
     let rows = rows-replaced key row (key row) es refl c.requires.table.own in
     record {
       own = subst (Each (Own key)) (sym wrote) (own-replaced key row (key row) es refl c.requires.table.own);
@@ -23,5 +24,5 @@ returns-clause-rows g c =
     let key = g.V.Keyed.key in
     let row = c.args.row in
     let es = entries c.args.rows.now in
-    let wrote = rw c.key.ensures at (set-either key c.args.rows.now c.set.new.self c.set.result c.key.result row c.set.ensures.written c.set.ensures.absent) in
+    let wrote = rw c.key.ensures at (set-either c.args.rows.now c.set.new.self c.set.result c.key.result row c.set.ensures.written c.set.ensures.absent) in
     ap values_of wrote ∙ rows-replaced key row (key row) es refl c.requires.table.own

@@ -2,7 +2,8 @@ use Rattle.std.proofs.Common.{◌≡◌, false, eqb, ap, ◌∙◌, arith}
 use Rattle.std.proofs.lemmas.Bool.Decides.{nat_tests}
 use Rattle.std.specs.Map.{values_of}
 use Rattle.avl_tree.specs.Map.{entries}
-use Rattle.tb_ledger.proofs.Entries.{eq-number, some-leads, none-leads, missing-rows, changed-rows, changed-either}
+use Rattle.tb_records.proofs.Entries.{eq-number}
+use Rattle.tb_ledger.proofs.Entries.{some-leads, none-leads, missing-rows, changed-rows, changed-either}
 use Rattle.tb_ledger.proofs.tables.map.update_rows.Goals as goal
 
 pub update_two-requires-clause-differ : goal.update_two-requires-clause-differ

@@ -1,10 +1,11 @@
 use Rattle.std.proofs.Common.{◌≤◌, refl, sym, ap, subst, ◌∙◌, arith}
 use Rattle.std.specs.Ordering.{nat_cmp, ordering_then}
 use Rattle.tb_records.proofs.ByKey.{rising-put, each-put}
+use Rattle.tb_records.proofs.Entries.{rows-inserted, unseen}
 use Rattle.avl_tree.specs.Map.{entries}
 use Rattle.tb_ledger.specs.Timeouts.{timeout_key, timeout_at, timeouts_of, AreTimeouts}
 use Rattle.tb_ledger.specs.Verdicts.{int_max}
-use Rattle.tb_ledger.proofs.Entries.{timeouts-agree, rows-inserted, unseen}
+use Rattle.tb_ledger.proofs.Entries.{timeouts-agree}
 use Rattle.tb_ledger.proofs.tables.timeouts.insert_key.Goals as goal
 
 pub insert_reserved-requires-clause-absent : goal.insert_reserved-requires-clause-absent

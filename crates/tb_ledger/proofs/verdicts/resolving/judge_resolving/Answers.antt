@@ -1,33 +1,54 @@
-use Rattle.std.proofs.Common.{◌≡◌, ◌≢◌, IfOk, subst, sym, ap, ◌∙◌, option_map, arith}
-use Rattle.tb_ledger.specs.Found.{Judges}
+use Rattle.std.proofs.Common.{◌≢◌, refl, subst, sym, ap, ◌∙◌, option_map, arith}
 use Rattle.tb_ledger.specs.Kept.{books_in}
+use Rattle.tb_ledger.specs.Found.{FoundPending}
+use Rattle.tb_ledger.specs.Settlings.{closed_code}
 use Rattle.tb_ledger.proofs.Accepted.{filled_found}
-use Rattle.tb_ledger.proofs.VerdictLaws.{transfer_stands, resolve_refused, resolve_missing, resolve_found}
+use Rattle.tb_ledger.proofs.VerdictLaws.{transfer_stands, resolve_refused, resolve_missing, resolve_found, named_row, pending_fits, pair_first, pair_second}
 use Rattle.tb_ledger.proofs.verdicts.resolving.judge_resolving.Goals as goal
 
-pub returns-then-code-ne0-clause-judged : goal.returns-then-code-ne0-clause-judged
-returns-then-code-ne0-clause-judged g c = (resolve_refused (books_in c.args.rows.now) c.args.t.now c.resolve_own-code.result c.resolve_own-code.ensures c.if-code-ne0.true, c.if-code-ne0.true)
+pub returns-then-code-ne0-clause-refused : goal.returns-then-code-ne0-clause-refused
+returns-then-code-ne0-clause-refused g c = (resolve_refused (books_in c.args.rows.now) c.args.t.now c.resolve_own-code.result c.resolve_own-code.ensures c.if-code-ne0.true, c.if-code-ne0.true)
 
-pub returns-in-Some-clause-judged : goal.returns-in-Some-clause-judged
-returns-in-Some-clause-judged g c =
-    let B = books_in c.args.rows.now in
-    let t = c.args.t.now in
-    let found = transfer_stands c.args.rows.now t.pending_id ∙ ap (option_map (λ p. p.recorded)) (sym c.in-Some.ensures) in
-    let code = resolve_found B t c.in-Some.p.now.recorded c.resolve_own-code.result c.resolve_own-code.ensures c.if-code-ne0.false found in
-    subst (Judges c.judge_named.result) (sym code) c.judge_named.ensures.judged
-
-pub returns-in-Some-clause-record : goal.returns-in-Some-clause-record
-returns-in-Some-clause-record g c =
-    let B = books_in c.args.rows.now in
-    let t = c.args.t.now in
-    let found = transfer_stands c.args.rows.now t.pending_id ∙ ap (option_map (λ p. p.recorded)) (sym c.in-Some.ensures) in
-    subst (λ f. IfOk c.judge_named.result (λ x. x.record ≡ f)) (sym (filled_found B t c.in-Some.p.now.recorded c.requires.resolving found)) c.judge_named.ensures.record
-
-pub returns-in-None-clause-judged : goal.returns-in-None-clause-judged
-returns-in-None-clause-judged g c =
+pub returns-in-None-clause-refused : goal.returns-in-None-clause-refused
+returns-in-None-clause-refused g c =
     let t = c.args.t.now in
     let refused : 25 ≢ 0 = omega arith in (
       resolve_missing (books_in c.args.rows.now) t c.resolve_own-code.result c.resolve_own-code.ensures c.if-code-ne0.false
           (transfer_stands c.args.rows.now t.pending_id ∙ ap (option_map (λ p. p.recorded)) (sym c.in-None.ensures)),
       refused,
     )
+
+pub returns-then-code-ne0-2-clause-refused : goal.returns-then-code-ne0-2-clause-refused
+returns-then-code-ne0-2-clause-refused g c =
+    let rows = c.args.rows.now in
+    let B = books_in rows in
+    let t = c.args.t.now in
+    let p = c.in-Some.p.now in
+    let found = transfer_stands rows t.pending_id ∙ ap (option_map (λ p. p.recorded)) (sym c.in-Some.ensures) in (
+      resolve_found B t p.recorded c.resolve_own-code.result c.resolve_own-code.ensures c.if-code-ne0.false found
+          ∙ named_row rows c.requires.kept t.pending_id p (sym c.in-Some.ensures) t c.resolve_named-code.result (closed_code B t p.recorded) c.resolve_named-code.ensures refl
+          ∙ pair_first c.resolve_named-code.result (closed_code B t p.recorded) c.if-code-ne0-2.true,
+      c.if-code-ne0-2.true,
+    )
+
+pub returns-else-code-ne0-2-clause-left : goal.returns-else-code-ne0-2-clause-left
+returns-else-code-ne0-2-clause-left g c =
+    let rows = c.args.rows.now in
+    let B = books_in rows in
+    let t = c.args.t.now in
+    let p = c.in-Some.p.now in
+    let found = transfer_stands rows t.pending_id ∙ ap (option_map (λ p. p.recorded)) (sym c.in-Some.ensures) in
+    resolve_found B t p.recorded c.resolve_own-code.result c.resolve_own-code.ensures c.if-code-ne0.false found
+    ∙ named_row rows c.requires.kept t.pending_id p (sym c.in-Some.ensures) t c.resolve_named-code.result (closed_code B t p.recorded) c.resolve_named-code.ensures refl
+    ∙ pair_second c.resolve_named-code.result (closed_code B t p.recorded) c.if-code-ne0-2.false
+
+pub returns-else-code-ne0-2-clause-record : goal.returns-else-code-ne0-2-clause-record
+returns-else-code-ne0-2-clause-record g c =
+    let t = c.args.t.now in
+    let found = transfer_stands c.args.rows.now t.pending_id ∙ ap (option_map (λ p. p.recorded)) (sym c.in-Some.ensures) in
+    c.filled.ensures ∙ sym (filled_found (books_in c.args.rows.now) t c.in-Some.p.now.recorded c.requires.resolving found)
+
+pub returns-else-code-ne0-2-clause-found : goal.returns-else-code-ne0-2-clause-found
+returns-else-code-ne0-2-clause-found g c =
+    let fits = pending_fits c.args.rows.now c.requires.kept c.in-Some.p.now c.args.t.now (sym c.in-Some.ensures) c.requires.resolving c.resolve_own-code.result c.resolve_named-code.result c.resolve_own-code.ensures c.if-code-ne0.false c.resolve_named-code.ensures c.if-code-ne0-2.false in
+    subst (FoundPending (books_in c.args.rows.now)) (sym c.filled.ensures) fits

@@ -1,0 +1,20 @@
+use Rattle.std.proofs.Common.{sym, subst}
+use Rattle.std.specs.Map.{values_of}
+use Rattle.avl_tree.specs.Map.{entries}
+use Rattle.tb_ledger.specs.Tables.{rows_in, MayBeKey}
+use Rattle.tb_ledger.proofs.KnownKeys.{OfKeys, known-put}
+use Rattle.tb_ledger.proofs.tables.map.Table.insert_reserved.Goals as goal
+use Rattle.tb_ledger.proofs.tables.map.Table.insert_reserved.Goals.{in-Some, in-None}
+
+pub invariant_of-self : goal.invariant_of-self
+invariant_of-self g c =
+    let key = g.V.Keyed.key in
+    let may = MayBeKey c.self.inside.known in
+    elim c.match-self.branch [
+      | in-Some w ↦
+          let known = subst (λ m. OfKeys key may (rows_in m)) w.in-Some.is c.self.invariant.may in
+          let rows = values_of (entries w.in-Some.rows) in
+          let later = MayBeKey c.admit.new.self in
+          rw w.self-inside-is (record { table = w.insert_row.ensures.table; may = subst (OfKeys key later) (sym w.insert_row.ensures.rows) (known-put key may later c.key.result c.args.row rows c.key.ensures c.admit.ensures.here c.admit.ensures.others known) })
+      | in-None w ↦ rw (w.self-inside-is, w.in-None.is) (record { table = record { own = tt; rising = tt }; may = tt })
+    ]

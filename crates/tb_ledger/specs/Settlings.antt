@@ -1,0 +1,43 @@
+-- A post or void, by the rows of the accounts of its pending transfer.
+use Rattle.std.specs.Prelude.{ℕ, ◌≡◌, ◌+◌, ◌≤◌, List, Some, Result, MatchResult}
+use Rattle.tb_records.specs.declared.records.Transfer.{Transfer}
+use Rattle.tb_ledger.specs.declared.tables.rows.Side.{Side}
+use Rattle.tb_ledger.specs.declared.tables.rows.AccountRow.{AccountRow}
+use Rattle.tb_ledger.specs.declared.changes.resolving.Parties.{Parties}
+use Rattle.tb_ledger.specs.Books.{Books, closing_debit, closing_credit}
+use Rattle.tb_ledger.specs.Exchanges.{row_at}
+use Rattle.tb_ledger.specs.Found.{Judges}
+use Rattle.tb_ledger.specs.Kept.{row_closed, on_debits, on_credits, released_and_gained, accounts_released_and_gained}
+use Rattle.tb_ledger.specs.Verdicts.{closed_at, closed_lines, first_of, int_max}
+
+-- the code of t by the accounts of p, as they stand
+abbrev pub closed_code : Books → Transfer → Transfer → ℕ
+closed_code B t p = first_of (closed_lines t (closed_at B p.debit_account_id) (closed_at B p.credit_account_id))
+
+-- the side holds what p does, of which r takes no more, and its sums fit
+pub record CanSettle (p r : Transfer) (s : Side) : Type 0 where
+  pub enough : p.amount ≤ s.pending
+  pub fit : s.pending + s.posted ≤ int_max
+  pub at_most : r.amount ≤ p.amount
+
+-- the rows d and c of both accounts are settled, where they can be
+abbrev pub BothSettled : Transfer → Transfer → AccountRow → AccountRow → Parties → AccountRow → AccountRow → Type 0
+BothSettled p r d c x d' c' =
+    (x ≡ record { debit = d; credit = c })
+    × (CanSettle p r d.debits → d' ≡ on_debits (released_and_gained closing_debit p r) d)
+    × (CanSettle p r c.credits → c' ≡ on_credits (released_and_gained closing_credit p r) c)
+
+-- r is judged by both rows: it settles them, or it is refused and they stay
+abbrev pub Settles : Transfer → Transfer → AccountRow → AccountRow → Result Parties ℕ → AccountRow → AccountRow → Type 0
+Settles p r d c result d' c' =
+    Judges result (first_of (closed_lines r (row_closed d) (row_closed c)))
+    × MatchResult result (λ x. BothSettled p r d c x d' c') (λ _. (d' ≡ d) × (c' ≡ c))
+
+-- the same of a table of accounts, where both stand
+pub record SettlesIn (p r : Transfer) (accounts : List AccountRow) (result : Result Parties ℕ) (later : List AccountRow) : Type 0 where
+  pub debit : AccountRow
+  pub credit : AccountRow
+  pub debit_there : row_at accounts r.debit_account_id ≡ Some debit
+  pub credit_there : row_at accounts r.credit_account_id ≡ Some credit
+  pub judged : Judges result (first_of (closed_lines r (row_closed debit) (row_closed credit)))
+  pub leaves : MatchResult result (λ x. (x ≡ record { debit = debit; credit = credit }) × (later ≡ accounts_released_and_gained p r accounts)) (λ _. later ≡ accounts)
