@@ -15,7 +15,7 @@ use Rattle.tb_machine.specs.ScriptLaws.{AreLawful, AcceptedIsLegal, IsGiven, IsR
 use Rattle.tb_machine.proofs.Legal.{after_snoc, legal_snoc}
 use Rattle.tb_machine.proofs.Judging.{MayCome, comes}
 use Rattle.tb_machine.proofs.LawProofs.{first_reply}
-use Rattle.tb_machine.proofs.Rows.{each_map}
+use Rattle.tb_records.proofs.ByKey.{each-map}
 use Rattle.tb_machine.proofs.SoundSteps.{lawful_of}
 use Rattle.tb_machine.proofs.Turns.{answer_after, answer_refused}
 
@@ -173,7 +173,7 @@ replies_are_of_history profile clients_max ps lawful = replies_of profile client
 spelled_lawful : (ps : List Pair) (before after : Option (List ℕ)) (bytes : List ℕ) → before ≡ Some bytes → Spell ps before after → AreLawful ps
 spelled_lawful ps None after bytes is spelled = absurd cc
 spelled_lawful ps (Some b) None bytes is spelled = absurd spelled
-spelled_lawful ps (Some b) (Some a) bytes is spelled = each_map IsPair (λ (p : Pair). IsTrue (is_lawful p.1)) (λ p pair. ap is_none pair.1.lawful) ps spelled.1
+spelled_lawful ps (Some b) (Some a) bytes is spelled = each-map IsPair (λ (p : Pair). IsTrue (is_lawful p.1)) ps (λ p pair. ap is_none pair.1.lawful) spelled.1
 
 pub served_are_lawful : ServedAreLawful
 served_are_lawful profile clients_max result before after start written bytes ran told =

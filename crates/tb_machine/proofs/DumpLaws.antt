@@ -1,13 +1,13 @@
 -- No spelling of a dump has two readings.
-use Rattle.std.proofs.Common.{◌≡◌, ℕ, ◌<◌, ◌≤◌, List, [], ◌∷◌, ◌++◌, length, take, drop, flat_map, Option, Some, None, refl, sym, ap, subst, ◌∙◌, arith, append_assoc, append-nil, length-append, length-take, take-append-drop}
+use Rattle.std.proofs.Common.{◌≡◌, ℕ, List, [], ◌∷◌, ◌++◌, length, take, drop, flat_map, Option, Some, None, refl, sym, ap, subst, ◌∙◌, arith, append_assoc, append-nil, length-append, length-take, take-append-drop}
 use Rattle.tb_records.specs.declared.limits.Profile.{Profile}
-use Rattle.tb_records.specs.DumpBytes.{head_bytes, mark_bytes, numbers_bytes, entry_bytes, IsDumped}
+use Rattle.tb_records.specs.DumpBytes.{mark_bytes, numbers_bytes}
 use Rattle.tb_records.specs.Frames.{request_bytes}
 use Rattle.tb_records.specs.Ordered.{Each}
 use Rattle.tb_records.proofs.DumpAnswers.{one_head, one_numbers, length-numbers}
 use Rattle.tb_records.proofs.Spellings.{spelled_once}
 use Rattle.tb_machine.specs.declared.entries.Entry.{Entry}
-use Rattle.tb_machine.specs.Dumps.{dumped, history_bytes, IsDumpedEntry, IsPlace, DumpSpells, OneDump}
+use Rattle.tb_machine.specs.Dumps.{dumped, history_bytes, IsDumpedEntry, IsPlace, OneDump}
 
 -- an entry is spelled in one way, and its spelling begins no other
 one_entry : (e f : Entry) (xs ys : List ℕ) → IsDumpedEntry e → IsDumpedEntry f → dumped e ++ xs ≡ dumped f ++ ys → (e ≡ f) × (xs ≡ ys)

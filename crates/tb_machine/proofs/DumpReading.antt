@@ -1,5 +1,5 @@
 -- A whole replay: the entries so far, and what stands next.
-use Rattle.std.proofs.Common.{◌≡◌, ℕ, ◌+◌, ◌≤◌, true, false, List, [], ◌∷◌, ◌++◌, length, flat_map, Option, Some, None, Result, Ok, Err, inl, inr, refl, sym, ap, subst, ◌∙◌, IsTrue, arith, append_assoc, append-nil, length-append}
+use Rattle.std.proofs.Common.{◌≡◌, ℕ, ◌+◌, ◌≤◌, true, false, List, [], ◌∷◌, ◌++◌, length, flat_map, Option, Some, None, Ok, Err, inl, inr, refl, sym, ap, subst, ◌∙◌, IsTrue, arith, append_assoc, append-nil, length-append}
 use Rattle.std.proofs.lemmas.Grind.{flat_map-append}
 use Rattle.std.specs.Option.{option_map}
 use Rattle.tb_records.specs.declared.dumps.DumpFault.{DumpFault}
@@ -18,9 +18,9 @@ use Rattle.tb_sessions.specs.declared.rows.Row.{Row}
 use Rattle.tb_sessions.specs.Judged.{row_of}
 use Rattle.tb_machine.specs.declared.entries.Entry.{Entry}
 use Rattle.tb_machine.specs.Histories.{State, start, row_at, reply_at, fits, step, to_two}
-use Rattle.tb_machine.specs.Dumps.{dumped, history_bytes, IsDumpedEntry, IsPlace, DumpSpells, after_with, IsLegalWith, replies_with}
-use Rattle.tb_machine.specs.Replays.{ReadsNext, item_of, ReplaysEntry, TakesEntry, TakesMark, ReplayStops, ReplaysOn, ReadsDump, HasReplayed, ReplayedTo, Replayed, ReplayRan}
-use Rattle.tb_machine.proofs.Rows.{each_snoc}
+use Rattle.tb_machine.specs.Dumps.{dumped, history_bytes, IsDumpedEntry, IsPlace, after_with, IsLegalWith, replies_with}
+use Rattle.tb_machine.specs.Replays.{ReadsNext, item_of, ReplaysEntry, TakesEntry, TakesMark, ReplayStops, ReplaysOn, ReadsDump, HasReplayed, Replayed}
+use Rattle.tb_machine.proofs.Rows.{some_one, each_snoc}
 use Rattle.tb_machine.proofs.Judging.{may_come}
 use Rattle.tb_machine.proofs.Turns.{row_after}
 use Rattle.tb_machine.proofs.Running.{sends_none, sends_then}
@@ -33,9 +33,6 @@ entry_stored S T e client stepped is = (λ i. row_of (stepped i).rows (is i)) �
 -- the reply that it keeps
 pub entry_reply : (S T : State) (e : Entry) (client : ℕ) (a : Answer) → T ≡ step S e → client ≡ e.request.client → option_map (λ (row : Row). row.reply) (row_of T.rows client) ≡ Some a → a ≡ reply_at S e
 entry_reply S T e client a stepped is told = some_one (sym told ∙ ap (option_map (λ (row : Row). row.reply)) (entry_stored S T e client stepped is))
-  where
-    some_one : {X : Type 0} {x y : X} → Some x ≡ Some y → x ≡ y
-    some_one e = cc
 
 -- an entry was read, and there was a fault in replaying it
 pub taken_fault : (f : DumpFault) (S T : State) (before after : Input) (start written : Output) (e : Entry) → ReadsNext (Ok (Some (item_of e))) before after → ReplaysEntry (Err f) S T e start written → ReplayStops f S T before after start written

@@ -1,7 +1,6 @@
 -- A whole dump: the pairs so far, and one more.
-use Rattle.std.proofs.Common.{◌≡◌, ℕ, ◌+◌, ◌-◌, ◌^◌, ◌<◌, ◌≤◌, ◌⊎◌, Bool, true, false, cond, ◌&&◌, List, [], ◌∷◌, ◌++◌, length, Option, Some, None, Result, Ok, Err, inl, inr, is_some, eq-eqb, ne_eqb, ltb, ltb-true, leb-true, eqb-true, refl, sym, ap, subst, ◌∙◌, arith, append_assoc, append-nil, length-append}
+use Rattle.std.proofs.Common.{◌≡◌, ℕ, ◌+◌, ◌-◌, ◌^◌, ◌≤◌, ◌⊎◌, Bool, true, false, cond, ◌&&◌, List, [], ◌∷◌, ◌++◌, length, Option, Some, None, Ok, Err, inl, inr, eq-eqb, ne_eqb, ltb, ltb-true, leb-true, eqb-true, refl, sym, ap, subst, ◌∙◌, arith, append_assoc, append-nil, length-append}
 use Rattle.std.proofs.lemmas.Bool.{lt-ltb, le-ltb, cases_lt}
-use Rattle.tb_records.specs.declared.limits.Profile.{Profile}
 use Rattle.tb_records.specs.declared.limits.Profile.TheVariants.{One}
 use Rattle.tb_records.specs.DumpBytes.{head_bytes, mark_bytes, entry_bytes, IsClients}
 use Rattle.tb_records.specs.Transport.{Input, Output, Sent}
@@ -13,12 +12,12 @@ use Rattle.tb_machine.specs.declared.entries.Entry.{Entry}
 use Rattle.tb_machine.specs.declared.serving.RunFault.{RunFault}
 use Rattle.tb_machine.specs.declared.serving.RunFault.TheVariants as fault
 use Rattle.tb_machine.specs.Histories.{State, start, step, to_two, row_at}
-use Rattle.tb_machine.specs.Scripts.{Pair, entry_of, has_time, is_entered}
+use Rattle.tb_machine.specs.Scripts.{Pair, entry_of, has_time}
 use Rattle.tb_machine.specs.Runs.{IsPair, Reads, is_new_in, IsTimely}
 use Rattle.tb_machine.specs.Serving.{Enters}
 use Rattle.tb_machine.specs.Dumps.{dumped, history_bytes, IsDumpedEntry, IsPlace, DumpSpells, after_with, place_in, after_at, with_pair_at, accepted_at, HasTimesAt}
-use Rattle.tb_machine.specs.DumpRuns.{marks_at, mark_before, turned, added_bytes, DumpsPair, DumpsNext, DumpStops, DumpsOn, history_of, HasDumped, DumpedTo, Begun, DumpRan}
-use Rattle.tb_machine.proofs.Rows.{each_snoc}
+use Rattle.tb_machine.specs.DumpRuns.{marks_at, mark_before, turned, added_bytes, DumpsPair, DumpStops, DumpsOn, history_of, HasDumped, DumpedTo, DumpRan}
+use Rattle.tb_machine.proofs.Rows.{some_one, each_snoc}
 use Rattle.tb_machine.proofs.Legal.{fold_snoc}
 use Rattle.tb_machine.proofs.Lawful.{executed_time}
 use Rattle.tb_machine.proofs.Running.{reads_none, reads_snoc, sends_none, sends_then}
@@ -61,9 +60,6 @@ module _ (at : Option ℕ) (S U T : State) (p : Pair) (due : Bool) (due_is : due
         stepped = stepped_by ∙ ap (λ (b : Bool). step (turned b S) (entry_of S p)) due_is;
         bytes_are = λ i. mark_before (due_is i) ++ entry_bytes (commit_of i) (time_of_it i) (request_is i);
       }
-    where
-      some_one : {X : Type 0} {x y : X} → Some x ≡ Some y → x ≡ y
-      some_one e = cc
 
 -- a pair was read, and there was a fault in dumping it
 pub dumped_fault : (f : RunFault) (at : Option ℕ) (S T : State) (p : Pair) (before after : Input) (start written : Output) → Reads (p ∷ []) before after → IsPair p → DumpsPair (Err f) at S T p start written → DumpStops f at S T before after start written

@@ -13,7 +13,7 @@ use Rattle.tb_machine.specs.declared.entries.Entry.{Entry}
 use Rattle.tb_machine.specs.Histories.{is_lawful, IsLegal, after, answer_by, answer_to}
 use Rattle.tb_machine.specs.HistoryLaws.{IsStored}
 use Rattle.tb_machine.specs.Answering.{Holds, Answers}
-use Rattle.tb_machine.proofs.Rows.{row_found}
+use Rattle.tb_machine.proofs.Rows.{some_one, row_found}
 use Rattle.tb_machine.proofs.Legal.{legal_front, legal_at}
 use Rattle.tb_machine.proofs.Judging.{Follows, new_by, may_come}
 use Rattle.tb_machine.proofs.Reached.{Before, session_numbered, reached}
@@ -29,9 +29,6 @@ status_reply NewerSession o r is = absurd cc
 status_reply Older o r is = absurd cc
 status_reply Collision o r is = absurd cc
 status_reply NewerRequest o r is = absurd cc
-
-some_one : {X : Type 0} {x y : X} → Some x ≡ Some y → x ≡ y
-some_one e = cc
 
 module _ (profile : Profile) (clients_max : ℕ) where
   -- an entry's commit number is its place

@@ -13,7 +13,9 @@ use Rattle.tb_sessions.specs.Judged.{client_of, row_of, class_of}
 use Rattle.tb_machine.specs.declared.entries.Entry.{Entry}
 use Rattle.tb_machine.specs.Histories.{State, start, is_lawful, session_of, row_at, step, LegalFrom, IsLegal, after, key_of}
 use Rattle.tb_machine.specs.HistoryLaws.{KeysDiffer, OneKey, IsStored, FirstReply, HasSession, StaysOut}
-use Rattle.tb_machine.proofs.Rows.{each_map, each_both, each_admitted, row_found, each_found}
+use Rattle.tb_records.proofs.ByKey.{each-map, each-both}
+use Rattle.tb_sessions.proofs.LaterRows.{each_admitted}
+use Rattle.tb_machine.proofs.Rows.{some_one, row_found, each_found}
 use Rattle.tb_machine.proofs.Legal.{fold_append, legal_split, legal_front}
 use Rattle.tb_machine.proofs.Judging.{Follows, new_by, Repeats, repeat_by, out_by, MayCome, may_come}
 use Rattle.tb_machine.proofs.Reached.{Stands, Reached, session_register, session_numbered, reached, reached_after}
@@ -118,7 +120,7 @@ Floor S client least = Each (λ (row : Row). row.client ≡ client → least ≤
 
 floor_on : (S : State) (e : Entry) (client least : ℕ) → MayCome S e → Floor S client least → Floor (step S e) client least
 floor_on S e client least may floor = (
-  each_admitted S.clients_max S.rows (row_at S e) (λ (row : Row). row.client ≡ client → least ≤ row.session) (⊎_elim registers follows (new_by (row_of S.rows e.request.client) e.request may.new)) floor.0,
+  each_admitted (λ (row : Row). row.client ≡ client → least ≤ row.session) S.clients_max S.rows (row_at S e) (⊎_elim registers follows (new_by (row_of S.rows e.request.client) e.request may.new)) floor.0,
   omega (arith, may.commit, floor.1),
 )
   where
@@ -133,9 +135,6 @@ floor_on S e client least may floor = (
 floor_after : (S : State) (h : List Entry) (client least : ℕ) → LegalFrom S h → Floor S client least → Floor (fold step S h) client least
 floor_after S [] client least legal floor = floor
 floor_after S (e ∷ es) client least legal floor = floor_after (step S e) es client least legal.1 (floor_on S e client least (may_come S e legal.0) floor)
-
-some_one : {X : Type 0} {x y : X} → Some x ≡ Some y → x ≡ y
-some_one e = cc
 
 pub stays_out : StaysOut
 stays_out profile clients_max h m k r legal there gone numbered =
@@ -171,8 +170,7 @@ stays_out profile clients_max h m k r legal there gone numbered =
 
     floor1 : Floor S1 r.client r.session
     floor1 = (
-      each_map (λ (row : Row). row_of S1.rows row.client ≡ Some row) (λ (row : Row). row.client ≡ r.client → r.session ≤ row.session)
-          (λ row found same. let one : row ≡ there.0 = some_one (sym found ∙ ap (row_of S1.rows) same ∙ there.1) in omega (arith, ap (λ (w : Row). w.session) one, there.2)) S1.rows (each_found client_of S1.rows reached_h.rising),
+      each-map (λ (row : Row). row_of S1.rows row.client ≡ Some row) (λ (row : Row). row.client ≡ r.client → r.session ≤ row.session) S1.rows (λ row found same. let one : row ≡ there.0 = some_one (sym found ∙ ap (row_of S1.rows) same ∙ there.1) in omega (arith, ap (λ (w : Row). w.session) one, there.2)) (each_found client_of S1.rows reached_h.rising),
       omega (arith, issued),
     )
 
@@ -184,8 +182,7 @@ stays_out profile clients_max h m k r legal there gone numbered =
 
     above : Floor S2 r.client (r.session + 1)
     above = (
-      each_both (λ (row : Row). row_of S2.rows row.client ≡ Some row) (λ (row : Row). row.client ≡ r.client → r.session ≤ row.session) (λ (row : Row). row.client ≡ r.client → r.session + 1 ≤ row.session)
-          (λ row found low same. apart row.session (low same) (λ equal. not_there (row, sym (ap (row_of S2.rows) same) ∙ found, equal))) S2.rows (each_found client_of S2.rows reached_m.rising) floor2.0,
+      each-both (λ (row : Row). row_of S2.rows row.client ≡ Some row) (λ (row : Row). row.client ≡ r.client → r.session ≤ row.session) (λ (row : Row). row.client ≡ r.client → r.session + 1 ≤ row.session) S2.rows (λ row found low same. apart row.session (low same) (λ equal. not_there (row, sym (ap (row_of S2.rows) same) ∙ found, equal))) (each_found client_of S2.rows reached_m.rising) floor2.0,
       omega (arith, issued, reached_h.count, reached_m.count, length-append h m),
     )
       where

@@ -1,5 +1,5 @@
 -- Histories with a mark: one entry more, and the mark at the end.
-use Rattle.std.proofs.Common.{◌≡◌, ℕ, ◌+◌, ◌≤◌, List, [], ◌∷◌, ◌++◌, length, take, drop, fold, flat_map, Option, Some, None, refl, sym, ap, subst, ◌∙◌, IsTrue, arith, append_assoc, append-nil, length-append}
+use Rattle.std.proofs.Common.{◌≡◌, ℕ, ◌≤◌, List, [], ◌∷◌, ◌++◌, length, take, drop, fold, flat_map, Option, Some, None, refl, sym, ap, subst, ◌∙◌, IsTrue, arith, append_assoc, append-nil, length-append}
 use Rattle.std.proofs.lemmas.Grind.{flat_map-append}
 use Rattle.std.proofs.lemmas.List.{take-append-le, drop-append-le, take_all, drop_all}
 use Rattle.tb_records.specs.declared.bodies.Body.{Body}
@@ -7,12 +7,12 @@ use Rattle.tb_records.specs.declared.bodies.Body.TheVariants.{Register, CreateAc
 use Rattle.tb_records.specs.declared.limits.Profile.{Profile}
 use Rattle.tb_records.specs.declared.limits.Profile.TheVariants.{One, Two}
 use Rattle.tb_records.specs.DumpBytes.{mark_bytes}
-use Rattle.tb_ledger.specs.Books.{Books, empty_books, profile_of}
+use Rattle.tb_ledger.specs.Books.{Books, profile_of}
 use Rattle.tb_ledger.proofs.Profiles.{profile_accounts, profile_transfers}
 use Rattle.tb_machine.specs.declared.entries.Entry.{Entry}
-use Rattle.tb_machine.specs.Histories.{State, start, executed, fits, reply_at, step, to_two, LegalFrom, after}
+use Rattle.tb_machine.specs.Histories.{State, start, executed, fits, reply_at, step, to_two, LegalFrom}
 use Rattle.tb_machine.specs.Dumps.{dumped, history_bytes, IsPlace, replies_along, marked_after, after_with, IsLegalWith, replies_with}
-use Rattle.tb_machine.proofs.Legal.{fold_append, fold_snoc, legal_join}
+use Rattle.tb_machine.proofs.Legal.{fold_snoc, legal_join}
 
 -- the profile that a state goes by
 

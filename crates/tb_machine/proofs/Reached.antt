@@ -8,7 +8,9 @@ use Rattle.tb_sessions.specs.Judged.{client_of, row_of}
 use Rattle.tb_machine.specs.declared.entries.Entry.{Entry}
 use Rattle.tb_machine.specs.Histories.{State, start, is_lawful, session_of, row_at, step, LegalFrom, IsLegal, after, key_of}
 use Rattle.tb_machine.specs.HistoryLaws.{KeysDiffer}
-use Rattle.tb_machine.proofs.Rows.{each_map, each_snoc, each_admitted, each_admitted_apart, rising_admitted, row_found}
+use Rattle.tb_records.proofs.ByKey.{each-map}
+use Rattle.tb_sessions.proofs.LaterRows.{each_admitted}
+use Rattle.tb_machine.proofs.Rows.{each_snoc, each_admitted_apart, rising_admitted, row_found}
 use Rattle.tb_machine.proofs.Legal.{after_snoc}
 use Rattle.tb_machine.proofs.Judging.{Follows, new_by, MayCome, may_come}
 
@@ -73,16 +75,16 @@ module _ (profile : Profile) (clients_max : ℕ) where
         registers both =
             let mine = session_register e both.1 in
             let commit = may.commit in
-            each_map (λ (x : Entry). session_of x ≤ S.commit) (Earlier e) (λ x issued same. record { session = omega (arith, mine, commit, issued); number = λ equal. absurd (omega (arith, mine, commit, issued, equal)) }) p reached.issued
+            each-map (λ (x : Entry). session_of x ≤ S.commit) (Earlier e) p (λ x issued same. record { session = omega (arith, mine, commit, issued); number = λ equal. absurd (omega (arith, mine, commit, issued, equal)) }) reached.issued
 
         follows : (row : Row) × (row_of S.rows e.request.client ≡ Some row) × Follows row e.request → Each (Earlier e) p
         follows found =
             let its = row_found (λ (row : Row). Each (Before row) p) S.rows e.request.client found.0 reached.before found.1 in
             let mine = session_numbered e found.2.numbered ∙ found.2.session in
             let number = found.2.number in
-            each_map (Before found.0) (Earlier e) (λ x before same.
+            each-map (Before found.0) (Earlier e) p (λ x before same.
             let within = before (same ∙ sym its.1) in
-            record { session = omega (arith, mine, within.session); number = λ equal. omega (arith, number, within.number (equal ∙ mine)) }) p its.0
+            record { session = omega (arith, mine, within.session); number = λ equal. omega (arith, number, within.number (equal ∙ mine)) }) its.0
 
     session_low : session_of e ≤ e.commit
     session_low = ⊎_elim registers follows (new_by (row_of S.rows e.request.client) e.request may.new)
@@ -120,7 +122,7 @@ module _ (profile : Profile) (clients_max : ℕ) where
     -- a row of another client, or the entry's own
     before_row : Each (Before (row_at S e)) (p ++ e ∷ [])
     before_row = each_snoc (Before (row_at S e)) p e
-        (each_map (Earlier e) (Before (row_at S e)) (λ x earlier same. let past = earlier same in record { session = past.session; number = λ equal. omega (arith, past.number equal) }) p all_earlier)
+        (each-map (Earlier e) (Before (row_at S e)) p (λ x earlier same. let past = earlier same in record { session = past.session; number = λ equal. omega (arith, past.number equal) }) all_earlier)
         (λ same. record { session = omega arith; number = λ equal. omega arith })
 
     before_other : (other : Row) → Each (Before other) p → client_of other ≢ client_of (row_at S e) → Each (Before other) (p ++ e ∷ [])
@@ -130,18 +132,18 @@ module _ (profile : Profile) (clients_max : ℕ) where
     reached_on = record {
       is = ap (λ (T : State). step T e) reached.is ∙ sym (after_snoc profile clients_max p e);
       count = omega (arith, may.commit, reached.count, length-append p (e ∷ []));
-      issued = each_snoc (λ (x : Entry). session_of x ≤ e.commit) p e (each_map (λ (x : Entry). session_of x ≤ S.commit) (λ (x : Entry). session_of x ≤ e.commit) (λ x low. omega (arith, may.commit, low)) p reached.issued) session_low;
-      sessions = each_admitted S.clients_max S.rows (row_at S e) (λ (row : Row). row.session ≤ e.commit) session_low
-          (each_map (λ (row : Row). row.session ≤ S.commit) (λ (row : Row). row.session ≤ e.commit) (λ row low. omega (arith, may.commit, low)) S.rows reached.sessions);
+      issued = each_snoc (λ (x : Entry). session_of x ≤ e.commit) p e (each-map (λ (x : Entry). session_of x ≤ S.commit) (λ (x : Entry). session_of x ≤ e.commit) p (λ x low. omega (arith, may.commit, low)) reached.issued) session_low;
+      sessions = each_admitted (λ (row : Row). row.session ≤ e.commit) S.clients_max S.rows (row_at S e) session_low
+          (each-map (λ (row : Row). row.session ≤ S.commit) (λ (row : Row). row.session ≤ e.commit) S.rows (λ row low. omega (arith, may.commit, low)) reached.sessions);
       before = each_admitted_apart S.clients_max S.rows (row_at S e) (λ (row : Row). Each (Before row) (p ++ e ∷ [])) reached.rising before_row
-          (each_map (λ (row : Row). Each (Before row) p) (λ (row : Row). client_of row ≢ client_of (row_at S e) → Each (Before row) (p ++ e ∷ [])) before_other S.rows reached.before);
-      stands = each_admitted S.clients_max S.rows (row_at S e) (Stands profile clients_max (p ++ e ∷ [])) here
-          (each_map (Stands profile clients_max p) (Stands profile clients_max (p ++ e ∷ [])) still S.rows reached.stands);
+          (each-map (λ (row : Row). Each (Before row) p) (λ (row : Row). client_of row ≢ client_of (row_at S e) → Each (Before row) (p ++ e ∷ [])) S.rows before_other reached.before);
+      stands = each_admitted (Stands profile clients_max (p ++ e ∷ [])) S.clients_max S.rows (row_at S e) here
+          (each-map (Stands profile clients_max p) (Stands profile clients_max (p ++ e ∷ [])) S.rows still reached.stands);
       rising = rising_admitted S.clients_max S.rows (row_at S e) reached.rising;
       differ = keys_snoc p e reached.differ
-          (each_map (Earlier e) (λ (other : Entry). key_of e ≢ key_of other) (λ x earlier same.
+          (each-map (Earlier e) (λ (other : Entry). key_of e ≢ key_of other) p (λ x earlier same.
           let past = earlier (ap (λ (k : ℕ × ℕ × ℕ). k.0) (sym same)) in
-          omega (arith, past.number (ap (λ (k : ℕ × ℕ × ℕ). k.1) (sym same)), ap (λ (k : ℕ × ℕ × ℕ). k.2) same)) p all_earlier);
+          omega (arith, past.number (ap (λ (k : ℕ × ℕ × ℕ). k.1) (sym same)), ap (λ (k : ℕ × ℕ × ℕ). k.2) same)) all_earlier);
     }
 
   -- what each entry keeps, a legal history keeps

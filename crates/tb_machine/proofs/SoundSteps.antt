@@ -10,7 +10,9 @@ use Rattle.tb_sessions.specs.Admission.{admitted}
 use Rattle.tb_machine.specs.declared.entries.Entry.{Entry}
 use Rattle.tb_machine.specs.Histories.{State, fits, is_lawful, session_of, body_at, reply_at, executed}
 use Rattle.tb_machine.specs.Sound.{IsNumbered, IsSound}
-use Rattle.tb_machine.proofs.Rows.{each_map, each_admitted, row_found}
+use Rattle.tb_records.proofs.ByKey.{each-map}
+use Rattle.tb_sessions.proofs.LaterRows.{each_admitted}
+use Rattle.tb_machine.proofs.Rows.{row_found}
 use Rattle.tb_machine.proofs.Judging.{Follows, MayCome, may_come, new_by}
 use Rattle.tb_machine.proofs.Lawful.{LawfulNumbers, lawful_numbers, right_answer, found_kind, found_few, executed_time}
 
@@ -62,7 +64,7 @@ module _ (S : State) (e : Entry) (sound : IsSound S) (comes : IsTrue (fits S e))
 
   -- rows before it have smaller commits
   pub commits_before : Each (λ (other : Row). other.commit < e.commit) S.rows
-  commits_before = each_map (IsNumbered S.commit) (λ (other : Row). other.commit < e.commit) (λ other kept. omega (arith, kept.given, may.commit)) S.rows sound.rows
+  commits_before = each-map (IsNumbered S.commit) (λ (other : Row). other.commit < e.commit) S.rows (λ other kept. omega (arith, kept.given, may.commit)) sound.rows
 
   numbered_row : (row : Row) → row.session ≡ session_of e → row.commit ≡ e.commit → IsNumbered e.commit row
   numbered_row row session commit = record {
@@ -80,7 +82,7 @@ module _ (S : State) (e : Entry) (sound : IsSound S) (comes : IsTrue (fits S e))
   sound_step row session commit T commit_is books_are rows_are =
       let time : T.books.time ≡ e.time = ap (λ (B : Books). B.time) books_are ∙ executed_time S.books e.request.body e.time in
       record {
-        rows = rw (rows_are, commit_is) (each_admitted S.clients_max S.rows row (IsNumbered e.commit) (numbered_row row session commit) (each_map (IsNumbered S.commit) (IsNumbered e.commit) (λ other kept. record { began = kept.began; replied = kept.replied; given = omega (arith, kept.given, may.commit) }) S.rows sound.rows));
+        rows = rw (rows_are, commit_is) (each_admitted (IsNumbered e.commit) S.clients_max S.rows row (numbered_row row session commit) (each-map (IsNumbered S.commit) (IsNumbered e.commit) S.rows (λ other kept. record { began = kept.began; replied = kept.replied; given = omega (arith, kept.given, may.commit) }) sound.rows));
         commits = omega (arith, time, commit_is, may.commit, may.late_enough, sound.commits);
         in_range = omega (arith, time, may.in_range);
       }

@@ -1,8 +1,6 @@
 -- One pair: what its entry leaves for its request, and the answers that the rows give.
-use Rattle.std.proofs.Common.{true≢false, ◌≡◌, ◌≢◌, ℕ, ◌+◌, ◌<◌, Bool, true, false, cond, ◌&&◌, List, [], ◌∷◌, find, is_some, Option, Some, None, Result, Ok, Err, refl, sym, ap, ◌∙◌, subst, arith, eqb, ltb, eq-eqb, ne_eqb, ltb-true}
-use Rattle.std.proofs.lemmas.Bool.{cond_both}
+use Rattle.std.proofs.Common.{true≢false, ◌≡◌, ◌≢◌, ℕ, ◌+◌, Bool, true, false, cond, ◌&&◌, ◌==◌, List, [], ◌∷◌, is_some, Option, Some, None, Result, Ok, Err, refl, sym, ap, ◌∙◌, subst, arith, eqb, ltb, eq-eqb}
 use Rattle.std.proofs.lemmas.Bool.Decides.{nat_tests}
-use Rattle.std.specs.Option.{option_map}
 use Rattle.tb_records.specs.Messages.{Message, Answer, is_register, IsLawful}
 use Rattle.tb_records.specs.Same.{same_body}
 use Rattle.tb_records.proofs.OneBody.{body_same}
@@ -19,32 +17,19 @@ use Rattle.tb_records.specs.ReplyFrames.{reply_bytes}
 use Rattle.tb_records.specs.Transport.{Output, Sent, CutOff}
 use Rattle.tb_machine.specs.declared.serving.RunFault.{RunFault}
 use Rattle.tb_machine.specs.Runs.{is_new_in, Turns}
-use Rattle.tb_machine.specs.Serving.{Delivers, Enters}
+use Rattle.tb_machine.specs.Serving.{Delivers}
+use Rattle.tb_records.proofs.ByKey.{find-put_here, find-replaced_here}
 use Rattle.tb_machine.proofs.Lawful.{lawful_numbers}
+use Rattle.tb_machine.proofs.Rows.{some_one, still_absent}
 
 -- the row that was admitted is found
 
-find_replaced : {X : Type 0} (key : X → ℕ) (x : X) (xs : List X) → is_some (find (λ y. eqb (key y) (key x)) xs) ≡ true → find (λ y. eqb (key y) (key x)) (replaced key x xs) ≡ Some x
-find_replaced key x [] is = absurd cc
-find_replaced key x (y ∷ ys) is = parts (eqb (key y) (key x)) refl is (find_replaced key x ys)
-  where
-    parts : (b : Bool) → eqb (key y) (key x) ≡ b → is_some (cond b (Some y) (find (λ y. eqb (key y) (key x)) ys)) ≡ true
-        → (is_some (find (λ y. eqb (key y) (key x)) ys) ≡ true → find (λ y. eqb (key y) (key x)) (replaced key x ys) ≡ Some x)
-        → find (λ y. eqb (key y) (key x)) (cond b (x ∷ ys) (y ∷ replaced key x ys)) ≡ Some x
-    parts true e is later = ap (λ b. cond b (Some x) (find (λ y. eqb (key y) (key x)) ys)) (eq-eqb (key x) (key x) refl)
-    parts false e is later = ap (λ b. cond b (Some y) (find (λ y. eqb (key y) (key x)) (replaced key x ys))) e ∙ later is
-
-find_put : {X : Type 0} (key : X → ℕ) (x : X) (xs : List X) → find (λ y. eqb (key y) (key x)) (put key x xs) ≡ Some x
-find_put key x [] = ap (λ b. cond b (Some x) None) (eq-eqb (key x) (key x) refl)
-find_put key x (y ∷ ys) = cond_both (ltb (key y) (key x)) (y ∷ put key x ys) (x ∷ y ∷ ys) (λ l. find (λ y. eqb (key y) (key x)) l ≡ Some x)
-    (λ e. let less : key y < key x = ltb-true (key y) (key x) e in ap (λ b. cond b (Some y) (find (λ y. eqb (key y) (key x)) (put key x ys))) (ne_eqb (key y) (key x) (omega arith)) ∙ find_put key x ys)
-    (λ _. ap (λ b. cond b (Some x) (find (λ y. eqb (key y) (key x)) (y ∷ ys))) (eq-eqb (key x) (key x) refl))
-
 row_admitted : (clients_max : ℕ) (rows : List Row) (row : Row) → row_of (admitted clients_max rows row) (client_of row) ≡ Some row
-row_admitted clients_max rows row =
-    cond_both (is_some (row_of rows (client_of row))) (replaced client_of row rows) (put client_of row (without (driven_out clients_max rows) rows)) (λ (l : List Row). row_of l (client_of row) ≡ Some row)
-    (λ is. find_replaced client_of row rows is)
-    (λ _. find_put client_of row (without (driven_out clients_max rows) rows))
+row_admitted clients_max rows row = by (row_of rows (client_of row)) refl
+  where
+    by : (o : Option Row) → row_of rows (client_of row) ≡ o → row_of (cond (is_some o) (replaced client_of row rows) (put client_of row (without (driven_out clients_max rows) rows))) (client_of row) ≡ Some row
+    by (Some old) is = find-replaced_here client_of row old rows is
+    by None is = find-put_here client_of (λ other. client_of other == client_of row) row (without (driven_out clients_max rows) rows) (eq-eqb (client_of row) (client_of row) refl) (still_absent (driven_out clients_max rows) rows (client_of row) is)
 
 -- the state after an entry has the row that the entry made
 pub row_after : (S : State) (e : Entry) → row_of (step S e).rows e.request.client ≡ Some (row_at S e)
@@ -102,40 +87,25 @@ after_known S p known = ap (λ b. cond b (step S (entry_of S p)) S) (ap (λ b. b
 pub refused : (S : State) (r : Message) (class : Class) (a : Answer) → class ≡ class_of S.rows r → class ≢ Repeat → a ≡ refusal (status_of class) r → answer_to S r ≡ a
 refused S r class a is other told = ap (λ (c : Class). answer_by c (row_of S.rows r.client) r) (sym is) ∙ answer_refused class (row_of S.rows r.client) r other ∙ sym told
 
-pub entered_stored : (S T : State) (p : Pair) (client : ℕ) → Enters (Ok tt) S T p → client ≡ p.1.client → row_of T.rows client ≡ Some (row_at S (entry_of S p))
-entered_stored S T p client entered is =
-    subst (λ (U : State). row_of U.rows client ≡ Some (row_at S (entry_of S p))) (sym entered.1)
-    (ap (row_of (step S (entry_of S p)).rows) is ∙ row_after S (entry_of S p))
-
-entered_answer : (S : State) (p : Pair) (a : Answer) (o : Option Row) → IsLawful p.1 → is_new_in S p ≡ true → has_time S p ≡ true
-    → o ≡ Some (row_at S (entry_of S p)) → option_map (λ (row : Row). row.reply) o ≡ Some a → answer_to (after_pair S p) p.1 ≡ a
-entered_answer S p a o lawful new time found told =
-    ap (λ (U : State). answer_to U p.1) (after_new S p new time)
-    ∙ answer_after S (entry_of S p) lawful
-    ∙ some_one (sym (ap (option_map (λ (row : Row). row.reply)) found) ∙ told)
-  where
-    some_one : {X : Type 0} {x y : X} → Some x ≡ Some y → x ≡ y
-    some_one e = cc
-
-pub entered_turn : (result : Result (Unit {0}) RunFault) (S T : State) (p : Pair) (client : ℕ) (a : Answer) (before after : Output)
-    → IsLawful p.1 → class_of S.rows p.1 ≡ New → Enters (Ok tt) S T p → client ≡ p.1.client
-    → option_map (λ (row : Row). row.reply) (row_of T.rows client) ≡ Some a
-    → Delivers result (reply_bytes a) before after
+-- a new pair whose entry is entered, and whose reply is written
+pub entered_turn : (result : Result (Unit {0}) RunFault) (S T : State) (p : Pair) (before after : Output)
+    → IsLawful p.1 → class_of S.rows p.1 ≡ New → has_time S p ≡ true → T ≡ step S (entry_of S p)
+    → Delivers result (reply_bytes (reply_at S (entry_of S p))) before after
     → Turns result S T p before after
-entered_turn result S T p client a before after lawful class entered is told sent = by result sent
+entered_turn result S T p before after lawful class time entered sent = by result sent
   where
     new : is_new_in S p ≡ true
     new = ap is_new class
 
-    answer_is : answer_to (after_pair S p) p.1 ≡ a
-    answer_is = entered_answer S p a (row_of T.rows client) lawful new entered.0 (entered_stored S T p client entered is) told
+    answer_is : answer_to (after_pair S p) p.1 ≡ reply_at S (entry_of S p)
+    answer_is = ap (λ (U : State). answer_to U p.1) (after_new S p new time) ∙ answer_after S (entry_of S p) lawful
 
     by : (result : Result (Unit {0}) RunFault)
-        → Delivers result (reply_bytes a) before after
+        → Delivers result (reply_bytes (reply_at S (entry_of S p))) before after
         → Turns result S T p before after
-    by (Ok done) sent = ((λ _. entered.0), entered.1 ∙ sym (after_new S p new entered.0), subst (λ (b : Answer). Sent (reply_bytes b) before after) (sym answer_is) sent)
+    by (Ok done) sent = ((λ _. time), entered ∙ sym (after_new S p new time), subst (λ (b : Answer). Sent (reply_bytes b) before after) (sym answer_is) sent)
     by (Err f) sent = subst (λ (f : RunFault). Turns (Err f) S T p before after) (sym sent.0)
-        ((λ _. entered.0), entered.1 ∙ sym (after_new S p new entered.0), refl, subst (λ (b : Answer). CutOff (reply_bytes b) before after) (sym answer_is) sent.1)
+        ((λ _. time), entered ∙ sym (after_new S p new time), refl, subst (λ (b : Answer). CutOff (reply_bytes b) before after) (sym answer_is) sent.1)
 
 pub known_turn : (result : Result (Unit {0}) RunFault) (S : State) (p : Pair) (before after : Output) → class_of S.rows p.1 ≢ New
     → Delivers result (reply_bytes (answer_to S p.1)) before after

@@ -1,5 +1,5 @@
 -- What a replay makes of a dump: the entries that it read, the replies that it wrote, and what ended it.
-use Rattle.std.specs.Prelude.{ℕ, Bool, true, false, ◌≡◌, ◌⊎◌, IsTrue, List, [], ◌∷◌, ◌++◌, length, Option, Some, None, Result, Ok, Err}
+use Rattle.std.specs.Prelude.{ℕ, Bool, true, false, ◌≡◌, ◌⊎◌, IsTrue, List, [], ◌++◌, length, Option, Some, None, Result, Ok, Err}
 use Rattle.std.specs.List.{flat_map}
 use Rattle.tb_records.specs.declared.dumps.DumpFault.{DumpFault}
 use Rattle.tb_records.specs.declared.dumps.DumpFault.TheVariants as fault

@@ -1,5 +1,6 @@
 -- What the steps of the server do with one pair: for private functions alone.
 use Rattle.std.specs.Prelude.{Bool, true, false, ◌≡◌, ◌⊎◌, ℕ, List, [], ◌∷◌, Result, Ok, Err, MatchResult}
+use Rattle.tb_records.specs.declared.faults.FrameFault.{FrameFault}
 use Rattle.tb_records.specs.declared.faults.FrameFault.TheVariants.{Device}
 use Rattle.tb_records.specs.Transport.{Input, Output, Sent, CutOff}
 use Rattle.tb_machine.specs.declared.serving.RunFault.{RunFault}
@@ -7,6 +8,10 @@ use Rattle.tb_machine.specs.declared.serving.RunFault.TheVariants as fault
 use Rattle.tb_machine.specs.Histories.{State, step}
 use Rattle.tb_machine.specs.Scripts.{Pair, entry_of, has_time}
 use Rattle.tb_machine.specs.Runs.{Reads, Turns, Unread, Ends}
+
+-- the bytes were written, or the device failed and left a beginning of them
+abbrev pub Told : Result (Unit {0}) FrameFault → List ℕ → Output → Output → Type 0
+Told result bytes before after = MatchResult result (λ _. Sent bytes before after) (λ f. (f ≡ Device) × CutOff bytes before after)
 
 -- the bytes were written, or the writer's fault left a beginning of them
 abbrev pub Delivers : Result (Unit {0}) RunFault → List ℕ → Output → Output → Type 0

@@ -8,7 +8,7 @@ ghost use Rattle.tb_machine.specs.DumpRuns.{mark_before, marks_at, turned, DumpR
 
 use crate::machines::Machine;
 use crate::serving::{RunFault, enter, pass_on_before_waiting};
-use std::alloc::{AllocError, Global};
+use std::alloc::Global;
 use tb_records::dumps::{send_entry, send_head, send_mark};
 use tb_records::streams::read_timed_from;
 use tb_records::{ClientsMax, DumpHead, FrameFault, Profile, Request, Sink, Source};
@@ -62,10 +62,8 @@ fn write_entry<W: Sink>(
 ) -> Result<(), FrameFault>
     ensures { Written result (mark_before due ++ entry_bytes commit time request.now) (W.output writer.old) (W.output writer.new) }
 {
-    match write_mark(writer, due) {
-        Ok(()) => send_entry(writer, commit, time, request),
-        Err(fault) => Err(fault),
-    }
+    write_mark(writer, due)?;
+    send_entry(writer, commit, time, request)
 }
 
 /// Enters a new request that comes at a moment, and writes its entry. A mark that stands before it is written with it, so
@@ -84,15 +82,10 @@ fn dump_new<W: Sink>(
     let client = request.client();
     let due = marks_at(at, machine.commit());
     turn(machine, due);
-    match enter(machine, moment, request) {
-        Ok(()) => {}
-        Err(fault) => return Err(fault),
-    }
+    enter(machine, moment, request)?;
     let row = row_of(machine, client);
-    match write_entry(writer, due, machine.commit(), machine.time(), &row.request) {
-        Ok(()) => Ok(()),
-        Err(fault) => Err(RunFault::Frame(fault)),
-    }
+    write_entry(writer, due, machine.commit(), machine.time(), &row.request)?;
+    Ok(())
 }
 
 /// Enters a request that comes at a moment and writes its entry, where it is new.
@@ -123,14 +116,11 @@ fn dump_next<R: Source, W: Sink>(
     requires { marks_at at machine.old.commit ≡ true → profile_of machine.old.books ≡ Profile.One }
     ensures { DumpsOn result at machine.old machine.new (R.input reader.old) (R.input reader.new) (W.output writer.old) (W.output writer.new) }
 {
-    match read_timed_from(alloc, reader) {
-        Ok(Some((moment, request))) => match dump_pair(machine, at, writer, moment, request) {
-            Ok(()) => Ok(true),
-            Err(fault) => Err(fault),
-        },
-        Ok(None) => Ok(false),
-        Err(fault) => Err(RunFault::Frame(fault)),
-    }
+    let Some((moment, request)) = read_timed_from(alloc, reader)? else {
+        return Ok(false)
+    };
+    dump_pair(machine, at, writer, moment, request)?;
+    Ok(true)
 }
 
 /// Serves a script by profile 1, and writes the history that it makes as a dump: a head, and the entry of each new request.
@@ -148,24 +138,16 @@ pub fn dump<R: Source, W: Sink>(
     ensures { DumpRan clients_max at result (R.input reader.old) (R.input reader.new) (W.output writer.old) (W.output writer.new) }
 {
     let profile = Profile::One;
-    let mut machine = match Machine::new_in(alloc, alloc, profile, clients_max) {
-        Ok(machine) => machine,
-        Err(AllocError) => return Err(RunFault::NoMemory),
-    };
+    let mut machine = Machine::new_in(alloc, alloc, profile, clients_max)?;
     let head = DumpHead {
         profile,
         clients_max,
     };
-    match send_head(writer, head) {
-        Ok(()) => {}
-        Err(fault) => return Err(RunFault::Frame(fault)),
-    }
+    send_head(writer, head)?;
     for _ in 0..u64::MAX {
         pass_on_before_waiting(reader, writer);
-        match dump_next(alloc, &mut machine, at, reader, writer) {
-            Ok(true) => {}
-            Ok(false) => return Ok(machine.commit()),
-            Err(fault) => return Err(fault),
+        if !dump_next(alloc, &mut machine, at, reader, writer)? {
+            return Ok(machine.commit());
         }
     }
     Err(RunFault::TooLong)

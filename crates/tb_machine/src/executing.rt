@@ -2,12 +2,13 @@
 ghost use Rattle.std.specs.Prelude.{◌≡◌, ◌+◌, ◌≤◌, max, MatchResult, IsTrue};
 ghost use Rattle.tb_records.specs.Messages.{count, item_count, items_max, operation, IsRight};
 ghost use Rattle.tb_ledger.specs.Verdicts.{max_time};
-ghost use Rattle.tb_machine.specs.Histories.{executed, found, reply_with, session_of};
+ghost use Rattle.tb_machine.specs.Histories.{executed, found, reply_with, row_with, session_of};
 
 use crate::entries::Entry;
 use std::alloc::{AllocError, Allocator, Global};
 use tb_ledger::Ledger;
 use tb_records::{Body, Items, Reply, ReplyBody, Request, Status};
+use tb_sessions::Row;
 
 /// Does what a body asks for, at a time, and tells what its reply says; on a refusal the ledger is unchanged.
 pub(crate) fn execute<A: Allocator + Clone>(
@@ -78,4 +79,38 @@ pub(crate) fn reply_with(entry: &Entry, body: ReplyBody) -> Reply
     );
     let Ok(reply) = reply else { unreachable!() };
     reply
+}
+
+/// Executes an entry's request, and makes the row that its client's session gets: the request moves into it, beside the
+/// reply. On a refusal, for want of memory, the entry comes back and the ledger is unchanged.
+pub(crate) fn row_for<A: Allocator + Clone>(
+    global: Global,
+    ledger: &mut Ledger<A>,
+    entry: Entry,
+) -> Result<Row, Entry>
+    requires few { item_count entry.request.body ≤ items_max }
+    requires later { ledger.old.time + max (count entry.request.body) 1 ≤ entry.time }
+    requires in_range { entry.time ≤ max_time }
+    requires right { IsRight (reply_with entry (found ledger.old entry.request.body entry.time)) }
+    ensures { MatchResult result
+        (λ row. (ledger.new ≡ executed ledger.old entry.request.body entry.time) × (row ≡ row_with entry (found ledger.old entry.request.body entry.time)))
+        (λ back. (back ≡ entry) × (ledger.new ≡ ledger.old)) }
+{
+    let body = match execute(global, ledger, entry.time, entry.request.body()) {
+        Ok(body) => body,
+        Err(AllocError) => return Err(entry),
+    };
+    let reply = reply_with(&entry, body);
+    let Entry {
+        commit,
+        request,
+        ..
+    } = entry;
+    Ok(Row {
+        client: request.client(),
+        session: reply.session(),
+        request,
+        reply,
+        commit,
+    })
 }

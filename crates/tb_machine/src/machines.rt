@@ -5,14 +5,18 @@ ghost use Rattle.tb_records.specs.Messages.{IsLawful};
 ghost use Rattle.tb_ledger.specs.Books.{account_now, profile_of, transfer_at, found_accounts, found_transfers};
 ghost use Rattle.tb_ledger.specs.Verdicts.{max_time};
 ghost use Rattle.tb_sessions.specs.Judged.{class_of, row_of};
-ghost use Rattle.tb_machine.specs.Histories.{start, step, to_two, fits, least_time};
+ghost use Rattle.tb_records.specs.ReplyFrames.{reply_bytes};
+ghost use Rattle.tb_machine.specs.Histories.{start, step, reply_at, to_two, fits, least_time};
+ghost use Rattle.tb_machine.specs.Serving.{Told};
 
 use crate::entries::Entry;
-use crate::executing::{execute, reply_with};
+use crate::executing::row_for;
 use std::alloc::{AllocError, Allocator, Global};
 use std::marker::Model;
 use tb_ledger::Ledger;
-use tb_records::{Account, ClientsMax, Profile, Reply, Request, Transfer};
+use tb_records::{
+    Account, ClientsMax, FrameFault, Profile, Reply, Request, Sink, Transfer, send_reply,
+};
 use tb_sessions::{Class, Row, Sessions};
 
 /// The last moment that there is, in nanoseconds: `2^63 - 1`.
@@ -180,10 +184,7 @@ impl<A: Allocator + Clone> Machine<A> {
         ensures { MatchResult result (λ _. self.new ≡ step self.old entry.now) (λ _. self.new ≡ self.old) }
     {
         let entry = entry.copy(self.global)?;
-        match self.enter(entry) {
-            Ok(()) => Ok(()),
-            Err(_) => Err(AllocError),
-        }
+        self.enter(entry).map_err(|_| AllocError)
     }
 
     /// As `apply`, of an entry whose request moves into its client's row. A refusal, for want of memory, gives the entry
@@ -192,31 +193,37 @@ impl<A: Allocator + Clone> Machine<A> {
         requires { IsTrue (fits self.old entry) }
         ensures { MatchResult result (λ _. self.new ≡ step self.old entry) (λ back. (back ≡ entry) × (self.new ≡ self.old)) }
     {
-        let body = match execute(
-            self.global,
-            &mut self.ledger,
-            entry.time,
-            entry.request.body(),
-        ) {
-            Ok(body) => body,
-            Err(AllocError) => return Err(entry),
-        };
-        let reply = reply_with(&entry, body);
-        let Entry {
-            commit,
-            request,
-            ..
-        } = entry;
-        let row = Row {
-            client: request.client(),
-            session: reply.session(),
-            request,
-            reply,
-            commit,
+        let commit = entry.commit;
+        let row = match row_for(self.global, &mut self.ledger, entry) {
+            Ok(row) => row,
+            Err(entry) => return Err(entry),
         };
         let _left = self.sessions.record(row);
         self.commit = commit;
         Ok(())
+    }
+
+    /// As `enter`, and writes the reply before the row that keeps it goes to the others. Where the writer failed, the
+    /// entry has been entered all the same.
+    pub(crate) fn enter_and_tell<W: Sink>(
+        &mut self,
+        writer: &mut W,
+        entry: Entry,
+    ) -> Result<Result<(), FrameFault>, Entry>
+        requires { IsTrue (fits self.old entry) }
+        ensures { MatchResult result
+            (λ told. (self.new ≡ step self.old entry) × Told told (reply_bytes (reply_at self.old entry)) (W.output writer.old) (W.output writer.new))
+            (λ back. (back ≡ entry) × (self.new ≡ self.old) × (writer.new ≡ writer.old)) }
+    {
+        let commit = entry.commit;
+        let row = match row_for(self.global, &mut self.ledger, entry) {
+            Ok(row) => row,
+            Err(entry) => return Err(entry),
+        };
+        let told = send_reply(writer, &row.reply);
+        let _left = self.sessions.record(row);
+        self.commit = commit;
+        Ok(told)
     }
 }
 

@@ -8,7 +8,7 @@ ghost use Rattle.tb_machine.specs.Replays.{EntersNext, ReplayRan, ReplaysEntry, 
 use crate::entries::Entry;
 use crate::machines::Machine;
 use crate::serving::stored;
-use std::alloc::{AllocError, Global};
+use std::alloc::Global;
 use tb_records::dumps::{read_head_from, read_item_from};
 use tb_records::{DumpFault, DumpItem, Profile, Sink, Source, holds_frame, send_reply};
 
@@ -19,10 +19,7 @@ fn enter_next(machine: &mut Machine<Global>, entry: Entry) -> Result<(), DumpFau
     if !machine.fits(&entry) {
         return Err(DumpFault::NotLegal);
     }
-    match machine.enter(entry) {
-        Ok(()) => Ok(()),
-        Err(_) => Err(DumpFault::NoMemory),
-    }
+    machine.enter(entry).map_err(|_| DumpFault::NoMemory)
 }
 
 /// Enters an entry, and writes the reply to it.
@@ -34,13 +31,9 @@ fn replay_entry<W: Sink>(
     ensures { ReplaysEntry result machine.old machine.new entry (W.output writer.old) (W.output writer.new) }
 {
     let client = entry.request.client();
-    match enter_next(machine, entry) {
-        Ok(()) => match send_reply(writer, stored(machine, client)) {
-            Ok(()) => Ok(()),
-            Err(fault) => Err(DumpFault::Frame(fault)),
-        },
-        Err(fault) => Err(fault),
-    }
+    enter_next(machine, entry)?;
+    send_reply(writer, stored(machine, client))?;
+    Ok(())
 }
 
 /// Goes over to profile 2, where that does not serve yet.
@@ -67,36 +60,25 @@ fn replay_next<R: Source, W: Sink>(
 ) -> Result<bool, DumpFault>
     ensures { ReplaysOn result machine.old machine.new (R.input reader.old) (R.input reader.new) (W.output writer.old) (W.output writer.new) }
 {
-    match read_item_from(alloc, reader) {
-        Ok(
-            Some(
-                DumpItem::Entry {
-                    commit,
-                    time,
-                    request,
-                },
-            ),
+    match read_item_from(alloc, reader)? {
+        Some(
+            DumpItem::Entry {
+                commit,
+                time,
+                request,
+            },
         ) => {
-            match replay_entry(
-                machine,
-                writer,
-                Entry {
-                    commit,
-                    time,
-                    request,
-                },
-            ) {
-                Ok(()) => Ok(true),
-                Err(fault) => Err(fault),
-            }
+            let entry = Entry {
+                commit,
+                time,
+                request,
+            };
+            replay_entry(machine, writer, entry)?;
         }
-        Ok(Some(DumpItem::Mark)) => match replay_mark(machine) {
-            Ok(()) => Ok(true),
-            Err(fault) => Err(fault),
-        },
-        Ok(None) => Ok(false),
-        Err(fault) => Err(fault),
+        Some(DumpItem::Mark) => replay_mark(machine)?,
+        None => return Ok(false),
     }
+    Ok(true)
 }
 
 /// Says that bytes begin with a whole mark or entry.
@@ -123,20 +105,12 @@ pub fn replay<R: Source, W: Sink>(
 ) -> Result<u64, DumpFault>
     ensures { ReplayRan result (R.input reader.old) (R.input reader.new) (W.output writer.old) (W.output writer.new) }
 {
-    let head = match read_head_from(reader) {
-        Ok(head) => head,
-        Err(fault) => return Err(fault),
-    };
-    let mut machine = match Machine::new_in(alloc, alloc, head.profile, head.clients_max) {
-        Ok(machine) => machine,
-        Err(AllocError) => return Err(DumpFault::NoMemory),
-    };
+    let head = read_head_from(reader)?;
+    let mut machine = Machine::new_in(alloc, alloc, head.profile, head.clients_max)?;
     for _ in 0..u64::MAX {
         pass_on_before_item(reader, writer);
-        match replay_next(alloc, &mut machine, reader, writer) {
-            Ok(true) => {}
-            Ok(false) => return Ok(machine.commit()),
-            Err(fault) => return Err(fault),
+        if !replay_next(alloc, &mut machine, reader, writer)? {
+            return Ok(machine.commit());
         }
     }
     // Each entry takes a nanosecond of the time that there is: no history has so many.

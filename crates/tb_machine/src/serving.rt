@@ -1,13 +1,14 @@
 //! The serving of a script: moments and requests are read, executed and answered, one after another.
-ghost use Rattle.std.specs.Prelude.{◌≡◌, ◌≢◌, true, [], MatchResult, Some};
+ghost use Rattle.std.specs.Prelude.{◌≡◌, ◌≢◌, true, false, [], IsTrue, MatchResult, Some};
 ghost use Rattle.std.specs.Option.{is_some, option_map};
 ghost use Rattle.tb_records.specs.Messages.{IsLawful};
 ghost use Rattle.tb_records.specs.ReplyFrames.{reply_bytes};
 ghost use Rattle.tb_records.specs.Transport.{Sent};
 ghost use Rattle.tb_sessions.specs.Judged.{class_of, row_of};
-ghost use Rattle.tb_machine.specs.Histories.{status_of, answer_to};
+ghost use Rattle.tb_machine.specs.Histories.{status_of, answer_to, fits};
 ghost use Rattle.tb_machine.specs.RunFaults.{run_fault_number, run_fault_name};
 ghost use Rattle.tb_machine.specs.Runs.{is_new_in, Turns, Ran};
+ghost use Rattle.tb_machine.specs.Scripts.{entry_of, has_time};
 ghost use Rattle.tb_machine.specs.Serving.{Enters, Delivers, Serves};
 
 use crate::entries::Entry;
@@ -60,6 +61,26 @@ impl RunFault {
     }
 }
 
+impl From<FrameFault> for RunFault {
+    ghost use Rattle.tb_machine.specs.declared.serving.RunFault.TheVariants.{Frame};
+
+    ghost from_gives = { λ of_frame fault. fault ≡ Frame of_frame };
+
+    fn from(fault: FrameFault) -> RunFault {
+        RunFault::Frame(fault)
+    }
+}
+
+impl From<AllocError> for RunFault {
+    ghost use Rattle.tb_machine.specs.declared.serving.RunFault.TheVariants.{NoMemory};
+
+    ghost from_gives = { λ _ fault. fault ≡ NoMemory };
+
+    fn from(_: AllocError) -> RunFault {
+        RunFault::NoMemory
+    }
+}
+
 impl fmt::Display for RunFault {
     ghost use Rattle.std.specs.Prelude.{Some};
     ghost use Rattle.tb_machine.specs.RunFaults.{run_fault_name};
@@ -87,6 +108,26 @@ pub fn status_of(class: Class) -> Status
     }
 }
 
+/// The entry of a new request that comes at a moment, where there is a time for it.
+fn next_entry(machine: &Machine<Global>, moment: u64, request: Request) -> Result<Entry, RunFault>
+    requires { is_new_in machine.now (moment, request) ≡ true }
+    ensures timed { MatchResult result
+        (λ entry. (has_time machine.now (moment, request) ≡ true) × (entry ≡ entry_of machine.now (moment, request)) × IsTrue (fits machine.now entry))
+        (λ f. (f ≡ RunFault.TimeExhausted) × (has_time machine.now (moment, request) ≡ false)) }
+    ensures lawful { IsLawful request }
+{
+    let events = request.body().event_count() as u64;
+    let Some(time) = machine.next_time(moment, events) else {
+        return Err(RunFault::TimeExhausted)
+    };
+    let commit = machine.commit() + 1;
+    Ok(Entry {
+        commit,
+        time,
+        request,
+    })
+}
+
 /// Enters a new request that comes at a moment. The time is found before any room is made.
 pub(crate) fn enter(
     machine: &mut Machine<Global>,
@@ -97,19 +138,8 @@ pub(crate) fn enter(
     ensures entered { Enters result machine.old machine.new (moment, request) }
     ensures lawful { IsLawful request }
 {
-    let events = request.body().event_count() as u64;
-    let Some(time) = machine.next_time(moment, events) else {
-        return Err(RunFault::TimeExhausted)
-    };
-    let commit = machine.commit() + 1;
-    match machine.enter(Entry {
-        commit,
-        time,
-        request,
-    }) {
-        Ok(()) => Ok(()),
-        Err(_) => Err(RunFault::NoMemory),
-    }
+    let entry = next_entry(machine, moment, request)?;
+    machine.enter(entry).map_err(|_| RunFault::NoMemory)
 }
 
 /// The reply that a client's row keeps.
@@ -127,10 +157,8 @@ pub(crate) fn stored(machine: &Machine<Global>, client: u128) -> &Reply
 fn send<W: Sink>(writer: &mut W, reply: &Reply) -> Result<(), RunFault>
     ensures { Delivers result (reply_bytes reply.now) (W.output writer.old) (W.output writer.new) }
 {
-    match send_reply(writer, reply) {
-        Ok(()) => Ok(()),
-        Err(fault) => Err(RunFault::Frame(fault)),
-    }
+    send_reply(writer, reply)?;
+    Ok(())
 }
 
 /// Enters a new request that comes at a moment, and writes the reply to it.
@@ -143,10 +171,11 @@ fn answer_new<W: Sink>(
     requires { class_of machine.old.rows request ≡ Class.New }
     ensures { Turns result machine.old machine.new (moment, request) (W.output writer.old) (W.output writer.new) }
 {
-    let client = request.client();
-    match enter(machine, moment, request) {
-        Ok(()) => send(writer, stored(machine, client)),
-        Err(fault) => Err(fault),
+    let entry = next_entry(machine, moment, request)?;
+    match machine.enter_and_tell(writer, entry) {
+        Ok(Ok(())) => Ok(()),
+        Ok(Err(fault)) => Err(RunFault::Frame(fault)),
+        Err(_) => Err(RunFault::NoMemory),
     }
 }
 
@@ -193,14 +222,11 @@ fn serve_next<R: Source, W: Sink>(
 ) -> Result<bool, RunFault>
     ensures { Serves result machine.old machine.new (R.input reader.old) (R.input reader.new) (W.output writer.old) (W.output writer.new) }
 {
-    match read_timed_from(alloc, reader) {
-        Ok(Some((moment, request))) => match serve_pair(machine, writer, moment, request) {
-            Ok(()) => Ok(true),
-            Err(fault) => Err(fault),
-        },
-        Ok(None) => Ok(false),
-        Err(fault) => Err(RunFault::Frame(fault)),
-    }
+    let Some((moment, request)) = read_timed_from(alloc, reader)? else {
+        return Ok(false)
+    };
+    serve_pair(machine, writer, moment, request)?;
+    Ok(true)
 }
 
 /// Says that bytes begin with a whole pair of a moment and a request frame.
@@ -230,16 +256,11 @@ pub fn run<R: Source, W: Sink>(
 ) -> Result<u64, RunFault>
     ensures { Ran profile clients_max result (R.input reader.old) (R.input reader.new) (W.output writer.old) (W.output writer.new) }
 {
-    let mut machine = match Machine::new_in(alloc, alloc, profile, clients_max) {
-        Ok(machine) => machine,
-        Err(AllocError) => return Err(RunFault::NoMemory),
-    };
+    let mut machine = Machine::new_in(alloc, alloc, profile, clients_max)?;
     for k in 0..u64::MAX {
         pass_on_before_waiting(reader, writer);
-        match serve_next(alloc, &mut machine, reader, writer) {
-            Ok(true) => {}
-            Ok(false) => return Ok(k),
-            Err(fault) => return Err(fault),
+        if !serve_next(alloc, &mut machine, reader, writer)? {
+            return Ok(k);
         }
     }
     Err(RunFault::TooLong)

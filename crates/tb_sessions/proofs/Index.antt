@@ -1,5 +1,5 @@
 -- The table's two maps through each change.
-use Rattle.std.proofs.Common.{◌≡◌, ◌≢◌, ℕ, ◌+◌, ◌<◌, ◌≤◌, Bool, true, false, cond, leb, ltb, inl, inr, List, [], ◌∷◌, length, find, Option, Some, None, refl, sym, ap, ◌∙◌, subst, ◌==◌, ◌&&◌, arith}
+use Rattle.std.proofs.Common.{◌≡◌, ◌≢◌, ℕ, ◌+◌, ◌<◌, ◌≤◌, Bool, true, false, cond, leb, ltb, ◌⊎◌, inl, inr, List, [], ◌∷◌, length, find, Option, Some, None, refl, sym, ap, ◌∙◌, subst, ◌==◌, ◌&&◌, arith}
 use Rattle.std.proofs.lemmas.Bool.Decides.{nat_tests}
 use Rattle.std.proofs.lemmas.Map.{keys-set_value, length-set_value}
 use Rattle.std.proofs.lemmas.Map.Entries.{length-values_of}
@@ -14,11 +14,11 @@ use Rattle.avl_tree.specs.Map.{Map, entries}
 use Rattle.avl_tree.proofs.Around.{ordered-insert_entry, ordered-remove_entry, length-insert_entry, length-remove_entry_found}
 use Rattle.tb_records.specs.Ordered.{Each}
 use Rattle.tb_records.proofs.ByKey.{each-find, found_key}
+use Rattle.tb_records.proofs.Entries.{found-row, own-replaced, own-inserted, own-removed}
 use Rattle.tb_sessions.specs.declared.rows.Row.{Row}
 use Rattle.tb_sessions.specs.Judged.{client_of}
 use Rattle.tb_sessions.specs.Admission.{oldest, driven_out}
-use Rattle.tb_sessions.specs.Indexed.{IsLinked, IsIndexed}
-use Rattle.tb_sessions.proofs.Entries.{found-row, own-replaced, own-inserted, own-removed}
+use Rattle.tb_sessions.specs.Indexed.{row_at, client_at, IsLinked, IsIndexed, IsFirstBehind, IsReady}
 use Rattle.tb_sessions.proofs.LookUps.{decide, at_itself, removed_here, removed_other, set_here, set_other, put_here, put_other, first_least, each_found}
 
 pub inside : {X : Type 0} {x y : X} → Some x ≡ Some y → x ≡ y
@@ -27,93 +27,224 @@ inside e = cc
 pub nothing : {X : Type 0} {o : Option X} {x : X} → o ≡ None → o ≡ Some x → ⊥
 nothing e f = cc
 
--- a row and its commit leave together
-linked_out : {R R' : ℕ → Option Row} {B B' : ℕ → Option ℕ} (k : ℕ) (r : Row) → IsLinked R B → R k ≡ Some r
-    → R' k ≡ None → ((q : ℕ) → q ≢ k → R' q ≡ R q) → B' r.commit ≡ None → ((c : ℕ) → c ≢ r.commit → B' c ≡ B c) → IsLinked R' B'
-linked_out {R} {R'} {B} {B'} k r l here gone others commit_gone other_commits = record {
-  noted = λ q x is. elim (decide q k) [
-    | inl same ↦ absurd (nothing (ap R' same ∙ gone) is)
-    | inr n ↦
-        let noted = l.noted q x (sym (others q n) ∙ is) in
-        other_commits x.commit (λ same. n (inside (sym noted ∙ ap B same ∙ l.noted k r here))) ∙ noted
-  ];
-  kept = λ c j is. elim (decide c r.commit) [
-    | inl same ↦ absurd (nothing (ap B' same ∙ commit_gone) is)
-    | inr n ↦
-        let kept = l.kept c j (sym (other_commits c n) ∙ is) in
-        (kept.0, others j (λ same. n (sym kept.2 ∙ ap (λ (x : Row). x.commit) (inside (sym kept.1 ∙ ap R same ∙ here)))) ∙ kept.1, kept.2)
-  ];
+-- a client's row leaves, and the commit that the client stands at
+linked_out : {R R' : ℕ → Option Row} {B B' : ℕ → Option ℕ} (k d : ℕ) → IsLinked R B → B d ≡ Some k
+    → R' k ≡ None → ((q : ℕ) → q ≢ k → R' q ≡ R q) → B' d ≡ None → ((c : ℕ) → c ≢ d → B' c ≡ B c) → IsLinked R' B'
+linked_out {R} {R'} {B} {B'} k d l stood gone others commit_gone other_commits = record {
+  noted = λ q x is. let was = row_before q x is in let noted = l.noted q x was.1 in (noted.0, noted.1, other_commits noted.0 (λ same. was.0 (inside (sym noted.2 ∙ ap B same ∙ stood))) ∙ noted.2);
+  kept = λ c j is. let was = client_before c j is in let kept = l.kept c j was.1 in (kept.0, others j (λ same. was.0 (l.once c d j was.1 (stood ∙ ap Some (sym same)))) ∙ kept.1, kept.2);
+  once = λ c e j is too. l.once c e j (client_before c j is).1 (client_before e j too).1;
+  apart = λ q j x is at. l.apart q j x (row_before q x is).1 (client_before x.commit j at).1;
+  differ = λ q j x y is too same. l.differ q j x y (row_before q x is).1 (row_before j y too).1 same;
 }
+  where
+    row_before : (q : ℕ) (x : Row) → R' q ≡ Some x → (q ≢ k) × (R q ≡ Some x)
+    row_before q x is = elim (decide q k) [
+      | inl same ↦ absurd (nothing (ap R' same ∙ gone) is)
+      | inr n ↦ (n, sym (others q n) ∙ is)
+    ]
 
--- and come together
-linked_in : {R R' : ℕ → Option Row} {B B' : ℕ → Option ℕ} (k : ℕ) (r : Row) → IsLinked R B → R k ≡ None → B r.commit ≡ None
+    client_before : (c j : ℕ) → B' c ≡ Some j → (c ≢ d) × (B c ≡ Some j)
+    client_before c j is = elim (decide c d) [
+      | inl same ↦ absurd (nothing (ap B' same ∙ commit_gone) is)
+      | inr n ↦ (n, sym (other_commits c n) ∙ is)
+    ]
+
+-- of the rows after a change: the one that was put in, or one from before
+put_or_before : {R R' : ℕ → Option Row} (k : ℕ) (r : Row) → R' k ≡ Some r → ((q : ℕ) → q ≢ k → R' q ≡ R q) → (q : ℕ) (x : Row) → R' q ≡ Some x → ((q ≡ k) × (x ≡ r)) ⊎ (R q ≡ Some x)
+put_or_before {R} {R'} k r here others q x is = elim (decide q k) [
+  | inl same ↦ inl (same, inside (sym is ∙ ap R' same ∙ here))
+  | inr n ↦ inr (sym (others q n) ∙ is)
+]
+
+-- no two rows have one commit, where the row that was put in has a new one
+still_differ : {R R' : ℕ → Option Row} (k : ℕ) (r : Row) → ((q j : ℕ) (x y : Row) → R q ≡ Some x → R j ≡ Some y → x.commit ≡ y.commit → q ≡ j)
+    → ((q : ℕ) (x : Row) → R q ≡ Some x → x.commit ≢ r.commit) → ((q : ℕ) (x : Row) → R' q ≡ Some x → ((q ≡ k) × (x ≡ r)) ⊎ (R q ≡ Some x))
+    → (q j : ℕ) (x y : Row) → R' q ≡ Some x → R' j ≡ Some y → x.commit ≡ y.commit → q ≡ j
+still_differ k r differ unlike before q j x y is too same = elim (before q x is) [
+  | inl a ↦ elim (before j y too) [
+    | inl b ↦ a.0 ∙ sym b.0
+    | inr b ↦ absurd (unlike j y b (sym same ∙ ap (λ (w : Row). w.commit) a.1))
+  ]
+  | inr a ↦ elim (before j y too) [
+    | inl b ↦ absurd (unlike q x a (same ∙ ap (λ (w : Row). w.commit) b.1))
+    | inr b ↦ differ q j x y a b same
+  ]
+]
+
+-- a row comes, and its client at the row's commit
+linked_in : {R R' : ℕ → Option Row} {B B' : ℕ → Option ℕ} (k : ℕ) (r : Row) → IsLinked R B → R k ≡ None → B r.commit ≡ None → ((q : ℕ) (x : Row) → R q ≡ Some x → x.commit ≢ r.commit)
     → R' k ≡ Some r → ((q : ℕ) → q ≢ k → R' q ≡ R q) → B' r.commit ≡ Some k → ((c : ℕ) → c ≢ r.commit → B' c ≡ B c) → IsLinked R' B'
-linked_in {R} {R'} {B} {B'} k r l absent fresh here others commit_here other_commits = record {
-  noted = λ q x is. elim (decide q k) [
-    | inl same ↦ ap (λ (y : Row). B' y.commit) (inside (sym is ∙ ap R' same ∙ here)) ∙ commit_here ∙ ap Some (sym same)
-    | inr n ↦
-        let noted = l.noted q x (sym (others q n) ∙ is) in
-        other_commits x.commit (λ same. absurd (nothing (ap B same ∙ fresh) noted)) ∙ noted
+linked_in {R} {R'} {B} {B'} k r l absent fresh unlike here others commit_here other_commits = record {
+  noted = λ q x is. elim (row_before q x is) [
+    | inl a ↦ let same = ap (λ (w : Row). w.commit) a.1 in (r.commit, omega (arith, same), commit_here ∙ ap Some (sym a.0))
+    | inr a ↦ let noted = l.noted q x a in (noted.0, noted.1, other_commits noted.0 (λ same. nothing (ap B same ∙ fresh) noted.2) ∙ noted.2)
   ];
-  kept = λ c j is. elim (decide c r.commit) [
-    | inl same ↦ (r, ap R' (inside (sym is ∙ ap B' same ∙ commit_here)) ∙ here, sym same)
-    | inr n ↦
-        let kept = l.kept c j (sym (other_commits c n) ∙ is) in
-        (kept.0, others j (λ same. absurd (nothing (ap R same ∙ absent) kept.1)) ∙ kept.1, kept.2)
+  kept = λ c j is. elim (client_before c j is) [
+    | inl a ↦ let same = a.0 in (r, ap R' a.1 ∙ here, omega (arith, same))
+    | inr a ↦ let kept = l.kept c j a.1 in (kept.0, others j (λ same. nothing (ap R same ∙ absent) kept.1) ∙ kept.1, kept.2)
   ];
+  once = λ c e j is too. elim (client_before c j is) [
+    | inl a ↦ elim (client_before e j too) [
+      | inl b ↦ a.0 ∙ sym b.0
+      | inr b ↦ absurd (nothing (ap R a.1 ∙ absent) (l.kept e j b.1).1)
+    ]
+    | inr a ↦ elim (client_before e j too) [
+      | inl b ↦ absurd (nothing (ap R b.1 ∙ absent) (l.kept c j a.1).1)
+      | inr b ↦ l.once c e j a.1 b.1
+    ]
+  ];
+  apart = λ q j x is at. elim (row_before q x is) [
+    | inl a ↦ elim (client_before x.commit j at) [
+      | inl b ↦ b.1 ∙ sym a.0
+      | inr b ↦ absurd (b.0 (ap (λ (w : Row). w.commit) a.1))
+    ]
+    | inr a ↦ elim (client_before x.commit j at) [
+      | inl b ↦ absurd (unlike q x a b.0)
+      | inr b ↦ l.apart q j x a b.1
+    ]
+  ];
+  differ = still_differ k r l.differ unlike row_before;
 }
+  where
+    row_before : (q : ℕ) (x : Row) → R' q ≡ Some x → ((q ≡ k) × (x ≡ r)) ⊎ (R q ≡ Some x)
+    row_before = put_or_before k r here others
+
+    client_before : (c j : ℕ) → B' c ≡ Some j → ((c ≡ r.commit) × (j ≡ k)) ⊎ ((c ≢ r.commit) × (B c ≡ Some j))
+    client_before c j is = elim (decide c r.commit) [
+      | inl same ↦ inl (same, inside (sym is ∙ ap B' same ∙ commit_here))
+      | inr n ↦ inr (n, sym (other_commits c n) ∙ is)
+    ]
+
+-- a later row comes in place of a client's, and the client stands where it stood
+linked_renewed : {R R' : ℕ → Option Row} {B : ℕ → Option ℕ} (k : ℕ) (r old : Row) → IsLinked R B → R k ≡ Some old → old.commit ≤ r.commit → B r.commit ≡ None → ((q : ℕ) (x : Row) → R q ≡ Some x → x.commit ≢ r.commit)
+    → R' k ≡ Some r → ((q : ℕ) → q ≢ k → R' q ≡ R q) → IsLinked R' B
+linked_renewed {R} {R'} {B} k r old l found later fresh unlike here others = record {
+  noted = λ q x is. elim (row_before q x is) [
+    | inl a ↦ let noted = l.noted k old found in let same = ap (λ (w : Row). w.commit) a.1 in let low = noted.1 in (noted.0, omega (arith, low, later, same), noted.2 ∙ ap Some (sym a.0))
+    | inr a ↦ l.noted q x a
+  ];
+  kept = λ c j is. let kept = l.kept c j is in elim (decide j k) [
+    | inl same ↦ let was = ap (λ (w : Row). w.commit) (inside (sym kept.1 ∙ ap R same ∙ found)) in let low = kept.2 in (r, ap R' same ∙ here, omega (arith, was, low, later))
+    | inr n ↦ (kept.0, others j n ∙ kept.1, kept.2)
+  ];
+  once = l.once;
+  apart = λ q j x is at. elim (row_before q x is) [
+    | inl a ↦ absurd (nothing (ap (λ (w : Row). B w.commit) a.1 ∙ fresh) at)
+    | inr a ↦ l.apart q j x a at
+  ];
+  differ = still_differ k r l.differ unlike row_before;
+}
+  where
+    row_before : (q : ℕ) (x : Row) → R' q ≡ Some x → ((q ≡ k) × (x ≡ r)) ⊎ (R q ≡ Some x)
+    row_before = put_or_before k r here others
+
+-- a client goes from the commit where it stands to its row's
+linked_moved : {R : ℕ → Option Row} {B B' : ℕ → Option ℕ} (k d : ℕ) (r : Row) → IsLinked R B → B d ≡ Some k → R k ≡ Some r
+    → B' r.commit ≡ Some k → B' d ≡ None → ((c : ℕ) → c ≢ d → c ≢ r.commit → B' c ≡ B c) → IsLinked R B'
+linked_moved {R} {B} {B'} k d r l stood here commit_here commit_gone other_commits = record {
+  noted = λ q x is. elim (decide q k) [
+    | inl same ↦ let at = ap (λ (w : Row). w.commit) (inside (sym is ∙ ap R same ∙ here)) in (r.commit, omega (arith, at), commit_here ∙ ap Some (sym same))
+    | inr n ↦
+        let noted = l.noted q x is in
+        (noted.0, noted.1, other_commits noted.0 (λ same. n (inside (sym noted.2 ∙ ap B same ∙ stood))) (λ same. n (l.apart k q r here (sym (ap B same) ∙ noted.2))) ∙ noted.2)
+  ];
+  kept = λ c j is. elim (client_before c j is) [
+    | inl a ↦ let same = a.0 in (r, ap R a.1 ∙ here, omega (arith, same))
+    | inr a ↦ l.kept c j a.1
+  ];
+  once = λ c e j is too. elim (client_before c j is) [
+    | inl a ↦ elim (client_before e j too) [
+      | inl b ↦ a.0 ∙ sym b.0
+      | inr b ↦ absurd (b.0 (l.once e d j b.1 (stood ∙ ap Some (sym a.1))))
+    ]
+    | inr a ↦ elim (client_before e j too) [
+      | inl b ↦ absurd (a.0 (l.once c d j a.1 (stood ∙ ap Some (sym b.1))))
+      | inr b ↦ l.once c e j a.1 b.1
+    ]
+  ];
+  apart = λ q j x is at. elim (client_before x.commit j at) [
+    | inl a ↦ a.1 ∙ sym (l.differ q k x r is here a.0)
+    | inr a ↦ l.apart q j x is a.1
+  ];
+  differ = l.differ;
+}
+  where
+    client_before : (c j : ℕ) → B' c ≡ Some j → ((c ≡ r.commit) × (j ≡ k)) ⊎ ((c ≢ d) × (B c ≡ Some j))
+    client_before c j is = elim (decide c r.commit) [
+      | inl same ↦ inl (same, inside (sym is ∙ ap B' same ∙ commit_here))
+      | inr n ↦ elim (decide c d) [
+        | inl same ↦ absurd (nothing (ap B' same ∙ commit_gone) is)
+        | inr m ↦ inr (m, sym (other_commits c m n) ∙ is)
+      ]
+    ]
+
+-- the first of the clients stands at its commit
+pub first_found : (es : List (ℕ × ℕ)) (c k : ℕ) → slice_get es 0 ≡ Some (c, k) → lookup (is_at (nat_cmp c)) es ≡ Some k
+first_found [] c k is = absurd (cc)
+first_found (e ∷ es) c k is =
+    let same : e ≡ (c, k) = inside is in
+    let at : e.0 ≡ c = ap (λ p. p.0) same in
+    ap (λ b. cond b (Some e.1) (lookup (is_at (nat_cmp c)) es)) (subst (λ d. is_at (nat_cmp c) d ≡ true) (sym at) (at_itself c)) ∙ ap (λ p. Some p.1) same
 
 module _ {n : ℕ} {rows : Map ℕ Row} {clients : Map ℕ ℕ} (i : IsIndexed n rows clients) where
-  -- no client stands at a later commit
-  pub fresh : (commit : ℕ) → Each (λ (other : Row). other.commit < commit) (values_of (entries rows)) → lookup (is_at (nat_cmp commit)) (entries clients) ≡ None
-  fresh commit later = by (lookup (is_at (nat_cmp commit)) (entries clients)) refl
+  -- each row found is of an earlier commit, and no client stands at a later one
+  earlier : (commit : ℕ) → Each (λ (other : Row). other.commit < commit) (values_of (entries rows)) → (q : ℕ) (x : Row) → row_at rows q ≡ Some x → x.commit < commit
+  earlier commit later q x is = each-find (λ (other : Row). other.commit < commit) (λ row. client_of row == q) x (values_of (entries rows)) later (sym (found-row client_of q (entries rows) i.own) ∙ is)
+
+  pub fresh : (commit : ℕ) → Each (λ (other : Row). other.commit < commit) (values_of (entries rows)) → client_at clients commit ≡ None
+  fresh commit later = by (client_at clients commit) refl
     where
-      by : (o : Option ℕ) → lookup (is_at (nat_cmp commit)) (entries clients) ≡ o → o ≡ None
+      by : (o : Option ℕ) → client_at clients commit ≡ o → o ≡ None
       by None is = refl
       by (Some j) is =
           let kept = i.linked.kept commit j is in
-          let less = each-find (λ (other : Row). other.commit < commit) (λ row. client_of row == j) kept.0 (values_of (entries rows)) later (sym (found-row client_of j (entries rows) i.own) ∙ kept.1) in
-          let same = kept.2 in
-          absurd (omega (arith, less, same))
+          let less = earlier commit later j kept.0 kept.1 in
+          let low = kept.2 in
+          absurd (omega (arith, less, low))
 
-  pub index_out : (r : Row) (k : ℕ) {rows' : Map ℕ Row} {clients' : Map ℕ ℕ} → lookup (is_at (nat_cmp k)) (entries rows) ≡ Some r
-      → entries rows' ≡ remove_entry (is_at (nat_cmp k)) (entries rows) → entries clients' ≡ remove_entry (is_at (nat_cmp r.commit)) (entries clients)
-      → rows'.spare ≡ rows.spare + 1 → clients'.spare ≡ clients.spare + 1 → IsIndexed n rows' clients'
-  index_out r k {rows'} {clients'} here is is_clients spare clients_spare =
-      let noted = i.linked.noted k r here in
+  pub index_out : (r : Row) (k d : ℕ) {rows' : Map ℕ Row} {clients' : Map ℕ ℕ} → row_at rows k ≡ Some r → client_at clients d ≡ Some k
+      → entries rows' ≡ remove_entry (is_at (nat_cmp k)) (entries rows) → entries clients' ≡ remove_entry (is_at (nat_cmp d)) (entries clients)
+      → rows'.spare ≡ rows.spare + 1 → clients'.spare ≡ clients.spare + 1 → IsReady n rows' clients'
+  index_out r k d {rows'} {clients'} here stood is is_clients spare clients_spare =
       let a = length-remove_entry_found nat_cmp k r (entries rows) here in
-      let b = length-remove_entry_found nat_cmp r.commit k (entries clients) noted in
+      let b = length-remove_entry_found nat_cmp d k (entries clients) stood in
       let la = ap length is in
       let lb = ap length is_clients in
       record {
-        own = subst (λ es. Each (λ e. client_of e.1 ≡ e.0) es) (sym is) (own-removed client_of k (entries rows) i.own);
-        rows_rise = subst (λ es. IsStrictlySortedBy nat_cmp (keys_of es)) (sym is) (ordered-remove_entry nat_cmp (is_at (nat_cmp k)) (entries rows) i.rows_rise);
-        commits_rise = subst (λ es. IsStrictlySortedBy nat_cmp (keys_of es)) (sym is_clients) (ordered-remove_entry nat_cmp (is_at (nat_cmp r.commit)) (entries clients) i.commits_rise);
-        linked = linked_out k r i.linked here
-            (ap (λ es. lookup (is_at (nat_cmp k)) es) is ∙ removed_here k (entries rows) i.rows_rise)
-            (λ q other. ap (λ es. lookup (is_at (nat_cmp q)) es) is ∙ removed_other k (entries rows) i.rows_rise q other)
-            (ap (λ es. lookup (is_at (nat_cmp r.commit)) es) is_clients ∙ removed_here r.commit (entries clients) i.commits_rise)
-            (λ c other. ap (λ es. lookup (is_at (nat_cmp c)) es) is_clients ∙ removed_other r.commit (entries clients) i.commits_rise c other);
-        even = omega (arith, a, b, la, lb, i.even);
-        some_room = i.some_room;
-        not_over = omega (arith, a, la, i.not_over);
-        rows_fit = omega (arith, a, la, spare, i.rows_fit);
-        clients_fit = omega (arith, b, lb, clients_spare, i.clients_fit);
+        indexed = record {
+          own = subst (λ es. Each (λ e. client_of e.1 ≡ e.0) es) (sym is) (own-removed client_of k (entries rows) i.own);
+          rows_rise = subst (λ es. IsStrictlySortedBy nat_cmp (keys_of es)) (sym is) (ordered-remove_entry nat_cmp (is_at (nat_cmp k)) (entries rows) i.rows_rise);
+          commits_rise = subst (λ es. IsStrictlySortedBy nat_cmp (keys_of es)) (sym is_clients) (ordered-remove_entry nat_cmp (is_at (nat_cmp d)) (entries clients) i.commits_rise);
+          linked = linked_out k d i.linked stood
+              (ap (λ es. lookup (is_at (nat_cmp k)) es) is ∙ removed_here k (entries rows) i.rows_rise)
+              (λ q other. ap (λ es. lookup (is_at (nat_cmp q)) es) is ∙ removed_other k (entries rows) i.rows_rise q other)
+              (ap (λ es. lookup (is_at (nat_cmp d)) es) is_clients ∙ removed_here d (entries clients) i.commits_rise)
+              (λ c other. ap (λ es. lookup (is_at (nat_cmp c)) es) is_clients ∙ removed_other d (entries clients) i.commits_rise c other);
+          even = omega (arith, a, b, la, lb, i.even);
+          some_room = i.some_room;
+          not_over = omega (arith, a, la, i.not_over);
+          rows_fit = omega (arith, a, la, spare, i.rows_fit);
+          clients_fit = omega (arith, b, lb, clients_spare, i.clients_fit);
+        };
+        first = λ full. absurd (omega (arith, a, la, full, i.not_over));
       }
 
-  pub index_in : (r : Row) {rows' : Map ℕ Row} {clients' : Map ℕ ℕ} → lookup (is_at (nat_cmp r.client)) (entries rows) ≡ None → lookup (is_at (nat_cmp r.commit)) (entries clients) ≡ None
+  pub index_in : (r : Row) {rows' : Map ℕ Row} {clients' : Map ℕ ℕ} → row_at rows r.client ≡ None → Each (λ (other : Row). other.commit < r.commit) (values_of (entries rows))
       → entries rows' ≡ insert_entry nat_cmp (entries rows) r.client r → entries clients' ≡ insert_entry nat_cmp (entries clients) r.commit r.client
       → rows'.spare + 1 ≡ rows.spare → clients'.spare + 1 ≡ clients.spare → length (entries rows) < n → IsIndexed n rows' clients'
-  index_in r {rows'} {clients'} absent no_client is is_clients spare clients_spare room =
+  index_in r {rows'} {clients'} absent later is is_clients spare clients_spare room =
+      let no_client = fresh r.commit later in
       let a = length-insert_entry nat_cmp r.client r (entries rows) absent in
       let b = length-insert_entry nat_cmp r.commit r.client (entries clients) no_client in
       let la = ap length is in
       let lb = ap length is_clients in
       record {
-        own = subst (λ es. Each (λ e. client_of e.1 ≡ e.0) es) (sym is) (own-inserted client_of r (entries rows) i.own);
+        own = subst (λ es. Each (λ e. client_of e.1 ≡ e.0) es) (sym is) (own-inserted client_of r (client_of r) (entries rows) refl i.own);
         rows_rise = subst (λ es. IsStrictlySortedBy nat_cmp (keys_of es)) (sym is) (ordered-insert_entry nat_cmp_total r.client r (entries rows) i.rows_rise);
         commits_rise = subst (λ es. IsStrictlySortedBy nat_cmp (keys_of es)) (sym is_clients) (ordered-insert_entry nat_cmp_total r.commit r.client (entries clients) i.commits_rise);
         linked = linked_in r.client r i.linked absent no_client
+            (λ q x found same. let less = earlier r.commit later q x found in omega (arith, less, same))
             (ap (λ es. lookup (is_at (nat_cmp r.client)) es) is ∙ put_here r.client r (entries rows))
             (λ q other. ap (λ es. lookup (is_at (nat_cmp q)) es) is ∙ put_other r.client r (entries rows) q other)
             (ap (λ es. lookup (is_at (nat_cmp r.commit)) es) is_clients ∙ put_here r.commit r.client (entries clients))
@@ -125,47 +256,69 @@ module _ {n : ℕ} {rows : Map ℕ Row} {clients : Map ℕ ℕ} (i : IsIndexed n
         clients_fit = omega (arith, b, lb, clients_spare, i.clients_fit);
       }
 
-  -- where the client's old commit is taken out, none stands at the new one either
-  pub still_fresh : (commit old : ℕ) (between : Map ℕ ℕ) {k : ℕ} → lookup (is_at (nat_cmp commit)) (entries clients) ≡ None → lookup (is_at (nat_cmp old)) (entries clients) ≡ Some k
-      → entries between ≡ remove_entry (is_at (nat_cmp old)) (entries clients) → lookup (is_at (nat_cmp commit)) (entries between) ≡ None
-  still_fresh commit old between no_client noted is =
-      let apart : commit ≢ old = λ same. absurd (nothing (ap (λ c. lookup (is_at (nat_cmp c)) (entries clients)) (sym same) ∙ no_client) noted) in
-      ap (λ es. lookup (is_at (nat_cmp commit)) es) is ∙ removed_other old (entries clients) i.commits_rise commit apart ∙ no_client
-
-  -- a row in place of the client's, which was of another commit
-  pub index_renewed : (r old : Row) (between : Map ℕ ℕ) {rows' : Map ℕ Row} {clients' : Map ℕ ℕ} → lookup (is_at (nat_cmp r.client)) (entries rows) ≡ Some old → lookup (is_at (nat_cmp r.commit)) (entries clients) ≡ None
-      → entries rows' ≡ set_value (is_at (nat_cmp r.client)) (entries rows) r → entries between ≡ remove_entry (is_at (nat_cmp old.commit)) (entries clients) → entries clients' ≡ insert_entry nat_cmp (entries between) r.commit r.client
-      → rows'.spare ≡ rows.spare → between.spare ≡ clients.spare + 1 → clients'.spare + 1 ≡ between.spare → IsIndexed n rows' clients'
-  index_renewed r old between {rows'} {clients'} found no_client is is_between is_clients spare between_spare clients_spare =
-      let noted = i.linked.noted r.client old found in
-      let still = still_fresh r.commit old.commit between no_client noted is_between in
-      let rise = subst (λ es. IsStrictlySortedBy nat_cmp (keys_of es)) (sym is_between) (ordered-remove_entry nat_cmp (is_at (nat_cmp old.commit)) (entries clients) i.commits_rise) in
+  -- a row in place of the client's, which was of an earlier commit
+  pub index_renewed : (r old : Row) {rows' : Map ℕ Row} → row_at rows r.client ≡ Some old → Each (λ (other : Row). other.commit < r.commit) (values_of (entries rows))
+      → entries rows' ≡ set_value (is_at (nat_cmp r.client)) (entries rows) r → rows'.spare ≡ rows.spare → IsIndexed n rows' clients
+  index_renewed r old {rows'} found later is spare =
       let a = length-set_value (is_at (nat_cmp r.client)) (entries rows) r in
-      let b = length-remove_entry_found nat_cmp old.commit r.client (entries clients) noted in
-      let d = length-insert_entry nat_cmp r.commit r.client (entries between) still in
       let la = ap length is in
-      let lb = ap length is_between in
-      let ld = ap length is_clients in
-      let out = linked_out {R' = λ q. lookup (is_at (nat_cmp q)) (remove_entry (is_at (nat_cmp r.client)) (entries rows))} {B' = λ c. lookup (is_at (nat_cmp c)) (entries between)} r.client old i.linked found
-      (removed_here r.client (entries rows) i.rows_rise)
-      (λ q other. removed_other r.client (entries rows) i.rows_rise q other)
-      (ap (λ es. lookup (is_at (nat_cmp old.commit)) es) is_between ∙ removed_here old.commit (entries clients) i.commits_rise)
-      (λ c other. ap (λ es. lookup (is_at (nat_cmp c)) es) is_between ∙ removed_other old.commit (entries clients) i.commits_rise c other) in
+      let less = earlier r.commit later r.client old found in
       record {
-        own = subst (λ es. Each (λ e. client_of e.1 ≡ e.0) es) (sym is) (own-replaced client_of r (entries rows) i.own);
+        own = subst (λ es. Each (λ e. client_of e.1 ≡ e.0) es) (sym is) (own-replaced client_of r (client_of r) (entries rows) refl i.own);
         rows_rise = subst (λ es. IsStrictlySortedBy nat_cmp (keys_of es)) (sym is) (subst (λ ks. IsStrictlySortedBy nat_cmp ks) (sym (keys-set_value (is_at (nat_cmp r.client)) (entries rows) r)) i.rows_rise);
-        commits_rise = subst (λ es. IsStrictlySortedBy nat_cmp (keys_of es)) (sym is_clients) (ordered-insert_entry nat_cmp_total r.commit r.client (entries between) rise);
-        linked = linked_in r.client r out (removed_here r.client (entries rows) i.rows_rise) still
+        commits_rise = i.commits_rise;
+        linked = linked_renewed r.client r old i.linked found (omega (arith, less)) (fresh r.commit later)
+            (λ q x found same. let less = earlier r.commit later q x found in omega (arith, less, same))
             (ap (λ es. lookup (is_at (nat_cmp r.client)) es) is ∙ set_here r.client (entries rows) r old found)
-            (λ q other. ap (λ es. lookup (is_at (nat_cmp q)) es) is ∙ set_other r.client (entries rows) r old found q other ∙ sym (removed_other r.client (entries rows) i.rows_rise q other))
-            (ap (λ es. lookup (is_at (nat_cmp r.commit)) es) is_clients ∙ put_here r.commit r.client (entries between))
-            (λ c other. ap (λ es. lookup (is_at (nat_cmp c)) es) is_clients ∙ put_other r.commit r.client (entries between) c other);
-        even = omega (arith, a, b, d, la, lb, ld, i.even);
+            (λ q other. ap (λ es. lookup (is_at (nat_cmp q)) es) is ∙ set_other r.client (entries rows) r old found q other);
+        even = omega (arith, a, la, i.even);
         some_room = i.some_room;
         not_over = omega (arith, a, la, i.not_over);
         rows_fit = omega (arith, a, la, spare, i.rows_fit);
-        clients_fit = omega (arith, b, d, lb, ld, between_spare, clients_spare, i.clients_fit);
+        clients_fit = i.clients_fit;
       }
+
+  -- no client stands at the commit of a row that is not at the commit where its client stands
+  moved_fresh : (k d : ℕ) (r : Row) → client_at clients d ≡ Some k → row_at rows k ≡ Some r → r.commit ≢ d → client_at clients r.commit ≡ None
+  moved_fresh k d r stood here behind = by (client_at clients r.commit) refl
+    where
+      by : (o : Option ℕ) → client_at clients r.commit ≡ o → o ≡ None
+      by None is = refl
+      by (Some j) is = absurd (behind (i.linked.once r.commit d k (is ∙ ap Some (i.linked.apart k j r here is)) stood))
+
+  -- the first client goes to its row's commit
+  pub index_moved : (later : ℕ) → (f : IsFirstBehind rows clients later) (between : Map ℕ ℕ) {clients' : Map ℕ ℕ} → entries between ≡ remove_entry (is_at (nat_cmp f.commit)) (entries clients)
+      → entries clients' ≡ insert_entry nat_cmp (entries between) later f.client → between.spare ≡ clients.spare + 1 → clients'.spare + 1 ≡ between.spare → IsIndexed n rows clients'
+  index_moved later f between {clients'} is_between is between_spare spare =
+      let stood = first_found (entries clients) f.commit f.client f.first in
+      let behind = λ (same : f.row.commit ≡ f.commit). f.behind (sym f.is ∙ same) in
+      let absent : client_at between f.row.commit ≡ None = ap (λ es. lookup (is_at (nat_cmp f.row.commit)) es) is_between ∙ removed_other f.commit (entries clients) i.commits_rise f.row.commit behind ∙ moved_fresh f.client f.commit f.row stood f.here behind in
+      let now : entries clients' ≡ insert_entry nat_cmp (entries between) f.row.commit f.client = is ∙ ap (λ m. insert_entry nat_cmp (entries between) m f.client) (sym f.is) in
+      let rise = subst (λ es. IsStrictlySortedBy nat_cmp (keys_of es)) (sym is_between) (ordered-remove_entry nat_cmp (is_at (nat_cmp f.commit)) (entries clients) i.commits_rise) in
+      let a = length-remove_entry_found nat_cmp f.commit f.client (entries clients) stood in
+      let b = length-insert_entry nat_cmp f.row.commit f.client (entries between) absent in
+      let la = ap length is_between in
+      let lb = ap length now in
+      record {
+        own = i.own;
+        rows_rise = i.rows_rise;
+        commits_rise = subst (λ es. IsStrictlySortedBy nat_cmp (keys_of es)) (sym now) (ordered-insert_entry nat_cmp_total f.row.commit f.client (entries between) rise);
+        linked = linked_moved f.client f.commit f.row i.linked stood f.here
+            (ap (λ es. lookup (is_at (nat_cmp f.row.commit)) es) now ∙ put_here f.row.commit f.client (entries between))
+            (ap (λ es. lookup (is_at (nat_cmp f.commit)) es) now ∙ put_other f.row.commit f.client (entries between) f.commit (λ same. behind (sym same)) ∙ ap (λ es. lookup (is_at (nat_cmp f.commit)) es) is_between ∙ removed_here f.commit (entries clients) i.commits_rise)
+            (λ c other beside. ap (λ es. lookup (is_at (nat_cmp c)) es) now ∙ put_other f.row.commit f.client (entries between) c beside ∙ ap (λ es. lookup (is_at (nat_cmp c)) es) is_between ∙ removed_other f.commit (entries clients) i.commits_rise c other);
+        even = omega (arith, a, b, la, lb, i.even);
+        some_room = i.some_room;
+        not_over = i.not_over;
+        rows_fit = i.rows_fit;
+        clients_fit = omega (arith, a, b, la, lb, between_spare, spare, i.clients_fit);
+      }
+
+  pub moved_absent : (later : ℕ) → (f : IsFirstBehind rows clients later) (between : Map ℕ ℕ) → entries between ≡ remove_entry (is_at (nat_cmp f.commit)) (entries clients) → client_at between later ≡ None
+  moved_absent later f between is_between =
+      let stood = first_found (entries clients) f.commit f.client f.first in
+      let behind = λ (same : f.row.commit ≡ f.commit). f.behind (sym f.is ∙ same) in
+      ap (λ m. client_at between m) (sym f.is) ∙ ap (λ es. lookup (is_at (nat_cmp f.row.commit)) es) is_between ∙ removed_other f.commit (entries clients) i.commits_rise f.row.commit behind ∙ moved_fresh f.client f.commit f.row stood f.here behind
 
 -- a test that each passes
 all_pass : {X : Type 0} (p : X → Bool) (xs : List X) → Each (λ x. p x ≡ true) xs → list_all p xs ≡ true
@@ -191,18 +344,17 @@ find_only p key k r (x ∷ xs) each found passes = by (key x == k) refl (p x) re
     by false at true is found later = absurd (let same : key x ≡ k = each.0 is in grind (arith, nat_tests))
     by false at false is found later = later found
 
--- the client at the first commit has the row of least commit
-pub oldest_first : {n : ℕ} {rows : Map ℕ Row} {clients : Map ℕ ℕ} → IsIndexed n rows clients → (c k : ℕ) (r : Row) → slice_get (entries clients) 0 ≡ Some (c, k) → lookup (is_at (nat_cmp k)) (entries rows) ≡ Some r → r.commit ≡ c → oldest (values_of (entries rows)) ≡ Some r
+-- the client at the first commit has the row of least commit, where that is the row's
+pub oldest_first : {n : ℕ} {rows : Map ℕ Row} {clients : Map ℕ ℕ} → IsIndexed n rows clients → (c k : ℕ) (r : Row) → slice_get (entries clients) 0 ≡ Some (c, k) → row_at rows k ≡ Some r → r.commit ≡ c → oldest (values_of (entries rows)) ≡ Some r
 oldest_first {n} {rows} {clients} i c k r first here commit =
     let found = sym (found-row client_of k (entries rows) i.own) ∙ here in
-    let least = each_found (λ (x : Row). leb r.commit x.commit ≡ true) (entries rows) i.rows_rise (λ q x is. let noted = i.linked.noted q x is in let low = first_at (entries clients) i.commits_rise first x.commit q noted in grind (arith, nat_tests)) in
+    let stood = first_found (entries clients) c k first in
+    let least = each_found (λ (x : Row). leb r.commit x.commit ≡ true) (entries rows) i.rows_rise (λ q x is. let low = reached q x is in grind (arith, nat_tests)) in
     let only = each_found (λ (x : Row). list_all (λ other. leb x.commit other.commit) (values_of (entries rows)) ≡ true → client_of x ≡ k) (entries rows) i.rows_rise (λ q x is all.
-    let noted = i.linked.noted q x is in
-    let low = first_at (entries clients) i.commits_rise first x.commit q noted in
+    let low = reached q x is in
     let test = each-find (λ (y : Row). leb x.commit y.commit ≡ true) (λ row. client_of row == k) r (values_of (entries rows)) (each_passes (λ (y : Row). leb x.commit y.commit) (values_of (entries rows)) all) found in
     let same : x.commit ≡ r.commit = grind (arith, nat_tests) in
-    let noted_r = i.linked.noted k r here in
-    found_key client_of q x (values_of (entries rows)) (sym (found-row client_of q (entries rows) i.own) ∙ is) ∙ inside (sym noted ∙ ap (λ d. lookup (is_at (nat_cmp d)) (entries clients)) same ∙ noted_r)) in
+    found_key client_of q x (values_of (entries rows)) (sym (found-row client_of q (entries rows) i.own) ∙ is) ∙ i.linked.differ q k x r is here same) in
     find_only (λ (x : Row). list_all (λ other. leb x.commit other.commit) (values_of (entries rows))) client_of k r (values_of (entries rows)) only found (all_pass (λ (x : Row). leb r.commit x.commit) (values_of (entries rows)) least)
   where
     first_at : (es : List (ℕ × ℕ)) → IsStrictlySortedBy nat_cmp (keys_of es) → slice_get es 0 ≡ Some (c, k) → (d j : ℕ) → lookup (is_at (nat_cmp d)) es ≡ Some j → c ≤ d
@@ -212,27 +364,29 @@ oldest_first {n} {rows} {clients} i c k r first here commit =
         let low = first_least e es d j rise at in
         subst (λ m. m ≤ d) (ap (λ p. p.0) same) low
 
--- the first of the clients: it stands at its commit, and has a row of that commit
-first_found : (es : List (ℕ × ℕ)) (c k : ℕ) → slice_get es 0 ≡ Some (c, k) → lookup (is_at (nat_cmp c)) es ≡ Some k
-first_found [] c k is = absurd (cc)
-first_found (e ∷ es) c k is =
-    let same : e ≡ (c, k) = inside is in
-    let at : e.0 ≡ c = ap (λ p. p.0) same in
-    ap (λ b. cond b (Some e.1) (lookup (is_at (nat_cmp c)) es)) (subst (λ d. is_at (nat_cmp c) d ≡ true) (sym at) (at_itself c)) ∙ ap (λ p. Some p.1) same
+    reached : (q : ℕ) (x : Row) → row_at rows q ≡ Some x → r.commit ≤ x.commit
+    reached q x is =
+        let noted = i.linked.noted q x is in
+        let low = first_at (entries clients) i.commits_rise first noted.0 q noted.2 in
+        let most = noted.1 in
+        omega (arith, low, most, commit)
 
-pub first_row : {n : ℕ} {rows : Map ℕ Row} {clients : Map ℕ ℕ} → IsIndexed n rows clients → (c k : ℕ) → slice_get (entries clients) 0 ≡ Some (c, k) → (r : Row) × (lookup (is_at (nat_cmp k)) (entries rows) ≡ Some r) × (r.commit ≡ c)
-first_row {clients = clients} i c k is = i.linked.kept c k (first_found (entries clients) c k is)
+-- the first of the clients in a full table: it has a row of its commit
+pub first_row : {n : ℕ} {rows : Map ℕ Row} {clients : Map ℕ ℕ} → IsReady n rows clients → n ≤ length (entries rows) → (c k : ℕ) → slice_get (entries clients) 0 ≡ Some (c, k) → (r : Row) × (row_at rows k ≡ Some r) × (r.commit ≡ c)
+first_row {clients = clients} i full c k is =
+    let kept = i.indexed.linked.kept c k (first_found (entries clients) c k is) in
+    (kept.0, kept.1, i.first full c k kept.0 is kept.1)
 
 pub first_out : (es es' : List (ℕ × ℕ)) (c k : ℕ) → es ≡ (c, k) ∷ es' → es' ≡ remove_entry (is_at (nat_cmp c)) es
 first_out es es' c k is = sym (ap (λ m. remove_entry (is_at (nat_cmp c)) m) is ∙ ap (λ b. cond b es' ((c, k) ∷ remove_entry (is_at (nat_cmp c)) es')) (at_itself c))
 
-pub evictee_is : {n : ℕ} {rows : Map ℕ Row} {clients : Map ℕ ℕ} → IsIndexed n rows clients → n ≤ length (entries rows) → (c k : ℕ) → slice_get (entries clients) 0 ≡ Some (c, k) → Some k ≡ option_map client_of (driven_out n (values_of (entries rows)))
+pub evictee_is : {n : ℕ} {rows : Map ℕ Row} {clients : Map ℕ ℕ} → IsReady n rows clients → n ≤ length (entries rows) → (c k : ℕ) → slice_get (entries clients) 0 ≡ Some (c, k) → Some k ≡ option_map client_of (driven_out n (values_of (entries rows)))
 evictee_is {n} {rows} {clients} i full c k is =
-    let row = first_row i c k is in
+    let row = first_row i full c k is in
     let size = length-values_of (entries rows) in
     let not_less : ltb (length (values_of (entries rows))) n ≡ false = grind (arith, nat_tests) in
-    let owner = found_key client_of k row.0 (values_of (entries rows)) (sym (found-row client_of k (entries rows) i.own) ∙ row.1) in
-    let oldest = oldest_first i c k row.0 is row.1 row.2 in
+    let owner = found_key client_of k row.0 (values_of (entries rows)) (sym (found-row client_of k (entries rows) i.indexed.own) ∙ row.1) in
+    let oldest = oldest_first i.indexed c k row.0 is row.1 row.2 in
     rw (not_less, oldest) (ap Some (sym owner))
 
 pub none_first : {n : ℕ} {rows : Map ℕ Row} {clients : Map ℕ ℕ} → IsIndexed n rows clients → n ≤ length (entries rows) → slice_get (entries clients) 0 ≡ None → ⊥
@@ -243,22 +397,34 @@ none_first {n} {rows} {clients} i full none = by (entries clients) i.even none
     by (e ∷ es) even none = cc
 
 -- two empty maps with room for all
-pub index_empty : {n : ℕ} {rows : Map ℕ Row} {clients : Map ℕ ℕ} → entries rows ≡ [] → entries clients ≡ [] → 0 < n → n ≤ rows.spare → n ≤ clients.spare → IsIndexed n rows clients
+pub index_empty : {n : ℕ} {rows : Map ℕ Row} {clients : Map ℕ ℕ} → entries rows ≡ [] → entries clients ≡ [] → 0 < n → n ≤ rows.spare → n ≤ clients.spare → IsReady n rows clients
 unfolding IsStrictlySortedBy
 index_empty {n} {rows} {clients} no_rows no_clients some rows_room clients_room =
     let a = ap length no_rows in
     let b = ap length no_clients in
     record {
-      own = rw no_rows tt;
-      rows_rise = rw no_rows tt;
-      commits_rise = rw no_clients tt;
-      linked = record {
-        noted = λ client row is. absurd (nothing (ap (λ es. lookup (is_at (nat_cmp client)) es) no_rows) is);
-        kept = λ commit client is. absurd (nothing (ap (λ es. lookup (is_at (nat_cmp commit)) es) no_clients) is);
+      indexed = record {
+        own = rw no_rows tt;
+        rows_rise = rw no_rows tt;
+        commits_rise = rw no_clients tt;
+        linked = record {
+          noted = λ client row is. absurd (nothing (no_row client) is);
+          kept = λ commit client is. absurd (nothing (no_client commit) is);
+          once = λ commit other client is too. absurd (nothing (no_client commit) is);
+          apart = λ client other row is at. absurd (nothing (no_row client) is);
+          differ = λ client other row beside is too same. absurd (nothing (no_row client) is);
+        };
+        even = omega (arith, a, b);
+        some_room = some;
+        not_over = omega (arith, a);
+        rows_fit = omega (arith, a, rows_room);
+        clients_fit = omega (arith, b, clients_room);
       };
-      even = omega (arith, a, b);
-      some_room = some;
-      not_over = omega (arith, a);
-      rows_fit = omega (arith, a, rows_room);
-      clients_fit = omega (arith, b, clients_room);
+      first = λ full. absurd (omega (arith, a, full, some));
     }
+  where
+    no_row : (client : ℕ) → row_at rows client ≡ None
+    no_row client = ap (λ es. lookup (is_at (nat_cmp client)) es) no_rows
+
+    no_client : (commit : ℕ) → client_at clients commit ≡ None
+    no_client commit = ap (λ es. lookup (is_at (nat_cmp commit)) es) no_clients

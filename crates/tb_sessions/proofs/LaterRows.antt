@@ -6,7 +6,7 @@ use Rattle.tb_sessions.specs.declared.rows.Row.{Row}
 use Rattle.tb_sessions.specs.Judged.{client_of, row_of}
 use Rattle.tb_sessions.specs.Admission.{driven_out, without, admitted}
 
-each_without : (P : Row → Type 0) (gone : Option Row) (rows : List Row) → Each P rows → Each P (without gone rows)
+pub each_without : (P : Row → Type 0) (gone : Option Row) (rows : List Row) → Each P rows → Each P (without gone rows)
 each_without P None rows each = each
 each_without P (Some gone) rows each = each-taken_out client_of P (client_of gone) rows each
 

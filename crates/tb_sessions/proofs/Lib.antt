@@ -1,4 +1,4 @@
-pub mod Entries
 pub mod Index
 pub mod LaterRows
 pub mod LookUps
+pub mod Rising

@@ -13,7 +13,7 @@ use Rattle.std.proofs.lemmas.Map.{lookup-set_value, lookup-remove_entry}
 use Rattle.std.proofs.lemmas.Map.Keys.{IsDistinct-from_sorted}
 use Rattle.avl_tree.proofs.Around.{lookup-none_below, IsBelow}
 use Rattle.tb_records.specs.Ordered.{Each}
-use Rattle.tb_sessions.proofs.Entries.{eq-number}
+use Rattle.tb_records.proofs.Entries.{eq-number}
 
 pub decide : (q k : ℕ) → (q ≡ k) ⊎ (q ≢ k)
 decide q k = by (eqb q k) refl
@@ -79,7 +79,7 @@ pub put_other : {X : Type 0} (k : ℕ) (v : X) (es : List (ℕ × X)) (q : ℕ) 
 put_other k v es q n = inserted-other nat_cmp_total k v q (not_at k q (λ same. n (sym same))) es
 
 -- number y is above x
-less_is : (x y : ℕ) → nat_cmp x y ≡ Less → x < y
+pub less_is : (x y : ℕ) → nat_cmp x y ≡ Less → x < y
 less_is x y p = grind (arith, nat_tests)
 
 beyond : {X : Type 0} (x d : ℕ) (j : X) (es : List (ℕ × X)) → AllByRecursion (λ y. nat_cmp x y ≡ Less) (keys_of es) → lookup (is_at (nat_cmp d)) es ≡ Some j → x < d

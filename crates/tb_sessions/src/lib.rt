@@ -3,6 +3,7 @@
 #![tactic(auto)]
 
 pub mod classes;
+mod order;
 pub mod rows;
 pub mod table;
 

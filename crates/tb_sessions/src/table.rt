@@ -1,11 +1,12 @@
 //! The sessions of the clients: at most one of each, and at most so many in all.
-ghost use Rattle.std.specs.Prelude.{◌≡◌, ◌<◌, IfOk, IfErr, MatchOption, Some, None, [], length};
+ghost use Rattle.std.specs.Prelude.{◌≡◌, ◌<◌, ◌≤◌, IfOk, IfErr, MatchOption, Some, None, [], length};
 ghost use Rattle.std.specs.Option.{option_map};
 ghost use Rattle.tb_records.specs.Ordered.{Each, put, replaced, taken_out};
 ghost use Rattle.tb_sessions.specs.Judged.{class_of, client_of, row_of};
 ghost use Rattle.tb_sessions.specs.Admission.{admitted, driven_out, leaving, oldest};
 
 use crate::classes::Class;
+use crate::order::bring_up;
 use crate::rows::Row;
 use avl_tree::AvlMap;
 use std::alloc::{AllocError, Global};
@@ -18,7 +19,7 @@ pub struct Sessions {
     clients_max: usize,
     /// The rows by client.
     rows: AvlMap<u128, Row, Global>,
-    /// The client of each row by the row's commit.
+    /// The clients, each by its row's commit or by one that its row had before. Of a full table the first is at its row's.
     clients: AvlMap<u64, u128, Global>,
 }
 
@@ -26,13 +27,13 @@ impl Model for Sessions {
     ghost use Rattle.std.specs.Map.{values_of};
     ghost use Rattle.avl_tree.specs.Map.{entries};
     ghost use Rattle.tb_sessions.specs.Admission.{Table};
-    ghost use Rattle.tb_sessions.specs.Indexed.{IsIndexed};
+    ghost use Rattle.tb_sessions.specs.Indexed.{IsReady};
 
     ghost Value = { Table };
 
     ghost view = { λ s. record { clients_max = s.clients_max; rows = values_of (entries s.rows) } };
 
-    ghost invariant = { λ s. IsIndexed s.clients_max s.rows s.clients };
+    ghost invariant = { λ s. IsReady s.clients_max s.rows s.clients };
 }
 
 impl Sessions {
@@ -119,11 +120,9 @@ impl Sessions {
         ensures renewed { IfOk result (λ old. (row_of self.old.rows row.client ≡ Some old) × (self.new ≡ record self.old { rows = replaced client_of row self.old.rows })) }
         ensures absent { IfErr result (λ back. (back ≡ row) × (row_of self.old.rows row.client ≡ None) × (self.new ≡ self.old)) }
     {
-        let (client, commit) = (row.client, row.commit);
-        match self.rows.set(client, row) {
+        match self.rows.set(row.client, row) {
             Ok(old) => {
-                let _ = self.clients.remove(&old.commit);
-                self.clients.insert_reserved(commit, client);
+                bring_up(self.clients_max, &self.rows, &mut self.clients);
                 Ok(old)
             }
             Err(row) => Err(row),
@@ -132,7 +131,7 @@ impl Sessions {
 
     /// Takes the row of least commit out.
     fn drive_out(&mut self) -> Row
-        requires { 0 < length self.old.rows }
+        requires { self.old.clients_max ≤ length self.old.rows }
         ensures table { self.new ≡ record self.old { rows = taken_out client_of (client_of result) self.old.rows } }
         ensures left { oldest self.old.rows ≡ Some result }
         ensures room { length self.new.rows < length self.old.rows }
@@ -155,5 +154,6 @@ impl Sessions {
     {
         self.clients.insert_reserved(row.commit, row.client);
         self.rows.insert_reserved(row.client, row);
+        bring_up(self.clients_max, &self.rows, &mut self.clients);
     }
 }

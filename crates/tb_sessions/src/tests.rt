@@ -78,11 +78,11 @@ fn enter(
     }
 }
 
-#[test]
-fn register_repeated(rt: HostRuntime) -> Result<(), Fail> {
-    let alloc = rt.alloc();
-    let mut table = table(alloc, 2)?;
-    assert_eq!(rt; enter(&rt, alloc, &mut table, 1, register(7)?)?, None);
+/// Client 7's register, twice. The table is lent, here and below: where a step fails, who made the table lets it go, once.
+fn repeat(rt: &impl Abort, alloc: Global, table: &mut Sessions) -> Result<(), Fail>
+    requires { table.old.rows ≡ [] }
+{
+    assert_eq!(rt; enter(rt, alloc, table, 1, register(7)?)?, None);
     assert_eq!(rt; table.classify(&register(7)?), Class::Repeat);
     let row = table.stored(7).ok_or("a row")?;
     assert_eq!(rt;
@@ -99,16 +99,27 @@ fn register_repeated(rt: HostRuntime) -> Result<(), Fail> {
 }
 
 #[test]
-fn each_refusal_by_its_class(rt: HostRuntime) -> Result<(), Fail> {
-    let alloc = rt.alloc();
-    let mut table = table(alloc, 2)?;
-    enter(&rt, alloc, &mut table, 1, register(7)?)?;
+fn register_repeated(rt: HostRuntime) -> Result<(), Fail> {
+    let mut table = table(rt.alloc(), 2)?;
+    repeat(&rt, rt.alloc(), &mut table)
+}
+
+/// Client 7 registers, and makes three requests.
+fn make_three(rt: &impl Abort, alloc: Global, table: &mut Sessions) -> Result<(), Fail>
+    requires { table.old.rows ≡ [] }
+{
+    enter(rt, alloc, table, 1, register(7)?)?;
     assert_eq!(rt;
-        enter(&rt, alloc, &mut table, 2, lookup(alloc, 7, 1, 1, 10)?)?,
+        enter(rt, alloc, table, 2, lookup(alloc, 7, 1, 1, 10)?)?,
         Some(7)
     );
-    enter(&rt, alloc, &mut table, 3, lookup(alloc, 7, 1, 2, 10)?)?;
-    enter(&rt, alloc, &mut table, 4, lookup(alloc, 7, 1, 3, 100)?)?;
+    enter(rt, alloc, table, 3, lookup(alloc, 7, 1, 2, 10)?)?;
+    enter(rt, alloc, table, 4, lookup(alloc, 7, 1, 3, 100)?)?;
+    Ok(())
+}
+
+/// What requests are to the table after that.
+fn expect_classes(rt: &impl Abort, alloc: Global, table: &Sessions) -> Result<(), Fail> {
     for (client, session, number, id, class) in [
         (7, 1, 3, 100, Class::Repeat),
         (7, 1, 2, 10, Class::Older),
@@ -131,20 +142,70 @@ fn each_refusal_by_its_class(rt: HostRuntime) -> Result<(), Fail> {
     Ok(())
 }
 
+fn make_three_and_ask(rt: &impl Abort, alloc: Global, table: &mut Sessions) -> Result<(), Fail>
+    requires { table.old.rows ≡ [] }
+{
+    make_three(rt, alloc, table)?;
+    expect_classes(rt, alloc, table)
+}
+
+#[test]
+fn each_refusal_by_its_class(rt: HostRuntime) -> Result<(), Fail> {
+    let mut table = table(rt.alloc(), 2)?;
+    make_three_and_ask(&rt, rt.alloc(), &mut table)
+}
+
+/// The class of client 8's first request, in the session that its register began.
+fn late_class(alloc: Global, table: &Sessions) -> Result<Class, Fail> {
+    let late = lookup(alloc, 8, 2, 1, 10)?;
+    Ok(table.classify(&late))
+}
+
+/// Each client that registers takes the place of the one whose reply has the least commit number.
+fn evict(rt: &impl Abort, alloc: Global, table: &mut Sessions) -> Result<(), Fail>
+    requires { table.old.rows ≡ [] }
+{
+    enter(rt, alloc, table, 1, register(7)?)?;
+    assert_eq!(rt; table.evictee(), None);
+    enter(rt, alloc, table, 2, register(8)?)?;
+    enter(rt, alloc, table, 3, lookup(alloc, 7, 1, 1, 10)?)?;
+    assert_eq!(rt; table.evictee(), Some(8));
+    assert_eq!(rt; enter(rt, alloc, table, 4, register(9)?)?, Some(8));
+    assert_eq!(rt; late_class(alloc, table)?, Class::NoSession);
+    assert_eq!(rt; enter(rt, alloc, table, 5, register(8)?)?, Some(7));
+    assert_eq!(rt; late_class(alloc, table)?, Class::SessionTooLow);
+    assert_eq!(rt; enter(rt, alloc, table, 6, register(7)?)?, Some(9));
+    Ok(())
+}
+
 #[test]
 fn least_commit_is_evicted(rt: HostRuntime) -> Result<(), Fail> {
-    let alloc = rt.alloc();
-    let mut table = table(alloc, 2)?;
-    enter(&rt, alloc, &mut table, 1, register(7)?)?;
+    let mut table = table(rt.alloc(), 2)?;
+    evict(&rt, rt.alloc(), &mut table)
+}
+
+/// Two clients are served several times before a third fills the table.
+fn renew_before_full(rt: &impl Abort, alloc: Global, table: &mut Sessions) -> Result<(), Fail>
+    requires { table.old.rows ≡ [] }
+{
+    enter(rt, alloc, table, 1, register(7)?)?;
+    enter(rt, alloc, table, 2, register(8)?)?;
+    enter(rt, alloc, table, 3, lookup(alloc, 7, 1, 1, 10)?)?;
+    enter(rt, alloc, table, 4, lookup(alloc, 8, 2, 1, 10)?)?;
+    enter(rt, alloc, table, 5, lookup(alloc, 7, 1, 2, 10)?)?;
     assert_eq!(rt; table.evictee(), None);
-    enter(&rt, alloc, &mut table, 2, register(8)?)?;
-    enter(&rt, alloc, &mut table, 3, lookup(alloc, 7, 1, 1, 10)?)?;
+    enter(rt, alloc, table, 6, register(9)?)?;
     assert_eq!(rt; table.evictee(), Some(8));
-    assert_eq!(rt; enter(&rt, alloc, &mut table, 4, register(9)?)?, Some(8));
-    let late = lookup(alloc, 8, 2, 1, 10)?;
-    assert_eq!(rt; table.classify(&late), Class::NoSession);
-    assert_eq!(rt; enter(&rt, alloc, &mut table, 5, register(8)?)?, Some(7));
-    assert_eq!(rt; table.classify(&late), Class::SessionTooLow);
-    assert_eq!(rt; enter(&rt, alloc, &mut table, 6, register(7)?)?, Some(9));
+    enter(rt, alloc, table, 7, lookup(alloc, 8, 2, 2, 10)?)?;
+    assert_eq!(rt; table.evictee(), Some(7));
+    assert_eq!(rt; enter(rt, alloc, table, 8, register(10)?)?, Some(7));
+    assert_eq!(rt; enter(rt, alloc, table, 9, register(7)?)?, Some(9));
+    assert_eq!(rt; enter(rt, alloc, table, 10, register(9)?)?, Some(8));
     Ok(())
+}
+
+#[test]
+fn renewed_before_it_is_full(rt: HostRuntime) -> Result<(), Fail> {
+    let mut table = table(rt.alloc(), 3)?;
+    renew_before_full(&rt, rt.alloc(), &mut table)
 }

@@ -109,26 +109,25 @@ fn reply_of(machine: &Machine<Global>, client: u128) -> Option<ReplyNumbers> {
     ))
 }
 
-/// A machine in which client 7 registered and created accounts 1 and 2.
-fn two_accounts(alloc: Global) -> Result<Machine<Global>, Fail> {
-    let mut machine = machine(alloc, 2)?;
-    enter(&mut machine, register(7)?)?;
-    enter(&mut machine, two_new_accounts(alloc, (7, 1, 1))?)?;
-    Ok(machine)
+/// Client 7 registers and creates accounts 1 and 2. The machine is lent, here and below: where a step fails, who made the
+/// machine lets it go, once.
+fn create_two(alloc: Global, machine: &mut Machine<Global>) -> Result<(), Fail> {
+    enter(machine, register(7)?)?;
+    enter(machine, two_new_accounts(alloc, (7, 1, 1))?)?;
+    Ok(())
 }
 
-/// A machine with two accounts, which client 7's second request looked up.
-fn looked_up(alloc: Global) -> Result<Machine<Global>, Fail> {
-    let mut machine = two_accounts(alloc)?;
-    let lookup = account_lookup(alloc, (7, 1, 2), &[2, 9, 1])?;
-    enter(&mut machine, lookup)?;
-    Ok(machine)
+/// As `create_two`, and client 7's second request looks the accounts up.
+fn look_two_up(alloc: Global, machine: &mut Machine<Global>) -> Result<(), Fail> {
+    create_two(alloc, machine)?;
+    enter(machine, account_lookup(alloc, (7, 1, 2), &[2, 9, 1])?)?;
+    Ok(())
 }
 
-/// As `looked_up`, and client 7's third request then moved 100 from account 1 to account 2.
-fn transferred(alloc: Global) -> Result<Machine<Global>, Fail> {
-    let mut machine = looked_up(alloc)?;
+/// As `look_two_up`, and client 7's third request then moves 100 from account 1 to account 2.
+fn move_hundred(alloc: Global, machine: &mut Machine<Global>) -> Result<(), Fail> {
+    look_two_up(alloc, machine)?;
     let transfer = new_transfer(alloc, (7, 1, 3), transfer(11, 1, 2, 100))?;
-    enter(&mut machine, transfer)?;
-    Ok(machine)
+    enter(machine, transfer)?;
+    Ok(())
 }

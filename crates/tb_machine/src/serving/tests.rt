@@ -47,20 +47,28 @@ fn expect(
     Ok(())
 }
 
-/// Applies the entry of a request that comes at a moment.
-fn apply(machine: &mut Machine<Global>, moment: u64, request: Request) -> Result<(), Fail> {
+/// The time of a request that comes at a moment.
+fn time_of(machine: &Machine<Global>, moment: u64, request: &Request) -> Result<u64, Fail> {
     let events = request.body().event_count() as u64;
-    let time = machine.next_time(moment, events).ok_or("a time")?;
-    let entry = Entry {
-        commit: machine.commit() + 1,
-        time,
-        request,
-    };
-    if machine.fits(&entry) {
-        Ok(machine.apply(&entry)?)
+    Ok(machine.next_time(moment, events).ok_or("a time")?)
+}
+
+fn apply_entry(machine: &mut Machine<Global>, entry: &Entry) -> Result<(), Fail> {
+    if machine.fits(entry) {
+        Ok(machine.apply(entry)?)
     } else {
         Err("the entry may not come next".into())
     }
+}
+
+/// Applies the entry of a request that comes at a moment.
+fn apply(machine: &mut Machine<Global>, moment: u64, request: Request) -> Result<(), Fail> {
+    let entry = Entry {
+        commit: machine.commit() + 1,
+        time: time_of(machine, moment, &request)?,
+        request,
+    };
+    apply_entry(machine, &entry)
 }
 
 /// Writes the stored reply of a client.
@@ -103,18 +111,17 @@ fn hand_over(
     Ok(())
 }
 
-/// The replies that a machine's own calls give to a script.
-fn replies_of_machine(
-    alloc: Global,
+/// Writes the replies that a machine's own calls give to a script.
+fn put_replies_of_machine(
     clients_max: u32,
     profile: Profile,
     script: &Script,
-) -> Result<Vec<u8>, Fail> {
+    replies: &mut Vec<u8>,
+) -> Result<(), Fail> {
+    let alloc = script.alloc;
     let clients_max = ClientsMax::new(clients_max).ok_or("clients_max")?;
     let mut machine = Machine::new_in(alloc, alloc, profile, clients_max)?;
-    let mut replies = Vec::new(alloc);
-    hand_over(alloc, &mut machine, script, &mut replies)?;
-    Ok(replies)
+    hand_over(alloc, &mut machine, script, replies)
 }
 
 /// Serves a script to its end, for so many clients at most: by `run`, and by the machine's own calls.
@@ -125,7 +132,8 @@ fn expect_whole(
     profile: Profile,
 ) -> Result<(), Fail> {
     expect(rt, script, clients_max, profile, Ok(script.requests))?;
-    let replies = replies_of_machine(script.alloc, clients_max, profile, script)?;
+    let mut replies = Vec::new(script.alloc);
+    put_replies_of_machine(clients_max, profile, script, &mut replies)?;
     assert!(rt; replies.as_slice() == script.replies.as_slice());
     Ok(())
 }

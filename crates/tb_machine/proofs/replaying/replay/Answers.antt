@@ -1,27 +1,31 @@
 use Rattle.std.proofs.Common.{inr, arith}
+use Rattle.std.proofs.lemmas.Result.{err_from_is_err_and}
 use Rattle.tb_machine.proofs.DumpReading.{replaying_none, replaying_on, replaying_passed, replay_ended, replay_stopped, replay_nowhere, replay_bounded}
 use Rattle.tb_machine.proofs.replaying.replay.Goals as goal
 
-pub returns-in-Err-new_in : goal.returns-in-Err-new_in
-returns-in-Err-new_in g c = inr (replay_nowhere c.in-Ok.head _ _ _ c.in-Ok.ensures.answer c.in-Ok.ensures.counted)
+pub returns-in_err-machine : goal.returns-in_err-machine
+returns-in_err-machine g c =
+    let p = err_from_is_err_and c.from_residual-in_err-machine.result c.from_residual-in_err-machine.ensures.1 in
+    rw (p.1, p.2) (inr (replay_nowhere c.in_ok-head.head (g.R.Source.input c.args.reader.now) (g.R.Source.input c.read_head_from.new.source) (g.W.Sink.output c.args.writer.now) c.in_ok-head.ensures.answer c.in_ok-head.ensures.counted))
 
 pub loop-init : goal.loop-init
-loop-init g c = (c.in-Ok.head.profile, c.in-Ok.head.clients_max, replaying_none c.in-Ok.head _ _ _ _ c.in-Ok-new_in.ensures c.in-Ok.ensures.answer c.in-Ok.ensures.counted)
+loop-init g c = (c.in_ok-head.head.profile, c.in_ok-head.head.clients_max, replaying_none c.in_ok-head.head _ _ _ _ c.in_ok-machine.ensures c.in_ok-head.ensures.answer c.in_ok-head.ensures.counted)
 
-pub returns-in-Ok-false : goal.returns-in-Ok-false
-returns-in-Ok-false g c =
+pub returns-then-not-branch : goal.returns-then-not-branch
+returns-then-not-branch g c =
     let (profile, clients_max, so_far) = c.loop.invariant in
     replay_ended profile clients_max c.loop.counter c.commit.result c.loop.machine c.replay_next.new.machine _ _ _ _ _ _
     (replaying_passed profile clients_max c.loop.counter c.loop.machine _ _ _ _ _ so_far c.pass_on_before_item.ensures)
     c.commit.ensures.value
-    (rw c.in-Ok-false.field-0-test at c.in-Ok-false.ensures)
+    (rw c.if-not-branch.true at c.in_ok-replay_next.ensures)
 
-pub returns-in-Err-replay_next : goal.returns-in-Err-replay_next
-returns-in-Err-replay_next g c =
+pub returns-in_err-replay_next : goal.returns-in_err-replay_next
+returns-in_err-replay_next g c =
     let (profile, clients_max, so_far) = c.loop.invariant in
-    inr (replay_stopped c.in-Err-replay_next.fault profile clients_max c.loop.counter c.loop.machine c.replay_next.new.machine _ _ _ _ _ _
+    let p = err_from_is_err_and c.from_residual-in_err-replay_next.result c.from_residual-in_err-replay_next.ensures.1 in
+    rw (p.1, p.2) (inr (replay_stopped c.in_err-replay_next.field-0.0 profile clients_max c.loop.counter c.loop.machine c.replay_next.new.machine _ _ _ _ _ _
     (replaying_passed profile clients_max c.loop.counter c.loop.machine _ _ _ _ _ so_far c.pass_on_before_item.ensures)
-    c.in-Err-replay_next.ensures)
+    c.in_err-replay_next.ensures))
 
 pub loop-preserved : goal.loop-preserved
 loop-preserved g c =
@@ -30,7 +34,7 @@ loop-preserved g c =
       clients_max,
       replaying_on profile clients_max c.loop.counter c.loop.machine c.replay_next.new.machine _ _ _ _ _ _
           (replaying_passed profile clients_max c.loop.counter c.loop.machine _ _ _ _ _ so_far c.pass_on_before_item.ensures)
-          (rw c.in-Ok-true.field-0-test at c.in-Ok-true.ensures),
+          (rw c.if-not-branch.false at c.in_ok-replay_next.ensures),
     )
 
 pub unreachable-requires : goal.unreachable-requires

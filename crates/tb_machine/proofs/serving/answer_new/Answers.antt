@@ -1,9 +1,30 @@
-use Rattle.std.proofs.Common.{is_some, ap}
-use Rattle.tb_machine.proofs.Turns.{entered_stored, entered_turn}
+use Rattle.std.proofs.Common.{Ok, Err, ap, ◌∙◌, subst}
+use Rattle.tb_records.specs.ReplyFrames.{reply_bytes}
+use Rattle.tb_records.specs.Transport.{Sent, CutOff}
+use Rattle.tb_machine.specs.declared.entries.Entry.{Entry}
+use Rattle.tb_machine.specs.declared.serving.RunFault.TheVariants as fault
+use Rattle.tb_machine.specs.Histories.{is_new, step, reply_at}
+use Rattle.tb_machine.proofs.Turns.{entered_turn}
 use Rattle.tb_machine.proofs.serving.answer_new.Goals as goal
+use Rattle.tb_machine.proofs.serving.answer_new.Goals.{in-Ok-Ok, in-Ok-Err, in-Err}
 
-pub stored-requires : goal.stored-requires
-stored-requires g c = ap is_some (entered_stored c.args.machine.now c.enter.new.machine (c.args.moment, c.args.request) c.client-client.result c.in-Ok.ensures.entered c.client-client.ensures)
-
-pub returns-in-Ok : goal.returns-in-Ok
-returns-in-Ok g c = entered_turn c.send.result c.args.machine.now c.enter.new.machine (c.args.moment, c.args.request) c.client-client.result c.stored.result.now _ _ c.enter.ensures.lawful c.requires c.in-Ok.ensures.entered c.client-client.ensures c.stored.ensures c.send.ensures
+pub returns : goal.returns
+returns g c =
+    let S = c.args.machine.now in
+    let timed = c.in_ok-entry.ensures.timed in
+    let before = g.W.Sink.output c.args.writer.now in
+    let after = g.W.Sink.output c.enter_and_tell.new.writer in
+    elim c.match-enter_and_tell.branch [
+      | in-Ok-Ok w ↦
+          let told = w.in-Ok-Ok.ensures in
+          let sent = subst (λ (e : Entry). Sent (reply_bytes (reply_at S e)) before after) timed.1 (rw w.in-Ok-Ok.field-0-is at told.1) in
+          rw w.result-is (entered_turn (Ok tt) S c.enter_and_tell.new.self (c.args.moment, c.args.request) before after c.in_ok-entry.ensures.lawful c.requires timed.0 (told.0 ∙ ap (step S) timed.1) sent)
+      | in-Ok-Err w ↦
+          let told = w.in-Ok-Err.ensures in
+          let cut = rw w.in-Ok-Err.field-0-is at told.1 in
+          let sent = subst (λ (e : Entry). CutOff (reply_bytes (reply_at S e)) before after) timed.1 cut.1 in
+          rw w.result-is (entered_turn (Err (fault.Frame w.in-Ok-Err.fault)) S c.enter_and_tell.new.self (c.args.moment, c.args.request) before after c.in_ok-entry.ensures.lawful c.requires timed.0 (told.0 ∙ ap (step S) timed.1) (ap fault.Frame cut.0, sent))
+      | in-Err w ↦
+          let back = w.in-Err.ensures in
+          rw w.result-is (ap is_new c.requires, timed.0, back.1, ap g.W.Sink.output back.2)
+    ]

@@ -1,8 +1,11 @@
+use Rattle.std.proofs.lemmas.Result.{err_from_is_err_and}
 use Rattle.tb_machine.proofs.Running.{ran_nowhere, ran_into, ran_out, serving_on, serving_passed}
 use Rattle.tb_machine.proofs.serving.run.Goals as goal
 
-pub returns-in-Err : goal.returns-in-Err
-returns-in-Err g c = ran_nowhere _ _ _ _
+pub returns-in_err-machine : goal.returns-in_err-machine
+returns-in_err-machine g c =
+    let p = err_from_is_err_and c.from_residual.result c.from_residual.ensures.1 in
+    rw (p.1, p.2) (ran_nowhere c.args.profile c.args.clients_max (g.R.Source.input c.args.reader.now) (g.W.Sink.output c.args.writer.now))
 
 pub loop-k-preserved : goal.loop-k-preserved
 loop-k-preserved g c =
@@ -20,11 +23,12 @@ loop-k-preserved g c =
     (g.W.Sink.output c.loop-k.writer)
     (g.W.Sink.output c.pass_on_before_waiting.new.writer)
     c.loop-k.invariant c.pass_on_before_waiting.ensures)
-    (rw c.in-Ok-true.field-0-test at c.in-Ok-true.ensures)
+    (rw c.if-not-branch.false at c.in_ok-serve_next.ensures)
 
-pub returns-in-Err-serve_next : goal.returns-in-Err-serve_next
-returns-in-Err-serve_next g c =
-    ran_into c.args.profile c.args.clients_max c.in-Err-serve_next.fault c.loop-k.k c.loop-k.machine c.serve_next.new.machine
+pub returns-in_err-serve_next : goal.returns-in_err-serve_next
+returns-in_err-serve_next g c =
+    let p = err_from_is_err_and c.from_residual-in_err-serve_next.result c.from_residual-in_err-serve_next.ensures.1 in
+    rw (p.1, p.2) (ran_into c.args.profile c.args.clients_max c.in_err-serve_next.field-0.0 c.loop-k.k c.loop-k.machine c.serve_next.new.machine
     (g.R.Source.input c.args.reader.now)
     (g.R.Source.input c.loop-k.reader)
     (g.R.Source.input c.serve_next.new.reader)
@@ -38,10 +42,10 @@ returns-in-Err-serve_next g c =
     (g.W.Sink.output c.loop-k.writer)
     (g.W.Sink.output c.pass_on_before_waiting.new.writer)
     c.loop-k.invariant c.pass_on_before_waiting.ensures)
-    c.in-Err-serve_next.ensures
+    c.in_err-serve_next.ensures)
 
-pub returns-in-Ok-false : goal.returns-in-Ok-false
-returns-in-Ok-false g c =
+pub returns-then-not-branch : goal.returns-then-not-branch
+returns-then-not-branch g c =
     ran_out c.args.profile c.args.clients_max c.loop-k.k c.loop-k.machine c.serve_next.new.machine
     (g.R.Source.input c.args.reader.now)
     (g.R.Source.input c.loop-k.reader)
@@ -56,4 +60,4 @@ returns-in-Ok-false g c =
     (g.W.Sink.output c.loop-k.writer)
     (g.W.Sink.output c.pass_on_before_waiting.new.writer)
     c.loop-k.invariant c.pass_on_before_waiting.ensures)
-    (rw c.in-Ok-false.field-0-test at c.in-Ok-false.ensures)
+    (rw c.if-not-branch.true at c.in_ok-serve_next.ensures)

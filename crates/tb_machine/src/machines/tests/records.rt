@@ -1,6 +1,7 @@
 //! Accounts and transfers as lookups find them, by requests and by the machine's own calls.
 use super::{
-    account_lookup, enter, new_transfer, reply_of, transfer_lookup, transferred, two_accounts,
+    account_lookup, create_two, enter, machine, move_hundred, new_transfer, reply_of,
+    transfer_lookup,
 };
 use crate::Machine;
 use crate::events::{account, at, found, held, post, resolved};
@@ -73,6 +74,7 @@ fn expect_accounts(
     alloc: Global,
     machine: &mut Machine<Global>,
 ) -> Result<(), Fail> {
+    create_two(alloc, machine)?;
     let lookup = account_lookup(alloc, (7, 1, 2), &[2, 9, 1])?;
     assert!(rt; enter(machine, lookup)? == (3, 13));
     assert!(rt; reply_of(machine, 7) == Some((1, 2, Status::Reply, 3)));
@@ -85,7 +87,7 @@ fn expect_accounts(
 
 #[test]
 fn accounts_looked_up_in_order(rt: HostRuntime) -> Result<(), Fail> {
-    let mut machine = two_accounts(rt.alloc())?;
+    let mut machine = machine(rt.alloc(), 2)?;
     expect_accounts(&rt, rt.alloc(), &mut machine)
 }
 
@@ -94,8 +96,13 @@ fn amount_and_time(machine: &Machine<Global>, id: u128) -> Option<(u128, u64)> {
     Some((transfer.amount, transfer.timestamp))
 }
 
-/// What client 7's transfer of 100 left.
-fn expect_transfer(rt: &impl Abort, machine: &Machine<Global>) -> Result<(), Fail> {
+/// What client 7's transfer of 100 leaves.
+fn expect_transfer(
+    rt: &impl Abort,
+    alloc: Global,
+    machine: &mut Machine<Global>,
+) -> Result<(), Fail> {
+    move_hundred(alloc, machine)?;
     assert!(rt; reply_of(machine, 7) == Some((1, 3, Status::Reply, 4)));
     assert!(rt; result_count(machine.reply_of(7))? == 0);
     assert!(rt; amount_and_time(machine, 11) == Some((100, 14)));
@@ -106,8 +113,8 @@ fn expect_transfer(rt: &impl Abort, machine: &Machine<Global>) -> Result<(), Fai
 
 #[test]
 fn transfer_recorded(rt: HostRuntime) -> Result<(), Fail> {
-    let machine = transferred(rt.alloc())?;
-    expect_transfer(&rt, &machine)
+    let mut machine = machine(rt.alloc(), 2)?;
+    expect_transfer(&rt, rt.alloc(), &mut machine)
 }
 
 /// Client 7's second to seventh request: three pending transfers, and posts of the whole, of 15 and of nothing.
@@ -195,10 +202,20 @@ fn expect_lookup(
     Ok(())
 }
 
+/// Three posts, and what they leave.
+fn post_and_look(
+    rt: &impl Abort,
+    alloc: Global,
+    machine: &mut Machine<Global>,
+) -> Result<(), Fail> {
+    create_two(alloc, machine)?;
+    post_three(alloc, machine)?;
+    expect_posts(rt, alloc, machine)?;
+    expect_lookup(rt, alloc, machine)
+}
+
 #[test]
 fn posts_record_their_amounts(rt: HostRuntime) -> Result<(), Fail> {
-    let mut machine = two_accounts(rt.alloc())?;
-    post_three(rt.alloc(), &mut machine)?;
-    expect_posts(&rt, rt.alloc(), &machine)?;
-    expect_lookup(&rt, rt.alloc(), &mut machine)
+    let mut machine = machine(rt.alloc(), 2)?;
+    post_and_look(&rt, rt.alloc(), &mut machine)
 }

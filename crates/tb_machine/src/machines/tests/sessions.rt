@@ -1,7 +1,7 @@
 //! Sessions: repeats, classes, and who is evicted.
 use super::{
-    Numbers, account_lookup, class_of, enter, entry_of, machine, new_transfer, register, reply_of,
-    transferred,
+    Numbers, account_lookup, class_of, enter, entry_of, machine, move_hundred, new_transfer,
+    register, reply_of,
 };
 use crate::events::transfer;
 use crate::{Machine, answer_of};
@@ -40,11 +40,19 @@ fn expect_answers(rt: &impl Abort, alloc: Global, machine: &Machine<Global>) -> 
     Ok(())
 }
 
+fn repeat_and_answer(
+    rt: &impl Abort,
+    alloc: Global,
+    machine: &mut Machine<Global>,
+) -> Result<(), Fail> {
+    expect_repeat(rt, machine)?;
+    expect_answers(rt, alloc, machine)
+}
+
 #[test]
 fn register_repeated(rt: HostRuntime) -> Result<(), Fail> {
     let mut machine = machine(rt.alloc(), 2)?;
-    expect_repeat(&rt, &mut machine)?;
-    expect_answers(&rt, rt.alloc(), &machine)
+    repeat_and_answer(&rt, rt.alloc(), &mut machine)
 }
 
 /// A request of client, session and number that creates transfer 11 of an amount: its class, and whether its entry may come
@@ -86,8 +94,9 @@ fn expect_classes(
 fn expect_all_classes(
     rt: &impl Abort,
     alloc: Global,
-    machine: &Machine<Global>,
+    machine: &mut Machine<Global>,
 ) -> Result<(), Fail> {
+    move_hundred(alloc, machine)?;
     expect_classes(
         rt,
         alloc,
@@ -107,8 +116,8 @@ fn expect_all_classes(
 
 #[test]
 fn each_refusal_by_its_class(rt: HostRuntime) -> Result<(), Fail> {
-    let machine = transferred(rt.alloc())?;
-    expect_all_classes(&rt, rt.alloc(), &machine)
+    let mut machine = machine(rt.alloc(), 2)?;
+    expect_all_classes(&rt, rt.alloc(), &mut machine)
 }
 
 /// Registers a client, and answers the session of its stored reply.
@@ -127,20 +136,12 @@ fn late_class(machine: &Machine<Global>, alloc: Global) -> Result<Class, Fail> {
     Ok(class_of(machine, request))
 }
 
-/// A machine in which clients 7 and 8 registered.
-fn two_registered(alloc: Global) -> Result<Machine<Global>, Fail> {
-    let mut machine = machine(alloc, 2)?;
-    registered(&mut machine, 7)?;
-    registered(&mut machine, 8)?;
-    Ok(machine)
-}
-
-/// A machine in which clients 7 and 8 registered, and client 7 then looked nothing up.
-fn two_clients(alloc: Global) -> Result<Machine<Global>, Fail> {
-    let mut machine = two_registered(alloc)?;
-    let lookup = account_lookup(alloc, (7, 1, 1), &[])?;
-    enter(&mut machine, lookup)?;
-    Ok(machine)
+/// Clients 7 and 8 register, and client 7 then looks nothing up.
+fn register_two(alloc: Global, machine: &mut Machine<Global>) -> Result<(), Fail> {
+    registered(machine, 7)?;
+    registered(machine, 8)?;
+    enter(machine, account_lookup(alloc, (7, 1, 1), &[])?)?;
+    Ok(())
 }
 
 /// Each client that registers takes the place of the one whose reply has the least commit number.
@@ -149,6 +150,7 @@ fn expect_evictions(
     alloc: Global,
     machine: &mut Machine<Global>,
 ) -> Result<(), Fail> {
+    register_two(alloc, machine)?;
     for (client, session, evicted, late) in [
         (9, 4, 8, Class::NoSession),
         (8, 5, 7, Class::SessionTooLow),
@@ -163,7 +165,7 @@ fn expect_evictions(
 
 #[test]
 fn least_commit_is_evicted(rt: HostRuntime) -> Result<(), Fail> {
-    let mut machine = two_clients(rt.alloc())?;
+    let mut machine = machine(rt.alloc(), 2)?;
     expect_evictions(&rt, rt.alloc(), &mut machine)
 }
 
@@ -198,19 +200,13 @@ fn without_session(machine: &Machine<Global>, alloc: Global) -> Result<u32, Fail
     Ok(count)
 }
 
-/// A machine with one place, in which clients 1 to 100 registered.
-fn hundred_clients(alloc: Global) -> Result<Machine<Global>, Fail> {
-    let mut machine = machine(alloc, 1)?;
-    register_hundred(&mut machine)?;
-    Ok(machine)
-}
-
 /// The last of a hundred clients has the place, and gives it to the first, who comes again.
 fn expect_one_place(
     rt: &impl Abort,
     alloc: Global,
     machine: &mut Machine<Global>,
 ) -> Result<(), Fail> {
+    register_hundred(machine)?;
     assert!(rt; without_session(machine, alloc)? == 99);
     let lookup = account_lookup(alloc, (100, 100, 1), &[])?;
     assert!(rt; enter(machine, lookup)?.0 == 101);
@@ -222,6 +218,6 @@ fn expect_one_place(
 
 #[test]
 fn many_clients_in_one_place(rt: HostRuntime) -> Result<(), Fail> {
-    let mut machine = hundred_clients(rt.alloc())?;
+    let mut machine = machine(rt.alloc(), 1)?;
     expect_one_place(&rt, rt.alloc(), &mut machine)
 }

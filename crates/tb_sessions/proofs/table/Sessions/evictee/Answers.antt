@@ -12,4 +12,4 @@ returns-in-Some c =
 pub returns-in-None : goal.returns-in-None
 returns-in-None c =
     let full : c.self.inside.clients_max ≤ length (entries c.self.inside.rows) = omega (arith, c.if-len-self.false, c.len.ensures.length) in
-    absurd (none_first c.self.invariant full (sym c.in-None.ensures.pair))
+    absurd (none_first c.self.invariant.indexed full (sym c.in-None.ensures.pair))

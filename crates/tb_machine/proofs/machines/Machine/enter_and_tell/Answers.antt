@@ -1,0 +1,30 @@
+use Rattle.std.proofs.Common.{refl, sym, ap, subst, IsTrue}
+use Rattle.tb_sessions.specs.declared.rows.Row.{Row}
+use Rattle.tb_sessions.specs.Admission.{Table}
+use Rattle.tb_machine.specs.Histories.{State, fits}
+use Rattle.tb_machine.proofs.Judging.{may_come}
+use Rattle.tb_machine.proofs.SoundSteps.{right_reply, commits_before, sound_step}
+use Rattle.tb_machine.proofs.machines.Machine.enter_and_tell.Goals as goal
+
+pub row_for-requires-clause-right : goal.row_for-requires-clause-right
+row_for-requires-clause-right g c =
+    let S : State = record { clients_max = c.self.inside.sessions.clients_max; commit = c.self.inside.commit; books = c.self.inside.ledger; rows = c.self.inside.sessions.rows } in
+    right_reply S c.args.entry c.self.invariant (subst (λ (T : State). IsTrue (fits T c.args.entry)) (sym c.self.view_is) c.requires)
+
+pub record-left-requires-clause-later : goal.record-left-requires-clause-later
+record-left-requires-clause-later g c =
+    let S : State = record { clients_max = c.self.inside.sessions.clients_max; commit = c.self.inside.commit; books = c.self.inside.ledger; rows = c.self.inside.sessions.rows } in
+    let row = c.in-Ok.ensures.1 in
+    rw row (commits_before S c.args.entry c.self.invariant (subst (λ (T : State). IsTrue (fits T c.args.entry)) (sym c.self.view_is) c.requires))
+
+pub record-left-requires-clause-new : goal.record-left-requires-clause-new
+record-left-requires-clause-new g c =
+    let S : State = record { clients_max = c.self.inside.sessions.clients_max; commit = c.self.inside.commit; books = c.self.inside.ledger; rows = c.self.inside.sessions.rows } in
+    let row = c.in-Ok.ensures.1 in
+    rw row (may_come S c.args.entry (subst (λ (T : State). IsTrue (fits T c.args.entry)) (sym c.self.view_is) c.requires)).new
+
+pub invariant_of-self-2 : goal.invariant_of-self-2
+invariant_of-self-2 g c =
+    let S : State = record { clients_max = c.self.inside.sessions.clients_max; commit = c.self.inside.commit; books = c.self.inside.ledger; rows = c.self.inside.sessions.rows } in
+    let row = c.in-Ok.ensures.1 in
+    sound_step S c.args.entry c.self.invariant (subst (λ (T : State). IsTrue (fits T c.args.entry)) (sym c.self.view_is) c.requires) c.in-Ok.row (ap (λ (r : Row). r.session) row) (ap (λ (r : Row). r.commit) row) _ refl c.in-Ok.ensures.0 (ap (λ (t : Table). t.rows) c.record-left.ensures.table)
