@@ -12,6 +12,7 @@ pub mod limits;
 mod orders;
 pub mod ports;
 mod rule;
+mod sending;
 pub mod server;
 pub mod starting;
 #[cfg(test)]

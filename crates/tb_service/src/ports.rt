@@ -7,7 +7,8 @@ ghost use Rattle.crossbeam_channel.specs.Ends.{sends_on};
 use crate::batches::Batch;
 use crate::calling::ask;
 use crate::orders::{Order, What};
-use crate::rule::{Sender, Sends, View};
+use crate::rule::{Sender, View};
+use crate::sending::send;
 use crossbeam_channel::Pass;
 use std::alloc::Global;
 use std::sync::Wait;
@@ -76,12 +77,12 @@ impl Port {
             port: self.number,
             what: What::One(request),
         };
-        match self.sender.send_as::<Sends, R>(rt, &mut self.pass, order) {
+        match send(&self.sender, &mut self.pass, rt, order) {
             Ok(()) => {
                 self.count += 1;
                 Ok(())
             }
-            Err(refused) => match refused.into_inner().what {
+            Err(back) => match back.what {
                 What::One(request) => Err(request),
                 _ => unreachable!(),
             },
@@ -108,12 +109,12 @@ impl Port {
             port: self.number,
             what: What::Many(Batch { requests }),
         };
-        match self.sender.send_as::<Sends, R>(rt, &mut self.pass, order) {
+        match send(&self.sender, &mut self.pass, rt, order) {
             Ok(()) => {
                 self.count += more;
                 Ok(())
             }
-            Err(refused) => match refused.into_inner().what {
+            Err(back) => match back.what {
                 What::Many(batch) => Err(batch.requests),
                 _ => unreachable!(),
             },
@@ -162,7 +163,7 @@ impl Port {
             port: number,
             what: What::Close,
         };
-        let _ = sender.send_as::<Sends, R>(rt, &mut pass, order);
+        let _ = send(&sender, &mut pass, rt, order);
         Closed {
             pass,
             number,
