@@ -4,10 +4,19 @@ use std::alloc::{Allocator, Global};
 use std::process::Abort;
 use std::test::Fail;
 use tb_machine::{Entry, Machine};
-use tb_records::{Account, Body, ClientsMax, Items, Profile, ReplyBody, Request, Transfer};
+use tb_records::{
+    Account, Body, ClientsMax, CreateTransferResult, Items, Profile, ReplyBody, Request, Transfer,
+    TransferFlag,
+};
 
-/// A transfer from account 1 or another: its id, its debit account, its amount and its flags.
-type Row = (u128, u128, u128, u16);
+/// The transfers that the rows name.
+const TRANSFERS: [u128; 13] = [11, 20, 21, 22, 23, 24, 25, 26, 27, 28, 50, 51, 53];
+
+/// The moment at which most requests come.
+const EARLY: u64 = 10;
+
+/// A moment at which a pending transfer that came at the early one with a timeout of a second has expired.
+const LATE: u64 = 2_000_000_000;
 
 /// The worked rows that are served.
 #[derive(Clone, Copy, PartialEq, Eq)]
@@ -16,6 +25,15 @@ enum Rows {
     First,
     /// The chain that its second event breaks, and that event's id again.
     Chain,
+    /// Pending transfers: one is posted, one voided, and one expires behind a chain that breaks and undoes its post.
+    Pending,
+}
+
+/// A request, and the moment at which it comes.
+#[derive(Drop)]
+struct Turn {
+    moment: u64,
+    request: Request,
 }
 
 fn account(id: u128) -> Account {
@@ -36,12 +54,13 @@ fn account(id: u128) -> Account {
     }
 }
 
-fn transfer(row: Row) -> Transfer {
+/// A transfer from account 1 to account 2.
+fn transfer(id: u128, amount: u128) -> Transfer {
     Transfer {
-        id: row.0,
-        debit_account_id: row.1,
+        id,
+        debit_account_id: 1,
         credit_account_id: 2,
-        amount: row.2,
+        amount,
         pending_id: 0,
         user_data_128: 0,
         user_data_64: 0,
@@ -49,72 +68,127 @@ fn transfer(row: Row) -> Transfer {
         timeout: 0,
         ledger: 700,
         code: 10,
-        flags: row.3,
+        flags: 0,
         timestamp: 0,
     }
 }
 
-/// Client 7's request with a number.
-fn request(number: u32, body: Body) -> Result<Request, Fail> {
-    Ok(Request::new(7, 1, number, body)?)
-}
-
-fn two_accounts(alloc: Global) -> Result<Request, Fail> {
-    let accounts = Vec::from_slice(alloc, &[account(1), account(2)])?;
-    request(1, Body::CreateAccounts(Items::new(accounts)))
-}
-
-fn lookup(alloc: Global) -> Result<Request, Fail> {
-    let ids = Vec::from_slice(alloc, &[2_u128, 9, 1])?;
-    request(2, Body::LookupAccounts(Items::new(ids)))
-}
-
-fn transfers(alloc: Global, number: u32, rows: &[Row]) -> Result<Request, Fail> {
-    let mut all = Vec::with_capacity(alloc, rows.len())?;
-    for row in rows {
-        all.push(transfer(*row))?;
+/// A transfer with a flag.
+fn flagged(flag: TransferFlag, t: Transfer) -> Transfer {
+    Transfer {
+        flags: t.flags | flag as u16,
+        ..t
     }
-    request(number, Body::CreateTransfers(Items::new(all)))
+}
+
+/// A transfer that is refused, since there is no account 99.
+fn from_nowhere(id: u128) -> Transfer {
+    Transfer {
+        debit_account_id: 99,
+        ..transfer(id, 1)
+    }
+}
+
+/// A pending transfer with a timeout of a second.
+fn held(id: u128, amount: u128) -> Transfer {
+    Transfer {
+        timeout: 1,
+        ..flagged(TransferFlag::Pending, transfer(id, amount))
+    }
+}
+
+/// A post of the whole of a pending transfer.
+fn post(id: u128, pending_id: u128) -> Transfer {
+    Transfer {
+        pending_id,
+        ..flagged(TransferFlag::PostPendingTransfer, transfer(id, u128::MAX))
+    }
+}
+
+/// A void of a pending transfer.
+fn void(id: u128, pending_id: u128) -> Transfer {
+    Transfer {
+        pending_id,
+        ..flagged(TransferFlag::VoidPendingTransfer, transfer(id, 0))
+    }
+}
+
+/// Client 7's request with a number, at a moment.
+fn numbered(moment: u64, number: u32, body: Body) -> Result<Turn, Fail> {
+    let request = Request::new(7, 1, number, body)?;
+    Ok(Turn { moment, request })
+}
+
+fn two_accounts(alloc: Global) -> Result<Turn, Fail> {
+    let accounts = Vec::from_slice(alloc, &[account(1), account(2)])?;
+    numbered(EARLY, 1, Body::CreateAccounts(Items::new(accounts)))
+}
+
+fn lookup(alloc: Global) -> Result<Turn, Fail> {
+    let ids = Vec::from_slice(alloc, &[2_u128, 9, 1])?;
+    numbered(EARLY, 2, Body::LookupAccounts(Items::new(ids)))
+}
+
+fn transfers(alloc: Global, moment: u64, number: u32, all: &[Transfer]) -> Result<Turn, Fail> {
+    let all = Vec::from_slice(alloc, all)?;
+    numbered(moment, number, Body::CreateTransfers(Items::new(all)))
+}
+
+/// The requests of the rows behind the lookup.
+fn add_transfers(alloc: Global, rows: Rows, turns: &mut Vec<Turn>) -> Result<(), Fail> {
+    match rows {
+        Rows::First => turns.push(transfers(alloc, EARLY, 3, &[transfer(11, 100)])?)?,
+        Rows::Chain => {
+            let link = TransferFlag::Linked;
+            let first = flagged(link, transfer(50, 1));
+            let broken = [first, flagged(link, from_nowhere(51)), transfer(52, 1)];
+            let again = [transfer(51, 1), transfer(53, 5)];
+            turns.push(transfers(alloc, EARLY, 3, &broken)?)?;
+            turns.push(transfers(alloc, EARLY, 4, &again)?)?;
+        }
+        Rows::Pending => {
+            let three = [held(20, 40), held(21, 30), held(22, 20)];
+            let undone = flagged(TransferFlag::Linked, post(25, 22));
+            turns.push(transfers(alloc, EARLY, 3, &three)?)?;
+            turns.push(transfers(alloc, EARLY, 4, &[post(23, 20), void(24, 21)])?)?;
+            turns.push(transfers(alloc, EARLY, 5, &[undone, from_nowhere(26)])?)?;
+            turns.push(transfers(alloc, LATE, 6, &[held(27, 5), post(28, 22)])?)?;
+        }
+    }
+    Ok(())
 }
 
 /// The requests of the rows.
-fn requests(alloc: Global, rows: Rows) -> Result<Vec<Request>, Fail> {
+fn turns(alloc: Global, rows: Rows) -> Result<Vec<Turn>, Fail> {
     let mut all = Vec::new(alloc);
-    all.push(Request::new(7, 0, 0, Body::Register)?)?;
+    let request = Request::new(7, 0, 0, Body::Register)?;
+    let moment = EARLY;
+    all.push(Turn { moment, request })?;
     all.push(two_accounts(alloc)?)?;
     all.push(lookup(alloc)?)?;
-    match rows {
-        Rows::First => all.push(transfers(alloc, 3, &[(11, 1, 100, 0)])?)?,
-        Rows::Chain => {
-            let chain = [(50, 1, 1, 1), (51, 99, 1, 1), (52, 1, 1, 0)];
-            all.push(transfers(alloc, 3, &chain)?)?;
-            all.push(transfers(alloc, 4, &[(51, 1, 1, 0), (53, 1, 5, 0)])?)?;
-        }
-    }
+    add_transfers(alloc, rows, &mut all)?;
     Ok(all)
 }
 
 /// What a machine shows: its last commit number and time, the commit number of client 7's stored reply, its accounts 1 and 2,
-/// and its transfers 11, 50, 51 and 53.
-#[derive(Clone, Copy, PartialEq, Eq)]
+/// and those of the rows' transfers that are there.
+#[derive(Drop, PartialEq)]
 struct Shown {
     commit: u64,
     time: u64,
     stored: Option<u64>,
-    accounts: (Option<Account>, Option<Account>),
-    transfers: (Option<Transfer>, Option<Transfer>),
-    others: (Option<Transfer>, Option<Transfer>),
+    accounts: Vec<Account>,
+    transfers: Vec<Transfer>,
 }
 
-fn look<A: Allocator + Clone>(machine: &Machine<A>) -> Shown {
-    Shown {
+fn look<A: Allocator + Clone>(machine: &Machine<A>) -> Result<Shown, Fail> {
+    Ok(Shown {
         commit: machine.commit(),
         time: machine.time(),
         stored: machine.reply_of(7).map(|reply| reply.commit()),
-        accounts: (machine.account(1), machine.account(2)),
-        transfers: (machine.transfer(11), machine.transfer(50)),
-        others: (machine.transfer(51), machine.transfer(53)),
-    }
+        accounts: machine.lookup_accounts(&[1, 2])?,
+        transfers: machine.lookup_transfers(&TRANSFERS)?,
+    })
 }
 
 /// Applies an entry that may come next; where that is refused nothing has changed, and it is applied again. Says whether it was
@@ -124,31 +198,31 @@ fn apply<A: Allocator + Clone>(
     machine: &mut Machine<A>,
     entry: &Entry,
 ) -> Result<bool, Fail> {
-    let before = look(machine);
+    let before = look(machine)?;
     for refused in [false, true] {
         if machine.fits(entry) && machine.apply(entry).is_ok() {
             return Ok(refused);
         }
         assert!(rt;
-            look(machine) == before,
+            look(machine)? == before,
             "a refused apply changed the machine"
         );
     }
     Err("refused twice".into())
 }
 
-/// Enters a request at moment 10; says whether that was refused once.
+/// Enters a request at its moment; says whether that was refused once.
 fn enter<A: Allocator + Clone>(
     rt: &impl Abort,
     alloc: Global,
     machine: &mut Machine<A>,
-    request: &Request,
+    turn: &Turn,
 ) -> Result<bool, Fail> {
-    let events = request.body().event_count() as u64;
+    let events = turn.request.body().event_count() as u64;
     let entry = Entry {
         commit: machine.commit() + 1,
-        time: machine.next_time(10, events).ok_or("a time")?,
-        request: request.copy(alloc)?,
+        time: machine.next_time(turn.moment, events).ok_or("a time")?,
+        request: turn.request.copy(alloc)?,
     };
     apply(rt, machine, &entry)
 }
@@ -167,101 +241,107 @@ fn codes<A: Allocator + Clone>(
     Ok(all)
 }
 
-/// What was posted of accounts 1 and 2.
-fn posted<A: Allocator + Clone>(machine: &Machine<A>) -> Option<(u128, u128)> {
-    Some((
-        machine.account(1)?.debits_posted,
-        machine.account(2)?.credits_posted,
-    ))
+/// What is pending and what was posted: the debits of account 1, which are the credits of account 2.
+fn sums<A: Allocator + Clone>(machine: &Machine<A>) -> Option<(u128, u128)> {
+    let (first, second) = (machine.account(1)?, machine.account(2)?);
+    let debits = (first.debits_pending, first.debits_posted);
+    (debits == (second.credits_pending, second.credits_posted)).then_some(debits)
 }
 
-/// What the last row gives: the codes, and what is posted. By profile 2 the id that broke the chain has failed for good.
+/// What the last row gives: the codes, and what is pending and posted. By profile 2 the id that broke the chain has failed for
+/// good.
 fn expect_last<A: Allocator + Clone>(
     rt: &impl Abort,
     alloc: Global,
     machine: &Machine<A>,
     rows: Rows,
 ) -> Result<(), Fail> {
-    let codes = codes(alloc, machine)?;
-    let (want, amount): (&[(u32, u32)], u128) = match (rows, machine.profile()) {
-        (Rows::First, _) => (&[], 100),
-        (Rows::Chain, Profile::One) => (&[], 6),
-        (Rows::Chain, Profile::Two) => (&[(0, 68)], 5),
+    let failed = [(0, CreateTransferResult::IdAlreadyFailed as u32)];
+    let expired = [(1, CreateTransferResult::PendingTransferExpired as u32)];
+    let (want, pending, posted): (&[(u32, u32)], u128, u128) = match (rows, machine.profile()) {
+        (Rows::First, _) => (&[], 0, 100),
+        (Rows::Chain, Profile::One) => (&[], 0, 6),
+        (Rows::Chain, Profile::Two) => (&failed, 0, 5),
+        (Rows::Pending, _) => (&expired, 5, 40),
     };
-    assert!(rt; codes.as_slice() == want);
-    assert!(rt; posted(machine) == Some((amount, amount)));
+    assert!(rt; codes(alloc, machine)?.as_slice() == want);
+    assert!(rt; sums(machine) == Some((pending, posted)));
     Ok(())
 }
 
-/// Enters the rows; answers how often an entry was refused.
+/// Enters the rows; answers the commit numbers of the entries that were refused once.
 fn enter_all<A: Allocator + Clone>(
     rt: &impl Abort,
     alloc: Global,
     machine: &mut Machine<A>,
-    requests: &[Request],
-) -> Result<u32, Fail> {
-    let mut refusals = 0_u32;
-    for request in requests {
-        if enter(rt, alloc, machine, request)? {
-            refusals = refusals.wrapping_add(1);
+    turns: &[Turn],
+) -> Result<Vec<u64>, Fail> {
+    let mut refused = Vec::new(alloc);
+    for turn in turns {
+        if enter(rt, alloc, machine, turn)? {
+            refused.push(machine.commit())?;
         }
     }
-    Ok(refusals)
+    Ok(refused)
 }
 
-/// Serves the rows over an allocator; answers how often an entry was refused.
+/// Serves the rows over an allocator; answers the commit numbers of the entries that were refused once.
 fn serve(
     rt: &impl Abort,
     alloc: Global,
     heap: &Refusing<Global>,
     profile: Profile,
     rows: Rows,
-) -> Result<u32, Fail> {
+) -> Result<Vec<u64>, Fail> {
     let clients_max = ClientsMax::new(2).ok_or("clients_max")?;
-    let requests = requests(alloc, rows)?;
+    let turns = turns(alloc, rows)?;
     let mut machine = Machine::new_in(alloc, heap, profile, clients_max)?;
-    let refusals = enter_all(rt, alloc, &mut machine, &requests)?;
+    let refused = enter_all(rt, alloc, &mut machine, &turns)?;
     expect_last(rt, alloc, &machine, rows)?;
-    Ok(refusals)
+    Ok(refused)
 }
 
-/// Serves the rows with one growth refused: what was asked, and how often an entry was refused.
+/// Serves the rows with one growth refused: what was asked, and the commit numbers of the entries that were refused once.
 fn serve_over(
     rt: &impl Abort,
     alloc: Global,
     profile: Profile,
     rows: Rows,
     refused_at: u64,
-) -> Result<(Tally, u32), Fail> {
+) -> Result<(Tally, Vec<u64>), Fail> {
     let heap = Refusing::new(alloc, refused_at);
-    let refusals = serve(rt, alloc, &heap, profile, rows)?;
-    Ok((heap.tally(), refusals))
+    let refused = serve(rt, alloc, &heap, profile, rows)?;
+    Ok((heap.tally(), refused))
 }
 
 /// Serves the rows with no growth refused, with the first, with the second and so on: all blocks come back, and each refused
-/// growth refuses one entry. So many growths are refused at the least.
+/// growth refuses one entry. These are the commit numbers of the entries that ask for a growth.
 fn refuse_each(
     rt: &impl Abort,
     alloc: Global,
     profile: Profile,
     rows: Rows,
-    least: u64,
+    entries: &[u64],
 ) -> Result<(), Fail> {
-    let (plain, refusals) = serve_over(rt, alloc, profile, rows, 0)?;
-    assert!(rt; plain.blocks == 0 && refusals == 0);
-    assert!(rt; plain.asked >= least, "only {} growths", plain.asked);
+    let (plain, refused) = serve_over(rt, alloc, profile, rows, 0)?;
+    assert!(rt; plain.blocks == 0 && refused.is_empty());
+    let mut refusing: Vec<u64> = Vec::new(alloc);
     for refused_at in 1..=plain.asked {
-        let (tally, refusals) = serve_over(rt, alloc, profile, rows, refused_at)?;
+        let (tally, refused) = serve_over(rt, alloc, profile, rows, refused_at)?;
         assert!(rt; tally.blocks == 0, "growth {refused_at}");
-        assert!(rt; refusals == 1, "growth {refused_at} is refused");
+        assert!(rt; refused.len() == 1, "growth {refused_at} is refused");
+        if refusing.last() != refused.last() {
+            refusing.extend_from_slice(refused.as_slice())?;
+        }
     }
+    assert!(rt; refusing.as_slice() == entries, "{} growths", plain.asked);
     Ok(())
 }
 
 #[test]
 fn first_rows(rt: HostRuntime) -> Result<(), Fail> {
     for profile in [Profile::One, Profile::Two] {
-        refuse_each(&rt, rt.alloc(), profile, Rows::First, 3)?;
+        refuse_each(&rt, rt.alloc(), profile, Rows::First, &[2, 4])?;
     }
     Ok(())
 }
@@ -269,7 +349,15 @@ fn first_rows(rt: HostRuntime) -> Result<(), Fail> {
 #[test]
 fn broken_chain(rt: HostRuntime) -> Result<(), Fail> {
     for profile in [Profile::One, Profile::Two] {
-        refuse_each(&rt, rt.alloc(), profile, Rows::Chain, 3)?;
+        refuse_each(&rt, rt.alloc(), profile, Rows::Chain, &[2, 4, 5])?;
+    }
+    Ok(())
+}
+
+#[test]
+fn pending_rows(rt: HostRuntime) -> Result<(), Fail> {
+    for profile in [Profile::One, Profile::Two] {
+        refuse_each(&rt, rt.alloc(), profile, Rows::Pending, &[2, 4, 5, 6, 7])?;
     }
     Ok(())
 }
