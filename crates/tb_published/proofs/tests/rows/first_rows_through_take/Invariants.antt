@@ -1,0 +1,5 @@
+use Rattle.tb_published.proofs.tests.rows.first_rows_through_take.Given as goal
+
+-- the opening that was just made
+abbrev pub ghosts-take_first_rows : goal.ghosts-take_first_rows
+ghosts-take_first_rows g a = record { opening = a.opening }
