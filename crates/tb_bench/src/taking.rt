@@ -190,16 +190,39 @@ fn apply_alone<R: Clock>(
     Ok(())
 }
 
+/// Applies so many batches to a machine.
+fn fill<R: Clock + Print>(
+    rt: &R,
+    alloc: Global,
+    machine: &mut Machine<Global>,
+    rounds: u32,
+) -> Result<(), Error> {
+    prepare(rt, alloc, machine)?;
+    for k in 0..rounds {
+        apply_alone(rt, alloc, machine, k.saturating_add(2))?;
+    }
+    println!(rt; "commits {}", machine.commit())?;
+    Ok(())
+}
+
 /// Applies so many batches to a machine alone, whose memory can then be measured.
 pub fn fill_machine<R: Clock + Print>(rt: &R, alloc: Global, rounds: u32) -> Result<(), Error> {
     let clients_max = ClientsMax::new(64).ok_or(anyhow!("clients_max"))?;
     let mut machine = Machine::new_in(alloc, alloc, Profile::One, clients_max)?;
-    prepare(rt, alloc, &mut machine)?;
-    for k in 0..rounds {
-        apply_alone(rt, alloc, &mut machine, k.saturating_add(2))?;
-    }
-    println!(rt; "commits {}", machine.commit())?;
-    Ok(())
+    fill(rt, alloc, &mut machine, rounds)
+}
+
+/// Measures a publisher beside a machine with room for so many clients.
+fn measure_beside<J: Naming, R: Wait + Clock + Print + Eprint>(
+    rt: &R,
+    alloc: Global,
+    publisher: &mut Publisher<J>,
+    clients_max: ClientsMax,
+    kind: Kind,
+    rounds: u32,
+) -> Result<(), Error> {
+    let mut machine = Machine::new_in(alloc, alloc, Profile::One, clients_max)?;
+    measure_rounds(rt, alloc, publisher, &mut machine, kind, rounds)
 }
 
 /// Opens a publisher and a machine, and measures them.
@@ -214,8 +237,7 @@ pub fn measure<J: Naming, R: Wait + Clock + Print + Eprint>(
 {
     let clients_max = ClientsMax::new(64).ok_or(anyhow!("clients_max"))?;
     let seats = SeatCount::new(1).ok_or(anyhow!("seats"))?;
-    let mut machine = Machine::new_in(alloc, alloc, Profile::One, clients_max)?;
     let (publisher, _seats) = open::<J, R>(alloc, rt, opening, seats)?;
     let mut held = Held::new(publisher, rt);
-    measure_rounds(rt, alloc, &mut held.publisher, &mut machine, kind, rounds)
+    measure_beside(rt, alloc, &mut held.publisher, clients_max, kind, rounds)
 }

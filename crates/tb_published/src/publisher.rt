@@ -13,7 +13,7 @@ use crate::offering::next_order;
 use crate::replica::{Posted, Replica};
 use crate::seat::Seat;
 use crate::told::Told;
-use crate::turning::{Copies, new_place, publish, turn};
+use crate::turning::{Copies, begin, new_place, publish};
 use left_right::Absorb;
 use std::alloc::{AllocError, Global};
 use std::marker::Model;
@@ -67,19 +67,7 @@ impl<J: Naming> Publisher<J> {
         let (profile, clients_max) = opening.rules();
         let offered = opening.into_chronicle();
         let machine = Machine::new_in(alloc, alloc, profile, clients_max)?;
-        let first = Machine::new_in(alloc, alloc, profile, clients_max)?;
-        let second = Machine::new_in(alloc, alloc, profile, clients_max)?;
-        let copies = Copies::new(
-            alloc,
-            Replica::new(first, offered.front().again()),
-            Replica::new(second, offered.front().again()),
-            seats.get() as usize,
-        )?;
-        let (copies, shown) = turn(copies, rt);
-        if let Err(AllocError) = shown {
-            let _shown = copies.take(rt);
-            return Err(AllocError);
-        }
+        let copies = begin(alloc, rt, offered.front(), seats)?;
         Ok(Publisher {
             copies,
             history: Vec::new(alloc),

@@ -1,5 +1,5 @@
 //! A copy of the machine, and the orders that bring it entries.
-ghost use Rattle.std.specs.Prelude.{◌≡◌, ◌+◌, ◌==◌, length, IsTrue};
+ghost use Rattle.std.specs.Prelude.{◌≡◌, ◌+◌, ◌==◌, [], length, IfOk, IsTrue};
 ghost use Rattle.tb_machine.specs.Histories.{fits, step};
 ghost use Rattle.tb_published.specs.Lines.{line, state_of, with_entry, EndsWith};
 
@@ -66,16 +66,18 @@ impl<J: Naming> Model for Replica<J> {
 
 impl<J: Naming> Replica<J> {
     /// The copy of a front with no entries.
-    pub(crate) fn new(machine: Machine<Global>, front: Front) -> Replica<J>
-        requires named { front.opening ≡ J.opening }
-        requires after { machine ≡ state_of front }
-        ensures { result ≡ front }
+    pub(crate) fn new(alloc: Global, front: &Front) -> Result<Replica<J>, AllocError>
+        requires named { front.now.opening ≡ J.opening }
+        requires empty { front.now.list ≡ [] }
+        ensures { IfOk result (λ replica. replica ≡ front.now) }
     {
-        Replica {
+        let (profile, clients_max) = front.rules();
+        let machine = Machine::new_in(alloc, alloc, profile, clients_max)?;
+        Ok(Replica {
             machine,
-            front,
+            front: front.again(),
             of: PhantomData,
-        }
+        })
     }
 
     /// The machine after the entries of the front.

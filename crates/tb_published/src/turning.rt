@@ -3,24 +3,57 @@ ghost use Rattle.std.specs.Prelude.{◌≡◌, [], Some, drop, IfOk, MatchResult
 ghost use Rattle.left_right.specs.Sides.{view};
 ghost use Rattle.tb_published.specs.Orders.{Follows, line_after};
 
+use crate::front::Front;
+use crate::limits::SeatCount;
 use crate::looking::Place;
 use crate::naming::Naming;
 use crate::replica::{Posted, Replica};
 use crate::rule::{Look, Notes, Published, View};
 use core::mem::replace_with;
 use left_right::writer::Writer;
-use std::alloc::AllocError;
+use std::alloc::{AllocError, Global};
 use std::sync::Wait;
 
 /// The writer of the copies.
 pub(crate) type Copies<J> = Writer<Replica<J>, Posted<J>, View, Published>;
 
+/// The copies of a front with no entries, which do not show it yet, with places for so many seats.
+fn copies_of<J: Naming>(
+    alloc: Global,
+    front: &Front,
+    seats: SeatCount,
+) -> Result<Copies<J>, AllocError>
+    requires named { front.now.opening ≡ J.opening }
+    requires empty { front.now.list ≡ [] }
+    ensures { IfOk result (λ copies. (copies.desk.shown.value ≡ front.now) × (drop copies.behind copies.log.items ≡ [])) }
+{
+    let first = Replica::new(alloc, front)?;
+    let second = Replica::new(alloc, front)?;
+    Copies::new(alloc, first, second, seats.get() as usize)
+}
+
+/// The copies of a front with no entries, which they show, with places for so many seats.
+pub(crate) fn begin<J: Naming, W: Wait>(
+    alloc: Global,
+    rt: &W,
+    front: &Front,
+    seats: SeatCount,
+) -> Result<Copies<J>, AllocError>
+    requires named { front.now.opening ≡ J.opening }
+    requires empty { front.now.list ≡ [] }
+    ensures { IfOk result (λ copies. (copies.desk.shown.value ≡ front.now) × (drop copies.behind copies.log.items ≡ []) × (view copies.desk.place ≡ Some front.now)) }
+{
+    let (copies, shown) = turn(copies_of(alloc, front, seats)?, rt);
+    if let Err(AllocError) = shown {
+        let _shown = copies.take(rt);
+        return Err(AllocError);
+    }
+    Ok(copies)
+}
+
 /// Has the copies take in the orders that they have not, and shows what they have then. Where a copy finds no memory,
 /// they show what they showed, and the orders wait.
-pub(crate) fn turn<J: Naming, W: Wait>(
-    copies: Copies<J>,
-    rt: &W,
-) -> (Copies<J>, Result<(), AllocError>)
+fn turn<J: Naming, W: Wait>(copies: Copies<J>, rt: &W) -> (Copies<J>, Result<(), AllocError>)
     requires { Follows copies.desk.shown.value (drop copies.behind copies.log.items) }
     ensures { MatchResult result.1 (λ _. (result.0.desk.shown.value ≡ line_after copies.desk.shown.value (drop copies.behind copies.log.items)) × (drop result.0.behind result.0.log.items ≡ []) × (view result.0.desk.place ≡ Some result.0.desk.shown.value)) (λ _. (result.0.desk.shown.value ≡ copies.desk.shown.value) × (drop result.0.behind result.0.log.items ≡ drop copies.behind copies.log.items) × (view result.0.desk.place ≡ view copies.desk.place)) }
 {

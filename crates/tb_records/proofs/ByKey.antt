@@ -368,14 +368,6 @@ found_here key id f y xs same found =
     let there : option_map (λ y. if key y == id then f y else y) (find (λ y. key y == id) xs) ≡ Some (f y) = rw (found, is) refl in
     find-changed key id f id xs same ∙ there
 
--- what is found was found before
-pub found-changed : {X : Type 0} (key : X → ℕ) (id : ℕ) (f : X → X) (k : ℕ) (z : X) (xs : List X) → ((y : X) → key (f y) ≡ key y) → find (λ y. key y == k) (changed key id f xs) ≡ Some z → (y : X) × (find (λ y. key y == k) xs ≡ Some y) × (z ≡ (if key y == id then f y else y))
-found-changed {X = X} key id f k z xs same found = by (find (λ y. key y == k) xs) (sym (find-changed key id f k xs same) ∙ found)
-  where
-    by : (o : Option X) → option_map (λ y. if key y == id then f y else y) o ≡ Some z → (y : X) × (o ≡ Some y) × (z ≡ (if key y == id then f y else y))
-    by None is = absurd (cc)
-    by (Some y) is = (y, refl, cc)
-
 -- the change of a record that is there is another record in its place
 pub changed_found : {X : Type 0} (key : X → ℕ) (id : ℕ) (f : X → X) (y : X) (xs : List X) → ((y : X) → key (f y) ≡ key y) → find (λ y. key y == id) xs ≡ Some y → changed key id f xs ≡ replaced key (f y) xs
 changed_found key id f y [] same found = refl
@@ -387,14 +379,6 @@ changed_found key id f y (z ∷ zs) same found = by (eqb (key z) id) refl (chang
     by : (b : Bool) → eqb (key z) id ≡ b → (find (λ y. key y == id) zs ≡ Some y → changed key id f zs ≡ replaced key (f y) zs) → cond b (Some z) (find (λ y. key y == id) zs) ≡ Some y → cond b (f z ∷ zs) (z ∷ changed key id f zs) ≡ replaced key (f y) (z ∷ zs)
     by true e later is = let here : z ≡ y = cc in let it : eqb (key z) (key (f y)) ≡ true = rw has e in rw it (ap (λ w. f w ∷ zs) here)
     by false e later is = let other : eqb (key z) (key (f y)) ≡ false = rw has e in rw other (ap (λ ws. z ∷ ws) (later is))
-
-pub changed_absent : {X : Type 0} (key : X → ℕ) (id : ℕ) (f : X → X) (xs : List X) → find (λ y. key y == id) xs ≡ None → changed key id f xs ≡ xs
-changed_absent key id f [] none = refl
-changed_absent key id f (y ∷ ys) none = by (eqb (key y) id) (changed_absent key id f ys) none
-  where
-    by : (b : Bool) → (find (λ y. key y == id) ys ≡ None → changed key id f ys ≡ ys) → cond b (Some y) (find (λ y. key y == id) ys) ≡ None → cond b (f y ∷ ys) (y ∷ changed key id f ys) ≡ y ∷ ys
-    by true later is = absurd (cc)
-    by false later is = ap (λ zs. y ∷ zs) (later is)
 
 -- a record that isn't there is put in no other's place
 pub replaced_absent : {X : Type 0} (key : X → ℕ) (x : X) (xs : List X) → find (λ y. key y == key x) xs ≡ None → replaced key x xs ≡ xs

@@ -50,9 +50,11 @@ fn serve_all<J: Naming, R: Wait + Abort>(
 /// What a seat answers after the first requests.
 fn expect_answers<J: Naming>(
     rt: &impl Abort,
-    seat: &mut Seat<J>,
-    requests: &[Request],
+    alloc: Global,
+    seats: &mut Vec<Seat<J>>,
 ) -> Result<(), Fail> {
+    let requests = first_requests(alloc)?;
+    let seat = seats.iter_mut().next().ok_or("a seat")?;
     for (request, row) in requests.iter().zip(FIRST_ANSWERS) {
         let reply = seat.answer(request)?;
         assert!(rt; (reply.status(), reply.commit()) == row);
@@ -64,18 +66,41 @@ fn expect_answers<J: Naming>(
 /// One seat has seen the first requests; one more is served, of which both learn.
 fn expect_learning<J: Naming>(
     rt: &impl Abort,
+    alloc: Global,
     publisher: &Publisher<J>,
-    one: &mut Seat<J>,
-    two: &mut Seat<J>,
-    request: &Request,
+    seats: &mut Vec<Seat<J>>,
 ) -> Result<(), Fail> {
+    let request = lookup(alloc, 4)?;
     let told = publisher.tell();
     assert!(rt; told.commit() == 5);
+    let mut both = seats.iter_mut();
+    let one = both.next().ok_or("a seat")?;
+    let two = both.next().ok_or("a seat")?;
     two.learn(&told);
-    assert!(rt; two.status(request)? == Status::Reply);
+    assert!(rt; two.status(&request)? == Status::Reply);
     one.learn(&told);
     assert!(rt; one.lookup_accounts(&[1])?.0 == 5);
     Ok(())
+}
+
+/// Serves the first requests.
+fn serve_first<J: Naming, R: Wait + Abort>(
+    rt: &R,
+    alloc: Global,
+    publisher: Publisher<J>,
+) -> Result<Publisher<J>, Fail> {
+    serve_all(rt, alloc, publisher, ports(1)?, first_requests(alloc)?)
+}
+
+/// Serves one request more.
+fn serve_next<J: Naming, R: Wait + Abort>(
+    rt: &R,
+    alloc: Global,
+    publisher: Publisher<J>,
+) -> Result<Publisher<J>, Fail> {
+    let mut requests = Vec::new(alloc);
+    requests.push(lookup(alloc, 4)?)?;
+    serve_all(rt, alloc, publisher, ports(1)?, requests)
 }
 
 /// Two services over one publisher, one after the other.
@@ -86,20 +111,12 @@ fn serve_twice<J: Naming, R: Wait + Abort>(
 ) -> Result<(), Fail>
     requires { opening ≡ J.opening }
 {
-    let count = ports(1)?;
-    let asked = first_requests(alloc)?;
-    let requests = first_requests(alloc)?;
-    let next = lookup(alloc, 4)?;
-    let mut more = Vec::new(alloc);
-    more.push(lookup(alloc, 4)?)?;
     let (publisher, mut seats) = opened::<J, R>(rt, alloc, opening)?;
-    let held = Held::new(serve_all(rt, alloc, publisher, count, requests)?, rt);
-    let mut one = seats.pop().ok_or("a seat")?;
-    let mut two = seats.pop().ok_or("a seat")?;
-    expect_answers(rt, &mut one, asked.as_slice())?;
-    let publisher = serve_all(rt, alloc, held.into_publisher(), count, more)?;
+    let held = Held::new(serve_first(rt, alloc, publisher)?, rt);
+    expect_answers(rt, alloc, &mut seats)?;
+    let publisher = serve_next(rt, alloc, held.into_publisher())?;
     let held = Held::new(publisher, rt);
-    expect_learning(rt, &held.publisher, &mut one, &mut two, &next)
+    expect_learning(rt, alloc, &held.publisher, &mut seats)
 }
 
 #[test]
