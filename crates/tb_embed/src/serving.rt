@@ -22,10 +22,8 @@ fn fill(
     ensures { Fills result machine.old machine.new (moment, request) reply.new }
 {
     let mut room = Room::over(reply);
-    match serve_pair(machine, &mut room, moment, request) {
-        Ok(()) => Ok(room.at()),
-        Err(fault) => Err(fault),
-    }
+    serve_pair(machine, &mut room, moment, request)?;
+    Ok(room.at())
 }
 
 /// Serves a request.

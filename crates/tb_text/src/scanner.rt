@@ -680,10 +680,8 @@ impl Scanner {
     fn leave_word(&mut self, byte: u8) -> Result<(), Refusal>
         ensures { Steps self.old result (word_left self.old byte) self.new }
     {
-        match self.end_word() {
-            Ok(()) => self.gap(byte),
-            Err(refusal) => Err(refusal),
-        }
+        self.end_word()?;
+        self.gap(byte)
     }
 
     /// Takes the byte behind a number.
@@ -693,10 +691,8 @@ impl Scanner {
         if is_word_byte(byte) {
             return Err(Refusal::Unexpected);
         }
-        match self.end_number(number) {
-            Ok(()) => self.gap(byte),
-            Err(refusal) => Err(refusal),
-        }
+        self.end_number(number)?;
+        self.gap(byte)
     }
 }
 
