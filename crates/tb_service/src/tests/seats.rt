@@ -83,26 +83,6 @@ fn expect_learning<J: Naming>(
     Ok(())
 }
 
-/// Serves the first requests.
-fn serve_first<J: Naming, R: Wait + Abort>(
-    rt: &R,
-    alloc: Global,
-    publisher: Publisher<J>,
-) -> Result<Publisher<J>, Fail> {
-    serve_all(rt, alloc, publisher, ports(1)?, first_requests(alloc)?)
-}
-
-/// Serves one request more.
-fn serve_next<J: Naming, R: Wait + Abort>(
-    rt: &R,
-    alloc: Global,
-    publisher: Publisher<J>,
-) -> Result<Publisher<J>, Fail> {
-    let mut requests = Vec::new(alloc);
-    requests.push(lookup(alloc, 4)?)?;
-    serve_all(rt, alloc, publisher, ports(1)?, requests)
-}
-
 /// Two services over one publisher, one after the other.
 fn serve_twice<J: Naming, R: Wait + Abort>(
     rt: &R,
@@ -111,10 +91,14 @@ fn serve_twice<J: Naming, R: Wait + Abort>(
 ) -> Result<(), Fail>
     requires { opening ≡ J.opening }
 {
+    let count = ports(1)?;
+    let first = first_requests(alloc)?;
+    let mut next = Vec::new(alloc);
+    next.push(lookup(alloc, 4)?)?;
     let (publisher, mut seats) = opened::<J, R>(rt, alloc, opening)?;
-    let held = Held::new(serve_first(rt, alloc, publisher)?, rt);
+    let held = Held::new(serve_all(rt, alloc, publisher, count, first)?, rt);
     expect_answers(rt, alloc, &mut seats)?;
-    let publisher = serve_next(rt, alloc, held.into_publisher())?;
+    let publisher = serve_all(rt, alloc, held.into_publisher(), count, next)?;
     let held = Held::new(publisher, rt);
     expect_learning(rt, alloc, &held.publisher, &mut seats)
 }
