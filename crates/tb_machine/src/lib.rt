@@ -2,16 +2,16 @@
 //! a script, and the dump of a history and its replay.
 #![tactic(auto)]
 
-pub mod answering;
-pub mod dumping;
-pub mod entries;
+mod answering;
+mod dumping;
+mod entries;
 #[cfg(test)]
 mod events;
 mod executing;
 pub mod laws;
-pub mod machines;
-pub mod replaying;
-pub mod serving;
+mod machines;
+mod replaying;
+mod serving;
 pub mod worked_rows;
 
 pub use answering::answer_of;

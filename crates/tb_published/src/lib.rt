@@ -3,20 +3,20 @@
 #![tactic(auto)]
 
 mod entering;
-pub mod faults;
+mod faults;
 mod front;
-pub mod holder;
+mod holder;
 pub mod laws;
-pub mod limits;
+mod limits;
 mod looking;
-pub mod naming;
+mod naming;
 mod offering;
-pub mod opening;
-pub mod publisher;
+mod opening;
+mod publisher;
 mod replica;
 mod rule;
-pub mod seat;
-pub mod told;
+mod seat;
+mod told;
 mod turning;
 
 pub use faults::{OpenFault, SeatFault, TakeFault, Taken};

@@ -4,17 +4,17 @@
 mod batches;
 mod calling;
 mod clerk;
-pub mod ends;
-pub mod finished;
-pub mod gates;
+mod ends;
+mod finished;
+mod gates;
 mod inbox;
-pub mod limits;
+mod limits;
 mod orders;
-pub mod ports;
+mod ports;
 mod rule;
 mod sending;
-pub mod server;
-pub mod starting;
+mod server;
+mod starting;
 #[cfg(test)]
 mod tests;
 

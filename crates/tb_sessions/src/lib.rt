@@ -2,10 +2,10 @@
 //! too many.
 #![tactic(auto)]
 
-pub mod classes;
+mod classes;
 mod order;
-pub mod rows;
-pub mod table;
+mod rows;
+mod table;
 
 pub use classes::Class;
 pub use rows::Row;

@@ -1,14 +1,14 @@
 //! Requests and replies as text: statements in the words of TigerBeetle's clients, and JSON.
 #![tactic(auto)]
 
-pub mod places;
-pub mod printing;
-pub mod reading;
-pub mod scanner;
+mod places;
+mod printing;
+mod reading;
+mod scanner;
 #[cfg(test)]
 mod tests;
 pub mod text_laws;
-pub mod words;
+mod words;
 
 pub use places::{Lexeme, Place, Refusal};
 pub use printing::{print_request, print_requests};
