@@ -1,0 +1,127 @@
+#!/usr/bin/env python3
+"""Tries every must-fail edit, as the gate tries those of crates/*/must-fail, side by side on all cores.
+
+    python3 checks/edits.py [--jobs N] [CRATE ..]
+
+The gate tries the edits in crates/CRATE/must-fail. This script tries those and the ones in crates/CRATE/must-fail-release:
+it copies the repository, with what is kept of earlier checks, puts all edits of a crate into its must-fail folder there, proves
+the libraries below, and runs `rt must-fail CRATE`, one job a crate. Run it before a release, and whenever a public clause or a
+definition changes. Ends in 'N passed, M failed': passed are the edits that the prover refused.
+"""
+import argparse
+import os
+import re
+import shutil
+import subprocess
+import sys
+import tempfile
+from concurrent.futures import ThreadPoolExecutor, as_completed
+
+ROOT = os.path.dirname(os.path.dirname(os.path.abspath(__file__)))
+FOLDERS = ("must-fail", "must-fail-release")
+
+
+def deps_of():
+    """The crates of crates.txt, each with the repository's own libraries that it names."""
+    deps = {}
+    with open(f"{ROOT}/crates.txt", encoding="utf-8") as file:
+        for line in file:
+            head, colon, tail = line.partition("#")[0].partition(":")
+            if colon:
+                deps[head.split()[0]] = tail.split()
+    return {name: [it for it in below if it in deps] for name, below in deps.items()}
+
+
+def edits_of(crate):
+    """The paths of a crate's edits. Two of one name would hide each other, so that is an error."""
+    paths = {}
+    for folder in FOLDERS:
+        at = f"{ROOT}/crates/{crate}/{folder}"
+        for name in sorted(os.listdir(at)) if os.path.isdir(at) else []:
+            if name.endswith(".edit"):
+                if name in paths:
+                    sys.exit(f"{crate}: two edits are called {name}")
+                paths[name] = f"{at}/{name}"
+    return paths
+
+
+def copy_into(room, crates):
+    """Copies what git knows of, and what is kept in out/, and puts all edits of the crates where `rt must-fail` looks."""
+    told = subprocess.run(["git", "-C", ROOT, "ls-files", "-co", "--exclude-standard"], check=True, capture_output=True, text=True)
+    for path in told.stdout.splitlines():
+        if os.path.isfile(f"{ROOT}/{path}"):
+            os.makedirs(os.path.dirname(f"{room}/{path}"), exist_ok=True)
+            shutil.copy2(f"{ROOT}/{path}", f"{room}/{path}")
+    for crate in deps_of():
+        if os.path.isdir(f"{ROOT}/crates/{crate}/out"):
+            shutil.copytree(f"{ROOT}/crates/{crate}/out", f"{room}/crates/{crate}/out", symlinks=True)
+    for crate, edits in crates.items():
+        os.makedirs(f"{room}/crates/{crate}/must-fail", exist_ok=True)
+        for name, path in edits.items():
+            shutil.copy2(path, f"{room}/crates/{crate}/must-fail/{name}")
+
+
+def below(deps, crates):
+    """The libraries below the crates, each behind those that it stands on."""
+    order = []
+
+    def visit(name):
+        for it in deps[name]:
+            visit(it)
+            if it not in order:
+                order.append(it)
+
+    for crate in crates:
+        visit(crate)
+    return order
+
+
+def try_crate(room, crate):
+    """Runs `rt must-fail` for a crate, and answers its lines."""
+    ran = subprocess.run(["rt", "must-fail", crate], cwd=room, stdin=subprocess.DEVNULL, stdout=subprocess.PIPE, stderr=subprocess.STDOUT, text=True, errors="replace")
+    return ran.stdout.splitlines()
+
+
+def judge(crate, edits, lines):
+    """The edits of a crate that were refused and that were not, with what was said of each."""
+    told = {}
+    for line in lines:
+        found = re.search(rf"must-fail {crate}/([^ :]+): (.*)", line)
+        if found:
+            told[found[1]] = found[2]
+    return {name: told.get(name, "NOT TRIED") for name in edits}
+
+
+def main():
+    words = argparse.ArgumentParser(description=__doc__, formatter_class=argparse.RawDescriptionHelpFormatter)
+    words.add_argument("--jobs", type=int, default=len(os.sched_getaffinity(0)), help="how many crates are tried side by side (one a core)")
+    words.add_argument("crates", nargs="*", metavar="CRATE")
+    given = words.parse_args()
+    deps = deps_of()
+    for crate in given.crates:
+        if crate not in deps:
+            words.error(f"crates.txt has no crate {crate}")
+    edits = {crate: edits_of(crate) for crate in given.crates or deps}
+    edits = {crate: paths for crate, paths in edits.items() if paths}
+    passed = failed = 0
+    with tempfile.TemporaryDirectory(prefix="edits-") as room:
+        copy_into(room, edits)
+        for library in below(deps, edits):
+            if subprocess.run(["rt", "lib"], cwd=f"{room}/crates/{library}", stdout=subprocess.DEVNULL, stderr=subprocess.STDOUT).returncode:
+                sys.exit(f"{library} is not proved, so no edit of what stands on it can be judged")
+        # The crates with the most edits begin, so that none of them is left for the end.
+        dearest = sorted(edits, key=lambda it: -len(edits[it]))
+        with ThreadPoolExecutor(given.jobs) as lanes:
+            runs = {lanes.submit(try_crate, room, crate): crate for crate in dearest}
+            for run in as_completed(runs):
+                crate = runs[run]
+                for name, said in judge(crate, edits[crate], run.result()).items():
+                    refused = said.startswith("refused")
+                    passed, failed = passed + refused, failed + (not refused)
+                    print(f"{crate}/{name}: {said}", flush=True)
+    print(f"{passed} passed, {failed} failed")
+    return 1 if failed else 0
+
+
+if __name__ == "__main__":
+    sys.exit(main())
