@@ -5,8 +5,6 @@ mod places;
 mod printing;
 mod reading;
 mod scanner;
-#[cfg(test)]
-mod tests;
 pub mod text_laws;
 mod words;
 

@@ -1,19 +1,11 @@
 //! `tbt`: statements to scripts and back, replies and dumps to JSON, from standard input to standard output.
 #![tactic(auto)]
 
-mod commands;
-mod faults;
-mod lines;
-mod objects;
-#[cfg(test)]
-mod tests;
-
-use commands::command;
-use faults::Fault;
 use std::env;
 use std::io::{self, BufReader, BufWriter, Write};
 use std::process::ExitCode;
 use tb_records::{Buffered, Counting};
+use tb_text_commands::{Fault, command};
 
 /// The bytes of input and of output that are held at a time.
 const BUFFER: usize = 65536;

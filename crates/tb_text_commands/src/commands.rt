@@ -1,6 +1,6 @@
 //! The program's forms, over any reader and writer.
 ghost use Rattle.std.specs.Prelude.{◌≡◌, ◌<◌, None, map, string_bytes};
-ghost use Rattle.tbt.specs.Orders.{order_alone, order_of};
+ghost use Rattle.tb_text_commands.specs.Orders.{order_alone, order_of};
 
 use crate::faults::{Fault, frame_fault};
 use crate::lines::{head_line, item_line, reply_line};

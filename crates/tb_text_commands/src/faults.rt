@@ -1,6 +1,6 @@
 //! Why the program ends with a status other than 0, and the line that says so.
 ghost use Rattle.std.specs.Prelude.{◌≡◌, ◌<◌, ◌≤◌, length};
-ghost use Rattle.tbt.specs.Statuses.{fault_status};
+ghost use Rattle.tb_text_commands.specs.Statuses.{fault_status};
 
 use std::alloc::{AllocError, Global};
 use tb_records::{DumpFault, FrameFault, Sink, put_all};

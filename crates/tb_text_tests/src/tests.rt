@@ -1,9 +1,8 @@
 //! Statements with the values of the rules: each field, operation and flag by its name, and faults by their places.
-use crate::printing::print_requests;
-use crate::reading::read_text;
 use std::alloc::Global;
 use std::test::Fail;
 use tb_records::Body;
+use tb_text::{print_requests, read_text};
 
 /// The text that is printed of what a text means; nothing where it goes wrong.
 fn printed_again(alloc: Global, text: &[u8]) -> Result<Vec<u8>, Fail> {

@@ -1,8 +1,8 @@
 -- What the words of the command line ask for.
 use Rattle.std.specs.Prelude.{ℕ, nat_eq, List, [], ◌∷◌, Option, Some, None, if◌then◌else◌, codes}
 use Rattle.std.specs.Cmp.Lexicographic.{pointwise}
-use Rattle.tbt.specs.declared.commands.Order.{Order}
-use Rattle.tbt.specs.declared.commands.Order.TheVariants as order
+use Rattle.tb_text_commands.specs.declared.commands.Order.{Order}
+use Rattle.tb_text_commands.specs.declared.commands.Order.TheVariants as order
 
 abbrev pub order_alone : List ℕ → Option Order
 order_alone word =

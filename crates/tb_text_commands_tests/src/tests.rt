@@ -1,7 +1,7 @@
 //! The program's forms over bytes in memory.
 ghost use Rattle.std.specs.Prelude.{◌≤◌};
 
-use crate::commands::command;
+use tb_text_commands::command;
 use std::test::Fail;
 use tb_records::Counting;
 

@@ -4,8 +4,8 @@ use Rattle.tb_records.specs.declared.faults.FrameFault.{FrameFault}
 use Rattle.tb_records.specs.declared.faults.FrameFault.TheVariants as frame
 use Rattle.tb_records.specs.declared.dumps.DumpFault.{DumpFault}
 use Rattle.tb_records.specs.declared.dumps.DumpFault.TheVariants as dump
-use Rattle.tbt.specs.declared.faults.Fault.{Fault}
-use Rattle.tbt.specs.declared.faults.Fault.TheVariants.{Usage, Device, NoMemory, Frame, Dump, Text}
+use Rattle.tb_text_commands.specs.declared.faults.Fault.{Fault}
+use Rattle.tb_text_commands.specs.declared.faults.Fault.TheVariants.{Usage, Device, NoMemory, Frame, Dump, Text}
 
 abbrev pub dump_status : DumpFault → ℕ
 dump_status dump.NoMemory = 1
