@@ -143,12 +143,28 @@ pub fn dump<R: Source, W: Sink>(
         profile,
         clients_max,
     };
-    send_head(writer, head)?;
-    for _ in 0..u64::MAX {
-        pass_on_before_waiting(reader, writer);
-        if !dump_next(alloc, &mut machine, at, reader, writer)? {
-            return Ok(machine.commit());
+    match send_head(writer, head) {
+        Ok(()) => {}
+        Err(fault) => {
+            drop(machine);
+            return Err(RunFault::Frame(fault));
         }
     }
+    for _ in 0..u64::MAX {
+        pass_on_before_waiting(reader, writer);
+        let more = match dump_next(alloc, &mut machine, at, reader, writer) {
+            Ok(more) => more,
+            Err(fault) => {
+                drop(machine);
+                return Err(fault);
+            }
+        };
+        if !more {
+            let entries = machine.commit();
+            drop(machine);
+            return Ok(entries);
+        }
+    }
+    drop(machine);
     Err(RunFault::TooLong)
 }

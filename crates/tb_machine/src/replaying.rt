@@ -109,8 +109,17 @@ pub fn replay<R: Source, W: Sink>(
     let mut machine = Machine::new_in(alloc, alloc, head.profile, head.clients_max)?;
     for _ in 0..u64::MAX {
         pass_on_before_item(reader, writer);
-        if !replay_next(alloc, &mut machine, reader, writer)? {
-            return Ok(machine.commit());
+        let more = match replay_next(alloc, &mut machine, reader, writer) {
+            Ok(more) => more,
+            Err(fault) => {
+                drop(machine);
+                return Err(fault);
+            }
+        };
+        if !more {
+            let replies = machine.commit();
+            drop(machine);
+            return Ok(replies);
         }
     }
     // Each entry takes a nanosecond of the time that there is: no history has so many.

@@ -259,10 +259,19 @@ pub fn run<R: Source, W: Sink>(
     let mut machine = Machine::new_in(alloc, alloc, profile, clients_max)?;
     for k in 0..u64::MAX {
         pass_on_before_waiting(reader, writer);
-        if !serve_next(alloc, &mut machine, reader, writer)? {
+        let more = match serve_next(alloc, &mut machine, reader, writer) {
+            Ok(more) => more,
+            Err(fault) => {
+                drop(machine);
+                return Err(fault);
+            }
+        };
+        if !more {
+            drop(machine);
             return Ok(k);
         }
     }
+    drop(machine);
     Err(RunFault::TooLong)
 }
 

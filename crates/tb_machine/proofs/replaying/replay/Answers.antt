@@ -11,21 +11,20 @@ returns-in_err-machine g c =
 pub loop-init : goal.loop-init
 loop-init g c = (c.in_ok-head.head.profile, c.in_ok-head.head.clients_max, replaying_none c.in_ok-head.head _ _ _ _ c.in_ok-machine.ensures c.in_ok-head.ensures.answer c.in_ok-head.ensures.counted)
 
-pub returns-then-not-branch : goal.returns-then-not-branch
-returns-then-not-branch g c =
+pub returns-then-not-more : goal.returns-then-not-more
+returns-then-not-more g c =
     let (profile, clients_max, so_far) = c.loop.invariant in
-    replay_ended profile clients_max c.loop.counter c.commit.result c.loop.machine c.replay_next.new.machine _ _ _ _ _ _
+    replay_ended profile clients_max c.loop.counter c.commit-replies.result c.loop.machine c.replay_next.new.machine _ _ _ _ _ _
     (replaying_passed profile clients_max c.loop.counter c.loop.machine _ _ _ _ _ so_far c.pass_on_before_item.ensures)
-    c.commit.ensures.value
-    (rw c.if-not-branch.true at c.in_ok-replay_next.ensures)
+    c.commit-replies.ensures.value
+    (rw c.if-not-more.true at c.in-Ok.ensures)
 
-pub returns-in_err-replay_next : goal.returns-in_err-replay_next
-returns-in_err-replay_next g c =
+pub returns-in-Err : goal.returns-in-Err
+returns-in-Err g c =
     let (profile, clients_max, so_far) = c.loop.invariant in
-    let p = err_from_is_err_and c.from_residual-in_err-replay_next.result c.from_residual-in_err-replay_next.ensures.1 in
-    rw (p.1, p.2) (inr (replay_stopped c.in_err-replay_next.field-0.0 profile clients_max c.loop.counter c.loop.machine c.replay_next.new.machine _ _ _ _ _ _
+    inr (replay_stopped c.in-Err.fault profile clients_max c.loop.counter c.loop.machine c.replay_next.new.machine _ _ _ _ _ _
     (replaying_passed profile clients_max c.loop.counter c.loop.machine _ _ _ _ _ so_far c.pass_on_before_item.ensures)
-    c.in_err-replay_next.ensures))
+    c.in-Err.ensures)
 
 pub loop-preserved : goal.loop-preserved
 loop-preserved g c =
@@ -34,7 +33,7 @@ loop-preserved g c =
       clients_max,
       replaying_on profile clients_max c.loop.counter c.loop.machine c.replay_next.new.machine _ _ _ _ _ _
           (replaying_passed profile clients_max c.loop.counter c.loop.machine _ _ _ _ _ so_far c.pass_on_before_item.ensures)
-          (rw c.if-not-branch.false at c.in_ok-replay_next.ensures),
+          (rw c.if-not-more.false at c.in-Ok.ensures),
     )
 
 pub unreachable-requires : goal.unreachable-requires

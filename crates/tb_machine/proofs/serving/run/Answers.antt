@@ -23,12 +23,11 @@ loop-k-preserved g c =
     (g.W.Sink.output c.loop-k.writer)
     (g.W.Sink.output c.pass_on_before_waiting.new.writer)
     c.loop-k.invariant c.pass_on_before_waiting.ensures)
-    (rw c.if-not-branch.false at c.in_ok-serve_next.ensures)
+    (rw c.if-not-more.false at c.in-Ok.ensures)
 
-pub returns-in_err-serve_next : goal.returns-in_err-serve_next
-returns-in_err-serve_next g c =
-    let p = err_from_is_err_and c.from_residual-in_err-serve_next.result c.from_residual-in_err-serve_next.ensures.1 in
-    rw (p.1, p.2) (ran_into c.args.profile c.args.clients_max c.in_err-serve_next.field-0.0 c.loop-k.k c.loop-k.machine c.serve_next.new.machine
+pub returns-in-Err : goal.returns-in-Err
+returns-in-Err g c =
+    ran_into c.args.profile c.args.clients_max c.in-Err.fault c.loop-k.k c.loop-k.machine c.serve_next.new.machine
     (g.R.Source.input c.args.reader.now)
     (g.R.Source.input c.loop-k.reader)
     (g.R.Source.input c.serve_next.new.reader)
@@ -42,10 +41,10 @@ returns-in_err-serve_next g c =
     (g.W.Sink.output c.loop-k.writer)
     (g.W.Sink.output c.pass_on_before_waiting.new.writer)
     c.loop-k.invariant c.pass_on_before_waiting.ensures)
-    c.in_err-serve_next.ensures)
+    c.in-Err.ensures
 
-pub returns-then-not-branch : goal.returns-then-not-branch
-returns-then-not-branch g c =
+pub returns-then-not-more : goal.returns-then-not-more
+returns-then-not-more g c =
     ran_out c.args.profile c.args.clients_max c.loop-k.k c.loop-k.machine c.serve_next.new.machine
     (g.R.Source.input c.args.reader.now)
     (g.R.Source.input c.loop-k.reader)
@@ -60,4 +59,4 @@ returns-then-not-branch g c =
     (g.W.Sink.output c.loop-k.writer)
     (g.W.Sink.output c.pass_on_before_waiting.new.writer)
     c.loop-k.invariant c.pass_on_before_waiting.ensures)
-    (rw c.if-not-branch.true at c.in_ok-serve_next.ensures)
+    (rw c.if-not-more.true at c.in-Ok.ensures)
