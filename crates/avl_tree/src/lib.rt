@@ -13,6 +13,3 @@ mod walks;
 pub mod worked_rows;
 
 pub use map::AvlMap;
-
-#[cfg(test)]
-mod tests;

@@ -1,8 +1,6 @@
-// The map in use, at the keys that the books have.
-mod limited;
-
-use crate::AvlMap;
-use limited::Limited;
+//! The map in use, at the keys that the books have.
+use crate::limited::Limited;
+use avl_tree::AvlMap;
 use std::alloc::{Allocator, Global};
 use std::collections::BTreeMap;
 use std::process::Abort;

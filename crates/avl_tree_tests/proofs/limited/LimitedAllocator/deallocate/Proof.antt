@@ -38,11 +38,11 @@ use denote.RawPtr.{Ptr, block_ptr, null_ptr, ptr_val, rawptr_vals, rawptr_Tells}
 use denote.Builtin.{usize, RawPtr, RefOf}
 use denote.Triple.Call.{calls_at}
 use Rattle.std.proofs.alloc.Calls.{Al, α, seen, token, gives_key, Gives, at_gives, Gives-goes, Gives-Gives}
-use Rattle.avl_tree.specs.contracts.tests.limited.Limited as wrapper
-use Rattle.avl_tree.specs.contracts.tests.limited.LimitedAllocator.deallocate as F
-use Rattle.avl_tree.specs.contracts.tests.limited.LimitedAllocator.deallocate.Key as key
-use Rattle.avl_tree.proofs.tests.limited.LimitedAllocator.deallocate.Statement as stated
-use Rattle.avl_tree.proofs.tests.limited.LimitedAllocator.deallocate.Code as code
+use Rattle.avl_tree_tests.specs.contracts.limited.Limited as wrapper
+use Rattle.avl_tree_tests.specs.contracts.limited.LimitedAllocator.deallocate as F
+use Rattle.avl_tree_tests.specs.contracts.limited.LimitedAllocator.deallocate.Key as key
+use Rattle.avl_tree_tests.proofs.limited.LimitedAllocator.deallocate.Statement as stated
+use Rattle.avl_tree_tests.proofs.limited.LimitedAllocator.deallocate.Code as code
 
 module _ (Z : Al) where
   abbrev args : Args
