@@ -11,6 +11,3 @@ mod verdicts;
 pub mod worked_rows;
 
 pub use ledgers::Ledger;
-
-#[cfg(test)]
-mod tests;

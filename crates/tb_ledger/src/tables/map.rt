@@ -309,31 +309,3 @@ impl<V: Keyed, A: Allocator + Clone> Table<V, A> {
         }
     }
 }
-
-#[cfg(test)]
-mod tests {
-    use super::*;
-    use std::alloc::Global;
-    use std::process::Abort;
-    use std::test::Fail;
-
-    fn expect_row(rt: &impl Abort, ids: &Table<u128, Global>, id: u128, row: Option<u128>) {
-        assert!(rt; ids.get(id).copied() == row);
-    }
-
-    #[test]
-    fn keeps_rows_by_their_keys(rt: HostRuntime) -> Result<(), Fail> {
-        let mut ids: Table<u128, Global> = Table::new();
-        expect_row(&rt, &ids, 5, None);
-        ids.reserve(&rt.alloc(), 3)?;
-        ids.insert_reserved(5);
-        ids.insert_reserved(9);
-        ids.insert_reserved(7);
-        ids.replace(7);
-        ids.remove(5);
-        expect_row(&rt, &ids, 9, Some(9));
-        expect_row(&rt, &ids, 7, Some(7));
-        expect_row(&rt, &ids, 5, None);
-        Ok(())
-    }
-}

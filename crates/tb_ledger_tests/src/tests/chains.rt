@@ -39,6 +39,7 @@ fn chains_whole_or_not(rt: HostRuntime) {
             &both,
             &[(0, NO_DEBIT_ACCOUNT), (1, CHAIN_OPEN)],
         );
+        drop(run);
     }
 }
 
@@ -57,6 +58,7 @@ fn whole_chain_before_a_broken_one(rt: HostRuntime) {
         expect_account(&rt, &run, 1, [0, 2, 0, 0], 0);
         expect_amount(&rt, &run, 2, 1);
         expect_no_transfer(&rt, &run, 3);
+        drop(run);
     }
 }
 
@@ -76,6 +78,7 @@ fn broken_chain_frees_its_post(rt: HostRuntime) {
         expect_no_transfer(&rt, &run, 65);
         ask(&rt, &mut run, &[post(65, 64, MAX)], &[]);
         expect_account(&rt, &run, 1, [0, 40, 0, 0], 0);
+        drop(run);
     }
 }
 
@@ -94,6 +97,7 @@ fn failed_id_is_refused_again(rt: HostRuntime) {
         );
         ask(&rt, &mut run, &[right(71)], &[]);
         ask_each(&rt, &mut run, &[(right(72), again(*profile))]);
+        drop(run);
     }
 }
 
@@ -127,7 +131,8 @@ fn failed_ids_outlive_their_chain(rt: HostRuntime) {
             ),
             (post(76, 999, 0), failed),
         ],
-    )
+    );
+    drop(run);
 }
 
 fn go_to_two(rt: &impl Abort, run: &mut Run) {
@@ -152,5 +157,22 @@ fn failed_ids_begin_at_profile_two(rt: HostRuntime) {
             (wrong(72), CreateTransferResult::DebitAccountNotFound),
             (right(72), CreateTransferResult::IdAlreadyFailed),
         ],
-    )
+    );
+    drop(run);
+}
+
+/// Failed ids are found again in whatever order they failed, and an id between them is free.
+#[test]
+fn failed_ids_in_any_order(rt: HostRuntime) {
+    let mut run = start(&rt, rt.alloc(), Profile::Two);
+    for id in &[5, 9, 7] {
+        let missing = CreateTransferResult::DebitAccountNotFound;
+        ask_one(&rt, &mut run, 10, wrong(*id), missing);
+    }
+    for id in &[5, 7, 9] {
+        let failed = CreateTransferResult::IdAlreadyFailed;
+        ask_one(&rt, &mut run, 10, right(*id), failed);
+    }
+    ask_one(&rt, &mut run, 10, right(6), CreateTransferResult::Ok);
+    drop(run);
 }

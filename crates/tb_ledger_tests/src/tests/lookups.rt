@@ -37,6 +37,7 @@ fn fills_append_in_the_order_of_ids(rt: HostRuntime) -> Result<(), Fail> {
     for profile in &BOTH {
         let run = start(&rt, rt.alloc(), *profile);
         fill(&rt, &run)?;
+        drop(run);
     }
     Ok(())
 }
@@ -82,5 +83,6 @@ fn probes_stay_short(rt: HostRuntime) -> Result<(), Fail> {
     let mut run = empty(rt.alloc(), Profile::One);
     create_many(&rt, &mut run)?;
     expect_short_searches(&rt, &run.ledger);
+    drop(run);
     Ok(())
 }

@@ -57,6 +57,7 @@ fn posts_whole_part_and_none(rt: HostRuntime) {
         posted(&rt, &mut run);
         expect_sums(&rt, &run);
         expect_posts(&rt, &run);
+        drop(run);
     }
 }
 
@@ -105,6 +106,7 @@ fn voids_and_resolved_pendings(rt: HostRuntime) {
         voided(&rt, &mut run);
         expect_amount(&rt, &run, 31, 40);
         expect_account(&rt, &run, 1, [40, 55, 0, 0], 0);
+        drop(run);
     }
 }
 
@@ -121,5 +123,6 @@ fn expiry_at_the_moment(rt: HostRuntime) {
         expect_account(&rt, &run, 1, [0, 0, 0, 0], 0);
         let late = CreateTransferResult::PendingTransferExpired;
         ask_one(&rt, &mut run, 1_000_000_101, post(61, 60, MAX), late);
+        drop(run);
     }
 }

@@ -37,6 +37,7 @@ fn closing_and_reopening(rt: HostRuntime) {
         ask(&rt, &mut run, &[void(45, 40, 0)], &[]);
         expect_account(&rt, &run, 1, [0, 0, 0, 0], 0);
         ask_each(&rt, &mut run, &[(transfer(41, 1, 2, 1), again(*profile))]);
+        drop(run);
     }
 }
 
@@ -62,6 +63,7 @@ fn asked_again_while_closed(rt: HostRuntime) {
             &[account(1), closed],
             &[(0, exists), (1, other_flags)],
         );
+        drop(run);
     }
 }
 
@@ -86,5 +88,6 @@ fn closing_expires_and_timeout_overflows(rt: HostRuntime) {
             &[with_timeout(4_000_000_000, held(67, 1))],
             &[],
         );
+        drop(run);
     }
 }

@@ -9,6 +9,7 @@ fn transfer_sums(rt: HostRuntime) {
         expect_account(&rt, &run, 1, [0, 100, 0, 0], 0);
         expect_account(&rt, &run, 2, [0, 0, 0, 100], 0);
         expect_amount(&rt, &run, 11, 100);
+        drop(run);
     }
 }
 
@@ -61,6 +62,7 @@ fn balancing_debit_lowers(rt: HostRuntime) {
     for profile in &BOTH {
         let mut run = start(&rt, rt.alloc(), *profile);
         lowered(&rt, &mut run);
+        drop(run);
     }
 }
 
@@ -71,6 +73,7 @@ fn balancing_debit_to_zero(rt: HostRuntime) {
         lowered(&rt, &mut run);
         ask(&rt, &mut run, &[debit_balanced(5, 1, 2, 10)], &[]);
         expect_amount(&rt, &run, 5, 0);
+        drop(run);
     }
 }
 
@@ -104,5 +107,6 @@ fn balancing_both_ways(rt: HostRuntime) {
         expect_amount(&rt, &run, 3, 30);
         expect_amount(&rt, &run, 4, 70);
         expect_amount(&rt, &run, 5, 0);
+        drop(run);
     }
 }

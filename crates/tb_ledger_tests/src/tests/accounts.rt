@@ -15,6 +15,7 @@ fn accounts_created(rt: HostRuntime) {
             ..account(1)
         };
         expect_accounts(&rt, &run, &[2, 9, 1, 2], &[second, first, second]);
+        drop(run);
     }
 }
 
@@ -60,6 +61,7 @@ fn account_refusals(rt: HostRuntime) {
             (7, CreateAccountResult::ExistsWithDifferentLedger as u32),
         ];
         create(&rt, &mut run, &nine_accounts(), &want);
+        drop(run);
     }
 }
 
@@ -79,6 +81,7 @@ fn limits_of_accounts(rt: HostRuntime) {
                 (transfer(82, 3, 1, 0), CreateTransferResult::Ok),
             ],
         );
+        drop(run);
     }
 }
 
@@ -97,5 +100,6 @@ fn sums_overflow(rt: HostRuntime) {
                 ),
             ],
         );
+        drop(run);
     }
 }

@@ -9,10 +9,10 @@ mod closing;
 mod lookups;
 mod pending;
 
-use super::*;
 use std::alloc::Global;
 use std::process::Abort;
 use std::test::Fail;
+use tb_ledger::Ledger;
 use tb_records::{
     Account, AccountFlag, CreateAccountResult, CreateTransferResult, EventResult, Profile,
     Transfer, TransferFlag,
