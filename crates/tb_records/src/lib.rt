@@ -13,26 +13,16 @@ pub mod laws;
 mod layout;
 mod limits;
 mod lists;
-#[cfg(test)]
-mod name_tests;
 mod operations;
 mod reading;
 mod records;
 mod replies;
 pub mod reply_laws;
 mod reply_reading;
-#[cfg(test)]
-mod reply_tests;
 mod requests;
 pub mod streams;
-#[cfg(test)]
-mod tests;
 mod transfer_flags;
 mod transfer_results;
-#[cfg(test)]
-mod vectors;
-#[cfg(test)]
-mod writer_tests;
 mod writing;
 
 pub use account_flags::AccountFlag;

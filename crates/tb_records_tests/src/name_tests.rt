@@ -1,13 +1,9 @@
 //! The bits and codes of the reference and their names, each way.
-use crate::account_flags::AccountFlag;
-use crate::account_results::CreateAccountResult;
-use crate::limits::{ITEMS_MAX, LAST_MOMENT, NANOSECONDS_PER_SECOND};
-use crate::operations::Operation;
-use crate::records::{Account, Transfer};
-use crate::replies::Status;
-use crate::transfer_flags::TransferFlag;
-use crate::transfer_results::CreateTransferResult;
 use crate::vectors::account;
+use tb_records::{
+    Account, AccountFlag, CreateAccountResult, CreateTransferResult, ITEMS_MAX, LAST_MOMENT,
+    NANOSECONDS_PER_SECOND, Operation, Status, Transfer, TransferFlag,
+};
 
 const ACCOUNT_FLAGS: [(u16, &str); 6] = [
     (1, "linked"),

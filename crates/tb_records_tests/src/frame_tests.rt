@@ -1,16 +1,12 @@
 //! The vectors of requests and records, and what readers do that fail, end or stay at a fault.
-use crate::bodies::Body;
-use crate::devices::{Counting, Source};
-use crate::faults::FrameFault;
-use crate::operations::Operation;
-use crate::reading::read_request;
-use crate::records::{Account, Transfer};
-use crate::requests::Request;
-use crate::streams::{RequestStream, read_timed_from};
 use crate::vectors::{CREATION, REGISTER, account, creation, first, lookup, record, with};
 use std::alloc::{AllocError, Global};
 use std::io;
 use std::io::{Error, ErrorKind, Read};
+use tb_records::{
+    Account, Body, Counting, FrameFault, Operation, Request, RequestStream, Source, Transfer,
+    read_request, read_timed_from,
+};
 
 /// A register, a creation and a lookup, one behind the other.
 fn frames() -> [u8; 448] {

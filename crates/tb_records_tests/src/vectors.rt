@@ -1,5 +1,5 @@
 //! Frames and records in bytes, and as values.
-use crate::records::{Account, Transfer};
+use tb_records::{Account, Transfer};
 
 /// Client 7 registers.
 pub(crate) const REGISTER: [u8; 48] = [

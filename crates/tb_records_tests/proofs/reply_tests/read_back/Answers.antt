@@ -4,7 +4,7 @@ use Rattle.tb_records.specs.declared.faults.FrameFault.{FrameFault}
 use Rattle.tb_records.specs.declared.faults.FrameFault.TheVariants.{NoMemory}
 use Rattle.tb_records.specs.Messages.{Answer}
 use Rattle.tb_records.specs.ReplyFrames.{reply_bytes, IsReply, SpellsReply, OnlyThisReply}
-use Rattle.tb_records.proofs.reply_tests.read_back.Goals as goal
+use Rattle.tb_records_tests.proofs.reply_tests.read_back.Goals as goal
 
 -- what was appended to nothing spells the reply
 spelled : (bytes out front : List ℕ) (r : Answer) → bytes ≡ out → out ≡ front ++ reply_bytes r → front ≡ [] → IsReply r → SpellsReply bytes r

@@ -1,23 +1,16 @@
 //! The vectors of replies, and requests and replies as they are written.
 ghost use Rattle.std.specs.Prelude.{◌≡◌, MatchResult};
 
-use crate::bodies::{Body, ReplyBody};
-use crate::devices::Counting;
-use crate::faults::FrameFault;
-use crate::limits::ITEMS_MAX;
-use crate::lists::Items;
-use crate::operations::Operation;
-use crate::records::{Account, EventResult, Transfer};
-use crate::replies::{Reply, Status};
-use crate::reply_reading::read_reply;
-use crate::requests::Request;
-use crate::transfer_results::CreateTransferResult;
 use crate::vectors::{
     CREATED, CREATION, REGISTER, REGISTERED, account, creation, found_bytes, lookup, movement,
     record, transfer, two_behind, with,
 };
-use crate::writing::{send_reply, write_reply, write_request};
 use std::alloc::{AllocError, Global};
+use tb_records::{
+    Account, Body, Counting, CreateTransferResult, EventResult, FrameFault, ITEMS_MAX, Items,
+    Operation, Reply, ReplyBody, Request, Status, Transfer, read_reply, send_reply, write_reply,
+    write_request,
+};
 
 /// A chain of three events was broken by event 1, whose debit account is not found: the reply to the third request of session 1, by entry 4.
 const BROKEN_CHAIN: [u8; 72] = [

@@ -1,13 +1,10 @@
 //! What writers do that fail in a frame, or take nothing of it.
-use crate::devices::{Counting, Sink};
-use crate::faults::FrameFault;
-use crate::replies::Reply;
 use crate::reply_tests::found;
 use crate::vectors::found_bytes;
-use crate::writing::send_reply;
 use std::alloc::Global;
 use std::io;
 use std::io::{Error, ErrorKind, Write};
+use tb_records::{Counting, FrameFault, Reply, Sink, send_reply};
 
 /// A writer with little room, which takes at most 20 bytes at a time, and then fails or takes nothing.
 #[derive(Drop)]
