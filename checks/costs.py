@@ -20,7 +20,7 @@ PARTS = {
     "TheSendSync", "TheVariants", "TheView", "Tie", "View",
 }
 # A longer time than this between two files lies between two checks.
-BREAK = 300.0
+BREAK = 90.0
 
 
 def kept_files(crate):
