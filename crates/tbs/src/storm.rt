@@ -1,11 +1,9 @@
 //! `storm`: many client threads at once, each with a port and a seat of its own, beside one server thread.
 ghost use Rattle.std.specs.Prelude.{◌≡◌, ◌<◌, ◌≤◌};
-ghost use Rattle.tbs.specs.Statuses.{fault_line};
 
 mod clients;
-pub mod faults;
+mod faults;
 
-use crate::commands::{Fault, tell};
 use arrayvec::ArrayString;
 use clients::{Client, Scale};
 use faults::StormFault;
@@ -17,7 +15,7 @@ use std::sync::atomic::{AtomicBool, Ordering};
 use std::thread::{self, Threads};
 use tb_published::{Naming, Opening, Publisher, Seat, SeatCount, open};
 use tb_records::{ClientsMax, Profile, Sink, put_all};
-use tb_service::{Ended, Finished, Moments, Open, Port, PortCount, service};
+use tb_service::{Ended, Finished, Moments, Open, Port, PortCount, Server, service};
 
 /// Moments 1, 2, 3 and so on.
 #[derive(Drop)]
@@ -40,18 +38,36 @@ struct Totals {
     credited: u128,
 }
 
-/// The clients with numbers, each with a port and a seat.
+/// Adds the client with a number, with one of the ports and one of the seats.
+fn add_client<J: Naming>(
+    alloc: Global,
+    number: u32,
+    ports: &mut Vec<Port>,
+    seats: &mut Vec<Seat<J>>,
+    clients: &mut Vec<Client<J>>,
+) -> Result<(), StormFault> {
+    let client = Client::new(alloc, number, ports, seats)?;
+    clients.push(client)?;
+    Ok(())
+}
+
+/// The clients of a storm: the first makes the accounts, the others the transfers. Each has one of the ports and one of the seats.
 fn make_clients<J: Naming>(
     alloc: Global,
     scale: Scale,
     ports: &mut Vec<Port>,
     seats: &mut Vec<Seat<J>>,
-) -> Result<Vec<Client<J>>, StormFault> {
-    let mut made = Vec::new(alloc);
+) -> Result<(Client<J>, Vec<Client<J>>), StormFault> {
+    let first = Client::new(alloc, 100, ports, seats)?;
+    let mut others = Vec::new(alloc);
     for number in 1..=scale.clients {
-        made.push(Client::new(alloc, number, ports, seats)?)?;
+        if let Err(fault) = add_client(alloc, number, ports, seats, &mut others) {
+            drop(first);
+            drop(others);
+            return Err(fault);
+        }
     }
-    Ok(made)
+    Ok((first, others))
 }
 
 /// Of two outcomes the first fault; that a client gave up comes behind any other.
@@ -70,7 +86,8 @@ fn first_fault(
 fn close_all<J: Naming, R: Wait>(rt: &R, clients: Vec<Client<J>>) -> Result<(), StormFault> {
     let mut first = Ok(());
     for client in clients {
-        let (_, outcome) = client.close(rt);
+        let (seat, outcome) = client.close(rt);
+        drop(seat);
         first = first_fault(first, outcome);
     }
     first
@@ -135,18 +152,15 @@ fn totals_of<J: Naming>(
     })
 }
 
-/// The storm over a publisher and its seats.
-fn storm_over<J: Naming + Send + Sync, R: Threads + Wait + Sync>(
+/// The storm over a server, whose clients these are.
+fn storm_with<J: Naming + Send + Sync, R: Threads + Wait + Sync>(
     rt: &R,
     alloc: Global,
-    publisher: Publisher<J>,
-    mut seats: Vec<Seat<J>>,
-    count: PortCount,
+    server: Server<J, &R, Ticks, Open>,
+    first: Client<J>,
+    others: Vec<Client<J>>,
     scale: Scale,
 ) -> Result<Totals, StormFault> {
-    let (server, mut ports) = service(alloc, publisher, rt, count, Ticks(0), Open)?;
-    let first = Client::new(alloc, 100, &mut ports, &mut seats)?;
-    let others = make_clients(alloc, scale, &mut ports, &mut seats)?;
     let begun = &AtomicBool::new(false);
     let (finished, (mut seat, outcome)) = thread::join(
         rt,
@@ -157,13 +171,39 @@ fn storm_over<J: Naming + Send + Sync, R: Threads + Wait + Sync>(
         move || take_part(rt, begun, first, others, scale),
     );
     let totals = totals_of(alloc, &finished, &mut seat, scale);
+    drop(seat);
     let ended = finished.ended;
-    finished.close(rt);
+    drop(finished.close(rt));
     if ended == Ended::NoMemory {
         return Err(StormFault::NoMemory);
     }
     first_fault(outcome, totals.map(|_| ()))?;
     totals
+}
+
+/// The storm over a publisher and its seats.
+fn storm_over<J: Naming + Send + Sync, R: Threads + Wait + Sync>(
+    rt: &R,
+    alloc: Global,
+    publisher: Publisher<J>,
+    mut seats: Vec<Seat<J>>,
+    count: PortCount,
+    scale: Scale,
+) -> Result<Totals, StormFault> {
+    let Ok((server, mut ports)) = service(alloc, publisher, rt, count, Ticks(0), Open) else {
+        drop(seats);
+        return Err(StormFault::NoMemory);
+    };
+    let made = make_clients(alloc, scale, &mut ports, &mut seats);
+    drop(ports);
+    drop(seats);
+    match made {
+        Ok((first, others)) => storm_with(rt, alloc, server, first, others, scale),
+        Err(fault) => {
+            drop(server);
+            Err(fault)
+        }
+    }
 }
 
 /// The storm of an opening.
@@ -230,8 +270,7 @@ pub fn storm<R: Threads + Wait + Sync, W: Sink, E: Sink>(
     match play(rt, alloc, scale, writer) {
         Ok(()) => 0,
         Err(fault) => {
-            let fault = Fault::Storming(fault);
-            tell(fault, faults);
+            fault.tell(faults);
             fault.status()
         }
     }

@@ -5,7 +5,7 @@ use super::faults::StormFault;
 use std::alloc::{AllocError, Global};
 use std::sync::Wait;
 use tb_published::{Naming, Seat};
-use tb_records::{Account, Body, Items, Reply, Request, Status, Transfer};
+use tb_records::{Account, Body, Items, Request, Status, Transfer};
 use tb_service::Port;
 
 /// How often a call looks for its reply.
@@ -101,7 +101,10 @@ impl<J: Naming> Client<J> {
         seats: &mut Vec<Seat<J>>,
     ) -> Result<Client<J>, StormFault> {
         let port = ports.pop().ok_or(StormFault::NoPlace)?;
-        let seat = seats.pop().ok_or(StormFault::NoPlace)?;
+        let Some(seat) = seats.pop() else {
+            drop(port);
+            return Err(StormFault::NoPlace);
+        };
         Ok(Client {
             number,
             port,
@@ -120,7 +123,7 @@ impl<J: Naming> Client<J> {
             alloc: _,
             outcome,
         } = self;
-        let _ = port.close(rt);
+        drop(port.close(rt));
         (seat, outcome)
     }
 
@@ -138,29 +141,52 @@ impl<J: Naming> Client<J> {
         self.request(session, k, Body::CreateTransfers(Items::new(transfers)))
     }
 
-    /// The server takes nothing more: a copy of the request comes back.
-    fn is_gone<R: Wait>(&mut self, rt: &R, request: &Request) -> Result<bool, StormFault> {
-        Ok(self.port.offer(rt, request.copy(self.alloc)?).is_err())
+    /// Offers a request, and says whether it was taken; where it was not, the server is gone.
+    fn offer<R: Wait>(&mut self, rt: &R, request: Request) -> bool {
+        match self.port.offer(rt, request) {
+            Ok(()) => true,
+            Err(back) => {
+                drop(back);
+                false
+            }
+        }
     }
 
-    /// Calls until there is a reply, or the server is gone.
-    fn settle<R: Wait>(&mut self, rt: &R, request: &Request) -> Result<Reply, StormFault> {
+    /// Calls once: the session of the reply, None where there is none yet.
+    fn call<R: Wait>(&mut self, rt: &R, request: &Request) -> Result<Option<u64>, StormFault> {
+        let reply = self.port.call(rt, &mut self.seat, request, TURNS)?;
+        let session = match reply.status() {
+            Status::Reply => Some(reply.session()),
+            _ => None,
+        };
+        drop(reply);
+        Ok(session)
+    }
+
+    /// Calls until there is a reply, and answers its session; gives up where the server is gone.
+    fn call_on<R: Wait>(&mut self, rt: &R, request: &Request) -> Result<u64, StormFault> {
         for _ in 0..CALLS {
-            let reply = self.port.call(rt, &mut self.seat, request, TURNS)?;
-            if reply.status() == Status::Reply {
-                return Ok(reply);
+            if let Some(session) = self.call(rt, request)? {
+                return Ok(session);
             }
-            if self.is_gone(rt, request)? {
+            if !self.offer(rt, request.copy(self.alloc)?) {
                 break;
             }
         }
         Err(StormFault::GaveUp)
     }
 
+    /// Sees a request through to its reply, and answers the session of that.
+    fn settle<R: Wait>(&mut self, rt: &R, request: Request) -> Result<u64, StormFault> {
+        let session = self.call_on(rt, &request);
+        drop(request);
+        session
+    }
+
     /// Registers, and answers the session.
     fn register<R: Wait>(&mut self, rt: &R) -> Result<u64, StormFault> {
         let request = self.request(0, 0, Body::Register)?;
-        Ok(self.settle(rt, &request)?.session())
+        self.settle(rt, request)
     }
 
     /// Creates an account for each client, and the one that all transfers credit.
@@ -172,7 +198,7 @@ impl<J: Naming> Client<J> {
         }
         accounts.push(account(BANK))?;
         let request = self.request(session, 1, Body::CreateAccounts(Items::new(accounts)))?;
-        self.settle(rt, &request)?;
+        self.settle(rt, request)?;
         Ok(())
     }
 
@@ -184,7 +210,7 @@ impl<J: Naming> Client<J> {
     /// Offers the request of its kth transfer again.
     fn repeat<R: Wait>(&mut self, rt: &R, session: u64, k: u32) -> Result<(), StormFault> {
         let request = self.transfer_request(session, k)?;
-        let _ = self.port.offer(rt, request);
+        self.offer(rt, request);
         Ok(())
     }
 
@@ -193,7 +219,7 @@ impl<J: Naming> Client<J> {
         let session = self.register(rt)?;
         for k in 1..=transfers {
             let request = self.transfer_request(session, k)?;
-            self.settle(rt, &request)?;
+            self.settle(rt, request)?;
             self.repeat(rt, session, k)?;
             if k % 3 == 0 {
                 self.repeat(rt, session, k - 2)?;

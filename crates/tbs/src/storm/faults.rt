@@ -1,9 +1,12 @@
 //! Why a storm does not end well.
-ghost use Rattle.std.specs.Prelude.{◌≡◌};
-ghost use Rattle.tbs.specs.Statuses.{storm_fault_name};
+ghost use Rattle.std.specs.Prelude.{◌≡◌, ◌<◌};
+ghost use Rattle.tb_commands.specs.Statuses.{Told};
+ghost use Rattle.tbs.specs.Storms.{storm_status, storm_fault_name, storm_line};
 
 use std::alloc::{AllocError, AllocFailed};
+use tb_commands::{line_of, put_line};
 use tb_published::{OpenFault, SeatFault};
+use tb_records::Sink;
 
 /// Why a storm does not end well.
 #[derive(Clone, Copy, Debug, PartialEq, Eq)]
@@ -21,8 +24,26 @@ pub enum StormFault {
 }
 
 impl StormFault {
+    /// 1 where a device, memory or a copy failed, 3 where a client gave up.
+    pub fn status(self) -> u8
+        ensures value { result ≡ storm_status self }
+        ensures failing { 0 < result }
+    {
+        match self {
+            StormFault::GaveUp => 3,
+            _ => 1,
+        }
+    }
+
+    /// Writes the line `tbs: ` and the fault's name. A failure to write it changes no status.
+    pub fn tell<E: Sink>(self, faults: &mut E)
+        ensures { Told (storm_line self) (E.output faults.old) (E.output faults.new) }
+    {
+        put_line(line_of(self.name()).as_slice(), faults);
+    }
+
     /// The fault's name, as its line shows it.
-    pub fn name(self) -> &'static str
+    fn name(self) -> &'static str
         ensures { result.now ≡ storm_fault_name self }
     {
         match self {

@@ -1,6 +1,6 @@
 use Rattle.std.proofs.Common.{◌≡◌, ◌<◌, ◌*◌, ◌+◌, drop}
-use Rattle.tbs.specs.Orders.{number_from, number_of, within}
-use Rattle.tbs.proofs.arguments.number.Given as goal
+use Rattle.tb_commands.specs.Orders.{number_from, number_of, within}
+use Rattle.tb_commands.proofs.arguments.number.Given as goal
 
 abbrev pub invariant-loop-byte : goal.invariant-loop-byte
 invariant-loop-byte l = record {

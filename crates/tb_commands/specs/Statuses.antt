@@ -1,5 +1,5 @@
--- The exit status of each outcome: 0 done, 1 a device, memory or a copy failed, 2 the input or the arguments are wrong, 3 a
--- client gave up. And the line that a fault is told by.
+-- The exit status of each outcome: 0 done, 1 a device or memory failed, 2 the input or the arguments are wrong. And the line
+-- that a fault is told by.
 use Rattle.std.specs.Prelude.{ℕ, ◌≡◌, ◌⊎◌, ◌++◌, List, Result, Ok, Err, codes}
 use Rattle.tb_records.specs.declared.faults.FrameFault.{FrameFault}
 use Rattle.tb_records.specs.declared.faults.FrameFault.TheVariants as frame
@@ -13,12 +13,10 @@ use Rattle.tb_machine.specs.RunFaults.{run_fault_name}
 use Rattle.tb_machine.specs.Runs.{Ran}
 use Rattle.tb_machine.specs.DumpRuns.{DumpRan}
 use Rattle.tb_machine.specs.Replays.{ReplayRan}
-use Rattle.tbs.specs.declared.arguments.Order.{Order}
-use Rattle.tbs.specs.declared.arguments.Order.TheVariants.{Run, Dump, Replay}
-use Rattle.tbs.specs.declared.commands.Fault.{Fault}
-use Rattle.tbs.specs.declared.commands.Fault.TheVariants.{Usage, Serving, Replaying, Storming}
-use Rattle.tbs.specs.declared.storm.faults.StormFault.{StormFault}
-use Rattle.tbs.specs.declared.storm.faults.StormFault.TheVariants as storm
+use Rattle.tb_commands.specs.declared.arguments.Order.{Order}
+use Rattle.tb_commands.specs.declared.arguments.Order.TheVariants.{Run, Dump, Replay}
+use Rattle.tb_commands.specs.declared.commands.Fault.{Fault}
+use Rattle.tb_commands.specs.declared.commands.Fault.TheVariants.{Usage, Serving, Replaying}
 
 abbrev pub frame_status : FrameFault → ℕ
 frame_status frame.Device = 1
@@ -36,40 +34,28 @@ dump_status (dump.Frame fault) = frame_status fault
 dump_status dump.NoMemory = 1
 dump_status fault = 2
 
-abbrev pub storm_status : StormFault → ℕ
-storm_status storm.NoMemory = 1
-storm_status storm.NoPlace = 1
-storm_status storm.NoCopy = 1
-storm_status storm.GaveUp = 3
-storm_status storm.Device = 1
-
 abbrev pub fault_status : Fault → ℕ
 fault_status Usage = 2
 fault_status (Serving fault) = run_status fault
 fault_status (Replaying fault) = dump_status fault
-fault_status (Storming fault) = storm_status fault
 
 -- the status of an order that was done, or not to its end
 abbrev pub outcome_status : Result ℕ Fault → ℕ
 outcome_status (Ok count) = 0
 outcome_status (Err fault) = fault_status fault
 
-abbrev pub storm_fault_name : StormFault → List ℕ
-storm_fault_name storm.NoMemory = codes "NoMemory"
-storm_fault_name storm.NoPlace = codes "NoPlace"
-storm_fault_name storm.NoCopy = codes "NoCopy"
-storm_fault_name storm.GaveUp = codes "GaveUp"
-storm_fault_name storm.Device = codes "Device"
-
 -- a fault's name, as its line shows it
 abbrev pub fault_name : Fault → List ℕ
 fault_name Usage = codes "Usage"
 fault_name (Serving fault) = run_fault_name fault
 fault_name (Replaying fault) = dump_fault_name fault
-fault_name (Storming fault) = storm_fault_name fault
+
+-- the line of a fault with a name
+abbrev pub line_named : List ℕ → List ℕ
+line_named name = codes "tbs: " ++ name ++ codes "\n"
 
 abbrev pub fault_line : Fault → List ℕ
-fault_line fault = codes "tbs: " ++ fault_name fault ++ codes "\n"
+fault_line fault = line_named (fault_name fault)
 
 -- a line was written, or a beginning of it, where the writer failed or took nothing
 abbrev pub Told : List ℕ → Output → Output → Type 0

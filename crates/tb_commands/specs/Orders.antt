@@ -4,8 +4,8 @@ use Rattle.std.specs.Option.{option_and_then}
 use Rattle.std.specs.Cmp.Lexicographic.{pointwise}
 use Rattle.tb_records.specs.declared.limits.Profile.{Profile}
 use Rattle.tb_records.specs.declared.limits.Profile.TheVariants.{One, Two}
-use Rattle.tbs.specs.declared.arguments.Order.{Order}
-use Rattle.tbs.specs.declared.arguments.Order.TheVariants.{Run, Dump, Replay}
+use Rattle.tb_commands.specs.declared.arguments.Order.{Order}
+use Rattle.tb_commands.specs.declared.arguments.Order.TheVariants.{Run, Dump, Replay}
 
 -- the value of a digit, 0 to 9
 abbrev pub digit_of : ℕ → Option ℕ
@@ -89,19 +89,3 @@ order_of (word ∷ []) = order_alone word
 order_of (word ∷ clients ∷ []) = order_with word clients
 order_of (word ∷ clients ∷ last ∷ []) = order_with_two word clients last
 order_of (word ∷ clients ∷ last ∷ more ∷ rest) = None
-
-abbrev pub is_storm : List ℕ → Bool
-is_storm word = pointwise nat_eq word (codes "storm")
-
-abbrev pub storm_by : Option ℕ → Option ℕ → Option (ℕ × ℕ)
-storm_by None transfers = None
-storm_by (Some clients) None = None
-storm_by (Some clients) (Some transfers) = Some (clients, transfers)
-
--- `storm CLIENTS TRANSFERS`: 1 to 16, and 1 to 1000
-abbrev pub storm_of : List (List ℕ) → Option (ℕ × ℕ)
-storm_of [] = None
-storm_of (word ∷ []) = None
-storm_of (word ∷ clients ∷ []) = None
-storm_of (word ∷ clients ∷ transfers ∷ []) = if is_storm word then storm_by (within 1 16 (number_of clients)) (within 1 1000 (number_of transfers)) else None
-storm_of (word ∷ clients ∷ transfers ∷ more ∷ rest) = None

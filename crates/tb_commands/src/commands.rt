@@ -1,15 +1,14 @@
-//! The program's forms, over any reader and writer, and the exit status of each outcome.
+//! The forms `run`, `dump` and `replay`, over any reader and writer, and the exit status of each outcome.
 ghost use Rattle.std.specs.Prelude.{◌≡◌, ◌<◌, None, Some, map, string_bytes};
-ghost use Rattle.tbs.specs.declared.arguments.Order.{Order};
-ghost use Rattle.tbs.specs.Orders.{order_of};
-ghost use Rattle.tbs.specs.Statuses.{fault_status, fault_name, fault_line, Told, Performs, Exits};
+ghost use Rattle.tb_commands.specs.declared.arguments.Order.{Order};
+ghost use Rattle.tb_commands.specs.Orders.{order_of};
+ghost use Rattle.tb_commands.specs.Statuses.{fault_status, fault_name, fault_line, Told, Performs, Exits};
 
 use crate::arguments::{Order, read_order};
-use crate::storm::faults::StormFault;
-use arrayvec::ArrayVec;
+use crate::lines::{line_of, put_line};
 use std::alloc::Global;
 use tb_machine::{RunFault, dump, replay, run};
-use tb_records::{DumpFault, FrameFault, Sink, Source, put_all};
+use tb_records::{DumpFault, FrameFault, Sink, Source};
 
 /// Why the program ends with a status other than 0; shown by its name alone.
 #[derive(Clone, Copy, Debug, PartialEq, Eq)]
@@ -20,12 +19,10 @@ pub enum Fault {
     Serving(RunFault),
     /// The dump could not be replayed to its end.
     Replaying(DumpFault),
-    /// The storm did not end well.
-    Storming(StormFault),
 }
 
 impl Fault {
-    /// 1 where a device, memory or a copy failed, 2 where the input or the arguments are wrong, 3 where a client gave up.
+    /// 1 where a device or memory failed, 2 where the input or the arguments are wrong.
     pub fn status(self) -> u8
         ensures value { result ≡ fault_status self }
         ensures failing { 0 < result }
@@ -37,51 +34,27 @@ impl Fault {
             Fault::Replaying(DumpFault::NoMemory) => 1,
             Fault::Replaying(DumpFault::Frame(FrameFault::Device)) => 1,
             Fault::Replaying(DumpFault::Frame(FrameFault::NoMemory)) => 1,
-            Fault::Storming(StormFault::GaveUp) => 3,
-            Fault::Storming(_) => 1,
             _ => 2,
         }
     }
 
     /// The fault's name, as its line shows it.
-    fn name(self) -> &'static str
+    pub fn name(self) -> &'static str
         ensures { result.now ≡ fault_name self }
     {
         match self {
             Fault::Usage => "Usage",
             Fault::Serving(fault) => fault.name(),
             Fault::Replaying(fault) => fault.name(),
-            Fault::Storming(fault) => fault.name(),
         }
     }
-}
-
-/// The bytes that a fault's line may have: `tbs: `, a name of at most 16 letters, and the line's end.
-pub const LINE: usize = 32;
-
-/// The line of a fault, in a buffer of its own, so that it needs no memory.
-fn line_of(fault: Fault) -> ArrayVec<u8, LINE>
-    ensures { result.items ≡ fault_line fault }
-{
-    let mut line = ArrayVec::new();
-    line.try_extend_from_slice(b"tbs: ").unwrap();
-    line.try_extend_from_slice(fault.name().as_bytes()).unwrap();
-    line.try_extend_from_slice(b"\n").unwrap();
-    line
 }
 
 /// Writes the line `tbs: ` and the fault's name. A failure to write it changes no status.
 pub fn tell<E: Sink>(fault: Fault, faults: &mut E)
     ensures { Told (fault_line fault) (E.output faults.old) (E.output faults.new) }
 {
-    put_line(line_of(fault).as_slice(), faults);
-}
-
-/// Writes a line as far as the writer takes it.
-pub fn put_line<E: Sink>(line: &[u8], faults: &mut E)
-    ensures { Told line.now (E.output faults.old) (E.output faults.new) }
-{
-    let _ = put_all(faults, line);
+    put_line(line_of(fault.name()).as_slice(), faults);
 }
 
 /// Serves what the order asks for.

@@ -1,0 +1,170 @@
+//! What the words of the command line ask for.
+ghost use Rattle.std.specs.Prelude.{◌≡◌, ◌<◌, ◌≤◌, map, string_bytes, IfSome, Some, None, if◌then◌else◌};
+ghost use Rattle.tb_commands.specs.Orders.{digit_of, number_of, within, clients_of, profile_of, commit_of, run_by, dump_by, dump_at_by, order_alone, order_with, order_with_two, order_of};
+
+use tb_records::{ClientsMax, Profile};
+
+/// What the program is asked to do.
+#[derive(Clone, Copy)]
+pub enum Order {
+    /// Serve a script.
+    Run(ClientsMax, Profile),
+    /// Serve a script, and write the history that it makes, with a mark before the first entry whose commit number is above
+    /// the one that is given.
+    Dump(ClientsMax, Option<u64>),
+    /// Replay a dump.
+    Replay,
+}
+
+/// The value of a digit.
+fn digit(byte: u8) -> Option<u64>
+    ensures value { result ≡ digit_of byte }
+    ensures small { IfSome result (λ n. n < 10) }
+{
+    if b'0' <= byte && byte <= b'9' {
+        Some((byte - b'0') as u64)
+    } else {
+        None
+    }
+}
+
+/// The number, where it is from `low` to `high`.
+fn in_range(n: u128, low: u64, high: u64) -> Option<u64>
+    ensures { result ≡ within low high (Some n) }
+{
+    if (low as u128) <= n && n <= high as u128 {
+        Some(n as u64)
+    } else {
+        None
+    }
+}
+
+/// The number that a word spells, where it is from `low` to `high`.
+pub fn number(word: &[u8], low: u64, high: u64) -> Option<u64>
+    ensures { result ≡ within low high (number_of word.now) }
+{
+    if word.is_empty() {
+        return None;
+    }
+    let mut n: u128 = 0;
+    for byte in word {
+        if (high as u128) < n {
+            return None;
+        }
+        match digit(*byte) {
+            Some(digit) => n = n * 10 + digit as u128,
+            None => return None,
+        }
+    }
+    in_range(n, low, high)
+}
+
+/// From 1 to 64.
+fn clients(word: &[u8]) -> Option<ClientsMax>
+    ensures { result ≡ clients_of word.now }
+{
+    match number(word, 1, 64) {
+        Some(n) => ClientsMax::new(n as u32),
+        None => None,
+    }
+}
+
+/// 1 or 2.
+fn profile(word: &[u8]) -> Option<Profile>
+    ensures { result ≡ profile_of word.now }
+{
+    match number(word, 1, 2) {
+        Some(n) => Some(if n <= 1 { Profile::One } else { Profile::Two }),
+        None => None,
+    }
+}
+
+/// The number of a commit, from 0 to `2^63 - 1`.
+fn commit(word: &[u8]) -> Option<u64>
+    ensures { result ≡ commit_of word.now }
+{
+    number(word, 0, i64::MAX as u64)
+}
+
+/// `run`, with these clients and profile.
+fn run_order(clients_max: Option<ClientsMax>, profile: Option<Profile>) -> Option<Order>
+    ensures { result ≡ run_by clients_max profile }
+{
+    match (clients_max, profile) {
+        (Some(clients_max), Some(profile)) => Some(Order::Run(clients_max, profile)),
+        _ => None,
+    }
+}
+
+/// `dump`, with these clients and no mark.
+fn dump_order(clients_max: Option<ClientsMax>) -> Option<Order>
+    ensures { result ≡ dump_by clients_max }
+{
+    match clients_max {
+        Some(clients_max) => Some(Order::Dump(clients_max, None)),
+        None => None,
+    }
+}
+
+/// `dump`, with these clients and a mark before the first entry above a commit.
+fn dump_order_at(clients_max: Option<ClientsMax>, at: Option<u64>) -> Option<Order>
+    ensures { result ≡ dump_at_by clients_max at }
+{
+    match (clients_max, at) {
+        (Some(clients_max), Some(at)) => Some(Order::Dump(clients_max, Some(at))),
+        _ => None,
+    }
+}
+
+/// What one word asks for.
+fn order_alone(word: &str) -> Option<Order>
+    ensures { result ≡ order_alone word.now }
+{
+    if word == "replay" {
+        Some(Order::Replay)
+    } else {
+        None
+    }
+}
+
+/// What a word with the number of clients asks for.
+fn order_with(word: &str, clients_max: &str) -> Option<Order>
+    ensures { result ≡ order_with word.now clients_max.now }
+{
+    let clients_max = clients(clients_max.as_bytes());
+    if word == "run" {
+        run_order(clients_max, Some(Profile::One))
+    } else if word == "dump" {
+        dump_order(clients_max)
+    } else {
+        None
+    }
+}
+
+/// What a word with the number of clients and one number more asks for.
+fn order_with_two(word: &str, clients_max: &str, last: &str) -> Option<Order>
+    ensures { result ≡ order_with_two word.now clients_max.now last.now }
+{
+    let clients_max = clients(clients_max.as_bytes());
+    if word == "run" {
+        run_order(clients_max, profile(last.as_bytes()))
+    } else if word == "dump" {
+        dump_order_at(clients_max, commit(last.as_bytes()))
+    } else {
+        None
+    }
+}
+
+/// What the words ask for, None where they are not a form of the program's arguments.
+pub fn read_order(words: &[String]) -> Option<Order>
+    ensures { result ≡ order_of (map string_bytes words.now) }
+{
+    match words {
+        [word] => order_alone(word.as_str()),
+        [word, clients_max] => order_with(word.as_str(), clients_max.as_str()),
+        [word, clients_max, last] => {
+            order_with_two(word.as_str(), clients_max.as_str(), last.as_str())
+        }
+        _ => None,
+    }
+}

@@ -1,0 +1,13 @@
+//! What the server's programs share: the words of their forms `run`, `dump` and `replay`, what each form does from a reader
+//! to a writer, the exit status and the line of each fault, and the way from the system's input and output to them.
+#![tactic(auto)]
+
+mod arguments;
+mod commands;
+mod host;
+mod lines;
+
+pub use arguments::{Order, number, read_order};
+pub use commands::{Fault, command, tell};
+pub use host::{fault_of, refuse, serve, words};
+pub use lines::{LINE, line_of, put_line};

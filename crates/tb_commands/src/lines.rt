@@ -1,0 +1,28 @@
+//! The line that a fault is told by.
+ghost use Rattle.std.specs.Prelude.{◌≡◌, ◌≤◌, length};
+ghost use Rattle.tb_commands.specs.Statuses.{line_named, Told};
+
+use arrayvec::ArrayVec;
+use tb_records::{Sink, put_all};
+
+/// The bytes that a fault's line may have: `tbs: `, a name of at most 16 letters, and the line's end.
+pub const LINE: usize = 32;
+
+/// The line of a fault with a name, in a buffer of its own, so that it needs no memory.
+pub fn line_of(name: &str) -> ArrayVec<u8, LINE>
+    requires short { length name.now ≤ 26 }
+    ensures { result.items ≡ line_named name.now }
+{
+    let mut line = ArrayVec::new();
+    line.try_extend_from_slice(b"tbs: ").unwrap();
+    line.try_extend_from_slice(name.as_bytes()).unwrap();
+    line.try_extend_from_slice(b"\n").unwrap();
+    line
+}
+
+/// Writes a line as far as the writer takes it.
+pub fn put_line<E: Sink>(line: &[u8], faults: &mut E)
+    ensures { Told line.now (E.output faults.old) (E.output faults.new) }
+{
+    let _ = put_all(faults, line);
+}

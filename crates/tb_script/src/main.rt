@@ -1,0 +1,22 @@
+//! `tb_script`: `tbs` without its storm, with the same forms, lines and statuses. It stands on the one-thread server alone, so it
+//! is proved and built before the copies and ports are.
+#![tactic(auto)]
+
+use std::process::ExitCode;
+use tb_commands::{fault_of, refuse, serve, words};
+use tb_records::Counting;
+
+fn main(rt: HostRuntime) -> ExitCode {
+    let mut faults = Counting::new(rt.stderr());
+    let status = match words(&rt) {
+        Ok(words) => serve(
+            rt.alloc(),
+            words.as_slice(),
+            rt.stdin(),
+            rt.stdout(),
+            &mut faults,
+        ),
+        Err(error) => refuse(fault_of(&error), &mut faults),
+    };
+    ExitCode::from(status)
+}
