@@ -149,26 +149,40 @@ fn flagged(flags: u16) -> Transfer {
     }
 }
 
+/// Says that the flag has this bit and name, is found by its name and in an account, and is none of the reserved ones, unless it is `imported`.
+fn is_account_flag(flag: AccountFlag, bit: u16, name: &str) -> bool {
+    flag.bit() == bit
+        && flag.name() == name
+        && AccountFlag::from_name(name.as_bytes()) == Some(flag)
+        && marked(bit).has(flag)
+        && !marked(!bit).has(flag)
+        && (AccountFlag::RESERVED & bit == 0 || flag == AccountFlag::Imported)
+}
+
 #[test]
 fn account_flags_by_name(rt: HostRuntime) {
-    for (flag, (bit, name)) in AccountFlag::ALL.into_iter().zip(ACCOUNT_FLAGS) {
-        assert!(rt; flag.bit() == bit && flag.name() == name);
-        assert!(rt; AccountFlag::from_name(name.as_bytes()) == Some(flag));
-        assert!(rt; marked(bit).has(flag) && !marked(!bit).has(flag));
-        assert!(rt; AccountFlag::RESERVED & bit == 0 || flag == AccountFlag::Imported);
+    for (flag, (bit, name)) in AccountFlag::ALL.iter().zip(ACCOUNT_FLAGS.iter()) {
+        assert!(rt; is_account_flag(*flag, *bit, name));
     }
     assert!(rt; AccountFlag::from_name(b"pending").is_none());
     assert!(rt; marked(32).is_closed() && !marked(31).is_closed());
     assert!(rt; marked(1).is_linked() && !marked(62).is_linked());
 }
 
+/// Says that the flag has this bit and name, is found by its name and in a transfer, and is none of the reserved ones, unless it is `imported`.
+fn is_transfer_flag(flag: TransferFlag, bit: u16, name: &str) -> bool {
+    flag.bit() == bit
+        && flag.name() == name
+        && TransferFlag::from_name(name.as_bytes()) == Some(flag)
+        && flagged(bit).has(flag)
+        && !flagged(!bit).has(flag)
+        && (TransferFlag::RESERVED & bit == 0 || flag == TransferFlag::Imported)
+}
+
 #[test]
 fn transfer_flags_by_name(rt: HostRuntime) {
-    for (flag, (bit, name)) in TransferFlag::ALL.into_iter().zip(TRANSFER_FLAGS) {
-        assert!(rt; flag.bit() == bit && flag.name() == name);
-        assert!(rt; TransferFlag::from_name(name.as_bytes()) == Some(flag));
-        assert!(rt; flagged(bit).has(flag) && !flagged(!bit).has(flag));
-        assert!(rt; TransferFlag::RESERVED & bit == 0 || flag == TransferFlag::Imported);
+    for (flag, (bit, name)) in TransferFlag::ALL.iter().zip(TRANSFER_FLAGS.iter()) {
+        assert!(rt; is_transfer_flag(*flag, *bit, name));
     }
     assert!(rt; TransferFlag::from_name(b"Linked").is_none());
     assert!(rt; TransferFlag::from_name(b"").is_none());
@@ -191,46 +205,73 @@ fn kinds_of_transfers(rt: HostRuntime) {
     );
 }
 
+/// Says that the verdict has this code and name, and is found by each.
+fn is_account_result(verdict: CreateAccountResult, code: u32, name: &str) -> bool {
+    verdict.code() == code
+        && verdict.name() == name
+        && CreateAccountResult::from_code(code) == Some(verdict)
+        && CreateAccountResult::from_name(name.as_bytes()) == Some(verdict)
+}
+
 #[test]
 fn account_results_by_code_and_name(rt: HostRuntime) {
-    for (verdict, (code, name)) in CreateAccountResult::ALL.into_iter().zip(ACCOUNT_RESULTS) {
-        assert!(rt; verdict.code() == code && verdict.name() == name);
-        assert!(rt; CreateAccountResult::from_code(code) == Some(verdict));
-        assert!(rt; CreateAccountResult::from_name(name.as_bytes()) == Some(verdict));
+    for (verdict, (code, name)) in CreateAccountResult::ALL.iter().zip(ACCOUNT_RESULTS.iter()) {
+        assert!(rt; is_account_result(*verdict, *code, name));
     }
     assert!(rt; CreateAccountResult::from_code(22).is_none());
     assert!(rt; CreateAccountResult::from_name(b"debit_account_not_found").is_none());
 }
 
+/// Says that the verdict has this code and name, and is found by each.
+fn is_transfer_result(verdict: CreateTransferResult, code: u32, name: &str) -> bool {
+    verdict.code() == code
+        && verdict.name() == name
+        && CreateTransferResult::from_code(code) == Some(verdict)
+        && CreateTransferResult::from_name(name.as_bytes()) == Some(verdict)
+}
+
 #[test]
 fn transfer_results_by_code_and_name(rt: HostRuntime) {
-    for (verdict, (code, name)) in CreateTransferResult::ALL.into_iter().zip(TRANSFER_RESULTS) {
-        assert!(rt; verdict.code() == code && verdict.name() == name);
-        assert!(rt; CreateTransferResult::from_code(code) == Some(verdict));
-        assert!(rt; CreateTransferResult::from_name(name.as_bytes()) == Some(verdict));
+    for (verdict, (code, name)) in CreateTransferResult::ALL
+        .iter()
+        .zip(TRANSFER_RESULTS.iter())
+    {
+        assert!(rt; is_transfer_result(*verdict, *code, name));
     }
     assert!(rt; CreateTransferResult::from_code(18).is_none());
     assert!(rt; CreateTransferResult::from_code(56).is_none());
     assert!(rt; CreateTransferResult::from_name(b"reserved_field").is_none());
 }
 
+/// Says that the operation has this code and name, and is found by each.
+fn is_operation(operation: Operation, code: u8, name: &str) -> bool {
+    operation.code() == code
+        && operation.name() == name
+        && Operation::from_code(code) == Some(operation)
+        && Operation::from_name(name.as_bytes()) == Some(operation)
+}
+
 #[test]
 fn operations_by_code_and_name(rt: HostRuntime) {
-    for (operation, (code, name)) in Operation::ALL.into_iter().zip(OPERATIONS) {
-        assert!(rt; operation.code() == code && operation.name() == name);
-        assert!(rt; Operation::from_code(code) == Some(operation));
-        assert!(rt; Operation::from_name(name.as_bytes()) == Some(operation));
+    for (operation, (code, name)) in Operation::ALL.iter().zip(OPERATIONS.iter()) {
+        assert!(rt; is_operation(*operation, *code, name));
     }
     assert!(rt; Operation::from_code(3).is_none());
     assert!(rt; Operation::from_name(b"Register").is_none());
 }
 
+/// Says that the status has this code and name, and is found by each.
+fn is_status(status: Status, code: u8, name: &str) -> bool {
+    status.code() == code
+        && status.name() == name
+        && Status::from_code(code) == Some(status)
+        && Status::from_name(name.as_bytes()) == Some(status)
+}
+
 #[test]
 fn statuses_by_code_and_name(rt: HostRuntime) {
-    for (status, (code, name)) in Status::ALL.into_iter().zip(STATUSES) {
-        assert!(rt; status.code() == code && status.name() == name);
-        assert!(rt; Status::from_code(code) == Some(status));
-        assert!(rt; Status::from_name(name.as_bytes()) == Some(status));
+    for (status, (code, name)) in Status::ALL.iter().zip(STATUSES.iter()) {
+        assert!(rt; is_status(*status, *code, name));
     }
     assert!(rt; Status::from_code(8).is_none());
     assert!(rt; Status::from_name(b"").is_none());
