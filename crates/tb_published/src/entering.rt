@@ -47,8 +47,14 @@ pub(crate) fn add_to(
     requires { IsTrue (fits machine.old entry) }
     ensures { MatchResult result (λ c. (c ≡ entry.commit) × (machine.new ≡ step machine.old entry) × (history.new.items ≡ history.old.items ++ entry ∷ [])) (λ _. (machine.new ≡ machine.old) × (history.new.items ≡ history.old.items)) }
 {
-    history.reserve(1)?;
-    machine.apply(&entry)?;
+    if let Err(AllocError) = history.reserve(1) {
+        drop(entry);
+        return Err(AllocError);
+    }
+    if let Err(AllocError) = machine.apply(&entry) {
+        drop(entry);
+        return Err(AllocError);
+    }
     let commit = entry.commit;
     history.push_reserved(entry);
     Ok(commit)

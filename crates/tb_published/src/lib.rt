@@ -28,6 +28,3 @@ pub use opening::open;
 pub use publisher::Publisher;
 pub use seat::Seat;
 pub use told::Told;
-
-#[cfg(test)]
-mod tests;

@@ -27,6 +27,7 @@ pub(crate) fn next_order<J: Naming>(
         return None;
     };
     if !offered.add(&entry) {
+        drop(entry);
         return None;
     }
     Some(Posted::new(entry, offered.front().again()))

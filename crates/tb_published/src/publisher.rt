@@ -67,7 +67,14 @@ impl<J: Naming> Publisher<J> {
         let (profile, clients_max) = opening.rules();
         let offered = opening.into_chronicle();
         let machine = Machine::new_in(alloc, alloc, profile, clients_max)?;
-        let copies = begin(alloc, rt, offered.front(), seats)?;
+        let copies = match begin(alloc, rt, offered.front(), seats) {
+            Ok(copies) => copies,
+            Err(AllocError) => {
+                drop(machine);
+                drop(offered);
+                return Err(AllocError);
+            }
+        };
         Ok(Publisher {
             copies,
             history: Vec::new(alloc),
@@ -241,12 +248,15 @@ impl<J: Naming> Publisher<J> {
         let Publisher {
             copies,
             history: entries,
-            machine: _,
-            offered: _,
-            waiting: _,
+            machine,
+            offered,
+            waiting,
             global: _,
         } = self;
-        let _shown = copies.take(rt);
+        drop(machine);
+        drop(offered);
+        drop(waiting);
+        drop(copies.take(rt));
         entries
     }
 }

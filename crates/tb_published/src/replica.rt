@@ -133,6 +133,7 @@ impl<J: Naming> Absorb<Posted<J>> for Replica<J> {
     /// The second copy takes the order's entry itself.
     fn absorb_second(&mut self, order: Posted<J>, _other: &Replica<J>) -> Result<(), Posted<J>> {
         if !self.comes_next(&order) {
+            drop(order);
             return Ok(());
         }
         let Posted {

@@ -28,7 +28,13 @@ fn copies_of<J: Naming>(
     ensures { IfOk result (λ copies. (copies.desk.shown.value ≡ front.now) × (drop copies.behind copies.log.items ≡ [])) }
 {
     let first = Replica::new(alloc, front)?;
-    let second = Replica::new(alloc, front)?;
+    let second = match Replica::new(alloc, front) {
+        Ok(second) => second,
+        Err(AllocError) => {
+            drop(first);
+            return Err(AllocError);
+        }
+    };
     Copies::new(alloc, first, second, seats.get() as usize)
 }
 
@@ -45,7 +51,7 @@ pub(crate) fn begin<J: Naming, W: Wait>(
 {
     let (copies, shown) = turn(copies_of(alloc, front, seats)?, rt);
     if let Err(AllocError) = shown {
-        let _shown = copies.take(rt);
+        drop(copies.take(rt));
         return Err(AllocError);
     }
     Ok(copies)

@@ -1,4 +1,4 @@
-use Rattle.tb_published.proofs.tests.refusals.failed_id_is_refused_again.Given as goal
+use Rattle.tb_published_tests.proofs.refusals.failed_id_is_refused_again.Given as goal
 
 -- the opening that was just made
 abbrev pub ghosts-take_failed_id : goal.ghosts-take_failed_id

@@ -1,8 +1,15 @@
 //! Seats beside the writer, each in a thread of its own.
 ghost use Rattle.std.specs.Prelude.{◌≡◌};
 
-use super::*;
+use crate::making::{lookup, opened, opening};
+use std::alloc::Global;
+use std::marker::Brand;
+use std::process::Abort;
+use std::sync::Wait;
+use std::test::Fail;
 use std::thread::{Threads, join};
+use tb_published::{Naming, Opening, Publisher, Seat, Taken, Told};
+use tb_records::{Body, Items, Profile, Request, Status};
 
 /// Asks a seat for a request over and over, and says whether what it has seen never fell.
 fn watch<J: Naming>(seat: &mut Seat<J>, request: &Request) -> bool {
@@ -104,6 +111,23 @@ fn expect_learnt<J: Naming>(
     Ok(())
 }
 
+/// Four seats look for the last request while it is on its way, and learn of it when it was taken.
+fn expect_learnt_by_all<J: Naming + Send + Sync, R: Threads + Wait + Abort + Sync>(
+    rt: &R,
+    alloc: Global,
+    publisher: &mut Publisher<J>,
+    seats: &mut Vec<Seat<J>>,
+    last: &Request,
+) -> Result<(), Fail> {
+    let risen = watch_beside(rt, alloc, publisher, seats.as_mut_slice(), last);
+    assert!(rt; risen);
+    let told = publisher.tell();
+    for seat in seats.iter_mut() {
+        expect_learnt(rt, seat, &told, last)?;
+    }
+    Ok(())
+}
+
 fn watch_writer<J: Naming + Send + Sync, R: Threads + Wait + Abort + Sync>(
     rt: &R,
     alloc: Global,
@@ -111,15 +135,12 @@ fn watch_writer<J: Naming + Send + Sync, R: Threads + Wait + Abort + Sync>(
 ) -> Result<(), Fail>
     requires { opening ≡ J.opening }
 {
-    let (mut held, mut seats) = opened::<J, R>(rt, alloc, opening, 4)?;
     let last = lookup(alloc, (7, 1, 199), &[])?;
-    let risen = watch_beside(rt, alloc, &mut held.publisher, seats.as_mut_slice(), &last);
-    assert!(rt; risen);
-    let told = held.publisher.tell();
-    for seat in seats.iter_mut() {
-        expect_learnt(rt, seat, &told, &last)?;
-    }
-    Ok(())
+    let (mut held, mut seats) = opened::<J, R>(rt, alloc, opening, 4)?;
+    let outcome = expect_learnt_by_all(rt, alloc, &mut held.publisher, &mut seats, &last);
+    drop(seats);
+    drop(held);
+    outcome
 }
 
 #[test]

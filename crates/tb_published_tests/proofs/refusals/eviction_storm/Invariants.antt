@@ -1,4 +1,4 @@
-use Rattle.tb_published.proofs.tests.refusals.eviction_storm.Given as goal
+use Rattle.tb_published_tests.proofs.refusals.eviction_storm.Given as goal
 
 -- the opening that was just made
 abbrev pub ghosts-take_storm : goal.ghosts-take_storm

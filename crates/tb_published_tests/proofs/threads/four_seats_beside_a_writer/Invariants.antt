@@ -1,4 +1,4 @@
-use Rattle.tb_published.proofs.tests.threads.four_seats_beside_a_writer.Given as goal
+use Rattle.tb_published_tests.proofs.threads.four_seats_beside_a_writer.Given as goal
 
 -- the opening that was just made
 abbrev pub ghosts-watch_writer : goal.ghosts-watch_writer

@@ -1,20 +1,15 @@
-//! Worked rows through `take` and seats. Each opening is named by the call of a function that is generic in its name.
+//! What the rows are made of: requests, openings and seats. Each opening is named by the call of a function that is generic
+//! in its name.
 ghost use Rattle.std.specs.Prelude.{◌≡◌};
 
-mod refusals;
-mod rows;
-mod threads;
-
-use super::*;
 use std::alloc::Global;
-use std::marker::Brand;
-use std::process::Abort;
 use std::sync::Wait;
 use std::test::Fail;
-use tb_records::{Account, Body, ClientsMax, Items, Profile, Request, Status, Transfer};
+use tb_published::{Held, Naming, Opening, Publisher, Seat, SeatCount, Taken, open};
+use tb_records::{Account, Body, ClientsMax, Items, Profile, Request, Transfer};
 
 /// A request's client, session and number.
-type Numbers = (u128, u64, u32);
+pub(crate) type Numbers = (u128, u64, u32);
 
 fn account(id: u128) -> Account {
     Account {
@@ -34,8 +29,11 @@ fn account(id: u128) -> Account {
     }
 }
 
-/// A transfer to account 2.
-fn transfer(id: u128, debit_account_id: u128, amount: u128) -> Transfer {
+/// A transfer to account 2: its id, the account that it comes from, and its amount.
+type Row = (u128, u128, u128);
+
+fn transfer(row: Row) -> Transfer {
+    let (id, debit_account_id, amount) = row;
     Transfer {
         id,
         debit_account_id,
@@ -58,32 +56,32 @@ fn request(numbers: Numbers, body: Body) -> Result<Request, Fail> {
     Ok(Request::new(client, session, number, body)?)
 }
 
-fn register(client: u128) -> Result<Request, Fail> {
+pub(crate) fn register(client: u128) -> Result<Request, Fail> {
     request((client, 0, 0), Body::Register)
 }
 
-fn two_accounts(alloc: Global, numbers: Numbers) -> Result<Request, Fail> {
+pub(crate) fn two_accounts(alloc: Global, numbers: Numbers) -> Result<Request, Fail> {
     let accounts = Vec::from_slice(alloc, &[account(1), account(2)])?;
     request(numbers, Body::CreateAccounts(Items::new(accounts)))
 }
 
-fn lookup(alloc: Global, numbers: Numbers, ids: &[u128]) -> Result<Request, Fail> {
+pub(crate) fn lookup(alloc: Global, numbers: Numbers, ids: &[u128]) -> Result<Request, Fail> {
     let ids = Vec::from_slice(alloc, ids)?;
     request(numbers, Body::LookupAccounts(Items::new(ids)))
 }
 
-fn transfers(alloc: Global, numbers: Numbers, row: Transfer) -> Result<Request, Fail> {
-    let transfers = Vec::from_slice(alloc, &[row])?;
+pub(crate) fn transfers(alloc: Global, numbers: Numbers, row: Row) -> Result<Request, Fail> {
+    let transfers = Vec::from_slice(alloc, &[transfer(row)])?;
     request(numbers, Body::CreateTransfers(Items::new(transfers)))
 }
 
-fn opening(profile: Profile, clients_max: u32) -> Result<Opening, Fail> {
+pub(crate) fn opening(profile: Profile, clients_max: u32) -> Result<Opening, Fail> {
     let clients_max = ClientsMax::new(clients_max).ok_or("clients_max")?;
     Ok(Opening::new(profile, clients_max))
 }
 
 /// A publisher that closes by itself, and so many seats.
-fn opened<J: Naming, R: Wait>(
+pub(crate) fn opened<J: Naming, R: Wait>(
     rt: &R,
     alloc: Global,
     opening: Opening,
@@ -96,12 +94,8 @@ fn opened<J: Naming, R: Wait>(
     Ok((Held::new(publisher, rt), seats))
 }
 
-fn seat<J: Naming>(seats: &mut Vec<Seat<J>>) -> Result<Seat<J>, Fail> {
-    Ok(seats.pop().ok_or("a seat")?)
-}
-
 /// Takes a request at moment 10.
-fn take<J: Naming, R: Wait>(
+pub(crate) fn take<J: Naming, R: Wait>(
     rt: &R,
     publisher: &mut Publisher<J>,
     request: Request,

@@ -1,0 +1,11 @@
+//! Worked rows through `take` and seats, by public calls of tb_published alone.
+#![tactic(auto)]
+
+#[cfg(test)]
+mod making;
+#[cfg(test)]
+mod refusals;
+#[cfg(test)]
+mod rows;
+#[cfg(test)]
+mod threads;
