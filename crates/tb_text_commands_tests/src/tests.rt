@@ -1,9 +1,9 @@
 //! The program's forms over bytes in memory.
 ghost use Rattle.std.specs.Prelude.{◌≤◌};
 
-use tb_text_commands::command;
 use std::test::Fail;
 use tb_records::Counting;
+use tb_text_commands::command;
 
 /// What a command left.
 #[derive(Drop)]
