@@ -3,6 +3,7 @@ ghost use Rattle.std.specs.Prelude.{IfOk};
 ghost use mathlib.Core.List.{IsPrefix};
 ghost use Rattle.tb_published.specs.Lines.{LegalIn, AnswersIn};
 
+use std::mem::replace;
 use std::thread;
 use tb_published::{Naming, Seat, SeatFault};
 use tb_records::{Reply, Request, Status};
@@ -20,7 +21,14 @@ pub(crate) fn ask<J: Naming>(
     ensures answer { IfOk result (λ reply. LegalIn J.opening seat.new × AnswersIn J.opening seat.new request.now reply) }
 {
     for _ in 0..turns {
-        reply = seat.answer(request)?;
+        let newest = match seat.answer(request) {
+            Ok(newest) => newest,
+            Err(fault) => {
+                drop(reply);
+                return Err(fault);
+            }
+        };
+        drop(replace(&mut reply, newest));
         if reply.status() != Status::NotYet {
             return Ok(reply);
         }

@@ -141,9 +141,10 @@ impl Port {
             return Ok(reply);
         }
         let Ok(copy) = request.copy(self.alloc) else {
+            drop(reply);
             return Err(SeatFault::NoMemory);
         };
-        let _ = self.offer(rt, copy);
+        drop(self.offer(rt, copy));
         ask(seat, request, turns, reply)
     }
 

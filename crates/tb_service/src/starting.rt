@@ -43,8 +43,21 @@ pub fn service<J: Naming, W: Wait + Drop, M: Moments + Drop, G: Gate + Drop>(
     ensures ports { IfOk result (λ made. AreNumbered (service_on made.0) 0 made.1.items × (length made.1.items ≡ count)) }
 {
     let held = Held::new(publisher, rt);
-    let mut inbox = Inbox::new(alloc)?;
-    let ports = make_ports(&mut inbox, alloc, count.get())?;
+    let mut inbox = match Inbox::new(alloc) {
+        Ok(inbox) => inbox,
+        Err(AllocError) => {
+            drop(held);
+            return Err(AllocError);
+        }
+    };
+    let ports = match make_ports(&mut inbox, alloc, count.get()) {
+        Ok(ports) => ports,
+        Err(AllocError) => {
+            drop(inbox);
+            drop(held);
+            return Err(AllocError);
+        }
+    };
     let clerk = Clerk {
         held,
         moments,
