@@ -62,16 +62,20 @@ fn probes_stay_short(rt: HostRuntime) -> Result<(), Fail> {
 
 fn look_eight_up(rt: &impl Abort, map: &mut AvlMap<u32, u64, Global>) -> Result<(), Fail> {
     put_rising(rt, map, 100)?;
-    let [a, b, c, d, e, f, g, h] = map.get_many(&[50, 1, 101, 100, 0, 7, 7, 64]);
-    assert_eq!(rt;
-        (a.copied(), b.copied(), c.copied()),
-        (Some(500), Some(10), None)
-    );
-    assert_eq!(rt;
-        (d.copied(), e.copied(), f.copied()),
-        (Some(1000), None, Some(70))
-    );
-    assert_eq!(rt; (g.copied(), h.copied()), (Some(70), Some(640)));
+    let wanted = [
+        Some(500),
+        Some(10),
+        None,
+        Some(1000),
+        None,
+        Some(70),
+        Some(70),
+        Some(640),
+    ];
+    let found = map.get_many(&[50, 1, 101, 100, 0, 7, 7, 64]);
+    for (value, wanted) in found.into_iter().zip(wanted) {
+        assert_eq!(rt; value.copied(), wanted);
+    }
     Ok(())
 }
 
@@ -107,10 +111,10 @@ fn put_three(rt: &impl Abort, map: &mut AvlMap<u64, u128, Global>) -> Result<(),
 /// Key 2 leaves its node, and only once.
 fn remove_twice(rt: &impl Abort, map: &mut AvlMap<u64, u128, Global>) {
     let before = map.spare();
-    assert_eq!(rt; map.remove(&2), Some(20));
-    assert_eq!(rt; map.spare().checked_sub(before), Some(1));
-    assert_eq!(rt; map.remove(&2), None);
-    assert_eq!(rt; map.spare().checked_sub(before), Some(1));
+    for value in [Some(20), None] {
+        assert_eq!(rt; map.remove(&2), value);
+        assert_eq!(rt; map.spare().checked_sub(before), Some(1));
+    }
 }
 
 /// Keys 1 and 3 are left.
@@ -189,9 +193,9 @@ fn move_there_and_back(rt: &impl Abort, map: &mut AvlMap<u64, u128, Global>, fro
 
 /// Too much, a key that is absent, and all that there is.
 fn move_what_there_is(rt: &impl Abort, map: &mut AvlMap<u64, u128, Global>) {
-    assert_eq!(rt; transfer(map, 1, 7, 11), Some(false));
-    assert_eq!(rt; transfer(map, 1, 8, 1), None);
-    assert_eq!(rt; transfer(map, 8, 1, 1), None);
+    for (from, to, amount, moved) in [(1, 7, 11, Some(false)), (1, 8, 1, None), (8, 1, 1, None)] {
+        assert_eq!(rt; transfer(map, from, to, amount), moved);
+    }
     look_up_all(rt, map, 1, 7);
     assert_eq!(rt; transfer(map, 7, 1, 70), Some(true));
     assert_eq!(rt; map.get(&7).copied(), Some(0));
@@ -216,9 +220,9 @@ fn two_values_change_at_once(rt: HostRuntime) -> Result<(), Fail> {
 fn change_in_place(rt: &impl Abort, map: &mut AvlMap<u64, u128, Global>) -> Result<(), Fail> {
     map.reserve(3)?;
     put_all(rt, map, 1, 3);
-    assert_eq!(rt; double(map, 3), Some(30));
-    assert_eq!(rt; double(map, 3), Some(60));
-    assert_eq!(rt; double(map, 4), None);
+    for (key, before) in [(3, Some(30)), (3, Some(60)), (4, None)] {
+        assert_eq!(rt; double(map, key), before);
+    }
     assert_eq!(rt; map.get(&3).copied(), Some(120));
     look_up_all(rt, map, 1, 2);
     assert_eq!(rt; map.len(), 3);
@@ -312,21 +316,37 @@ fn agrees_with_another_map(rt: HostRuntime) -> Result<(), Fail> {
     compare(&rt, &mut map, &mut other)
 }
 
-fn order_pairs(rt: &impl Abort, map: &mut AvlMap<(u64, u128), (), Global>) -> Result<(), Fail> {
+type Pairs = AvlMap<(u64, u128), (), Global>;
+
+fn put_pairs(rt: &impl Abort, map: &mut Pairs) -> Result<(), Fail> {
     map.reserve(3)?;
-    put(rt, map, (2, 1), ());
-    put(rt, map, (1, 9), ());
-    put(rt, map, (1, 8), ());
+    for key in [(2, 1), (1, 9), (1, 8)] {
+        put(rt, map, key, ());
+    }
+    Ok(())
+}
+
+/// The first key leaves the map, and the next one is the first.
+fn remove_first(rt: &impl Abort, map: &mut Pairs) {
     assert_eq!(rt; map.first().map(|(key, _)| *key), Some((1, 8)));
     assert_eq!(rt; map.remove(&(1, 8)), Some(()));
     assert_eq!(rt; map.first().map(|(key, _)| *key), Some((1, 9)));
+}
 
+/// The other two come out by order.
+fn pop_all(rt: &impl Abort, map: &mut Pairs) {
     let before = map.spare();
-    assert_eq!(rt; map.pop_first(), Some(((1, 9), ())));
-    assert_eq!(rt; map.pop_first(), Some(((2, 1), ())));
-    assert_eq!(rt; map.pop_first(), None);
+    for first in [Some(((1, 9), ())), Some(((2, 1), ())), None] {
+        assert_eq!(rt; map.pop_first(), first);
+    }
     assert_eq!(rt; map.len(), 0);
     assert_eq!(rt; map.spare().checked_sub(before), Some(2));
+}
+
+fn order_pairs(rt: &impl Abort, map: &mut Pairs) -> Result<(), Fail> {
+    put_pairs(rt, map)?;
+    remove_first(rt, map);
+    pop_all(rt, map);
     Ok(())
 }
 
@@ -367,6 +387,26 @@ fn look_up_all<A: Allocator + Clone>(
     }
 }
 
+/// Asks for eight spare nodes where the allocator gives `given` blocks, too few.
+fn refuse_reserve(
+    rt: &impl Abort,
+    limited: &Limited<Global>,
+    map: &mut AvlMap<u64, u128, &Limited<Global>>,
+    given: u64,
+) {
+    let before = map.spare();
+    limited.allow(given);
+    assert!(rt; map.reserve(8).is_err(), "after {given} blocks");
+    assert!(rt; map.spare() >= before);
+}
+
+/// The keys 1 to 3 are there, and no other below 10.
+fn expect_three(rt: &impl Abort, map: &AvlMap<u64, u128, &Limited<Global>>) {
+    assert_eq!(rt; map.len(), 3);
+    assert_eq!(rt; digits(map, 0, 9), 123);
+    look_up_all(rt, map, 1, 3);
+}
+
 /// Three keys of five spare nodes; then asks for eight spare nodes where the allocator gives `given` blocks, too few, and
 /// then where it gives enough.
 fn reserve_twice(
@@ -377,13 +417,8 @@ fn reserve_twice(
 ) -> Result<(), Fail> {
     map.reserve(5)?;
     put_all(rt, map, 1, 3);
-    let before = map.spare();
-    limited.allow(given);
-    assert!(rt; map.reserve(8).is_err(), "after {given} blocks");
-    assert!(rt; map.spare() >= before);
-    assert_eq!(rt; map.len(), 3);
-    assert_eq!(rt; digits(map, 0, 9), 123);
-    look_up_all(rt, map, 1, 3);
+    refuse_reserve(rt, limited, map, given);
+    expect_three(rt, map);
 
     limited.allow(8);
     map.reserve(8)?;
