@@ -5,8 +5,6 @@
 mod answering;
 mod dumping;
 mod entries;
-#[cfg(test)]
-mod events;
 mod executing;
 pub mod laws;
 mod machines;

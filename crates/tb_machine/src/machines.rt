@@ -226,6 +226,3 @@ impl<A: Allocator + Clone> Machine<A> {
         Ok(told)
     }
 }
-
-#[cfg(test)]
-mod tests;

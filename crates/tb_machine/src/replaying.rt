@@ -126,6 +126,3 @@ pub fn replay<R: Source, W: Sink>(
     let _entries = machine.commit();
     unreachable!()
 }
-
-#[cfg(test)]
-mod tests;

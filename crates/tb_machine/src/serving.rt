@@ -274,6 +274,3 @@ pub fn run<R: Source, W: Sink>(
     drop(machine);
     Err(RunFault::TooLong)
 }
-
-#[cfg(test)]
-mod tests;

@@ -1,0 +1,127 @@
+//! Accounts that are created or refused, and the most of them in one request.
+use crate::fixtures::{account, account_with, at, found, transfer};
+use crate::scripts::Script;
+use crate::serving::{PROFILES, expect_all, serve_on};
+use crate::steps::{Step, put_steps};
+use std::process::Abort;
+use std::test::Fail;
+use tb_records::{
+    Account, AccountFlag, CreateAccountResult as AccountOutcome, CreateTransferResult as Outcome,
+    Operation,
+};
+
+/// Nine accounts, of which the last is right.
+#[test]
+fn accounts_refused(rt: HostRuntime) -> Result<(), Fail> {
+    serve_on(
+        &rt,
+        rt.alloc(),
+        &PROFILES,
+        &[
+            Step::Account(account(0), AccountOutcome::IdMustNotBeZero),
+            Step::Account(account(u128::MAX), AccountOutcome::IdMustNotBeIntMax),
+            Step::Account(
+                account_with(
+                    AccountFlag::DebitsMustNotExceedCredits,
+                    account_with(AccountFlag::CreditsMustNotExceedDebits, account(3)),
+                ),
+                AccountOutcome::FlagsAreMutuallyExclusive,
+            ),
+            Step::Account(
+                Account {
+                    ledger: 0,
+                    ..account(3)
+                },
+                AccountOutcome::LedgerMustNotBeZero,
+            ),
+            Step::Account(
+                Account {
+                    code: 0,
+                    ..account(3)
+                },
+                AccountOutcome::CodeMustNotBeZero,
+            ),
+            Step::Account(
+                account_with(AccountFlag::Imported, account(3)),
+                AccountOutcome::ReservedFlag,
+            ),
+            Step::Account(account(1), AccountOutcome::Exists),
+            Step::Account(
+                Account {
+                    ledger: 701,
+                    ..account(1)
+                },
+                AccountOutcome::ExistsWithDifferentLedger,
+            ),
+            Step::Account(account(3), AccountOutcome::Ok),
+            Step::Send(Operation::CreateAccounts),
+            Step::Id(3),
+            Step::Id(1),
+            Step::FoundAccount(found([0; 4], 21, account(3))),
+            Step::FoundAccount(found([0; 4], 11, account(1))),
+            Step::Send(Operation::LookupAccounts),
+        ],
+    )
+}
+
+/// Puts accounts 1 to 8190 into one request, of 1,048,320 bytes.
+fn put_most(script: &mut Script) -> Result<(), Fail> {
+    for id in 1u64..8191 {
+        script.put_account(&account(id as u128), 0)?;
+    }
+    script.send(Operation::CreateAccounts)
+}
+
+/// Client 7 creates accounts 1 to 8190 in one request, and looks three up.
+fn expect_most(rt: &impl Abort, script: &mut Script) -> Result<(), Fail> {
+    script.register(7, 1)?;
+    put_most(script)?;
+    // two pairs of a moment and a header, and the body
+    assert_eq!(rt; script.bytes.len(), 112 + 1_048_320);
+    let last = [
+        Step::Id(8190),
+        Step::Id(8191),
+        Step::Id(1),
+        Step::FoundAccount(found([0; 4], 8200, account(8190))),
+        Step::FoundAccount(found([0; 4], 11, account(1))),
+        Step::Send(Operation::LookupAccounts),
+    ];
+    put_steps(script, &last)?;
+    expect_all(rt, script, &PROFILES)
+}
+
+#[test]
+fn most_events(rt: HostRuntime) -> Result<(), Fail> {
+    let mut script = Script::new(rt.alloc());
+    expect_most(&rt, &mut script)
+}
+
+/// An account whose debits must not exceed its credits, and one whose credits must not exceed its debits.
+#[test]
+fn limits_of_accounts(rt: HostRuntime) -> Result<(), Fail> {
+    let debits = account_with(AccountFlag::DebitsMustNotExceedCredits, account(3));
+    let credits = account_with(AccountFlag::CreditsMustNotExceedDebits, account(4));
+    serve_on(
+        &rt,
+        rt.alloc(),
+        &PROFILES,
+        &[
+            Step::Account(debits, AccountOutcome::Ok),
+            Step::Account(credits, AccountOutcome::Ok),
+            Step::Send(Operation::CreateAccounts),
+            Step::Single(transfer(80, 3, 1, 1), Outcome::ExceedsCredits),
+            Step::Single(transfer(81, 1, 4, 1), Outcome::ExceedsDebits),
+            Step::Single(transfer(82, 3, 1, 0), Outcome::Ok),
+            Step::Id(4),
+            Step::Id(3),
+            Step::FoundAccount(found([0; 4], 14, credits)),
+            Step::FoundAccount(found([0; 4], 13, debits)),
+            Step::Send(Operation::LookupAccounts),
+            Step::Id(80),
+            Step::Id(81),
+            Step::Id(82),
+            Step::FoundTransfer(at(17, transfer(82, 3, 1, 0))),
+            Step::Send(Operation::LookupTransfers),
+        ],
+    )
+}

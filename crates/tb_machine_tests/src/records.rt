@@ -1,0 +1,163 @@
+//! Accounts and transfers as lookups find them, by requests and by the machine's own calls.
+use crate::fixtures::{account, at, found, held, post, resolved};
+use crate::machines::{Ask, Numbers, enter, enter_all, first_four, machine, reply_of};
+use std::alloc::Global;
+use std::process::Abort;
+use std::test::Fail;
+use tb_machine::Machine;
+use tb_records::{Account, ReplyBody, Status, Transfer};
+
+/// Accounts have these ids and timestamps.
+fn have_times(accounts: &[Account], want: &[(u128, u64)]) -> bool {
+    accounts.len() == want.len()
+        && accounts.iter().zip(want.iter()).all(|(account, (id, time))| account.id == *id
+            && account.timestamp == *time)
+}
+
+/// Transfers have these ids and amounts.
+fn have_amounts(transfers: &[Transfer], want: &[(u128, u128)]) -> bool {
+    transfers.len() == want.len()
+        && transfers.iter().zip(want.iter()).all(|(transfer, (id, amount))| transfer.id == *id
+            && transfer.amount == *amount)
+}
+
+/// The reply that is stored for client 7.
+fn stored_body(machine: &Machine<Global>) -> Option<&ReplyBody> {
+    Some(machine.reply_of(7)?.body())
+}
+
+/// The reply that is stored for client 7 has these accounts.
+fn replies_accounts(machine: &Machine<Global>, want: &[(u128, u64)]) -> bool {
+    match stored_body(machine) {
+        Some(ReplyBody::Accounts(accounts)) => have_times(accounts.as_slice(), want),
+        _ => false,
+    }
+}
+
+/// The reply that is stored for client 7 has these transfers.
+fn replies_transfers(machine: &Machine<Global>, want: &[(u128, u128)]) -> bool {
+    match stored_body(machine) {
+        Some(ReplyBody::Transfers(transfers)) => have_amounts(transfers.as_slice(), want),
+        _ => false,
+    }
+}
+
+/// The reply that is stored for client 7 has no result that is not 0.
+fn replies_no_result(machine: &Machine<Global>) -> bool {
+    match stored_body(machine) {
+        Some(ReplyBody::Results(results)) => results.len() == 0,
+        _ => false,
+    }
+}
+
+/// Accounts 2, 9 and 1 by client 7's request and by the machine's own lookup.
+fn expect_accounts(
+    rt: &impl Abort,
+    alloc: Global,
+    machine: &mut Machine<Global>,
+) -> Result<(), Fail> {
+    enter_all(alloc, machine, &first_four()[..2])?;
+    assert!(rt; enter(alloc, machine, (7, 1, 2), Ask::ThreeLookedUp)? == (3, 13));
+    assert!(rt; reply_of(machine, 7) == Some((1, 2, Status::Reply, 3)));
+    let want = [(2, 12), (1, 11)];
+    assert!(rt; replies_accounts(machine, &want));
+    assert!(rt; machine.account(9).is_none());
+    let accounts = machine.lookup_accounts(&[2, 9, 1])?;
+    assert!(rt; have_times(accounts.as_slice(), &want));
+    Ok(())
+}
+
+#[test]
+fn accounts_looked_up_in_order(rt: HostRuntime) -> Result<(), Fail> {
+    let mut machine = machine(rt.alloc(), 2)?;
+    expect_accounts(&rt, rt.alloc(), &mut machine)
+}
+
+fn amount_and_time(machine: &Machine<Global>, id: u128) -> Option<(u128, u64)> {
+    let transfer = machine.transfer(id)?;
+    Some((transfer.amount, transfer.timestamp))
+}
+
+/// What client 7's transfer of 100 leaves.
+fn expect_transfer(
+    rt: &impl Abort,
+    alloc: Global,
+    machine: &mut Machine<Global>,
+) -> Result<(), Fail> {
+    enter_all(alloc, machine, &first_four())?;
+    assert!(rt; reply_of(machine, 7) == Some((1, 3, Status::Reply, 4)));
+    assert!(rt; replies_no_result(machine));
+    assert!(rt; amount_and_time(machine, 11) == Some((100, 14)));
+    assert!(rt; machine.account(1) == Some(found([0, 100, 0, 0], 11, account(1))));
+    assert!(rt; machine.account(2) == Some(found([0, 0, 0, 100], 12, account(2))));
+    Ok(())
+}
+
+#[test]
+fn transfer_recorded(rt: HostRuntime) -> Result<(), Fail> {
+    let mut machine = machine(rt.alloc(), 2)?;
+    expect_transfer(&rt, rt.alloc(), &mut machine)
+}
+
+/// Client 7's first to seventh request: accounts 1 and 2, three pending transfers, and posts of the whole, of 15 and of
+/// nothing.
+fn three_posts() -> [(Numbers, Ask); 8] {
+    [
+        ((7, 0, 0), Ask::Register),
+        ((7, 1, 1), Ask::TwoAccounts),
+        ((7, 1, 2), Ask::Transfer(held(20, 40))),
+        ((7, 1, 3), Ask::Transfer(post(21, 20, u128::MAX))),
+        ((7, 1, 4), Ask::Transfer(held(22, 40))),
+        ((7, 1, 5), Ask::Transfer(post(23, 22, 15))),
+        ((7, 1, 6), Ask::Transfer(held(24, 40))),
+        ((7, 1, 7), Ask::Transfer(post(25, 24, 0))),
+    ]
+}
+
+/// Accounts 1 and 2 as the posts leave them, whole.
+fn posted_accounts() -> [Account; 2] {
+    [
+        found([0, 55, 0, 0], 11, account(1)),
+        found([0, 0, 0, 55], 12, account(2)),
+    ]
+}
+
+/// The posts of the whole and of 15, whole.
+fn posts() -> [Transfer; 2] {
+    [
+        at(14, resolved(post(21, 20, 40))),
+        at(16, resolved(post(23, 22, 15))),
+    ]
+}
+
+/// The machine's own lookups find accounts and posts, field by field.
+fn expect_lookups(rt: &impl Abort, machine: &Machine<Global>) -> Result<(), Fail> {
+    let accounts = machine.lookup_accounts(&[1, 2])?;
+    assert!(rt; accounts.as_slice() == posted_accounts().as_slice());
+    drop(accounts);
+    let whole = machine.lookup_transfers(&[21, 23])?;
+    assert!(rt; whole.as_slice() == posts().as_slice());
+    drop(whole);
+    let amounts = machine.lookup_transfers(&[21, 23, 26, 25])?;
+    assert!(rt; have_amounts(amounts.as_slice(), &[(21, 40), (23, 15), (25, 0)]));
+    Ok(())
+}
+
+/// Three posts, what they leave, and client 7's eighth request, which looks two of them up.
+fn expect_posts(rt: &impl Abort, alloc: Global, machine: &mut Machine<Global>) -> Result<(), Fail> {
+    enter_all(alloc, machine, &three_posts())?;
+    expect_lookups(rt, machine)?;
+    assert!(rt; amount_and_time(machine, 23) == Some((15, 16)));
+    assert!(rt; amount_and_time(machine, 26).is_none());
+    let [first, second] = posted_accounts();
+    assert!(rt; machine.account(1) == Some(first) && machine.account(2) == Some(second));
+    enter(alloc, machine, (7, 1, 8), Ask::PostsLookedUp)?;
+    assert!(rt; replies_transfers(machine, &[(25, 0), (21, 40)]));
+    Ok(())
+}
+
+#[test]
+fn posts_record_their_amounts(rt: HostRuntime) -> Result<(), Fail> {
+    let mut machine = machine(rt.alloc(), 2)?;
+    expect_posts(&rt, rt.alloc(), &mut machine)
+}
