@@ -15,8 +15,6 @@ mod rule;
 mod sending;
 mod server;
 mod starting;
-#[cfg(test)]
-mod tests;
 
 pub use ends::Ended;
 pub use finished::Finished;

@@ -1,5 +1,0 @@
-use Rattle.tb_service.proofs.tests.seats.two_seats_and_a_told.Given as goal
-
--- the opening that was just made
-abbrev pub ghosts-serve_twice : goal.ghosts-serve_twice
-ghosts-serve_twice g a = record { opening = a.opening }

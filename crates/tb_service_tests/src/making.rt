@@ -1,0 +1,179 @@
+//! What the rows are made of: moments, requests, openings, and a server with its ports. Each opening is named by the call of
+//! a function that is generic in its name.
+ghost use Rattle.std.specs.Prelude.{◌≡◌, ℕ, IfOk};
+ghost use Rattle.tb_service.specs.Names.{Name};
+ghost use Rattle.tb_service.specs.Ports.{AreNumbered, service, service_by};
+ghost use Rattle.tb_service.specs.Servers.{service_on};
+ghost use Rattle.tb_service.specs.Finished.{service_at};
+
+use std::alloc::Global;
+use std::process::Abort;
+use std::sync::Wait;
+use std::test::Fail;
+use tb_published::{Naming, Opening, Publisher, Seat, SeatCount, open};
+use tb_records::{Account, Body, ClientsMax, Items, Profile, Request, Transfer};
+use tb_service::{Closed, Finished, Moments, Open, Port, PortCount, Server, service};
+
+/// Moments that rise by as much each time.
+#[derive(Drop)]
+pub(crate) struct Every {
+    pub(crate) next: u64,
+    pub(crate) step: u64,
+}
+
+impl Moments for Every {
+    ghost tells = { λ before moment after. moment ≡ before.next };
+
+    fn now(&mut self) -> u64 {
+        let moment = self.next;
+        self.next = moment.saturating_add(self.step);
+        moment
+    }
+}
+
+/// 1, 2, 3 and so on.
+pub(crate) fn rising() -> Every {
+    Every { next: 1, step: 1 }
+}
+
+pub(crate) type Started<'a, J, R> = Server<J, &'a R, Every, Open>;
+
+fn account(id: u128) -> Account {
+    Account {
+        id,
+        debits_pending: 0,
+        debits_posted: 0,
+        credits_pending: 0,
+        credits_posted: 0,
+        user_data_128: 0,
+        user_data_64: 0,
+        user_data_32: 0,
+        reserved: 0,
+        ledger: 700,
+        code: 10,
+        flags: 0,
+        timestamp: 0,
+    }
+}
+
+/// A transfer from account 1 to account 2.
+pub(crate) fn transfer(id: u128, amount: u128) -> Transfer {
+    Transfer {
+        id,
+        debit_account_id: 1,
+        credit_account_id: 2,
+        amount,
+        pending_id: 0,
+        user_data_128: 0,
+        user_data_64: 0,
+        user_data_32: 0,
+        timeout: 0,
+        ledger: 700,
+        code: 10,
+        flags: 0,
+        timestamp: 0,
+    }
+}
+
+pub(crate) fn register(client: u128) -> Option<Request> {
+    Request::new(client, 0, 0, Body::Register).ok()
+}
+
+/// A lookup of no account, by client 7.
+pub(crate) fn lookup(alloc: Global, number: u32) -> Option<Request> {
+    let body = Body::LookupAccounts(Items::new(Vec::new(alloc)));
+    Request::new(7, 1, number, body).ok()
+}
+
+/// Client 7 creates accounts 1 and 2.
+pub(crate) fn two_accounts(alloc: Global) -> Option<Request> {
+    let accounts = Vec::from_slice(alloc, &[account(1), account(2)]).ok()?;
+    let body = Body::CreateAccounts(Items::new(accounts));
+    Request::new(7, 1, 1, body).ok()
+}
+
+/// Client 7 creates a transfer.
+pub(crate) fn transfers(alloc: Global, number: u32, row: Transfer) -> Option<Request> {
+    let body = Body::CreateTransfers(Items::new(Vec::from_slice(alloc, &[row]).ok()?));
+    Request::new(7, 1, number, body).ok()
+}
+
+pub(crate) fn opening() -> Result<Opening, Fail> {
+    Ok(Opening::new(Profile::One, ClientsMax::new(2).ok_or("clients_max")?))
+}
+
+/// A port that is sure to hand over a request that could be made.
+pub(crate) fn offer<R: Wait + Abort>(rt: &R, port: &mut Port, request: Option<Request>)
+    ensures { service port.new ≡ service port.old }
+{
+    let handed_over = match request {
+        Some(request) => port.offer(rt, request).is_ok(),
+        None => false,
+    };
+    assert!(rt; handed_over);
+}
+
+pub(crate) fn ports(count: u32) -> Result<PortCount, Fail> {
+    Ok(PortCount::new(count).ok_or("ports")?)
+}
+
+/// The last port that is left.
+fn next_port(ports: &mut Vec<Port>) -> Result<Port, Fail>
+    ensures { IfOk result (λ port. (name : Name) (n : ℕ) → AreNumbered name n ports.old.items → AreNumbered name n ports.new.items × (service port ≡ name)) }
+{
+    if let Some(port) = ports.pop() {
+        return Ok(port);
+    }
+    Err(Fail::from("a port"))
+}
+
+/// A server and one port.
+pub(crate) fn one_port<'a, J: Naming, R: Wait>(
+    rt: &'a R,
+    alloc: Global,
+    publisher: Publisher<J>,
+    count: PortCount,
+    moments: Every,
+) -> Result<(Started<'a, J, R>, Port), Fail>
+    ensures { IfOk result (λ made. service made.1 ≡ service_on made.0) }
+{
+    let (server, mut ports) = service(alloc, publisher, rt, count, moments, Open)?;
+    let port = next_port(&mut ports)?;
+    Ok((server, port))
+}
+
+/// A server and two ports.
+pub(crate) fn two_ports<'a, J: Naming, R: Wait>(
+    rt: &'a R,
+    alloc: Global,
+    publisher: Publisher<J>,
+    count: PortCount,
+    moments: Every,
+) -> Result<(Started<'a, J, R>, Port, Port), Fail>
+    ensures { IfOk result (λ made. (service made.1 ≡ service_on made.0) × (service made.2 ≡ service_on made.0)) }
+{
+    let (server, mut ports) = service(alloc, publisher, rt, count, moments, Open)?;
+    let second = next_port(&mut ports)?;
+    let first = next_port(&mut ports)?;
+    Ok((server, first, second))
+}
+
+/// An opening's publisher, and one seat.
+pub(crate) fn opened<J: Naming, R: Wait>(
+    rt: &R,
+    alloc: Global,
+    opening: Opening,
+) -> Result<(Publisher<J>, Vec<Seat<J>>), Fail>
+    requires { opening ≡ J.opening }
+{
+    let seats = SeatCount::new(2).ok_or("seats")?;
+    Ok(open::<J, R>(alloc, rt, opening, seats)?)
+}
+
+/// The places of a port, after the run.
+pub(crate) fn places<J: Naming>(finished: &mut Finished<J>, closed: Closed) -> Option<Vec<u64>>
+    requires { service_by closed ≡ service_at finished.old }
+    ensures { service_at finished.new ≡ service_at finished.old }
+{
+    finished.offered_by(closed).ok()
+}
