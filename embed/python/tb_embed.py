@@ -6,6 +6,7 @@
 With clients/python: `Session.register(Direct(server.serve), client=7)`.
 """
 import ctypes
+import os
 
 REPLY_MAX = 48 + 8190 * 128
 REFUSALS = {1: "Closed", 2: "Usage", 3: "NoMemory", 4: "Malformed", 5: "TimeExhausted", 6: "Absent", 7: "TooSmall"}
@@ -28,7 +29,8 @@ assert ctypes.sizeof(_Handle) == 16
 
 
 def _library(path):
-    library = ctypes.CDLL(path)
+    # a name without a slash would be looked for in the loader's own folders alone
+    library = ctypes.CDLL(os.path.abspath(path) if os.path.exists(path) else path)
     handle, bytes_in, room, size = ctypes.POINTER(_Handle), ctypes.c_char_p, ctypes.POINTER(ctypes.c_char), ctypes.c_size_t
     u32, u64 = ctypes.c_uint32, ctypes.c_uint64
     library.tb_embed_open.argtypes = [handle, u32, u32]
