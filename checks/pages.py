@@ -1,9 +1,10 @@
 #!/usr/bin/env python3
 """Checks that each Rust example of a page CALLING.md stands word for word, but for its imports, in a crate that the gate proves.
 
-Usage: checks/pages.py. Ends in 'N passed, 0 failed'.
+Usage: checks/pages.py. Ends in 'N passed, 0 failed'. checks/blocks.py does the same among other things.
 """
 
+import functools
 import pathlib
 import re
 import sys
@@ -19,12 +20,22 @@ def without_imports(block: str) -> str:
     return "".join(lines[imports[-1] + 1 if imports else 0:]).lstrip("\n")
 
 
+@functools.cache
+def code() -> str:
+    """The source files of all crates."""
+    return "\n".join(path.read_text() for path in sorted(ROOT.glob("crates/*/src/*.rt")))
+
+
+def stands(block: str) -> bool:
+    """Says that an example stands in a crate."""
+    return without_imports(block) in code()
+
+
 def main() -> int:
-    code = "\n".join(path.read_text() for path in sorted(ROOT.glob("crates/*/src/*.rt")))
     passed = failed = 0
     for page in sorted(ROOT.glob("crates/*/CALLING.md")):
         for block in BLOCK.findall(page.read_text()):
-            if without_imports(block) in code:
+            if stands(block):
                 passed += 1
             else:
                 failed += 1
