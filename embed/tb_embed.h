@@ -26,7 +26,7 @@ enum tb_status {
     TB_NO_MEMORY = 3,      /* nothing changed */
     TB_MALFORMED = 4,      /* the bytes have a fault, or more bytes follow the frame; nothing changed */
     TB_TIME_EXHAUSTED = 5, /* the request is new, and no time up to 2^63 - 1 is left for it; nothing changed */
-    TB_ABSENT = 6,         /* no record has this id */
+    TB_ABSENT = 6,         /* no record has this id, and the room has 128 bytes */
     TB_TOO_SMALL = 7       /* the room is too small. tb_embed_serve has served the request, tells how many bytes the reply
                               has, and gives it where the same request is sent next */
 };
