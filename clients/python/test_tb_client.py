@@ -99,7 +99,9 @@ class Retries(unittest.TestCase):
                 session.lookup_accounts([1])
             self.assertEqual((type(raised.exception).__name__, raised.exception.status), (status.name, status))
             self.assertEqual(isinstance(raised.exception, tb.Evicted), status in (tb.Status.NoSession, tb.Status.SessionTooLow))
-            self.assertEqual((session.number, session.pending), (0, None))
+            self.assertEqual((session.number, session.pending, session.in_doubt.items), (0, self.sent[0], (1,)))
+            self.assertEqual(len(self.sent), 5 if status == tb.Status.NotYet else 1)
+            self.assertRaises(tb.InDoubt, session.lookup_accounts, [1])
 
     def test_replies_to_something_else(self):
         other = tb.request_frame(7, 1, 2, 131)
@@ -118,8 +120,8 @@ class Retries(unittest.TestCase):
 class Worked(unittest.TestCase):
     """Rows with the values that docs/RULES.md gives them, on the program."""
 
-    def program(self, clients_max=2, timeout=30):
-        transport = Program(PROGRAM, clients_max, timeout=timeout)
+    def program(self, clients_max=2, **options):
+        transport = Program(PROGRAM, clients_max, **{"timeout": 30, **options})
         self.addCleanup(transport.close)
         return transport
 
@@ -161,13 +163,14 @@ class Worked(unittest.TestCase):
         self.assertEqual(second.session, 2)
         self.assertRaises(tb.NoSession, first.lookup_accounts, [1])
         self.assertEqual(self.registered(transport).session, 3)
-        self.assertRaises(tb.SessionTooLow, first.lookup_accounts, [1])
+        self.assertRaises(tb.SessionTooLow, first.retry)
 
     def test_program_ends(self):
-        session = Session.register(self.program(), 7, now=lambda: 2**63 - 1)
+        session = Session.register(self.program(), 7, now=lambda: 2**63 - 1, jump_max=None)
         with self.assertRaises(tb.ProgramEnded) as raised:
             session.lookup_accounts([1])
         self.assertEqual((raised.exception.fault, raised.exception.status), ("TimeExhausted", 2))
+        self.assertRaises(tb.ProgramEnded, session.retry)  # the history is gone with the process, and no empty one takes its place
 
     def test_reply_comes_too_late(self):
         session = self.begun()
@@ -180,11 +183,11 @@ class Worked(unittest.TestCase):
             os.kill(program.process.pid, signal.SIGCONT)
         program.timeout = 30
         self.assertEqual(session.retry(), [])
-        self.assertEqual((program.sent, program.seen), (8, 8))
+        self.assertEqual((program.sent, program.seen), (3, 3))  # it was on its way, and was not put behind itself
         self.assertEqual([it.credits_posted for it in session.lookup_accounts([2])], [100])
 
     def test_killed_program(self):
-        session = self.begun()
+        session = self.begun(self.program(restarts=True))
         session.create_transfers([transfer(11, 1, 2, 100)])
         for id in (12, 13):
             session.transport.process.kill()
@@ -203,10 +206,13 @@ class Worked(unittest.TestCase):
         self.assertEqual([it.debits_posted for it in again.lookup_accounts([1])], [100])
 
     def test_killed_without_restarts(self):
-        session = self.begun(Program(PROGRAM, 2, restarts=False))
-        self.addCleanup(session.transport.close)
+        session = self.begun()
         session.transport.process.kill()
-        self.assertRaises(tb.NoSession, session.lookup_accounts, [1])
+        for _ in range(2):
+            with self.assertRaises(tb.ProgramEnded) as raised:
+                session.lookup_accounts([1]) if session.pending is None else session.retry()
+            self.assertEqual((raised.exception.fault, raised.exception.status), ("killed by SIGKILL", -9))
+        self.assertEqual(session.in_doubt.items, (1,))
 
     def test_bodies_past_every_buffer(self):
         session = self.begun()

@@ -1,0 +1,58 @@
+"""A client of the ledger server, in the standard library alone.
+
+A `Session` is a client that is registered: it numbers its requests, sends one at a time, and sends the same bytes again until
+it has the reply. It works over any transport, an object with a call `exchange(moment, frame)` that gives back the frame of the
+reply or raises `ReplyLost`:
+
+    Program    `tbs run` as a process, over two pipes
+    Direct     a function that serves one frame, as that of embed/python/tb_embed.py
+    Faulty     another transport, of which it loses the requests and replies that it is told to lose
+
+docs/CLIENTS.md says how to use it, docs/FORMATS.md has the frames, docs/RULES.md the result codes.
+"""
+from .errors import (
+    REFUSALS,
+    BadReply,
+    CannotStart,
+    ClientError,
+    ClockJumped,
+    Closed,
+    Collision,
+    EventsFailed,
+    Evicted,
+    InDoubt,
+    Invalid,
+    InvalidType,
+    InvalidValue,
+    NewerRequest,
+    NewerSession,
+    NoMemory,
+    NoSession,
+    NothingInDoubt,
+    NotSent,
+    NotYet,
+    Older,
+    ProgramEnded,
+    Refused,
+    ReplyLost,
+    ScriptFull,
+    SessionTooLow,
+)
+from .frames import HEADER, ITEMS_MAX, NUMBER_MAX, Reply, Request, reply_length, request_frame
+from .ids import id
+from .names import AccountFlags, CreateAccountResult, CreateTransferResult, Operation, Status, TransferFlags
+from .program import Program
+from .records import Account, EventResult, Transfer
+from .sessions import Saved, Session, require_ok
+from .transports import Direct, Faulty, Transport
+from .values import U128 as amount_max  # as the amount of a post: all of the pending amount
+
+MAX = amount_max
+
+__all__ = [
+    "Account", "AccountFlags", "BadReply", "CannotStart", "ClientError", "ClockJumped", "Closed", "Collision", "CreateAccountResult", "CreateTransferResult",
+    "Direct", "EventResult", "EventsFailed", "Evicted", "Faulty", "HEADER", "ITEMS_MAX", "InDoubt", "Invalid", "InvalidType", "InvalidValue", "MAX", "NUMBER_MAX",
+    "NewerRequest", "NewerSession", "NoMemory", "NoSession", "NotSent", "NotYet", "NothingInDoubt", "Older", "Operation", "Program", "ProgramEnded", "REFUSALS",
+    "Refused", "Reply", "ReplyLost", "Request", "Saved", "ScriptFull", "Session", "SessionTooLow", "Status", "Transfer", "TransferFlags", "Transport", "amount_max",
+    "id", "reply_length", "request_frame", "require_ok",
+]

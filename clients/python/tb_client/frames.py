@@ -1,0 +1,196 @@
+"""Frames of requests and replies (docs/FORMATS.md)."""
+from __future__ import annotations
+
+import dataclasses
+import struct
+from typing import Any, Callable, Iterable, List, Mapping, Tuple, TypeVar, Union
+
+from .errors import BadReply, InvalidType, InvalidValue
+from .names import CreateAccountResult, CreateTransferResult, Operation
+from .records import ID, RECORD, Account, EventResult, Transfer, u128, u128_at
+from .values import U32, U64, U128, kind_of, shown, whole
+
+ITEMS_MAX = 8190
+NUMBER_MAX = U32
+HEADER = 48
+REQUEST = struct.Struct("<QIB3xI12x")
+REPLY = struct.Struct("<QIBB2xIQ4x")
+
+Item = Union[Account, Transfer, int]
+Said = Union[List[EventResult], List[Account], List[Transfer], None]
+T = TypeVar("T")
+
+ITEM_SIZES = {
+    Operation.create_accounts: RECORD,
+    Operation.create_transfers: RECORD,
+    Operation.lookup_accounts: ID,
+    Operation.lookup_transfers: ID,
+}
+ITEM_NAMES = {
+    Operation.create_accounts: "accounts",
+    Operation.create_transfers: "transfers",
+    Operation.lookup_accounts: "ids",
+    Operation.lookup_transfers: "ids",
+}
+
+
+def operation_of(value: object) -> Operation:
+    try:
+        return Operation(whole("operation", value, U128, -U128))
+    except ValueError:
+        raise InvalidValue("operation", f"must be one of {', '.join(it.name for it in Operation)}") from None
+
+
+# Requests
+
+
+def request_frame(client: int, session: int, number: int, operation: int, body: bytes = b"") -> bytes:
+    """The frame of a request. One that the server would find malformed, and end at, is refused."""
+    kind = operation_of(operation)
+    client = whole("client", client, U128, 1)
+    if kind == Operation.register:
+        session, number = whole("session", session, 0), whole("number", number, 0)
+    else:
+        session, number = whole("session", session, U64), whole("number", number, U32, 1)
+    _test_body(kind, body)
+    return u128(client) + REQUEST.pack(session, number, kind, len(body)) + body
+
+
+def _test_body(operation: Operation, body: object) -> None:
+    if not isinstance(body, (bytes, bytearray)):
+        raise InvalidType("body", f"must be bytes, not {kind_of(body)}")
+    if operation == Operation.register:
+        if body:
+            raise InvalidValue("body", "of a register must be empty")
+        return
+    count, rest = divmod(len(body), ITEM_SIZES[operation])
+    if rest:
+        raise InvalidValue("body", f"of {len(body)} bytes has no whole items of {ITEM_SIZES[operation]} bytes")
+    if count > ITEMS_MAX:
+        raise InvalidValue("body", f"must have at most {ITEMS_MAX} items, not {count}")
+
+
+def body_of(operation: Operation, items: Iterable[object]) -> bytes:
+    """The body of a request: records of the kind that the operation takes, or ids."""
+    if operation == Operation.register:
+        if items != () and items != []:
+            raise InvalidValue("items", "of a register must be empty")
+        return b""
+    name = ITEM_NAMES[operation]
+    listed = _listed(name, items)
+    if len(listed) > ITEMS_MAX:
+        raise InvalidValue(name, f"must have at most {ITEMS_MAX} items, not {shown(len(listed))}")
+    if operation in (Operation.lookup_accounts, Operation.lookup_transfers):
+        return b"".join(u128(whole(f"{name}[{at}]", it, U128)) for at, it in enumerate(listed))
+    kind: Any = Account if operation == Operation.create_accounts else Transfer
+    for at, it in enumerate(listed):
+        if not isinstance(it, kind):
+            raise InvalidType(f"{name}[{at}]", f"must be {'an' if kind is Account else 'a'} {kind.__name__}, not {kind_of(it)}")
+    return b"".join(map(kind.to_bytes, listed))
+
+
+def _listed(name: str, items: Iterable[object]) -> list[object]:
+    """What was given as a list. Text, bytes and mappings are no lists, though Python goes over them."""
+    if isinstance(items, (str, bytes, bytearray, memoryview, Mapping)):
+        raise InvalidType(name, f"must be a list, not {kind_of(items)}")
+    try:
+        return list(items)
+    except TypeError:
+        raise InvalidType(name, f"must be a list, not {kind_of(items)}") from None
+
+
+@dataclasses.dataclass(frozen=True)
+class Request:
+    """A request, as its frame has it. Its items are Accounts, Transfers, or ids."""
+
+    client: int
+    session: int
+    number: int
+    operation: Operation
+    items: Tuple[Item, ...]
+
+    @classmethod
+    def from_bytes(cls, frame: bytes) -> Request:
+        client, session, number, operation, body = _parts(frame)
+        items: list[Item] = []
+        if operation == Operation.create_accounts:
+            items = [*_items(body, RECORD, Account.from_bytes)]
+        elif operation == Operation.create_transfers:
+            items = [*_items(body, RECORD, Transfer.from_bytes)]
+        elif operation != Operation.register:
+            items = [*_items(body, ID, lambda data: u128_at(data, 0))]
+        return cls(client, session, number, operation, tuple(items))
+
+
+def _parts(frame: bytes) -> tuple[int, int, int, Operation, bytes]:
+    """The parts of a request's frame, which is whole and has no fault."""
+    if not isinstance(frame, (bytes, bytearray)):
+        raise InvalidType("frame", f"must be bytes, not {kind_of(frame)}")
+    if len(frame) < HEADER:
+        raise InvalidValue("frame", f"must have {HEADER} bytes at least, not {len(frame)}")
+    session, number, operation, length = REQUEST.unpack_from(frame, 16)
+    client, body = u128_at(frame, 0), bytes(frame[HEADER:])
+    if length != len(body):
+        raise InvalidValue("frame", f"has a body of {len(body)} bytes, and its header says {length}")
+    if request_frame(client, session, number, operation, body) != frame:
+        raise InvalidValue("frame", "has reserved bytes that are not 0")
+    return client, session, number, Operation(operation), body
+
+
+def check_frame(frame: bytes) -> None:
+    """Refuses bytes that the server would find malformed, and end at."""
+    _parts(frame)
+
+
+# Replies
+
+
+def reply_length(data: bytes, at: int = 0) -> int:
+    """The length of the frame whose header of 48 bytes stands at this place."""
+    length: int = struct.unpack_from("<I", data, at + 32)[0]
+    return HEADER + length
+
+
+@dataclasses.dataclass(frozen=True)
+class Reply:
+    client: int
+    session: int
+    number: int
+    operation: int
+    status: int
+    commit: int
+    body: bytes
+
+    def to_bytes(self) -> bytes:
+        header = REPLY.pack(self.session, self.number, self.operation, self.status, len(self.body), self.commit)
+        return u128(self.client) + header + self.body
+
+    @classmethod
+    def from_bytes(cls, frame: bytes) -> Reply:
+        if not isinstance(frame, (bytes, bytearray)):
+            raise BadReply(f"{kind_of(frame)} is no frame of a reply")
+        if len(frame) < HEADER or len(frame) != reply_length(frame):
+            raise BadReply(f"{len(frame)} bytes are no frame of a reply")
+        session, number, operation, status, _, commit = REPLY.unpack_from(frame, 16)
+        return cls(u128_at(frame, 0), session, number, operation, status, commit, bytes(frame[HEADER:]))
+
+
+def said_by(operation: Operation, body: bytes) -> Said:
+    """What the body of a reply says: results or records, and nothing of a register."""
+    if operation == Operation.register:
+        return None
+    if operation == Operation.lookup_accounts:
+        return _items(body, RECORD, Account.from_bytes)
+    if operation == Operation.lookup_transfers:
+        return _items(body, RECORD, Transfer.from_bytes)
+    names: Any = CreateAccountResult if operation == Operation.create_accounts else CreateTransferResult
+    try:
+        return [EventResult(index, names(result)) for index, result in _items(body, 8, struct.Struct("<II").unpack)]
+    except ValueError as unknown:
+        raise BadReply(str(unknown)) from None
+
+
+def _items(body: bytes, size: int, read: Callable[[bytes], T]) -> list[T]:
+    if len(body) % size:
+        raise BadReply(f"a body of {len(body)} bytes has no whole items of {size}")
+    return [read(body[at : at + size]) for at in range(0, len(body), size)]

@@ -1,0 +1,195 @@
+"""`tbs run` as a process."""
+from __future__ import annotations
+
+import os
+import selectors
+import signal
+import struct
+import subprocess
+import threading
+import time
+from typing import IO, Optional, Union, cast
+
+from .errors import CannotStart, Closed, InvalidType, NoMemory, ProgramEnded, ReplyLost, ScriptFull
+from .frames import HEADER, check_frame, reply_length
+from .transports import Closing
+from .values import MOMENT_MAX, U64, kind_of, seconds, truth, whole
+
+CHUNK = 1 << 20
+SCRIPT_MAX = 256 << 20
+
+
+class Program(Closing):
+    """`tbs run` as a process, to which requests go one by one over a pipe, and from which replies come over another.
+
+    Replies come in the order of the requests. So the reply to the request that was sent as the nth is the nth, and one that
+    comes too late is passed over. Threads may share a Program: an exchange is one thread's from its first byte to its last.
+
+    The program keeps its history in memory, and the history ends with the process: each exchange afterwards is `ProgramEnded`.
+    With restarts=True every request that was answered is kept in this process, up to `script_max` bytes in all (`ScriptFull` is
+    raised where the next one would not fit; None is no bound). A program that ended is then started anew on this script by the
+    next exchange: the same script makes the same history."""
+
+    def __init__(
+        self,
+        path: Union[str, os.PathLike[str]],
+        clients_max: int = 64,
+        profile: int = 1,
+        timeout: float = 5.0,
+        restarts: bool = False,
+        script_max: Optional[int] = SCRIPT_MAX,
+    ) -> None:
+        if not isinstance(path, (str, os.PathLike)):
+            raise InvalidType("path", f"must be a path, not {kind_of(path)}")
+        places, profile = whole("clients_max", clients_max, 64, 1), whole("profile", profile, 2, 1)
+        self.command = [os.fspath(path), "run", str(places), str(profile)]
+        self.timeout = seconds("timeout", timeout, 0.001)
+        self.restarts = truth("restarts", restarts)
+        self.script_max = None if script_max is None else whole("script_max", script_max, U64)
+        self.script: list[bytes] = []
+        self.script_bytes = self.answered = 0
+        self.process: Optional[subprocess.Popen[bytes]] = None
+        self._lock = threading.RLock()
+        self._owner = os.getpid()
+        self._end: Optional[Exception] = None
+        self._start()
+
+    def _start(self) -> None:
+        try:
+            self.process = subprocess.Popen(self.command, stdin=subprocess.PIPE, stdout=subprocess.PIPE, stderr=subprocess.PIPE)
+        except OSError as error:
+            raise CannotStart(f"{self.command[0]} does not start: {error.strerror}") from None
+        for pipe in self._pipes()[:2]:
+            os.set_blocking(pipe.fileno(), False)
+        # what is to be sent, what came and is not read yet, and how far each is done
+        self.out, self.out_at = b"".join(self.script), 0
+        self.data, self.data_at = b"", 0
+        self.sent, self.seen = len(self.script), 0
+        self.last = b""
+
+    def _pipes(self) -> tuple[IO[bytes], IO[bytes], IO[bytes]]:
+        process = self.process
+        assert process is not None and process.stdin and process.stdout and process.stderr
+        return process.stdin, process.stdout, process.stderr
+
+    def exchange(self, moment: int, frame: bytes) -> bytes:
+        check_frame(frame)
+        pair = struct.pack("<Q", whole("moment", moment, MOMENT_MAX)) + frame
+        with self._lock:
+            self._be_ready()
+            if self.seen == self.sent or self.last != frame:  # else it is on its way already, and its reply is waited for
+                self._queue(pair)
+            return self._awaited(time.monotonic() + self.timeout)
+
+    def _be_ready(self) -> None:
+        """Starts the program anew where that was asked for, else tells why it takes no more."""
+        if self._owner != os.getpid():
+            raise Closed("this Program belongs to the process that made it")
+        if self._end is not None:
+            raise self._end.with_traceback(None)
+        if self.process is None:
+            self._start()
+
+    def _queue(self, pair: bytes) -> None:
+        if self.restarts:
+            size = self.script_bytes + len(pair)
+            if self.script_max is not None and size > self.script_max:
+                raise ScriptFull(f"the script for restarts would have {size} bytes, and script_max is {self.script_max}")
+            self.script.append(pair)
+            self.script_bytes = size
+        self.out, self.out_at = self.out[self.out_at :] + pair, 0
+        self.sent, self.last = self.sent + 1, pair[8:]
+
+    def _awaited(self, deadline: float) -> bytes:
+        """The reply to what was sent last. What is left to be sent goes out as the pipe takes it."""
+        stdin, stdout, _ = self._pipes()
+        with selectors.DefaultSelector() as ready:
+            ready.register(stdout, selectors.EVENT_READ)
+            ready.register(stdin, selectors.EVENT_WRITE)
+            while True:
+                reply = self._next_reply()
+                if reply is not None:
+                    return reply
+                left = deadline - time.monotonic()
+                if left <= 0:
+                    raise ReplyLost(f"no reply within {self.timeout:g} seconds")
+                for key, _events in ready.select(left):
+                    if key.fileobj is stdout:
+                        self._read(stdout)
+                    else:
+                        self._write(stdin, ready)
+
+    def _next_reply(self) -> Optional[bytes]:
+        while len(self.data) >= self.data_at + HEADER:
+            end = self.data_at + reply_length(self.data, self.data_at)
+            if len(self.data) < end:
+                return None
+            frame, self.data_at = self.data[self.data_at : end], end
+            self.seen += 1
+            self.answered = max(self.answered, self.seen)
+            if self.seen == self.sent:
+                return frame
+        return None
+
+    def _read(self, stdout: IO[bytes]) -> None:
+        data = os.read(stdout.fileno(), CHUNK)
+        if not data:
+            raise self._ended()
+        self.data, self.data_at = self.data[self.data_at :] + data, 0
+
+    def _write(self, stdin: IO[bytes], ready: selectors.BaseSelector) -> None:
+        try:
+            self.out_at += os.write(stdin.fileno(), memoryview(self.out)[self.out_at : self.out_at + CHUNK])
+        except BrokenPipeError:
+            ready.unregister(stdin)  # replies that were written before the end are still read
+            return
+        if self.out_at == len(self.out):
+            ready.unregister(stdin)
+
+    def _ended(self) -> Exception:
+        """What to raise where the program is gone: it was killed, or ended by itself and says why."""
+        process = cast("subprocess.Popen[bytes]", self.process)
+        fault = self._pipes()[2].read().decode(errors="replace").strip()
+        fault = fault[len("tbs: ") :] if fault.startswith("tbs: ") else fault
+        status = process.wait()
+        self._let_go()
+        # No reply after these was given out. The next one is at fault, or was not executed as far as anyone can know.
+        del self.script[self.answered :]
+        self.script_bytes = sum(map(len, self.script))
+        if status < 0:
+            fault = f"killed by {_signal_name(-status)}"
+        if not self.restarts:
+            self._end = ProgramEnded(fault, status)
+            return self._end
+        if status < 0:
+            return ReplyLost(f"the program was {fault}")
+        return NoMemory("the program had no memory, and ended") if fault == "NoMemory" else ProgramEnded(fault, status)
+
+    def _let_go(self) -> None:
+        """Ends the script, and waits for the program's end."""
+        process = self.process
+        if process is not None:
+            for pipe in self._pipes():
+                try:
+                    pipe.close()
+                except BrokenPipeError:
+                    pass
+            try:
+                process.wait(self.timeout)
+            except subprocess.TimeoutExpired:
+                process.kill()
+                process.wait()
+            self.process = None
+
+    def close(self) -> None:
+        """Ends the script, and waits for the program's end. Each exchange afterwards is `Closed`."""
+        with self._lock:
+            self._let_go()
+            self._end = Closed("this Program was closed")
+
+
+def _signal_name(number: int) -> str:
+    try:
+        return signal.Signals(number).name
+    except ValueError:
+        return f"signal {number}"

@@ -1,0 +1,267 @@
+"""Sessions: a client that is registered, its requests by number, and the one that is in doubt."""
+from __future__ import annotations
+
+import json
+import os
+import threading
+import time
+from typing import Any, Callable, Dict, Iterable, List, Mapping, Optional, Sequence, Type, TypedDict, TypeVar, Union, cast
+
+from .errors import REFUSALS, BadReply, ClockJumped, EventsFailed, Evicted, InDoubt, InvalidType, InvalidValue, NoMemory, NothingInDoubt, NotSent, NotYet, ReplyLost
+from .frames import NUMBER_MAX, Item, Reply, Request, Said, body_of, operation_of, request_frame, said_by
+from .ids import id as new_id
+from .names import Operation, Status
+from .records import Account, EventResult, Transfer
+from .transports import Closing, Transport, close_transport
+from .values import MOMENT_MAX, U32, U64, U128, callable_of, kind_of, seconds, whole
+
+JUMP_MAX = 60.0  # seconds
+SECOND = 10**9
+FIRST_PAUSE = 0.01  # seconds, before a request is sent again for want of memory; doubled each time
+
+S = TypeVar("S", bound="Session")
+Path = Union[str, "os.PathLike[str]"]
+
+
+class Saved(TypedDict):
+    """What outlives a client: its id, its session, the number of its last answered request, and the bytes in doubt in hex."""
+
+    client: int
+    session: int
+    number: int
+    pending: str
+
+
+def _running_ns() -> int:
+    """A clock that nobody sets: it counts while the computer sleeps too, where the system has such a clock."""
+    return time.clock_gettime_ns(getattr(time, "CLOCK_BOOTTIME", time.CLOCK_MONOTONIC))
+
+
+class _Moments:
+    """Reads a clock, and refuses a moment that is too far ahead of where the clock should be by now: at first where this
+    computer's clock is, then the furthest moment so far and the time that has gone by since."""
+
+    def __init__(self) -> None:
+        self.ahead = time.time_ns() - _running_ns()
+        self.is_first = True
+
+    def take(self, now: Callable[[], int], jump_max: Optional[float]) -> int:
+        moment = whole("moment", now(), MOMENT_MAX)
+        ahead = moment - _running_ns()
+        jump = ahead - self.ahead
+        if jump_max is not None and jump > jump_max * SECOND:
+            raise ClockJumped(f"the clock is {jump / SECOND:.3f} s ahead of where it should be, and jump_max is {jump_max:g} s")
+        self.ahead = ahead if self.is_first else max(self.ahead, ahead)
+        self.is_first = False
+        return moment
+
+
+class Session(Closing):
+    """The session of a client, whose id is any number from 1 to 2^128 - 1 that no other client has.
+
+    `saved` is what outlives the client. Whoever keeps it between `prepare` and `retry` can go on after a crash, by
+    `Session.resumed`, and knows after `retry` what the last request did. `save` and `load` keep it in a file.
+
+    A request is sent `attempts` times at most in a call, and then stays in doubt. `now` gives the moments, in nanoseconds;
+    one that is more than `jump_max` seconds too far ahead is `ClockJumped` and is not sent (None: no such test). Threads may
+    share a session: their requests go one after another. At the end of a `with` the transport is closed."""
+
+    def __init__(
+        self,
+        transport: Transport,
+        client: int,
+        session: int = 0,
+        number: int = 0,
+        pending: Optional[bytes] = None,
+        attempts: int = 5,
+        now: Callable[[], int] = time.time_ns,
+        jump_max: Optional[float] = JUMP_MAX,
+    ) -> None:
+        self.transport = transport
+        self.client = whole("client", client, U128, 1)
+        self.session = whole("session", session, U64)
+        self.number = whole("number", number, U32)
+        self.attempts = whole("attempts", attempts, U32, 1)
+        self.now = callable_of("now", now)
+        self.jump_max = None if jump_max is None else seconds("jump_max", jump_max, 0)
+        self.pending = pending
+        self._refused: Optional[Type[Exception]] = None
+        self._may_be_sent = pending is not None
+        self._moments = _Moments()
+        self._lock = threading.RLock()
+
+    @classmethod
+    def register(cls: Type[S], transport: Transport, client: Optional[int] = None, **options: Any) -> S:
+        """Registers the client, and answers its new session. Where no id is given the client has a new one."""
+        self = cls(transport, new_id() if client is None else client, **options)
+        self._ask(Operation.register, ())
+        return self
+
+    @classmethod
+    def resumed(cls: Type[S], transport: Transport, saved: Union[Saved, Mapping[str, Any]], **options: Any) -> S:
+        """The session as it was when `saved` was taken. Where a request was in doubt, `retry` it first."""
+        if not isinstance(saved, Mapping):
+            raise InvalidType("saved", f"must be a dict, not {kind_of(saved)}")
+        for field in Saved.__annotations__:
+            if field not in saved:
+                raise InvalidValue(f"saved['{field}']", "is missing")
+        client = whole("saved['client']", saved["client"], U128, 1)
+        session, number = whole("saved['session']", saved["session"], U64), whole("saved['number']", saved["number"], U32)
+        return cls(transport, client, session, number, _pending_of(saved["pending"], client, session, number), **options)
+
+    @property
+    def saved(self) -> Saved:
+        with self._lock:
+            return {"client": self.client, "session": self.session, "number": self.number, "pending": (self.pending or b"").hex()}
+
+    def save(self, path: Path) -> None:
+        """Keeps `saved` in a file, whole: after a crash the file has it as it is now or as it was before."""
+        beside = f"{os.fspath(path)}.new"
+        with open(beside, "w", encoding="ascii") as file:
+            json.dump(self.saved, file)
+            file.flush()
+            os.fsync(file.fileno())
+        os.replace(beside, path)
+        folder = os.open(os.path.dirname(os.path.abspath(path)), os.O_RDONLY)
+        try:
+            os.fsync(folder)
+        finally:
+            os.close(folder)
+
+    @classmethod
+    def load(cls: Type[S], transport: Transport, path: Path, **options: Any) -> S:
+        """The session that `save` kept in a file. Where a request was in doubt, `retry` it first."""
+        with open(path, encoding="ascii") as file:
+            return cls.resumed(transport, json.load(file), **options)
+
+    @property
+    def in_doubt(self) -> Optional[Request]:
+        """The request that has no reply yet, with its records or ids. It is kept over refusals, since it may have been executed
+        before: after an eviction create its records again, with the same ids, in a new session."""
+        with self._lock:
+            return None if self.pending is None else Request.from_bytes(self.pending)
+
+    def create_accounts(self, accounts: Iterable[Account]) -> List[EventResult]:
+        """Creates accounts. Answers the results of those that were not created, by index."""
+        return cast(List[EventResult], self._ask(Operation.create_accounts, accounts))
+
+    def create_transfers(self, transfers: Iterable[Transfer]) -> List[EventResult]:
+        """Makes transfers. Answers the results of those that were not made, by index."""
+        return cast(List[EventResult], self._ask(Operation.create_transfers, transfers))
+
+    def lookup_accounts(self, ids: Iterable[int]) -> List[Account]:
+        """The accounts that are there, in the order of the ids."""
+        return cast(List[Account], self._ask(Operation.lookup_accounts, ids))
+
+    def lookup_transfers(self, ids: Iterable[int]) -> List[Transfer]:
+        """The transfers that are there, in the order of the ids."""
+        return cast(List[Transfer], self._ask(Operation.lookup_transfers, ids))
+
+    def _ask(self, operation: Operation, items: Iterable[Item]) -> Said:
+        with self._lock:
+            self.prepare(operation, items)
+            try:
+                return self.retry()
+            except NotSent:
+                if not self._may_be_sent:  # it is as if it had not been asked for
+                    self.pending = None
+                raise
+
+    def prepare(self, operation: int, items: Iterable[Item] = ()) -> None:
+        """Makes the next request, which is in doubt from then on: keep `saved`, then `retry`."""
+        with self._lock:
+            if self.pending is not None:
+                if self._refused is not None and issubclass(self._refused, Evicted):
+                    raise InDoubt(f"the session has ended ({self._refused.__name__}): register anew, and see in_doubt")
+                raise InDoubt("the last request has no reply yet: retry it")
+            kind = operation_of(operation)
+            body = body_of(kind, items)
+            if kind == Operation.register:
+                if self.session:
+                    raise InvalidValue("session", f"is {self.session}: it is registered already")
+                self.pending = request_frame(self.client, 0, 0, kind)
+            else:
+                if not self.session:
+                    raise InvalidValue("session", "is 0: register first")
+                if self.number == NUMBER_MAX:
+                    raise InvalidValue("number", "is 2^32 - 1, the last one: register anew")
+                self.pending = request_frame(self.client, self.session, self.number + 1, kind, body)
+            self._refused, self._may_be_sent = None, False
+
+    def retry(self) -> Said:
+        """Sends the request in doubt, the same bytes each time, until its reply has come. Answers what it says."""
+        with self._lock:
+            if self.pending is None:
+                raise NothingInDoubt("no request is in doubt")
+            pause = FIRST_PAUSE
+            for left in reversed(range(self.attempts)):
+                moment = self._moments.take(self.now, self.jump_max)
+                try:
+                    return self._take(Reply.from_bytes(self._exchange(moment, self.pending)))
+                except (ReplyLost, NoMemory, NotYet) as why:
+                    if not left:
+                        raise
+                    if not isinstance(why, ReplyLost):
+                        time.sleep(pause)
+                        pause *= 2
+            raise AssertionError("attempts is 1 at least")
+
+    def _exchange(self, moment: int, frame: bytes) -> bytes:
+        try:
+            reply = self.transport.exchange(moment, frame)
+        except NotSent:
+            raise
+        except BaseException:
+            self._may_be_sent = True
+            raise
+        self._may_be_sent = True
+        return reply
+
+    def _take(self, reply: Reply) -> Said:
+        """Takes the reply to the request in doubt, which is in doubt no longer: the session goes on behind it. A refusal leaves
+        it in doubt, since it may have been executed before."""
+        asked = Request.from_bytes(cast(bytes, self.pending))
+        session = asked.session
+        if (reply.client, reply.number, reply.operation) != (self.client, asked.number, asked.operation):
+            raise BadReply(f"a reply to request {reply.number} of client {reply.client} came for request {asked.number}")
+        if reply.status != Status.Reply:
+            if reply.status not in list(Status):
+                raise BadReply(f"no status is {reply.status}")
+            refusal = REFUSALS[Status(reply.status)]
+            self._refused = refusal
+            raise refusal(f"request {asked.number} of session {session}")
+        if asked.operation == Operation.register:
+            session = reply.session
+        if reply.session != session or not session:
+            raise BadReply(f"a reply in session {reply.session} came in session {session}")
+        said = said_by(asked.operation, reply.body)
+        self.session, self.number, self.pending = session, asked.number, None
+        return said
+
+    def close(self) -> None:
+        """Closes the transport."""
+        close_transport(self.transport)
+
+
+def _pending_of(text: object, client: int, session: int, number: int) -> Optional[bytes]:
+    """The bytes in doubt of what was saved: none, or the next request of just this session."""
+    field = "saved['pending']"
+    if not isinstance(text, str):
+        raise InvalidType(field, f"must be a str, not {kind_of(text)}")
+    if not text:
+        return None
+    try:
+        frame = bytes.fromhex(text)
+        asked = Request.from_bytes(frame)
+    except ValueError as fault:
+        raise InvalidValue(field, f"is no request: {fault}") from None
+    wanted = (client, session, 0 if asked.operation == Operation.register else number + 1)
+    if (asked.client, asked.session, asked.number) != wanted:
+        raise InvalidValue(field, "is not the next request of this session")
+    return frame
+
+
+def require_ok(results: Sequence[EventResult]) -> None:
+    """Raises `EventsFailed` where an event was not accepted."""
+    if results:
+        raise EventsFailed(results)

@@ -1,0 +1,79 @@
+"""What carries frames: the protocol, a function, and another transport with losses."""
+from __future__ import annotations
+
+import threading
+from types import TracebackType
+from typing import Callable, Iterable, Optional, Protocol, Type, TypeVar
+
+from .errors import Closed, ReplyLost
+from .values import callable_of
+
+Self = TypeVar("Self", bound="Closing")
+
+
+class Transport(Protocol):
+    """Carries frames. `exchange` gives back the reply's frame, or raises `ReplyLost` where none came and `NoMemory` where the
+    server had none. Where it sends nothing it raises a `NotSent`."""
+
+    def exchange(self, moment: int, frame: bytes) -> bytes: ...
+
+
+class Closing:
+    """What is closed at the end of a `with`."""
+
+    def close(self) -> None:
+        raise NotImplementedError
+
+    def __enter__(self: Self) -> Self:
+        return self
+
+    def __exit__(self, kind: Optional[Type[BaseException]], error: Optional[BaseException], trace: Optional[TracebackType]) -> None:
+        self.close()
+
+
+class Direct(Closing):
+    """A function that takes a moment and the frame of a request, and gives back the frame of the reply. It is called by one
+    thread at a time."""
+
+    def __init__(self, serve: Callable[[int, bytes], bytes]) -> None:
+        self._serve, self._lock, self._closed = callable_of("serve", serve), threading.Lock(), False
+
+    def exchange(self, moment: int, frame: bytes) -> bytes:
+        with self._lock:
+            if self._closed:
+                raise Closed("this Direct was closed")
+            reply: bytes = self._serve(moment, frame)
+            return reply
+
+    def close(self) -> None:
+        self._closed = True
+
+
+class Faulty(Closing):
+    """Another transport, of which the exchanges with these numbers, from 1, lose their request or their reply."""
+
+    def __init__(self, inner: Transport, requests: Iterable[int] = (), replies: Iterable[int] = ()) -> None:
+        self.inner, self.requests, self.replies = inner, set(requests), set(replies)
+        self.count = 0
+        self._lock = threading.Lock()
+
+    def exchange(self, moment: int, frame: bytes) -> bytes:
+        with self._lock:
+            self.count += 1
+            count = self.count
+        if count in self.requests:
+            raise ReplyLost(f"request {count} was lost on purpose")
+        reply = self.inner.exchange(moment, frame)
+        if count in self.replies:
+            raise ReplyLost(f"reply {count} was lost on purpose")
+        return reply
+
+    def close(self) -> None:
+        close_transport(self.inner)
+
+
+def close_transport(transport: Transport) -> None:
+    """Closes a transport that can be closed."""
+    close = getattr(transport, "close", None)
+    if close is not None:
+        close()

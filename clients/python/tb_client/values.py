@@ -1,0 +1,58 @@
+"""The tests of what fields and arguments hold. Each fault names the field."""
+from __future__ import annotations
+
+import math
+import operator
+from typing import Any
+
+from .errors import InvalidType, InvalidValue
+
+U16, U32, U64, U128 = (2**bits - 1 for bits in (16, 32, 64, 128))
+MOMENT_MAX = 2**63 - 1
+
+
+def kind_of(value: object) -> str:
+    return type(value).__name__
+
+
+def shown(number: int) -> str:
+    """A number as an error shows it: the greatest of its bits as a power, and none that fills the page."""
+    bits = number.bit_length()
+    if bits > 128:
+        return f"a number of {bits} bits"
+    return f"2^{bits} - 1" if bits > 15 and number == 2**bits - 1 else str(number)
+
+
+def whole(field: str, value: object, greatest: int, least: int = 0) -> int:
+    """An integer within its range, by `__index__` alone: what would have to be rounded or read is refused, and truth values too."""
+    if isinstance(value, bool):
+        raise InvalidType(field, "must be an int, not bool")
+    try:
+        number = int.__index__(operator.index(value))  # type: ignore[arg-type]
+    except TypeError:
+        raise InvalidType(field, f"must be an int, not {kind_of(value)}") from None
+    if not least <= number <= greatest:
+        wanted = shown(least) if least == greatest else f"{shown(least)} to {shown(greatest)}"
+        raise InvalidValue(field, f"must be {wanted}, not {shown(number)}")
+    return number
+
+
+def seconds(field: str, value: object, least: float) -> float:
+    """A time in seconds, at least so many, whole or not."""
+    if isinstance(value, bool) or not isinstance(value, (int, float)):
+        raise InvalidType(field, f"must be a number of seconds, not {kind_of(value)}")
+    if not (math.isfinite(value) and least <= value <= U32):
+        raise InvalidValue(field, f"must be {least:g} to {shown(U32)} seconds, not {shown(value) if isinstance(value, int) else value}")
+    return float(value)
+
+
+def truth(field: str, value: object) -> bool:
+    if not isinstance(value, bool):
+        raise InvalidType(field, f"must be True or False, not {kind_of(value)}")
+    return value
+
+
+def callable_of(field: str, value: Any) -> Any:
+    if not callable(value):
+        raise InvalidType(field, f"must be a function, not {kind_of(value)}")
+    return value

@@ -1,0 +1,257 @@
+#!/usr/bin/env python3
+"""Requests in doubt: over crashes, evictions, lost replies, want of memory and clocks that jump."""
+import json
+import os
+import signal
+import tempfile
+import time
+import unittest
+from unittest import mock
+
+import tb_client as tb
+from tb_client import Direct, Program, Session
+from test_tb_client import PROGRAM, account, at_ten, has_program, reply, results, transfer
+
+SECOND = 10**9
+
+
+class Crash(BaseException):
+    """The client ends here."""
+
+
+class Crashing:
+    """A transport whose client ends before its nth exchange, or after it."""
+
+    def __init__(self, inner, before=0, after=0):
+        self.inner, self.before, self.after, self.count = inner, before, after, 0
+
+    def exchange(self, moment, frame):
+        self.count += 1
+        if self.count == self.before:
+            raise Crash()
+        answer = self.inner.exchange(moment, frame)
+        if self.count == self.after:
+            raise Crash()
+        return answer
+
+
+class Doubt(unittest.TestCase):
+    def session(self, serve, **options):
+        def exchange(moment, frame):
+            self.sent.append((moment, frame))
+            return serve(frame)
+
+        self.sent = []
+        return Session(Direct(exchange), 7, session=1, **{"now": at_ten, **options})
+
+    def failing(self, error, times):
+        left = [times]
+
+        def serve(frame):
+            left[0] -= 1
+            if left[0] >= 0:
+                raise error
+            return reply(frame, commit=2)
+
+        return serve
+
+    def test_want_of_memory_is_tried_again_so_many_times(self):
+        with mock.patch("time.sleep") as sleep:
+            session = self.session(self.failing(tb.NoMemory("no memory"), 4))
+            self.assertEqual(session.create_accounts([account(1)]), [])
+            self.assertEqual((len(self.sent), len(set(self.sent)), sleep.call_count), (5, 1, 4))
+            session = self.session(self.failing(tb.NoMemory("no memory"), 5))
+            self.assertRaises(tb.NoMemory, session.create_accounts, [account(1)])
+            self.assertEqual((len(self.sent), session.in_doubt.items), (5, (account(1),)))
+            self.assertEqual((session.retry(), session.pending, session.number), ([], None, 1))
+            session = self.session(self.failing(tb.NoMemory("no memory"), 1), attempts=1)
+            self.assertRaises(tb.NoMemory, session.create_accounts, [account(1)])
+
+    def test_what_is_in_doubt_can_be_read(self):
+        lost = self.failing(tb.ReplyLost("lost"), 10**9)
+        for call, items, operation in (
+            ("create_accounts", (account(1), account(2)), 129), ("create_transfers", (transfer(1, 2, 3, 4, flags=tb.TransferFlags.pending),), 130),
+            ("lookup_accounts", (1, tb.amount_max), 131), ("lookup_transfers", (), 132),
+        ):
+            session = self.session(lost)
+            self.assertRaises(tb.ReplyLost, getattr(session, call), items)
+            self.assertEqual(session.in_doubt, tb.Request(7, 1, 1, tb.Operation(operation), items))
+            self.assertEqual(Session.resumed(session.transport, json.loads(json.dumps(session.saved))).in_doubt, session.in_doubt)
+
+    def test_nothing_in_doubt(self):
+        session = self.session(lambda frame: reply(frame, commit=2))
+        self.assertRaises(tb.NothingInDoubt, session.retry)
+        self.assertIsNone(session.in_doubt)
+
+    def test_a_wrong_reply_leaves_it_in_doubt(self):
+        session = self.session(lambda frame: None)
+        self.assertRaises(tb.BadReply, session.create_accounts, [account(1)])
+        self.assertEqual(session.in_doubt.items, (account(1),))
+
+    def test_what_was_not_sent_is_not_in_doubt(self):
+        session = self.session(lambda frame: reply(frame, commit=2))
+        session.transport.close()
+        self.assertRaises(tb.Closed, session.create_accounts, [account(1)])
+        self.assertEqual((session.pending, self.sent), (None, []))
+
+    def test_one_base_of_all_errors(self):
+        for name in tb.__all__:
+            it = getattr(tb, name)
+            if isinstance(it, type) and issubclass(it, BaseException):
+                self.assertTrue(issubclass(it, tb.ClientError), name)
+
+    # Clocks
+
+    def test_a_clock_that_jumps(self):
+        session = self.session(lambda frame: reply(frame, commit=2), now=time.time_ns)
+        session.lookup_accounts([1])
+        for ahead in (61 * SECOND, 3600 * SECOND, 2**62):
+            session.now = lambda ahead=ahead: time.time_ns() + ahead
+            with self.assertRaises(tb.ClockJumped) as raised:
+                session.lookup_accounts([1])
+            self.assertIn("jump_max is 60 s", str(raised.exception))
+            self.assertEqual((len(self.sent), session.pending), (1, None))
+        session.jump_max = None
+        session.lookup_accounts([1])
+        self.assertEqual(len(self.sent), 2)
+
+    def test_the_first_moment_too(self):
+        session = self.session(reply, now=lambda: time.time_ns() + 61 * SECOND)
+        self.assertRaises(tb.ClockJumped, session.lookup_accounts, [1])
+        session = self.session(reply, now=lambda: time.time_ns() + 61 * SECOND, jump_max=62)
+        session.lookup_accounts([1])
+
+    def test_a_clock_that_goes_back_and_comes_again(self):
+        at = [0]
+        session = self.session(lambda frame: reply(frame, commit=2), now=lambda: time.time_ns() - at[0])
+        for at[0] in (0, 3600 * SECOND, 0, 7200 * SECOND, 0):
+            session.lookup_accounts([1])
+
+    def test_time_that_goes_by_is_no_jump(self):
+        at = [0]
+        session = self.session(lambda frame: reply(frame, commit=2), now=lambda: 10**18 + at[0])
+        with mock.patch("tb_client.sessions._running_ns", lambda: at[0]):
+            for at[0] in (0, 3600 * SECOND, 10**6 * SECOND):
+                session.lookup_accounts([1])
+
+    def test_a_clock_of_its_own(self):
+        at = [10]
+        session = self.session(lambda frame: reply(frame, commit=2), now=lambda: at[0])
+        session.lookup_accounts([1])
+        at[0] = 10 + 59 * SECOND
+        session.lookup_accounts([1])
+        at[0] = 10 + 120 * SECOND
+        self.assertRaises(tb.ClockJumped, session.lookup_accounts, [1])
+
+    def test_a_request_in_doubt_stays_so_over_a_jump(self):
+        session = self.session(self.failing(tb.ReplyLost("lost"), 5), now=time.time_ns)
+        self.assertRaises(tb.ReplyLost, session.create_accounts, [account(1)])
+        session.now = lambda: time.time_ns() + 61 * SECOND
+        self.assertRaises(tb.ClockJumped, session.retry)
+        self.assertEqual((len(self.sent), session.in_doubt.items), (5, (account(1),)))
+        session.now = time.time_ns
+        self.assertEqual(session.retry(), [])
+
+
+@has_program
+class OnTheProgram(unittest.TestCase):
+    def program(self, clients_max=2, **options):
+        transport = Program(PROGRAM, clients_max, **{"timeout": 30, **options})
+        self.addCleanup(transport.close)
+        return transport
+
+    def test_an_eviction_keeps_what_is_in_doubt(self):
+        """The reply to the transfer is lost, others register, and the session ends: the transfer was made, and is not made again."""
+        for executed in (False, True):
+            program = self.program(1)
+            first = Session.register(program, 7, now=at_ten)
+            tb.require_ok(first.create_accounts([account(1), account(2)]))
+            ids = [tb.id(), tb.id()]
+            lossy = tb.Faulty(program, **{"replies" if executed else "requests": range(1, 6)})
+            first.transport = lossy
+            self.assertRaises(tb.ReplyLost, first.create_transfers, [transfer(it, 1, 2, 50) for it in ids])
+            Session.register(program, 8, now=at_ten)
+            first.transport = program
+            saved = json.loads(json.dumps(first.saved))
+            for again in (first, Session.resumed(program, saved, now=at_ten)):
+                self.assertRaises(tb.NoSession, again.retry)
+                self.assertEqual(again.saved, saved)
+                with self.assertRaises(tb.InDoubt) as raised:
+                    again.lookup_accounts([1])
+                self.assertEqual(str(raised.exception), "the session has ended (NoSession): register anew, and see in_doubt")
+                second = Session.register(program, now=at_ten)
+                made = second.create_transfers(again.in_doubt.items)
+                was_there = executed or again is not first
+                self.assertEqual(results(made), [(0, "exists"), (1, "exists")] if was_there else [])
+                self.assertEqual([it.credits_posted for it in second.lookup_accounts([2])], [100])
+
+    def test_a_crash_at_each_step(self):
+        """The client ends before or after each exchange, and between preparing and saving. Its next life goes on from the file."""
+        with tempfile.TemporaryDirectory() as folder:
+            path = os.path.join(folder, "session.json")
+            ended = 0
+            for how in ("before", "after", "unsaved"):
+                for at in range(1, 6):
+                    if os.path.exists(path):
+                        os.remove(path)
+                    ended += self.lives(path, how, at)
+            self.assertEqual(ended, 15 - 1)  # the fifth unsaved request is none
+            self.assertEqual(os.listdir(folder), ["session.json"])
+
+    def lives(self, path, how, at):
+        program, crashes = self.program(), 0
+        transport = Crashing(program, **({} if how == "unsaved" else {how: at}))
+        steps = [
+            (tb.Operation.create_accounts, [account(1), account(2)]),
+            (tb.Operation.create_transfers, [transfer(11, 1, 2, 100)]),
+            (tb.Operation.create_transfers, [transfer(12, 1, 2, 10)]),
+            (tb.Operation.lookup_accounts, [2]),
+        ]
+        said = None
+        while True:
+            try:
+                if os.path.exists(path):
+                    session = Session.load(transport, path, now=at_ten)
+                else:
+                    session = Session(transport, 7, now=at_ten)
+                    session.prepare(tb.Operation.register)
+                    session.save(path)
+                if session.pending is not None:
+                    said = session.retry()
+                    session.save(path)
+                for step in steps[session.number :]:
+                    session.prepare(*step)
+                    if how == "unsaved" and session.number + 1 == at and not crashes:
+                        raise Crash()
+                    session.save(path)
+                    said = session.retry()
+                    session.save(path)
+                break
+            except Crash:
+                crashes += 1
+        self.assertEqual([it.credits_posted for it in said], [110])
+        self.assertEqual(session.session, 1)
+        program.close()
+        return crashes
+
+    def test_what_was_seen_of_a_lost_reply_outlives_the_program(self):
+        """One session's reply is not awaited, another sees what that request did: after a kill it is still there."""
+        program = self.program(restarts=True)
+        first, second = (Session.register(program, it, now=at_ten) for it in (7, 8))
+        tb.require_ok(first.create_accounts([account(1), account(2)]))
+        program.timeout = 0.05
+        os.kill(program.process.pid, signal.SIGSTOP)
+        self.assertRaises(tb.ReplyLost, first.create_transfers, [transfer(11, 1, 2, 100)])
+        os.kill(program.process.pid, signal.SIGCONT)
+        program.timeout = 30
+        seen = second.lookup_transfers([11])
+        self.assertEqual([it.amount for it in seen], [100])
+        for _ in range(3):
+            program.process.kill()
+            self.assertEqual(second.lookup_transfers([11]), seen)
+        self.assertEqual(first.retry(), [])
+        self.assertEqual([it.credits_posted for it in first.lookup_accounts([2])], [100])
+
+
+if __name__ == "__main__":
+    unittest.main()
