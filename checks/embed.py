@@ -149,8 +149,8 @@ def threads(folder, script, replies):
 
 def client(shared):
     """The client of clients/python, over the embedded server: a lost request and a lost reply, and the money moved once."""
-    from tb_client import Account, Direct, Faulty, Session, Transfer, require_ok
-    from tb_embed import Refused, Server
+    from tb_client import Account, Direct, Faulty, InvalidValue, Session, Transfer, require_ok
+    from tb_embed import Closed, Refused, Server
 
     with Server(shared, clients_max=2) as server:
         session = Session.register(Faulty(Direct(server.serve), requests=[3], replies=[4]), 7, now=lambda: 10)
@@ -169,8 +169,13 @@ def client(shared):
     try:
         Server(shared, clients_max=65)
         case("wrong arguments", False)
-    except Refused as refused:
-        case("wrong arguments", str(refused) == "Usage")
+    except InvalidValue as refused:
+        case("wrong arguments", str(refused) == "clients_max must be 1 to 64, not 65")
+    try:
+        server.serve(10, b"")
+        case("a closed server", False)
+    except Closed as refused:
+        case("a closed server", str(refused) == "Closed")
 
 
 def damaged(shared):

@@ -4,10 +4,14 @@ output: what `tbs run CLIENTS_MAX [PROFILE]` does, in Python.
 
     first.py LIBRARY [CLIENTS_MAX [PROFILE]]
 """
+import os
 import struct
 import sys
 
-from tb_embed import Server
+# The client's package, where it is not installed.
+sys.path.append(os.path.join(os.path.dirname(os.path.abspath(__file__)), "..", "..", "clients", "python"))
+
+from tb_embed import Server  # noqa: E402
 
 script, replies = sys.stdin.buffer, sys.stdout.buffer
 clients_max, profile = (list(map(int, sys.argv[2:])) + [2, 1][len(sys.argv) - 2 :])[:2]

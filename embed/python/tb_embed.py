@@ -3,22 +3,57 @@
     server = Server("libtb_embed.so")
     reply = server.serve(moment, request)           # frames, as bytes: docs/FORMATS.md
 
-With clients/python: `Session.register(Direct(server.serve), client=7)`.
+With clients/python, whose package it needs beside it: `Session.register(Direct(server.serve))`. Errors of both stand below
+`tb_client.ClientError`.
 """
+from __future__ import annotations
+
 import ctypes
 import os
+import threading
+from typing import Any, Dict, Optional, Type, Union
+
+import tb_client
+from tb_client.transports import Closing
+from tb_client.values import MOMENT_MAX, U64, U128, kind_of, whole
 
 REPLY_MAX = 48 + 8190 * 128
 REFUSALS = {1: "Closed", 2: "Usage", 3: "NoMemory", 4: "Malformed", 5: "TimeExhausted", 6: "Absent", 7: "TooSmall"}
 ABSENT, TOO_SMALL = 6, 7
 
 
-class Refused(Exception):
-    """A call did not do what it is for; `status` is its number, and the text its name."""
+class Refused(tb_client.ClientError):
+    """A call did not do what it is for; `status` is its number, and the text its name, which a subclass has too."""
 
-    def __init__(self, status):
-        super().__init__(REFUSALS.get(status, status))
+    def __init__(self, status: int) -> None:
+        super().__init__(status)
         self.status = status
+
+    def __str__(self) -> str:
+        return REFUSALS.get(self.status, f"status {self.status}")
+
+
+class Closed(Refused, tb_client.Closed):
+    """The server was closed."""
+
+
+class Usage(Refused):
+    """The arguments are wrong."""
+
+
+class NoMemory(Refused, tb_client.NoMemory):
+    """There was no memory. The server is as it was, and the same bytes may be sent again: a Session does so."""
+
+
+class Malformed(Refused):
+    """The bytes are not one frame of a request."""
+
+
+class TimeExhausted(Refused):
+    """The request is new, and no time is left for it."""
+
+
+_REFUSALS: Dict[int, Type[Refused]] = {1: Closed, 2: Usage, 3: NoMemory, 4: Malformed, 5: TimeExhausted}
 
 
 class _Handle(ctypes.Structure):
@@ -28,9 +63,12 @@ class _Handle(ctypes.Structure):
 assert ctypes.sizeof(_Handle) == 16
 
 
-def _library(path):
-    # a name without a slash would be looked for in the loader's own folders alone
-    library = ctypes.CDLL(os.path.abspath(path) if os.path.exists(path) else path)
+def _library(path: str) -> Any:
+    try:
+        # a name without a slash would be looked for in the loader's own folders alone
+        library = ctypes.CDLL(os.path.abspath(path) if os.path.exists(path) else path)
+    except OSError as error:
+        raise tb_client.CannotStart(f"{path} does not load: {error}") from None
     handle, bytes_in, room, size = ctypes.POINTER(_Handle), ctypes.c_char_p, ctypes.POINTER(ctypes.c_char), ctypes.c_size_t
     u32, u64 = ctypes.c_uint32, ctypes.c_uint64
     library.tb_embed_open.argtypes = [handle, u32, u32]
@@ -43,53 +81,60 @@ def _library(path):
     return library
 
 
-class Server:
-    """A server by profile 1 or 2, where 1 to 64 clients can have a session at one time. One call at a time."""
+class Server(Closing):
+    """A server by profile 1 or 2, where 1 to 64 clients can have a session at one time. Threads may share it: it takes one call
+    at a time."""
 
-    def __init__(self, path, clients_max=64, profile=1, room=4096):
-        self._library, self._handle, self._written = _library(path), _Handle(), ctypes.c_size_t()
-        self._room = ctypes.create_string_buffer(room)
-        self._check(self._library.tb_embed_open(self._handle, profile, clients_max))
+    def __init__(self, path: Union[str, os.PathLike[str]], clients_max: int = 64, profile: int = 1, room: int = 4096) -> None:
+        if not isinstance(path, (str, os.PathLike)):
+            raise tb_client.InvalidType("path", f"must be a path, not {kind_of(path)}")
+        places, profile = whole("clients_max", clients_max, 64, 1), whole("profile", profile, 2, 1)
+        self._room = ctypes.create_string_buffer(whole("room", room, REPLY_MAX, 1))
+        self._lock = threading.Lock()
+        self._library, self._handle, self._written = _library(os.fspath(path)), _Handle(), ctypes.c_size_t()
+        self._check(self._library.tb_embed_open(self._handle, profile, places))
 
-    def serve(self, moment, request):
+    def serve(self, moment: int, request: bytes) -> bytes:
         """The reply's frame to the frame of a request that comes at a moment, in nanoseconds."""
-        status = self._serve(moment, request)
-        if status == TOO_SMALL:  # it was served: a larger room, and the request again, which gets its reply
-            self._room = ctypes.create_string_buffer(self._written.value)
-            status = self._serve(moment, request)
-        self._check(status)
-        return self._room[: self._written.value]
+        moment = whole("moment", moment, MOMENT_MAX)
+        if not isinstance(request, (bytes, bytearray)):
+            raise tb_client.InvalidType("request", f"must be bytes, not {kind_of(request)}")
+        with self._lock:
+            status = self._serve(moment, bytes(request))
+            if status == TOO_SMALL:  # it was served: a larger room, and the request again, which gets its reply
+                self._room = ctypes.create_string_buffer(self._written.value)
+                status = self._serve(moment, bytes(request))
+            self._check(status)
+            return ctypes.string_at(self._room, self._written.value)
 
-    def account(self, id):
+    def account(self, id: int) -> Optional[bytes]:
         """The 128 bytes of an account as it stands after the last request, or None."""
         return self._record(self._library.tb_embed_account, id)
 
-    def transfer(self, id):
+    def transfer(self, id: int) -> Optional[bytes]:
         """The 128 bytes of a transfer as it was recorded, or None."""
         return self._record(self._library.tb_embed_transfer, id)
 
-    def close(self):
+    def close(self) -> None:
         """Frees the server. Its calls are refused from then on, as Closed."""
-        self._library.tb_embed_close(self._handle)
+        with self._lock:
+            self._library.tb_embed_close(self._handle)
 
-    def __enter__(self):
-        return self
+    def _serve(self, moment: int, request: bytes) -> int:
+        status: int = self._library.tb_embed_serve(self._handle, moment, request, len(request), self._room, len(self._room), self._written)
+        return status
 
-    def __exit__(self, *exception):
-        self.close()
-
-    def _serve(self, moment, request):
-        return self._library.tb_embed_serve(self._handle, moment, request, len(request), self._room, len(self._room), self._written)
-
-    def _record(self, call, id):
+    def _record(self, call: Any, id: int) -> Optional[bytes]:
+        id = whole("id", id, U128)
         record = ctypes.create_string_buffer(128)
-        status = call(self._handle, id & (2**64 - 1), id >> 64, record, 128)
+        with self._lock:
+            status = call(self._handle, id & U64, id >> 64, record, 128)
         if status == ABSENT:
             return None
         self._check(status)
         return record.raw
 
     @staticmethod
-    def _check(status):
+    def _check(status: int) -> None:
         if status:
-            raise Refused(status)
+            raise _REFUSALS.get(status, Refused)(status)

@@ -1,0 +1,137 @@
+#!/usr/bin/env python3
+"""Tests of the module over a library that answers what it is told to. checks/embed.py has those over the true one.
+
+    PYTHONPATH=../../clients/python python3 -m unittest
+"""
+import ctypes
+import fractions
+import os
+import sys
+import threading
+import time
+import unittest
+import unittest.mock
+
+sys.path.append(os.path.join(os.path.dirname(os.path.abspath(__file__)), "..", "..", "clients", "python"))
+
+import tb_client  # noqa: E402
+import tb_embed  # noqa: E402
+from tb_client import Direct, Session  # noqa: E402
+from tb_embed import Server  # noqa: E402
+
+NO_NUMBERS = [1.5, 1.0, fractions.Fraction(1), "1", b"1", None, True, [1], object()]
+
+
+class Library:
+    """Answers the statuses in turn, then 0 with the reply."""
+
+    def __init__(self):
+        self.statuses, self.calls, self.inside, self.most = [], [], 0, 0
+
+    def tb_embed_open(self, handle, profile, clients_max):
+        self.calls.append((profile, clients_max))
+        return 0
+
+    def tb_embed_serve(self, handle, moment, request, length, room, size, written):
+        self.inside += 1
+        self.most = max(self.most, self.inside)
+        time.sleep(0.0005)
+        self.inside -= 1
+        self.calls.append((moment, request))
+        session, number = int.from_bytes(request[16:24], "little"), int.from_bytes(request[24:28], "little")
+        reply = tb_client.Reply(int.from_bytes(request[:16], "little"), session or 1, number, request[28], 0, 9, b"").to_bytes()
+        written.value = len(reply)
+        if self.statuses:
+            return self.statuses.pop(0)
+        if size < len(reply):
+            return 7
+        ctypes.memmove(room, reply, len(reply))
+        return 0
+
+    def tb_embed_account(self, handle, low, high, room, size):
+        self.calls.append((low, high))
+        return self.statuses.pop(0) if self.statuses else 6
+
+    tb_embed_transfer = tb_embed_account
+
+    def tb_embed_close(self, handle):
+        self.statuses = [1] * 100
+
+
+class Embedded(unittest.TestCase):
+    def setUp(self):
+        self.library = Library()
+        patch = unittest.mock.patch("tb_embed._library", lambda path: self.library)
+        patch.start()
+        self.addCleanup(patch.stop)
+        self.server = Server("libtb_embed.so")
+        self.library.calls.clear()
+
+    def refused(self, field, call, *arguments, **named):
+        with self.assertRaises(tb_client.Invalid) as raised:
+            call(*arguments, **named)
+        self.assertEqual(raised.exception.field, field)
+        self.assertEqual(self.library.calls, [])
+
+    def test_what_arguments_may_not_be(self):
+        frame = tb_client.request_frame(7, 0, 0, 2)
+        for value in [*NO_NUMBERS, -1, 2**63, 2**64 + 5, 10**6000]:
+            self.refused("moment", self.server.serve, value, frame)
+        for value in [*NO_NUMBERS, -1, 2**128, 2**128 + 1]:
+            self.refused("id", self.server.account, value)
+            self.refused("id", self.server.transfer, value)
+        for value in [*NO_NUMBERS, -1, 0, 2**32 + 1]:
+            for field in ("clients_max", "profile", "room"):
+                self.refused(field, Server, "libtb_embed.so", **{field: value})
+        for value in (None, "x", 5, [frame]):
+            self.refused("request", self.server.serve, 10, value)
+        self.refused("path", Server, None)
+
+    def test_a_library_that_is_not_there(self):
+        unittest.mock.patch.stopall()
+        with self.assertRaises(tb_client.CannotStart) as raised:
+            Server("/nowhere/libtb_embed.so")
+        self.assertTrue(str(raised.exception).startswith("/nowhere/libtb_embed.so does not load: "))
+
+    def test_statuses_by_name(self):
+        frame = tb_client.request_frame(7, 0, 0, 2)
+        for status, name in tb_embed.REFUSALS.items():
+            if status not in (tb_embed.ABSENT, tb_embed.TOO_SMALL):
+                self.library.statuses = [status]
+                with self.assertRaises(tb_embed.Refused) as raised:
+                    self.server.serve(10, frame)
+                self.assertEqual((str(raised.exception), type(raised.exception).__name__, raised.exception.status), (name, name, status))
+                self.assertIsInstance(raised.exception, tb_client.ClientError)
+        self.assertTrue(issubclass(tb_embed.NoMemory, tb_client.NoMemory) and issubclass(tb_embed.Closed, tb_client.Closed))
+
+    def test_want_of_memory_is_tried_again(self):
+        with unittest.mock.patch("time.sleep"):
+            self.library.statuses = [3, 3, 3, 3]
+            session = Session.register(Direct(self.server.serve), 7, now=lambda: 10)
+            self.assertEqual((session.session, len(self.library.calls), len(set(self.library.calls))), (1, 5, 1))
+            self.library.statuses = [3] * 5
+            self.assertRaises(tb_client.NoMemory, session.lookup_accounts, [])
+            self.assertEqual(session.retry(), [])
+
+    def test_a_room_that_is_too_small(self):
+        self.assertEqual(len(Server("libtb_embed.so", room=1).serve(10, tb_client.request_frame(7, 0, 0, 2))), 48)
+
+    def test_closed(self):
+        with self.server as server:
+            session = Session.register(Direct(server.serve), 7, now=lambda: 10)
+        self.assertRaises(tb_embed.Closed, server.account, 1)
+        with self.assertRaises(tb_client.Closed):
+            session.lookup_accounts([1])
+        self.assertIsNone(session.pending)
+
+    def test_threads_share_a_server(self):
+        threads = [threading.Thread(target=lambda: [self.server.serve(10, tb_client.request_frame(7, 0, 0, 2)) for _ in range(20)]) for _ in range(8)]
+        for it in threads:
+            it.start()
+        for it in threads:
+            it.join()
+        self.assertEqual((len(self.library.calls), self.library.most), (160, 1))
+
+
+if __name__ == "__main__":
+    unittest.main()
