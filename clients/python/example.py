@@ -1,33 +1,67 @@
 #!/usr/bin/env python3
-"""Moves money between two accounts with a reply lost on purpose, and shows that it moved once.
+"""Moves money between two accounts, once, though a reply is lost, the client crashes, its session ends, and the server is killed.
 
     example.py [PATH OF tbs]        (crates/tbs/out/tbs of this repository where none is given)
 """
 import os
 import sys
+import tempfile
 
-from tb_client import Account, Faulty, Program, Session, Transfer, require_ok
+import tb_client as tb
+from tb_client import Account, Evicted, Faulty, Operation, Program, ReplyLost, Session, Transfer, id, require_ok
 
 here = os.path.dirname(os.path.abspath(__file__))
 path = sys.argv[1] if len(sys.argv) > 1 else os.path.join(here, "..", "..", "crates", "tbs", "out", "tbs")
 CASH, SALES = 1, 2
 
-# The third exchange is the transfer: it reaches the server, and its reply is lost on the way back.
-transport = Faulty(Program(path), replies={3})
-session = Session.register(transport, client=7)
-print(f"registered: session {session.session}")
 
-require_ok(session.create_accounts([Account(CASH, ledger=700, code=10), Account(SALES, ledger=700, code=10)]))
-print("accounts 1 and 2 are created")
+def credited(session: Session) -> int:
+    return session.lookup_accounts([SALES])[0].credits_posted
 
-require_ok(session.create_transfers([Transfer(11, debit_account_id=CASH, credit_account_id=SALES, amount=100, ledger=700, code=10)]))
-print(f"transfer 11 of 100 is made: its request was sent {transport.count - 2} times")
 
-cash, sales = session.lookup_accounts([CASH, SALES])
-print(f"account 1: debits_posted {cash.debits_posted}; account 2: credits_posted {sales.credits_posted}")
-assert (cash.debits_posted, sales.credits_posted) == (100, 100), "the money moved more than once, or not at all"
+with tempfile.TemporaryDirectory() as folder, Program(path, clients_max=1, restarts=True) as program:
+    kept = os.path.join(folder, "session.json")
 
-# The program is killed: its history is gone with its memory, and comes back from the script of what it had answered.
-transport.inner.process.kill()
-print(f"after a restart: credits_posted {session.lookup_accounts([SALES])[0].credits_posted}")
-transport.close()
+    # The first life of a client: prepare, save, and only then send.
+    session = Session.register(program)
+    session.save(kept)
+    require_ok(session.create_accounts([Account(CASH, ledger=700, code=10), Account(SALES, ledger=700, code=10)]))
+    print("accounts 1 and 2 are created")
+
+    sale = Transfer(id(), debit_account_id=CASH, credit_account_id=SALES, amount=100, ledger=700, code=10)
+    session.prepare(Operation.create_transfers, [sale])
+    session.save(kept)
+    session.transport = Faulty(program, replies=range(1, 6))  # it reaches the server, and no reply comes back
+    try:
+        session.retry()
+    except ReplyLost:
+        print("a transfer of 100 was sent, and no reply came")
+    del session  # the client crashes here, and all that is left of it is the file
+
+    # Its second life: the same bytes first, then what comes next.
+    session = Session.load(program, kept)
+    require_ok(session.retry())
+    session.save(kept)
+    print(f"after a crash the same bytes are sent again: credits_posted {credited(session)}")
+
+    # Another client takes the only place, and the session ends while a transfer is in doubt.
+    second = Transfer(id(), debit_account_id=CASH, credit_account_id=SALES, amount=10, ledger=700, code=10)
+    session.prepare(Operation.create_transfers, [second])
+    session.save(kept)
+    Session.register(program)
+    try:
+        session.retry()
+    except Evicted:
+        doubt = session.in_doubt
+        assert doubt is not None
+        session = Session.register(program)
+        results = session.create_transfers([it for it in doubt.items if isinstance(it, Transfer)])
+        require_ok([it for it in results if it.result != tb.CreateTransferResult.exists])
+        session.save(kept)  # from here on the old session is not needed
+        print(f"after an eviction the same records are created again: credits_posted {credited(session)}")
+
+    # The server is killed. Its history was in its memory alone, and comes back from the script that restarts=True keeps.
+    assert program.process is not None
+    program.process.kill()
+    print(f"after a restart: credits_posted {credited(session)}")
+    assert credited(session) == 110, "the money moved more than once, or not at all"

@@ -157,7 +157,7 @@ class Session(Closing):
         """The transfers that are there, in the order of the ids."""
         return cast(List[Transfer], self._ask(Operation.lookup_transfers, ids))
 
-    def _ask(self, operation: Operation, items: Iterable[Item]) -> Said:
+    def _ask(self, operation: Operation, items: Iterable[Item]) -> Any:
         with self._lock:
             self.prepare(operation, items)
             try:
@@ -188,8 +188,9 @@ class Session(Closing):
                 self.pending = request_frame(self.client, self.session, self.number + 1, kind, body)
             self._refused, self._may_be_sent = None, False
 
-    def retry(self) -> Said:
-        """Sends the request in doubt, the same bytes each time, until its reply has come. Answers what it says."""
+    def retry(self) -> Any:
+        """Sends the request in doubt, the same bytes each time, until its reply has come. Answers what it says: results of a
+        create, records of a look-up, None of a register."""
         with self._lock:
             if self.pending is None:
                 raise NothingInDoubt("no request is in doubt")
