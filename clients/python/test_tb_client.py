@@ -100,6 +100,7 @@ class Retries(unittest.TestCase):
             self.assertEqual((type(raised.exception).__name__, raised.exception.status), (status.name, status))
             self.assertEqual(isinstance(raised.exception, tb.Evicted), status in (tb.Status.NoSession, tb.Status.SessionTooLow))
             self.assertEqual((session.number, session.pending, session.in_doubt.items), (0, self.sent[0], (1,)))
+            self.assertTrue(str(raised.exception).startswith("request 1 of session 1 is refused: "))
             self.assertEqual(len(self.sent), 5 if status == tb.Status.NotYet else 1)
             self.assertRaises(tb.InDoubt, session.lookup_accounts, [1])
 
@@ -155,6 +156,8 @@ class Worked(unittest.TestCase):
             tb.require_ok(session.create_transfers(chain))
         self.assertEqual(str(raised.exception), "event 0: linked_event_failed, event 1: debit_account_not_found, event 2: linked_event_failed")
         tb.require_ok(session.create_transfers([transfer(53, 1, 2, 1)]))
+        many = tb.EventsFailed(session.create_transfers([transfer(0, 1, 2, 1)] * 8190))
+        self.assertTrue(str(many).endswith("event 9: id_must_not_be_zero, and 8180 more"))
 
     def test_refused(self):
         transport = self.program(1)

@@ -5,7 +5,10 @@ The ranges are those of docs/FORMATS.md and docs/RULES.md, written here again.
 """
 import decimal
 import fractions
+import json
 import math
+import os
+import tempfile
 import unittest
 
 import tb_client as tb
@@ -77,7 +80,7 @@ class Values(unittest.TestCase):
         said = str(raised.exception)
         self.assertEqual(raised.exception.field, field)
         self.assertTrue(said.startswith(field + " "), said)
-        self.assertLess(len(said), 120, said)
+        self.assertLess(len(said), 130, said)
         self.assertIsInstance(raised.exception, (tb.ClientError, tb.NotSent))
         self.assertEqual((self.sent, self.session.pending, self.session.number), ([], None, 0))
         return said
@@ -240,6 +243,22 @@ class Values(unittest.TestCase):
         for value in (None, [], "x", 5):
             self.refused("saved", Session.resumed, Direct(self.exchange), value, types=TypeError)
         self.assertEqual(Session.resumed(Direct(self.exchange), saved).saved, saved)
+
+    def test_pending(self):
+        other = tb.request_frame(8, 1, 1, 129)
+        for value in (b"", b"x", other, tb.request_frame(7, 1, 2, 129), 5, "x", [other]):
+            self.refused("pending", Session, Direct(self.exchange), 7, 1, 0, value)
+
+    def test_a_file_that_is_no_session(self):
+        with tempfile.TemporaryDirectory() as folder:
+            path = os.path.join(folder, "session.json")
+            for text in (b"", b"{", b"\xff\xfe", b"[" * 10):
+                with open(path, "wb") as file:
+                    file.write(text)
+                self.refused("saved", Session.load, Direct(self.exchange), path, types=ValueError)
+            with open(path, "w", encoding="ascii") as file:
+                json.dump([1], file)
+            self.refused("saved", Session.load, Direct(self.exchange), path, types=TypeError)
 
     def test_arguments_of_a_program(self):
         path = "/nowhere/tbs"

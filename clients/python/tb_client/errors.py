@@ -9,6 +9,9 @@ if TYPE_CHECKING:
     from .records import EventResult
 
 
+SHOWN = 10  # failed events in an error's text
+
+
 class ClientError(Exception):
     """The base of all that this package and the embedded server tell."""
 
@@ -94,6 +97,7 @@ class Refused(ClientError):
     """The server refused the request, and changed nothing. `status` says why; a subclass has the status's name."""
 
     status: Status
+    reason: str
 
 
 class Evicted(Refused):
@@ -102,30 +106,37 @@ class Evicted(Refused):
 
 class NoSession(Evicted):
     status = Status.NoSession
+    reason = "the client has no session, register anew"
 
 
 class SessionTooLow(Evicted):
     status = Status.SessionTooLow
+    reason = "the client has a later session"
 
 
 class NewerSession(Refused):
     status = Status.NewerSession
+    reason = "the server knows no such session"
 
 
 class Older(Refused):
     status = Status.Older
+    reason = "a later request of the session was executed"
 
 
 class Collision(Refused):
     status = Status.Collision
+    reason = "its number was used for another request"
 
 
 class NewerRequest(Refused):
     status = Status.NewerRequest
+    reason = "a request before it is missing"
 
 
 class NotYet(Refused):
     status = Status.NotYet
+    reason = "it is not shown yet"
 
 
 REFUSALS = {it.status: it for it in (NoSession, SessionTooLow, NewerSession, Older, Collision, NewerRequest, NotYet)}
@@ -139,4 +150,6 @@ class EventsFailed(ClientError):
         self.results = results
 
     def __str__(self) -> str:
-        return ", ".join(f"event {it.index}: {it.result.name}" for it in self.results)
+        more = len(self.results) - SHOWN
+        said = ", ".join(f"event {it.index}: {it.result.name}" for it in self.results[:SHOWN])
+        return f"{said}, and {more} more" if more > 0 else said

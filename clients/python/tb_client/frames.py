@@ -137,9 +137,10 @@ def _parts(frame: bytes) -> tuple[int, int, int, Operation, bytes]:
     return client, session, number, Operation(operation), body
 
 
-def check_frame(frame: bytes) -> None:
-    """Refuses bytes that the server would find malformed, and end at."""
-    _parts(frame)
+def header_of(frame: bytes) -> Request:
+    """A request without its items. Bytes that the server would find malformed, and end at, are refused."""
+    client, session, number, operation, _ = _parts(frame)
+    return Request(client, session, number, operation, ())
 
 
 # Replies

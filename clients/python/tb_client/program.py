@@ -11,7 +11,7 @@ import time
 from typing import IO, Optional, Union, cast
 
 from .errors import CannotStart, Closed, InvalidType, NoMemory, ProgramEnded, ReplyLost, ScriptFull
-from .frames import HEADER, check_frame, reply_length
+from .frames import HEADER, header_of, reply_length
 from .transports import Closing
 from .values import MOMENT_MAX, U64, kind_of, seconds, truth, whole
 
@@ -73,8 +73,10 @@ class Program(Closing):
         return process.stdin, process.stdout, process.stderr
 
     def exchange(self, moment: int, frame: bytes) -> bytes:
-        check_frame(frame)
+        header_of(frame)  # a wrong one would end the program for all
         pair = struct.pack("<Q", whole("moment", moment, MOMENT_MAX)) + frame
+        if self._owner != os.getpid():
+            raise Closed("this Program belongs to the process that made it")
         with self._lock:
             self._be_ready()
             if self.seen == self.sent or self.last != frame:  # else it is on its way already, and its reply is waited for
@@ -83,8 +85,6 @@ class Program(Closing):
 
     def _be_ready(self) -> None:
         """Starts the program anew where that was asked for, else tells why it takes no more."""
-        if self._owner != os.getpid():
-            raise Closed("this Program belongs to the process that made it")
         if self._end is not None:
             raise self._end.with_traceback(None)
         if self.process is None:
@@ -132,7 +132,10 @@ class Program(Closing):
         return None
 
     def _read(self, stdout: IO[bytes]) -> None:
-        data = os.read(stdout.fileno(), CHUNK)
+        try:
+            data = os.read(stdout.fileno(), CHUNK)
+        except BlockingIOError:
+            return
         if not data:
             raise self._ended()
         self.data, self.data_at = self.data[self.data_at :] + data, 0

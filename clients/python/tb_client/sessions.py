@@ -5,16 +5,17 @@ import json
 import os
 import threading
 import time
-from typing import Any, Callable, Dict, Iterable, List, Mapping, Optional, Sequence, Type, TypedDict, TypeVar, Union, cast
+from typing import Any, Callable, Iterable, List, Mapping, Optional, Sequence, Type, TypedDict, TypeVar, Union, cast
 
 from .errors import REFUSALS, BadReply, ClockJumped, EventsFailed, Evicted, InDoubt, InvalidType, InvalidValue, NoMemory, NothingInDoubt, NotSent, NotYet, ReplyLost
-from .frames import NUMBER_MAX, Item, Reply, Request, Said, body_of, operation_of, request_frame, said_by
+from .frames import NUMBER_MAX, Item, Reply, Request, Said, body_of, header_of, operation_of, request_frame, said_by
 from .ids import id as new_id
 from .names import Operation, Status
 from .records import Account, EventResult, Transfer
 from .transports import Closing, Transport, close_transport
 from .values import MOMENT_MAX, U32, U64, U128, callable_of, kind_of, seconds, whole
 
+ATTEMPTS = 5
 JUMP_MAX = 60.0  # seconds
 SECOND = 10**9
 FIRST_PAUSE = 0.01  # seconds, before a request is sent again for want of memory; doubled each time
@@ -73,7 +74,7 @@ class Session(Closing):
         session: int = 0,
         number: int = 0,
         pending: Optional[bytes] = None,
-        attempts: int = 5,
+        attempts: int = ATTEMPTS,
         now: Callable[[], int] = time.time_ns,
         jump_max: Optional[float] = JUMP_MAX,
     ) -> None:
@@ -84,6 +85,7 @@ class Session(Closing):
         self.attempts = whole("attempts", attempts, U32, 1)
         self.now = callable_of("now", now)
         self.jump_max = None if jump_max is None else seconds("jump_max", jump_max, 0)
+        _test_pending("pending", pending, self.client, self.session, self.number)
         self.pending = pending
         self._refused: Optional[Type[Exception]] = None
         self._may_be_sent = pending is not None
@@ -91,14 +93,30 @@ class Session(Closing):
         self._lock = threading.RLock()
 
     @classmethod
-    def register(cls: Type[S], transport: Transport, client: Optional[int] = None, **options: Any) -> S:
+    def register(
+        cls: Type[S],
+        transport: Transport,
+        client: Optional[int] = None,
+        *,
+        attempts: int = ATTEMPTS,
+        now: Callable[[], int] = time.time_ns,
+        jump_max: Optional[float] = JUMP_MAX,
+    ) -> S:
         """Registers the client, and answers its new session. Where no id is given the client has a new one."""
-        self = cls(transport, new_id() if client is None else client, **options)
+        self = cls(transport, new_id() if client is None else client, attempts=attempts, now=now, jump_max=jump_max)
         self._ask(Operation.register, ())
         return self
 
     @classmethod
-    def resumed(cls: Type[S], transport: Transport, saved: Union[Saved, Mapping[str, Any]], **options: Any) -> S:
+    def resumed(
+        cls: Type[S],
+        transport: Transport,
+        saved: Union[Saved, Mapping[str, Any]],
+        *,
+        attempts: int = ATTEMPTS,
+        now: Callable[[], int] = time.time_ns,
+        jump_max: Optional[float] = JUMP_MAX,
+    ) -> S:
         """The session as it was when `saved` was taken. Where a request was in doubt, `retry` it first."""
         if not isinstance(saved, Mapping):
             raise InvalidType("saved", f"must be a dict, not {kind_of(saved)}")
@@ -107,7 +125,9 @@ class Session(Closing):
                 raise InvalidValue(f"saved['{field}']", "is missing")
         client = whole("saved['client']", saved["client"], U128, 1)
         session, number = whole("saved['session']", saved["session"], U64), whole("saved['number']", saved["number"], U32)
-        return cls(transport, client, session, number, _pending_of(saved["pending"], client, session, number), **options)
+        pending = _frame_of("saved['pending']", saved["pending"])
+        _test_pending("saved['pending']", pending, client, session, number)
+        return cls(transport, client, session, number, pending, attempts=attempts, now=now, jump_max=jump_max)
 
     @property
     def saved(self) -> Saved:
@@ -129,10 +149,22 @@ class Session(Closing):
             os.close(folder)
 
     @classmethod
-    def load(cls: Type[S], transport: Transport, path: Path, **options: Any) -> S:
+    def load(
+        cls: Type[S],
+        transport: Transport,
+        path: Path,
+        *,
+        attempts: int = ATTEMPTS,
+        now: Callable[[], int] = time.time_ns,
+        jump_max: Optional[float] = JUMP_MAX,
+    ) -> S:
         """The session that `save` kept in a file. Where a request was in doubt, `retry` it first."""
-        with open(path, encoding="ascii") as file:
-            return cls.resumed(transport, json.load(file), **options)
+        try:
+            with open(path, encoding="ascii") as file:
+                saved = json.load(file)
+        except ValueError as fault:
+            raise InvalidValue("saved", f"is no JSON: {fault}") from None
+        return cls.resumed(transport, saved, attempts=attempts, now=now, jump_max=jump_max)
 
     @property
     def in_doubt(self) -> Optional[Request]:
@@ -221,7 +253,7 @@ class Session(Closing):
     def _take(self, reply: Reply) -> Said:
         """Takes the reply to the request in doubt, which is in doubt no longer: the session goes on behind it. A refusal leaves
         it in doubt, since it may have been executed before."""
-        asked = Request.from_bytes(cast(bytes, self.pending))
+        asked = header_of(cast(bytes, self.pending))
         session = asked.session
         if (reply.client, reply.number, reply.operation) != (self.client, asked.number, asked.operation):
             raise BadReply(f"a reply to request {reply.number} of client {reply.client} came for request {asked.number}")
@@ -230,7 +262,7 @@ class Session(Closing):
                 raise BadReply(f"no status is {reply.status}")
             refusal = REFUSALS[Status(reply.status)]
             self._refused = refusal
-            raise refusal(f"request {asked.number} of session {session}")
+            raise refusal(f"request {asked.number} of session {session} is refused: {refusal.reason}")
         if asked.operation == Operation.register:
             session = reply.session
         if reply.session != session or not session:
@@ -244,22 +276,29 @@ class Session(Closing):
         close_transport(self.transport)
 
 
-def _pending_of(text: object, client: int, session: int, number: int) -> Optional[bytes]:
-    """The bytes in doubt of what was saved: none, or the next request of just this session."""
-    field = "saved['pending']"
+def _frame_of(field: str, text: object) -> Optional[bytes]:
+    """The bytes in doubt of what was saved, or none."""
     if not isinstance(text, str):
         raise InvalidType(field, f"must be a str, not {kind_of(text)}")
-    if not text:
-        return None
     try:
-        frame = bytes.fromhex(text)
-        asked = Request.from_bytes(frame)
+        return bytes.fromhex(text) or None
+    except ValueError:
+        raise InvalidValue(field, "is no hex") from None
+
+
+def _test_pending(field: str, pending: Optional[bytes], client: int, session: int, number: int) -> None:
+    """Refuses bytes in doubt that are not the next request of just this session."""
+    if pending is None:
+        return
+    try:
+        asked = header_of(pending)
     except ValueError as fault:
         raise InvalidValue(field, f"is no request: {fault}") from None
+    except TypeError:
+        raise InvalidType(field, f"must be bytes, not {kind_of(pending)}") from None
     wanted = (client, session, 0 if asked.operation == Operation.register else number + 1)
     if (asked.client, asked.session, asked.number) != wanted:
         raise InvalidValue(field, "is not the next request of this session")
-    return frame
 
 
 def require_ok(results: Sequence[EventResult]) -> None:
