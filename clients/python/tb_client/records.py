@@ -15,6 +15,7 @@ ID = 16
 NARROW = struct.Struct("<QIIIHHQ")
 
 Flags = TypeVar("Flags", AccountFlags, TransferFlags)
+Record = TypeVar("Record", "Account", "Transfer")
 
 
 def u128(number: int) -> bytes:
@@ -32,25 +33,29 @@ def _flags(field: str, value: object, kind: Type[Flags]) -> Flags:
     return kind(whole(field, value, U16))
 
 
-def _settle(record: Any, wide: tuple[str, ...], narrow: dict[str, int], flags: Any) -> None:
+def _settle(record: Any, ranges: dict[str, int], flags: Any) -> None:
     """Tests each field of a record that is being made, and makes plain integers of what has an index."""
-    name = flags.__name__[: -len("Flags")]
-    for field in wide:
-        object.__setattr__(record, field, whole(f"{name}.{field}", getattr(record, field), U128))
-    for field, greatest in narrow.items():
-        object.__setattr__(record, field, whole(f"{name}.{field}", getattr(record, field), greatest))
-    object.__setattr__(record, "flags", _flags(f"{name}.flags", record.flags, flags))
+    name, fields = flags.__name__[: -len("Flags")], record.__dict__
+    for field, greatest in ranges.items():
+        value = fields[field]
+        if type(value) is not int or not 0 <= value <= greatest:
+            fields[field] = whole(f"{name}.{field}", value, greatest)
+    if type(fields["flags"]) is not flags or not 0 <= fields["flags"] <= U16:
+        fields["flags"] = _flags(f"{name}.flags", fields["flags"], flags)
 
 
-_ACCOUNT_WIDE = ("id", "debits_pending", "debits_posted", "credits_pending", "credits_posted", "user_data_128")
-_ACCOUNT_NARROW = {"user_data_64": U64, "user_data_32": U32, "reserved": U32, "ledger": U32, "code": U16, "timestamp": U64}
-_TRANSFER_WIDE = ("id", "debit_account_id", "credit_account_id", "amount", "pending_id", "user_data_128")
-_TRANSFER_NARROW = {"user_data_64": U64, "user_data_32": U32, "timeout": U32, "ledger": U32, "code": U16, "timestamp": U64}
+def _read(kind: Type[Record], data: bytes, flags: Any) -> Record:
+    """The record that the bytes spell. All that they can spell is in range."""
+    record = object.__new__(kind)
+    *narrow, bits, timestamp = NARROW.unpack_from(data, 96)
+    values = (*(u128_at(data, at) for at in range(0, 96, 16)), *narrow, flags(bits), timestamp)
+    record.__dict__.update(zip(kind.__dataclass_fields__, values))
+    return record
 
 
-def _fields(data: bytes) -> list[Any]:
-    """The fields of a record, in their order."""
-    return [*(u128_at(data, at) for at in range(0, 96, 16)), *NARROW.unpack_from(data, 96)]
+_BOTH = {"id": U128, "user_data_128": U128, "user_data_64": U64, "user_data_32": U32, "ledger": U32, "code": U16, "timestamp": U64}
+_ACCOUNT = {**_BOTH, "debits_pending": U128, "debits_posted": U128, "credits_pending": U128, "credits_posted": U128, "reserved": U32}
+_TRANSFER = {**_BOTH, "debit_account_id": U128, "credit_account_id": U128, "amount": U128, "pending_id": U128, "timeout": U32}
 
 
 @dataclasses.dataclass(frozen=True)
@@ -70,7 +75,7 @@ class Account:
     timestamp: int = 0
 
     def __post_init__(self) -> None:
-        _settle(self, _ACCOUNT_WIDE, _ACCOUNT_NARROW, AccountFlags)
+        _settle(self, _ACCOUNT, AccountFlags)
 
     def to_bytes(self) -> bytes:
         sums = (self.id, self.debits_pending, self.debits_posted, self.credits_pending, self.credits_posted, self.user_data_128)
@@ -79,7 +84,7 @@ class Account:
 
     @classmethod
     def from_bytes(cls, data: bytes) -> Account:
-        return cls(*_fields(data))
+        return _read(cls, data, AccountFlags)
 
 
 @dataclasses.dataclass(frozen=True)
@@ -99,7 +104,7 @@ class Transfer:
     timestamp: int = 0
 
     def __post_init__(self) -> None:
-        _settle(self, _TRANSFER_WIDE, _TRANSFER_NARROW, TransferFlags)
+        _settle(self, _TRANSFER, TransferFlags)
 
     def to_bytes(self) -> bytes:
         wide = (self.id, self.debit_account_id, self.credit_account_id, self.amount, self.pending_id, self.user_data_128)
@@ -108,7 +113,7 @@ class Transfer:
 
     @classmethod
     def from_bytes(cls, data: bytes) -> Transfer:
-        return cls(*_fields(data))
+        return _read(cls, data, TransferFlags)
 
 
 @dataclasses.dataclass(frozen=True)
