@@ -1,23 +1,29 @@
 #!/usr/bin/env python3
-"""Runs the tests and the example of clients/python on the built program. First build it:
+"""Runs the tests and the example of clients/python on the built program, and what docs/CLIENTS.md shows. First build it:
 
     (cd crates/tbs && rt run -- run 2) < examples/first.script > /dev/null
     checks/clients.py
 
-Prints a line for each case, and 'N passed, M failed'.
+Prints a line for each case, and 'N passed, M failed'. Where mypy is there, types are checked too. PROGRAM names another tbs.
 """
 import os
+import re
+import shutil
+import struct
 import subprocess
 import sys
+import tempfile
+import textwrap
 
 TOP = os.path.dirname(os.path.dirname(os.path.abspath(__file__)))
 CLIENT = f"{TOP}/clients/python"
-PROGRAM = f"{TOP}/crates/tbs/out/tbs"
-EXAMPLE = """registered: session 1
-accounts 1 and 2 are created
-transfer 11 of 100 is made: its request was sent 2 times
-account 1: debits_posted 100; account 2: credits_posted 100
-after a restart: credits_posted 100
+EMBED = f"{TOP}/embed/python"
+PROGRAM = os.path.abspath(os.environ.get("PROGRAM", f"{TOP}/crates/tbs/out/tbs"))
+EXAMPLE = """accounts 1 and 2 are created
+a transfer of 100 was sent, and no reply came
+after a crash the same bytes are sent again: credits_posted 100
+after an eviction the same records are created again: credits_posted 110
+after a restart: credits_posted 110
 """
 
 passed = failed = 0
@@ -29,19 +35,139 @@ def case(name, holds, why=""):
     print(f"ok: {name}{why and ': ' + why}" if holds else f"FAILED: {name}: {why}", flush=True)
 
 
-def python(*words):
-    ran = subprocess.run([sys.executable, "-B", *words], cwd=CLIENT, capture_output=True, text=True, timeout=300, env={**os.environ, "PROGRAM": PROGRAM})
+def python(*words, folder=CLIENT):
+    there = {**os.environ, "PROGRAM": PROGRAM, "PYTHONPATH": CLIENT}
+    ran = subprocess.run([sys.executable, "-B", *words], cwd=folder, capture_output=True, text=True, timeout=300, env=there)
     return ran.returncode, ran.stdout, ran.stderr
+
+
+def tests(name, folder):
+    status, _, told = python("-W", "error::ResourceWarning", "-m", "unittest", folder=folder)
+    last = told.strip().splitlines()[-1] if told.strip() else ""
+    case(name, status == 0 and last == "OK", told[-2000:] if status or last != "OK" else told.split("\n")[-4])
+
+
+def script(name, folder, *words):
+    status, output, told = python(*words, folder=folder)
+    case(name, (status, told) == (0, ""), output + told if status or told else "")
+    return output
+
+
+def types():
+    if not shutil.which("mypy"):
+        print("passed over: mypy is not there")
+        return
+    with tempfile.TemporaryDirectory() as kept:
+        words = ["mypy", "--strict", "--cache-dir", kept, "tb_client", "example.py", f"{EMBED}/tb_embed.py"]
+        ran = subprocess.run(words, cwd=CLIENT, capture_output=True, text=True, timeout=300, env={**os.environ, "MYPYPATH": CLIENT})
+    case("types, by mypy --strict", ran.returncode == 0, ran.stdout.strip()[-2000:])
+
+
+# What the page shows
+
+
+def page():
+    with open(f"{TOP}/docs/CLIENTS.md", encoding="utf-8") as it:
+        return it.read()
+
+
+def blocks():
+    """The page's Python runs: a sale, a crash before its reply came, and an eviction while it is in doubt."""
+    sale, crash, eviction = re.findall(r"```python\n(.*?)```", page(), re.S)
+    sent = "session.prepare(Operation.create_transfers, [Transfer(id(), 1, 2, 10, ledger=700, code=10)])\nsession.save('session.json')\n"
+    whole = f"""
+import os, tempfile
+from tb_client import *
+from tb_client import id
+os.chdir(tempfile.mkdtemp())
+transport = Program({PROGRAM!r}, 1)
+first = Session.register(transport)
+require_ok(first.create_accounts([Account(it, ledger=700, code=10) for it in (1, 2)]))
+{sale}
+{sent}
+{crash}
+{sent}
+Session.register(transport)
+try:
+    session.retry()
+{eviction}
+print(session.lookup_accounts([2])[0].credits_posted)
+transport.close()
+"""
+    output = script("the page's Python", CLIENT, "-c", textwrap.dedent(whole))
+    case("what it moves", output == "120\n", output)
+
+
+def readme():
+    """The Python of the client's README runs too."""
+    with open(f"{CLIENT}/README.md", encoding="utf-8") as it:
+        shown = re.findall(r"```python\n(.*?)```", it.read(), re.S)[0].replace("../../crates/tbs/out/tbs", PROGRAM)
+    output = script("the Python of the client's README", CLIENT, "-c", f"import os, tempfile\nos.chdir(tempfile.mkdtemp())\n{shown}")
+    case("what that shows", output.count("posted=100") == 2, output)
+
+
+def statuses():
+    """The page's rows of exit statuses: the line of each, the status, and what it is of."""
+    part = page().split("## Exit statuses of the program")[1].split("\n## ")[0]
+    rows, twice = {}, []
+    for status, names, of in re.findall(r"^\| (\d) \| ([A-Za-z, ]+) \| ([a-z, ]+) \|", part, re.M):
+        for name in names.split(", "):
+            twice += [name] if name in rows else []
+            rows[name] = (int(status), ["run", "dump", "replay", "storm"] if of == "all" else of.split(", "))
+    case("one row for each fault", not twice, " ".join(twice))
+    return rows
+
+
+def names():
+    """The names of the program's faults, as its code has them. ReplyNumbers is of replies, which the program does not read."""
+    found = set()
+    for path in ("tb_records/src/faults.rt", "tb_records/src/dumps.rt", "tb_machine/src/serving.rt", "tbs/src/commands.rt", "tbs/src/storm/faults.rt"):
+        with open(f"{TOP}/crates/{path}", encoding="utf-8") as code:
+            found |= set(re.findall(r'=> "(\w+)"', code.read()))
+    return found - {"ReplyNumbers"}
+
+
+def pair(moment, client, session, number, operation, body=b"", length=None, reserved=0):
+    header = struct.pack("<QIB3sI12x", session, number, operation, bytes([reserved, 0, 0]), len(body) if length is None else length)
+    return struct.pack("<Q", moment) + client.to_bytes(16, "little") + header + body
+
+
+def faults():
+    """A way to each fault of `run` and `replay` that wrong input has."""
+    first = pair(10, 7, 0, 0, 2)
+    head = b"TBSDUMP1" + struct.pack("<II", 1, 2)
+    run = {
+        "Short": first[:-1], "ClientZero": pair(10, 0, 0, 0, 2), "UnknownOperation": pair(10, 7, 0, 0, 3), "Reserved": pair(10, 7, 0, 0, 2, reserved=1),
+        "RegisterNumbers": pair(10, 7, 1, 0, 2), "RequestZero": pair(10, 7, 1, 0, 129), "BadLength": pair(10, 7, 1, 1, 129, b"1"),
+        "TooMany": pair(10, 7, 1, 1, 129, length=8191 * 128), "TimeExhausted": pair(2**63, 7, 0, 0, 2),
+    }
+    replay = {"Head": b"", "Mark": head + struct.pack("<QQ", 0, 3), "NotLegal": head + struct.pack("<Q", 2) + first}
+    return [(["run", "2"], *it) for it in run.items()] + [(["replay"], *it) for it in replay.items()] + [(["run"], "Usage", b"")]
+
+
+def exits():
+    rows = statuses()
+    case("a row for each fault of the code", set(rows) == names(), " ".join(sorted(set(rows) ^ names())))
+    for words, name, data in faults():
+        ran = subprocess.run([PROGRAM, *words], input=data, capture_output=True, timeout=60)
+        status, of = rows.get(name, (None, []))
+        case(f"exit status of {name}", (ran.returncode, ran.stderr, words[0] in of) == (status, f"tbs: {name}\n".encode(), True), f"{ran.returncode} {ran.stderr!r}")
+    with open("/dev/full", "wb") as full:
+        ran = subprocess.run([PROGRAM, "run", "2"], input=pair(10, 7, 0, 0, 2), stdout=full, stderr=subprocess.PIPE, timeout=60)
+    case("exit status of Device", (ran.returncode, ran.stderr) == (rows["Device"][0], b"tbs: Device\n"))
 
 
 def main():
     if not os.access(PROGRAM, os.X_OK):
         sys.exit(f"{PROGRAM} is not there: build it first, as the head of this file says")
-    status, _, told = python("-m", "unittest")
-    last = told.strip().splitlines()[-1] if told.strip() else ""
-    case("the tests of the client in Python", status == 0 and last == "OK", told[-2000:] if status or last != "OK" else told.split("\n")[-4])
-    status, output, told = python("example.py", PROGRAM)
-    case("the example of the client in Python", (status, output, told) == (0, EXAMPLE, ""), output + told if status or output != EXAMPLE else "")
+    tests("the tests of the client in Python", CLIENT)
+    tests("the tests of the embedded server's module", EMBED)
+    output = script("the example of the client in Python", CLIENT, "example.py", PROGRAM)
+    case("what the example says", output == EXAMPLE, "" if output == EXAMPLE else output)
+    types()
+    blocks()
+    readme()
+    exits()
     print(f"{passed} passed, {failed} failed")
     return 1 if failed else 0
 

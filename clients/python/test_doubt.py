@@ -2,7 +2,11 @@
 """Requests in doubt: over crashes, evictions, lost replies, want of memory and clocks that jump."""
 import json
 import os
+import random
 import signal
+import struct
+import subprocess
+import sys
 import tempfile
 import time
 import unittest
@@ -12,7 +16,34 @@ import tb_client as tb
 from tb_client import Direct, Program, Session
 from test_tb_client import PROGRAM, account, at_ten, has_program, reply, results, transfer
 
+HERE = os.path.dirname(os.path.abspath(__file__))
 SECOND = 10**9
+# A client that makes 30 transfers, and speaks frames over its pipes as `tbs` does.
+CLIENT = """
+import os, struct, sys
+from tb_client import *
+
+def exchange(moment, frame):
+    sys.stdout.buffer.write(struct.pack("<Q", moment) + frame)
+    sys.stdout.buffer.flush()
+    head = sys.stdin.buffer.read(HEADER)
+    return head + sys.stdin.buffer.read(reply_length(head) - HEADER)
+
+path, transport = sys.argv[1], Direct(exchange)
+if not os.path.exists(path):
+    Session(transport, 7).save(path)
+session = Session.load(transport, path)
+if not session.session and session.pending is None:
+    session.prepare(Operation.register)
+    session.save(path)
+while session.number < 30:
+    if session.pending is None:
+        at = session.number + 1
+        session.prepare(Operation.create_transfers, [Transfer(id(), 1, 2, at, ledger=700, code=10)])
+        session.save(path)
+    assert not session.retry()
+    session.save(path)
+"""
 
 
 class Crash(BaseException):
@@ -234,6 +265,42 @@ class OnTheProgram(unittest.TestCase):
         program.close()
         return crashes
 
+    def test_a_client_killed_at_any_time(self):
+        """A client in a process of its own is killed again and again, while the server goes on. Its file is all that it has."""
+        chance, program, lives = random.Random(3), self.program(), 0
+        tb.require_ok(Session.register(program, 9, now=at_ten).create_accounts([account(1), account(2)]))
+        with tempfile.TemporaryDirectory() as folder:
+            path, there = os.path.join(folder, "session.json"), {**os.environ, "PYTHONPATH": HERE}
+            status, deadline = None, time.monotonic() + 120
+            while status != 0 and time.monotonic() < deadline:
+                lives += 1
+                life = subprocess.Popen([sys.executable, "-B", "-c", CLIENT, path], stdin=subprocess.PIPE, stdout=subprocess.PIPE, env=there)
+                status = self.serve(life, program, chance.randrange(0, 12))
+            self.assertEqual(status, 0)
+        self.assertGreater(lives, 3)
+        session = Session.register(program, 9 + 1, now=at_ten)
+        self.assertEqual([it.credits_posted for it in session.lookup_accounts([2])], [sum(range(1, 31))])
+
+    def serve(self, life, program, most):
+        """Serves so many requests of a client's process, 0 for all, and kills it before or after the last one's reply. Answers its status."""
+        served = 0
+        with life, life.stdin, life.stdout:
+            while head := life.stdout.read(56):
+                (length,) = struct.unpack_from("<I", head, 40)
+                frame = head[8:] + life.stdout.read(length)
+                answer = program.exchange(10, frame)
+                served += 1
+                if served == most and most % 2:
+                    life.kill()
+                    break
+                life.stdin.write(answer)
+                life.stdin.flush()
+                if served == most:
+                    time.sleep(0.001 * (most % 4))
+                    life.kill()
+                    break
+        return life.wait()
+
     def test_what_was_seen_of_a_lost_reply_outlives_the_program(self):
         """One session's reply is not awaited, another sees what that request did: after a kill it is still there."""
         program = self.program(restarts=True)
@@ -251,6 +318,21 @@ class OnTheProgram(unittest.TestCase):
             self.assertEqual(second.lookup_transfers([11]), seen)
         self.assertEqual(first.retry(), [])
         self.assertEqual([it.credits_posted for it in first.lookup_accounts([2])], [100])
+
+
+    def test_a_moment_far_ahead_ends_what_others_hold(self):
+        """What `jump_max` is for: a clock an hour ahead would end another client's pending transfer."""
+        program = self.program()
+        first = Session.register(program, 7)
+        tb.require_ok(first.create_accounts([account(1), account(2)]))
+        tb.require_ok(first.create_transfers([transfer(11, 1, 2, 100, timeout=600, flags=tb.TransferFlags.pending)]))
+        second = Session.register(program, 8)
+        second.now = lambda: time.time_ns() + 3600 * SECOND
+        self.assertRaises(tb.ClockJumped, second.lookup_accounts, [1])
+        self.assertEqual([it.debits_pending for it in first.lookup_accounts([1])], [100])
+        second.jump_max = None
+        second.lookup_accounts([1])
+        self.assertEqual([it.debits_pending for it in first.lookup_accounts([1])], [0])
 
 
 if __name__ == "__main__":
