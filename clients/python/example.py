@@ -55,7 +55,7 @@ with tempfile.TemporaryDirectory() as folder, Program(path, clients_max=1, resta
         doubt = session.in_doubt
         assert doubt is not None
         session = Session.register(program)
-        results = session.create_transfers([it for it in doubt.items if isinstance(it, Transfer)])
+        results = session.create_transfers(doubt.items)
         require_ok([it for it in results if it.result != tb.CreateTransferResult.exists])
         session.save(kept)  # from here on the old session is not needed
         print(f"after an eviction the same records are created again: credits_posted {credited(session)}")

@@ -109,6 +109,12 @@ class Doubt(unittest.TestCase):
             self.assertEqual(session.in_doubt, tb.Request(7, 1, 1, tb.Operation(operation), items))
             self.assertEqual(Session.resumed(session.transport, json.loads(json.dumps(session.saved))).in_doubt, session.in_doubt)
 
+    def test_what_a_retry_says_can_be_required(self):
+        failed = [tb.EventResult(0, tb.CreateTransferResult.exists)]
+        for said in (None, [], [account(1)], [transfer(1, 2, 3, 4)]):
+            tb.require_ok(said)
+        self.assertRaises(tb.EventsFailed, tb.require_ok, failed)
+
     def test_nothing_in_doubt(self):
         session = self.session(lambda frame: reply(frame, commit=2))
         self.assertRaises(tb.NothingInDoubt, session.retry)
@@ -130,6 +136,20 @@ class Doubt(unittest.TestCase):
             it = getattr(tb, name)
             if isinstance(it, type) and issubclass(it, BaseException):
                 self.assertTrue(issubclass(it, tb.ClientError), name)
+
+    def test_a_jump_after_a_lost_reply_leaves_it_in_doubt(self):
+        moments = iter((10, 10**18))
+        session = self.session(self.failing(tb.ReplyLost("lost"), 1), now=lambda: next(moments))
+        self.assertRaises(tb.ClockJumped, session.create_accounts, [account(1)])
+        self.assertEqual((len(self.sent), session.in_doubt.items), (1, (account(1),)))
+
+    def test_a_file_is_on_the_disk_before_it_takes_the_old_one_s_place(self):
+        with tempfile.TemporaryDirectory() as folder:
+            path, calls = os.path.join(folder, "session.json"), mock.Mock()
+            with mock.patch("os.fsync", calls.fsync), mock.patch("os.replace", calls.replace):
+                Session(Direct(reply), 7).save(path)
+            self.assertEqual([it[0] for it in calls.mock_calls], ["fsync", "replace", "fsync"])
+            self.assertEqual(os.listdir(folder), ["session.json.new"])
 
     # Clocks
 
@@ -319,6 +339,34 @@ class OnTheProgram(unittest.TestCase):
         self.assertEqual(first.retry(), [])
         self.assertEqual([it.credits_posted for it in first.lookup_accounts([2])], [100])
 
+
+    def test_a_request_that_ends_the_program_is_not_kept(self):
+        program = self.program(restarts=True)
+        tb.require_ok(Session.register(program, 7, now=at_ten).create_accounts([account(1)]))
+        last = Session.register(program, 8, now=lambda: 2**63 - 1, jump_max=None)
+        for _ in range(2):
+            self.assertRaises(tb.ProgramEnded, last.retry if last.pending else lambda: last.lookup_accounts([1]))
+            self.assertEqual(len(program.script), 3)
+        repeated = tb.Reply.from_bytes(program.exchange(10, tb.request_frame(7, 1, 1, 129, account(1).to_bytes())))
+        self.assertEqual((repeated.status, repeated.commit), (0, 2))
+
+    def test_a_program_that_is_killed_while_it_comes_back(self):
+        program = self.program(restarts=True)
+        session = Session.register(program, 7, now=at_ten, attempts=1)
+        tb.require_ok(session.create_accounts([account(1), account(2)]))
+        for id in range(1, 3001):
+            session.create_transfers([transfer(id, 1, 2, 1)])
+        program.process.kill()
+        self.assertRaises(tb.ReplyLost, session.lookup_accounts, [2])
+        for is_read in (False, True):  # nothing of the script is answered by then, or a part of it
+            program.timeout = 1e-4
+            self.assertRaises(tb.ReplyLost, session.retry)
+            while is_read and not program.seen:
+                self.assertRaises(tb.ReplyLost, session.retry)
+            program.process.kill()
+            program.timeout = 30
+            self.assertRaises(tb.ReplyLost, session.retry)
+        self.assertEqual([it.credits_posted for it in session.retry()], [3000])
 
     def test_a_moment_far_ahead_ends_what_others_hold(self):
         """What `jump_max` is for: a clock an hour ahead would end another client's pending transfer."""

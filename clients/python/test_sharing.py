@@ -2,6 +2,7 @@
 """A Program, a session and `id` shared by threads; programs that end, are closed, or were forked."""
 import os
 import stat
+import sys
 import tempfile
 import threading
 import time
@@ -60,11 +61,21 @@ class Ids(unittest.TestCase):
 
     def test_threads(self):
         made = [[] for _ in range(8)]
-        in_threads(8, lambda number: made[number].extend(tb.id() for _ in range(2000)))
+        interval = sys.getswitchinterval()
+        sys.setswitchinterval(1e-6)
+        try:
+            with unittest.mock.patch("time.time_ns", lambda: 5 * 10**6):
+                in_threads(8, lambda number: made[number].extend(tb.id() for _ in range(2000)))
+        finally:
+            sys.setswitchinterval(interval)
         self.assertTrue(all(it == sorted(it) for it in made))
         self.assertEqual(len({id for it in made for id in it}), 16000)
 
     def test_a_forked_child_has_its_own(self):
+        with unittest.mock.patch("time.time_ns", lambda: 5 * 10**6):
+            self.forked()
+
+    def forked(self):
         tb.id()
         reading, writing = os.pipe()
         child = os.fork()

@@ -22,6 +22,9 @@ ACCOUNT = {**BOTH, **dict.fromkeys(SUMS, U128), "reserved": U32}
 TRANSFER = {**BOTH, **dict.fromkeys(("debit_account_id", "credit_account_id", "amount", "pending_id"), U128), "timeout": U32}
 
 
+PROGRAM = "../../crates/tbs/out/tbs"
+
+
 class LikeInt:
     """As a number of numpy: __int__ and __float__, and no __index__."""
 
@@ -243,6 +246,11 @@ class Values(unittest.TestCase):
         for value in (None, [], "x", 5):
             self.refused("saved", Session.resumed, Direct(self.exchange), value, types=TypeError)
         self.assertEqual(Session.resumed(Direct(self.exchange), saved).saved, saved)
+
+    def test_a_transport_that_is_none(self):
+        for value in (None, "tbs", 5, PROGRAM):
+            self.refused("transport", Session, value, 7, types=TypeError)
+            self.refused("transport", Session.register, value, types=TypeError)
 
     def test_pending(self):
         other = tb.request_frame(8, 1, 1, 129)

@@ -107,7 +107,7 @@ class Request:
     session: int
     number: int
     operation: Operation
-    items: Tuple[Item, ...]
+    items: Tuple[Any, ...]
 
     @classmethod
     def from_bytes(cls, frame: bytes) -> Request:

@@ -5,7 +5,7 @@ import json
 import os
 import threading
 import time
-from typing import Any, Callable, Iterable, List, Mapping, Optional, Sequence, Type, TypedDict, TypeVar, Union, cast
+from typing import Any, Callable, Iterable, List, Mapping, Optional, Type, TypedDict, TypeVar, Union, cast
 
 from .errors import REFUSALS, BadReply, ClockJumped, EventsFailed, Evicted, InDoubt, InvalidType, InvalidValue, NoMemory, NothingInDoubt, NotSent, NotYet, ReplyLost
 from .frames import NUMBER_MAX, Item, Reply, Request, Said, body_of, header_of, operation_of, request_frame, said_by
@@ -78,8 +78,10 @@ class Session(Closing):
         now: Callable[[], int] = time.time_ns,
         jump_max: Optional[float] = JUMP_MAX,
     ) -> None:
-        self.transport = transport
         self.client = whole("client", client, U128, 1)
+        if not callable(getattr(transport, "exchange", None)):
+            raise InvalidType("transport", f"must have a call exchange, as Program and Direct have, and {kind_of(transport)} has none")
+        self.transport = transport
         self.session = whole("session", session, U64)
         self.number = whole("number", number, U32)
         self.attempts = whole("attempts", attempts, U32, 1)
@@ -203,9 +205,7 @@ class Session(Closing):
         """Makes the next request, which is in doubt from then on: keep `saved`, then `retry`."""
         with self._lock:
             if self.pending is not None:
-                if self._refused is not None and issubclass(self._refused, Evicted):
-                    raise InDoubt(f"the session has ended ({self._refused.__name__}): register anew, and see in_doubt")
-                raise InDoubt("the last request has no reply yet: retry it")
+                raise InDoubt(self._why_in_doubt())
             kind = operation_of(operation)
             body = body_of(kind, items)
             if kind == Operation.register:
@@ -219,6 +219,14 @@ class Session(Closing):
                     raise InvalidValue("number", "is 2^32 - 1, the last one: register anew")
                 self.pending = request_frame(self.client, self.session, self.number + 1, kind, body)
             self._refused, self._may_be_sent = None, False
+
+    def _why_in_doubt(self) -> str:
+        refusal = self._refused
+        if refusal is None:
+            return "the last request has no reply yet: retry it"
+        if issubclass(refusal, Evicted):
+            return f"the session has ended ({refusal.__name__}): register anew, and see in_doubt"
+        return f"the last request was refused ({refusal.__name__}), and is in doubt: see in_doubt"
 
     def retry(self) -> Any:
         """Sends the request in doubt, the same bytes each time, until its reply has come. Answers what it says: results of a
@@ -301,7 +309,8 @@ def _test_pending(field: str, pending: Optional[bytes], client: int, session: in
         raise InvalidValue(field, "is not the next request of this session")
 
 
-def require_ok(results: Sequence[EventResult]) -> None:
-    """Raises `EventsFailed` where an event was not accepted."""
-    if results:
-        raise EventsFailed(results)
+def require_ok(results: Optional[Iterable[object]]) -> None:
+    """Raises `EventsFailed` where an event was not accepted. What else a reply says, as the records of a look-up, is passed over."""
+    failed = [it for it in results or () if isinstance(it, EventResult)]
+    if failed:
+        raise EventsFailed(failed)
