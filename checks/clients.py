@@ -95,7 +95,7 @@ print(session.lookup_accounts([2])[0].credits_posted)
 transport.close()
 """
     output = script("the page's Python", CLIENT, "-c", textwrap.dedent(whole))
-    case("what it moves", output == "120\n", output)
+    case("what it moves", output == "120\n", output.strip())
 
 
 def readme():
@@ -103,7 +103,8 @@ def readme():
     with open(f"{CLIENT}/README.md", encoding="utf-8") as it:
         shown = re.findall(r"```python\n(.*?)```", it.read(), re.S)[0].replace("../../crates/tbs/out/tbs", PROGRAM)
     output = script("the Python of the client's README", CLIENT, "-c", f"import os, tempfile\nos.chdir(tempfile.mkdtemp())\n{shown}")
-    case("what that shows", output.count("posted=100") == 2, output)
+    holds = output.count("posted=100") == 2
+    case("what that shows", holds, "" if holds else output)
 
 
 def statuses():

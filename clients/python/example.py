@@ -6,6 +6,7 @@
 import os
 import sys
 import tempfile
+from typing import Sequence, Union
 
 import tb_client as tb
 from tb_client import Account, Evicted, Faulty, Operation, Program, ReplyLost, Session, Transfer, id, require_ok
@@ -19,21 +20,26 @@ def credited(session: Session) -> int:
     return session.lookup_accounts([SALES])[0].credits_posted
 
 
+def create(session: Session, kept: str, operation: Operation, records: Sequence[Union[Account, Transfer]]) -> None:
+    """The way that survives a crash: prepare, save, and only then send."""
+    session.prepare(operation, records)
+    session.save(kept)
+    require_ok(session.retry())
+    session.save(kept)
+
+
 with tempfile.TemporaryDirectory() as folder, Program(path, clients_max=1, restarts=True) as program:
     kept = os.path.join(folder, "session.json")
 
-    # The first life of a client: prepare, save, and only then send.
+    # The first life of a client.
     session = Session.register(program)
-    session.save(kept)
-    require_ok(session.create_accounts([Account(CASH, ledger=700, code=10), Account(SALES, ledger=700, code=10)]))
+    create(session, kept, Operation.create_accounts, [Account(it, ledger=700, code=10) for it in (CASH, SALES)])
     print("accounts 1 and 2 are created")
 
     sale = Transfer(id(), debit_account_id=CASH, credit_account_id=SALES, amount=100, ledger=700, code=10)
-    session.prepare(Operation.create_transfers, [sale])
-    session.save(kept)
     session.transport = Faulty(program, replies=range(1, 6))  # it reaches the server, and no reply comes back
     try:
-        session.retry()
+        create(session, kept, Operation.create_transfers, [sale])
     except ReplyLost:
         print("a transfer of 100 was sent, and no reply came")
     del session  # the client crashes here, and all that is left of it is the file
@@ -44,13 +50,11 @@ with tempfile.TemporaryDirectory() as folder, Program(path, clients_max=1, resta
     session.save(kept)
     print(f"after a crash the same bytes are sent again: credits_posted {credited(session)}")
 
-    # Another client takes the only place, and the session ends while a transfer is in doubt.
+    # Another client takes the only place, and the session ends: whether the transfer was made is in doubt.
     second = Transfer(id(), debit_account_id=CASH, credit_account_id=SALES, amount=10, ledger=700, code=10)
-    session.prepare(Operation.create_transfers, [second])
-    session.save(kept)
     Session.register(program)
     try:
-        session.retry()
+        create(session, kept, Operation.create_transfers, [second])
     except Evicted:
         doubt = session.in_doubt
         assert doubt is not None

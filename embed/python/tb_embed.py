@@ -1,6 +1,6 @@
 """The ledger server inside a Python program, over ctypes and a shared object of the library (docs/EMBEDDING.md says how to make it).
 
-    server = Server("libtb_embed.so")
+    server = Server("./libtb_embed.so")
     reply = server.serve(moment, request)           # frames, as bytes: docs/FORMATS.md
 
 With clients/python, whose package it needs beside it: `Session.register(Direct(server.serve))`. Errors of both stand below
@@ -68,7 +68,7 @@ def _library(path: str) -> Any:
         # a name without a slash would be looked for in the loader's own folders alone
         library = ctypes.CDLL(os.path.abspath(path) if os.path.exists(path) else path)
     except OSError as error:
-        raise tb_client.CannotStart(f"{path} does not load: {error}") from None
+        raise tb_client.CannotStart(f"the library does not load: {error}") from None
     handle, bytes_in, room, size = ctypes.POINTER(_Handle), ctypes.c_char_p, ctypes.POINTER(ctypes.c_char), ctypes.c_size_t
     u32, u64 = ctypes.c_uint32, ctypes.c_uint64
     library.tb_embed_open.argtypes = [handle, u32, u32]

@@ -6,7 +6,11 @@
 import ctypes
 import fractions
 import os
+import pathlib
+import shutil
+import subprocess
 import sys
+import tempfile
 import threading
 import time
 import unittest
@@ -91,7 +95,7 @@ class Embedded(unittest.TestCase):
         unittest.mock.patch.stopall()
         with self.assertRaises(tb_client.CannotStart) as raised:
             Server("/nowhere/libtb_embed.so")
-        self.assertTrue(str(raised.exception).startswith("/nowhere/libtb_embed.so does not load: "))
+        self.assertTrue(str(raised.exception).startswith("the library does not load: /nowhere/libtb_embed.so: "))
 
     def test_statuses_by_name(self):
         frame = tb_client.request_frame(7, 0, 0, 2)
@@ -131,6 +135,57 @@ class Embedded(unittest.TestCase):
         for it in threads:
             it.join()
         self.assertEqual((len(self.library.calls), self.library.most), (160, 1))
+
+
+FAKE = """
+#include <stddef.h>
+#include <stdint.h>
+#include <string.h>
+typedef struct { void *at; uint8_t is_open; } tb_server;
+static int times;
+uint32_t tb_embed_open(tb_server *s, uint32_t profile, uint32_t clients) { s->is_open = 1; return profile == 2 && clients == 64 ? 0 : 2; }
+uint32_t tb_embed_serve(tb_server *s, uint64_t moment, const char *request, size_t length, char *reply, size_t room, size_t *written) {
+    if (!s->is_open) return 1;
+    if (moment == 3) return ++times < 3 ? 3 : 0;
+    *written = length + 8;
+    if (room < length + 8) return 7;
+    memcpy(reply, &moment, 8);
+    memcpy(reply + 8, request, length);
+    return 0;
+}
+uint32_t tb_embed_account(tb_server *s, uint64_t low, uint64_t high, char *record, size_t room) {
+    if (!s->is_open) return 1;
+    if (low == 9) return 6;
+    memset(record, 0, room);
+    memcpy(record, &low, 8);
+    memcpy(record + 8, &high, 8);
+    return 0;
+}
+uint32_t tb_embed_transfer(tb_server *s, uint64_t low, uint64_t high, char *record, size_t room) { return tb_embed_account(s, low, high, record, room); }
+void tb_embed_close(tb_server *s) { s->is_open = 0; }
+"""
+
+
+@unittest.skipUnless(shutil.which("cc"), "cc is not there")
+class OverCtypes(unittest.TestCase):
+    """What goes through ctypes arrives whole: by a library in C that gives back what it was given."""
+
+    def test_values(self):
+        with tempfile.TemporaryDirectory() as folder:
+            path = pathlib.Path(folder, "libfake.so")
+            subprocess.run(["cc", "-shared", "-fPIC", "-x", "c", "-", "-o", path], input=FAKE.encode(), check=True)
+            with self.assertRaises(tb_embed.Usage):
+                Server(path, 64, 1)
+            with Server(path, 64, 2, room=48) as server:
+                for moment in (0, 5, 2**63 - 1):
+                    for request in (b"", b"\0\1\0" * 13, bytes(range(256)) * 4000, bytearray(b"ab\0c")):
+                        self.assertEqual(server.serve(moment, request), moment.to_bytes(8, "little") + request)
+                for id in (0, 1, 2**64, 2**128 - 1):
+                    self.assertEqual(server.account(id), id.to_bytes(16, "little") + bytes(112))
+                self.assertIsNone(server.transfer(9))
+                self.assertRaises(tb_embed.NoMemory, server.serve, 3, b"")
+            self.assertRaises(tb_embed.Closed, server.serve, 5, b"")
+            self.assertRaises(tb_embed.Closed, server.account, 5)
 
 
 if __name__ == "__main__":
