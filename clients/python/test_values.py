@@ -3,11 +3,13 @@
 
 The ranges are those of docs/FORMATS.md and docs/RULES.md, written here again.
 """
+import dataclasses
 import decimal
 import fractions
 import json
 import math
 import os
+import random
 import tempfile
 import unittest
 
@@ -73,6 +75,10 @@ class Values(unittest.TestCase):
         self.sent = []
         self.session = Session(Direct(self.exchange), 7, session=1, now=lambda: 10)
 
+    def create(self, kind, **fields):
+        create = self.session.create_accounts if kind is Account else self.session.create_transfers
+        return create([kind(**fields)])
+
     def exchange(self, moment, frame):
         self.sent.append(frame)
         return tb.Reply(7, 1, self.session.number + 1, frame[28], 0, 2, b"").to_bytes()
@@ -93,15 +99,33 @@ class Values(unittest.TestCase):
             for field, greatest in fields.items():
                 for value in NO_NUMBERS:
                     with self.subTest(kind=kind, field=field, value=value):
-                        said = self.refused(f"{kind.__name__}.{field}", kind, **{"id": 1, field: value}, types=TypeError)
+                        said = self.refused(f"{kind.__name__}.{field}", self.create, kind, **{"id": 1, field: value}, types=TypeError)
                         self.assertIn(type(value).__name__, said)
                 for value in out_of_range(greatest):
                     with self.subTest(kind=kind, field=field, bits=value.bit_length()):
-                        self.refused(f"{kind.__name__}.{field}", kind, **{"id": 1, field: value}, types=ValueError)
+                        self.refused(f"{kind.__name__}.{field}", self.create, kind, **{"id": 1, field: value}, types=ValueError)
                 for value in (0, 1, greatest):
                     record = kind(**{"id": 1, field: value})
                     self.assertEqual(getattr(record, field), value)
                     self.assertEqual(kind.from_bytes(record.to_bytes()), record)
+
+    def test_batches_at_random(self):
+        """A record somewhere in a batch has one field that is wrong: where it is made, or by force in a record that was right."""
+        chance = random.Random(11)
+        for _ in range(2000):
+            kind, fields, name = chance.choice(((Account, ACCOUNT, "account"), (Transfer, TRANSFER, "transfer")))
+            create = getattr(self.session, f"create_{name}s")
+            right = [kind(**{field: chance.choice((0, 1, chance.randrange(greatest + 1), greatest)) for field, greatest in fields.items()}) for _ in range(chance.randrange(1, 6))]
+            field, at = chance.choice(list(fields)), chance.randrange(len(right))
+            value = chance.choice([*NO_NUMBERS, *out_of_range(fields[field]), chance.random() * fields[field]])
+            self.refused(f"{kind.__name__}.{field}", lambda: create([*right[:at], dataclasses.replace(right[at], **{field: value}), *right[at + 1 :]]))
+            kept = getattr(right[at], field)
+            object.__setattr__(right[at], field, value)
+            self.refused(f"{kind.__name__}.{field}", create, right)
+            object.__setattr__(right[at], field, kept)
+            self.assertEqual(create(right), [])
+            self.assertEqual(self.sent.pop()[48:], b"".join(it.to_bytes() for it in right))
+            self.session.number = 0
 
     def test_the_fields_are_all_of_them(self):
         for kind, fields in ((Account, ACCOUNT), (Transfer, TRANSFER)):

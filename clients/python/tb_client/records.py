@@ -34,7 +34,7 @@ def _flags(field: str, value: object, kind: Type[Flags]) -> Flags:
 
 
 def _settle(record: Any, ranges: dict[str, int], flags: Any) -> None:
-    """Tests each field of a record that is being made, and makes plain integers of what has an index."""
+    """Tests each field of a record, and makes plain integers of what has an index."""
     name, fields = flags.__name__[: -len("Flags")], record.__dict__
     for field, greatest in ranges.items():
         value = fields[field]
@@ -78,6 +78,7 @@ class Account:
         _settle(self, _ACCOUNT, AccountFlags)
 
     def to_bytes(self) -> bytes:
+        _settle(self, _ACCOUNT, AccountFlags)  # again, since Python lets a frozen record be changed by force
         sums = (self.id, self.debits_pending, self.debits_posted, self.credits_pending, self.credits_posted, self.user_data_128)
         rest = (self.user_data_64, self.user_data_32, self.reserved, self.ledger, self.code, self.flags, self.timestamp)
         return b"".join(map(u128, sums)) + NARROW.pack(*rest)
@@ -107,6 +108,7 @@ class Transfer:
         _settle(self, _TRANSFER, TransferFlags)
 
     def to_bytes(self) -> bytes:
+        _settle(self, _TRANSFER, TransferFlags)  # again, since Python lets a frozen record be changed by force
         wide = (self.id, self.debit_account_id, self.credit_account_id, self.amount, self.pending_id, self.user_data_128)
         rest = (self.user_data_64, self.user_data_32, self.timeout, self.ledger, self.code, self.flags, self.timestamp)
         return b"".join(map(u128, wide)) + NARROW.pack(*rest)
