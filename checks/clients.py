@@ -88,8 +88,6 @@ require_ok(first.create_accounts([Account(it, ledger=700, code=10) for it in (1,
 {crash}
 {sent}
 Session.register(transport)
-try:
-    session.retry()
 {eviction}
 print(session.lookup_accounts([2])[0].credits_posted)
 transport.close()
@@ -122,7 +120,7 @@ def statuses():
 def names():
     """The names of the program's faults, as its code has them. ReplyNumbers is of replies, which the program does not read."""
     found = set()
-    for path in ("tb_records/src/faults.rt", "tb_records/src/dumps.rt", "tb_machine/src/serving.rt", "tbs/src/commands.rt", "tbs/src/storm/faults.rt"):
+    for path in ("tb_records/src/faults.rt", "tb_records/src/dumps.rt", "tb_machine/src/serving.rt", "tb_commands/src/commands.rt", "tbs/src/storm/faults.rt"):
         with open(f"{TOP}/crates/{path}", encoding="utf-8") as code:
             found |= set(re.findall(r'=> "(\w+)"', code.read()))
     return found - {"ReplyNumbers"}
