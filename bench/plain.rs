@@ -46,7 +46,7 @@ fn is_linked(item: &Item) -> bool { item[118] & LINKED != 0 }
 
 fn put(b: &mut [u8], at: usize, bytes: &[u8]) { b[at..at + bytes.len()].copy_from_slice(bytes) }
 
-/// Whether a + b, or with c, has no room in 128 bits.
+/// Whether a sum of two or of three has no room in 128 bits.
 fn overflows(a: u128, b: u128) -> bool { a.checked_add(b).is_none() }
 fn overflows3(a: u128, b: u128, c: u128) -> bool { a.checked_add(b).and_then(|sum| sum.checked_add(c)).is_none() }
 
@@ -164,7 +164,8 @@ impl Transfer {
         if self.user32 == 0 { self.user32 = p.user32; }
         if self.ledger == 0 { self.ledger = p.ledger; }
         if self.code == 0 { self.code = p.code; }
-        if self.amount == if self.is(POST) { u128::MAX } else { 0 } { self.amount = p.amount; }
+        let whole = if self.is(POST) { u128::MAX } else { 0 };
+        if self.amount == whole { self.amount = p.amount; }
     }
 
     /// The result where `e` has the id already.
@@ -174,8 +175,8 @@ impl Transfer {
         if self.timeout != e.timeout { return 44; }
         if self.debit != e.debit { return 37; }
         if self.credit != e.credit { return 38; }
-        let is_balancing = self.is(BALANCING_DEBIT | BALANCING_CREDIT);
-        if if is_balancing { self.amount < e.amount } else { self.amount != e.amount } { return 39; }
+        if self.amount < e.amount { return 39; }
+        if self.amount > e.amount && !self.is(BALANCING_DEBIT | BALANCING_CREDIT) { return 39; }
         if self.user128 != e.user128 { return 41; }
         if self.user64 != e.user64 { return 42; }
         if self.user32 != e.user32 { return 43; }
@@ -381,8 +382,8 @@ impl Ledger {
             let mut end = start;
             while is_linked(&events[end]) && end + 1 < n { end += 1; }
             let broken = (start..=end).find_map(|i| {
-                let is_open = i + 1 == n && is_linked(&events[i]);
-                let code = if is_open { 2 } else { create(self, &events[i], before + i as u64 + 1) };
+                let is_left_open = i + 1 == n && is_linked(&events[i]);
+                let code = if is_left_open { 2 } else { create(self, &events[i], before + i as u64 + 1) };
                 (code != 0).then_some((i, code))
             });
             if let Some((at, code)) = broken {
