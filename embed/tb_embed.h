@@ -1,10 +1,19 @@
 /* The ledger server inside a C program: a request's frame and a moment go in, the reply's frame comes out. Frames are those of
- * docs/FORMATS.md; docs/EMBEDDING.md says what the calls promise and what they trust. */
+ * docs/FORMATS.md; docs/EMBEDDING.md says what the calls promise and what they trust.
+ *
+ * First the names and the structs that frames are made of, then the five calls of the library, then functions that write the
+ * frames of requests and read those of replies. These are static inline, and need no library. */
 #ifndef TB_EMBED_H
 #define TB_EMBED_H
 
 #include <stddef.h>
 #include <stdint.h>
+#include <string.h>
+
+/* Numbers in frames are little-endian, and the structs below are copied from and to them as they are. */
+#if !defined(__BYTE_ORDER__) || __BYTE_ORDER__ != __ORDER_LITTLE_ENDIAN__
+#error "tb_embed.h is for little-endian processors"
+#endif
 
 #ifdef __cplusplus
 extern "C" {
@@ -31,6 +40,166 @@ enum tb_status {
                               has, and gives it where the same request is sent next */
 };
 
+/* Sizes and limits. A frame is a header, and up to 8190 items behind it. */
+#define TB_HEADER_SIZE 48
+#define TB_RECORD_SIZE 128 /* an account, a transfer */
+#define TB_ID_SIZE 16
+#define TB_RESULT_SIZE 8
+#define TB_ITEMS_MAX 8190
+#define TB_REQUEST_MAX (TB_HEADER_SIZE + TB_ITEMS_MAX * TB_RECORD_SIZE)
+#define TB_CLIENTS_MAX 64
+#define TB_TIME_MAX ((uint64_t)INT64_MAX) /* no entry has a later time, in nanoseconds */
+
+/* What a request asks for. */
+enum tb_operation {
+    TB_OPERATION_REGISTER = 2,
+    TB_OPERATION_CREATE_ACCOUNTS = 129,
+    TB_OPERATION_CREATE_TRANSFERS = 130,
+    TB_OPERATION_LOOKUP_ACCOUNTS = 131,
+    TB_OPERATION_LOOKUP_TRANSFERS = 132
+};
+
+/* What the server says of a request, in its reply. With any but the first it was not executed now, and there is no body. */
+enum tb_reply_status {
+    TB_REPLY_STATUS_REPLY = 0,           /* it is in the history, and this is its reply */
+    TB_REPLY_STATUS_NO_SESSION = 1,      /* its client has no session: it was never registered, or evicted */
+    TB_REPLY_STATUS_SESSION_TOO_LOW = 2, /* its session is below the client's */
+    TB_REPLY_STATUS_NEWER_SESSION = 3,   /* its session is above the client's */
+    TB_REPLY_STATUS_OLDER = 4,           /* its number is below the client's last */
+    TB_REPLY_STATUS_COLLISION = 5,       /* it has the last number, and another content */
+    TB_REPLY_STATUS_NEWER_REQUEST = 6,   /* it skips a number */
+    TB_REPLY_STATUS_NOT_YET = 7          /* it is new and not yet shown: seats alone answer this */
+};
+
+/* What is wrong with a frame. docs/FORMATS.md says where each holds. 9 and 10 come of devices and memory, never of bytes. */
+enum tb_fault {
+    TB_FAULT_NONE = 0,
+    TB_FAULT_SHORT = 1, /* the header or the body is cut */
+    TB_FAULT_CLIENT_ZERO = 2,
+    TB_FAULT_UNKNOWN_OPERATION = 3,
+    TB_FAULT_RESERVED = 4,   /* a zero byte is not 0, or the status is above 7 */
+    TB_FAULT_BAD_LENGTH = 5, /* the body has no whole items, or has some where there are none */
+    TB_FAULT_TOO_MANY = 6,   /* there are more than 8190 items */
+    TB_FAULT_REGISTER_NUMBERS = 7,
+    TB_FAULT_REQUEST_ZERO = 8,
+    TB_FAULT_DEVICE = 9,
+    TB_FAULT_NO_MEMORY = 10,
+    TB_FAULT_REPLY_NUMBERS = 11 /* session, commit and status do not go together */
+};
+
+/* The flags of accounts. Imported ones are answered reserved_flag. */
+enum tb_account_flags {
+    TB_ACCOUNT_LINKED = 1,
+    TB_ACCOUNT_DEBITS_MUST_NOT_EXCEED_CREDITS = 2,
+    TB_ACCOUNT_CREDITS_MUST_NOT_EXCEED_DEBITS = 4,
+    TB_ACCOUNT_HISTORY = 8,
+    TB_ACCOUNT_IMPORTED = 16,
+    TB_ACCOUNT_CLOSED = 32
+};
+
+/* The flags of transfers. Imported ones are answered reserved_flag. */
+enum tb_transfer_flags {
+    TB_TRANSFER_LINKED = 1,
+    TB_TRANSFER_PENDING = 2,
+    TB_TRANSFER_POST_PENDING_TRANSFER = 4,
+    TB_TRANSFER_VOID_PENDING_TRANSFER = 8,
+    TB_TRANSFER_BALANCING_DEBIT = 16,
+    TB_TRANSFER_BALANCING_CREDIT = 32,
+    TB_TRANSFER_CLOSING_DEBIT = 64,
+    TB_TRANSFER_CLOSING_CREDIT = 128,
+    TB_TRANSFER_IMPORTED = 256
+};
+
+/* What became of an event of create_accounts. docs/RULES.md says where each holds, docs/CLIENTS.md what to do. */
+enum tb_create_account_result {
+    TB_CREATE_ACCOUNT_OK = 0,
+    TB_CREATE_ACCOUNT_LINKED_EVENT_FAILED = 1,
+    TB_CREATE_ACCOUNT_LINKED_EVENT_CHAIN_OPEN = 2,
+    TB_CREATE_ACCOUNT_TIMESTAMP_MUST_BE_ZERO = 3,
+    TB_CREATE_ACCOUNT_RESERVED_FIELD = 4,
+    TB_CREATE_ACCOUNT_RESERVED_FLAG = 5,
+    TB_CREATE_ACCOUNT_ID_MUST_NOT_BE_ZERO = 6,
+    TB_CREATE_ACCOUNT_ID_MUST_NOT_BE_INT_MAX = 7,
+    TB_CREATE_ACCOUNT_FLAGS_ARE_MUTUALLY_EXCLUSIVE = 8,
+    TB_CREATE_ACCOUNT_DEBITS_PENDING_MUST_BE_ZERO = 9,
+    TB_CREATE_ACCOUNT_DEBITS_POSTED_MUST_BE_ZERO = 10,
+    TB_CREATE_ACCOUNT_CREDITS_PENDING_MUST_BE_ZERO = 11,
+    TB_CREATE_ACCOUNT_CREDITS_POSTED_MUST_BE_ZERO = 12,
+    TB_CREATE_ACCOUNT_LEDGER_MUST_NOT_BE_ZERO = 13,
+    TB_CREATE_ACCOUNT_CODE_MUST_NOT_BE_ZERO = 14,
+    TB_CREATE_ACCOUNT_EXISTS_WITH_DIFFERENT_FLAGS = 15,
+    TB_CREATE_ACCOUNT_EXISTS_WITH_DIFFERENT_USER_DATA_128 = 16,
+    TB_CREATE_ACCOUNT_EXISTS_WITH_DIFFERENT_USER_DATA_64 = 17,
+    TB_CREATE_ACCOUNT_EXISTS_WITH_DIFFERENT_USER_DATA_32 = 18,
+    TB_CREATE_ACCOUNT_EXISTS_WITH_DIFFERENT_LEDGER = 19,
+    TB_CREATE_ACCOUNT_EXISTS_WITH_DIFFERENT_CODE = 20,
+    TB_CREATE_ACCOUNT_EXISTS = 21
+};
+
+/* What became of an event of create_transfers. */
+enum tb_create_transfer_result {
+    TB_CREATE_TRANSFER_OK = 0,
+    TB_CREATE_TRANSFER_LINKED_EVENT_FAILED = 1,
+    TB_CREATE_TRANSFER_LINKED_EVENT_CHAIN_OPEN = 2,
+    TB_CREATE_TRANSFER_TIMESTAMP_MUST_BE_ZERO = 3,
+    TB_CREATE_TRANSFER_RESERVED_FLAG = 4,
+    TB_CREATE_TRANSFER_ID_MUST_NOT_BE_ZERO = 5,
+    TB_CREATE_TRANSFER_ID_MUST_NOT_BE_INT_MAX = 6,
+    TB_CREATE_TRANSFER_FLAGS_ARE_MUTUALLY_EXCLUSIVE = 7,
+    TB_CREATE_TRANSFER_DEBIT_ACCOUNT_ID_MUST_NOT_BE_ZERO = 8,
+    TB_CREATE_TRANSFER_DEBIT_ACCOUNT_ID_MUST_NOT_BE_INT_MAX = 9,
+    TB_CREATE_TRANSFER_CREDIT_ACCOUNT_ID_MUST_NOT_BE_ZERO = 10,
+    TB_CREATE_TRANSFER_CREDIT_ACCOUNT_ID_MUST_NOT_BE_INT_MAX = 11,
+    TB_CREATE_TRANSFER_ACCOUNTS_MUST_BE_DIFFERENT = 12,
+    TB_CREATE_TRANSFER_PENDING_ID_MUST_BE_ZERO = 13,
+    TB_CREATE_TRANSFER_PENDING_ID_MUST_NOT_BE_ZERO = 14,
+    TB_CREATE_TRANSFER_PENDING_ID_MUST_NOT_BE_INT_MAX = 15,
+    TB_CREATE_TRANSFER_PENDING_ID_MUST_BE_DIFFERENT = 16,
+    TB_CREATE_TRANSFER_TIMEOUT_RESERVED_FOR_PENDING_TRANSFER = 17,
+    TB_CREATE_TRANSFER_LEDGER_MUST_NOT_BE_ZERO = 19,
+    TB_CREATE_TRANSFER_CODE_MUST_NOT_BE_ZERO = 20,
+    TB_CREATE_TRANSFER_DEBIT_ACCOUNT_NOT_FOUND = 21,
+    TB_CREATE_TRANSFER_CREDIT_ACCOUNT_NOT_FOUND = 22,
+    TB_CREATE_TRANSFER_ACCOUNTS_MUST_HAVE_THE_SAME_LEDGER = 23,
+    TB_CREATE_TRANSFER_TRANSFER_MUST_HAVE_THE_SAME_LEDGER_AS_ACCOUNTS = 24,
+    TB_CREATE_TRANSFER_PENDING_TRANSFER_NOT_FOUND = 25,
+    TB_CREATE_TRANSFER_PENDING_TRANSFER_NOT_PENDING = 26,
+    TB_CREATE_TRANSFER_PENDING_TRANSFER_HAS_DIFFERENT_DEBIT_ACCOUNT_ID = 27,
+    TB_CREATE_TRANSFER_PENDING_TRANSFER_HAS_DIFFERENT_CREDIT_ACCOUNT_ID = 28,
+    TB_CREATE_TRANSFER_PENDING_TRANSFER_HAS_DIFFERENT_LEDGER = 29,
+    TB_CREATE_TRANSFER_PENDING_TRANSFER_HAS_DIFFERENT_CODE = 30,
+    TB_CREATE_TRANSFER_EXCEEDS_PENDING_TRANSFER_AMOUNT = 31,
+    TB_CREATE_TRANSFER_PENDING_TRANSFER_HAS_DIFFERENT_AMOUNT = 32,
+    TB_CREATE_TRANSFER_PENDING_TRANSFER_ALREADY_POSTED = 33,
+    TB_CREATE_TRANSFER_PENDING_TRANSFER_ALREADY_VOIDED = 34,
+    TB_CREATE_TRANSFER_PENDING_TRANSFER_EXPIRED = 35,
+    TB_CREATE_TRANSFER_EXISTS_WITH_DIFFERENT_FLAGS = 36,
+    TB_CREATE_TRANSFER_EXISTS_WITH_DIFFERENT_DEBIT_ACCOUNT_ID = 37,
+    TB_CREATE_TRANSFER_EXISTS_WITH_DIFFERENT_CREDIT_ACCOUNT_ID = 38,
+    TB_CREATE_TRANSFER_EXISTS_WITH_DIFFERENT_AMOUNT = 39,
+    TB_CREATE_TRANSFER_EXISTS_WITH_DIFFERENT_PENDING_ID = 40,
+    TB_CREATE_TRANSFER_EXISTS_WITH_DIFFERENT_USER_DATA_128 = 41,
+    TB_CREATE_TRANSFER_EXISTS_WITH_DIFFERENT_USER_DATA_64 = 42,
+    TB_CREATE_TRANSFER_EXISTS_WITH_DIFFERENT_USER_DATA_32 = 43,
+    TB_CREATE_TRANSFER_EXISTS_WITH_DIFFERENT_TIMEOUT = 44,
+    TB_CREATE_TRANSFER_EXISTS_WITH_DIFFERENT_CODE = 45,
+    TB_CREATE_TRANSFER_EXISTS = 46,
+    TB_CREATE_TRANSFER_OVERFLOWS_DEBITS_PENDING = 47,
+    TB_CREATE_TRANSFER_OVERFLOWS_CREDITS_PENDING = 48,
+    TB_CREATE_TRANSFER_OVERFLOWS_DEBITS_POSTED = 49,
+    TB_CREATE_TRANSFER_OVERFLOWS_CREDITS_POSTED = 50,
+    TB_CREATE_TRANSFER_OVERFLOWS_DEBITS = 51,
+    TB_CREATE_TRANSFER_OVERFLOWS_CREDITS = 52,
+    TB_CREATE_TRANSFER_OVERFLOWS_TIMEOUT = 53,
+    TB_CREATE_TRANSFER_EXCEEDS_CREDITS = 54,
+    TB_CREATE_TRANSFER_EXCEEDS_DEBITS = 55,
+    TB_CREATE_TRANSFER_CLOSING_TRANSFER_MUST_BE_PENDING = 64,
+    TB_CREATE_TRANSFER_DEBIT_ACCOUNT_ALREADY_CLOSED = 65,
+    TB_CREATE_TRANSFER_CREDIT_ACCOUNT_ALREADY_CLOSED = 66,
+    TB_CREATE_TRANSFER_EXISTS_WITH_DIFFERENT_LEDGER = 67,
+    TB_CREATE_TRANSFER_ID_ALREADY_FAILED = 68
+};
+
 /* The room that every reply has enough of: a header, and 8190 records. */
 #define TB_REPLY_MAX (48 + 8190 * 128)
 
@@ -55,6 +224,30 @@ typedef struct tb_transfer {
     uint64_t timestamp;
 } tb_transfer;
 
+/* What became of one event of a create: its place in the request, and a result code. Events that were accepted are not told. */
+typedef struct tb_event_result {
+    uint32_t index, result;
+} tb_event_result;
+
+/* The header of a request's frame. */
+typedef struct tb_request_header {
+    tb_u128 client;
+    uint64_t session;
+    uint32_t request; /* its number in the session */
+    uint8_t operation, zeros[3];
+    uint32_t length; /* the bytes of the body behind the header */
+    uint8_t more_zeros[12];
+} tb_request_header;
+
+/* The header of a reply's frame. The commit number stands at no multiple of 8, so it is in two halves: tb_commit joins them. */
+typedef struct tb_reply_header {
+    tb_u128 client;
+    uint64_t session;
+    uint32_t request;
+    uint8_t operation, status, zeros[2];
+    uint32_t length, commit_low, commit_high, more_zeros;
+} tb_reply_header;
+
 TB_ASSERT(sizeof(void *) == 8 && sizeof(size_t) == 8, "64 bits");
 TB_ASSERT(sizeof(tb_server) == 16 && offsetof(tb_server, is_open) == 8, "the handle");
 TB_ASSERT(sizeof(tb_account) == 128 && offsetof(tb_account, user_data_64) == 96 && offsetof(tb_account, ledger) == 112
@@ -63,6 +256,17 @@ TB_ASSERT(sizeof(tb_account) == 128 && offsetof(tb_account, user_data_64) == 96 
 TB_ASSERT(sizeof(tb_transfer) == 128 && offsetof(tb_transfer, user_data_64) == 96 && offsetof(tb_transfer, timeout) == 108
               && offsetof(tb_transfer, ledger) == 112 && offsetof(tb_transfer, flags) == 118 && offsetof(tb_transfer, timestamp) == 120,
           "a transfer");
+TB_ASSERT(sizeof(tb_u128) == TB_ID_SIZE && offsetof(tb_u128, high) == 8, "128 bits");
+TB_ASSERT(sizeof(tb_event_result) == TB_RESULT_SIZE && offsetof(tb_event_result, result) == 4, "a result");
+TB_ASSERT(sizeof(tb_request_header) == TB_HEADER_SIZE && offsetof(tb_request_header, session) == 16
+              && offsetof(tb_request_header, request) == 24 && offsetof(tb_request_header, operation) == 28
+              && offsetof(tb_request_header, length) == 32,
+          "the header of a request");
+TB_ASSERT(sizeof(tb_reply_header) == TB_HEADER_SIZE && offsetof(tb_reply_header, session) == 16
+              && offsetof(tb_reply_header, request) == 24 && offsetof(tb_reply_header, operation) == 28
+              && offsetof(tb_reply_header, status) == 29 && offsetof(tb_reply_header, length) == 32
+              && offsetof(tb_reply_header, commit_low) == 36 && offsetof(tb_reply_header, commit_high) == 40,
+          "the header of a reply");
 
 /* Opens a closed handle at the empty history. profile is 1 or 2; clients_max is 1 to 64. DONE, USAGE, NO_MEMORY. */
 uint32_t tb_embed_open(tb_server *server, uint32_t profile, uint32_t clients_max);
@@ -81,6 +285,329 @@ uint32_t tb_embed_transfer(tb_server *server, uint64_t id_low, uint64_t id_high,
 
 /* Closes the handle and frees its server. A closed handle stays closed. */
 void tb_embed_close(tb_server *server);
+
+/* Numbers of 128 bits. */
+
+static inline tb_u128 tb_u128_of(uint64_t low) {
+    tb_u128 number;
+    number.low = low;
+    number.high = 0;
+    return number;
+}
+
+/* The largest amount, 2^128 - 1: as the amount of a post it means all of the pending amount. */
+static inline tb_u128 tb_amount_max(void) {
+    tb_u128 number;
+    number.low = number.high = UINT64_MAX;
+    return number;
+}
+
+static inline int tb_u128_equal(tb_u128 a, tb_u128 b) {
+    return a.low == b.low && a.high == b.high;
+}
+
+#ifdef __SIZEOF_INT128__
+__extension__ typedef unsigned __int128 tb_uint128;
+
+static inline tb_u128 tb_u128_from(tb_uint128 number) {
+    tb_u128 halves;
+    halves.low = (uint64_t)number;
+    halves.high = (uint64_t)(number >> 64);
+    return halves;
+}
+
+static inline tb_uint128 tb_u128_value(tb_u128 halves) {
+    return (tb_uint128)halves.high << 64 | halves.low;
+}
+#endif
+
+/* Requests. Each function writes a frame to the beginning of a room, and answers its length. It answers 0, and leaves the room as
+ * it is, where the client is 0, the request's number is 0, there are more than 8190 items, or the room is too small. The items
+ * are outside of the room; their pointer may be null where there are none. */
+
+static inline size_t tb_write_frame(uint8_t *frame, size_t room, tb_u128 client, uint64_t session, uint32_t request,
+                                    uint8_t operation, const void *items, size_t item_size, size_t count) {
+    tb_request_header header;
+    size_t length;
+    if (count > TB_ITEMS_MAX) return 0;
+    length = item_size * count;
+    if (tb_u128_equal(client, tb_u128_of(0)) || room < TB_HEADER_SIZE + length) return 0;
+    memset(&header, 0, sizeof header);
+    header.client = client;
+    header.session = session;
+    header.request = request;
+    header.operation = operation;
+    header.length = (uint32_t)length;
+    memcpy(frame, &header, sizeof header);
+    if (length != 0) memcpy(frame + TB_HEADER_SIZE, items, length);
+    return TB_HEADER_SIZE + length;
+}
+
+/* Begins a session of a client: the reply's session is that of its later requests, which are numbered 1, 2, 3 and so on. */
+static inline size_t tb_write_register(uint8_t *frame, size_t room, tb_u128 client) {
+    return tb_write_frame(frame, room, client, 0, 0, TB_OPERATION_REGISTER, NULL, 0, 0);
+}
+
+static inline size_t tb_write_create_accounts(uint8_t *frame, size_t room, tb_u128 client, uint64_t session, uint32_t request,
+                                              const tb_account *accounts, size_t count) {
+    if (request == 0) return 0;
+    return tb_write_frame(frame, room, client, session, request, TB_OPERATION_CREATE_ACCOUNTS, accounts, TB_RECORD_SIZE, count);
+}
+
+static inline size_t tb_write_create_transfers(uint8_t *frame, size_t room, tb_u128 client, uint64_t session, uint32_t request,
+                                               const tb_transfer *transfers, size_t count) {
+    if (request == 0) return 0;
+    return tb_write_frame(frame, room, client, session, request, TB_OPERATION_CREATE_TRANSFERS, transfers, TB_RECORD_SIZE, count);
+}
+
+static inline size_t tb_write_lookup_accounts(uint8_t *frame, size_t room, tb_u128 client, uint64_t session, uint32_t request,
+                                              const tb_u128 *ids, size_t count) {
+    if (request == 0) return 0;
+    return tb_write_frame(frame, room, client, session, request, TB_OPERATION_LOOKUP_ACCOUNTS, ids, TB_ID_SIZE, count);
+}
+
+static inline size_t tb_write_lookup_transfers(uint8_t *frame, size_t room, tb_u128 client, uint64_t session, uint32_t request,
+                                               const tb_u128 *ids, size_t count) {
+    if (request == 0) return 0;
+    return tb_write_frame(frame, room, client, session, request, TB_OPERATION_LOOKUP_TRANSFERS, ids, TB_ID_SIZE, count);
+}
+
+/* Replies. A tb_reply points into the bytes that it was read from: they are to stay as they are while it is used. */
+typedef struct tb_reply {
+    tb_reply_header header;
+    const uint8_t *body; /* header.length bytes */
+    size_t count;        /* of results, accounts or transfers */
+} tb_reply;
+
+static inline uint64_t tb_commit(const tb_reply_header *header) {
+    return (uint64_t)header->commit_high << 32 | header->commit_low;
+}
+
+static inline int tb_is_operation(uint8_t operation) {
+    return operation == TB_OPERATION_REGISTER
+           || (operation >= TB_OPERATION_CREATE_ACCOUNTS && operation <= TB_OPERATION_LOOKUP_TRANSFERS);
+}
+
+/* The bytes of an item in the reply to an operation. */
+static inline size_t tb_reply_item_size(uint8_t operation) {
+    return operation == TB_OPERATION_LOOKUP_ACCOUNTS || operation == TB_OPERATION_LOOKUP_TRANSFERS ? TB_RECORD_SIZE
+                                                                                                   : TB_RESULT_SIZE;
+}
+
+/* What is wrong with the header of a reply, by the tests of docs/FORMATS.md in their order. */
+static inline uint32_t tb_reply_header_fault(const tb_reply_header *header) {
+    int is_register = header->operation == TB_OPERATION_REGISTER, is_refusal = header->status != TB_REPLY_STATUS_REPLY;
+    size_t item_size = tb_reply_item_size(header->operation);
+    uint64_t commit = tb_commit(header);
+    if (tb_u128_equal(header->client, tb_u128_of(0))) return TB_FAULT_CLIENT_ZERO;
+    if (!tb_is_operation(header->operation)) return TB_FAULT_UNKNOWN_OPERATION;
+    if (header->status > TB_REPLY_STATUS_NOT_YET || header->zeros[0] || header->zeros[1] || header->more_zeros)
+        return TB_FAULT_RESERVED;
+    if (is_register && (header->request != 0 || (is_refusal && header->session != 0))) return TB_FAULT_REGISTER_NUMBERS;
+    if (!is_register && header->request == 0) return TB_FAULT_REQUEST_ZERO;
+    if (is_refusal ? commit != 0
+                   : header->session == 0 || (is_register ? header->session != commit : header->session >= commit))
+        return TB_FAULT_REPLY_NUMBERS;
+    if (is_refusal || is_register ? header->length != 0 : header->length % item_size != 0) return TB_FAULT_BAD_LENGTH;
+    if (header->length / item_size > TB_ITEMS_MAX) return TB_FAULT_TOO_MANY;
+    return TB_FAULT_NONE;
+}
+
+/* Reads the reply whose frame is at the beginning of the bytes, and answers TB_FAULT_NONE. It has TB_HEADER_SIZE + header.length
+ * bytes; more may follow. Else it answers the fault, and the reply is all 0. No byte behind the length is read. */
+static inline uint32_t tb_read_reply(const uint8_t *bytes, size_t length, tb_reply *reply) {
+    tb_reply_header header;
+    uint32_t fault;
+    memset(reply, 0, sizeof *reply);
+    if (length < TB_HEADER_SIZE) return TB_FAULT_SHORT;
+    memcpy(&header, bytes, sizeof header);
+    fault = tb_reply_header_fault(&header);
+    if (fault == TB_FAULT_NONE && length - TB_HEADER_SIZE < header.length) fault = TB_FAULT_SHORT;
+    if (fault != TB_FAULT_NONE) return fault;
+    reply->header = header;
+    reply->body = bytes + TB_HEADER_SIZE;
+    reply->count = header.length / tb_reply_item_size(header.operation);
+    return TB_FAULT_NONE;
+}
+
+/* The item of a reply at a place from 0 on: 1, or 0 where the reply has no such item, or items of another kind. */
+
+static inline int tb_reply_item(const tb_reply *reply, size_t place, void *item, size_t item_size) {
+    if (place >= reply->count) return 0;
+    memcpy(item, reply->body + place * item_size, item_size);
+    return 1;
+}
+
+/* Of the reply to create_accounts or create_transfers. The codes are those of the operation. */
+static inline int tb_reply_result(const tb_reply *reply, size_t place, tb_event_result *result) {
+    uint8_t operation = reply->header.operation;
+    if (operation != TB_OPERATION_CREATE_ACCOUNTS && operation != TB_OPERATION_CREATE_TRANSFERS) return 0;
+    return tb_reply_item(reply, place, result, TB_RESULT_SIZE);
+}
+
+/* Of the reply to lookup_accounts. */
+static inline int tb_reply_account(const tb_reply *reply, size_t place, tb_account *account) {
+    if (reply->header.operation != TB_OPERATION_LOOKUP_ACCOUNTS) return 0;
+    return tb_reply_item(reply, place, account, TB_RECORD_SIZE);
+}
+
+/* Of the reply to lookup_transfers. */
+static inline int tb_reply_transfer(const tb_reply *reply, size_t place, tb_transfer *transfer) {
+    if (reply->header.operation != TB_OPERATION_LOOKUP_TRANSFERS) return 0;
+    return tb_reply_item(reply, place, transfer, TB_RECORD_SIZE);
+}
+
+/* Names, as docs/RULES.md and docs/FORMATS.md have them; "unknown" of any other number. */
+static inline const char *tb_status_name(uint32_t status) {
+    switch (status) {
+    case TB_DONE: return "done";
+    case TB_CLOSED: return "closed";
+    case TB_USAGE: return "usage";
+    case TB_NO_MEMORY: return "no memory";
+    case TB_MALFORMED: return "malformed";
+    case TB_TIME_EXHAUSTED: return "time exhausted";
+    case TB_ABSENT: return "absent";
+    case TB_TOO_SMALL: return "too small";
+    default: return "unknown";
+    }
+}
+
+static inline const char *tb_operation_name(uint32_t number) {
+    switch (number) {
+    case TB_OPERATION_REGISTER: return "register";
+    case TB_OPERATION_CREATE_ACCOUNTS: return "create_accounts";
+    case TB_OPERATION_CREATE_TRANSFERS: return "create_transfers";
+    case TB_OPERATION_LOOKUP_ACCOUNTS: return "lookup_accounts";
+    case TB_OPERATION_LOOKUP_TRANSFERS: return "lookup_transfers";
+    default: return "unknown";
+    }
+}
+
+static inline const char *tb_reply_status_name(uint32_t status) {
+    switch (status) {
+    case TB_REPLY_STATUS_REPLY: return "Reply";
+    case TB_REPLY_STATUS_NO_SESSION: return "NoSession";
+    case TB_REPLY_STATUS_SESSION_TOO_LOW: return "SessionTooLow";
+    case TB_REPLY_STATUS_NEWER_SESSION: return "NewerSession";
+    case TB_REPLY_STATUS_OLDER: return "Older";
+    case TB_REPLY_STATUS_COLLISION: return "Collision";
+    case TB_REPLY_STATUS_NEWER_REQUEST: return "NewerRequest";
+    case TB_REPLY_STATUS_NOT_YET: return "NotYet";
+    default: return "unknown";
+    }
+}
+
+static inline const char *tb_fault_name(uint32_t fault) {
+    switch (fault) {
+    case TB_FAULT_NONE: return "none";
+    case TB_FAULT_SHORT: return "Short";
+    case TB_FAULT_CLIENT_ZERO: return "ClientZero";
+    case TB_FAULT_UNKNOWN_OPERATION: return "UnknownOperation";
+    case TB_FAULT_RESERVED: return "Reserved";
+    case TB_FAULT_BAD_LENGTH: return "BadLength";
+    case TB_FAULT_TOO_MANY: return "TooMany";
+    case TB_FAULT_REGISTER_NUMBERS: return "RegisterNumbers";
+    case TB_FAULT_REQUEST_ZERO: return "RequestZero";
+    case TB_FAULT_DEVICE: return "Device";
+    case TB_FAULT_NO_MEMORY: return "NoMemory";
+    case TB_FAULT_REPLY_NUMBERS: return "ReplyNumbers";
+    default: return "unknown";
+    }
+}
+
+static inline const char *tb_create_account_result_name(uint32_t number) {
+    switch (number) {
+    case TB_CREATE_ACCOUNT_OK: return "ok";
+    case TB_CREATE_ACCOUNT_LINKED_EVENT_FAILED: return "linked_event_failed";
+    case TB_CREATE_ACCOUNT_LINKED_EVENT_CHAIN_OPEN: return "linked_event_chain_open";
+    case TB_CREATE_ACCOUNT_TIMESTAMP_MUST_BE_ZERO: return "timestamp_must_be_zero";
+    case TB_CREATE_ACCOUNT_RESERVED_FIELD: return "reserved_field";
+    case TB_CREATE_ACCOUNT_RESERVED_FLAG: return "reserved_flag";
+    case TB_CREATE_ACCOUNT_ID_MUST_NOT_BE_ZERO: return "id_must_not_be_zero";
+    case TB_CREATE_ACCOUNT_ID_MUST_NOT_BE_INT_MAX: return "id_must_not_be_int_max";
+    case TB_CREATE_ACCOUNT_FLAGS_ARE_MUTUALLY_EXCLUSIVE: return "flags_are_mutually_exclusive";
+    case TB_CREATE_ACCOUNT_DEBITS_PENDING_MUST_BE_ZERO: return "debits_pending_must_be_zero";
+    case TB_CREATE_ACCOUNT_DEBITS_POSTED_MUST_BE_ZERO: return "debits_posted_must_be_zero";
+    case TB_CREATE_ACCOUNT_CREDITS_PENDING_MUST_BE_ZERO: return "credits_pending_must_be_zero";
+    case TB_CREATE_ACCOUNT_CREDITS_POSTED_MUST_BE_ZERO: return "credits_posted_must_be_zero";
+    case TB_CREATE_ACCOUNT_LEDGER_MUST_NOT_BE_ZERO: return "ledger_must_not_be_zero";
+    case TB_CREATE_ACCOUNT_CODE_MUST_NOT_BE_ZERO: return "code_must_not_be_zero";
+    case TB_CREATE_ACCOUNT_EXISTS_WITH_DIFFERENT_FLAGS: return "exists_with_different_flags";
+    case TB_CREATE_ACCOUNT_EXISTS_WITH_DIFFERENT_USER_DATA_128: return "exists_with_different_user_data_128";
+    case TB_CREATE_ACCOUNT_EXISTS_WITH_DIFFERENT_USER_DATA_64: return "exists_with_different_user_data_64";
+    case TB_CREATE_ACCOUNT_EXISTS_WITH_DIFFERENT_USER_DATA_32: return "exists_with_different_user_data_32";
+    case TB_CREATE_ACCOUNT_EXISTS_WITH_DIFFERENT_LEDGER: return "exists_with_different_ledger";
+    case TB_CREATE_ACCOUNT_EXISTS_WITH_DIFFERENT_CODE: return "exists_with_different_code";
+    case TB_CREATE_ACCOUNT_EXISTS: return "exists";
+    default: return "unknown";
+    }
+}
+
+static inline const char *tb_create_transfer_result_name(uint32_t number) {
+    switch (number) {
+    case TB_CREATE_TRANSFER_OK: return "ok";
+    case TB_CREATE_TRANSFER_LINKED_EVENT_FAILED: return "linked_event_failed";
+    case TB_CREATE_TRANSFER_LINKED_EVENT_CHAIN_OPEN: return "linked_event_chain_open";
+    case TB_CREATE_TRANSFER_TIMESTAMP_MUST_BE_ZERO: return "timestamp_must_be_zero";
+    case TB_CREATE_TRANSFER_RESERVED_FLAG: return "reserved_flag";
+    case TB_CREATE_TRANSFER_ID_MUST_NOT_BE_ZERO: return "id_must_not_be_zero";
+    case TB_CREATE_TRANSFER_ID_MUST_NOT_BE_INT_MAX: return "id_must_not_be_int_max";
+    case TB_CREATE_TRANSFER_FLAGS_ARE_MUTUALLY_EXCLUSIVE: return "flags_are_mutually_exclusive";
+    case TB_CREATE_TRANSFER_DEBIT_ACCOUNT_ID_MUST_NOT_BE_ZERO: return "debit_account_id_must_not_be_zero";
+    case TB_CREATE_TRANSFER_DEBIT_ACCOUNT_ID_MUST_NOT_BE_INT_MAX: return "debit_account_id_must_not_be_int_max";
+    case TB_CREATE_TRANSFER_CREDIT_ACCOUNT_ID_MUST_NOT_BE_ZERO: return "credit_account_id_must_not_be_zero";
+    case TB_CREATE_TRANSFER_CREDIT_ACCOUNT_ID_MUST_NOT_BE_INT_MAX: return "credit_account_id_must_not_be_int_max";
+    case TB_CREATE_TRANSFER_ACCOUNTS_MUST_BE_DIFFERENT: return "accounts_must_be_different";
+    case TB_CREATE_TRANSFER_PENDING_ID_MUST_BE_ZERO: return "pending_id_must_be_zero";
+    case TB_CREATE_TRANSFER_PENDING_ID_MUST_NOT_BE_ZERO: return "pending_id_must_not_be_zero";
+    case TB_CREATE_TRANSFER_PENDING_ID_MUST_NOT_BE_INT_MAX: return "pending_id_must_not_be_int_max";
+    case TB_CREATE_TRANSFER_PENDING_ID_MUST_BE_DIFFERENT: return "pending_id_must_be_different";
+    case TB_CREATE_TRANSFER_TIMEOUT_RESERVED_FOR_PENDING_TRANSFER: return "timeout_reserved_for_pending_transfer";
+    case TB_CREATE_TRANSFER_LEDGER_MUST_NOT_BE_ZERO: return "ledger_must_not_be_zero";
+    case TB_CREATE_TRANSFER_CODE_MUST_NOT_BE_ZERO: return "code_must_not_be_zero";
+    case TB_CREATE_TRANSFER_DEBIT_ACCOUNT_NOT_FOUND: return "debit_account_not_found";
+    case TB_CREATE_TRANSFER_CREDIT_ACCOUNT_NOT_FOUND: return "credit_account_not_found";
+    case TB_CREATE_TRANSFER_ACCOUNTS_MUST_HAVE_THE_SAME_LEDGER: return "accounts_must_have_the_same_ledger";
+    case TB_CREATE_TRANSFER_TRANSFER_MUST_HAVE_THE_SAME_LEDGER_AS_ACCOUNTS: return "transfer_must_have_the_same_ledger_as_accounts";
+    case TB_CREATE_TRANSFER_PENDING_TRANSFER_NOT_FOUND: return "pending_transfer_not_found";
+    case TB_CREATE_TRANSFER_PENDING_TRANSFER_NOT_PENDING: return "pending_transfer_not_pending";
+    case TB_CREATE_TRANSFER_PENDING_TRANSFER_HAS_DIFFERENT_DEBIT_ACCOUNT_ID: return "pending_transfer_has_different_debit_account_id";
+    case TB_CREATE_TRANSFER_PENDING_TRANSFER_HAS_DIFFERENT_CREDIT_ACCOUNT_ID: return "pending_transfer_has_different_credit_account_id";
+    case TB_CREATE_TRANSFER_PENDING_TRANSFER_HAS_DIFFERENT_LEDGER: return "pending_transfer_has_different_ledger";
+    case TB_CREATE_TRANSFER_PENDING_TRANSFER_HAS_DIFFERENT_CODE: return "pending_transfer_has_different_code";
+    case TB_CREATE_TRANSFER_EXCEEDS_PENDING_TRANSFER_AMOUNT: return "exceeds_pending_transfer_amount";
+    case TB_CREATE_TRANSFER_PENDING_TRANSFER_HAS_DIFFERENT_AMOUNT: return "pending_transfer_has_different_amount";
+    case TB_CREATE_TRANSFER_PENDING_TRANSFER_ALREADY_POSTED: return "pending_transfer_already_posted";
+    case TB_CREATE_TRANSFER_PENDING_TRANSFER_ALREADY_VOIDED: return "pending_transfer_already_voided";
+    case TB_CREATE_TRANSFER_PENDING_TRANSFER_EXPIRED: return "pending_transfer_expired";
+    case TB_CREATE_TRANSFER_EXISTS_WITH_DIFFERENT_FLAGS: return "exists_with_different_flags";
+    case TB_CREATE_TRANSFER_EXISTS_WITH_DIFFERENT_DEBIT_ACCOUNT_ID: return "exists_with_different_debit_account_id";
+    case TB_CREATE_TRANSFER_EXISTS_WITH_DIFFERENT_CREDIT_ACCOUNT_ID: return "exists_with_different_credit_account_id";
+    case TB_CREATE_TRANSFER_EXISTS_WITH_DIFFERENT_AMOUNT: return "exists_with_different_amount";
+    case TB_CREATE_TRANSFER_EXISTS_WITH_DIFFERENT_PENDING_ID: return "exists_with_different_pending_id";
+    case TB_CREATE_TRANSFER_EXISTS_WITH_DIFFERENT_USER_DATA_128: return "exists_with_different_user_data_128";
+    case TB_CREATE_TRANSFER_EXISTS_WITH_DIFFERENT_USER_DATA_64: return "exists_with_different_user_data_64";
+    case TB_CREATE_TRANSFER_EXISTS_WITH_DIFFERENT_USER_DATA_32: return "exists_with_different_user_data_32";
+    case TB_CREATE_TRANSFER_EXISTS_WITH_DIFFERENT_TIMEOUT: return "exists_with_different_timeout";
+    case TB_CREATE_TRANSFER_EXISTS_WITH_DIFFERENT_CODE: return "exists_with_different_code";
+    case TB_CREATE_TRANSFER_EXISTS: return "exists";
+    case TB_CREATE_TRANSFER_OVERFLOWS_DEBITS_PENDING: return "overflows_debits_pending";
+    case TB_CREATE_TRANSFER_OVERFLOWS_CREDITS_PENDING: return "overflows_credits_pending";
+    case TB_CREATE_TRANSFER_OVERFLOWS_DEBITS_POSTED: return "overflows_debits_posted";
+    case TB_CREATE_TRANSFER_OVERFLOWS_CREDITS_POSTED: return "overflows_credits_posted";
+    case TB_CREATE_TRANSFER_OVERFLOWS_DEBITS: return "overflows_debits";
+    case TB_CREATE_TRANSFER_OVERFLOWS_CREDITS: return "overflows_credits";
+    case TB_CREATE_TRANSFER_OVERFLOWS_TIMEOUT: return "overflows_timeout";
+    case TB_CREATE_TRANSFER_EXCEEDS_CREDITS: return "exceeds_credits";
+    case TB_CREATE_TRANSFER_EXCEEDS_DEBITS: return "exceeds_debits";
+    case TB_CREATE_TRANSFER_CLOSING_TRANSFER_MUST_BE_PENDING: return "closing_transfer_must_be_pending";
+    case TB_CREATE_TRANSFER_DEBIT_ACCOUNT_ALREADY_CLOSED: return "debit_account_already_closed";
+    case TB_CREATE_TRANSFER_CREDIT_ACCOUNT_ALREADY_CLOSED: return "credit_account_already_closed";
+    case TB_CREATE_TRANSFER_EXISTS_WITH_DIFFERENT_LEDGER: return "exists_with_different_ledger";
+    case TB_CREATE_TRANSFER_ID_ALREADY_FAILED: return "id_already_failed";
+    default: return "unknown";
+    }
+}
 
 #ifdef __cplusplus
 }
