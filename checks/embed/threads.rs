@@ -3,7 +3,7 @@
 use std::sync::Mutex;
 use std::{env, fs, thread};
 
-use tb_embed::{REPLY_MAX, Server};
+use tb_embed::{Account, REPLY_MAX, Reply, ReplyBody, Request, Server, Transfer};
 
 fn length_of(frame: &[u8]) -> usize {
     48 + u32::from_le_bytes(frame[32..36].try_into().unwrap()) as usize
@@ -21,42 +21,48 @@ fn serve_script(server: &mut Server, script: &[u8], replies: &[u8]) {
     assert!(replies.is_empty());
 }
 
-fn frame(client: u128, session: u64, number: u32, operation: u8, body: &[u8]) -> Vec<u8> {
-    let mut frame = client.to_le_bytes().to_vec();
-    frame.extend(session.to_le_bytes());
-    frame.extend(number.to_le_bytes());
-    frame.extend([operation, 0, 0, 0]);
-    frame.extend((body.len() as u32).to_le_bytes());
-    frame.extend([0; 12]);
-    frame.extend(body);
-    frame
-}
-
-/// An account, or a transfer of 1 from account 1 to account 2: ledger 700, code 10.
-fn record(id: u128, moves: bool) -> Vec<u8> {
-    let mut record = id.to_le_bytes().to_vec();
-    for part in if moves { [1u128, 2, 1] } else { [0; 3] } {
-        record.extend(part.to_le_bytes());
+fn account(id: u128) -> Account {
+    Account {
+        id,
+        ledger: 700,
+        code: 10,
+        ..Account::default()
     }
-    record.extend([0; 48]);
-    record.extend(700u32.to_le_bytes());
-    record.extend([10, 0]);
-    record.extend([0; 10]);
-    record
 }
 
-/// Sends a request twice, and gives back the session that its reply names. Both replies are the same, and have status 0.
-fn twice(server: &Mutex<Server>, frame: &[u8]) -> u64 {
-    let ask = || server.lock().unwrap().serve(10, frame, &mut [0; 48]).unwrap().to_vec();
+/// A transfer of 1 from account 1 to account 2.
+fn transfer(id: u128) -> Transfer {
+    let (debit_account_id, credit_account_id) = (1, 2);
+    Transfer {
+        id,
+        debit_account_id,
+        credit_account_id,
+        amount: 1,
+        ledger: 700,
+        code: 10,
+        ..Transfer::default()
+    }
+}
+
+/// Sends a request twice. Both replies are the same, and say that nothing failed.
+fn twice(server: &Mutex<Server>, request: &Request) -> Reply {
+    let ask = || server.lock().unwrap().ask(10, request).unwrap();
     let (first, again) = (ask(), ask());
-    assert_eq!((&first, first[29], first.len()), (&again, 0, 48));
-    u64::from_le_bytes(first[16..24].try_into().unwrap())
+    assert_eq!(first, again);
+    match &first.body {
+        ReplyBody::AccountResults(failed) => assert!(failed.is_empty()),
+        ReplyBody::TransferResults(failed) => assert!(failed.is_empty()),
+        body => assert_eq!(body, &ReplyBody::Empty),
+    }
+    first
 }
 
 fn share(server: &Mutex<Server>, client: u128) {
-    let session = twice(server, &frame(client, 0, 0, 2, &[]));
+    let session = twice(server, &Request::register(client)).session;
     for number in 1..=200 {
-        twice(server, &frame(client, session, number, 130, &record(client * 1000 + u128::from(number), true)));
+        let moved = transfer(client * 1000 + u128::from(number));
+        let request = Request::create_transfers(client, session, number, vec![moved]);
+        twice(server, &request);
     }
 }
 
@@ -71,8 +77,12 @@ fn main() {
         }
     });
     let server = Mutex::new(Server::open(1, 64).unwrap());
-    let session = twice(&server, &frame(100, 0, 0, 2, &[]));
-    twice(&server, &frame(100, session, 1, 129, &[record(1, false), record(2, false)].concat()));
+    let session = twice(&server, &Request::register(100)).session;
+    let accounts = vec![account(1), account(2)];
+    twice(
+        &server,
+        &Request::create_accounts(100, session, 1, accounts),
+    );
     thread::scope(|scope| {
         for client in 1..=4 {
             let server = &server;
@@ -80,5 +90,8 @@ fn main() {
         }
     });
     let account = server.lock().unwrap().account(2).unwrap();
-    println!("credits_posted of account 2: {}", u128::from_le_bytes(account[64..80].try_into().unwrap()));
+    println!(
+        "credits_posted of account 2: {}",
+        Account::from_bytes(&account).credits_posted
+    );
 }
