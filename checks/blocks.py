@@ -8,7 +8,8 @@
 - text: statements are read by `tbt script`; any other text is left alone.
 - json, directly after statements: the replies to them, as `tbs run` and `tbt replies` give them.
 - python: compiled. sh: read by `bash -n`. c: compiled as far as its syntax goes, where cc is there.
-- rust: stands word for word, but for its imports, in a crate that the gate proves (checks/pages.py).
+- rust: stands word for word, but for its imports, in a crate that the gate proves (checks/pages.py); on docs/EMBEDDING.md in an example
+  of embed/rust, which checks/embed.py builds and runs.
 
 Prints a line for each block that fails or is passed over. Ends in 'N passed, 0 failed'.
 """
@@ -76,6 +77,11 @@ def compile_python(block: str, name: str) -> None:
         raise Wrong(error) from None
 
 
+def in_example(block: str) -> bool:
+    """Says that lines stand in an example of the embedded server."""
+    return any(block in path.read_text() for path in ROOT.glob("embed/rust/*.rs"))
+
+
 def check(kind: str, block: str, before: str | None, name: str) -> bool:
     """Checks a block, which stands after `before` where that are statements; False where nothing can be run."""
     if kind == "text" and STATEMENT.search(block):
@@ -89,7 +95,7 @@ def check(kind: str, block: str, before: str | None, name: str) -> bool:
     elif kind == "c":
         compile_c(block)
     elif kind == "rust":
-        if not pages.stands(block):
+        if not (in_example(block) if name.startswith("docs/EMBEDDING.md:") else pages.stands(block)):
             raise Wrong("stands in no caller")
     else:
         return False

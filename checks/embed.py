@@ -1,12 +1,14 @@
 #!/usr/bin/env python3
-"""Builds the server into programs in C, Rust and Python, and compares what they answer with the program's own replies. First
-build the library and the program:
+"""Builds the server into programs in C, Rust and Python, and compares what they answer with the program's own replies; and compares the
+names, layouts and frames of the header, the wrapper in Rust and the client with the definitions and with each other. First build the
+library and the program:
 
     (cd crates/tb_embed && rt lib) && (cd crates/tbs && rt run -- run 2) < examples/first.script > /dev/null
     checks/embed.py
 
-Prints a line for each case, and 'N passed, M failed'. Needs cc, c++, rustc and Linux; what is not there is told and passed over.
-KIT is the toolchain's folder (else `rt doc` tells it).
+checks/embed/names.py and checks/embed/frames.py are the parts that need neither. Prints a line for each case, and 'N passed, M
+failed'. Needs cc, c++, rustc and Linux; what is not there is told and passed over. KIT is the toolchain's folder (else `rt doc`
+tells it).
 """
 import os
 import random
@@ -21,7 +23,23 @@ EMBED = f"{TOP}/embed"
 LIBRARY = f"{TOP}/crates/tb_embed/out/libtb_embed.a"
 PROGRAM = f"{TOP}/crates/tbs/out/tbs"
 sys.dont_write_bytecode = True
-sys.path[:0] = [f"{EMBED}/python", f"{TOP}/clients/python"]
+sys.path[:0] = [f"{TOP}/checks/embed", f"{EMBED}/python", f"{TOP}/clients/python"]
+
+import frames  # noqa: E402
+import names  # noqa: E402
+
+# What first.c and first.rs print, as docs/EMBEDDING.md shows it.
+FIRST = """\
+register: entry 1, session 1
+create_accounts: entry 2, 0 failed
+create_transfers: the reply is lost
+create_transfers, sent again: entry 3, 0 failed
+create_transfers: entry 4, 1 failed
+  transfer 0 of the request: exceeds_credits
+lookup_accounts: entry 5, 2 found
+  account 1: debits_posted 100, credits_posted 0
+  account 2: debits_posted 0, credits_posted 100
+"""
 
 passed = failed = 0
 
@@ -67,43 +85,61 @@ def read(path):
         return it.read()
 
 
+CAREFUL = ["-Wall", "-Wextra", "-Wpedantic", "-Wconversion", "-Werror"]
+
+
 def headers(folder):
     for compiler, word in (("cc", "-std=c11"), ("c++", "-std=c++17")):
         if has(compiler):
             source = f"{folder}/header.{'c' if compiler == 'cc' else 'cc'}"
             with open(source, "w") as out:
                 out.write(f'#include "{EMBED}/tb_embed.h"\n')
-            built(f"the header by {compiler}, its structs asserted", compiler, word, "-Wall", "-Wextra", "-Wpedantic", "-Werror", "-c", source, "-o", f"{folder}/header.o")
+            built(f"the header by {compiler}, its structs asserted", compiler, word, *CAREFUL, "-c", source, "-o", f"{folder}/header.o")
 
 
 def programs(folder):
-    """The examples, each as the words of its command before CLIENTS_MAX and PROFILE."""
+    """The programs that serve a script, each as the words of its command before CLIENTS_MAX and PROFILE. The first requests are built
+    beside them, as first_c, first_asan and first_rs."""
     heap = f"{kit()}/c/liblibc_c.a"
     found, shared = {}, f"{folder}/libtb_embed.so"
     flags = ["-O2", "-Wall", "-Wextra", "-Werror", "-std=gnu11"]
-    if built("the example in C", "cc", *flags, f"{EMBED}/c/first.c", LIBRARY, heap, "-o", f"{folder}/first_c"):
-        found["C"] = [f"{folder}/first_c"]
+    built("the first requests in C", "cc", "-O2", "-std=c11", *CAREFUL, f"{EMBED}/c/first.c", LIBRARY, heap, "-o", f"{folder}/first_c")
+    if built("the script in C", "cc", *flags, f"{EMBED}/c/script.c", LIBRARY, heap, "-o", f"{folder}/script_c"):
+        found["C"] = [f"{folder}/script_c"]
     sanitizers = "-fsanitize=address,undefined"
     if run("cc", sanitizers, "-x", "c", "-", "-o", f"{folder}/empty", input=b"int main(void) { return 0; }").returncode:
         print("passed over: cc has no AddressSanitizer here")
-    elif built("the example in C under AddressSanitizer", "cc", *flags, "-g", sanitizers, f"{EMBED}/c/first.c", LIBRARY, heap, "-o", f"{folder}/first_asan"):
-        found["C under AddressSanitizer"] = [f"{folder}/first_asan"]
+    else:
+        built("the first requests in C under AddressSanitizer", "cc", *flags, "-g", sanitizers, f"{EMBED}/c/first.c", LIBRARY, heap, "-o", f"{folder}/first_asan")
+        if built("the script in C under AddressSanitizer", "cc", *flags, "-g", sanitizers, f"{EMBED}/c/script.c", LIBRARY, heap, "-o", f"{folder}/script_asan"):
+            found["C under AddressSanitizer"] = [f"{folder}/script_asan"]
     if has("rustc"):
         words = ["rustc", "--edition", "2024", "-O", "-C", "target-cpu=x86-64-v2"]
-        wrapper = built("the wrapper in Rust", *words, "--crate-type", "lib", "--crate-name", "tb_embed", f"{EMBED}/rust/tb_embed.rs", "-o", f"{folder}/libtb_embed.rlib")
-        linked = ["--extern", f"tb_embed={folder}/libtb_embed.rlib", "-C", f"link-arg={LIBRARY}", "-C", f"link-arg={heap}"]
-        if wrapper and built("the example in Rust", *words, f"{EMBED}/rust/first.rs", *linked, "-o", f"{folder}/first_rs"):
-            found["Rust"] = [f"{folder}/first_rs"]
+        inside = ["-L", f"native={os.path.dirname(LIBRARY)}", "-l", "static=tb_embed", "-L", f"native={os.path.dirname(heap)}", "-l", "static=libc_c"]
+        wrapper = built("the wrapper in Rust", *words, "--crate-type", "lib", "--crate-name", "tb_embed", f"{EMBED}/rust/tb_embed.rs", *inside, "-o", f"{folder}/libtb_embed.rlib")
+        linked = ["--extern", f"tb_embed={folder}/libtb_embed.rlib"]
+        if wrapper and built("the script in Rust", *words, f"{EMBED}/rust/script.rs", *linked, "-o", f"{folder}/script_rs"):
+            found["Rust"] = [f"{folder}/script_rs"]
+            built("the first requests in Rust", *words, f"{EMBED}/rust/first.rs", *linked, "-o", f"{folder}/first_rs")
             built("servers in threads, in Rust", *words, f"{TOP}/checks/embed/threads.rs", *linked, "-o", f"{folder}/threads")
     whole = ["-Wl,--whole-archive", LIBRARY, "-Wl,--no-whole-archive", heap, f"-Wl,--version-script={EMBED}/tb_embed.map", "-Wl,-z,defs"]
     if built("the shared object", "cc", "-shared", *whole, "-o", shared):
-        names = run("nm", "-D", "--defined-only", shared).stdout.decode().split()[2::3]
+        shown = run("nm", "-D", "--defined-only", shared).stdout.decode().split()[2::3]
         calls = [f"tb_embed_{it}" for it in ("account", "close", "open", "serve", "transfer")]
-        case("the shared object shows the calls alone", sorted(names) == calls, " ".join(names))
+        case("the shared object shows the calls alone", sorted(shown) == calls, " ".join(shown))
         found["Python"] = [sys.executable, f"{EMBED}/python/first.py", shared]
     careful = ["cc", *flags, "-Wl,--wrap=malloc,--wrap=realloc", f"{TOP}/checks/embed/careful.c", LIBRARY, heap, "-o", f"{folder}/careful"]
     built("the careful caller in C", *careful)
     return found
+
+
+def first_requests(folder):
+    """What the examples print, and that the page shows it."""
+    for language, name in (("C", "first_c"), ("C under AddressSanitizer", "first_asan"), ("Rust", "first_rs")):
+        if os.path.exists(f"{folder}/{name}"):
+            ran = run(f"{folder}/{name}")
+            case(f"the first requests in {language}", (ran.returncode, ran.stdout, ran.stderr) == (0, FIRST.encode(), b""), (ran.stdout + ran.stderr).decode(errors="replace") if ran.stdout != FIRST.encode() else "")
+    case("the page shows what the first requests print", f"```text\n{FIRST}```" in read(f"{TOP}/docs/EMBEDDING.md").decode())
 
 
 def served(found, script, replies, what, *words):
@@ -221,9 +257,13 @@ def main():
     for path, how in ((LIBRARY, "`rt lib` in crates/tb_embed"), (PROGRAM, "`rt run` in crates/tbs")):
         if not os.path.exists(path):
             sys.exit(f"{path} is not there: {how} builds it")
+    for part in (names.comparisons(), frames.cases()):
+        for what, holds, why in part:
+            case(what, holds, "" if holds else why)
     with tempfile.TemporaryDirectory() as folder:
         headers(folder)
         found = programs(folder)
+        first_requests(folder)
         first = f"{TOP}/examples/first.script", f"{TOP}/examples/first.replies"
         served(found, *first, "the first script", "2")
         mixed = made("mixed", 20000, 7, folder)

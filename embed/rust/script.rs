@@ -2,7 +2,7 @@
 //! output: what `tbs run CLIENTS_MAX [PROFILE]` does, in Rust.
 use std::io::{self, BufReader, BufWriter, Read, Write};
 
-use tb_embed::{REPLY_MAX, Server};
+use tb_embed::{HEADER_SIZE, REPLY_MAX, REQUEST_MAX, RequestHeader, Server};
 
 /// The next pair: the request's frame goes into the buffer. None at the end of the script.
 fn read_pair(script: &mut impl Read, frame: &mut Vec<u8>) -> io::Result<Option<u64>> {
@@ -11,14 +11,16 @@ fn read_pair(script: &mut impl Read, frame: &mut Vec<u8>) -> io::Result<Option<u
         return Ok(None);
     }
     script.read_exact(&mut moment[1..])?;
-    frame.resize(48, 0);
-    script.read_exact(frame)?;
-    let length = u32::from_le_bytes([frame[32], frame[33], frame[34], frame[35]]) as usize;
-    if length > REPLY_MAX {
+    let mut header = [0; HEADER_SIZE];
+    script.read_exact(&mut header)?;
+    let length = HEADER_SIZE + RequestHeader::from_bytes(&header).length as usize;
+    if length > REQUEST_MAX {
         return Err(io::Error::other("a body is too long"));
     }
-    frame.resize(48 + length, 0);
-    script.read_exact(&mut frame[48..])?;
+    frame.clear();
+    frame.extend(header);
+    frame.resize(length, 0);
+    script.read_exact(&mut frame[HEADER_SIZE..])?;
     Ok(Some(u64::from_le_bytes(moment)))
 }
 

@@ -71,130 +71,130 @@ macro_rules! numbered {
 }
 
 numbered! {
-/// What a request asks for.
-Operation {
-    Register = 2 "register",
-    CreateAccounts = 129 "create_accounts",
-    CreateTransfers = 130 "create_transfers",
-    LookupAccounts = 131 "lookup_accounts",
-    LookupTransfers = 132 "lookup_transfers",
-}
-}
-
-numbered! {
-/// What the server says of a request, in its reply. With any but `Reply` it was not executed now.
-Status {
-    /// It is in the history, and this is its reply.
-    Reply = 0 "Reply",
-    /// Its client has no session: it was never registered, or evicted.
-    NoSession = 1 "NoSession",
-    /// Its session is below the client's.
-    SessionTooLow = 2 "SessionTooLow",
-    /// Its session is above the client's.
-    NewerSession = 3 "NewerSession",
-    /// Its number is below the client's last.
-    Older = 4 "Older",
-    /// It has the last number, and another content.
-    Collision = 5 "Collision",
-    /// It skips a number.
-    NewerRequest = 6 "NewerRequest",
-    /// It is new and not yet shown: seats alone answer this.
-    NotYet = 7 "NotYet",
-}
+    /// What a request asks for.
+    Operation {
+        Register = 2 "register",
+        CreateAccounts = 129 "create_accounts",
+        CreateTransfers = 130 "create_transfers",
+        LookupAccounts = 131 "lookup_accounts",
+        LookupTransfers = 132 "lookup_transfers",
+    }
 }
 
 numbered! {
-/// What became of an event of create_accounts: docs/RULES.md says where each holds, docs/CLIENTS.md what to do.
-CreateAccountResult {
-    Ok = 0 "ok",
-    LinkedEventFailed = 1 "linked_event_failed",
-    LinkedEventChainOpen = 2 "linked_event_chain_open",
-    TimestampMustBeZero = 3 "timestamp_must_be_zero",
-    ReservedField = 4 "reserved_field",
-    ReservedFlag = 5 "reserved_flag",
-    IdMustNotBeZero = 6 "id_must_not_be_zero",
-    IdMustNotBeIntMax = 7 "id_must_not_be_int_max",
-    FlagsAreMutuallyExclusive = 8 "flags_are_mutually_exclusive",
-    DebitsPendingMustBeZero = 9 "debits_pending_must_be_zero",
-    DebitsPostedMustBeZero = 10 "debits_posted_must_be_zero",
-    CreditsPendingMustBeZero = 11 "credits_pending_must_be_zero",
-    CreditsPostedMustBeZero = 12 "credits_posted_must_be_zero",
-    LedgerMustNotBeZero = 13 "ledger_must_not_be_zero",
-    CodeMustNotBeZero = 14 "code_must_not_be_zero",
-    ExistsWithDifferentFlags = 15 "exists_with_different_flags",
-    ExistsWithDifferentUserData128 = 16 "exists_with_different_user_data_128",
-    ExistsWithDifferentUserData64 = 17 "exists_with_different_user_data_64",
-    ExistsWithDifferentUserData32 = 18 "exists_with_different_user_data_32",
-    ExistsWithDifferentLedger = 19 "exists_with_different_ledger",
-    ExistsWithDifferentCode = 20 "exists_with_different_code",
-    Exists = 21 "exists",
-}
+    /// What the server says of a request, in its reply. With any but `Reply` it was not executed now.
+    Status {
+        /// It is in the history, and this is its reply.
+        Reply = 0 "Reply",
+        /// Its client has no session: it was never registered, or evicted.
+        NoSession = 1 "NoSession",
+        /// Its session is below the client's.
+        SessionTooLow = 2 "SessionTooLow",
+        /// Its session is above the client's.
+        NewerSession = 3 "NewerSession",
+        /// Its number is below the client's last.
+        Older = 4 "Older",
+        /// It has the last number, and another content.
+        Collision = 5 "Collision",
+        /// It skips a number.
+        NewerRequest = 6 "NewerRequest",
+        /// It is new and not yet shown: seats alone answer this.
+        NotYet = 7 "NotYet",
+    }
 }
 
 numbered! {
-/// What became of an event of create_transfers.
-CreateTransferResult {
-    Ok = 0 "ok",
-    LinkedEventFailed = 1 "linked_event_failed",
-    LinkedEventChainOpen = 2 "linked_event_chain_open",
-    TimestampMustBeZero = 3 "timestamp_must_be_zero",
-    ReservedFlag = 4 "reserved_flag",
-    IdMustNotBeZero = 5 "id_must_not_be_zero",
-    IdMustNotBeIntMax = 6 "id_must_not_be_int_max",
-    FlagsAreMutuallyExclusive = 7 "flags_are_mutually_exclusive",
-    DebitAccountIdMustNotBeZero = 8 "debit_account_id_must_not_be_zero",
-    DebitAccountIdMustNotBeIntMax = 9 "debit_account_id_must_not_be_int_max",
-    CreditAccountIdMustNotBeZero = 10 "credit_account_id_must_not_be_zero",
-    CreditAccountIdMustNotBeIntMax = 11 "credit_account_id_must_not_be_int_max",
-    AccountsMustBeDifferent = 12 "accounts_must_be_different",
-    PendingIdMustBeZero = 13 "pending_id_must_be_zero",
-    PendingIdMustNotBeZero = 14 "pending_id_must_not_be_zero",
-    PendingIdMustNotBeIntMax = 15 "pending_id_must_not_be_int_max",
-    PendingIdMustBeDifferent = 16 "pending_id_must_be_different",
-    TimeoutReservedForPendingTransfer = 17 "timeout_reserved_for_pending_transfer",
-    LedgerMustNotBeZero = 19 "ledger_must_not_be_zero",
-    CodeMustNotBeZero = 20 "code_must_not_be_zero",
-    DebitAccountNotFound = 21 "debit_account_not_found",
-    CreditAccountNotFound = 22 "credit_account_not_found",
-    AccountsMustHaveTheSameLedger = 23 "accounts_must_have_the_same_ledger",
-    TransferMustHaveTheSameLedgerAsAccounts = 24 "transfer_must_have_the_same_ledger_as_accounts",
-    PendingTransferNotFound = 25 "pending_transfer_not_found",
-    PendingTransferNotPending = 26 "pending_transfer_not_pending",
-    PendingTransferHasDifferentDebitAccountId = 27 "pending_transfer_has_different_debit_account_id",
-    PendingTransferHasDifferentCreditAccountId = 28 "pending_transfer_has_different_credit_account_id",
-    PendingTransferHasDifferentLedger = 29 "pending_transfer_has_different_ledger",
-    PendingTransferHasDifferentCode = 30 "pending_transfer_has_different_code",
-    ExceedsPendingTransferAmount = 31 "exceeds_pending_transfer_amount",
-    PendingTransferHasDifferentAmount = 32 "pending_transfer_has_different_amount",
-    PendingTransferAlreadyPosted = 33 "pending_transfer_already_posted",
-    PendingTransferAlreadyVoided = 34 "pending_transfer_already_voided",
-    PendingTransferExpired = 35 "pending_transfer_expired",
-    ExistsWithDifferentFlags = 36 "exists_with_different_flags",
-    ExistsWithDifferentDebitAccountId = 37 "exists_with_different_debit_account_id",
-    ExistsWithDifferentCreditAccountId = 38 "exists_with_different_credit_account_id",
-    ExistsWithDifferentAmount = 39 "exists_with_different_amount",
-    ExistsWithDifferentPendingId = 40 "exists_with_different_pending_id",
-    ExistsWithDifferentUserData128 = 41 "exists_with_different_user_data_128",
-    ExistsWithDifferentUserData64 = 42 "exists_with_different_user_data_64",
-    ExistsWithDifferentUserData32 = 43 "exists_with_different_user_data_32",
-    ExistsWithDifferentTimeout = 44 "exists_with_different_timeout",
-    ExistsWithDifferentCode = 45 "exists_with_different_code",
-    Exists = 46 "exists",
-    OverflowsDebitsPending = 47 "overflows_debits_pending",
-    OverflowsCreditsPending = 48 "overflows_credits_pending",
-    OverflowsDebitsPosted = 49 "overflows_debits_posted",
-    OverflowsCreditsPosted = 50 "overflows_credits_posted",
-    OverflowsDebits = 51 "overflows_debits",
-    OverflowsCredits = 52 "overflows_credits",
-    OverflowsTimeout = 53 "overflows_timeout",
-    ExceedsCredits = 54 "exceeds_credits",
-    ExceedsDebits = 55 "exceeds_debits",
-    ClosingTransferMustBePending = 64 "closing_transfer_must_be_pending",
-    DebitAccountAlreadyClosed = 65 "debit_account_already_closed",
-    CreditAccountAlreadyClosed = 66 "credit_account_already_closed",
-    ExistsWithDifferentLedger = 67 "exists_with_different_ledger",
-    IdAlreadyFailed = 68 "id_already_failed",
+    /// What became of an event of create_accounts: docs/RULES.md says where each holds, docs/CLIENTS.md what to do.
+    CreateAccountResult {
+        Ok = 0 "ok",
+        LinkedEventFailed = 1 "linked_event_failed",
+        LinkedEventChainOpen = 2 "linked_event_chain_open",
+        TimestampMustBeZero = 3 "timestamp_must_be_zero",
+        ReservedField = 4 "reserved_field",
+        ReservedFlag = 5 "reserved_flag",
+        IdMustNotBeZero = 6 "id_must_not_be_zero",
+        IdMustNotBeIntMax = 7 "id_must_not_be_int_max",
+        FlagsAreMutuallyExclusive = 8 "flags_are_mutually_exclusive",
+        DebitsPendingMustBeZero = 9 "debits_pending_must_be_zero",
+        DebitsPostedMustBeZero = 10 "debits_posted_must_be_zero",
+        CreditsPendingMustBeZero = 11 "credits_pending_must_be_zero",
+        CreditsPostedMustBeZero = 12 "credits_posted_must_be_zero",
+        LedgerMustNotBeZero = 13 "ledger_must_not_be_zero",
+        CodeMustNotBeZero = 14 "code_must_not_be_zero",
+        ExistsWithDifferentFlags = 15 "exists_with_different_flags",
+        ExistsWithDifferentUserData128 = 16 "exists_with_different_user_data_128",
+        ExistsWithDifferentUserData64 = 17 "exists_with_different_user_data_64",
+        ExistsWithDifferentUserData32 = 18 "exists_with_different_user_data_32",
+        ExistsWithDifferentLedger = 19 "exists_with_different_ledger",
+        ExistsWithDifferentCode = 20 "exists_with_different_code",
+        Exists = 21 "exists",
+    }
 }
+
+numbered! {
+    /// What became of an event of create_transfers.
+    CreateTransferResult {
+        Ok = 0 "ok",
+        LinkedEventFailed = 1 "linked_event_failed",
+        LinkedEventChainOpen = 2 "linked_event_chain_open",
+        TimestampMustBeZero = 3 "timestamp_must_be_zero",
+        ReservedFlag = 4 "reserved_flag",
+        IdMustNotBeZero = 5 "id_must_not_be_zero",
+        IdMustNotBeIntMax = 6 "id_must_not_be_int_max",
+        FlagsAreMutuallyExclusive = 7 "flags_are_mutually_exclusive",
+        DebitAccountIdMustNotBeZero = 8 "debit_account_id_must_not_be_zero",
+        DebitAccountIdMustNotBeIntMax = 9 "debit_account_id_must_not_be_int_max",
+        CreditAccountIdMustNotBeZero = 10 "credit_account_id_must_not_be_zero",
+        CreditAccountIdMustNotBeIntMax = 11 "credit_account_id_must_not_be_int_max",
+        AccountsMustBeDifferent = 12 "accounts_must_be_different",
+        PendingIdMustBeZero = 13 "pending_id_must_be_zero",
+        PendingIdMustNotBeZero = 14 "pending_id_must_not_be_zero",
+        PendingIdMustNotBeIntMax = 15 "pending_id_must_not_be_int_max",
+        PendingIdMustBeDifferent = 16 "pending_id_must_be_different",
+        TimeoutReservedForPendingTransfer = 17 "timeout_reserved_for_pending_transfer",
+        LedgerMustNotBeZero = 19 "ledger_must_not_be_zero",
+        CodeMustNotBeZero = 20 "code_must_not_be_zero",
+        DebitAccountNotFound = 21 "debit_account_not_found",
+        CreditAccountNotFound = 22 "credit_account_not_found",
+        AccountsMustHaveTheSameLedger = 23 "accounts_must_have_the_same_ledger",
+        TransferMustHaveTheSameLedgerAsAccounts = 24 "transfer_must_have_the_same_ledger_as_accounts",
+        PendingTransferNotFound = 25 "pending_transfer_not_found",
+        PendingTransferNotPending = 26 "pending_transfer_not_pending",
+        PendingTransferHasDifferentDebitAccountId = 27 "pending_transfer_has_different_debit_account_id",
+        PendingTransferHasDifferentCreditAccountId = 28 "pending_transfer_has_different_credit_account_id",
+        PendingTransferHasDifferentLedger = 29 "pending_transfer_has_different_ledger",
+        PendingTransferHasDifferentCode = 30 "pending_transfer_has_different_code",
+        ExceedsPendingTransferAmount = 31 "exceeds_pending_transfer_amount",
+        PendingTransferHasDifferentAmount = 32 "pending_transfer_has_different_amount",
+        PendingTransferAlreadyPosted = 33 "pending_transfer_already_posted",
+        PendingTransferAlreadyVoided = 34 "pending_transfer_already_voided",
+        PendingTransferExpired = 35 "pending_transfer_expired",
+        ExistsWithDifferentFlags = 36 "exists_with_different_flags",
+        ExistsWithDifferentDebitAccountId = 37 "exists_with_different_debit_account_id",
+        ExistsWithDifferentCreditAccountId = 38 "exists_with_different_credit_account_id",
+        ExistsWithDifferentAmount = 39 "exists_with_different_amount",
+        ExistsWithDifferentPendingId = 40 "exists_with_different_pending_id",
+        ExistsWithDifferentUserData128 = 41 "exists_with_different_user_data_128",
+        ExistsWithDifferentUserData64 = 42 "exists_with_different_user_data_64",
+        ExistsWithDifferentUserData32 = 43 "exists_with_different_user_data_32",
+        ExistsWithDifferentTimeout = 44 "exists_with_different_timeout",
+        ExistsWithDifferentCode = 45 "exists_with_different_code",
+        Exists = 46 "exists",
+        OverflowsDebitsPending = 47 "overflows_debits_pending",
+        OverflowsCreditsPending = 48 "overflows_credits_pending",
+        OverflowsDebitsPosted = 49 "overflows_debits_posted",
+        OverflowsCreditsPosted = 50 "overflows_credits_posted",
+        OverflowsDebits = 51 "overflows_debits",
+        OverflowsCredits = 52 "overflows_credits",
+        OverflowsTimeout = 53 "overflows_timeout",
+        ExceedsCredits = 54 "exceeds_credits",
+        ExceedsDebits = 55 "exceeds_debits",
+        ClosingTransferMustBePending = 64 "closing_transfer_must_be_pending",
+        DebitAccountAlreadyClosed = 65 "debit_account_already_closed",
+        CreditAccountAlreadyClosed = 66 "credit_account_already_closed",
+        ExistsWithDifferentLedger = 67 "exists_with_different_ledger",
+        IdAlreadyFailed = 68 "id_already_failed",
+    }
 }
 
 /// Flags of one kind of record: a type of its own, so that they are not mixed with those of the other.
@@ -256,30 +256,30 @@ fn write_flags(f: &mut fmt::Formatter<'_>, flags: u16, names: &[(u16, &str)]) ->
 }
 
 flags! {
-/// The flags of an account. An imported one is answered reserved_flag.
-AccountFlags {
-    LINKED = 1 "linked",
-    DEBITS_MUST_NOT_EXCEED_CREDITS = 2 "debits_must_not_exceed_credits",
-    CREDITS_MUST_NOT_EXCEED_DEBITS = 4 "credits_must_not_exceed_debits",
-    HISTORY = 8 "history",
-    IMPORTED = 16 "imported",
-    CLOSED = 32 "closed",
-}
+    /// The flags of an account. An imported one is answered reserved_flag.
+    AccountFlags {
+        LINKED = 1 "linked",
+        DEBITS_MUST_NOT_EXCEED_CREDITS = 2 "debits_must_not_exceed_credits",
+        CREDITS_MUST_NOT_EXCEED_DEBITS = 4 "credits_must_not_exceed_debits",
+        HISTORY = 8 "history",
+        IMPORTED = 16 "imported",
+        CLOSED = 32 "closed",
+    }
 }
 
 flags! {
-/// The flags of a transfer. An imported one is answered reserved_flag.
-TransferFlags {
-    LINKED = 1 "linked",
-    PENDING = 2 "pending",
-    POST_PENDING_TRANSFER = 4 "post_pending_transfer",
-    VOID_PENDING_TRANSFER = 8 "void_pending_transfer",
-    BALANCING_DEBIT = 16 "balancing_debit",
-    BALANCING_CREDIT = 32 "balancing_credit",
-    CLOSING_DEBIT = 64 "closing_debit",
-    CLOSING_CREDIT = 128 "closing_credit",
-    IMPORTED = 256 "imported",
-}
+    /// The flags of a transfer. An imported one is answered reserved_flag.
+    TransferFlags {
+        LINKED = 1 "linked",
+        PENDING = 2 "pending",
+        POST_PENDING_TRANSFER = 4 "post_pending_transfer",
+        VOID_PENDING_TRANSFER = 8 "void_pending_transfer",
+        BALANCING_DEBIT = 16 "balancing_debit",
+        BALANCING_CREDIT = 32 "balancing_credit",
+        CLOSING_DEBIT = 64 "closing_debit",
+        CLOSING_CREDIT = 128 "closing_credit",
+        IMPORTED = 256 "imported",
+    }
 }
 
 /// What is wrong with a frame: docs/FORMATS.md says where each holds.
@@ -365,65 +365,65 @@ macro_rules! record {
 }
 
 record! {
-/// An account. A new one has an id, a ledger and a code, and the rest as the default has it, but for user data and flags.
-Account, RECORD_SIZE {
-    0 id: u128,
-    16 debits_pending: u128,
-    32 debits_posted: u128,
-    48 credits_pending: u128,
-    64 credits_posted: u128,
-    80 user_data_128: u128,
-    96 user_data_64: u64,
-    104 user_data_32: u32,
-    108 reserved: u32,
-    112 ledger: u32,
-    116 code: u16,
-    118 flags: AccountFlags,
-    120 timestamp: u64,
-}
-}
-
-record! {
-/// A transfer. The timeout is in seconds.
-Transfer, RECORD_SIZE {
-    0 id: u128,
-    16 debit_account_id: u128,
-    32 credit_account_id: u128,
-    48 amount: u128,
-    64 pending_id: u128,
-    80 user_data_128: u128,
-    96 user_data_64: u64,
-    104 user_data_32: u32,
-    108 timeout: u32,
-    112 ledger: u32,
-    116 code: u16,
-    118 flags: TransferFlags,
-    120 timestamp: u64,
-}
+    /// An account. A new one has an id, a ledger and a code, and the rest as the default has it, but for user data and flags.
+    Account, RECORD_SIZE {
+        0 id: u128,
+        16 debits_pending: u128,
+        32 debits_posted: u128,
+        48 credits_pending: u128,
+        64 credits_posted: u128,
+        80 user_data_128: u128,
+        96 user_data_64: u64,
+        104 user_data_32: u32,
+        108 reserved: u32,
+        112 ledger: u32,
+        116 code: u16,
+        118 flags: AccountFlags,
+        120 timestamp: u64,
+    }
 }
 
 record! {
-/// The header of a request's frame.
-RequestHeader, HEADER_SIZE {
-    0 client: u128,
-    16 session: u64,
-    24 request: u32,
-    28 operation: u8,
-    32 length: u32,
-}
+    /// A transfer. The timeout is in seconds.
+    Transfer, RECORD_SIZE {
+        0 id: u128,
+        16 debit_account_id: u128,
+        32 credit_account_id: u128,
+        48 amount: u128,
+        64 pending_id: u128,
+        80 user_data_128: u128,
+        96 user_data_64: u64,
+        104 user_data_32: u32,
+        108 timeout: u32,
+        112 ledger: u32,
+        116 code: u16,
+        118 flags: TransferFlags,
+        120 timestamp: u64,
+    }
 }
 
 record! {
-/// The header of a reply's frame.
-ReplyHeader, HEADER_SIZE {
-    0 client: u128,
-    16 session: u64,
-    24 request: u32,
-    28 operation: u8,
-    29 status: u8,
-    32 length: u32,
-    36 commit: u64,
+    /// The header of a request's frame.
+    RequestHeader, HEADER_SIZE {
+        0 client: u128,
+        16 session: u64,
+        24 request: u32,
+        28 operation: u8,
+        32 length: u32,
+    }
 }
+
+record! {
+    /// The header of a reply's frame.
+    ReplyHeader, HEADER_SIZE {
+        0 client: u128,
+        16 session: u64,
+        24 request: u32,
+        28 operation: u8,
+        29 status: u8,
+        32 length: u32,
+        36 commit: u64,
+    }
 }
 
 /// What became of one event of a create: its place in the request, and the result. Events that were accepted are not told.

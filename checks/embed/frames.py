@@ -1,0 +1,203 @@
+#!/usr/bin/env python3
+"""Tests what embed/tb_embed.h and embed/rust/tb_embed.rs make and read of frames, without the library: frames.c, as C and as C++, and
+frames.rs write the requests that the client in Python writes, refuse what a frame may not hold, and read replies as the tests of
+docs/FORMATS.md say: right ones, each cut at each byte, each with changed bytes, and too long ones.
+
+    checks/embed/frames.py
+
+Prints a line for each case, and 'N passed, M failed'. checks/embed.py does the same among other things.
+"""
+import os
+import random
+import shutil
+import struct
+import subprocess
+import sys
+import tempfile
+
+HERE = os.path.dirname(os.path.abspath(__file__))
+TOP = os.path.dirname(os.path.dirname(HERE))
+sys.dont_write_bytecode = True
+sys.path.append(f"{TOP}/clients/python")
+
+from tb_client import Account, AccountFlags, Operation, Status, Transfer, TransferFlags, amount_max  # noqa: E402
+from tb_client.frames import Reply, body_of, request_frame  # noqa: E402
+
+FAULTS = ["none", "Short", "ClientZero", "UnknownOperation", "Reserved", "BadLength", "TooMany", "RegisterNumbers", "RequestZero", "Device", "NoMemory", "ReplyNumbers"]
+ITEM_SIZES = {129: 8, 130: 8, 131: 128, 132: 128}
+ITEM_NAMES = {129: "result", 130: "result", 131: "account", 132: "transfer"}
+
+
+# The programs
+
+
+def programs(folder):
+    """Each program that could be built, as (language, path), or (language, what the compiler said) with no path."""
+    careful = ["-O1", "-g", "-Wall", "-Wextra", "-Wpedantic", "-Werror"]
+    sanitizers = ["-fsanitize=address,undefined", "-fno-sanitize-recover=all"]
+    trial = subprocess.run(["cc", *sanitizers, "-x", "c", "-", "-o", f"{folder}/trial"], input=b"int main(void) { return 0; }", capture_output=True)
+    if trial.returncode:
+        print("passed over: cc has no AddressSanitizer here")
+        sanitizers = []
+    kinds = [
+        ("C", "cc", ["-std=c11", *careful, *sanitizers, f"{HERE}/frames.c"]),
+        ("C++", "c++", ["-std=c++17", *careful, *sanitizers, "-x", "c++", f"{HERE}/frames.c"]),
+        ("Rust", "rustc", ["--edition", "2024", "-D", "warnings", "-C", "overflow-checks", f"{HERE}/frames.rs"]),
+    ]
+    for language, tool, words in kinds:
+        path = f"{folder}/frames_{tool}"
+        if not shutil.which(tool):
+            print(f"passed over: {tool} is not there")
+            continue
+        ran = subprocess.run([tool, *words, "-o", path], capture_output=True)
+        yield language, path if ran.returncode == 0 and not ran.stderr else None, ran.stderr.decode(errors="replace")[-1500:]
+
+
+# Requests
+
+
+def requests():
+    """The frames that each program writes."""
+    client, session, number, top = 7 + (9 << 64), 0x1122334455667788, 0xFFFFFFFE, 2**64 - 1
+
+    def wide(low, high):
+        return low + (high << 64)
+
+    def account(n):
+        flags = AccountFlags.linked | AccountFlags.history | AccountFlags.closed
+        return Account(wide(n, 1), wide(n + 1, 2), wide(n + 2, 3), wide(n + 3, 4), wide(n + 4, 5), wide(n + 5, top), n + 6, n + 7, n + 8, n + 9, n + 10, flags, n + 11)
+
+    def transfer(n):
+        flags = TransferFlags.pending | TransferFlags.balancing_credit | TransferFlags.closing_credit
+        return Transfer(wide(n, 1), wide(n + 1, 2), wide(n + 2, 3), amount_max, wide(n + 4, 5), wide(n + 5, top), n + 6, n + 7, n + 8, n + 9, n + 10, flags, n + 11)
+
+    ids = [wide(5, 6), 0, 2**128 - 1]
+    yield request_frame(client, 0, 0, Operation.register)
+    for operation, items in (("create_accounts", [account(100), account(200)]), ("create_transfers", [transfer(300), transfer(400)]), ("lookup_accounts", ids), ("lookup_transfers", ids)):
+        kind = Operation[operation]
+        yield request_frame(client, session, number, kind, body_of(kind, items))
+
+
+# Replies
+
+
+def reply_fault(data):
+    """The fault of a reply, by the table of docs/FORMATS.md."""
+    if len(data) < 48:
+        return "Short"
+    client = int.from_bytes(data[:16], "little")
+    session, request, operation, status, zeros, length, commit, more = struct.unpack_from("<QIBBHIQI", data, 16)
+    register, refusal = operation == 2, status != 0
+    size = ITEM_SIZES.get(operation, 8)
+    tests = [
+        ("ClientZero", client == 0),
+        ("UnknownOperation", operation != 2 and operation not in ITEM_SIZES),
+        ("Reserved", status > 7 or zeros or more),
+        ("RegisterNumbers", register and (request or (refusal and session))),
+        ("RequestZero", not register and request == 0),
+        ("ReplyNumbers", commit if refusal else session == 0 or (session != commit if register else session >= commit)),
+        ("BadLength", length if register or refusal else length % size),
+        ("TooMany", length // size > 8190),
+        ("Short", len(data) < 48 + length),
+    ]
+    return next((name for name, holds in tests if holds), "none")
+
+
+def told(data):
+    """What a program prints of the bytes."""
+    fault = reply_fault(data)
+    if fault != "none":
+        return f"{FAULTS.index(fault)} {fault}\n"
+    operation, status, length, commit = data[28], data[29], *struct.unpack_from("<IQ", data, 32)
+    lines = [f"{Operation(operation).name} {Status(status).name} {commit}"]
+    for at in range(48, 48 + length, ITEM_SIZES.get(operation, 8)):
+        item = data[at : at + ITEM_SIZES[operation]]
+        lines.append(f"  {ITEM_NAMES[operation]} " + ("%d %d" % struct.unpack("<II", item) if len(item) == 8 else item.hex()))
+    return "\n".join(lines) + "\n"
+
+
+def right_replies():
+    """Replies without a fault: of each operation with 0, 1 and 3 items, and of each status."""
+    chance = random.Random(7)
+    yield Reply(7, 5, 0, 2, 0, 5, b"").to_bytes()
+    for operation, size in ITEM_SIZES.items():
+        for count in (0, 1, 3):
+            yield Reply(2**128 - 1, 2**64 - 2, 2**32 - 1, operation, 0, 2**64 - 1, chance.randbytes(count * size)).to_bytes()
+        for status in range(1, 8):
+            yield Reply(1 << 64, 3, 4, operation, status, 0, b"").to_bytes()
+    for status in range(1, 8):
+        yield Reply(7, 0, 0, 2, status, 0, b"").to_bytes()
+
+
+def long_replies():
+    """Replies with as many items as there may be, with one more, and with lengths that are wrong or greater than what is there."""
+    for operation, size in ITEM_SIZES.items():
+        for count in (8190, 8191):
+            yield Reply(7, 1, 1, operation, 0, 2, bytes(count * size)).to_bytes()
+        frame = bytearray(Reply(7, 1, 1, operation, 0, 2, bytes(3 * size)).to_bytes())
+        for length in (0, 1, size - 1, size, 3 * size - 1, 3 * size + 1, 4 * size, 8190 * size, 8191 * size, 2**31, 2**32 - 1, 2**32 - size):
+            frame[32:36] = length.to_bytes(4, "little")
+            yield bytes(frame)
+
+
+def changed_replies(right):
+    """Replies with bytes of their headers changed at random, to numbers that mean something."""
+    chance = random.Random(11)
+    for _ in range(20000):
+        frame = bytearray(chance.choice(right))
+        for _ in range(chance.choice((1, 1, 2, 3))):
+            frame[chance.randrange(48)] = chance.choice((0, 0, 1, 2, 7, 8, 128, 129, 131, 132, 133, 255))
+        if chance.random() < 0.1:
+            frame[:16] = bytes(16)
+        yield bytes(frame[: chance.choice((len(frame), len(frame), len(frame), chance.randrange(len(frame) + 1)))])
+
+
+def read_by(path, replies):
+    given = b"".join(struct.pack("<I", len(it)) + it for it in replies)
+    ran = subprocess.run([path, "read"], input=given, capture_output=True, timeout=300)
+    return ran.stdout.decode() if ran.returncode == 0 else ran.stderr.decode(errors="replace")[-1500:]
+
+
+def cases():
+    """Each case: what is tested, whether it holds, and why not."""
+    right = list(right_replies())
+    kinds = [
+        ("right replies", right),
+        ("replies cut at each byte", [it[:length] for it in right for length in range(len(it))]),
+        ("replies with more bytes behind them", [it + bytes([255] * more) for it in right for more in (1, 48, 128)]),
+        ("the longest replies, and wrong lengths", list(long_replies())),
+        ("replies with changed bytes", list(changed_replies(right))),
+    ]
+    found = {reply_fault(it) for _, replies in kinds for it in replies}
+    yield "each fault comes of some reply", found == {*FAULTS} - {"Device", "NoMemory"}, str(found)
+    yield "cut replies are Short", {reply_fault(it) for it in kinds[1][1]} == {"Short"}, ""
+    wanted = "".join(it.hex() + "\n" for it in requests())
+    with tempfile.TemporaryDirectory() as folder:
+        for language, path, why in programs(folder):
+            yield f"the frames in {language} are built", path is not None, why
+            if path is None:
+                continue
+            written, refused = (subprocess.run([path, mode], capture_output=True, timeout=300) for mode in ("write", "refused"))
+            yield f"requests in {language} are those of the client in Python", written.stdout.decode() == wanted, (written.stdout + written.stderr).decode(errors="replace")[-1500:]
+            yield f"requests that have no frame in {language}", refused.stdout == b"ok\n" and refused.returncode == 0, (refused.stdout + refused.stderr).decode(errors="replace")[-1500:]
+            for what, replies in kinds:
+                got, lines = read_by(path, replies), "".join(map(told, replies))
+                yield f"{len(replies)} {what} in {language}", got == lines, difference(got, lines)
+
+
+def difference(got, wanted):
+    pairs = zip(got.splitlines(), wanted.splitlines())
+    return next((f"{a[:200]} in place of {b[:200]}" for a, b in pairs if a != b), got[-1500:] if got != wanted else "")
+
+
+def main():
+    passed = failed = 0
+    for what, holds, why in cases():
+        passed, failed = passed + bool(holds), failed + (not holds)
+        print(f"ok: {what}" if holds else f"FAILED: {what}: {why}", flush=True)
+    print(f"{passed} passed, {failed} failed")
+    return failed != 0
+
+
+if __name__ == "__main__":
+    sys.exit(main())
