@@ -323,13 +323,14 @@ static inline tb_uint128 tb_u128_value(tb_u128 halves) {
 
 /* Requests. Each function writes a frame to the beginning of a room, and answers its length. It answers 0, and leaves the room as
  * it is, where the client is 0, the request's number is 0, there are more than 8190 items, or the room is too small. The items
- * are outside of the room; their pointer may be null where there are none. */
+ * are outside of the room; their pointer may be null where there are none. To send a request again, send the same bytes. */
 
+/* What the five have in common. */
 static inline size_t tb_write_frame(uint8_t *frame, size_t room, tb_u128 client, uint64_t session, uint32_t request,
                                     uint8_t operation, const void *items, size_t item_size, size_t count) {
     tb_request_header header;
     size_t length;
-    if (count > TB_ITEMS_MAX) return 0;
+    if (count > TB_ITEMS_MAX || (request == 0) != (operation == TB_OPERATION_REGISTER)) return 0;
     length = item_size * count;
     if (tb_u128_equal(client, tb_u128_of(0)) || room < TB_HEADER_SIZE + length) return 0;
     memset(&header, 0, sizeof header);
@@ -350,25 +351,21 @@ static inline size_t tb_write_register(uint8_t *frame, size_t room, tb_u128 clie
 
 static inline size_t tb_write_create_accounts(uint8_t *frame, size_t room, tb_u128 client, uint64_t session, uint32_t request,
                                               const tb_account *accounts, size_t count) {
-    if (request == 0) return 0;
     return tb_write_frame(frame, room, client, session, request, TB_OPERATION_CREATE_ACCOUNTS, accounts, TB_RECORD_SIZE, count);
 }
 
 static inline size_t tb_write_create_transfers(uint8_t *frame, size_t room, tb_u128 client, uint64_t session, uint32_t request,
                                                const tb_transfer *transfers, size_t count) {
-    if (request == 0) return 0;
     return tb_write_frame(frame, room, client, session, request, TB_OPERATION_CREATE_TRANSFERS, transfers, TB_RECORD_SIZE, count);
 }
 
 static inline size_t tb_write_lookup_accounts(uint8_t *frame, size_t room, tb_u128 client, uint64_t session, uint32_t request,
                                               const tb_u128 *ids, size_t count) {
-    if (request == 0) return 0;
     return tb_write_frame(frame, room, client, session, request, TB_OPERATION_LOOKUP_ACCOUNTS, ids, TB_ID_SIZE, count);
 }
 
 static inline size_t tb_write_lookup_transfers(uint8_t *frame, size_t room, tb_u128 client, uint64_t session, uint32_t request,
                                                const tb_u128 *ids, size_t count) {
-    if (request == 0) return 0;
     return tb_write_frame(frame, room, client, session, request, TB_OPERATION_LOOKUP_TRANSFERS, ids, TB_ID_SIZE, count);
 }
 
@@ -432,6 +429,7 @@ static inline uint32_t tb_read_reply(const uint8_t *bytes, size_t length, tb_rep
 
 /* The item of a reply at a place from 0 on: 1, or 0 where the reply has no such item, or items of another kind. */
 
+/* What the three have in common: the item's size is that of the reply's items. */
 static inline int tb_reply_item(const tb_reply *reply, size_t place, void *item, size_t item_size) {
     if (place >= reply->count) return 0;
     memcpy(item, reply->body + place * item_size, item_size);

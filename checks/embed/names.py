@@ -1,6 +1,6 @@
 #!/usr/bin/env python3
-"""Compares the numbers, names and layouts of the definitions in specs/ with those of embed/tb_embed.h, embed/rust/tb_embed.rs and the
-client in Python: each has just what the definitions have. Needs no library.
+"""Compares the numbers, names and layouts of the definitions in specs/ with those of embed/tb_embed.h, embed/rust/tb_embed.rs, the
+client in Python and docs/FORMATS.md: each has just what the definitions have. Needs no library.
 
     checks/embed/names.py
 
@@ -155,6 +155,7 @@ def comparisons():
     yield from in_c(header)
     yield from in_rust(rust)
     yield from in_python()
+    yield from in_pages(read("docs/FORMATS.md"))
 
 
 def in_c(header):
@@ -230,6 +231,20 @@ def in_python():
     found = {"HEADER_SIZE": frames.HEADER, "RECORD_SIZE": records.RECORD, "ID_SIZE": records.ID, "ITEMS_MAX": frames.ITEMS_MAX}
     found |= {"REPLY_MAX": tb_embed.REPLY_MAX, "TIME_MAX": values.MOMENT_MAX}
     yield same("sizes and limits in Python", {name: wanted[name] for name in found}, found)
+
+
+def in_pages(page):
+    """What docs/FORMATS.md says of operations, statuses, flags and faults."""
+    by_number = {name: {number: text for number, text in defined(file, number_word, text_word).values()} for file, number_word, text_word, _, _, name in KINDS}
+    operations = {int(number): name for number, name in re.findall(r"^\| (\d+) (\w+) \|", page, re.M)}
+    yield same("operations on the page of formats", by_number["Operation"], operations)
+    statuses = {int(number): name for number, name in re.findall(r"^\| (\d) \| (\w+) \| (?:is|has|skips)", page, re.M)}
+    yield same("statuses on the page of formats", by_number["Status"], statuses)
+    for name, listed in zip(("AccountFlags", "TransferFlags"), re.findall(r"^Flags: (.*?)\.$", page, re.M | re.S)):
+        yield same(f"{name} on the page of formats", by_number[name], {int(bit): flag for bit, flag in re.findall(r"(\d+) (\w+)", listed)})
+    (listed,) = re.findall(r"`FrameFault::number` answers (.*?);", page, re.S)
+    faults = {int(number): name for number, name in re.findall(r"(\d+) (\w+)", listed)}
+    yield same("faults on the page of formats", {number: it for it, number in numbers(spec("Faults"), "fault_number").items()}, faults)
 
 
 def main():
