@@ -121,7 +121,8 @@ def programs(folder):
         if wrapper and built("the script in Rust", *words, f"{EMBED}/rust/script.rs", *linked, "-o", f"{folder}/script_rs"):
             found["Rust"] = [f"{folder}/script_rs"]
             built("the first requests in Rust", *words, f"{EMBED}/rust/first.rs", *linked, "-o", f"{folder}/first_rs")
-            built("servers in threads, in Rust", *words, f"{TOP}/checks/embed/threads.rs", *linked, "-o", f"{folder}/threads")
+            for what, name in (("servers in threads, in Rust", "threads"), ("what goes wrong, in Rust", "errors")):
+                built(what, *words, f"{TOP}/checks/embed/{name}.rs", *linked, "-o", f"{folder}/{name}")
     whole = ["-Wl,--whole-archive", LIBRARY, "-Wl,--no-whole-archive", heap, f"-Wl,--version-script={EMBED}/tb_embed.map", "-Wl,-z,defs"]
     if built("the shared object", "cc", "-shared", *whole, "-o", shared):
         shown = run("nm", "-D", "--defined-only", shared).stdout.decode().split()[2::3]
@@ -181,6 +182,13 @@ def threads(folder, script, replies):
     if os.path.exists(f"{folder}/threads"):
         ran = run(f"{folder}/threads", script, replies)
         case("servers in threads", (ran.returncode, ran.stdout) == (0, b"credits_posted of account 2: 800\n"), (ran.stdout + ran.stderr).decode(errors="replace")[-500:].strip())
+
+
+def errors(folder):
+    """What the wrapper in Rust answers where a request is wrong, refused, or not served."""
+    if os.path.exists(f"{folder}/errors"):
+        ran = run(f"{folder}/errors")
+        case("errors by name, in Rust", (ran.returncode, ran.stdout, ran.stderr) == (0, b"ok\n", b""), ran.stderr.decode(errors="replace")[-1000:])
 
 
 def client(shared):
@@ -274,6 +282,7 @@ def main():
         if "C under AddressSanitizer" in found:
             leaks(folder)
         threads(folder, *mixed)
+        errors(folder)
         client(f"{folder}/libtb_embed.so")
         damaged(f"{folder}/libtb_embed.so")
         calls_a_second(found, folder)

@@ -462,14 +462,18 @@ pub struct Request {
 }
 
 impl Request {
-    /// Begins a session of a client: the reply's session is that of its later requests.
-    pub fn register(client: u128) -> Request {
+    pub fn new(client: u128, session: u64, number: u32, body: Body) -> Request {
         Request {
             client,
-            session: 0,
-            number: 0,
-            body: Body::Register,
+            session,
+            number,
+            body,
         }
+    }
+
+    /// Begins a session of a client: the reply's session is that of its later requests.
+    pub fn register(client: u128) -> Request {
+        Request::new(client, 0, 0, Body::Register)
     }
 
     pub fn create_accounts(
@@ -478,12 +482,7 @@ impl Request {
         number: u32,
         accounts: Vec<Account>,
     ) -> Request {
-        Request {
-            client,
-            session,
-            number,
-            body: Body::CreateAccounts(accounts),
-        }
+        Request::new(client, session, number, Body::CreateAccounts(accounts))
     }
 
     pub fn create_transfers(
@@ -492,30 +491,15 @@ impl Request {
         number: u32,
         transfers: Vec<Transfer>,
     ) -> Request {
-        Request {
-            client,
-            session,
-            number,
-            body: Body::CreateTransfers(transfers),
-        }
+        Request::new(client, session, number, Body::CreateTransfers(transfers))
     }
 
     pub fn lookup_accounts(client: u128, session: u64, number: u32, ids: Vec<u128>) -> Request {
-        Request {
-            client,
-            session,
-            number,
-            body: Body::LookupAccounts(ids),
-        }
+        Request::new(client, session, number, Body::LookupAccounts(ids))
     }
 
     pub fn lookup_transfers(client: u128, session: u64, number: u32, ids: Vec<u128>) -> Request {
-        Request {
-            client,
-            session,
-            number,
-            body: Body::LookupTransfers(ids),
-        }
+        Request::new(client, session, number, Body::LookupTransfers(ids))
     }
 
     pub fn operation(&self) -> Operation {
@@ -627,8 +611,8 @@ impl ReplyHeader {
     fn fault(&self, bytes: &[u8; HEADER_SIZE]) -> Option<Fault> {
         let operation = Operation::from_number(self.operation.into());
         let status = Status::from_number(self.status.into());
-        let (is_register, is_refusal) = (operation == Operation::Register, status != Status::Reply);
-        let (length, item_size) = (self.length as usize, reply_item_size(operation));
+        let is_register = operation == Operation::Register;
+        let is_refusal = status != Status::Reply;
         if self.client == 0 {
             Some(Fault::ClientZero)
         } else if matches!(operation, Operation::Unknown(_)) {
@@ -641,16 +625,8 @@ impl ReplyHeader {
             Some(Fault::RequestZero)
         } else if !self.has_commit(is_register, is_refusal) {
             Some(Fault::ReplyNumbers)
-        } else if if is_register || is_refusal {
-            length != 0
         } else {
-            length % item_size != 0
-        } {
-            Some(Fault::BadLength)
-        } else if length / item_size > ITEMS_MAX {
-            Some(Fault::TooMany)
-        } else {
-            None
+            self.length_fault(operation, is_register || is_refusal)
         }
     }
 
@@ -658,51 +634,52 @@ impl ReplyHeader {
     fn has_commit(&self, is_register: bool, is_refusal: bool) -> bool {
         if is_refusal {
             self.commit == 0
+        } else if is_register {
+            self.session != 0 && self.session == self.commit
         } else {
-            self.session != 0
-                && if is_register {
-                    self.session == self.commit
-                } else {
-                    self.session < self.commit
-                }
+            self.session != 0 && self.session < self.commit
         }
     }
+
+    /// A body is empty, or has whole items, and not too many.
+    fn length_fault(&self, operation: Operation, is_empty: bool) -> Option<Fault> {
+        let (length, item_size) = (self.length as usize, reply_item_size(operation));
+        if length % item_size != 0 || is_empty && length != 0 {
+            Some(Fault::BadLength)
+        } else if length / item_size > ITEMS_MAX {
+            Some(Fault::TooMany)
+        } else {
+            None
+        }
+    }
+}
+
+fn records<R>(body: &[u8], read: fn(&[u8; RECORD_SIZE]) -> R) -> Vec<R> {
+    let chunks = body.chunks_exact(RECORD_SIZE);
+    chunks.filter_map(|it| it.first_chunk()).map(read).collect()
+}
+
+fn results<R>(body: &[u8], result: fn(u32) -> R) -> Vec<EventResult<R>> {
+    let read = |it: &[u8]| (u32::get(it, 0), result(u32::get(it, 4)));
+    let chunks = body.chunks_exact(RESULT_SIZE);
+    chunks
+        .map(read)
+        .map(|(index, result)| EventResult { index, result })
+        .collect()
 }
 
 impl ReplyBody {
     /// The items of a body, which has whole ones.
     fn from_bytes(operation: Operation, body: &[u8]) -> ReplyBody {
-        let records = || {
-            body.chunks_exact(RECORD_SIZE)
-                .filter_map(|it| it.first_chunk())
-        };
-        let results = || {
-            body.chunks_exact(RESULT_SIZE)
-                .map(|it| (u32::get(it, 0), u32::get(it, 4)))
-        };
         match operation {
-            Operation::CreateAccounts => ReplyBody::AccountResults(
-                results()
-                    .map(|(index, code)| EventResult {
-                        index,
-                        result: CreateAccountResult::from_number(code),
-                    })
-                    .collect(),
-            ),
-            Operation::CreateTransfers => ReplyBody::TransferResults(
-                results()
-                    .map(|(index, code)| EventResult {
-                        index,
-                        result: CreateTransferResult::from_number(code),
-                    })
-                    .collect(),
-            ),
-            Operation::LookupAccounts => {
-                ReplyBody::Accounts(records().map(Account::from_bytes).collect())
+            Operation::CreateAccounts => {
+                ReplyBody::AccountResults(results(body, CreateAccountResult::from_number))
             }
-            Operation::LookupTransfers => {
-                ReplyBody::Transfers(records().map(Transfer::from_bytes).collect())
+            Operation::CreateTransfers => {
+                ReplyBody::TransferResults(results(body, CreateTransferResult::from_number))
             }
+            Operation::LookupAccounts => ReplyBody::Accounts(records(body, Account::from_bytes)),
+            Operation::LookupTransfers => ReplyBody::Transfers(records(body, Transfer::from_bytes)),
             _ => ReplyBody::Empty,
         }
     }
