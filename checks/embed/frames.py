@@ -140,6 +140,15 @@ def long_replies():
             yield bytes(frame)
 
 
+def odd_numbers():
+    """Replies to each operation, by each status, with numbers that go together or not."""
+    for operation in (2, *ITEM_SIZES):
+        for status in (0, 1, 7, 8):
+            for session, commit in ((0, 0), (0, 1), (1, 0), (1, 1), (1, 2), (2, 1), (2**63, 2**63 + 1), (2**32, 1), (1, 2**32)):
+                for client, request in ((0, 1), (1, 0), (1, 1), (1 << 64, 2**32 - 1)):
+                    yield Reply(client, session, request, operation, status, commit, b"").to_bytes()
+
+
 def changed_replies(right):
     """Replies with bytes of their headers changed at random, to numbers that mean something."""
     chance = random.Random(11)
@@ -166,6 +175,7 @@ def cases():
         ("replies cut at each byte", [it[:length] for it in right for length in range(len(it))]),
         ("replies with more bytes behind them", [it + bytes([255] * more) for it in right for more in (1, 48, 128)]),
         ("the longest replies, and wrong lengths", list(long_replies())),
+        ("replies whose numbers may not go together", list(odd_numbers())),
         ("replies with changed bytes", list(changed_replies(right))),
     ]
     found = {reply_fault(it) for _, replies in kinds for it in replies}
