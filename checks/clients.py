@@ -58,7 +58,7 @@ def types():
         print("passed over: mypy is not there")
         return
     with tempfile.TemporaryDirectory() as kept:
-        words = ["mypy", "--strict", "--cache-dir", kept, "tb_client", "example.py", f"{EMBED}/tb_embed.py"]
+        words = ["mypy", "--strict", "--cache-dir", kept, "tb_client", "tb_listen.py", "example.py", f"{EMBED}/tb_embed.py"]
         ran = subprocess.run(words, cwd=CLIENT, capture_output=True, text=True, timeout=300, env={**os.environ, "MYPYPATH": CLIENT})
     case("types, by mypy --strict", ran.returncode == 0, ran.stdout.strip()[-2000:])
 
@@ -73,7 +73,7 @@ def page():
 
 def blocks():
     """The page's Python runs: a sale, a crash before its reply came, and an eviction while it is in doubt."""
-    sale, crash, eviction = re.findall(r"```python\n(.*?)```", page(), re.S)
+    sale, crash, eviction, over_a_socket = re.findall(r"```python\n(.*?)```", page(), re.S)
     sent = "session.prepare(Operation.create_transfers, [Transfer(id(), 1, 2, 10, ledger=700, code=10)])\nsession.save('session.json')\n"
     whole = f"""
 import os, tempfile
@@ -94,6 +94,22 @@ transport.close()
 """
     output = script("the page's Python", CLIENT, "-c", textwrap.dedent(whole))
     case("what it moves", output == "120\n", output.strip())
+    sockets(over_a_socket)
+
+
+def sockets(shown):
+    """The page's listener and its client, over a Unix socket."""
+    command = re.search(r"```sh\n(clients/python/tb_listen.py .*?)\n```", page())[1].replace("crates/tbs/out/tbs", PROGRAM).split()
+    with tempfile.TemporaryDirectory() as folder:
+        listener = subprocess.Popen([sys.executable, "-B", f"{TOP}/{command[0]}", *command[1:]], cwd=folder, stderr=subprocess.PIPE, text=True)
+        try:
+            case("the page's listener", listener.stderr.readline() == "tb_listen: listens on ledger.sock\n")
+            output = script("the page's Python over a socket", CLIENT, "-c", f"import os\nos.chdir({folder!r})\n{shown}")
+            case("what it finds", output == "[]\n", output.strip())
+        finally:
+            listener.terminate()
+            status, told = listener.wait(60), listener.stderr.read()
+        case("the listener's end", (status, told) == (0, ""), f"{status} {told}")
 
 
 def readme():

@@ -5,6 +5,7 @@ it has the reply. It works over any transport, an object with a call `exchange(m
 reply or raises `ReplyLost`:
 
     Program    `tbs run` as a process, over two pipes
+    Socket     a server that listens, as tb_listen.py does
     Direct     a function that serves one frame, as that of embed/python/tb_embed.py
     Faulty     another transport, of which it loses the requests and replies that it is told to lose
 
@@ -13,6 +14,7 @@ docs/CLIENTS.md says how to use it, docs/FORMATS.md has the frames, docs/RULES.m
 from .errors import (
     REFUSALS,
     BadReply,
+    CannotConnect,
     CannotStart,
     ClientError,
     ClockJumped,
@@ -44,15 +46,16 @@ from .names import AccountFlags, CreateAccountResult, CreateTransferResult, Oper
 from .program import Program
 from .records import Account, EventResult, Transfer
 from .sessions import Saved, Session, require_ok
+from .sockets import Socket
 from .transports import Direct, Faulty, Transport
 from .values import U128 as amount_max  # as the amount of a post: all of the pending amount
 
 MAX = amount_max
 
 __all__ = [
-    "Account", "AccountFlags", "BadReply", "CannotStart", "ClientError", "ClockJumped", "Closed", "Collision", "CreateAccountResult", "CreateTransferResult",
+    "Account", "AccountFlags", "BadReply", "CannotConnect", "CannotStart", "ClientError", "ClockJumped", "Closed", "Collision", "CreateAccountResult", "CreateTransferResult",
     "Direct", "EventResult", "EventsFailed", "Evicted", "Faulty", "HEADER", "ITEMS_MAX", "InDoubt", "Invalid", "InvalidType", "InvalidValue", "MAX", "NUMBER_MAX",
     "NewerRequest", "NewerSession", "NoMemory", "NoSession", "NotSent", "NotYet", "NothingInDoubt", "Older", "Operation", "Program", "ProgramEnded", "REFUSALS",
-    "Refused", "Reply", "ReplyLost", "Request", "Saved", "ScriptFull", "Session", "SessionTooLow", "Status", "Transfer", "TransferFlags", "Transport", "amount_max",
+    "Refused", "Reply", "ReplyLost", "Request", "Saved", "ScriptFull", "Session", "SessionTooLow", "Socket", "Status", "Transfer", "TransferFlags", "Transport", "amount_max",
     "id", "reply_length", "request_frame", "require_ok",
 ]

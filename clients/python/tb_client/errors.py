@@ -66,6 +66,10 @@ class CannotStart(NotSent):
     """The program does not start."""
 
 
+class CannotConnect(NotSent):
+    """No connection to the server can be made."""
+
+
 # Something was sent
 
 

@@ -1,0 +1,136 @@
+"""A connection to a server that listens on a socket, as `tb_listen.py` does."""
+from __future__ import annotations
+
+import os
+import socket
+import threading
+import time
+from typing import Optional, Tuple, Union
+
+from .errors import BadReply, CannotConnect, Closed, InvalidType, InvalidValue, ReplyLost
+from .frames import HEADER, ITEMS_MAX, header_of, reply_length
+from .records import RECORD
+from .transports import Closing
+from .values import kind_of, seconds, whole
+
+Address = Union[str, "os.PathLike[str]", Tuple[str, int]]
+
+FIRST_PAUSE = 0.02  # seconds, before the server is called again; doubled each time
+LAST_PAUSE = 0.5
+TOLD = b"tb_listen: "  # begins what a server says before it closes a connection: fewer bytes than a frame has
+
+
+class Socket(Closing):
+    """A connection to a server at a Unix socket's path, or at a host and a port.
+
+    The server gives the moments: the one that `exchange` is given is not sent. A connection that broke, or on which no reply came in
+    time, is closed, and the next exchange makes a new one; where that can't be made within `timeout` seconds nothing is sent, and it
+    is `CannotConnect`. Threads may share a Socket: an exchange is one thread's from its first byte to its last."""
+
+    def __init__(self, address: Address, timeout: float = 5.0) -> None:
+        self.address = _address_of(address)
+        self.timeout = seconds("timeout", timeout, 0.001)
+        self._socket: Optional[socket.socket] = None
+        self._lock = threading.Lock()
+        self._owner = os.getpid()
+        self._closed = False
+
+    def exchange(self, moment: int, frame: bytes) -> bytes:
+        header_of(frame)  # the server would close the connection at a wrong one
+        if self._owner != os.getpid():
+            raise Closed("this Socket belongs to the process that made it")
+        with self._lock:
+            if self._closed:
+                raise Closed("this Socket was closed")
+            deadline = time.monotonic() + self.timeout
+            it = self._connected(deadline)
+            try:
+                self._wait(it, deadline)
+                it.sendall(frame)
+                return self._reply(it, deadline)
+            except OSError as error:
+                self._hang_up()
+                late = isinstance(error, socket.timeout)
+                raise ReplyLost(f"no reply within {self.timeout:g} seconds" if late else f"the connection broke: {error}") from None
+            except BaseException:
+                self._hang_up()
+                raise
+
+    def _connected(self, deadline: float) -> socket.socket:
+        """The connection, made anew where there is none."""
+        pause = FIRST_PAUSE
+        while self._socket is None:
+            try:
+                self._socket = _call(self.address, max(deadline - time.monotonic(), 0.001))
+            except OSError as error:
+                if time.monotonic() + pause > deadline:
+                    raise CannotConnect(f"{_shown(self.address)}: {error.strerror or error}") from None
+                time.sleep(pause)
+                pause = min(2 * pause, LAST_PAUSE)
+        return self._socket
+
+    def _reply(self, it: socket.socket, deadline: float) -> bytes:
+        header = self._read(it, HEADER, deadline)
+        length = reply_length(header) - HEADER
+        if length > ITEMS_MAX * RECORD:
+            raise BadReply(f"a reply with a body of {length} bytes")
+        return header + self._read(it, length, deadline)
+
+    def _read(self, it: socket.socket, count: int, deadline: float) -> bytes:
+        data = bytearray()
+        while len(data) < count:
+            self._wait(it, deadline)
+            more = it.recv(count - len(data))
+            if not more:
+                why = bytes(data[len(TOLD) :]).decode("ascii", "replace").strip() if data.startswith(TOLD) else ""
+                raise ReplyLost(f"the server closed the connection{why and ': ' + why}")
+            data += more
+        return bytes(data)
+
+    @staticmethod
+    def _wait(it: socket.socket, deadline: float) -> None:
+        left = deadline - time.monotonic()
+        if left <= 0:
+            raise socket.timeout()
+        it.settimeout(left)
+
+    def _hang_up(self) -> None:
+        it, self._socket = self._socket, None
+        if it is not None:
+            it.close()
+
+    def close(self) -> None:
+        """Closes the connection. Each exchange afterwards is `Closed`."""
+        with self._lock:
+            self._closed = True
+            self._hang_up()
+
+
+def _address_of(address: object) -> Union[str, Tuple[str, int]]:
+    if isinstance(address, (str, os.PathLike)):
+        path = os.fspath(address)
+        if not isinstance(path, str) or not path or "\0" in path:
+            raise InvalidValue("address", "is no path")
+        return path
+    if isinstance(address, tuple) and len(address) == 2 and isinstance(address[0], str):
+        return address[0], whole("port", address[1], 65535, 1)
+    raise InvalidType("address", f"must be a path, or a host and a port, not {kind_of(address)}")
+
+
+def _call(address: Union[str, Tuple[str, int]], timeout: float) -> socket.socket:
+    if isinstance(address, tuple):
+        it = socket.create_connection(address, timeout)
+        it.setsockopt(socket.IPPROTO_TCP, socket.TCP_NODELAY, 1)
+        return it
+    it = socket.socket(socket.AF_UNIX, socket.SOCK_STREAM)
+    try:
+        it.settimeout(timeout)
+        it.connect(address)
+    except BaseException:
+        it.close()
+        raise
+    return it
+
+
+def _shown(address: Union[str, Tuple[str, int]]) -> str:
+    return address if isinstance(address, str) else "{}:{}".format(*address)
