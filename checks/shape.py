@@ -1,0 +1,94 @@
+#!/usr/bin/env python3
+"""Measures the form of the code: how long clauses are, how many a function has, what stands twice.
+
+    checks/shape.py [CRATE ..]          a row for each crate, and the sum
+    checks/shape.py --list [CRATE ..]   also each clause over 120 columns, and each function with more than 8 clauses or 40 lines
+
+It reads the sources alone. docs/ARCHITECTURE.md gives its last numbers.
+"""
+import os
+import re
+import sys
+
+TOP = os.path.dirname(os.path.dirname(os.path.abspath(__file__)))
+COLUMNS = ("crate", "src", "specs", "proofs", "functions", "clauses", ">100", ">120", ">8 clauses", ">=40 lines", "casts of codes")
+CLAUSE = re.compile(r"\s+(?:requires|ensures|invariant) ?(?:\w+ )?\{")
+FUNCTION = re.compile(r"(\s*)(?:pub(?:\([a-z]+\))? )?(?:const |unsafe )*fn (\w+)")
+CAST = re.compile(r"(?:Result|Code)::\w+ as u\d+")
+
+
+def files(crate, folder, ending):
+    for at, _, names in sorted(os.walk(f"{TOP}/crates/{crate}/{folder}")):
+        for name in sorted(names):
+            if name.endswith(ending):
+                yield f"{at}/{name}"
+
+
+def lines(path):
+    with open(path, encoding="utf-8") as file:
+        return file.read().splitlines()
+
+
+def functions(path):
+    """The functions of a file: the name, its first line, the lines of its body, and its clauses."""
+    text = lines(path)
+    for at, line in enumerate(text):
+        found = FUNCTION.match(line)
+        if not found:
+            continue
+        close, clauses, body = f"{found[1]}}}", [], None
+        for to in range(at, len(text)):
+            if body is None and CLAUSE.match(text[to]):
+                clauses.append(to)
+            if text[to] == f"{found[1]}{{" or (to == at or body is None) and text[to].endswith(" {"):
+                body = to
+            if body is None and text[to].endswith(";") and not CLAUSE.match(text[to]):
+                break
+            if body is not None and text[to] == close:
+                yield found[2], at + 1, to - body - 1, clauses
+                break
+
+
+def measured(crate, listed):
+    row = dict.fromkeys(COLUMNS[1:], 0)
+    for folder, ending in (("src", ".rt"), ("specs", ".antt"), ("proofs", ".antt")):
+        row[folder] = sum(len(lines(path)) for path in files(crate, folder, ending))
+    for path in files(crate, "src", ".rt"):
+        short = os.path.relpath(path, TOP)
+        for at, line in enumerate(lines(path), 1):
+            if CLAUSE.match(line):
+                row["clauses"] += 1
+                row[">100"] += len(line) > 100
+                row[">120"] += len(line) > 120
+                if listed and len(line) > 120:
+                    print(f"{short}:{at}: {len(line)} columns")
+            row["casts of codes"] += len(CAST.findall(line))
+        for name, at, body, clauses in functions(path):
+            row["functions"] += 1
+            row[">8 clauses"] += len(clauses) > 8
+            row[">=40 lines"] += body >= 40
+            if listed and (len(clauses) > 8 or body >= 40):
+                print(f"{short}:{at}: {name}: {len(clauses)} clauses, {body} lines")
+    return row
+
+
+def main():
+    given = sys.argv[1:]
+    listed = "--list" in given
+    crates = [it for it in given if it != "--list"]
+    if not crates:
+        with open(f"{TOP}/crates.txt", encoding="utf-8") as file:
+            crates = [line.split(":")[0].split()[0] for line in file if ":" in line and not line.startswith("#")]
+    total = dict.fromkeys(COLUMNS[1:], 0)
+    rows = []
+    for crate in crates:
+        row = measured(crate, listed)
+        total = {it: total[it] + row[it] for it in total}
+        rows.append((crate, row))
+    print(" ".join(f"{it:>12}" if at else f"{it:<24}" for at, it in enumerate(COLUMNS)))
+    for crate, row in [*rows, ("all", total)]:
+        print(f"{crate:<24} " + " ".join(f"{row[it]:>12}" for it in COLUMNS[1:]))
+
+
+if __name__ == "__main__":
+    main()
