@@ -28,7 +28,7 @@ sys.path[:0] = [f"{TOP}/checks/embed", f"{EMBED}/python", f"{TOP}/clients/python
 import frames  # noqa: E402
 import names  # noqa: E402
 
-# What first.c and first.rs print, as docs/EMBEDDING.md shows it.
+# What first.c, first.rs and first.py print, as docs/EMBEDDING.md shows it.
 FIRST = """\
 register: entry 1, session 1
 create_accounts: entry 2, 0 failed
@@ -128,7 +128,7 @@ def programs(folder):
         shown = run("nm", "-D", "--defined-only", shared).stdout.decode().split()[2::3]
         calls = [f"tb_embed_{it}" for it in ("account", "close", "open", "serve", "transfer")]
         case("the shared object shows the calls alone", sorted(shown) == calls, " ".join(shown))
-        found["Python"] = [sys.executable, f"{EMBED}/python/first.py", shared]
+        found["Python"] = [sys.executable, f"{EMBED}/python/script.py", shared]
     careful = ["cc", *flags, "-Wl,--wrap=malloc,--wrap=realloc", f"{TOP}/checks/embed/careful.c", LIBRARY, heap, "-o", f"{folder}/careful"]
     built("the careful caller in C", *careful)
     return found
@@ -136,10 +136,14 @@ def programs(folder):
 
 def first_requests(folder):
     """What the examples print, and that the page shows it."""
-    for language, name in (("C", "first_c"), ("C under AddressSanitizer", "first_asan"), ("Rust", "first_rs")):
-        if os.path.exists(f"{folder}/{name}"):
-            ran = run(f"{folder}/{name}")
-            case(f"the first requests in {language}", (ran.returncode, ran.stdout, ran.stderr) == (0, FIRST.encode(), b""), (ran.stdout + ran.stderr).decode(errors="replace") if ran.stdout != FIRST.encode() else "")
+    runs = {language: [f"{folder}/{name}"] for language, name in (("C", "first_c"), ("C under AddressSanitizer", "first_asan"), ("Rust", "first_rs"))}
+    runs = {language: words for language, words in runs.items() if os.path.exists(words[0])}
+    if os.path.exists(f"{folder}/libtb_embed.so"):
+        runs["Python"] = [sys.executable, f"{EMBED}/python/first.py", f"{folder}/libtb_embed.so"]
+    for language, words in runs.items():
+        ran = run(*words)
+        holds = (ran.returncode, ran.stdout, ran.stderr) == (0, FIRST.encode(), b"")
+        case(f"the first requests in {language}", holds, "" if holds else (ran.stdout + ran.stderr).decode(errors="replace"))
     case("the page shows what the first requests print", f"```text\n{FIRST}```" in read(f"{TOP}/docs/EMBEDDING.md").decode())
 
 

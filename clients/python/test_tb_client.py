@@ -53,6 +53,29 @@ class Frames(unittest.TestCase):
         self.assertEqual(Transfer.from_bytes(moved.to_bytes()), moved)
         self.assertEqual(moved.to_bytes()[118:120].hex(), "4200")
 
+    def test_requests_there_and_back(self):
+        for operation, items in ((2, ()), (129, (account(1), account(2))), (130, (transfer(1, 1, 2, 10),)), (131, (1, tb.MAX)), (132, ())):
+            session, number = (0, 0) if operation == 2 else (5, 6)
+            made = tb.Request(7, session, number, tb.Operation(operation), items)
+            self.assertEqual(tb.Request.from_bytes(made.to_bytes()), made)
+        for operation, items in ((2, (1,)), (129, (transfer(1, 1, 2, 10),)), (130, (account(1),)), (131, (account(1),)), (133, ()), (129, 5)):
+            with self.assertRaises(tb.Invalid, msg=str(operation)):
+                tb.Request(7, 5, 6, operation, items).to_bytes()
+
+    def test_what_a_reply_says(self):
+        whole = account(1, credits_posted=5)
+        for operation, body, items in (
+            (2, b"", None),
+            (129, b"\1\0\0\0\x15\0\0\0", [tb.EventResult(1, tb.CreateAccountResult.exists)]),
+            (130, b"\1\0\0\0\x2e\0\0\0", [tb.EventResult(1, tb.CreateTransferResult.exists)]),
+            (131, whole.to_bytes(), [whole]),
+            (132, b"", []),
+        ):
+            self.assertEqual(tb.Reply(7, 1, 1, operation, 0, 2, body).items, items)
+        for operation, body in ((133, b""), (129, b"1234567"), (130, b"\0\0\0\0\xff\0\0\0")):
+            with self.assertRaises(tb.BadReply):
+                tb.Reply(7, 1, 1, operation, 0, 2, body).items
+
     def test_reply(self):
         frame = bytes.fromhex("07" + "00" * 15 + "01" + "00" * 7 + "01000000" + "8100" + "0000" + "08000000" + "0200000000000000" + "00" * 4 + "0100000015000000")
         read = tb.Reply.from_bytes(frame)

@@ -121,6 +121,11 @@ class Request:
             items = [*_items(body, ID, lambda data: u128_at(data, 0))]
         return cls(client, session, number, operation, tuple(items))
 
+    def to_bytes(self) -> bytes:
+        """The request's frame. Items of another kind than the operation takes are refused."""
+        kind = operation_of(self.operation)
+        return request_frame(self.client, self.session, self.number, kind, body_of(kind, self.items))
+
 
 def _parts(frame: bytes) -> tuple[int, int, int, Operation, bytes]:
     """The parts of a request's frame, which is whole and has no fault."""
@@ -174,6 +179,15 @@ class Reply:
             raise BadReply(f"{len(frame)} bytes are no frame of a reply")
         session, number, operation, status, _, commit = REPLY.unpack_from(frame, 16)
         return cls(u128_at(frame, 0), session, number, operation, status, commit, bytes(frame[HEADER:]))
+
+    @property
+    def items(self) -> Said:
+        """What the body says, of a reply with status 0: the results of a create, the records of a look-up, None of a register."""
+        try:
+            operation = Operation(self.operation)
+        except ValueError:
+            raise BadReply(f"no operation is {self.operation}") from None
+        return said_by(operation, self.body)
 
 
 def said_by(operation: Operation, body: bytes) -> Said:
