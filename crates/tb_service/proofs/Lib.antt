@@ -4,3 +4,4 @@ pub mod Flags
 pub mod Turns
 pub mod Serving
 pub mod Audit
+pub mod Owners

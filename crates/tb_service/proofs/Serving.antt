@@ -1,6 +1,8 @@
 -- Orders are served one after another.
-use Rattle.std.proofs.Common.{◌≡◌, ℕ, ◌+◌, List, [], ◌∷◌, ◌++◌, length, replicate, refl, sym, ap, ◌∙◌, subst, append_assoc, append-nil, length-append, arith}
+use Rattle.std.proofs.Common.{◌≡◌, ℕ, ◌+◌, ◌<◌, List, [], ◌∷◌, ◌++◌, length, replicate, refl, sym, ap, ◌∙◌, subst, append_assoc, append-nil, length-append, arith}
+use Rattle.std.specs.List.{All}
 use Rattle.std.proofs.lemmas.List.{length-replicate}
+use Rattle.std.proofs.lemmas.List.Elements.{All-nil, All-cons, All-head, All-tail, All-append, All-replicate}
 use Rattle.crossbeam_channel.specs.Claims.{Pass, view}
 use Rattle.tb_records.specs.Messages.{Message}
 use Rattle.tb_machine.specs.declared.entries.Entry.{Entry}
@@ -10,7 +12,7 @@ use Rattle.tb_service.specs.declared.orders.Order.{Order}
 use Rattle.tb_service.specs.declared.rule.View.{View}
 use Rattle.tb_service.specs.declared.clerk.Clerk.{Clerk}
 use Rattle.tb_service.specs.Line.{requests_in}
-use Rattle.tb_service.specs.Places.{requests, ports}
+use Rattle.tb_service.specs.Places.{requests, ports, HaveOwners}
 use Rattle.tb_service.specs.Names.{service_of}
 use Rattle.tb_service.specs.History.{Serves, ServesOn}
 use Rattle.tb_service.specs.Clerks.{room_of, Uses}
@@ -38,6 +40,18 @@ length-ports (o ∷ os) =
     let all = length-ports os in
     let here : length front ≡ length (requests_in o.what) = length-replicate (length (requests_in o.what)) o.port in
     length-append front (ports os) ∙ omega arith ∙ sym (length-append (requests_in o.what) (requests os))
+
+-- those of orders of ports that were made are below the number of ports
+ports_below : (n : ℕ) (os : List Order) → All (λ (o : Order). o.port < n) os → All (λ (p : ℕ). p < n) (ports os)
+ports_below n [] owned = All-nil (λ (p : ℕ). p < n)
+ports_below n (o ∷ os) owned =
+    let Below : ℕ → Type 0 = λ p. p < n in
+    let Owned : Order → Type 0 = λ o. o.port < n in
+    let many : ℕ = length (requests_in o.what) in
+    All-append Below (replicate many o.port) (ports os) (All-replicate Below many o.port (All-head Owned o os owned)) (ports_below n os (All-tail Owned o os owned))
+
+pub have_owners : (n : ℕ) (os : List Order) → All (λ (o : Order). o.port < n) os → HaveOwners n (requests os) (ports os)
+have_owners n os owned = record { whole = length-ports os; made = ports_below n os owned }
 
 pub replicate-snoc : (rs : List Message) (r : Message) (p : ℕ) → replicate (length (rs ++ r ∷ [])) p ≡ replicate (length rs) p ++ p ∷ []
 replicate-snoc [] r p = refl
@@ -68,6 +82,7 @@ module _ {J W M G : Type 0} where
     orders_none p q c d taken made named room refused = record {
       orders = [];
       taken = taken ∙ sym (append-nil (view p).taken);
+      owned = All-nil (λ (o : Order). o.port < (view p).ports);
       served = serves_on_at o tells passes (room_of c) (room_of c) (room_of c) (room_of d) (length c.ports.items + 1) (length c.ports.items + 1) [] c.refused.items c.refused.items c.refused.items d.refused.items
           refl refl refl (sym refused) (sym room) (serves_on_none o tells passes (room_of c) (length c.ports.items + 1) c.refused.items);
       made = made;
@@ -75,13 +90,14 @@ module _ {J W M G : Type 0} where
     }
 
     -- an order was taken, by a clerk who had made room, and shown
-    pub orders_one : (p q : Pass Order View) (order : Order) (c c' d' d : Clerk J W M G) → (view q).taken ≡ (view p).taken ++ order ∷ [] → (view q).ports ≡ (view p).ports → service_of q ≡ service_of p
+    pub orders_one : (p q : Pass Order View) (order : Order) (c c' d' d : Clerk J W M G) → (view q).taken ≡ (view p).taken ++ order ∷ [] → order.port < (view p).ports → (view q).ports ≡ (view p).ports → service_of q ≡ service_of p
         → room_of c' ≡ room_of c → c'.ports.items ≡ c.ports.items → c'.refused.items ≡ c.refused.items
         → ServesOn o tells passes (room_of c') (length c'.ports.items + 1) (requests_in order.what) c'.refused.items d'.refused.items (room_of d')
         → room_of d ≡ room_of d' → d.refused.items ≡ d'.refused.items → ServesOrders o tells passes p c q d
-    orders_one p q order c c' d' d taken made named room ports_are refused served shown kept = record {
+    orders_one p q order c c' d' d taken owned made named room ports_are refused served shown kept = record {
       orders = order ∷ [];
       taken = taken;
+      owned = All-cons (λ (o : Order). o.port < (view p).ports) order [] owned (All-nil (λ (o : Order). o.port < (view p).ports));
       served = subst (λ (l : List Message). ServesOn o tells passes (room_of c) (length c.ports.items + 1) l c.refused.items d.refused.items (room_of d)) (sym (append-nil (requests_in order.what)))
           (serves_on_at o tells passes (room_of c') (room_of c) (room_of d') (room_of d) (length c'.ports.items + 1) (length c.ports.items + 1) (requests_in order.what)
           c'.refused.items c.refused.items d'.refused.items d.refused.items
@@ -101,6 +117,7 @@ module _ {J W M G : Type 0} where
         record {
           orders = these.orders ++ those.orders;
           taken = those.taken ∙ ap (λ (l : List Order). l ++ those.orders) these.taken ∙ append_assoc (view p).taken these.orders those.orders;
+          owned = All-append (λ (o : Order). o.port < (view p).ports) these.orders those.orders these.owned (subst (λ (n : ℕ). All (λ (o : Order). o.port < n) those.orders) these.made those.owned);
           served = subst (λ (l : List Message). ServesOn o tells passes (room_of c) (length c.ports.items + 1) l c.refused.items e.refused.items (room_of e)) (sym (requests-append these.orders those.orders))
               (serves_on_more o tells passes (room_of c) (room_of d) (room_of e) (length c.ports.items + 1) (length d.ports.items + 1) (requests these.orders) (requests those.orders)
               c.refused.items d.refused.items e.refused.items (omega arith) these.served those.served);
@@ -122,3 +139,11 @@ module _ {J W M G : Type 0} where
           serves = subst (λ (t : ℕ × List Message × List (ℕ × TakeFault) × List Entry). Serves o tells passes (room_of c) t.0 t.1 t.2 (record { history = t.3; moments = d.moments; gate = d.gate }))
               (λ i. (begin i, sym orders i, sym faults i, sym history_is i)) run.served.serves;
         }
+
+    -- and each request taken has a port
+    pub owners_of : (p q : Pass Order View) (c d : Clerk J W M G) (count : ℕ) (taken : List Message) (owners : List ℕ) → (view p).taken ≡ [] → count ≡ (view p).ports
+        → ServesOrders o tells passes p c q d → taken ≡ requests (view q).taken → owners ≡ ports (view q).taken → HaveOwners count taken owners
+    owners_of p q c d count taken owners fresh count_is run taken_is owners_are =
+        let all : (view q).taken ≡ run.orders = run.taken ∙ ap (λ (l : List Order). l ++ run.orders) fresh in
+        subst (λ (t : ℕ × List Message × List ℕ). HaveOwners t.0 t.1 t.2) (λ i. (sym count_is i, sym (taken_is ∙ ap requests all) i, sym (owners_are ∙ ap ports all) i))
+        (have_owners (view p).ports run.orders run.owned)

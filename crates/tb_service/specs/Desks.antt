@@ -1,5 +1,6 @@
 -- What a desk does with orders.
-use Rattle.std.specs.Prelude.{ℕ, ◌≡◌, ◌+◌, List, ◌++◌, length}
+use Rattle.std.specs.Prelude.{ℕ, ◌≡◌, ◌+◌, ◌<◌, List, ◌++◌, length}
+use Rattle.std.specs.List.{All}
 use Rattle.crossbeam_channel.specs.Claims.{Pass, view}
 use Rattle.tb_service.specs.declared.orders.Order.{Order}
 use Rattle.tb_service.specs.declared.rule.View.{View}
@@ -10,11 +11,13 @@ use Rattle.tb_published.specs.Lines.{Opening}
 use Rattle.tb_service.specs.History.{ServesOn}
 use Rattle.tb_service.specs.Clerks.{room_of}
 
--- orders were taken at the inbox, and their requests had their turns at the clerk; ports and name stay
+-- Orders of ports that were made were taken at the inbox, and their requests had their turns at the clerk; the number of ports and
+-- the name stay.
 pub record ServesOrders {J W M G : Type 0} (o : Opening) (tells : M → ℕ → M → Type 0) (passes : G → ℕ → G → Type 0)
     (before : Pass Order View) (old : Clerk J W M G) (after : Pass Order View) (new : Clerk J W M G) : Type 0 where
   pub orders : List Order
   pub taken : (view after).taken ≡ (view before).taken ++ orders
+  pub owned : All (λ (order : Order). order.port < (view before).ports) orders
   pub served : ServesOn o tells passes (room_of old) (length old.ports.items + 1) (requests orders) old.refused.items new.refused.items (room_of new)
   pub made : (view after).ports ≡ (view before).ports
   pub named : service_of after ≡ service_of before

@@ -1,5 +1,6 @@
 -- Places: the requests taken are numbered from 1.
-use Rattle.std.specs.Prelude.{ℕ, ◌==◌, ◌+◌, List, [], ◌∷◌, ◌++◌, length, replicate, if◌then◌else◌}
+use Rattle.std.specs.Prelude.{ℕ, ◌≡◌, ◌==◌, ◌+◌, ◌<◌, List, [], ◌∷◌, ◌++◌, length, replicate, if◌then◌else◌}
+use Rattle.std.specs.List.{All}
 use Rattle.tb_records.specs.Messages.{Message}
 use Rattle.tb_service.specs.declared.orders.Order.{Order}
 use Rattle.tb_service.specs.Line.{requests_in}
@@ -18,3 +19,8 @@ ports (o ∷ os) = replicate (length (requests_in o.what)) o.port ++ ports os
 abbrev pub places_from : ℕ → ℕ → List ℕ → List ℕ
 places_from p n [] = []
 places_from p n (q ∷ qs) = if q == p then n ∷ places_from p (n + 1) qs else places_from p (n + 1) qs
+
+-- each request taken has a port, and its number is below the number of ports
+pub record HaveOwners (count : ℕ) (taken : List Message) (owners : List ℕ) : Type 0 where
+  pub whole : length owners ≡ length taken
+  pub made : All (λ (p : ℕ). p < count) owners

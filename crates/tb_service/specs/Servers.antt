@@ -1,5 +1,6 @@
 -- What clauses say of a server.
 use Rattle.std.specs.Prelude.{ℕ, List}
+use Rattle.crossbeam_channel.specs.Claims.{view}
 use Rattle.tb_records.specs.Messages.{Message}
 use Rattle.tb_machine.specs.declared.entries.Entry.{Entry}
 use Rattle.tb_published.specs.declared.faults.TakeFault.{TakeFault}
@@ -19,6 +20,10 @@ module _ {J W M G : Type 0} {moments : Moments.Ghosts M} {gate : Gate.Ghosts G} 
   -- its name
   abbrev pub service_on : Server J W M G moments gate → Name
   service_on server = service_of server.desk.inbox.pass
+
+  -- how many ports were ever made for it
+  abbrev pub port_count : Server J W M G moments gate → ℕ
+  port_count server = (view server.desk.inbox.pass).ports
 
 -- The requests taken had their turns, from the first place on, these were left out, and this is the history that came of it;
 -- moments and gate end as something.

@@ -79,7 +79,8 @@ impl<J: Naming, W: Wait + Drop, M: Moments + Drop, G: Gate + Drop> Clerk<J, W, M
 
     /// Shows what was entered. Where there is no memory for it, a later call shows the rest.
     pub fn show<R: Wait>(&mut self, rt: &R)
-        ensures { (room_of self.new ≡ room_of self.old) × (self.new.ports.items ≡ self.old.ports.items) × (self.new.refused.items ≡ self.old.refused.items) }
+        ensures same { (room_of self.new ≡ room_of self.old) × (self.new.ports.items ≡ self.old.ports.items) × (self.new.refused.items ≡ self.old.refused.items) }
+        ensures room { (vec_capacity self.new.ports ≡ vec_capacity self.old.ports) × (vec_capacity self.new.refused ≡ vec_capacity self.old.refused) }
     {
         let _ = self.held.publisher.show(rt);
     }

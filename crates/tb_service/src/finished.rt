@@ -70,7 +70,7 @@ impl<J: Naming> Finished<J> {
         requires placed { ports (view pass).taken ≡ places.items }
         requires over { ended ≡ way.Closed → (p : ℕ) → p < (view pass).ports → is_closed p (view pass).taken ≡ true }
         ensures parts { (result.publisher ≡ publisher) × (result.ended ≡ ended) × (result.refused ≡ refused) }
-        ensures pass { (taken result ≡ requests (view pass).taken) × (service_at result ≡ service_of pass) }
+        ensures pass { (taken result ≡ requests (view pass).taken) × (port_at result ≡ ports (view pass).taken) × (service_at result ≡ service_of pass) }
     {
         Finished {
             publisher,

@@ -37,7 +37,7 @@ fn mark(flags: &mut Vec<bool>, at: usize)
 }
 
 impl Inbox {
-    ghost use Rattle.std.specs.Prelude.{[], ◌∷◌, ◌++◌, ◌+◌, MatchOption, IfOk};
+    ghost use Rattle.std.specs.Prelude.{[], ◌∷◌, ◌++◌, ◌+◌, MatchOption, IfSome, IfOk};
     ghost use Rattle.tb_service.specs.Names.{service_of};
     ghost use Rattle.tb_service.specs.Ports.{offered, number_of, service};
 
@@ -69,6 +69,7 @@ impl Inbox {
 
     /// Waits for an order; none where the receive failed.
     pub fn take<R: Wait>(&mut self, rt: &R) -> Option<Order>
+        ensures owned { IfSome result (λ order. order.port < (view self.old.pass).ports) }
         ensures taken { MatchOption result ((view self.new.pass).taken ≡ (view self.old.pass).taken) (λ order. (view self.new.pass).taken ≡ (view self.old.pass).taken ++ order ∷ []) }
         ensures same { ((view self.new.pass).ports ≡ (view self.old.pass).ports) × (service_of self.new.pass ≡ service_of self.old.pass) }
     {

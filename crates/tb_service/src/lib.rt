@@ -8,6 +8,7 @@ mod ends;
 mod finished;
 mod gates;
 mod inbox;
+pub mod laws;
 mod limits;
 mod orders;
 mod ports;

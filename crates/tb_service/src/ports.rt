@@ -49,6 +49,7 @@ impl Port {
     ghost use Rattle.tb_service.specs.Rule.{port_view};
     ghost use Rattle.tb_service.specs.Names.{service_of};
     ghost use Rattle.tb_service.specs.Ports.{offered, number_of, service, offered_by, number_by, service_by};
+    ghost use Rattle.tb_service.specs.Calls.{WasNotYet};
 
     pub(crate) fn new(sender: Sender, pass: Pass<Order, View>, number: u32, alloc: Global) -> Port
         requires seated { IsSeatAt (sends_on sender) pass }
@@ -133,7 +134,7 @@ impl Port {
     ) -> Result<Reply, SeatFault>
         ensures begins { IsPrefix seat.old seat.new }
         ensures answer { IfOk result (λ reply. LegalIn J.opening seat.new × AnswersIn J.opening seat.new request.now reply) }
-        ensures offered { (offered self.new ≡ offered self.old) ⊎ (offered self.new ≡ offered self.old ++ request.now ∷ []) }
+        ensures offered { (offered self.new ≡ offered self.old) ⊎ ((offered self.new ≡ offered self.old ++ request.now ∷ []) × WasNotYet J.opening seat.old seat.new request.now) }
         ensures same { (service self.new ≡ service self.old) × (number_of self.new ≡ number_of self.old) }
     {
         let reply = seat.answer(request)?;

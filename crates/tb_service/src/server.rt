@@ -74,14 +74,15 @@ pub struct Server<J: Naming, W: Wait + Drop, M: Moments + Drop, G: Gate + Drop> 
 impl<J: Naming, W: Wait + Drop, M: Moments + Drop, G: Gate + Drop> Server<J, W, M, G> {
     ghost use Rattle.tb_service.specs.Names.{service_of};
     ghost use Rattle.tb_service.specs.Clerks.{room_of};
-    ghost use Rattle.tb_service.specs.Servers.{room_at, service_on, Finishes};
-    ghost use Rattle.tb_service.specs.Finished.{taken, service_at};
+    ghost use Rattle.tb_service.specs.Places.{HaveOwners};
+    ghost use Rattle.tb_service.specs.Servers.{room_at, service_on, port_count, Finishes};
+    ghost use Rattle.tb_service.specs.Finished.{taken, port_at, service_at};
 
     pub(crate) fn new(inbox: Inbox, clerk: Clerk<J, W, M, G>, alloc: Global) -> Server<J, W, M, G>
         requires fresh { (view inbox.pass).taken ≡ [] }
         requires unused { clerk.ports.items ≡ [] }
         requires blameless { clerk.refused.items ≡ [] }
-        ensures { (room_at result ≡ room_of clerk) × (service_on result ≡ service_of inbox.pass) }
+        ensures { (room_at result ≡ room_of clerk) × (service_on result ≡ service_of inbox.pass) × (port_count result ≡ (view inbox.pass).ports) }
     {
         Server {
             desk: Desk { inbox, clerk },
@@ -89,9 +90,11 @@ impl<J: Naming, W: Wait + Drop, M: Moments + Drop, G: Gate + Drop> Server<J, W, 
         }
     }
 
-    /// Serves what the ports offer, until each of them is closed, or there is no memory for the places of one order more.
+    /// Serves what the ports offer, until each of them is closed, or there is no memory for the places of one order more. Each
+    /// request that is taken was offered by one of the ports that `service` gave out.
     pub fn run<R: Wait>(self, rt: &R) -> Finished<J>
         ensures served { Finishes J.opening M.tells G.passes (room_at self) (taken result) result.refused.items result.publisher.history }
+        ensures ports { HaveOwners (port_count self) (taken result) (port_at result) }
         ensures same { service_at result ≡ service_on self }
     {
         let Server { mut desk, alloc } = self;

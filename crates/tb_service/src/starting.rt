@@ -3,7 +3,7 @@ ghost use Rattle.std.specs.Prelude.{◌≡◌, length, IfOk};
 ghost use Rattle.crossbeam_channel.specs.Claims.{view};
 ghost use Rattle.tb_service.specs.Names.{service_of};
 ghost use Rattle.tb_service.specs.Ports.{AreNumbered};
-ghost use Rattle.tb_service.specs.Servers.{room_at, service_on};
+ghost use Rattle.tb_service.specs.Servers.{room_at, service_on, port_count};
 
 use crate::clerk::Clerk;
 use crate::gates::{Gate, Moments};
@@ -19,6 +19,7 @@ use tb_published::{Held, Naming, Publisher};
 fn make_ports(inbox: &mut Inbox, alloc: Global, count: u32) -> Result<Vec<Port>, AllocError>
     requires { (view inbox.old.pass).ports ≡ 0 }
     ensures ports { IfOk result (λ ports. AreNumbered (service_of inbox.old.pass) 0 ports.items × (length ports.items ≡ count)) }
+    ensures made { IfOk result (λ _. (view inbox.new.pass).ports ≡ count) }
     ensures same { ((view inbox.new.pass).taken ≡ (view inbox.old.pass).taken) × (service_of inbox.new.pass ≡ service_of inbox.old.pass) }
 {
     let mut ports = Vec::new(alloc);
@@ -29,7 +30,7 @@ fn make_ports(inbox: &mut Inbox, alloc: Global, count: u32) -> Result<Vec<Port>,
     Ok(ports)
 }
 
-/// A server over a publisher, and its ports, numbered from 0. The publisher is closed, by the handle `rt`, where there is no
+/// A server over a publisher, and its ports, numbered from 0: no other port of it is ever made. The publisher is closed, by the handle `rt`, where there is no
 /// memory for them, and where the server is dropped.
 pub fn service<J: Naming, W: Wait + Drop, M: Moments + Drop, G: Gate + Drop>(
     alloc: Global,
@@ -41,6 +42,7 @@ pub fn service<J: Naming, W: Wait + Drop, M: Moments + Drop, G: Gate + Drop>(
 ) -> Result<(Server<J, W, M, G>, Vec<Port>), AllocError>
     ensures begins { IfOk result (λ made. room_at made.0 ≡ record { history = publisher.history; moments = moments; gate = gate }) }
     ensures ports { IfOk result (λ made. AreNumbered (service_on made.0) 0 made.1.items × (length made.1.items ≡ count)) }
+    ensures count { IfOk result (λ made. port_count made.0 ≡ count) }
 {
     let held = Held::new(publisher, rt);
     let mut inbox = match Inbox::new(alloc) {

@@ -26,7 +26,7 @@ invariant_of-self-2 g c =
     let desk = c.args.self.now in
     record {
       places = places_after (view desk.inbox.pass).taken (view c.take.new.self.pass).taken c.in_ok-order.order desk.clerk.ports.items c.room.new.self.ports.items c.serve_order.new.self.ports.items c.show.new.self.ports.items
-          desk.places c.in_ok-order.ensures.taken c.room.ensures.same.1 c.serve_order.ensures.ports c.show.ensures.1;
+          desk.places c.in_ok-order.ensures.taken c.room.ensures.same.1 c.serve_order.ensures.ports c.show.ensures.same.1;
     }
 
 pub returns-clause-served : goal.returns-clause-served
@@ -35,4 +35,4 @@ returns-clause-served g c =
     let took = c.in_ok-order.ensures in
     let same = c.room.ensures.same in
     orders_one g.J.Naming.opening g.M.Moments.tells g.G.Gate.passes desk.inbox.pass c.take.new.self.pass c.in_ok-order.order desk.clerk c.room.new.self c.serve_order.new.self c.show.new.self
-    took.taken took.same.0 took.same.1 same.0 same.1 same.2 c.serve_order.ensures.served c.show.ensures.0 c.show.ensures.2
+    took.taken took.owned took.same.0 took.same.1 same.0 same.1 same.2 c.serve_order.ensures.served c.show.ensures.same.0 c.show.ensures.same.2
