@@ -53,9 +53,10 @@ module _ {F K V A R : Type 0} (c : Mut F (MutBor V × Unit {0}) (R × (MutBor V 
   changes_right {h = h} {p = p} {l = l} {e = e} is w avl None r' f f' x =
       rw is (w.found ∙ x.0, x.1, ap (λ m. Fork' h p l m e) x.2)
 
-  pub changes_here : {h : ℕ} {p : _} {t l r : Tree K V A} (e e' : Option (K × V)) → t ≡ Fork' h p l r e → StandsHere cmp k (entries l) e (entries r) → IsAvl (Fork' h p l r e) → (v : R) (f f' : F) → IfSome e (λ x. CalledAtValue c f x v f' e') → Changes c (is_at (cmp k)) t f (Some v) f' (Fork' h p l r e')
-  changes_here None e' is w avl v f f' x = let none : IsSome {T = K × V} None = avl.0 in absurd (cc)
-  changes_here (Some y) e' is w avl v f f' x =
+  pub changes_here : {h : ℕ} {p : _} {t l r : Tree K V A} (e e' : Option (K × V)) → t ≡ Fork' h p l r e → StandsHere cmp k (entries l) e (entries r) → IsAvl (Fork' h p l r e) → (o : Option R) (f f' : F) → IfSome e (λ x. IfSome o (λ v. CalledAtValue c f x v f' e')) → IsSome o → Changes c (is_at (cmp k)) t f o f' (Fork' h p l r e')
+  changes_here None e' is w avl o f f' x n = let none : IsSome {T = K × V} None = avl.0 in absurd (cc)
+  changes_here (Some y) e' is w avl None f f' x n = absurd (cc)
+  changes_here (Some y) e' is w avl (Some v) f f' x n =
       let put = x.written in
       rw is (rw put (
         record {

@@ -4,6 +4,7 @@ pub mod Exchange
 pub mod Firsts
 pub mod InPlace
 pub mod Inserts
+pub mod Least
 pub mod Ranges
 pub mod Shape
 pub mod Steps

@@ -1,8 +1,9 @@
 -- What a search for k does at a node with the entries l to its left and r to its right.
-use Rattle.std.proofs.Common.{◌≡◌, List, [], ◌∷◌, ◌++◌, Option, None, Some, refl, sym, ap, ◌∙◌}
+use Rattle.std.proofs.Common.{◌≡◌, List, [], ◌∷◌, ◌++◌, Bool, true, false, Option, None, Some, refl, sym, ap, ◌∙◌}
 use Rattle.std.specs.declared.cmp.Ordering.{Ordering}
 use Rattle.std.specs.declared.cmp.Ordering.TheVariants.{Less, Equal, Greater}
 use Rattle.std.specs.Option.{IsSome, IfSome, option_map}
+use Rattle.std.specs.Ordering.{is_lt}
 use Rattle.std.specs.Cmp.{IsTotalOrder}
 use Rattle.std.specs.Map.{lookup, set_value, remove_entry}
 use Rattle.std.specs.BTreeMap.{insert_entry, is_at}
@@ -64,3 +65,25 @@ module _ {K V : Type 0} {cmp : K → K → Ordering} (o : IsTotalOrder cmp) (k :
         written = λ w. set_value-past cmp k w l (f ∷ r) a ∙ rw q refl;
         removed = remove_entry-past cmp k l (f ∷ r) a ∙ rw q refl;
       }
+
+-- which way a key goes of which it is known whether it is below the node's
+below : (o : Ordering) → true ≡ is_lt o → Less ≡ o
+below Less p = refl
+below Equal p = cc
+below Greater p = cc
+
+not_below : (o : Ordering) → false ≡ is_lt o → (Equal ≡ o → ⊥) → Greater ≡ o
+not_below Less p n = cc
+not_below Equal p n = absurd (n refl)
+not_below Greater p n = refl
+
+module _ {K V : Type 0} {cmp : K → K → Ordering} (o : IsTotalOrder cmp) (k : K) (l : List (K × V)) where
+  pub below_goes_left : (b : Bool) → b ≡ true → (e : Option (K × V)) (r : List (K × V)) → IsSome e → IfSome e (λ f. b ≡ is_lt (cmp k f.0)) → IsOrdered cmp (l ++ with_first e r) → GoesLeft cmp k l e r
+  below_goes_left b q None r n p s = absurd (cc)
+  below_goes_left b q (Some f) r n p s = goes_left o k l (Some f) r n (below (cmp k f.0) (sym q ∙ p)) s
+
+  -- an absent key that is not below goes right
+  pub absent_goes_right : (b : Bool) → b ≡ false → (e : Option (K × V)) (r : List (K × V)) → IsSome e → IfSome e (λ f. b ≡ is_lt (cmp k f.0)) → IsOrdered cmp (l ++ with_first e r) → lookup (is_at (cmp k)) (l ++ with_first e r) ≡ None → GoesRight cmp k l e r
+  absent_goes_right b q None r n p s a = absurd (cc)
+  absent_goes_right b q (Some f) r n p s a =
+      goes_right o k l (Some f) r n (not_below (cmp k f.0) (sym q ∙ p) (λ same. let found = (stands_here o k l (Some f) r n same s).found in absurd (cc))) s

@@ -1,5 +1,5 @@
 -- What the boxed nodes hold, and when they are balanced.
-use Rattle.std.specs.Prelude.{◌≡◌, ℕ, ◌+◌, ◌≤◌, ◌<◌, max, List, [], ◌∷◌, ◌++◌, ◌^◌, length, Option, None, Some, IsSome, Bool, true, false}
+use Rattle.std.specs.Prelude.{◌≡◌, ◌≢◌, ℕ, ◌+◌, ◌≤◌, ◌<◌, max, List, [], ◌∷◌, ◌++◌, ◌^◌, length, Option, None, Some, IsSome, Bool, true, false}
 use Rattle.std.specs.Map.{keys_of, lookup, set_value}
 use Rattle.std.specs.BTreeMap.{is_at}
 use Rattle.std.specs.List.Sorted.{IsStrictlySortedBy}
@@ -102,6 +102,11 @@ IsShrunk h h' = (h' ≤ h) × (h ≤ h' + 1)
 abbrev pub HasNoLeft : {K V A : Type 0} → Tree K V A → Type 0
 HasNoLeft Empty = Unit {0}
 HasNoLeft (Fork' h p l r e) = l ≡ Empty
+
+-- the root has a left side
+abbrev pub HasLeft : {K V A : Type 0} → Tree K V A → Type 0
+HasLeft Empty = ⊥
+HasLeft (Fork' h p l r e) = l ≢ Empty
 
 -- the entries of the two sides of the root
 abbrev pub beside_root : {K V A : Type 0} → Tree K V A → List (K × V)

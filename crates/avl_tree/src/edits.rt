@@ -1,13 +1,14 @@
 // Changes of the tree.
-ghost use Rattle.std.specs.Prelude.{◌≡◌, ◌+◌, ◌<◌, ◌≤◌, ◌++◌, false, None, Some, IsSome, IfSome, MatchOption};
+ghost use Rattle.std.specs.Prelude.{◌≡◌, ◌+◌, ◌<◌, ◌≤◌, ◌++◌, true, false, None, Some, IsSome, IfSome, MatchOption};
 ghost use Rattle.std.specs.Option.{option_map, option_and_then, is_some};
 ghost use Rattle.std.specs.Map.{lookup, remove_entry};
 ghost use Rattle.std.specs.BTreeMap.{is_at, insert_entry};
-ghost use Rattle.avl_tree.specs.Nodes.{entries, with_first, stored_height, IsAvl, IsNearlyAvl, SettlesTo, IsOrdered, IsBare, HasNoLeft, beside_root, root_entry, IsGrown, IsShrunk, Exchanges};
+ghost use Rattle.avl_tree.specs.Nodes.{entries, with_first, stored_height, IsAvl, IsNearlyAvl, SettlesTo, IsOrdered, IsBare, HasLeft, HasNoLeft, beside_root, root_entry, IsGrown, IsShrunk, Exchanges};
+ghost use Rattle.avl_tree.specs.Map.{first_to};
 ghost use Rattle.avl_tree.specs.declared.tree.Tree.TheVariants.{Empty};
 
 use crate::tree::{Node, Tree, balance, height, put, settle, split, take};
-use crate::walks::compare;
+use crate::walks::{compare, is_below};
 use std::alloc::Allocator;
 use std::cmp::Ordering;
 use std::mem;
@@ -20,9 +21,8 @@ fn exchange_value<K, V, A: Allocator>(node: &mut Node<K, V, A>, value: &mut V)
     ensures entry { node.new.entry ≡ option_map (λ e. (e.0, value.old)) node.old.entry }
     ensures value { Some value.new ≡ option_map (λ e. e.1) node.old.entry }
 {
-    match &mut node.entry {
-        Some((_, held)) => mem::swap(held, value),
-        None => unreachable!(),
+    if let Some((_, held)) = &mut node.entry {
+        mem::swap(held, value);
     }
 }
 
@@ -79,11 +79,13 @@ pub fn insert<K: Ord, V, A: Allocator>(
             put(tree, Tree::Fork(1, fresh));
             return true;
         }
-        Tree::Fork(_, node) => match compare(key, node) {
-            Ordering::Less => insert(&mut node.left, key, fresh),
-            Ordering::Greater => insert(&mut node.right, key, fresh),
-            Ordering::Equal => unreachable!(),
-        },
+        Tree::Fork(_, node) => {
+            if is_below(key, node) {
+                insert(&mut node.left, key, fresh)
+            } else {
+                insert(&mut node.right, key, fresh)
+            }
+        }
     };
     if !grew {
         return false;
@@ -141,6 +143,85 @@ pub fn take_first<K, V, A: Allocator>(
             Some(first)
         }
     }
+}
+
+/// Whether the root has a left side.
+fn has_left<K, V, A: Allocator>(tree: &Tree<K, V, A>) -> bool
+    ensures left { result ≡ true → HasLeft tree.now }
+    ensures no_left { result ≡ false → HasNoLeft tree.now }
+{
+    let Tree::Fork(_, node) = tree else {
+        return false;
+    };
+    match &node.left {
+        Tree::Empty => false,
+        Tree::Fork(_, _) => true,
+    }
+}
+
+/// Whether the root, which has no left side, is at most the bound.
+fn is_top_to<K: Ord, V, A: Allocator>(tree: &Tree<K, V, A>, bound: &K) -> bool
+    requires balanced { IsAvl tree.now }
+    requires no_left { HasNoLeft tree.now }
+    ensures { result ≡ is_some (first_to K.cmp bound.now (entries tree.now)) }
+{
+    match tree {
+        Tree::Empty => false,
+        Tree::Fork(_, node) => !is_below(bound, node),
+    }
+}
+
+/// Takes the root off, where it has no left side and is at most the bound.
+fn take_top_to<K: Ord, V, A: Allocator>(
+    tree: &mut Tree<K, V, A>,
+    bound: &K,
+    lower: &mut bool,
+) -> Option<Box<Node<K, V, A>, A>>
+    requires balanced { IsAvl tree.old }
+    requires no_left { HasNoLeft tree.old }
+    requires not_lower { lower.old ≡ false }
+    ensures balanced { IsAvl tree.new }
+    ensures first { option_and_then (λ b. b.value.entry) result ≡ first_to K.cmp bound.now (entries tree.old) }
+    ensures entries { entries tree.old ≡ with_first (option_and_then (λ b. b.value.entry) result) (entries tree.new) }
+    ensures taken { MatchOption result ((tree.new ≡ tree.old) × (lower.new ≡ false)) (λ b. IsBare b.value × IsSome b.value.entry) }
+    ensures height { IsShrunk (stored_height tree.old) (stored_height tree.new) }
+    ensures stopped { lower.new ≡ false → stored_height tree.new ≡ stored_height tree.old }
+{
+    if !is_top_to(tree, bound) {
+        return None;
+    }
+    *lower = true;
+    take_top(tree)
+}
+
+/// Takes the node of the least key off, where that key is at most the bound, and says whether the tree is lower than
+/// before. Above a side that is not, nothing changes.
+pub fn take_first_to<K: Ord, V, A: Allocator>(
+    tree: &mut Tree<K, V, A>,
+    bound: &K,
+    lower: &mut bool,
+) -> Option<Box<Node<K, V, A>, A>>
+    requires balanced { IsAvl tree.old }
+    requires height_fits { stored_height tree.old < 200 }
+    requires not_lower { lower.old ≡ false }
+    ensures balanced { IsAvl tree.new }
+    ensures first { option_and_then (λ b. b.value.entry) result ≡ first_to K.cmp bound.now (entries tree.old) }
+    ensures entries { entries tree.old ≡ with_first (option_and_then (λ b. b.value.entry) result) (entries tree.new) }
+    ensures taken { MatchOption result ((tree.new ≡ tree.old) × (lower.new ≡ false)) (λ b. IsBare b.value × IsSome b.value.entry) }
+    ensures height { IsShrunk (stored_height tree.old) (stored_height tree.new) }
+    ensures stopped { lower.new ≡ false → stored_height tree.new ≡ stored_height tree.old }
+{
+    if !has_left(tree) {
+        return take_top_to(tree, bound, lower);
+    }
+    let taken = match tree {
+        Tree::Empty => return None,
+        Tree::Fork(_, node) => take_first_to(&mut node.left, bound, lower),
+    };
+    if *lower {
+        *lower = regrow(tree);
+    }
+    taken
 }
 
 /// Takes the root off. The node of the next key comes into its place.

@@ -166,7 +166,7 @@ fn apart<K: Ord, V, A: Allocator, R, F: FnMut(&mut V, &mut V) -> R>(
     match order {
         Ordering::Less => apart(other, &mut node.left, other_key, key, !in_order, f, out),
         Ordering::Greater => apart(other, &mut node.right, other_key, key, !in_order, f, out),
-        Ordering::Equal => unreachable!(),
+        Ordering::Equal => {}
     }
 }
 

@@ -13,17 +13,18 @@ use std::cmp::Ordering;
 fn update_value<K, V, A: Allocator, R, F: FnMut(&mut V) -> R>(
     node: &mut Node<K, V, A>,
     f: &mut F,
-) -> R
+) -> Option<R>
     requires entry { IsSome node.old.entry }
     requires callable { F.IsAlwaysCallable f.old }
     ensures callable { F.IsAlwaysCallable f.new }
     ensures left { node.new.left ≡ node.old.left }
     ensures right { node.new.right ≡ node.old.right }
-    ensures called { IfSome node.old.entry (λ e. CalledAtValue F.FnMut f.old e result f.new node.new.entry) }
+    ensures called { IfSome node.old.entry (λ e. IfSome result (λ r. CalledAtValue F.FnMut f.old e r f.new node.new.entry)) }
+    ensures answered { IsSome result }
 {
     match &mut node.entry {
-        Some((_, value)) => f(value),
-        None => unreachable!(),
+        Some((_, value)) => Some(f(value)),
+        None => None,
     }
 }
 
@@ -44,7 +45,7 @@ pub fn update<K: Ord, V, A: Allocator, R, F: FnMut(&mut V) -> R>(
         Tree::Fork(_, node) => match compare(key, node) {
             Ordering::Less => update(&mut node.left, key, f),
             Ordering::Greater => update(&mut node.right, key, f),
-            Ordering::Equal => Some(update_value(node, f)),
+            Ordering::Equal => update_value(node, f),
         },
     }
 }

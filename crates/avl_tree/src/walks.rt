@@ -3,6 +3,7 @@ ghost use Rattle.std.specs.Prelude.{◌≡◌, ◌<◌, IsSome, IfSome};
 ghost use Rattle.std.specs.Option.{option_copied, option_map};
 ghost use Rattle.std.specs.List.{slice_get};
 ghost use Rattle.std.specs.Map.{lookup};
+ghost use Rattle.std.specs.Ordering.{is_lt};
 ghost use Rattle.std.specs.BTreeMap.{is_at};
 ghost use Rattle.avl_tree.specs.Search.{path_length};
 ghost use Rattle.avl_tree.specs.Nodes.{entries, search_of, stored_height, IsAvl, IsOrdered};
@@ -18,8 +19,16 @@ pub fn compare<K: Ord, V, A: Allocator>(key: &K, node: &Node<K, V, A>) -> Orderi
 {
     match &node.entry {
         Some((held, _)) => key.cmp(held),
-        None => unreachable!(),
+        None => Ordering::Equal,
     }
+}
+
+/// Whether a key is below the key of a node.
+pub fn is_below<K: Ord, V, A: Allocator>(key: &K, node: &Node<K, V, A>) -> bool
+    requires { IsSome node.now.entry }
+    ensures { IfSome node.now.entry (λ e. result ≡ is_lt (K.cmp key.now e.0)) }
+{
+    matches!(compare(key, node), Ordering::Less)
 }
 
 /// The value of a node.

@@ -355,6 +355,51 @@ fn pairs_come_by_both_parts(rt: HostRuntime) -> Result<(), Fail> {
     order_pairs(&rt, &mut AvlMap::new_in(rt.alloc()))
 }
 
+/// What comes out of the three pairs up to each bound, the number of pairs that are left, and the spare nodes that were won.
+fn pop_to_bounds(rt: &impl Abort, map: &mut Pairs) -> Result<(), Fail> {
+    put_pairs(rt, map)?;
+    let before = map.spare();
+    for (bound, first, left) in [
+        ((1, 7), None, 3),
+        ((1, 8), Some(((1, 8), ())), 2),
+        ((1, 8), None, 2),
+        ((2, 0), Some(((1, 9), ())), 1),
+        ((2, 0), None, 1),
+        ((u64::MAX, 0), Some(((2, 1), ())), 0),
+        ((u64::MAX, 0), None, 0),
+    ] {
+        assert_eq!(rt; map.pop_first_to(&bound), first, "{bound:?}");
+        assert_eq!(rt; map.len(), left);
+    }
+    assert_eq!(rt; map.spare().checked_sub(before), Some(3));
+    Ok(())
+}
+
+#[test]
+fn the_first_pair_comes_out_to_a_bound(rt: HostRuntime) -> Result<(), Fail> {
+    pop_to_bounds(&rt, &mut AvlMap::new_in(rt.alloc()))
+}
+
+/// As many keys as there are, in order, up to a bound that rises: each comes out once its turn is there, and no other.
+fn pop_by_bounds(rt: &impl Abort, map: &mut AvlMap<u32, u64, Global>) -> Result<(), Fail> {
+    put_rising(rt, map, 1000)?;
+    for bound in 0..=1001u32 {
+        let due = (1..=1000).contains(&bound);
+        assert_eq!(rt;
+            map.pop_first_to(&bound).map(|(key, _)| key),
+            due.then_some(bound)
+        );
+        assert!(rt; map.pop_first_to(&bound).is_none());
+    }
+    assert_eq!(rt; map.len(), 0);
+    Ok(())
+}
+
+#[test]
+fn a_thousand_pairs_come_out_as_the_bound_rises(rt: HostRuntime) -> Result<(), Fail> {
+    pop_by_bounds(&rt, &mut AvlMap::new_in(rt.alloc()))
+}
+
 #[test]
 fn many_spare_nodes_are_let_go(rt: HostRuntime) -> Result<(), Fail> {
     let mut map: AvlMap<u128, [u64; 16], Global> = AvlMap::new_in(rt.alloc());

@@ -51,4 +51,4 @@ returns-in-Equal-clause-changes g t c =
     let x = rw c.deref_mut-in-Equal.ensures.value at c.update_value.ensures in
     let left = x.left in
     let right = x.right in
-    rw (left, right) (changes_here g.F.FnMut c.in-Fork.node.value.entry c.update_value.new.node.entry c.in-Fork.is w avl c.update_value.result _ _ x.called)
+    rw (left, right) (changes_here g.F.FnMut c.in-Fork.node.value.entry c.update_value.new.node.entry c.in-Fork.is w avl c.update_value.result _ _ x.called x.answered)
