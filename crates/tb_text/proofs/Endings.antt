@@ -93,14 +93,14 @@ request_lawful s LookupTransfers h few =
     (low_number (value_of field.Request s.header) h.small (number_of (value_of field.Client s.header == 0) (value_of field.Request s.header == 0) h.suited)) (no_more (length s.ids) (item_count s) (omega arith) few)
 
 -- what is answered is a state at rest
-abbrev Rests : Option Scan → Type 0
+abbrev pub Rests : Option Scan → Type 0
 Rests next = (t : Scan) × (next ≡ Some t) × (is_at_rest t ≡ true)
 
-finished_rests : (s : Scan) (o : Operation) → IsChosen o s.header → item_count s ≤ 8190 → Rests (finished s o)
+pub finished_rests : (s : Scan) (o : Operation) → IsChosen o s.header → item_count s ≤ 8190 → Rests (finished s o)
 finished_rests s o h few =
     (behind (s.pairs ++ (value_of field.At s.header % 2 ^ 64, request_of s o) ∷ []), ap (when_lawful s (request_of s o)) (request_lawful s o h few), refl)
 
-pushed_rests : (s : Scan) (o : Operation) → IsChosen o s.header → item_count s < 8190 → Rests (finished (pushed s o Opened) o)
+pub pushed_rests : (s : Scan) (o : Operation) → IsChosen o s.header → item_count s < 8190 → Rests (finished (pushed s o Opened) o)
 pushed_rests s Register h lt = finished_rests (moved s Opened) Register h (omega (arith, lt))
 pushed_rests s CreateAccounts h lt = finished_rests (moved (with_account s) Opened) CreateAccounts h (omega (arith, lt, length-append s.accounts (account_of s.given ∷ [])))
 pushed_rests s CreateTransfers h lt = finished_rests (moved (with_transfer s) Opened) CreateTransfers h (omega (arith, lt, length-append s.transfers (transfer_of s.given ∷ [])))
@@ -188,7 +188,7 @@ ends_number s f n e p positive most h =
     steps s (entered s f n) 32 (e ∙ number_over s f n (ap wanted p) positive)
     (ends_given (entered s f n) f (record { lexeme = refl; spelled = refl }) refl (number_stands s.operation f n s.given s.header (item_count s) positive most h))
 
-step_is : (s : Scan) (b : ℕ) (l : Lexeme) → s.lexeme ≡ l → step s b ≡ step_at s b l
+pub step_is : (s : Scan) (b : ℕ) (l : Lexeme) → s.lexeme ≡ l → step s b ≡ step_at s b l
 unfolding step
 step_is s b l e = ap (step_at s b) e
 
@@ -219,7 +219,7 @@ max_positive field.Timestamp = refl
 at_most : (a b : ℕ) → nat_le a b ≡ true → a ≤ b
 at_most a b h = grind (arith, nat_tests)
 
-decimal_one : (s : Scan) (f : Field) → wanted s.place ≡ Some f → decimal_grown s 0 1 ≡ Some (within s (Decimal 1))
+pub decimal_one : (s : Scan) (f : Field) → wanted s.place ≡ Some f → decimal_grown s 0 1 ≡ Some (within s (Decimal 1))
 decimal_one s f w =
     ap (option_and_then (λ g. option_and_then (λ m. Some (within s (Decimal m))) (appended (field_max g) 10 0 1))) w
     ∙ ap (λ (b : Bool). option_and_then (λ m. Some (within s (Decimal m))) (cond b (Some 1) None)) (max_positive f)

@@ -9,7 +9,7 @@ use Rattle.tb_text.proofs.Runs.{run_append, run_behind}
 use Rattle.tb_text.proofs.Endings.{read_begins}
 
 -- no run goes through the byte at the place
-stopped : (text : List ℕ) (place : ℕ) (last : Scan) (more : List ℕ) → place < length text → run (behind []) (take place text) ≡ Some last → step last (get_or text place 0) ≡ None
+pub stopped : (text : List ℕ) (place : ℕ) (last : Scan) (more : List ℕ) → place < length text → run (behind []) (take place text) ≡ Some last → step last (get_or text place 0) ≡ None
     → run (behind []) (take (place + 1) text ++ more) ≡ None
 stopped text place last more lt taken none =
     let one : run (behind []) (take (place + 1) text) ≡ None =

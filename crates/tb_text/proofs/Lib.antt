@@ -10,3 +10,4 @@ pub mod Ongoing
 pub mod Endings
 pub mod Growing
 pub mod Faults
+pub mod Awaiting

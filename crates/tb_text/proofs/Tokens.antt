@@ -129,7 +129,7 @@ no_digit b h = grind (arith, nat_tests)
 a_word_byte : (b : ℕ) → is_letter b ≡ true → is_word_byte b ≡ true
 a_word_byte b h = rw h refl
 
-gap_letter : (s : Scan) (b : ℕ) → is_letter b ≡ true → gap s b ≡ word_grown s (s.spelled ++ b ∷ [])
+pub gap_letter : (s : Scan) (b : ℕ) → is_letter b ≡ true → gap s b ≡ word_grown s (s.spelled ++ b ∷ [])
 gap_letter s b h =
     if_false (is_space b) _ _ (no_space b h) ∙ (if_false (b == 35) _ _ (no_comment b h) ∙ (if_false (b == 48) _ _ (no_zero b h)
     ∙ (if_false (is_digit b) _ _ (no_digit b h) ∙ if_true (is_word_byte b) _ _ (a_word_byte b h))))

@@ -1,6 +1,9 @@
 //! Requests and replies as text: statements in the words of TigerBeetle's clients, and JSON.
 #![tactic(auto)]
 
+mod awaited;
+mod messages;
+mod nearest;
 mod places;
 mod printing;
 mod reading;
@@ -8,6 +11,8 @@ mod scanner;
 pub mod text_laws;
 mod words;
 
+pub use awaited::{Awaited, awaited_behind};
+pub use messages::{explain_fault, word_around};
 pub use places::{Lexeme, Place, Refusal};
 pub use printing::{print_request, print_requests};
 pub use reading::{Reading, TextFault, position, read_text};

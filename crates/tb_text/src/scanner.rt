@@ -4,6 +4,7 @@ ghost use Rattle.std.specs.Prelude.{nat_lt, ◌≡◌, ◌++◌, ◌∷◌, ◌+
 ghost use Rattle.tb_text.specs.Scan.{Entry, Scan, behind, is_space, is_digit, is_word_byte, digit_of, is_given, value_from, value_of, account_of, transfer_of};
 ghost use Rattle.tb_text.specs.Scan.{awaits_field, awaits_operation, wanted, with_account, with_transfer, with_id, body_of, bit_of, is_field, is_positive, suits, may_have, may_stand, word_named, begins_word, entered, moved, within, spelling, opened, taken};
 ghost use Rattle.tb_text.specs.Scan.{word_ended, number_ended, item_count, pushed, request_of, finished, closed_at, parted_at, valued_at, joined_at, mark, word_grown, appended, decimal_grown, hexadecimal_grown, zero_begun, zero_left, gap, word_left, number_left, step, is_at_rest, hexadecimal_at};
+ghost use Rattle.tb_text.specs.Awaited.{has_operation};
 ghost use Rattle.tb_text.specs.Steps.{Steps, Scans};
 
 use crate::places::{Lexeme, Place, Refusal};
@@ -214,7 +215,7 @@ impl Place {
     }
 
     /// The field whose number is to stand next.
-    fn wanted(self) -> Option<Field>
+    pub(crate) fn wanted(self) -> Option<Field>
         ensures { result ≡ wanted self }
     {
         match self {
@@ -272,7 +273,7 @@ fn is_field(field: Field, wanted: Option<Field>) -> bool
 
 impl Scanner {
     /// Says that a word may stand next.
-    fn may_stand(&self, word: Word) -> bool
+    pub(crate) fn may_stand(&self, word: Word) -> bool
         ensures { result ≡ may_stand self.now word }
     {
         match word {
@@ -543,7 +544,7 @@ impl Scanner {
     }
 
     /// Says that the operation may have two events, or ids, more than stand whole.
-    fn has_room(&self) -> bool
+    pub(crate) fn has_room(&self) -> bool
         ensures { result ≡ nat_lt (item_count self.now + 1) 8190 }
     {
         let (accounts, transfers, ids) = (
@@ -798,6 +799,20 @@ impl Scanner {
         ensures { result ≡ (self.now.lexeme, self.now.place) }
     {
         (self.lexeme, self.place)
+    }
+
+    /// The part of a statement that is to stand next.
+    pub(crate) fn place(&self) -> Place
+        ensures { result ≡ self.now.place }
+    {
+        self.place
+    }
+
+    /// Says that the operation of a statement that is not whole has been read.
+    pub(crate) fn has_operation(&self) -> bool
+        ensures { result ≡ has_operation self.now.operation }
+    {
+        self.operation.is_some()
     }
 
     /// The requests of the statements that are whole, each with its moment.

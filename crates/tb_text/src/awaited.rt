@@ -1,0 +1,129 @@
+//! What could stand next in a text of statements.
+ghost use Rattle.std.specs.List.{filter};
+ghost use Rattle.std.specs.Prelude.{◌≡◌, IfOk};
+ghost use Rattle.tb_text.specs.Awaited.{AwaitsBehind, MayStand, OnNextLine, awaits_equals, awaits_bar, is_given_place, is_opened_place, awaits_comma, awaits_semicolon};
+ghost use Rattle.tb_text.specs.Scan.{may_stand};
+ghost use Rattle.tb_text.specs.Words.{all_words};
+
+use crate::places::{Place, Refusal};
+use crate::scanner::Scanner;
+use crate::words::{Field, Word, words};
+use std::alloc::{AllocError, Global};
+
+/// What could stand next: each word, number and mark with which some text of statements goes on, and no other.
+#[derive(Drop)]
+pub struct Awaited {
+    /// The words, in the order of `words`.
+    pub words: Vec<Word>,
+    /// The field whose number could stand next.
+    pub number: Option<Field>,
+    /// Says that a `=` could stand next.
+    pub equals: bool,
+    /// Says that a `|` could stand next.
+    pub bar: bool,
+    /// Says that a `,` could stand next.
+    pub comma: bool,
+    /// Says that a `;` could stand next.
+    pub semicolon: bool,
+}
+
+impl Place {
+    /// Says that a `=` may stand next.
+    fn awaits_equals(self) -> bool
+        ensures { result ≡ awaits_equals self }
+    {
+        matches!(self, Place::Named(_))
+    }
+
+    /// Says that a `|` may stand next.
+    fn awaits_bar(self) -> bool
+        ensures { result ≡ awaits_bar self }
+    {
+        match self {
+            Place::Given(field) => Field::Flags.index() == field.index(),
+            _ => false,
+        }
+    }
+
+    /// Says that a field's number has just been given.
+    fn is_given(self) -> bool
+        ensures { result ≡ is_given_place self }
+    {
+        matches!(self, Place::Given(_))
+    }
+
+    /// Says that a statement with an operation may end.
+    fn is_opened(self) -> bool
+        ensures { result ≡ is_opened_place self }
+    {
+        matches!(self, Place::Given(_) | Place::Opened)
+    }
+}
+
+impl Scanner {
+    /// The words that may stand next.
+    fn words_that_may_stand(&self, alloc: Global) -> Result<Vec<Word>, AllocError>
+        ensures { IfOk result (λ found. found.items ≡ filter (may_stand self.now) all_words) }
+    {
+        let mut found = Vec::new(alloc);
+        for word in words() {
+            if self.may_stand(*word) {
+                found.push(*word)?;
+            }
+        }
+        Ok(found)
+    }
+
+    /// Says that a `,` may stand next.
+    fn awaits_comma(&self) -> bool
+        ensures { result ≡ awaits_comma self.now }
+    {
+        self.has_operation() && self.place().is_given() && self.has_room()
+    }
+
+    /// Says that a `;` may stand next.
+    fn awaits_semicolon(&self) -> bool
+        ensures { result ≡ awaits_semicolon self.now }
+    {
+        self.has_operation() && self.place().is_opened()
+    }
+
+    /// What may stand next, where no word or number is begun.
+    fn awaited(&self, alloc: Global) -> Result<Awaited, AllocError>
+        ensures { IfOk result (MayStand self.now) }
+    {
+        let words = self.words_that_may_stand(alloc)?;
+        let place = self.place();
+        Ok(Awaited {
+            words,
+            number: place.wanted(),
+            equals: place.awaits_equals(),
+            bar: place.awaits_bar(),
+            comma: self.awaits_comma(),
+            semicolon: self.awaits_semicolon(),
+        })
+    }
+
+    /// What may stand next behind a line end; nothing where it is refused.
+    fn awaited_on_next_line(&mut self, alloc: Global) -> Result<Option<Awaited>, AllocError>
+        ensures { IfOk result (OnNextLine self.old) }
+    {
+        match self.step(b'\n') {
+            Ok(()) => Ok(Some(self.awaited(alloc)?)),
+            Err(Refusal::Unexpected) => Ok(None),
+            Err(Refusal::Memory) => Err(AllocError),
+        }
+    }
+}
+
+/// What could stand next behind these bytes and a line end; nothing where no text of statements begins so. AllocError
+/// where there is no memory.
+pub fn awaited_behind(alloc: Global, before: &[u8]) -> Result<Option<Awaited>, AllocError>
+    ensures { IfOk result (AwaitsBehind before.now) }
+{
+    let mut scanner = Scanner::new(alloc);
+    match scanner.scan(before)? {
+        Some(_) => Ok(None),
+        None => scanner.awaited_on_next_line(alloc),
+    }
+}

@@ -1,0 +1,478 @@
+//! What is wrong with a text, in words: the place, the word there, its line with a mark under the place, and what could
+//! stand there.
+ghost use Rattle.std.specs.Prelude.{◌≡◌, ◌≤◌, length};
+ghost use Rattle.tb_text.specs.Positions.{is_of_word, ending_word, leading_word};
+
+use crate::awaited::{Awaited, awaited_behind};
+use crate::nearest::nearest_word;
+use crate::reading::{TextFault, position};
+use crate::words::{Field, Operation, Word, words};
+use std::alloc::{AllocError, Global};
+
+/// The most bytes of a line that are shown.
+const SHOWN_MAX: usize = 100;
+
+/// The most bytes that are shown before the place in a longer line.
+const SHOWN_BEFORE: usize = 60;
+
+/// Says that a byte is shown as part of a word: no space, no control character and no mark.
+fn is_of_word(byte: u8) -> bool
+    ensures { result ≡ is_of_word byte }
+{
+    b'!' <= byte
+        && byte != b','
+        && byte != b';'
+        && byte != b'='
+        && byte != b'|'
+        && byte != b'#'
+        && byte != 127
+}
+
+/// The length of the word that the bytes end with.
+fn ending_word(bytes: &[u8]) -> usize
+    ensures value { result ≡ ending_word 0 bytes.now }
+    ensures within { result ≤ length bytes.now }
+{
+    let mut length = 0;
+    for byte in bytes {
+        if is_of_word(*byte) {
+            length += 1;
+        } else {
+            length = 0;
+        }
+    }
+    length
+}
+
+/// The length of the word that the bytes begin with.
+fn leading_word(bytes: &[u8]) -> usize
+    ensures { result ≡ leading_word bytes.now }
+{
+    for (place, byte) in bytes.iter().enumerate() {
+        if !is_of_word(*byte) {
+            return place;
+        }
+    }
+    bytes.len()
+}
+
+/// The word around a place: the lengths of its parts in the bytes before the place and in those from it on. A word goes up
+/// to a space, a control character or a mark of statements, or to the end.
+pub fn word_around(before: &[u8], rest: &[u8]) -> (usize, usize)
+    ensures before { result.0 ≡ ending_word 0 before.now }
+    ensures rest { result.1 ≡ leading_word rest.now }
+    ensures within { result.0 ≤ length before.now }
+{
+    (ending_word(before), leading_word(rest))
+}
+
+/// The bytes before a place, and those from it on.
+fn around(text: &[u8], place: usize) -> (&[u8], &[u8]) {
+    if place <= text.len() {
+        text.split_at(place)
+    } else {
+        text.split_at(text.len())
+    }
+}
+
+/// The bytes of the line that the bytes end with.
+fn ending_line(bytes: &[u8]) -> &[u8] {
+    let mut line = bytes;
+    for (place, byte) in bytes.iter().enumerate() {
+        if *byte == b'\n' {
+            line = around(bytes, place).1;
+        }
+    }
+    match line {
+        [b'\n', rest @ ..] => rest,
+        _ => line,
+    }
+}
+
+/// The bytes of the line that the bytes begin with.
+fn leading_line(bytes: &[u8]) -> &[u8] {
+    for (place, byte) in bytes.iter().enumerate() {
+        if *byte == b'\n' || *byte == b'\r' {
+            return around(bytes, place).0;
+        }
+    }
+    bytes
+}
+
+/// Appends text.
+fn put(out: &mut Vec<u8>, text: &str) -> Result<(), AllocError> {
+    out.extend_from_slice(text.as_bytes())
+}
+
+/// Appends a word between `'`.
+fn put_word(out: &mut Vec<u8>, word: &[u8]) -> Result<(), AllocError> {
+    put(out, "'")?;
+    out.extend_from_slice(word)?;
+    put(out, "'")
+}
+
+/// Appends a number.
+fn put_number(alloc: Global, out: &mut Vec<u8>, number: usize) -> Result<(), AllocError> {
+    out.extend_from_slice(number.to_string(alloc)?.as_str().as_bytes())
+}
+
+/// The word that is written so.
+fn known_word(text: &[u8]) -> Option<Word> {
+    for word in words() {
+        if word.text().as_bytes() == text {
+            return Some(*word);
+        }
+    }
+    None
+}
+
+/// Says that a field could stand next.
+fn awaits(awaited: &Awaited, wanted: Field) -> bool {
+    for word in awaited.words.as_slice() {
+        if let Word::Field(field) = word {
+            if field.index() == wanted.index() {
+                return true;
+            }
+        }
+    }
+    false
+}
+
+/// Says that bytes are digits, or `0x` and digits.
+fn is_number(text: &[u8]) -> bool {
+    let digits = match text {
+        [b'0', b'x', rest @ ..] => rest,
+        _ => text,
+    };
+    for byte in digits {
+        if !matches!(*byte, b'0'..=b'9' | b'a'..=b'f' | b'A'..=b'F') {
+            return false;
+        }
+    }
+    !digits.is_empty()
+}
+
+/// Says that bytes have no digit but 0.
+fn is_zero(text: &[u8]) -> bool {
+    for byte in text {
+        if !matches!(*byte, b'0' | b'x') {
+            return false;
+        }
+    }
+    true
+}
+
+/// Appends what stands at a place where no word does.
+fn put_byte(alloc: Global, out: &mut Vec<u8>, next: Option<u8>) -> Result<(), AllocError> {
+    match next {
+        None => put(out, "the text ends within a statement"),
+        Some(b' ') => put(out, "found a space"),
+        Some(b'\t') => put(out, "found a tab"),
+        Some(b'\n') => put(out, "found the end of the line"),
+        Some(b'\r') => put(out, "found the end of the line"),
+        Some(byte) if b'!' <= byte && byte <= b'~' => {
+            put(out, "found ")?;
+            put_word(out, &[byte])
+        }
+        Some(byte) => {
+            put(out, "found the byte ")?;
+            put_number(alloc, out, byte as usize)
+        }
+    }
+}
+
+/// What a word is called.
+fn kind(word: Word) -> &'static str {
+    match word {
+        Word::Field(_) => "field",
+        Word::Operation(_) => "operation",
+        Word::Flag(_) => "flag",
+        Word::AmountMax => "amount",
+    }
+}
+
+/// Appends that a word is none that statements have, and the nearest one that they have.
+fn put_unknown(out: &mut Vec<u8>, word: &[u8], awaited: &Awaited) -> Result<(), AllocError> {
+    match nearest_word(word, awaited.words.as_slice()) {
+        Some(known) => {
+            put(out, "unknown ")?;
+            put(out, kind(known))?;
+            put(out, " ")?;
+            put_word(out, word)?;
+            put(out, "; did you mean ")?;
+            put(out, known.text())?;
+            put(out, "?")
+        }
+        None => {
+            put(out, "unknown word ")?;
+            put_word(out, word)
+        }
+    }
+}
+
+/// Appends that something is no number of a field.
+fn put_wrong_number(out: &mut Vec<u8>, word: &[u8], field: Field) -> Result<(), AllocError> {
+    if !is_number(word) {
+        put_word(out, word)?;
+        return put(out, " is no whole number");
+    }
+    if is_zero(word) {
+        put(out, field.name())?;
+        return put(out, " is not 0");
+    }
+    put_word(out, word)?;
+    put(out, " is too large for ")?;
+    put(out, field.name())
+}
+
+/// Appends why an operation does not stand where a statement begins.
+fn put_early(out: &mut Vec<u8>, operation: Operation, awaited: &Awaited) -> Result<(), AllocError> {
+    if awaits(awaited, Field::Client) {
+        put(out, "a client comes first: write client=N before ")?;
+        return put(out, operation.name());
+    }
+    match operation {
+        Operation::Register => put(out, "a register has no session and no request"),
+        _ if awaits(awaited, Field::Request) => {
+            put(
+                out,
+                "a request's number comes first: write request=N before ",
+            )?;
+            put(out, operation.name())
+        }
+        _ => {
+            put_word(out, operation.name().as_bytes())?;
+            put(out, " cannot stand here")
+        }
+    }
+}
+
+/// Says that a word stands before the events of a statement.
+fn begins_statement(word: Word) -> bool {
+    match word {
+        Word::Field(field) => field.is_header(),
+        Word::Operation(_) => true,
+        Word::Flag(_) => false,
+        Word::AmountMax => false,
+    }
+}
+
+/// Appends what is wrong with a word.
+fn put_wrong_word(out: &mut Vec<u8>, word: &[u8], awaited: &Awaited) -> Result<(), AllocError> {
+    match (known_word(word), awaited.number) {
+        (None, Some(_)) if !awaited.words.is_empty() && !matches!(word, [b'0'..=b'9', ..]) => {
+            put_unknown(out, word, awaited)
+        }
+        (None, Some(field)) => put_wrong_number(out, word, field),
+        (Some(Word::Operation(operation)), None) if !awaited.semicolon => {
+            put_early(out, operation, awaited)
+        }
+        (None, None) if !awaited.words.is_empty() && matches!(word, [b'A'..=b'z', ..]) => {
+            put_unknown(out, word, awaited)
+        }
+        (None, None) => {
+            put(out, "found ")?;
+            put_word(out, word)
+        }
+        (Some(known), _) if begins_statement(known) && awaited.semicolon => {
+            put(out, "';' is missing before ")?;
+            put_word(out, word)
+        }
+        (Some(_), _) => {
+            put_word(out, word)?;
+            put(out, " cannot stand here")
+        }
+    }
+}
+
+/// Appends a byte of a line as it is shown: a control character as `?`.
+fn put_shown(out: &mut Vec<u8>, bytes: &[u8]) -> Result<(), AllocError> {
+    for byte in bytes {
+        let shown = match *byte {
+            b'\t' => b'\t',
+            0..=31 => b'?',
+            127 => b'?',
+            byte => byte,
+        };
+        out.push(shown)?;
+    }
+    Ok(())
+}
+
+/// Appends as much space as bytes take.
+fn put_indent(out: &mut Vec<u8>, bytes: &[u8]) -> Result<(), AllocError> {
+    for byte in bytes {
+        match *byte {
+            b'\t' => out.push(b'\t')?,
+            // What goes on with a character takes no space of its own.
+            0x80..=0xbf => {}
+            _ => out.push(b' ')?,
+        }
+    }
+    Ok(())
+}
+
+/// Appends a line, cut around a place, and a mark under the place. The line is its bytes before the place and those from
+/// it on.
+fn put_line(out: &mut Vec<u8>, before: &[u8], rest: &[u8]) -> Result<(), AllocError> {
+    let is_long = SHOWN_MAX < before.len().saturating_add(rest.len());
+    let from = if is_long && SHOWN_BEFORE < before.len() {
+        before.len() - SHOWN_BEFORE
+    } else {
+        0
+    };
+    let shown_before = around(before, from).1;
+    let shown_rest = around(rest, SHOWN_MAX.saturating_sub(shown_before.len())).0;
+    let dots = if from == 0 { "" } else { "..." };
+    put(out, "\n  ")?;
+    put(out, dots)?;
+    put_shown(out, shown_before)?;
+    put_shown(out, shown_rest)?;
+    if shown_rest.len() < rest.len() {
+        put(out, "...")?;
+    }
+    put(out, "\n  ")?;
+    put_indent(out, dots.as_bytes())?;
+    put_indent(out, shown_before)?;
+    put(out, "^")
+}
+
+/// The numbers that a field has room for.
+fn numbers_of(field: Field) -> &'static str {
+    let most = field.max();
+    match field {
+        Field::Client => "a number from 1 to 2^128 - 1",
+        Field::Request => "a number from 1 to 4294967295",
+        _ if most == 0xffff => "a number up to 65535",
+        _ if most == 0xffff_ffff => "a number up to 4294967295",
+        _ if most == 0xffff_ffff_ffff_ffff => "a number up to 18446744073709551615",
+        _ => "a number up to 2^128 - 1",
+    }
+}
+
+/// The names of what could stand next.
+fn names(alloc: Global, awaited: &Awaited) -> Result<Vec<&'static str>, AllocError> {
+    let mut names = Vec::new(alloc);
+    for word in awaited.words.as_slice() {
+        names.push(word.text())?;
+    }
+    if let Some(field) = awaited.number {
+        names.push(numbers_of(field))?;
+    }
+    for (stands, name) in [
+        (awaited.equals, "'='"),
+        (awaited.bar, "'|'"),
+        (awaited.comma, "','"),
+        (awaited.semicolon, "';'"),
+    ] {
+        if stands {
+            names.push(name)?;
+        }
+    }
+    Ok(names)
+}
+
+/// Appends names, the last one behind an `or`.
+fn put_names(out: &mut Vec<u8>, names: &[&'static str]) -> Result<(), AllocError> {
+    for (place, name) in names.iter().enumerate() {
+        if place != 0 {
+            put(
+                out,
+                if place == names.len() - 1 {
+                    " or "
+                } else {
+                    ", "
+                },
+            )?;
+        }
+        put(out, name)?;
+    }
+    Ok(())
+}
+
+/// Appends what could stand next.
+fn put_expected(alloc: Global, out: &mut Vec<u8>, awaited: &Awaited) -> Result<(), AllocError> {
+    let names = names(alloc, awaited)?;
+    put(out, "\n  expected ")?;
+    put_names(out, names.as_slice())
+}
+
+/// Appends what is wrong where a text goes wrong, and what could stand there. The word at the place is its bytes, and
+/// the byte at the place the next one.
+fn put_wrong(
+    alloc: Global,
+    out: &mut Vec<u8>,
+    before: &[u8],
+    rest: &[u8],
+    word: &[u8],
+    awaited: &Awaited,
+) -> Result<(), AllocError> {
+    if word.is_empty() {
+        put_byte(alloc, out, rest.first().copied())?;
+    } else {
+        put_wrong_word(out, word, awaited)?;
+    }
+    put_line(out, ending_line(before), leading_line(rest))?;
+    put_expected(alloc, out, awaited)
+}
+
+/// Appends the line and the column of a place.
+fn put_position(
+    alloc: Global,
+    out: &mut Vec<u8>,
+    first_line: usize,
+    before: &[u8],
+) -> Result<(), AllocError> {
+    let (line, column) = position(before);
+    put(out, "line ")?;
+    put_number(
+        alloc,
+        out,
+        line.saturating_add(first_line.saturating_sub(1)),
+    )?;
+    put(out, ", column ")?;
+    put_number(alloc, out, column)?;
+    put(out, ": ")
+}
+
+/// Appends what is wrong at a place, between the bytes before it and those from it on.
+fn put_fault(
+    alloc: Global,
+    out: &mut Vec<u8>,
+    before: &[u8],
+    rest: &[u8],
+) -> Result<(), AllocError> {
+    let (head, tail) = word_around(before, rest);
+    if head == 0 || tail == 0 {
+        if let Some(awaited) = awaited_behind(alloc, before)? {
+            let word = around(rest, tail).0;
+            return put_wrong(alloc, out, before, rest, word, &awaited);
+        }
+    }
+    let (front, begun) = around(before, before.len() - head);
+    match awaited_behind(alloc, front)? {
+        Some(awaited) => {
+            let mut word = Vec::from_slice(alloc, begun)?;
+            word.extend_from_slice(around(rest, tail).0)?;
+            put_wrong(alloc, out, before, rest, word.as_slice(), &awaited)
+        }
+        None => put_byte(alloc, out, rest.first().copied()),
+    }
+}
+
+/// What is wrong with a text, in words for its writer, without a line end behind them: the line and the column, the whole
+/// word there and the nearest one that statements have, the line with a mark under the place, and all that could stand
+/// there. The text begins with a line, whose number is `first_line`, and the fault's place counts from there. AllocError
+/// where there is no memory.
+pub fn explain_fault(
+    alloc: Global,
+    text: &[u8],
+    fault: TextFault,
+    first_line: usize,
+) -> Result<Vec<u8>, AllocError> {
+    let mut out = Vec::new(alloc);
+    let (before, rest) = around(text, fault.place);
+    put_position(alloc, &mut out, first_line, before)?;
+    put_fault(alloc, &mut out, before, rest)?;
+    Ok(out)
+}
