@@ -2,6 +2,7 @@
 pub mod Lines
 pub mod Orders
 pub mod Taking
+pub mod Faults
 pub mod Ties
 pub mod SeenLaws
 -- what private functions alone cite

@@ -1,4 +1,8 @@
 //! What became of a request that was taken, and why a call is refused.
+ghost use Rattle.std.specs.Prelude.{◌≡◌, Some};
+ghost use Rattle.tb_published.specs.Faults.{open_fault_name, open_fault_number, seat_fault_name, seat_fault_number, take_fault_name, take_fault_number};
+
+use std::fmt;
 use tb_records::Status;
 use thiserror::Error;
 
@@ -16,35 +20,120 @@ pub enum Taken {
 /// Why a request is not taken.
 #[derive(Clone, Copy, Debug, PartialEq, Eq, Error)]
 pub enum TakeFault {
-    /// 1: there is no memory for the entry. The history is unchanged.
-    #[error("NoMemory")]
+    /// There is no memory for the entry. The history is unchanged.
     NoMemory,
-    /// 2: the request is new, and the end of time leaves no time for it. The history is unchanged.
-    #[error("TimeExhausted")]
+    /// The request is new, and the end of time leaves no time for it. The history is unchanged.
     TimeExhausted,
-    /// 3: the copies show less than the history, whose last entry has this commit number.
-    #[error("Unpublished")]
+    /// The copies show less than the history, whose last entry has this commit number.
     Unpublished(u64),
+}
+
+impl TakeFault {
+    /// The fault's number, 1 to 3.
+    pub fn number(self) -> u8
+        ensures { result ≡ take_fault_number self }
+    {
+        match self {
+            TakeFault::NoMemory => 1,
+            TakeFault::TimeExhausted => 2,
+            TakeFault::Unpublished(_) => 3,
+        }
+    }
+
+    /// The fault's name, as a message shows it.
+    pub fn name(self) -> &'static str
+        ensures { result.now ≡ take_fault_name self }
+    {
+        match self {
+            TakeFault::NoMemory => "NoMemory",
+            TakeFault::TimeExhausted => "TimeExhausted",
+            TakeFault::Unpublished(_) => "Unpublished",
+        }
+    }
+}
+
+impl fmt::Display for TakeFault {
+    ghost output = { λ fault. Some (take_fault_name fault) };
+
+    fn fmt<W: fmt::Write>(&self, f: &mut fmt::Formatter<W>) -> fmt::Result {
+        f.write_str(self.name())
+    }
 }
 
 /// Why there is no opening.
 #[derive(Clone, Copy, Debug, PartialEq, Eq, Error)]
 pub enum OpenFault {
-    /// 1: there is no memory for the copies and the seats.
-    #[error("NoMemory")]
+    /// There is no memory for the copies and the seats.
     NoMemory,
-    /// 2: the copies have no place for a reader.
-    #[error("NoPlace")]
+    /// The copies have no place for a reader.
     NoPlace,
+}
+
+impl OpenFault {
+    /// The fault's number, 1 to 2.
+    pub fn number(self) -> u8
+        ensures { result ≡ open_fault_number self }
+    {
+        match self {
+            OpenFault::NoMemory => 1,
+            OpenFault::NoPlace => 2,
+        }
+    }
+
+    /// The fault's name, as a message shows it.
+    pub fn name(self) -> &'static str
+        ensures { result.now ≡ open_fault_name self }
+    {
+        match self {
+            OpenFault::NoMemory => "NoMemory",
+            OpenFault::NoPlace => "NoPlace",
+        }
+    }
+}
+
+impl fmt::Display for OpenFault {
+    ghost output = { λ fault. Some (open_fault_name fault) };
+
+    fn fmt<W: fmt::Write>(&self, f: &mut fmt::Formatter<W>) -> fmt::Result {
+        f.write_str(self.name())
+    }
 }
 
 /// Why a seat gives no answer.
 #[derive(Clone, Copy, Debug, PartialEq, Eq, Error)]
 pub enum SeatFault {
-    /// 1: there is no memory for the answer.
-    #[error("NoMemory")]
+    /// There is no memory for the answer.
     NoMemory,
-    /// 2: there is no copy to be read, as where the publisher is gone.
-    #[error("NoCopy")]
+    /// There is no copy to be read, as where the publisher is gone.
     NoCopy,
+}
+
+impl SeatFault {
+    /// The fault's number, 1 to 2.
+    pub fn number(self) -> u8
+        ensures { result ≡ seat_fault_number self }
+    {
+        match self {
+            SeatFault::NoMemory => 1,
+            SeatFault::NoCopy => 2,
+        }
+    }
+
+    /// The fault's name, as a message shows it.
+    pub fn name(self) -> &'static str
+        ensures { result.now ≡ seat_fault_name self }
+    {
+        match self {
+            SeatFault::NoMemory => "NoMemory",
+            SeatFault::NoCopy => "NoCopy",
+        }
+    }
+}
+
+impl fmt::Display for SeatFault {
+    ghost output = { λ fault. Some (seat_fault_name fault) };
+
+    fn fmt<W: fmt::Write>(&self, f: &mut fmt::Formatter<W>) -> fmt::Result {
+        f.write_str(self.name())
+    }
 }
