@@ -1,20 +1,27 @@
 -- What a publisher keeps, through its calls.
-use Rattle.std.proofs.Common.{◌≡◌, false, List, [], ◌∷◌, ◌++◌, is_some, Option, Some, None, MatchOption, Result, Ok, Err, MatchResult, sym, ap, ◌∙◌, subst, append-nil}
+use Rattle.std.proofs.Common.{◌≡◌, ◌≤◌, length, ⊎_elim, false, List, [], ◌∷◌, ◌++◌, is_some, Option, Some, None, MatchOption, Result, Ok, Err, MatchResult, sym, ap, ◌∙◌, subst, append-nil}
 use mathlib.Core.List.{IsPrefix}
 use Rattle.std.specs.Option.{option_to_list}
 use Rattle.tb_machine.specs.declared.entries.Entry.{Entry}
 use Rattle.tb_machine.specs.Histories.{State}
 use Rattle.tb_machine.proofs.Legal.{fold_append}
-use Rattle.tb_published.specs.Lines.{Opening, Line, with_entry}
+use Rattle.tb_published.specs.Lines.{Opening, Line, with_entry, OneBegins}
 use Rattle.tb_published.specs.Orders.{Order, Follows, line_after}
 use Rattle.tb_published.specs.Ties.{Ties}
-use Rattle.tb_published.proofs.Prefixes.{prefix_self, prefix_trans}
+use Rattle.tb_published.proofs.Prefixes.{prefix_self, prefix_trans, prefix_whole}
 use Rattle.tb_published.proofs.Shown.{line_begins}
 
 -- the copies show a beginning of the history
 pub shown_front : {o : Opening} {h : List Entry} {S : State} {offered shown : Line} {known : Option Line} {orders : List Order} → Ties o h S offered shown known orders → IsPrefix shown.list h
 shown_front {o} {h} {S} {offered} {shown} {known} {orders} t =
     prefix_trans shown.list offered.list h (subst (λ (l : Line). IsPrefix shown.list l.list) t.leads (line_begins shown orders t.follows).1) t.offered_is
+
+-- what is no longer than what they show, where one begins with the other, is a beginning of the history too
+pub within_history : {o : Opening} {h : List Entry} {S : State} {offered shown : Line} {known : Option Line} {orders : List Order} (xs : List Entry)
+    → Ties o h S offered shown known orders → OneBegins shown.list xs → length xs ≤ length shown.list → IsPrefix xs h
+within_history {o} {h} {S} {offered} {shown} {known} {orders} xs t one less =
+    ⊎_elim (λ (p : IsPrefix shown.list xs). subst (λ (ys : List Entry). IsPrefix ys h) (prefix_whole shown.list xs p less) (shown_front t))
+    (λ (p : IsPrefix xs shown.list). prefix_trans xs shown.list h p (shown_front t)) one
 
 -- orders, one part after another
 

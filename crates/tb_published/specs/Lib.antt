@@ -8,3 +8,4 @@ pub mod SeenLaws
 -- what private functions alone cite
 pub mod Counting
 pub mod Sharing
+pub mod Entering

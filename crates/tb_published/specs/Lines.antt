@@ -1,5 +1,5 @@
 -- Beginnings of the history of an opening.
-use Rattle.std.specs.Prelude.{ℕ, ◌≡◌, List, [], ◌∷◌, ◌++◌, length, nat_lt, if◌then◌else◌}
+use Rattle.std.specs.Prelude.{ℕ, ◌≡◌, ◌⊎◌, List, [], ◌∷◌, ◌++◌, length, nat_lt, if◌then◌else◌}
 use mathlib.Core.List.{IsPrefix}
 use Rattle.logbook.specs.Pages.{Book}
 use Rattle.tb_records.specs.declared.limits.Profile.{Profile}
@@ -47,6 +47,10 @@ with_entry l e = line l.opening (l.list ++ e ∷ [])
 -- m begins with l
 abbrev pub Begins : Line → Line → Type 0
 Begins l m = (l.opening ≡ m.opening) × IsPrefix l.list m.list
+
+-- of two lists one begins with the other
+abbrev pub OneBegins : List Entry → List Entry → Type 0
+OneBegins xs ys = IsPrefix xs ys ⊎ IsPrefix ys xs
 
 -- of two lists the longer
 abbrev pub longer_of : List Entry → List Entry → List Entry

@@ -1,4 +1,4 @@
--- What a seat that has learnt of a request answers for it.
+-- What seats have seen, and what a seat that has learnt of a request answers for it.
 use Rattle.std.specs.Prelude.{true, ◌≡◌, List, ◌∷◌, ◌++◌, None}
 use mathlib.Core.List.{IsPrefix}
 use Rattle.tb_records.specs.declared.replies.Status.TheVariants as status
@@ -6,7 +6,11 @@ use Rattle.tb_records.specs.Messages.{Message, is_register}
 use Rattle.tb_sessions.specs.Judged.{row_of}
 use Rattle.tb_machine.specs.declared.entries.Entry.{Entry}
 use Rattle.tb_machine.specs.Histories.{answer_to}
-use Rattle.tb_published.specs.Lines.{Opening, LegalIn, after_in}
+use Rattle.tb_published.specs.Lines.{Opening, LegalIn, after_in, OneBegins}
+
+-- of two beginnings of one list, one begins with the other
+abbrev pub OneHistory : Type 0
+OneHistory = (whole xs ys : List Entry) → IsPrefix xs whole → IsPrefix ys whole → OneBegins xs ys
 
 -- the request is that of an entry
 pub record Has (h : List Entry) (r : Message) : Type 0 where

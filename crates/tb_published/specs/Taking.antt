@@ -26,12 +26,13 @@ Enters o h r now (Err fault.NoMemory) m = (class_in o h r ≡ New) × (has_time 
 Enters o h r now (Err fault.TimeExhausted) m = (class_in o h r ≡ New) × (has_time (after_in o h) (now, r) ≡ false) × (m ≡ h)
 Enters o h r now (Err (fault.Unpublished c)) m = ⊥
 
--- it is taken: entered, and shown by the copies, which show s afterwards
+-- it is taken: entered, and shown by the copies, which show s afterwards. It is not judged before they show all of h; where
+-- they could not, h stays as it was, and where they could not show its entry, they still show all of h
 abbrev pub Takes : Opening → List Entry → Message → ℕ → Result Taken TakeFault → List Entry → List Entry → Type 0
 Takes o h r now (Ok t) m s = Enters o h r now (Ok t) m × (s ≡ m)
-Takes o h r now (Err (fault.Unpublished c)) m s = (c ≡ length m) × (length s < length m) × ((m ≡ h) ⊎ Enters o h r now (Ok (taken.Committed c)) m)
-Takes o h r now (Err fault.NoMemory) m s = Enters o h r now (Err fault.NoMemory) m
-Takes o h r now (Err fault.TimeExhausted) m s = Enters o h r now (Err fault.TimeExhausted) m
+Takes o h r now (Err (fault.Unpublished c)) m s = (c ≡ length m) × (length s < length m) × ((m ≡ h) ⊎ (Enters o h r now (Ok (taken.Committed c)) m × (s ≡ h)))
+Takes o h r now (Err fault.NoMemory) m s = Enters o h r now (Err fault.NoMemory) m × (s ≡ m)
+Takes o h r now (Err fault.TimeExhausted) m s = Enters o h r now (Err fault.TimeExhausted) m × (s ≡ m)
 
 -- the whole history is shown, or less than it
 abbrev pub ShowsAll : Result ℕ TakeFault → List Entry → List Entry → Type 0

@@ -5,10 +5,13 @@ ghost use Rattle.tb_sessions.specs.Judged.{class_of};
 ghost use Rattle.tb_sessions.specs.declared.classes.Class.TheVariants as class;
 ghost use Rattle.tb_machine.specs.Histories.{answer_to, fits, step};
 ghost use Rattle.tb_machine.specs.Scripts.{entry_of, has_time};
+ghost use Rattle.tb_published.specs.Entering.{IsKnown, EntersBy};
 
+use crate::faults::{TakeFault, Taken};
 use std::alloc::{AllocError, Global};
-use tb_machine::{Entry, Machine};
+use tb_machine::{Entry, Machine, status_of};
 use tb_records::Request;
+use tb_sessions::Class;
 
 /// The commit number that the answer to a repeat names.
 pub(crate) fn stored_commit(machine: &Machine<Global>, request: &Request) -> u64
@@ -21,6 +24,17 @@ pub(crate) fn stored_commit(machine: &Machine<Global>, request: &Request) -> u64
         unreachable!()
     };
     reply.commit()
+}
+
+/// What becomes of a request that is not new; None where it is.
+pub(crate) fn known(machine: &Machine<Global>, request: &Request) -> Option<Taken>
+    ensures { MatchOption result (class_of machine.now.rows request.now ≡ class.New) (λ taken. IsKnown machine.now request.now taken) }
+{
+    match machine.class(request) {
+        Class::New => None,
+        Class::Repeat => Some(Taken::Repeat(stored_commit(machine, request))),
+        class => Some(Taken::Refused(status_of(class))),
+    }
 }
 
 /// The entry of a request that comes at a moment; None where there is no time for it.
@@ -58,4 +72,26 @@ pub(crate) fn add_to(
     let commit = entry.commit;
     history.push_reserved(entry);
     Ok(commit)
+}
+
+/// Enters a request that comes at a moment behind a history, and into the machine after it.
+pub(crate) fn enter_into(
+    machine: &mut Machine<Global>,
+    history: &mut Vec<Entry>,
+    request: Request,
+    now: u64,
+) -> Result<Taken, TakeFault>
+    ensures entered { EntersBy machine.old history.old.items request now result machine.new history.new.items }
+    ensures lawful { IsLawful request }
+{
+    if let Some(taken) = known(machine, &request) {
+        return Ok(taken);
+    }
+    let Some(entry) = entry_for(machine, request, now) else {
+        return Err(TakeFault::TimeExhausted);
+    };
+    match add_to(machine, history, entry) {
+        Ok(commit) => Ok(Taken::Committed(commit)),
+        Err(AllocError) => Err(TakeFault::NoMemory),
+    }
 }

@@ -1,8 +1,13 @@
 //! What follows of what seats have seen, over the definitions alone. A call does nothing; its promise is the law.
-ghost use Rattle.tb_published.specs.SeenLaws.{NeverNotYet};
+ghost use Rattle.tb_published.specs.SeenLaws.{NeverNotYet, OneHistory};
 
 /// A seat that learnt what was told after a request was committed never answers NotYet for it, but for a register whose
 /// session was driven out since.
 pub fn never_not_yet()
     ensures { NeverNotYet }
+{}
+
+/// Of two beginnings of one history, as the lists that two seats have seen, one begins with the other.
+pub fn one_history()
+    ensures { OneHistory }
 {}

@@ -1,6 +1,7 @@
 //! How a reader looks at the copy that is shown.
 ghost use Rattle.std.specs.Prelude.{◌≡◌, IfOk, IfErr, IfSome, MatchOption};
 ghost use Rattle.left_right.specs.Sides.{view};
+ghost use Rattle.tb_records.specs.Messages.{IsLawful};
 ghost use Rattle.tb_ledger.specs.Books.{found_accounts, found_transfers};
 ghost use Rattle.tb_machine.specs.Histories.{answer_to};
 ghost use Rattle.tb_published.specs.Lines.{LegalIn, AnswersIn, after_in, Begins};
@@ -12,7 +13,7 @@ use crate::replica::Replica;
 use crate::rule::{Look, Published, View};
 use left_right::reader::{Reader, Reading};
 use std::alloc::{AllocError, Global};
-use tb_machine::{answer_of, status_of};
+use tb_machine::{Machine, answer_of, status_of};
 use tb_records::{Account, Reply, Request, Status, Transfer};
 
 /// A reader's place at the copies.
@@ -38,7 +39,8 @@ pub(crate) fn enter<J: Naming>(
 {
     let reading = place.enter_as::<Look>()?;
     let shown = reading.get().front();
-    let _both = front.longer(shown);
+    let both = front.longer(shown);
+    drop(both);
     if shown.len() < front.len() {
         return Err(reading.leave());
     }
@@ -66,6 +68,18 @@ pub(crate) fn look_status<J: Naming>(
     }
 }
 
+/// The whole answer of a machine to a request.
+fn answered(
+    global: Global,
+    machine: &Machine<Global>,
+    request: &Request,
+) -> Result<Reply, AllocError>
+    ensures answer { IfOk result (λ reply. reply ≡ answer_to machine.now request.now) }
+    ensures lawful { IsLawful request.now }
+{
+    answer_of(global, machine, request)
+}
+
 /// The answer to a request at the copy that is shown.
 pub(crate) fn look_answer<J: Naming>(
     global: Global,
@@ -80,7 +94,7 @@ pub(crate) fn look_answer<J: Naming>(
 {
     match enter(place, front) {
         Ok((reading, shown)) => {
-            let answer = answer_of(global, reading.get().machine(), request);
+            let answer = answered(global, reading.get().machine(), request);
             (reading.leave(), Some((shown, answer)))
         }
         Err(place) => (place, None),

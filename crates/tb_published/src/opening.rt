@@ -50,8 +50,13 @@ fn take_seats<J: Naming>(
         return Err(OpenFault::NoMemory);
     };
     for _ in 0..count {
-        let seat = publisher.seat()?;
-        seats.push_reserved(seat);
+        match publisher.seat() {
+            Ok(seat) => seats.push_reserved(seat),
+            Err(fault) => {
+                drop(seats);
+                return Err(fault);
+            }
+        }
     }
     Ok(seats)
 }

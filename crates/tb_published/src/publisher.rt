@@ -1,10 +1,10 @@
 //! The writer: it enters requests into the history, and has the copies show it.
-ghost use Rattle.std.specs.Prelude.{◌≡◌, ◌<◌, [], length, IsTrue, IsFalse, IfOk};
+ghost use Rattle.std.specs.Prelude.{◌≡◌, ◌↔◌, ◌<◌, ◌≤◌, [], length, IsTrue, IsFalse, IfOk};
 ghost use mathlib.Core.List.{IsPrefix};
-ghost use Rattle.tb_published.specs.Lines.{LegalIn, after_in};
+ghost use Rattle.tb_published.specs.Lines.{LegalIn, after_in, OneBegins};
 ghost use Rattle.tb_published.specs.Taking.{Enters, Takes, ShowsAll};
 
-use crate::entering::{add_to, entry_for, stored_commit};
+use crate::entering::enter_into;
 use crate::faults::{OpenFault, TakeFault, Taken};
 use crate::front::{Chronicle, Opening};
 use crate::limits::SeatCount;
@@ -14,13 +14,13 @@ use crate::replica::{Posted, Replica};
 use crate::seat::Seat;
 use crate::told::Told;
 use crate::turning::{Copies, begin, new_place, publish};
+use core::mem::replace;
 use left_right::Absorb;
 use std::alloc::{AllocError, Global};
 use std::marker::Model;
 use std::sync::Wait;
-use tb_machine::{Entry, Machine, status_of};
+use tb_machine::{Entry, Machine};
 use tb_records::Request;
-use tb_sessions::Class;
 
 /// The one writer of an opening. Contracts see its history, and what the copies show of it. It is not Drop: a `Held`
 /// closes it.
@@ -65,8 +65,14 @@ impl<J: Naming> Publisher<J> {
         ensures { IfOk result (λ p. (p.history ≡ []) × (p.shown ≡ [])) }
     {
         let (profile, clients_max) = opening.rules();
+        let machine = match Machine::new_in(alloc, alloc, profile, clients_max) {
+            Ok(machine) => machine,
+            Err(AllocError) => {
+                drop(opening);
+                return Err(AllocError);
+            }
+        };
         let offered = opening.into_chronicle();
-        let machine = Machine::new_in(alloc, alloc, profile, clients_max)?;
         let copies = match begin(alloc, rt, offered.front(), seats) {
             Ok(copies) => copies,
             Err(AllocError) => {
@@ -90,10 +96,10 @@ impl<J: Naming> Publisher<J> {
         ensures same { self.new ≡ self.old }
         ensures seat { IfOk result (λ seat. seat ≡ self.old.shown) }
     {
-        let front = self.copies.published().front().again();
         let Ok(place) = new_place(&mut self.copies) else {
             return Err(OpenFault::NoPlace);
         };
+        let front = self.copies.published().front().again();
         Ok(Seat::new(place, front, self.global))
     }
 
@@ -120,23 +126,23 @@ impl<J: Naming> Publisher<J> {
         Told::new(self.copies.published().front().again())
     }
 
+    /// Says whether the copies show all that a seat has seen: then that is a beginning of the history. Of what is shown and
+    /// what a seat has seen, one list begins with the other.
+    pub fn beside(&self, seat: &Seat<J>) -> bool
+        ensures one { OneBegins self.now.shown seat.now }
+        ensures all { IsTrue result ↔ length seat.now ≤ length self.now.shown }
+        ensures history { IsTrue result → IsPrefix seat.now self.now.history }
+    {
+        let _ = &self.copies;
+        self.tell().holds(seat)
+    }
+
     /// Enters a request that comes at a moment, and leaves what the copies show.
     pub fn enter(&mut self, request: Request, now: u64) -> Result<Taken, TakeFault>
         ensures history { Enters J.opening self.old.history request now result self.new.history }
         ensures shown { self.new.shown ≡ self.old.shown }
     {
-        match self.machine.class(&request) {
-            Class::New => {}
-            Class::Repeat => return Ok(Taken::Repeat(stored_commit(&self.machine, &request))),
-            class => return Ok(Taken::Refused(status_of(class))),
-        }
-        let Some(entry) = entry_for(&self.machine, request, now) else {
-            return Err(TakeFault::TimeExhausted);
-        };
-        match add_to(&mut self.machine, &mut self.history, entry) {
-            Ok(commit) => Ok(Taken::Committed(commit)),
-            Err(AllocError) => Err(TakeFault::NoMemory),
-        }
+        enter_into(&mut self.machine, &mut self.history, request, now)
     }
 
     /// Has the copies show the whole history, and answers its last commit number. It waits for readers of the copy that
@@ -156,12 +162,17 @@ impl<J: Naming> Publisher<J> {
     }
 
     /// Takes a request that comes at a moment: shows what is not shown yet, enters the request, and shows the history
-    /// with it.
+    /// with it. NoMemory and TimeExhausted leave the history as it was, and the copies show all of it. Unpublished of the
+    /// history's old length comes before the request is judged, and leaves the history as it was; Unpublished of one more
+    /// comes after it was entered, and the copies show all but its entry.
     pub fn take<W: Wait>(&mut self, rt: &W, request: Request, now: u64) -> Result<Taken, TakeFault>
         ensures history { Takes J.opening self.old.history request now result self.new.history self.new.shown }
         ensures shown { IsPrefix self.old.shown self.new.shown }
     {
-        self.show(rt)?;
+        if let Err(fault) = self.show(rt) {
+            drop(request);
+            return Err(fault);
+        }
         let taken = self.enter(request, now)?;
         self.show(rt)?;
         Ok(taken)
@@ -211,7 +222,8 @@ impl<J: Naming> Publisher<J> {
         ensures { self.new ≡ self.old }
     {
         if self.waiting.is_none() {
-            self.waiting = next_order(self.global, &mut self.offered, self.history.as_slice());
+            let next = next_order(self.global, &mut self.offered, self.history.as_slice());
+            drop(replace(&mut self.waiting, next));
         }
     }
 
@@ -225,7 +237,7 @@ impl<J: Naming> Publisher<J> {
         match self.copies.append(order) {
             Ok(()) => true,
             Err(order) => {
-                self.waiting = Some(order);
+                drop(self.waiting.replace(order));
                 false
             }
         }

@@ -103,7 +103,8 @@ impl<J: Naming> Replica<J> {
     {
         let its = order.front.len();
         let mine = self.front.len();
-        let _both = self.front.longer(&order.front);
+        let both = self.front.longer(&order.front);
+        drop(both);
         if its <= mine {
             return false;
         }

@@ -1,11 +1,11 @@
 //! Seats: what a client thread reads by.
-ghost use Rattle.std.specs.Prelude.{◌≡◌, length, IfOk, IfErr};
+ghost use Rattle.std.specs.Prelude.{◌≡◌, ◌↔◌, ◌≤◌, length, IsTrue, IfOk, IfErr};
 ghost use mathlib.Core.List.{IsPrefix};
 ghost use Rattle.left_right.specs.Sides.{view as known};
 ghost use Rattle.tb_ledger.specs.Books.{found_accounts, found_transfers};
 ghost use Rattle.tb_machine.specs.Histories.{answer_to};
 ghost use Rattle.tb_published.specs.declared.faults.SeatFault.TheVariants as seat_fault;
-ghost use Rattle.tb_published.specs.Lines.{LegalIn, AnswersIn, after_in, longer_of};
+ghost use Rattle.tb_published.specs.Lines.{LegalIn, AnswersIn, after_in, longer_of, OneBegins};
 ghost use Rattle.tb_published.specs.Sharing.{Knows};
 
 use crate::faults::SeatFault;
@@ -156,6 +156,24 @@ impl<J: Naming> Seat<J> {
         ensures told { IsPrefix told.now self.new }
     {
         self.front = self.front.longer(told.front());
+    }
+
+    /// Says whether it has seen all that another seat has. Of what two seats have seen, one list begins with the other.
+    pub fn beside(&self, other: &Seat<J>) -> bool
+        ensures one { OneBegins self.now other.now }
+        ensures all { IsTrue result ↔ length other.now ≤ length self.now }
+    {
+        other.is_within(&self.front)
+    }
+
+    /// Says whether a front of its opening has all that it has seen. Of the two, one begins with the other.
+    pub(crate) fn is_within(&self, front: &Front) -> bool
+        requires { front.now.opening ≡ J.opening }
+        ensures one { OneBegins front.now.list self.now }
+        ensures all { IsTrue result ↔ length self.now ≤ length front.now.list }
+    {
+        drop(front.longer(&self.front));
+        front.len() >= self.front.len()
     }
 
     /// The number of the entries that it has seen.

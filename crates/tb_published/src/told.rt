@@ -1,8 +1,10 @@
 //! What the publisher tells seats.
-ghost use Rattle.std.specs.Prelude.{◌≡◌, length};
+ghost use Rattle.std.specs.Prelude.{◌≡◌, ◌↔◌, ◌≤◌, length, IsTrue};
+ghost use Rattle.tb_published.specs.Lines.{OneBegins};
 
 use crate::front::Front;
 use crate::naming::Naming;
+use crate::seat::Seat;
 use std::marker::{Model, PhantomData};
 
 /// A beginning of the history that was shown, for seats to learn. Contracts see it as its entries.
@@ -40,6 +42,14 @@ impl<J: Naming> Told<J> {
         ensures { result ≡ length self.now }
     {
         self.front.len()
+    }
+
+    /// Says whether it has all that a seat has seen. Of the two lists one begins with the other.
+    pub(crate) fn holds(&self, seat: &Seat<J>) -> bool
+        ensures one { OneBegins self.now seat.now }
+        ensures all { IsTrue result ↔ length seat.now ≤ length self.now }
+    {
+        seat.is_within(&self.front)
     }
 
     /// Its front.

@@ -1,7 +1,8 @@
 //! How the writer shows the copies what they have taken in.
-ghost use Rattle.std.specs.Prelude.{◌≡◌, [], Some, drop, IfOk, MatchResult};
+ghost use Rattle.std.specs.Prelude.{◌≡◌, [], Some, drop, IfOk};
 ghost use Rattle.left_right.specs.Sides.{view};
-ghost use Rattle.tb_published.specs.Orders.{Follows, line_after};
+ghost use Rattle.tb_published.specs.Orders.{Follows};
+ghost use Rattle.tb_published.specs.Sharing.{Turned};
 
 use crate::front::Front;
 use crate::limits::SeatCount;
@@ -61,7 +62,7 @@ pub(crate) fn begin<J: Naming, W: Wait>(
 /// they show what they showed, and the orders wait.
 fn turn<J: Naming, W: Wait>(copies: Copies<J>, rt: &W) -> (Copies<J>, Result<(), AllocError>)
     requires { Follows copies.desk.shown.value (drop copies.behind copies.log.items) }
-    ensures { MatchResult result.1 (λ _. (result.0.desk.shown.value ≡ line_after copies.desk.shown.value (drop copies.behind copies.log.items)) × (drop result.0.behind result.0.log.items ≡ []) × (view result.0.desk.place ≡ Some result.0.desk.shown.value)) (λ _. (result.0.desk.shown.value ≡ copies.desk.shown.value) × (drop result.0.behind result.0.log.items ≡ drop copies.behind copies.log.items) × (view result.0.desk.place ≡ view copies.desk.place)) }
+    ensures { Turned result.1 copies.desk.shown.value (drop copies.behind copies.log.items) (view copies.desk.place) result.0.desk.shown.value (drop result.0.behind result.0.log.items) (view result.0.desk.place) }
 {
     copies.publish_as::<Look, W>(rt)
 }
@@ -69,9 +70,9 @@ fn turn<J: Naming, W: Wait>(copies: Copies<J>, rt: &W) -> (Copies<J>, Result<(),
 /// As `turn`, in place.
 pub(crate) fn publish<J: Naming, W: Wait>(copies: &mut Copies<J>, rt: &W) -> Result<(), AllocError>
     requires { Follows copies.old.desk.shown.value (drop copies.old.behind copies.old.log.items) }
-    ensures { MatchResult result (λ _. (copies.new.desk.shown.value ≡ line_after copies.old.desk.shown.value (drop copies.old.behind copies.old.log.items)) × (drop copies.new.behind copies.new.log.items ≡ []) × (view copies.new.desk.place ≡ Some copies.new.desk.shown.value)) (λ _. (copies.new.desk.shown.value ≡ copies.old.desk.shown.value) × (drop copies.new.behind copies.new.log.items ≡ drop copies.old.behind copies.old.log.items) × (view copies.new.desk.place ≡ view copies.old.desk.place)) }
+    ensures { Turned result copies.old.desk.shown.value (drop copies.old.behind copies.old.log.items) (view copies.old.desk.place) copies.new.desk.shown.value (drop copies.new.behind copies.new.log.items) (view copies.new.desk.place) }
 {
-    replace_with(copies, rt, |copies, rt| turn(copies, rt))
+    replace_with(copies, rt, turn)
 }
 
 /// A reader's place at the copies, which has seen what they show.
