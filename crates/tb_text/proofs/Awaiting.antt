@@ -1,12 +1,11 @@
 -- What could stand next: the words, the number and the marks that may stand where a line ends are those with which some
 -- text of statements goes on.
-use Rattle.std.proofs.Common.{◌≡◌, ℕ, ◌+◌, ◌<◌, Bool, true, false, cond, ◌&&◌, ◌==◌, List, [], ◌∷◌, ◌++◌, length, get_or, take, drop, Option, Some, None, IsSome, Result, Ok, Err, IfOk, refl, sym, ap, subst, ◌∙◌, append_assoc, arith, ◌↔◌, lit<}
+use Rattle.std.proofs.Common.{◌≡◌, ℕ, ◌+◌, Bool, true, false, cond, ◌&&◌, ◌==◌, List, [], ◌∷◌, ◌++◌, take, drop, Option, Some, None, IsSome, Result, Ok, Err, IfOk, refl, sym, ap, subst, ◌∙◌, append_assoc, arith, ◌↔◌}
 use Rattle.std.specs.Prelude.{nat_lt}
 use Rattle.std.specs.Option.{option_and_then}
 use Rattle.std.specs.List.{All, Contains, filter}
 use Rattle.std.proofs.lemmas.List.{take-append-drop}
 use Rattle.std.proofs.lemmas.List.Elements.{All-nil, All-cons, All-weaker, All-contains, filter_passes, Contains-push, Contains-append_left, Contains-append_right, Contains-get_or}
-use Rattle.tb_records.specs.Messages.{Message}
 use Rattle.tb_text.specs.declared.awaited.Awaited.{Awaited}
 use Rattle.tb_text.specs.declared.words.Field.{Field}
 use Rattle.tb_text.specs.declared.words.Field.TheVariants as field
@@ -19,12 +18,12 @@ use Rattle.tb_text.specs.declared.places.Lexeme.TheVariants.{Gap, Comment, Spell
 use Rattle.tb_text.specs.declared.places.Place.{Place}
 use Rattle.tb_text.specs.declared.places.Place.TheVariants.{Head, Named, Wanted, Given, Opened, Parted}
 use Rattle.tb_text.specs.Words.{word_text, all_words, same_field, field_max}
-use Rattle.tb_text.specs.Scan.{Scan, behind, step, run, gap, is_word_byte, item_count, pushed, closed_at, parted_at, valued_at, joined_at, mark, entered, moved, within, spelling, taken, wanted, may_stand, word_named, word_ended, number_ended, number_left, word_left, word_grown, begins_word, decimal_grown, appended, finished, rests, is_positive}
-use Rattle.tb_text.specs.Steps.{Begins, Means, Scans}
+use Rattle.tb_text.specs.Scan.{Scan, behind, step, run, gap, is_word_byte, item_count, pushed, closed_at, parted_at, valued_at, joined_at, entered, moved, within, spelling, taken, wanted, may_stand, word_named, number_left, word_left, word_grown, begins_word, decimal_grown, appended, finished, rests, is_positive}
+use Rattle.tb_text.specs.Steps.{Begins, Scans}
 use Rattle.tb_text.specs.Awaited.{GoesOn, Awaits, AwaitsBehind, MayStand, OnNextLine, awaits_equals, awaits_bar, is_given_place, is_opened_place, has_operation, awaits_comma, awaits_semicolon}
 use Rattle.tb_text.proofs.EachWord.{all_word_bytes, begins_with_letter, letter_first, word_bytes, named_by_text, word_place, stands_at, place_below}
 use Rattle.tb_text.proofs.Runs.{run_append, run_behind}
-use Rattle.tb_text.proofs.Tokens.{IsBetween, one_step, at_gap, line_end, and_left, and_right, stands_spelling, taken_between, word_through, gap_letter}
+use Rattle.tb_text.proofs.Tokens.{one_step, at_gap, line_end, and_left, and_right, stands_spelling, taken_between, word_through, gap_letter}
 use Rattle.tb_text.proofs.Ongoing.{Each, Within, IsClear, IsOngoing, Stands, read_goes_on}
 use Rattle.tb_text.proofs.Endings.{Rests, read_begins, decimal_one, finished_rests, pushed_rests, step_is}
 use Rattle.tb_text.proofs.Faults.{stopped}
