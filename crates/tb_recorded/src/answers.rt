@@ -1,11 +1,11 @@
 //! Answers, checked against a machine of one thread.
-use crate::asked::{account_ids, transfer_ids};
+use crate::asked::{Asked, account_ids, transfer_ids};
 use crate::faults::Fault;
 use crate::records::{Answer, Log, Record};
 use crate::rules::Rules;
 use std::alloc::Global;
 use tb_machine::{Entry, Machine, answer_of, status_of};
-use tb_records::{Reply, ReplyBody};
+use tb_records::{Account, Reply, ReplyBody, Request, Status, Transfer};
 
 /// What an audit counts.
 #[derive(Clone, Copy)]
@@ -78,25 +78,79 @@ fn is_same(one: &Reply, other: &Reply) -> bool {
         && is_same_body(one.body(), other.body())
 }
 
+/// Says that the machine gives this reply to a request.
+fn gives_reply(
+    alloc: Global,
+    machine: &Machine<Global>,
+    request: &Request,
+    reply: &Reply,
+) -> Result<bool, Fault> {
+    let right = answer_of(alloc, machine, request)?;
+    let gives = is_same(&right, reply);
+    drop(right);
+    Ok(gives)
+}
+
+/// Says that the machine gives this reply to what was asked.
+fn is_right_reply(
+    alloc: Global,
+    machine: &Machine<Global>,
+    asked: Asked,
+    reply: &Reply,
+) -> Result<bool, Fault> {
+    let request = asked.request(alloc)?;
+    let gives = gives_reply(alloc, machine, &request, reply);
+    drop(request);
+    gives
+}
+
+/// Says that the machine gives this status to what was asked.
+fn is_right_status(
+    alloc: Global,
+    machine: &Machine<Global>,
+    asked: Asked,
+    status: Status,
+) -> Result<bool, Fault> {
+    let request = asked.request(alloc)?;
+    let right = status_of(machine.class(&request));
+    drop(request);
+    Ok(right == status)
+}
+
+/// Says that the machine finds these accounts by the lookup of a number.
+fn are_right_accounts(
+    alloc: Global,
+    machine: &Machine<Global>,
+    lookup: u64,
+    accounts: &[Account],
+) -> Result<bool, Fault> {
+    let ids = account_ids(alloc, lookup)?;
+    Ok(machine.lookup_accounts(ids.as_slice())?.as_slice() == accounts)
+}
+
+/// Says that the machine finds these transfers by the lookup of a number.
+fn are_right_transfers(
+    alloc: Global,
+    machine: &Machine<Global>,
+    lookup: u64,
+    transfers: &[Transfer],
+) -> Result<bool, Fault> {
+    let ids = transfer_ids(alloc, lookup)?;
+    Ok(machine.lookup_transfers(ids.as_slice())?.as_slice() == transfers)
+}
+
 /// Says that the machine gives this answer.
 fn is_right(alloc: Global, machine: &Machine<Global>, answer: &Answer) -> Result<bool, Fault> {
-    Ok(match answer {
-        Answer::Reply(asked, reply) => {
-            let right = answer_of(alloc, machine, &asked.request(alloc)?)?;
-            is_same(&right, reply)
-        }
-        Answer::Status(asked, status) => {
-            status_of(machine.class(&asked.request(alloc)?)) == *status
-        }
+    match answer {
+        Answer::Reply(asked, reply) => is_right_reply(alloc, machine, *asked, reply),
+        Answer::Status(asked, status) => is_right_status(alloc, machine, *asked, *status),
         Answer::Accounts(lookup, accounts) => {
-            let ids = account_ids(alloc, *lookup)?;
-            machine.lookup_accounts(ids.as_slice())?.as_slice() == accounts.as_slice()
+            are_right_accounts(alloc, machine, *lookup, accounts.as_slice())
         }
         Answer::Transfers(lookup, transfers) => {
-            let ids = transfer_ids(alloc, *lookup)?;
-            machine.lookup_transfers(ids.as_slice())?.as_slice() == transfers.as_slice()
+            are_right_transfers(alloc, machine, *lookup, transfers.as_slice())
         }
-    })
+    }
 }
 
 /// Checks a log's records from one on, as far as their commit is not above the machine's, and tells how far that is. A
@@ -144,25 +198,52 @@ fn count_unreached(logs: &[Log], reached: &[usize]) -> u64 {
     count
 }
 
-/// Replays the history entry by entry, and checks each answer where the machine has the commit at which its seat stood.
+/// Applies the history to a machine entry by entry, and checks each answer where the machine has the commit at which its seat
+/// stood.
+fn check_entries(
+    alloc: Global,
+    machine: &mut Machine<Global>,
+    history: &[Entry],
+    logs: &[Log],
+    reached: &mut [usize],
+    tally: &mut Tally,
+) -> Result<(), Fault> {
+    check_all(alloc, machine, logs, reached, tally)?;
+    for entry in history {
+        if !machine.fits(entry) {
+            break;
+        }
+        machine.apply(entry)?;
+        check_all(alloc, machine, logs, reached, tally)?;
+    }
+    Ok(())
+}
+
+/// Checks the answers of all logs by a machine of the empty history, and that it comes to the end of the history and of the
+/// logs.
+fn check_by(
+    alloc: Global,
+    machine: &mut Machine<Global>,
+    history: &[Entry],
+    logs: &[Log],
+) -> Result<Tally, Fault> {
+    let mut tally = Tally::new();
+    let mut reached = Vec::from_elem(alloc, 0usize, logs.len())?;
+    check_entries(alloc, machine, history, logs, &mut reached, &mut tally)?;
+    tally.count_wrong((history.len() as u64).abs_diff(machine.commit()));
+    tally.count_wrong(count_unreached(logs, &reached));
+    Ok(tally)
+}
+
+/// Replays the history, and checks each answer.
 pub fn check_answers(
     alloc: Global,
     rules: Rules,
     history: &[Entry],
     logs: &[Log],
 ) -> Result<Tally, Fault> {
-    let mut tally = Tally::new();
     let mut machine = rules.machine(alloc)?;
-    let mut reached = Vec::from_elem(alloc, 0usize, logs.len())?;
-    check_all(alloc, &machine, logs, &mut reached, &mut tally)?;
-    for entry in history {
-        if !machine.fits(entry) {
-            break;
-        }
-        machine.apply(entry)?;
-        check_all(alloc, &machine, logs, &mut reached, &mut tally)?;
-    }
-    tally.count_wrong((history.len() as u64).abs_diff(machine.commit()));
-    tally.count_wrong(count_unreached(logs, &reached));
-    Ok(tally)
+    let tally = check_by(alloc, &mut machine, history, logs);
+    drop(machine);
+    tally
 }

@@ -9,35 +9,79 @@ use crate::keys::count_twice;
 use crate::places::{Line, rebuild};
 use crate::records::Log;
 use crate::rules::Rules;
-use std::alloc::Global;
+use std::alloc::{AllocError, Global};
+use tb_machine::Entry;
 use tb_published::Naming;
 use tb_service::{Ended, Finished};
 
-/// Takes the closed ports in: the places of each join the line, and the logs are left.
+/// Takes a closed port in: its places join the line, and the log is left.
+fn take_in<J: Naming, S: Serving>(
+    finished: &mut Finished<J>,
+    one: Left<S>,
+    line: &mut Line,
+    logs: &mut Vec<Log>,
+) -> Result<(), Fault>
+    requires { S.service ≡ Some (service_at finished.old) }
+    ensures { service_at finished.new ≡ service_at finished.old }
+{
+    let Left {
+        closed,
+        log,
+        outcome,
+        ..
+    } = one;
+    if let Err(fault) = outcome {
+        drop(closed);
+        drop(log);
+        return Err(fault);
+    }
+    let placed = match finished.offered_by(closed) {
+        Ok(places) => line.add(places.as_slice(), log.offered.as_slice()),
+        Err(closed) => {
+            drop(closed);
+            Err(AllocError)
+        }
+    };
+    match placed {
+        Ok(()) => Ok(logs.push(log)?),
+        Err(AllocError) => {
+            drop(log);
+            Err(Fault::NoMemory)
+        }
+    }
+}
+
+/// Takes the closed ports in.
 fn gather<J: Naming, S: Serving>(
-    alloc: Global,
     finished: &mut Finished<J>,
     left: Vec<Left<S>>,
     line: &mut Line,
-) -> Result<Vec<Log>, Fault>
+    logs: &mut Vec<Log>,
+) -> Result<(), Fault>
     requires { S.service ≡ Some (service_at finished.old) }
 {
-    let mut logs = Vec::new(alloc);
     for one in left {
-        let Left {
-            closed,
-            log,
-            outcome,
-            ..
-        } = one;
-        outcome?;
-        let Ok(places) = finished.offered_by(closed) else {
-            return Err(Fault::NoMemory);
-        };
-        line.add(places.as_slice(), log.offered.as_slice())?;
-        logs.push(log)?;
+        take_in(finished, one, line, logs)?;
     }
-    Ok(logs)
+    Ok(())
+}
+
+/// Checks that what was offered, by place, makes this history; that no key stands twice in it; and each answer, against a
+/// machine of one thread at the commit at which its seat stood.
+fn check(
+    alloc: Global,
+    rules: Rules,
+    history: &[Entry],
+    line: &Line,
+    logs: &[Log],
+) -> Result<Tally, Fault> {
+    let mut tally = check_answers(alloc, rules, history, logs)?;
+    tally.commits = history.len();
+    tally.offered = line.len();
+    tally.count_wrong(line.misplaced());
+    tally.count_wrong(rebuild(alloc, rules, line, history)?);
+    tally.count_wrong(count_twice(alloc, history)?);
+    Ok(tally)
 }
 
 /// Checks what a run left: that each port's places are what its client offered, in order, and that all of it by place
@@ -52,16 +96,22 @@ pub fn audit<J: Naming, S: Serving>(
     requires { S.service ≡ Some (service_at finished.old) }
 {
     if finished.ended != Ended::Closed || !finished.refused.is_empty() {
+        drop(left);
         return Err(Fault::Unserved);
     }
     let mut line = Line::new(alloc);
-    let logs = gather(alloc, finished, left, &mut line)?;
-    let history = finished.publisher.history();
-    let mut tally = check_answers(alloc, rules, history, logs.as_slice())?;
-    tally.commits = history.len();
-    tally.offered = line.len();
-    tally.count_wrong(line.misplaced());
-    tally.count_wrong(rebuild(alloc, rules, &line, history)?);
-    tally.count_wrong(count_twice(alloc, history)?);
-    Ok(tally)
+    let mut logs = Vec::new(alloc);
+    let tally = match gather(finished, left, &mut line, &mut logs) {
+        Ok(()) => check(
+            alloc,
+            rules,
+            finished.publisher.history(),
+            &line,
+            logs.as_slice(),
+        ),
+        Err(fault) => Err(fault),
+    };
+    drop(logs);
+    drop(line);
+    tally
 }

@@ -86,13 +86,14 @@ impl<J: Naming, S: Serving> Client<J, S> {
             place: _,
             own: _,
             port,
-            seat: _,
+            seat,
             chances: _,
             log,
             outcome,
             alloc: _,
             of: _,
         } = self;
+        drop(seat);
         Left {
             closed: port.close(rt),
             log,
@@ -166,12 +167,21 @@ impl<J: Naming, S: Serving> Client<J, S> {
         Ok(())
     }
 
+    /// Asks the seat for the reply, where it is not NotYet.
+    fn ask(&mut self, request: &Request) -> Result<Option<Reply>, Fault> {
+        let reply = self.seat.answer(request)?;
+        if reply.status() == Status::NotYet {
+            drop(reply);
+            return Ok(None);
+        }
+        Ok(Some(reply))
+    }
+
     /// Asks the seat by turns until the request is answered; an impatient client asks twice at the most.
     fn poll(&mut self, request: &Request) -> Result<Reply, Fault> {
         let turns = if self.chances.below(4) == 0 { 1 } else { TURNS };
         for _ in 0..turns {
-            let reply = self.seat.answer(request)?;
-            if reply.status() != Status::NotYet {
+            if let Some(reply) = self.ask(request)? {
                 return Ok(reply);
             }
             thread::yield_now();
@@ -180,29 +190,30 @@ impl<J: Naming, S: Serving> Client<J, S> {
     }
 
     /// A call without turns hands the request over exactly where it answers NotYet. Then the seat is asked.
-    fn call<R: Wait>(&mut self, rt: &R, asked: Asked) -> Result<Reply, Fault> {
-        let request = asked.request(self.alloc)?;
-        let reply = self.port.call(rt, &mut self.seat, &request, 0)?;
+    fn call<R: Wait>(&mut self, rt: &R, asked: Asked, request: &Request) -> Result<Reply, Fault> {
+        let reply = self.port.call(rt, &mut self.seat, request, 0)?;
         if reply.status() != Status::NotYet {
             return Ok(reply);
         }
+        drop(reply);
         self.log.offered.push(asked)?;
-        self.poll(&request)
+        self.poll(request)
     }
 
     /// Hands one request over without a look, and then asks the seat.
-    fn offer<R: Wait>(&mut self, rt: &R, asked: Asked) -> Result<Reply, Fault> {
-        let request = asked.request(self.alloc)?;
+    fn offer<R: Wait>(&mut self, rt: &R, asked: Asked, request: &Request) -> Result<Reply, Fault> {
         self.log.offered.push(asked)?;
         match self.port.offer(rt, asked.request(self.alloc)?) {
-            Ok(()) => self.poll(&request),
-            Err(_) => Err(Fault::Gone),
+            Ok(()) => self.poll(request),
+            Err(back) => {
+                drop(back);
+                Err(Fault::Gone)
+            }
         }
     }
 
     /// The requests that follow one another from this one on, now and then one of them twice.
-    fn several(&mut self, first: Asked) -> Result<Vec<Request>, Fault> {
-        let mut requests = Vec::new(self.alloc);
+    fn put_several(&mut self, first: Asked, requests: &mut Vec<Request>) -> Result<(), Fault> {
         let mut asked = first;
         for _ in 0..=self.chances.below(REQUESTS_MAX) {
             requests.push(asked.request(self.alloc)?)?;
@@ -211,20 +222,46 @@ impl<J: Naming, S: Serving> Client<J, S> {
                 asked.number = asked.number.saturating_add(1);
             }
         }
-        Ok(requests)
+        Ok(())
     }
 
-    /// Hands several requests over in one order, and then asks the seat for the first.
-    fn offer_several<R: Wait>(&mut self, rt: &R, asked: Asked) -> Result<Reply, Fault> {
-        let request = asked.request(self.alloc)?;
-        let requests = self.several(asked)?;
+    /// The requests of an order that begins with this one.
+    fn several(&mut self, first: Asked) -> Result<Vec<Request>, Fault> {
+        let mut requests = Vec::new(self.alloc);
+        match self.put_several(first, &mut requests) {
+            Ok(()) => Ok(requests),
+            Err(fault) => {
+                drop(requests);
+                Err(fault)
+            }
+        }
+    }
+
+    /// Hands an order over, which has 1 to 8 requests.
+    fn hand_over<R: Wait>(&mut self, rt: &R, requests: Vec<Request>) -> Result<(), Fault> {
         if requests.is_empty() || requests.len() > REQUESTS_MAX as usize {
+            drop(requests);
             return Err(Fault::Gone);
         }
         match self.port.offer_many(rt, requests) {
-            Ok(()) => self.poll(&request),
-            Err(_) => Err(Fault::Gone),
+            Ok(()) => Ok(()),
+            Err(back) => {
+                drop(back);
+                Err(Fault::Gone)
+            }
         }
+    }
+
+    /// Hands several requests over in one order, and then asks the seat for the first.
+    fn offer_several<R: Wait>(
+        &mut self,
+        rt: &R,
+        asked: Asked,
+        request: &Request,
+    ) -> Result<Reply, Fault> {
+        let requests = self.several(asked)?;
+        self.hand_over(rt, requests)?;
+        self.poll(request)
     }
 
     /// Looks records up through the seat.
@@ -245,23 +282,52 @@ impl<J: Naming, S: Serving> Client<J, S> {
 
     /// Asks only how a request fares.
     fn look(&mut self, asked: Asked) -> Result<(), Fault> {
-        let status = self.seat.status(&asked.request(self.alloc)?)?;
-        self.write(Answer::Status(asked, status))
+        let request = asked.request(self.alloc)?;
+        let status = self.seat.status(&request);
+        drop(request);
+        self.write(Answer::Status(asked, status?))
+    }
+
+    /// Asks for the reply to a request in the way of a number.
+    fn answer<R: Wait>(
+        &mut self,
+        rt: &R,
+        asked: Asked,
+        request: &Request,
+        way: u64,
+    ) -> Result<Reply, Fault> {
+        match way {
+            3 => Ok(self.seat.answer(request)?),
+            4 => self.offer(rt, asked, request),
+            5 => self.offer_several(rt, asked, request),
+            _ => self.call(rt, asked, request),
+        }
+    }
+
+    /// Asks for the reply to a request, learns from it and writes it down.
+    fn request<R: Wait>(
+        &mut self,
+        rt: &R,
+        notes: &[Note],
+        asked: Asked,
+        way: u64,
+    ) -> Result<(), Fault> {
+        let request = asked.request(self.alloc)?;
+        let answered = self.answer(rt, asked, &request, way);
+        drop(request);
+        let reply = answered?;
+        self.learn(asked, &reply, notes);
+        self.write(Answer::Reply(asked, reply))
     }
 
     /// One step, of which one answer is written down.
     fn step<R: Wait>(&mut self, rt: &R, notes: &[Note]) -> Result<(), Fault> {
         let asked = self.pick(notes);
-        let reply = match self.chances.below(16) {
-            0 | 1 => return self.look_up(),
-            2 => return self.look(asked),
-            3 => self.seat.answer(&asked.request(self.alloc)?)?,
-            4 => self.offer(rt, asked)?,
-            5 => self.offer_several(rt, asked)?,
-            _ => self.call(rt, asked)?,
-        };
-        self.learn(asked, &reply, notes);
-        self.write(Answer::Reply(asked, reply))
+        match self.chances.below(16) {
+            0 | 1 => self.look_up(),
+            2 => self.look(asked),
+            way => self.request(rt, notes, asked, way),
+        }
     }
 
     /// So many steps, until one fails.

@@ -2,8 +2,11 @@
 use std::alloc::{AllocError, Global};
 use tb_machine::Entry;
 
+/// A client, a session and a number.
+type Key = (u128, u64, u32);
+
 /// The key of an entry; the session of a register is its commit.
-fn key_of(entry: &Entry) -> (u128, u64, u32) {
+fn key_of(entry: &Entry) -> Key {
     let request = &entry.request;
     let session = if request.request() == 0 {
         entry.commit
@@ -13,6 +16,12 @@ fn key_of(entry: &Entry) -> (u128, u64, u32) {
     (request.client(), session, request.request())
 }
 
+/// How many keys are the same as the one before.
+fn count_same(keys: &[Key]) -> u64 {
+    let pairs = keys.iter().zip(keys.iter().skip(1));
+    pairs.filter(|(one, next)| one == next).count() as u64
+}
+
 /// How many entries have the key of another.
 pub fn count_twice(alloc: Global, history: &[Entry]) -> Result<u64, AllocError> {
     let mut keys = Vec::with_capacity(alloc, history.len())?;
@@ -20,6 +29,5 @@ pub fn count_twice(alloc: Global, history: &[Entry]) -> Result<u64, AllocError> 
         keys.push(key_of(entry))?;
     }
     keys.sort()?;
-    let twice = keys.windows(2).filter(|pair| pair[0] == pair[1]).count();
-    Ok(twice as u64)
+    Ok(count_same(keys.as_slice()))
 }

@@ -48,7 +48,10 @@ impl Line {
 
     /// One port's requests, in order, at its places, which are to be as many and to rise.
     pub fn add(&mut self, places: &[u64], offered: &[Asked]) -> Result<(), AllocError> {
-        let rise = places.windows(2).all(|pair| pair[0] < pair[1]);
+        let rise = places
+            .iter()
+            .zip(places.iter().skip(1))
+            .all(|(one, next)| one < next);
         if !rise || places.len() != offered.len() {
             self.misplaced = self.misplaced.saturating_add(1);
         }
@@ -76,6 +79,23 @@ fn is_same(one: &Entry, other: &Entry) -> bool {
         && asked.body().same(kept.body())
 }
 
+/// Enters an entry, where it may come next; it is to be the next one of the history.
+fn enter(machine: &mut Machine<Global>, entry: Entry, history: &[Entry]) -> Result<u64, Fault> {
+    let next = history.get(machine.commit() as usize);
+    let wrong = !next.is_some_and(|kept| is_same(&entry, kept));
+    if !machine.fits(&entry) {
+        drop(entry);
+        return Ok(u64::from(wrong));
+    }
+    match machine.enter(entry) {
+        Ok(()) => Ok(u64::from(wrong)),
+        Err(back) => {
+            drop(back);
+            Err(Fault::NoMemory)
+        }
+    }
+}
+
 /// The request at a place has its turn, as the rules say: where it is new it is to be the next entry of the history.
 fn take_turn(
     alloc: Global,
@@ -86,10 +106,12 @@ fn take_turn(
 ) -> Result<u64, Fault> {
     let request = asked.request(alloc)?;
     if machine.class(&request) != Class::New {
+        drop(request);
         return Ok(0);
     }
     let events = request.body().event_count() as u64;
     let Some(time) = machine.next_time(place, events) else {
+        drop(request);
         return Ok(1);
     };
     let commit = machine.commit() + 1;
@@ -98,24 +120,31 @@ fn take_turn(
         time,
         request,
     };
-    let next = history.get(machine.commit() as usize);
-    let wrong = !next.is_some_and(|kept| is_same(&entry, kept));
-    if machine.fits(&entry) && machine.enter(entry).is_err() {
-        return Err(Fault::NoMemory);
+    enter(machine, entry, history)
+}
+
+/// Serves the line by a machine of the empty history, and counts where the history has something else.
+fn serve(
+    alloc: Global,
+    machine: &mut Machine<Global>,
+    line: &Line,
+    history: &[Entry],
+) -> Result<u64, Fault> {
+    let mut wrong = 0u64;
+    for (at, asked) in line.requests.iter().enumerate() {
+        if let Some(asked) = asked {
+            let place = (at as u64).saturating_add(1);
+            wrong = wrong.saturating_add(take_turn(alloc, machine, place, *asked, history)?);
+        }
     }
-    Ok(u64::from(wrong))
+    let missing = (history.len() as u64).abs_diff(machine.commit());
+    Ok(wrong.saturating_add(missing))
 }
 
 /// Serves the line in one thread, and counts where the history has something else.
 pub fn rebuild(alloc: Global, rules: Rules, line: &Line, history: &[Entry]) -> Result<u64, Fault> {
     let mut machine = rules.machine(alloc)?;
-    let mut wrong = 0u64;
-    for (at, asked) in line.requests.iter().enumerate() {
-        if let Some(asked) = asked {
-            let place = (at as u64).saturating_add(1);
-            wrong = wrong.saturating_add(take_turn(alloc, &mut machine, place, *asked, history)?);
-        }
-    }
-    let missing = (history.len() as u64).abs_diff(machine.commit());
-    Ok(wrong.saturating_add(missing))
+    let wrong = serve(alloc, &mut machine, line, history);
+    drop(machine);
+    wrong
 }

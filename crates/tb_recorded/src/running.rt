@@ -53,23 +53,62 @@ fn next_port<S: Serving>(ports: &mut Vec<Port>) -> Option<Port>
     ports.pop()
 }
 
+/// Adds a client with a port and a seat.
+fn add_client<J: Naming, S: Serving>(
+    alloc: Global,
+    clients: &mut Vec<Client<J, S>>,
+    port: Port,
+    seat: Seat<J>,
+    seed: u64,
+) -> Result<(), AllocError>
+    requires { S.service ≡ Some (service port) }
+{
+    let place = clients.len();
+    clients.push(Client::new(alloc, place, seed, port, seat))?;
+    Ok(())
+}
+
+/// Adds a client for each seat that there is a port for.
+fn add_clients<J: Naming, S: Serving>(
+    alloc: Global,
+    clients: &mut Vec<Client<J, S>>,
+    mut ports: Vec<Port>,
+    seats: Vec<Seat<J>>,
+    seed: u64,
+) -> Result<(), AllocError>
+    requires { All (λ port. S.service ≡ Some (service port)) ports.items }
+{
+    let mut added = Ok(());
+    for seat in seats {
+        added = match next_port::<S>(&mut ports) {
+            Some(port) => added.and(add_client(alloc, clients, port, seat, seed)),
+            None => {
+                drop(seat);
+                added
+            }
+        };
+    }
+    drop(ports);
+    added
+}
+
 /// The clients, each with a port and a seat.
 fn make_clients<J: Naming, S: Serving>(
     alloc: Global,
-    mut ports: Vec<Port>,
+    ports: Vec<Port>,
     seats: Vec<Seat<J>>,
     seed: u64,
 ) -> Result<Vec<Client<J, S>>, AllocError>
     requires { All (λ port. S.service ≡ Some (service port)) ports.items }
 {
     let mut clients = Vec::new(alloc);
-    for seat in seats {
-        if let Some(port) = next_port::<S>(&mut ports) {
-            let place = clients.len();
-            clients.push(Client::new(alloc, place, seed, port, seat))?;
+    match add_clients(alloc, &mut clients, ports, seats, seed) {
+        Ok(()) => Ok(clients),
+        Err(AllocError) => {
+            drop(clients);
+            Err(AllocError)
         }
     }
-    Ok(clients)
 }
 
 /// A note for each client.
@@ -112,6 +151,16 @@ fn play_all<J: Naming + Send + Sync, S: Serving + Send + Sync, R: Threads + Wait
     );
 }
 
+/// Closes a client's port, and keeps what the client wrote down.
+fn close_one<J: Naming, S: Serving, R: Wait>(
+    rt: &R,
+    all: &mut Vec<Left<S>>,
+    client: Client<J, S>,
+) -> Result<(), AllocError> {
+    all.push(client.close(rt))?;
+    Ok(())
+}
+
 /// Closes each client's port, and gives out what the clients wrote down.
 fn close_all<J: Naming, S: Serving, R: Wait>(
     rt: &R,
@@ -119,13 +168,17 @@ fn close_all<J: Naming, S: Serving, R: Wait>(
     clients: Vec<Client<J, S>>,
 ) -> Result<Vec<Left<S>>, AllocError> {
     let mut all = Vec::new(alloc);
-    let mut missing = Ok(());
+    let mut closed = Ok(());
     for client in clients {
-        if let Err(failed) = all.push(client.close(rt)) {
-            missing = Err(AllocError::from(failed));
+        closed = closed.and(close_one(rt, &mut all, client));
+    }
+    match closed {
+        Ok(()) => Ok(all),
+        Err(AllocError) => {
+            drop(all);
+            Err(AllocError)
         }
     }
-    missing.map(|()| all)
 }
 
 /// Once the server has begun all clients take their steps; then the ports are closed.
@@ -142,28 +195,34 @@ fn take_part<J: Naming + Send + Sync, S: Serving + Send + Sync, R: Threads + Wai
         play_all(rt, &mut clients, notes, steps);
     }
     let left = close_all(rt, alloc, clients)?;
-    if served {
-        Ok(left)
-    } else {
-        Err(Fault::NoThread)
+    if !served {
+        drop(left);
+        return Err(Fault::NoThread);
     }
+    Ok(left)
 }
 
-/// A run over a server and its ports, and its audit.
+/// A run over a server and its ports, with a note for each client, and its audit.
 fn run_over<J: Naming + Send + Sync, S: Serving + Send + Sync, R: Threads + Wait + Sync>(
     rt: &R,
     alloc: Global,
     server: Server<J, &R, Ticks, Open>,
     ports: Vec<Port>,
     seats: Vec<Seat<J>>,
+    notes: &[Note],
     rules: Rules,
     scale: Scale,
 ) -> Result<Tally, Fault>
     requires server { S.service ≡ Some (service_on server) }
     requires ports { AreNumbered (service_on server) 0 ports.items }
 {
-    let notes = make_notes(alloc, scale.clients)?;
-    let clients = make_clients::<J, S>(alloc, ports, seats, scale.seed)?;
+    let clients = match make_clients::<J, S>(alloc, ports, seats, scale.seed) {
+        Ok(clients) => clients,
+        Err(AllocError) => {
+            drop(server);
+            return Err(Fault::NoMemory);
+        }
+    };
     let begun = &AtomicBool::new(false);
     let (mut finished, left) = thread::join(
         rt,
@@ -173,14 +232,41 @@ fn run_over<J: Naming + Send + Sync, S: Serving + Send + Sync, R: Threads + Wait
             begun.store(true, Ordering::SeqCst);
             server.run(rt)
         },
-        || take_part(rt, alloc, begun, clients, notes.as_slice(), scale.steps),
+        || take_part(rt, alloc, begun, clients, notes, scale.steps),
     );
     let tally = match left {
         Ok(left) => audit(alloc, rules, &mut finished, left),
         Err(fault) => Err(fault),
     };
-    finished.close(rt);
+    drop(finished.close(rt));
     tally
+}
+
+/// A run of an opening with these rules, with a note for each client.
+fn run_noted<J: Naming + Send + Sync, R: Threads + Wait + Sync>(
+    rt: &R,
+    alloc: Global,
+    opening: Opening,
+    notes: &[Note],
+    rules: Rules,
+    scale: Scale,
+) -> Result<Tally, Fault>
+    requires { opening ≡ J.opening }
+{
+    let (Some(seats), Some(ports)) = (SeatCount::new(scale.clients), PortCount::new(scale.clients))
+    else {
+        return Err(Fault::NoCopy);
+    };
+    let (publisher, seats) = open::<J, R>(alloc, rt, opening, seats)?;
+    match service(alloc, publisher, rt, ports, Ticks(0), Open) {
+        Ok((server, ports)) => {
+            run_over::<J, Brand, R>(rt, alloc, server, ports, seats, notes, rules, scale)
+        }
+        Err(AllocError) => {
+            drop(seats);
+            Err(Fault::NoMemory)
+        }
+    }
 }
 
 /// A run of an opening with these rules.
@@ -193,11 +279,8 @@ pub fn run_in<J: Naming + Send + Sync, R: Threads + Wait + Sync>(
 ) -> Result<Tally, Fault>
     requires { opening ≡ J.opening }
 {
-    let (Some(seats), Some(ports)) = (SeatCount::new(scale.clients), PortCount::new(scale.clients))
-    else {
-        return Err(Fault::NoCopy);
-    };
-    let (publisher, seats) = open::<J, R>(alloc, rt, opening, seats)?;
-    let (server, ports) = service(alloc, publisher, rt, ports, Ticks(0), Open)?;
-    run_over::<J, Brand, R>(rt, alloc, server, ports, seats, rules, scale)
+    let notes = make_notes(alloc, scale.clients)?;
+    let tally = run_noted::<J, R>(rt, alloc, opening, &notes, rules, scale);
+    drop(notes);
+    tally
 }

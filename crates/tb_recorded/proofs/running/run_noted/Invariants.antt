@@ -1,6 +1,6 @@
 use Rattle.std.specs.Prelude.{Some}
 use Rattle.tb_service.specs.Servers.{service_on}
-use Rattle.tb_recorded.proofs.running.run_in.Given as goal
+use Rattle.tb_recorded.proofs.running.run_noted.Given as goal
 
 -- the service that was just made
 abbrev pub ghosts-run_over : goal.ghosts-run_over
