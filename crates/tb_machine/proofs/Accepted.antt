@@ -34,7 +34,7 @@ new_class Older e = absurd cc
 new_class Collision e = absurd cc
 new_class NewerRequest e = absurd cc
 
-entry_comes : (S : State) (p : Pair) → IsTrue (is_lawful p.1) → is_entered S p ≡ true → MayCome S (entry_of S p)
+pub entry_comes : (S : State) (p : Pair) → IsTrue (is_lawful p.1) → is_entered S p ≡ true → MayCome S (entry_of S p)
 entry_comes S p lawful entered =
     let parts = both_true (is_new (class_of S.rows p.1)) (has_time S p) entered in
     record {

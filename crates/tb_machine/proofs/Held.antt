@@ -11,12 +11,16 @@ use Rattle.tb_sessions.specs.declared.classes.Class.TheVariants.{New, Repeat, No
 use Rattle.tb_sessions.specs.Judged.{row_of, class_of}
 use Rattle.tb_machine.specs.declared.entries.Entry.{Entry}
 use Rattle.tb_machine.specs.Histories.{is_lawful, IsLegal, after, answer_by, answer_to}
-use Rattle.tb_machine.specs.HistoryLaws.{IsStored}
+use Rattle.tb_machine.specs.HistoryLaws.{IsStored, NotNewAgain}
+use Rattle.tb_machine.specs.Dumps.{after_with}
+use Rattle.tb_machine.specs.MarkedLaws.{next_in, NotNewAgainWith}
 use Rattle.tb_machine.specs.Answering.{Holds, Answers}
 use Rattle.tb_machine.proofs.Rows.{some_one, row_found}
 use Rattle.tb_machine.proofs.Legal.{legal_front, legal_at}
 use Rattle.tb_machine.proofs.Judging.{Follows, new_by, may_come}
-use Rattle.tb_machine.proofs.Reached.{Before, session_numbered, reached}
+use Rattle.tb_machine.proofs.ReachedBy.{Before, session_numbered}
+use Rattle.tb_machine.proofs.Reached.{reached}
+use Rattle.tb_machine.proofs.MarkLeads.{whole_alike, reached_with}
 use Rattle.tb_machine.proofs.LawProofs.{first_reply, each_mid}
 
 -- only a repeat is answered by a reply
@@ -72,19 +76,20 @@ module _ (profile : Profile) (clients_max : ℕ) where
   pub answers : (h : List Entry) (r : Message) (a : Answer) → IsLegal profile clients_max h → IsTrue (is_lawful r) → a ≡ answer_to (after profile clients_max h) r → Answers profile clients_max h r a
   answers h r a legal lawful is = (is, λ reply. held h r legal lawful (status_reply (class_of (after profile clients_max h).rows r) (row_of (after profile clients_max h).rows r.client) r (sym (ap (λ (b : Answer). b.status) is) ∙ reply)) a.commit (ap (λ (b : Answer). b.commit) is))
 
-  -- a request that is entered is new again only as a register whose client has no row any more
-  pub new_again : (front : List Entry) (e : Entry) (rest : List Entry) → IsLegal profile clients_max (front ++ e ∷ rest)
-      → class_of (after profile clients_max (front ++ e ∷ rest)).rows e.request ≡ New
-      → (is_register e.request.body ≡ true) × (row_of (after profile clients_max (front ++ e ∷ rest)).rows e.request.client ≡ None)
-  new_again front e rest legal class =
-      ⊎_elim (λ both. (both.1, both.0)) later (new_by (row_of (after profile clients_max h).rows e.request.client) e.request class)
-    where
-      h : List Entry
-      h = front ++ e ∷ rest
+-- a request that is entered is new again only as a register whose client has no row any more
+pub new_again_with : NotNewAgainWith
+new_again_with profile clients_max mark front e rest legal class =
+    ⊎_elim (λ both. (both.1, both.0)) later (new_by (row_of (after_with profile clients_max mark (front ++ e ∷ rest)).rows e.request.client) e.request class)
+  where
+    later : (row : Row) × (row_of (after_with profile clients_max mark (front ++ e ∷ rest)).rows e.request.client ≡ Some row) × Follows row e.request
+        → (is_register e.request.body ≡ true) × (row_of (after_with profile clients_max mark (front ++ e ∷ rest)).rows e.request.client ≡ None)
+    later found =
+        let all = reached_with profile clients_max mark (front ++ e ∷ rest) legal in
+        let same = whole_alike profile clients_max mark (front ++ e ∷ rest) in
+        let its = row_found (λ (row : Row). Each (Before row) (front ++ e ∷ rest)) (next_in profile clients_max mark (front ++ e ∷ rest)).rows e.request.client found.0 all.before
+        (ap (λ (rows : List Row). row_of rows e.request.client) (sym same.rows) ∙ found.1) in
+        let within = each_mid (Before found.0) front e rest its.0 (sym its.1) in
+        absurd (omega (arith, found.2.number, within.number (session_numbered e found.2.numbered ∙ found.2.session)))
 
-      later : (row : Row) × (row_of (after profile clients_max h).rows e.request.client ≡ Some row) × Follows row e.request
-          → (is_register e.request.body ≡ true) × (row_of (after profile clients_max h).rows e.request.client ≡ None)
-      later found =
-          let its = row_found (λ (row : Row). Each (Before row) h) (after profile clients_max h).rows e.request.client found.0 (reached profile clients_max h legal).before found.1 in
-          let within = each_mid (Before found.0) front e rest its.0 (sym its.1) in
-          absurd (omega (arith, found.2.number, within.number (session_numbered e found.2.numbered ∙ found.2.session)))
+pub new_again : NotNewAgain
+new_again profile clients_max front e rest legal class = new_again_with profile clients_max None front e rest legal class

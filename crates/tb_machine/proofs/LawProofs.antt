@@ -1,5 +1,5 @@
--- The laws of legal histories, proved.
-use Rattle.std.proofs.Common.{◌≡◌, ◌≢◌, ℕ, ◌+◌, ◌<◌, ◌≤◌, ◌⊎◌, inl, inr, ⊎_elim, Bool, true, false, not, ◌&&◌, eqb, eq-eqb, eqb-true, List, [], ◌∷◌, ◌++◌, fold, Some, None, is_none, ltb, length-append, refl, sym, ap, ◌∙◌, subst, IsTrue, arith}
+-- The laws of legal histories, with a mark or none, proved.
+use Rattle.std.proofs.Common.{◌≡◌, ◌≢◌, ℕ, ◌+◌, ◌<◌, ◌≤◌, ◌⊎◌, inl, inr, ⊎_elim, Bool, true, false, not, ◌&&◌, eqb, eq-eqb, eqb-true, List, [], ◌∷◌, ◌++◌, Option, Some, None, is_none, ltb, length-append, append_assoc, append-nil, refl, sym, ap, ◌∙◌, subst, IsTrue, arith}
 use Rattle.tb_records.specs.declared.bodies.Body.{Body}
 use Rattle.tb_records.specs.declared.bodies.Body.TheVariants.{Register, CreateAccounts, CreateTransfers, LookupAccounts, LookupTransfers}
 use Rattle.tb_records.specs.declared.limits.Profile.{Profile}
@@ -8,20 +8,24 @@ use Rattle.tb_records.specs.declared.faults.FrameFault.TheVariants.{ClientZero, 
 use Rattle.tb_records.specs.Ordered.{Each}
 use Rattle.tb_records.proofs.OneBody.{one_body}
 use Rattle.tb_sessions.specs.declared.rows.Row.{Row}
-use Rattle.tb_sessions.specs.declared.classes.Class.TheVariants.{NoSession, SessionTooLow}
-use Rattle.tb_sessions.specs.Judged.{client_of, row_of, class_of}
+use Rattle.tb_sessions.specs.Judged.{client_of, row_of}
 use Rattle.tb_machine.specs.declared.entries.Entry.{Entry}
-use Rattle.tb_machine.specs.Histories.{State, start, is_lawful, session_of, row_at, step, LegalFrom, IsLegal, after, key_of}
-use Rattle.tb_machine.specs.HistoryLaws.{KeysDiffer, OneKey, IsStored, FirstReply, HasSession, StaysOut}
+use Rattle.tb_machine.specs.Histories.{State, is_lawful, session_of, row_at, key_of}
+use Rattle.tb_machine.specs.Dumps.{after_with}
+use Rattle.tb_machine.specs.HistoryLaws.{KeysDiffer, OneKey, FirstReply, HasSession, StaysOut}
+use Rattle.tb_machine.specs.MarkedLaws.{next_in, IsStoredWith, OneKeyWith, FirstReplyWith, StaysOutWith}
 use Rattle.tb_records.proofs.ByKey.{each-map, each-both}
 use Rattle.tb_sessions.proofs.LaterRows.{each_admitted}
 use Rattle.tb_machine.proofs.Rows.{some_one, row_found, each_found}
-use Rattle.tb_machine.proofs.Legal.{fold_append, legal_split, legal_front}
-use Rattle.tb_machine.proofs.Judging.{Follows, new_by, Repeats, repeat_by, out_by, MayCome, may_come}
-use Rattle.tb_machine.proofs.Reached.{Stands, Reached, session_register, session_numbered, reached, reached_after}
+use Rattle.tb_machine.proofs.Judging.{Follows, new_by, Repeats, repeat_by, out_by}
+use Rattle.tb_machine.proofs.ReachedBy.{StandsBy, ReachedBy, Behind, Leads, leads_split, reached_after, session_register, session_numbered}
+use Rattle.tb_machine.proofs.MarkLeads.{whole_alike, legal_leads, begun, reached_with}
+
+pub one_key_with : OneKeyWith
+one_key_with profile clients_max mark h legal = (reached_with profile clients_max mark h legal).differ
 
 pub one_key : OneKey
-one_key profile clients_max h legal = (reached profile clients_max h legal).differ
+one_key profile clients_max h legal = one_key_with profile clients_max None h legal
 
 -- a repeat is the request that its client's row keeps
 
@@ -77,7 +81,8 @@ others_differ [] e rest differ = differ.0
 others_differ (x ∷ xs) e rest differ = (λ same. each_mid (λ (later : Entry). key_of later ≢ key_of x) xs e rest differ.0 (sym same), others_differ xs e rest differ.1)
 
 -- the entry that made the row of a repeat
-module _ (profile : Profile) (clients_max : ℕ) (h : List Entry) (r : Message) (lawful : IsTrue (is_lawful r)) (row : Row) (stands : Stands profile clients_max h row) (client : client_of row ≡ r.client) where
+module _ (profile : Profile) (clients_max : ℕ) (mark : Option ℕ) (h : List Entry) (r : Message) (lawful : IsTrue (is_lawful r)) (row : Row)
+    (stands : StandsBy (next_in profile clients_max mark) h row) (client : client_of row ≡ r.client) where
   request_is : ((is_register r.body ≡ true) × (row.request.request ≡ 0)) ⊎ Repeats row r → stands.entry.request ≡ r
   request_is (inl both) = registers_are stands.entry.request r (sym (ap (λ (w : Row). w.client) stands.is) ∙ client)
       (register_by_number stands.entry.request stands.lawful (sym (ap (λ (w : Row). w.request.request) stands.is) ∙ both.1))
@@ -91,7 +96,7 @@ module _ (profile : Profile) (clients_max : ℕ) (h : List Entry) (r : Message) 
       (sym (ap (λ (w : Row). w.request.request) stands.is) ∙ sym repeats.number)
       (sym body)
 
-  is_stored : row_of (after profile clients_max h).rows r.client ≡ Some row → ((is_register r.body ≡ true) × (row.request.request ≡ 0)) ⊎ Repeats row r → KeysDiffer h → IsStored profile clients_max h r
+  is_stored : row_of (after_with profile clients_max mark h).rows r.client ≡ Some row → ((is_register r.body ≡ true) × (row.request.request ≡ 0)) ⊎ Repeats row r → KeysDiffer h → IsStoredWith profile clients_max mark h r
   is_stored found by differ = record {
     row = row;
     front = stands.front;
@@ -105,12 +110,29 @@ module _ (profile : Profile) (clients_max : ℕ) (h : List Entry) (r : Message) 
     alone = others_differ stands.front stands.entry stands.rest (subst KeysDiffer stands.whole differ);
   }
 
+pub first_reply_with : FirstReplyWith
+first_reply_with profile clients_max mark h r legal lawful class =
+    let all = reached_with profile clients_max mark h legal in
+    let same = whole_alike profile clients_max mark h in
+    let by = repeat_by (row_of (after_with profile clients_max mark h).rows r.client) r class in
+    let found = row_found (StandsBy (next_in profile clients_max mark) h) (next_in profile clients_max mark h).rows r.client by.0 all.stands (ap (λ (rows : List Row). row_of rows r.client) (sym same.rows) ∙ by.1) in
+    is_stored profile clients_max mark h r lawful by.0 found.0 found.1 by.1 by.2 all.differ
+
 pub first_reply : FirstReply
 first_reply profile clients_max h r legal lawful class =
-    let all = reached profile clients_max h legal in
-    let by = repeat_by (row_of (after profile clients_max h).rows r.client) r class in
-    let found = row_found (Stands profile clients_max h) (after profile clients_max h).rows r.client by.0 all.stands by.1 in
-    is_stored profile clients_max h r lawful by.0 found.0 found.1 by.1 by.2 all.differ
+    let is = first_reply_with profile clients_max None h r legal lawful class in
+    record {
+      row = is.row;
+      front = is.front;
+      entry = is.entry;
+      rest = is.rest;
+      stored = is.stored;
+      whole = is.whole;
+      numbered = is.numbered;
+      request = is.request;
+      reply = is.reply;
+      alone = is.alone;
+    }
 
 -- a session that was taken out
 
@@ -118,81 +140,85 @@ first_reply profile clients_max h r legal lawful class =
 abbrev pub Floor : State → ℕ → ℕ → Type 0
 Floor S client least = Each (λ (row : Row). row.client ≡ client → least ≤ row.session) S.rows × (least ≤ S.commit + 1)
 
-floor_on : (S : State) (e : Entry) (client least : ℕ) → MayCome S e → Floor S client least → Floor (step S e) client least
-floor_on S e client least may floor = (
-  each_admitted (λ (row : Row). row.client ≡ client → least ≤ row.session) S.clients_max S.rows (row_at S e) (⊎_elim registers follows (new_by (row_of S.rows e.request.client) e.request may.new)) floor.0,
-  omega (arith, may.commit, floor.1),
-)
-  where
-    registers : (row_of S.rows e.request.client ≡ None) × (is_register e.request.body ≡ true) → e.request.client ≡ client → least ≤ session_of e
-    registers both same = omega (arith, session_register e both.1, may.commit, floor.1)
+module _ (state : List Entry → State) where
+  floor_on : (p : List Entry) (e : Entry) (client least : ℕ) → Behind state p e → Floor (state p) client least → Floor (state (p ++ e ∷ [])) client least
+  floor_on p e client least behind floor = (
+    subst (Each (λ (row : Row). row.client ≡ client → least ≤ row.session)) (sym behind.rows)
+        (each_admitted (λ (row : Row). row.client ≡ client → least ≤ row.session) (state p).clients_max (state p).rows (row_at (state p) e)
+        (⊎_elim registers follows (new_by (row_of (state p).rows e.request.client) e.request behind.may.new)) floor.0),
+    omega (arith, behind.may.commit, behind.commit, floor.1),
+  )
+    where
+      registers : (row_of (state p).rows e.request.client ≡ None) × (is_register e.request.body ≡ true) → e.request.client ≡ client → least ≤ session_of e
+      registers both same = omega (arith, session_register e both.1, behind.may.commit, floor.1)
 
-    follows : (row : Row) × (row_of S.rows e.request.client ≡ Some row) × Follows row e.request → e.request.client ≡ client → least ≤ session_of e
-    follows found same =
-        let its = row_found (λ (row : Row). row.client ≡ client → least ≤ row.session) S.rows e.request.client found.0 floor.0 found.1 in
-        omega (arith, session_numbered e found.2.numbered, found.2.session, its.0 (its.1 ∙ same))
+      follows : (row : Row) × (row_of (state p).rows e.request.client ≡ Some row) × Follows row e.request → e.request.client ≡ client → least ≤ session_of e
+      follows found same =
+          let its = row_found (λ (row : Row). row.client ≡ client → least ≤ row.session) (state p).rows e.request.client found.0 floor.0 found.1 in
+          omega (arith, session_numbered e found.2.numbered, found.2.session, its.0 (its.1 ∙ same))
 
-floor_after : (S : State) (h : List Entry) (client least : ℕ) → LegalFrom S h → Floor S client least → Floor (fold step S h) client least
-floor_after S [] client least legal floor = floor
-floor_after S (e ∷ es) client least legal floor = floor_after (step S e) es client least legal.1 (floor_on S e client least (may_come S e legal.0) floor)
+  floor_after : (p h : List Entry) (client least : ℕ) → Leads state p h → Floor (state p) client least → Floor (state (p ++ h)) client least
+  floor_after p [] client least leads floor = subst (λ l. Floor (state l) client least) (sym (append-nil p)) floor
+  floor_after p (e ∷ es) client least leads floor =
+      subst (λ l. Floor (state l) client least) (append_assoc p (e ∷ []) es)
+      (floor_after (p ++ e ∷ []) es client least leads.1 (floor_on p e client least leads.0 floor))
 
-pub stays_out : StaysOut
-stays_out profile clients_max h m k r legal there gone numbered =
-    subst (λ (S : State). (class_of S.rows r ≡ NoSession) ⊎ (class_of S.rows r ≡ SessionTooLow)) (sym last_is)
-    (out_by (row_of S3.rows r.client) r numbered later)
-  where
-    S1 : State
-    S1 = after profile clients_max h
+  -- there after h, and no more after the entries m behind it, whatever entries k follow
+  module _ (h m k : List Entry) (r : Message) (first : ReachedBy state h) (second : ReachedBy state (h ++ m)) (leads : Leads state h m) (later : Leads state (h ++ m) k)
+      (there : HasSession (state h) r.client r.session) (gone : HasSession (state (h ++ m)) r.client r.session → ⊥) where
+    issued : r.session ≤ (state h).commit
+    issued = let its = row_found (λ (row : Row). row.session ≤ (state h).commit) (state h).rows r.client there.0 first.sessions there.1 in omega (arith, its.0, there.2)
 
-    S2 : State
-    S2 = fold step S1 m
-
-    S3 : State
-    S3 = fold step S2 k
-
-    last_is : after profile clients_max (h ++ (m ++ k)) ≡ S3
-    last_is = fold_append step (start profile clients_max) h (m ++ k) ∙ fold_append step S1 m k
-
-    legal_h : IsLegal profile clients_max h
-    legal_h = legal_front profile clients_max h (m ++ k) legal
-
-    legal_mk : LegalFrom S1 (m ++ k)
-    legal_mk = (legal_split (start profile clients_max) h (m ++ k) legal).1
-
-    reached_h : Reached profile clients_max h S1
-    reached_h = reached profile clients_max h legal_h
-
-    reached_m : Reached profile clients_max (h ++ m) S2
-    reached_m = reached_after profile clients_max h S1 m reached_h (legal_split S1 m k legal_mk).0
-
-    issued : r.session ≤ S1.commit
-    issued = let its = row_found (λ (row : Row). row.session ≤ S1.commit) S1.rows r.client there.0 reached_h.sessions there.1 in omega (arith, its.0, there.2)
-
-    floor1 : Floor S1 r.client r.session
+    floor1 : Floor (state h) r.client r.session
     floor1 = (
-      each-map (λ (row : Row). row_of S1.rows row.client ≡ Some row) (λ (row : Row). row.client ≡ r.client → r.session ≤ row.session) S1.rows (λ row found same. let one : row ≡ there.0 = some_one (sym found ∙ ap (row_of S1.rows) same ∙ there.1) in omega (arith, ap (λ (w : Row). w.session) one, there.2)) (each_found client_of S1.rows reached_h.rising),
+      each-map (λ (row : Row). row_of (state h).rows row.client ≡ Some row) (λ (row : Row). row.client ≡ r.client → r.session ≤ row.session) (state h).rows (λ row found same. let one : row ≡ there.0 = some_one (sym found ∙ ap (row_of (state h).rows) same ∙ there.1) in omega (arith, ap (λ (w : Row). w.session) one, there.2)) (each_found client_of (state h).rows first.rising),
       omega (arith, issued),
     )
 
-    floor2 : Floor S2 r.client r.session
-    floor2 = floor_after S1 m r.client r.session (legal_split S1 m k legal_mk).0 floor1
+    floor2 : Floor (state (h ++ m)) r.client r.session
+    floor2 = floor_after h m r.client r.session leads floor1
 
-    not_there : HasSession S2 r.client r.session → ⊥
-    not_there has = gone (subst (λ (S : State). HasSession S r.client r.session) (sym (fold_append step (start profile clients_max) h m)) has)
-
-    above : Floor S2 r.client (r.session + 1)
+    above : Floor (state (h ++ m)) r.client (r.session + 1)
     above = (
-      each-both (λ (row : Row). row_of S2.rows row.client ≡ Some row) (λ (row : Row). row.client ≡ r.client → r.session ≤ row.session) (λ (row : Row). row.client ≡ r.client → r.session + 1 ≤ row.session) S2.rows (λ row found low same. apart row.session (low same) (λ equal. not_there (row, sym (ap (row_of S2.rows) same) ∙ found, equal))) (each_found client_of S2.rows reached_m.rising) floor2.0,
-      omega (arith, issued, reached_h.count, reached_m.count, length-append h m),
+      each-both (λ (row : Row). row_of (state (h ++ m)).rows row.client ≡ Some row) (λ (row : Row). row.client ≡ r.client → r.session ≤ row.session) (λ (row : Row). row.client ≡ r.client → r.session + 1 ≤ row.session) (state (h ++ m)).rows (λ row found low same. apart row.session (low same) (λ equal. gone (row, sym (ap (row_of (state (h ++ m)).rows) same) ∙ found, equal))) (each_found client_of (state (h ++ m)).rows second.rising) floor2.0,
+      omega (arith, issued, first.count, second.count, length-append h m),
     )
       where
         apart : (session : ℕ) → r.session ≤ session → (session ≡ r.session → ⊥) → r.session + 1 ≤ session
         apart session low differ = omega (arith, low, differ)
 
-    floor3 : Floor S3 r.client (r.session + 1)
-    floor3 = floor_after S2 k r.client (r.session + 1) (legal_split S1 m k legal_mk).1 above
-
-    later : (row : Row) → row_of S3.rows r.client ≡ Some row → r.session < row.session
-    later row found =
-        let its = row_found (λ (row : Row). row.client ≡ r.client → r.session + 1 ≤ row.session) S3.rows r.client row floor3.0 found in
+    pub later_session : (row : Row) → row_of (state ((h ++ m) ++ k)).rows r.client ≡ Some row → r.session < row.session
+    later_session row found =
+        let floor3 = floor_after (h ++ m) k r.client (r.session + 1) later above in
+        let its = row_found (λ (row : Row). row.client ≡ r.client → r.session + 1 ≤ row.session) (state ((h ++ m) ++ k)).rows r.client row floor3.0 found in
         omega (arith, its.0 its.1)
+
+pub stays_out_with : StaysOutWith
+stays_out_with profile clients_max mark h m k r legal there gone numbered =
+    out_by (row_of (after_with profile clients_max mark (h ++ (m ++ k))).rows r.client) r numbered later
+  where
+    whole : Leads (next_in profile clients_max mark) [] (h ++ (m ++ k))
+    whole = legal_leads profile clients_max mark (h ++ (m ++ k)) legal
+
+    parts : Leads (next_in profile clients_max mark) [] h × Leads (next_in profile clients_max mark) h (m ++ k)
+    parts = leads_split (next_in profile clients_max mark) [] h (m ++ k) whole
+
+    rest : Leads (next_in profile clients_max mark) h m × Leads (next_in profile clients_max mark) (h ++ m) k
+    rest = leads_split (next_in profile clients_max mark) h m k parts.1
+
+    reached_h : ReachedBy (next_in profile clients_max mark) h
+    reached_h = reached_after (next_in profile clients_max mark) [] h (begun profile clients_max mark) parts.0
+
+    reached_m : ReachedBy (next_in profile clients_max mark) (h ++ m)
+    reached_m = reached_after (next_in profile clients_max mark) h m reached_h rest.0
+
+    rows_are : (after_with profile clients_max mark (h ++ (m ++ k))).rows ≡ (next_in profile clients_max mark ((h ++ m) ++ k)).rows
+    rows_are = (whole_alike profile clients_max mark (h ++ (m ++ k))).rows ∙ ap (λ (l : List Entry). (next_in profile clients_max mark l).rows) (sym (append_assoc h m k))
+
+    later : (row : Row) → row_of (after_with profile clients_max mark (h ++ (m ++ k))).rows r.client ≡ Some row → r.session < row.session
+    later row found =
+        later_session (next_in profile clients_max mark) h m k r reached_h reached_m rest.0 rest.1 there gone row
+        (ap (λ (rows : List Row). row_of rows r.client) (sym rows_are) ∙ found)
+
+pub stays_out : StaysOut
+stays_out profile clients_max h m k r legal there gone numbered = stays_out_with profile clients_max None h m k r legal there gone numbered

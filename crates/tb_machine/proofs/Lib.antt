@@ -14,3 +14,9 @@ pub mod Marked
 pub mod DumpReading
 pub mod DumpWriting
 pub mod DumpLaws
+pub mod JournalRecords
+pub mod FirstCause
+pub mod ReachedBy
+pub mod MarkLeads
+pub mod MarkLegal
+pub mod IdsRising

@@ -60,17 +60,23 @@ place_snoc profile None h e place = tt
 place_snoc profile (Some n) h e place = (place.0, omega (arith, place.1, length-append h (e ∷ [])))
 
 module _ (profile : Profile) (clients_max : ℕ) where
+  pub with_snoc_in : (n : ℕ) (h : List Entry) (e : Entry) → n ≤ length h → after_with profile clients_max (Some n) (h ++ e ∷ []) ≡ step (after_with profile clients_max (Some n) h) e
+  with_snoc_in n h e within =
+      (λ i. fold step (marked_after profile clients_max (front_same h e n within i)) (behind_more h e n within i))
+      ∙ fold_snoc step (marked_after profile clients_max (take n h)) (drop n h) e
+
   pub with_snoc : (place : Option ℕ) (h : List Entry) (e : Entry) → IsPlace profile place h → after_with profile clients_max place (h ++ e ∷ []) ≡ step (after_with profile clients_max place h) e
   with_snoc None h e place = fold_snoc step (start profile clients_max) h e
-  with_snoc (Some n) h e place =
-      (λ i. fold step (marked_after profile clients_max (front_same h e n place.1 i)) (behind_more h e n place.1 i))
-      ∙ fold_snoc step (marked_after profile clients_max (take n h)) (drop n h) e
+  with_snoc (Some n) h e place = with_snoc_in n h e place.1
+
+  pub legal_snoc_in : (n : ℕ) (h : List Entry) (e : Entry) → n ≤ length h → IsLegalWith profile clients_max (Some n) h → IsTrue (fits (after_with profile clients_max (Some n) h) e) → IsLegalWith profile clients_max (Some n) (h ++ e ∷ [])
+  legal_snoc_in n h e within legal next =
+      subst (λ (front : List Entry). LegalFrom (start profile clients_max) front × LegalFrom (marked_after profile clients_max front) (drop n (h ++ e ∷ []))) (sym (front_same h e n within))
+      (legal.0, subst (λ (behind : List Entry). LegalFrom (marked_after profile clients_max (take n h)) behind) (sym (behind_more h e n within)) (legal_join (marked_after profile clients_max (take n h)) (drop n h) (e ∷ []) legal.1 (next, tt)))
 
   pub legal_with_snoc : (place : Option ℕ) (h : List Entry) (e : Entry) → IsPlace profile place h → IsLegalWith profile clients_max place h → IsTrue (fits (after_with profile clients_max place h) e) → IsLegalWith profile clients_max place (h ++ e ∷ [])
   legal_with_snoc None h e place legal next = legal_join (start profile clients_max) h (e ∷ []) legal (next, tt)
-  legal_with_snoc (Some n) h e place legal next =
-      subst (λ (front : List Entry). LegalFrom (start profile clients_max) front × LegalFrom (marked_after profile clients_max front) (drop n (h ++ e ∷ []))) (sym (front_same h e n place.1))
-      (legal.0, subst (λ (behind : List Entry). LegalFrom (marked_after profile clients_max (take n h)) behind) (sym (behind_more h e n place.1)) (legal_join (marked_after profile clients_max (take n h)) (drop n h) (e ∷ []) legal.1 (next, tt)))
+  legal_with_snoc (Some n) h e place legal next = legal_snoc_in n h e place.1 legal next
 
   pub replies_with_snoc : (place : Option ℕ) (h : List Entry) (e : Entry) → IsPlace profile place h
       → replies_with profile clients_max place (h ++ e ∷ []) ≡ replies_with profile clients_max place h ++ reply_at (after_with profile clients_max place h) e ∷ []

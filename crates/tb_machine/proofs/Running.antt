@@ -75,7 +75,7 @@ sends_then xs ys a b d first then_it = record {
 module _ (profile : Profile) (clients_max : ℕ) where
   -- one pair more
 
-  after_with_pair : (h : List Entry) (p : Pair) → after profile clients_max (with_pair profile clients_max h p) ≡ after_pair (after profile clients_max h) p
+  pub after_with_pair : (h : List Entry) (p : Pair) → after profile clients_max (with_pair profile clients_max h p) ≡ after_pair (after profile clients_max h) p
   after_with_pair h p = parts (is_entered (after profile clients_max h) p)
     where
       parts : (b : Bool) → after profile clients_max (cond b (h ++ entry_of (after profile clients_max h) p ∷ []) h) ≡ cond b (step (after profile clients_max h) (entry_of (after profile clients_max h) p)) (after profile clients_max h)

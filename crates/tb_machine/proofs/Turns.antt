@@ -20,7 +20,7 @@ use Rattle.tb_machine.specs.Runs.{is_new_in, Turns}
 use Rattle.tb_machine.specs.Serving.{Delivers}
 use Rattle.tb_records.proofs.ByKey.{find-put_here, find-replaced_here}
 use Rattle.tb_machine.proofs.Lawful.{lawful_numbers}
-use Rattle.tb_machine.proofs.Rows.{some_one, still_absent}
+use Rattle.tb_machine.proofs.Rows.{still_absent}
 
 -- the row that was admitted is found
 

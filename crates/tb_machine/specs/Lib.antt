@@ -7,7 +7,11 @@ pub mod Runs
 pub mod Dumps
 pub mod DumpRuns
 pub mod Replays
+pub mod Recording
+pub mod Restoring
 pub mod HistoryLaws
+pub mod MarkedLaws
+pub mod Settling
 pub mod ScriptLaws
 pub mod WorkedRows
 -- what private functions alone cite

@@ -1,15 +1,21 @@
 -- Worked rows over the definitions: scripts, and the replies to them. All amounts are in ledger 700, all codes 10.
-use Rattle.std.specs.Prelude.{ℕ, false, ◌≡◌, List, [], ◌∷◌, ◌++◌, map, length}
+use Rattle.std.specs.Prelude.{ℕ, false, ◌≡◌, List, [], ◌∷◌, ◌++◌, map, length, Some, None}
 use Rattle.std.specs.List.{range_with_len}
 use Rattle.tb_records.specs.declared.records.Account.{Account}
 use Rattle.tb_records.specs.declared.records.Transfer.{Transfer}
 use Rattle.tb_records.specs.declared.bodies.Body.TheVariants.{Register, CreateAccounts, CreateTransfers, LookupAccounts}
 use Rattle.tb_records.specs.declared.bodies.ReplyBody.TheVariants.{Empty, Results, Accounts}
 use Rattle.tb_records.specs.declared.replies.Status.TheVariants as status
-use Rattle.tb_records.specs.declared.limits.Profile.TheVariants.{One}
+use Rattle.tb_records.specs.declared.limits.Profile.TheVariants.{One, Two}
 use Rattle.tb_records.specs.Messages.{Message, Answer, asked, answered, status_code}
 use Rattle.tb_ledger.specs.Verdicts.{max_time}
-use Rattle.tb_machine.specs.Histories.{start, after}
+use Rattle.tb_ledger.specs.Books.{profile_of}
+use Rattle.tb_machine.specs.declared.entries.Entry.{Entry}
+use Rattle.tb_machine.specs.declared.restoring.Unfit.TheVariants.{Commit, Time, NotNew}
+use Rattle.tb_machine.specs.Histories.{start, after, answer_to}
+use Rattle.tb_machine.specs.Dumps.{after_with}
+use Rattle.tb_machine.specs.MarkedLaws.{next_in}
+use Rattle.tb_machine.specs.Restoring.{cause_of}
 use Rattle.tb_machine.specs.Scripts.{Pair, has_time, accepted, replies_to}
 
 -- an account and a transfer as the rows write them
@@ -118,3 +124,27 @@ EvictionStorm =
     ++ map (λ k. (1, k, 0)) (range_with_len 1 99)
     ++ ((0, 100, 101) ∷ (0, 102, 102) ∷ (2, 1, 0) ∷ (1, 100, 0) ∷ []))
     × (entered 1 storm ≡ 102)
+
+-- an entry by its numbers
+abbrev entry : ℕ → ℕ → Message → Entry
+entry commit time r = record { commit = commit; time = time; request = r }
+
+-- behind client 7's register at time 10: another commit number, a time that is no later, one above the last, a request that is
+-- not new; the cause is the first of these; and an entry that follows
+abbrev pub UnfitEntries : Type 0
+UnfitEntries =
+    let S = after One 2 (entry 1 10 (register 7) ∷ []) in
+    (cause_of S (entry 1 11 (register 8)) ≡ Some Commit)
+    × (cause_of S (entry 3 0 (register 7)) ≡ Some Commit)
+    × (cause_of S (entry 2 10 (register 7)) ≡ Some Time)
+    × (cause_of S (entry 2 9223372036854775808 (register 8)) ≡ Some Time)
+    × (cause_of S (entry 2 11 (register 7)) ≡ Some NotNew)
+    × (cause_of S (entry 2 11 (register 8)) ≡ None)
+
+-- a mark behind client 7's register: the next entry is executed by profile 2, the register by profile 1; the register sent
+-- again still gets its reply
+abbrev pub MarkedHistory : Type 0
+MarkedHistory =
+    (profile_of (next_in One 2 (Some 1) []).books ≡ One)
+    × (profile_of (next_in One 2 (Some 1) (entry 1 10 (register 7) ∷ [])).books ≡ Two)
+    × (summary (answer_to (after_with One 2 (Some 1) (entry 1 10 (register 7) ∷ entry 2 11 (register 8) ∷ [])) (register 7)) ≡ (0, 1, 1))

@@ -1,7 +1,9 @@
 //! The dump of a script: its new requests are executed, and the history that they make is written.
-ghost use Rattle.std.specs.Prelude.{◌≡◌, ◌++◌, true, Some};
+ghost use Rattle.std.specs.Prelude.{◌≡◌, ◌++◌, true, MatchResult, Some};
 ghost use Rattle.std.specs.Option.{is_some};
-ghost use Rattle.tb_records.specs.DumpBytes.{entry_bytes};
+ghost use Rattle.tb_records.specs.declared.limits.Profile.TheVariants.{One};
+ghost use Rattle.tb_records.specs.DumpBytes.{head_bytes, entry_bytes, IsClients};
+ghost use Rattle.tb_records.specs.Transport.{Sent, CutOff};
 ghost use Rattle.tb_ledger.specs.Books.{profile_of};
 ghost use Rattle.tb_sessions.specs.Judged.{class_of, row_of};
 ghost use Rattle.tb_machine.specs.DumpRuns.{mark_before, marks_at, turned, DumpRan, DumpsOn, DumpsPair, Written};
@@ -43,6 +45,23 @@ fn row_of(machine: &Machine<Global>, client: u128) -> &Row
         unreachable!()
     };
     row
+}
+
+/// Writes the head of a dump that begins by profile 1.
+fn write_head<W: Sink>(writer: &mut W, clients_max: ClientsMax) -> Result<(), RunFault>
+    ensures sent { MatchResult result
+        (λ _. Sent (head_bytes One clients_max) (W.output writer.old) (W.output writer.new))
+        (λ f. (f ≡ RunFault.Frame FrameFault.Device) × CutOff (head_bytes One clients_max) (W.output writer.old) (W.output writer.new)) }
+    ensures right { IsClients clients_max }
+{
+    let head = DumpHead {
+        profile: Profile::One,
+        clients_max,
+    };
+    match send_head(writer, head) {
+        Ok(()) => Ok(()),
+        Err(fault) => Err(RunFault::Frame(fault)),
+    }
 }
 
 /// Writes a mark where one is due.
@@ -137,17 +156,12 @@ pub fn dump<R: Source, W: Sink>(
 ) -> Result<u64, RunFault>
     ensures { DumpRan clients_max at result (R.input reader.old) (R.input reader.new) (W.output writer.old) (W.output writer.new) }
 {
-    let profile = Profile::One;
-    let mut machine = Machine::new_in(alloc, alloc, profile, clients_max)?;
-    let head = DumpHead {
-        profile,
-        clients_max,
-    };
-    match send_head(writer, head) {
+    let mut machine = Machine::new_in(alloc, alloc, Profile::One, clients_max)?;
+    match write_head(writer, clients_max) {
         Ok(()) => {}
         Err(fault) => {
             drop(machine);
-            return Err(RunFault::Frame(fault));
+            return Err(fault);
         }
     }
     for _ in 0..u64::MAX {

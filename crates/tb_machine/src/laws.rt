@@ -1,6 +1,11 @@
 //! The laws of legal histories, over the definitions alone. A call does nothing; its promise is the law.
 ghost use Rattle.tb_machine.specs.Dumps.{OneDump};
 ghost use Rattle.tb_machine.specs.ScriptLaws.{AcceptedIsLegal, RepliesAreOfHistory, ServedAreLawful};
+ghost use Rattle.tb_machine.specs.MarkedLaws.{OneKeyWith, FirstReplyWith, NotNewAgainWith, StaysOutWith, LimitsHoldWith, LedgersBalanceWith};
+ghost use Rattle.tb_machine.specs.MarkedLaws.{NextIsLegalWith, MovedIsLegalWith, AcceptedIsLegalWith, DumpedIsLegal};
+ghost use Rattle.tb_machine.specs.Recording.{OneRecord};
+ghost use Rattle.tb_machine.specs.Restoring.{RestoresHistory};
+ghost use Rattle.tb_machine.specs.Settling.{IdsRiseAfter, PostsAndVoidsSettle};
 ghost use Rattle.tb_machine.specs.HistoryLaws.{OneKey, FirstReply, NotNewAgain, StaysOut, LimitsHold, LedgersBalance};
 
 /// In a legal history no client, session and request number stand together twice, where a register counts with the
@@ -54,4 +59,43 @@ pub fn served_are_lawful()
 /// Each spelling of a dump has one reading: one profile, one number of clients, one history, and one place of a mark.
 pub fn one_dump()
     ensures { OneDump }
+{}
+
+/// The laws of legal histories hold with a mark among the entries too, from which on profile 2 serves: keys stand once, a
+/// repeat gets its first reply, no request is new again, a session that was taken out stays out, limits and sums hold.
+pub fn laws_with_a_mark()
+    ensures keys { OneKeyWith }
+    ensures first_reply { FirstReplyWith }
+    ensures not_new_again { NotNewAgainWith }
+    ensures stays_out { StaysOutWith }
+    ensures limits { LimitsHoldWith }
+    ensures ledgers { LedgersBalanceWith }
+{}
+
+/// Legal with a mark are: a legal history, one entry longer by one that may come next; that of a machine that goes over to
+/// profile 2; what is accepted of the pairs of a script, the mark before the first entry above a number; what a dump wrote.
+pub fn legal_with_a_mark()
+    ensures next { NextIsLegalWith }
+    ensures moved { MovedIsLegalWith }
+    ensures accepted { AcceptedIsLegalWith }
+    ensures dumped { DumpedIsLegal }
+{}
+
+/// A machine that is restored from the entries of a journal follows them exactly as far as they are a legal history: an
+/// entry is entered where the history stays legal with it; where it isn't, however the history goes on, its place is told.
+pub fn restores_history()
+    ensures { RestoresHistory }
+{}
+
+/// Each record of a journal is that of one entry: what was written is what is read.
+pub fn one_record()
+    ensures { OneRecord }
+{}
+
+/// After entries, with a mark among them or none, each id stands once in the books, and so each post or void that an entry
+/// brings behind them and that is accepted settles: the pending transfer that it names is there and holds, its whole amount
+/// leaves the pending sums on both sides, and what is posted comes to the posted ones.
+pub fn posts_and_voids_settle()
+    ensures ids_rise { IdsRiseAfter }
+    ensures settle { PostsAndVoidsSettle }
 {}

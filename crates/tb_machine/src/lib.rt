@@ -8,7 +8,9 @@ mod entries;
 mod executing;
 pub mod laws;
 mod machines;
+mod recording;
 mod replaying;
+mod restoring;
 mod serving;
 pub mod worked_rows;
 
@@ -16,5 +18,7 @@ pub use answering::answer_of;
 pub use dumping::dump;
 pub use entries::Entry;
 pub use machines::Machine;
+pub use recording::{read_entry, write_entry};
 pub use replaying::replay;
+pub use restoring::{RestoreFault, Unfit, restore};
 pub use serving::{RunFault, run, serve_pair, status_of};

@@ -20,7 +20,7 @@ use tb_records::{
 use tb_sessions::{Class, Row, Sessions};
 
 /// The last moment that there is, in nanoseconds: `2^63 - 1`.
-const MAX_TIME: u64 = 9_223_372_036_854_775_807;
+pub(crate) const MAX_TIME: u64 = 9_223_372_036_854_775_807;
 
 /// A ledger and the sessions of its clients, after a history. Requests, replies and the rows of the sessions take their
 /// memory of the global allocator, the records of `A`.
@@ -158,7 +158,7 @@ impl<A: Allocator + Clone> Machine<A> {
     }
 
     /// The least time of a request's entry.
-    fn least_time(&self, request: &Request) -> u64
+    pub(crate) fn least_time(&self, request: &Request) -> u64
         ensures time { result ≡ least_time self.now request.now }
         ensures lawful { IsLawful request.now }
     {

@@ -1,5 +1,5 @@
 //! Worked rows: scripts, and what the definitions answer to them, computed. A call does nothing; its promise is the row.
-ghost use Rattle.tb_machine.specs.WorkedRows.{FirstRequests, Refusals, Eviction, EndOfTime, EvictionStorm};
+ghost use Rattle.tb_machine.specs.WorkedRows.{FirstRequests, Refusals, Eviction, EndOfTime, EvictionStorm, UnfitEntries, MarkedHistory};
 
 /// A register, the same again, two accounts, their lookup, a transfer.
 pub fn first_requests()
@@ -24,4 +24,14 @@ pub fn end_of_time()
 /// A hundred clients in one place.
 pub fn eviction_storm()
     ensures { EvictionStorm }
+{}
+
+/// Entries that do not follow one register, each with the first test that it fails.
+pub fn unfit_entries()
+    ensures { UnfitEntries }
+{}
+
+/// A mark between two registers.
+pub fn marked_history()
+    ensures { MarkedHistory }
 {}

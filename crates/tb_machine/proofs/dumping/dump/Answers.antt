@@ -1,10 +1,11 @@
-use Rattle.std.proofs.Common.{inl, refl, arith}
-use Rattle.std.proofs.lemmas.Result.{err_from_is_err_and}
+use Rattle.std.proofs.Common.{Err, inl, refl, sym, subst, arith}
+use Rattle.tb_machine.specs.declared.serving.RunFault.{RunFault}
+use Rattle.tb_machine.specs.DumpRuns.{DumpRan}
 use Rattle.tb_machine.proofs.DumpWriting.{dumping_none, dumping_on, dumping_passed, dump_stopped, dump_ended, dump_too_long}
 use Rattle.tb_machine.proofs.dumping.dump.Goals as goal
 
 pub loop-init : goal.loop-init
-loop-init g c = dumping_none c.args.clients_max c.args.at c.in_ok-machine.machine _ _ _ c.send_head.ensures.right c.in_ok-machine.ensures c.in-Ok.ensures.sent
+loop-init g c = dumping_none c.args.clients_max c.args.at c.in_ok-machine.machine _ _ _ c.write_head.ensures.right c.in_ok-machine.ensures c.in-Ok.ensures.sent
 
 pub returns-in-Err-dump_next : goal.returns-in-Err-dump_next
 returns-in-Err-dump_next g c =
@@ -29,4 +30,8 @@ returns-then-not-more g c =
     (rw c.if-not-more.true at c.in-Ok-dump_next.ensures)
 
 pub returns-in-Err : goal.returns-in-Err
-returns-in-Err g c = inl (c.in-Err.ensures.sent.0, refl {a = g.R.Source.input c.args.reader.now}, c.in-Err.ensures.sent.1)
+returns-in-Err g c =
+    let start = g.W.Sink.output c.args.writer.now in
+    let written = g.W.Sink.output c.write_head.new.writer in
+    let input = g.R.Source.input c.args.reader.now in
+    subst (λ (f : RunFault). DumpRan c.args.clients_max c.args.at (Err f) input input start written) (sym c.in-Err.ensures.sent.0) (inl (refl, refl {a = input}, c.in-Err.ensures.sent.1))

@@ -1,0 +1,95 @@
+//! The restoring of a machine from the entries of a journal, one after another.
+ghost use Rattle.std.specs.Prelude.{◌≡◌};
+ghost use Rattle.tb_machine.specs.Restoring.{cause_of, unfit_name, Restores};
+
+use crate::entries::Entry;
+use crate::machines::{MAX_TIME, Machine};
+use std::alloc::Allocator;
+use std::fmt;
+use tb_sessions::Class;
+use thiserror::Error;
+
+/// Why an entry of a journal isn't restored.
+#[derive(Clone, Copy, Debug, PartialEq, Eq, Error)]
+pub enum Unfit {
+    /// Its commit number is not the next one.
+    Commit,
+    /// Its time is too early, or above `2^63 - 1`.
+    Time,
+    /// Its request is not new.
+    NotNew,
+    /// There is no memory for it.
+    NoMemory,
+}
+
+impl Unfit {
+    /// The cause's name, as a message shows it.
+    pub fn name(self) -> &'static str
+        ensures { result.now ≡ unfit_name self }
+    {
+        match self {
+            Unfit::Commit => "Commit",
+            Unfit::Time => "Time",
+            Unfit::NotNew => "NotNew",
+            Unfit::NoMemory => "NoMemory",
+        }
+    }
+}
+
+impl fmt::Display for Unfit {
+    ghost use Rattle.std.specs.Prelude.{Some};
+    ghost use Rattle.tb_machine.specs.Restoring.{unfit_name};
+
+    ghost output = { λ cause. Some (unfit_name cause) };
+
+    fn fmt<W: fmt::Write>(&self, f: &mut fmt::Formatter<W>) -> fmt::Result {
+        f.write_str(self.name())
+    }
+}
+
+/// An entry that isn't restored: its place in the journal, 1, 2, 3 and so on, and why.
+#[derive(Clone, Copy, Debug, PartialEq, Eq, Error)]
+#[error("entry {place}: {cause}")]
+pub struct RestoreFault {
+    /// The place.
+    pub place: u64,
+    /// The cause: the first test that the entry fails, in the order of the causes.
+    pub cause: Unfit,
+}
+
+/// The first test that an entry fails which may not come next.
+fn cause_of<A: Allocator + Clone>(machine: &Machine<A>, entry: &Entry) -> Option<Unfit>
+    ensures { result ≡ cause_of machine.now entry.now }
+{
+    let least = machine.least_time(&entry.request);
+    if entry.commit != machine.commit() + 1 {
+        Some(Unfit::Commit)
+    } else if entry.time < least || entry.time > MAX_TIME {
+        Some(Unfit::Time)
+    } else if !matches!(machine.class(&entry.request), Class::New) {
+        Some(Unfit::NotNew)
+    } else {
+        None
+    }
+}
+
+/// Enters the next entry of a journal, where it follows from those before it: its request moves into its client's row. On a
+/// fault the machine is as it was.
+pub fn restore<A: Allocator + Clone>(
+    machine: &mut Machine<A>,
+    entry: Entry,
+) -> Result<(), RestoreFault>
+    ensures { Restores result machine.old machine.new entry }
+{
+    let place = machine.commit() + 1;
+    if let Some(cause) = cause_of(machine, &entry) {
+        return Err(RestoreFault { place, cause });
+    }
+    match machine.enter(entry) {
+        Ok(()) => Ok(()),
+        Err(_) => Err(RestoreFault {
+            place,
+            cause: Unfit::NoMemory,
+        }),
+    }
+}
