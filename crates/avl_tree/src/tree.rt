@@ -206,20 +206,30 @@ fn set_height<K, V, A: Allocator>(tree: &mut Tree<K, V, A>, height: u8)
     }
 }
 
-/// Balances the root, where one of its sides has become one level higher or lower.
-pub fn settle<K, V, A: Allocator>(tree: &mut Tree<K, V, A>)
+/// Turns the root's sides, where one of them has become two levels higher than the other.
+///
+/// It stands apart, so that a level of an insert or a removal saves few registers where nothing is turned.
+#[inline(never)]
+fn turn<K, V, A: Allocator>(tree: &mut Tree<K, V, A>)
     requires { IsNearlyAvl tree.old }
     ensures { SettlesTo tree.old tree.new }
 {
-    if let Some(height) = level_height(tree) {
-        set_height(tree, height);
-        return;
-    }
     match take(tree) {
         Tree::Empty => {}
         Tree::Fork(_, node) => {
             let (left, node, right) = split(node);
             put(tree, balance(left, node, right));
         }
+    }
+}
+
+/// Balances the root, where one of its sides has become one level higher or lower.
+pub fn settle<K, V, A: Allocator>(tree: &mut Tree<K, V, A>)
+    requires { IsNearlyAvl tree.old }
+    ensures { SettlesTo tree.old tree.new }
+{
+    match level_height(tree) {
+        Some(height) => set_height(tree, height),
+        None => turn(tree),
     }
 }
