@@ -1,22 +1,73 @@
--- The exit status of each fault: 1 a device or memory failed, 2 the input or the arguments are wrong.
-use Rattle.std.specs.Prelude.{ℕ}
+-- The exit status of each fault: 1 a device or memory failed, 2 the input or the arguments are wrong. And the line that a
+-- fault is told by.
+use Rattle.std.specs.Prelude.{ℕ, ◌⊎◌, ◌++◌, List, [], codes}
 use Rattle.tb_records.specs.declared.faults.FrameFault.{FrameFault}
 use Rattle.tb_records.specs.declared.faults.FrameFault.TheVariants as frame
 use Rattle.tb_records.specs.declared.dumps.DumpFault.{DumpFault}
 use Rattle.tb_records.specs.declared.dumps.DumpFault.TheVariants as dump
+use Rattle.tb_records.specs.DumpFaults.{dump_fault_name}
+use Rattle.tb_records.specs.Faults.{fault_name}
+use Rattle.tb_records.specs.Transport.{Output, Sent, CutOff}
 use Rattle.tb_text_commands.specs.declared.faults.Fault.{Fault}
-use Rattle.tb_text_commands.specs.declared.faults.Fault.TheVariants.{Usage, Device, NoMemory, Frame, Dump, Text}
+use Rattle.tb_text_commands.specs.declared.faults.Fault.TheVariants.{Usage, Device, NoMemory, TimeExhausted, Frame, Dump, Arguments, Text, WasTold}
+
+-- the faults of a frame and of a dump: a device that failed and want of memory are the program's own
+
+abbrev pub frame_fault_of : FrameFault → Fault
+frame_fault_of frame.Device = Device
+frame_fault_of frame.NoMemory = NoMemory
+frame_fault_of fault = Frame fault
+
+abbrev pub dump_fault_of : DumpFault → Fault
+dump_fault_of (dump.Frame fault) = frame_fault_of fault
+dump_fault_of dump.NoMemory = NoMemory
+dump_fault_of fault = Dump fault
+
+-- statuses
+
+abbrev pub frame_status : FrameFault → ℕ
+frame_status frame.Device = 1
+frame_status frame.NoMemory = 1
+frame_status fault = 2
 
 abbrev pub dump_status : DumpFault → ℕ
 dump_status dump.NoMemory = 1
-dump_status (dump.Frame frame.Device) = 1
-dump_status (dump.Frame frame.NoMemory) = 1
+dump_status (dump.Frame fault) = frame_status fault
 dump_status fault = 2
 
 abbrev pub fault_status : Fault → ℕ
 fault_status Usage = 2
 fault_status Device = 1
 fault_status NoMemory = 1
-fault_status (Frame fault) = 2
+fault_status TimeExhausted = 2
+fault_status (Frame fault) = frame_status fault
 fault_status (Dump fault) = dump_status fault
+fault_status (Arguments line) = 2
 fault_status (Text line) = 2
+fault_status WasTold = 2
+
+-- lines
+
+abbrev pub line_named : List ℕ → List ℕ
+line_named name = codes "tbt: " ++ name ++ codes "\n"
+
+-- the line of a fault; without arguments there is none, but the page of usage
+abbrev pub fault_line : Fault → List ℕ
+fault_line Usage = []
+fault_line Device = line_named (codes "Device")
+fault_line NoMemory = line_named (codes "NoMemory")
+fault_line TimeExhausted = line_named (codes "TimeExhausted")
+fault_line (Frame fault) = line_named (fault_name fault)
+fault_line (Dump fault) = line_named (dump_fault_name fault)
+fault_line (Arguments line) = line.items
+fault_line (Text line) = line.items
+fault_line WasTold = []
+
+-- a line was written, or a beginning of it, where the writer failed or took nothing
+abbrev pub Told : List ℕ → Output → Output → Type 0
+Told line before after = Sent line before after ⊎ CutOff line before after
+
+-- what is written of a fault: its line, or the page of usage
+abbrev pub TellsOf : Fault → Output → Output → Type 0
+TellsOf Usage before after = (page : List ℕ) × Told page before after
+TellsOf fault before after = Told (fault_line fault) before after

@@ -1,35 +1,79 @@
 //! Why the program ends with a status other than 0, and the line that says so.
 ghost use Rattle.std.specs.Prelude.{◌≡◌, ◌<◌, ◌≤◌, length};
-ghost use Rattle.tb_text_commands.specs.Statuses.{fault_status};
+ghost use Rattle.tb_text_commands.specs.Ends.{IsOfInput};
+ghost use Rattle.tb_text_commands.specs.Statuses.{dump_fault_of, fault_status, frame_fault_of, line_named, Told, TellsOf};
 
+use crate::help::USAGE;
+use arrayvec::ArrayVec;
 use std::alloc::{AllocError, Global};
 use tb_records::{DumpFault, FrameFault, Sink, put_all};
-use tb_text::{Field, Lexeme, Place, TextFault, position};
+use tb_text::{Field, Lexeme, Place, TextFault};
+
+/// The bytes that the line of a name may have: `tbt: `, a name of at most 16 letters, and the line's end.
+const LINE: usize = 32;
 
 /// Why the program ends with a status other than 0.
 #[derive(Drop)]
 pub enum Fault {
-    /// The arguments are none of the program's forms.
+    /// There are no arguments.
     Usage,
     /// The reader or the writer failed.
     Device,
     /// There is no memory.
     NoMemory,
+    /// The next request is new, and the end of time leaves no time for it.
+    TimeExhausted,
     /// The next frame is none.
     Frame(FrameFault),
     /// The dump is none, from here on.
     Dump(DumpFault),
-    /// The text goes wrong: the line, the column, what stands there and what was expected.
+    /// The arguments are none of the program's forms: the line that says so.
+    Arguments(Vec<u8>),
+    /// The text goes wrong: the line that says where, what stands there and what was expected.
     Text(Vec<u8>),
+    /// Statements went wrong, and each was told when it came.
+    WasTold,
 }
 
 /// The fault of a frame that cannot be read.
-pub fn frame_fault(fault: FrameFault) -> Fault {
+pub fn frame_fault(fault: FrameFault) -> Fault
+    ensures { result ≡ frame_fault_of fault }
+{
     match fault {
         FrameFault::Device => Fault::Device,
         FrameFault::NoMemory => Fault::NoMemory,
         fault => Fault::Frame(fault),
     }
+}
+
+/// The fault of a dump that cannot be read or replayed.
+pub fn dump_fault(fault: DumpFault) -> Fault
+    ensures { result ≡ dump_fault_of fault }
+{
+    match fault {
+        DumpFault::Frame(fault) => frame_fault(fault),
+        DumpFault::NoMemory => Fault::NoMemory,
+        fault => Fault::Dump(fault),
+    }
+}
+
+/// The line of a fault with a name, in a buffer of its own, so that it needs no memory.
+fn line_of(name: &str) -> ArrayVec<u8, LINE>
+    requires short { length name.now ≤ 26 }
+    ensures { result.items ≡ line_named name.now }
+{
+    let mut line = ArrayVec::new();
+    line.try_extend_from_slice(b"tbt: ").unwrap();
+    line.try_extend_from_slice(name.as_bytes()).unwrap();
+    line.try_extend_from_slice(b"\n").unwrap();
+    line
+}
+
+/// Writes a line as far as the writer takes it.
+fn put_line<E: Sink>(line: &[u8], faults: &mut E)
+    ensures { Told line.now (E.output faults.old) (E.output faults.new) }
+{
+    let _ = put_all(faults, line);
 }
 
 /// What was to stand where a text goes wrong.
@@ -106,12 +150,16 @@ fn put_standing(
     }
 }
 
-/// The line of a text's fault, without its end.
-fn text_line(alloc: Global, text: &[u8], fault: TextFault) -> Result<Vec<u8>, AllocError> {
+/// The line of a text's fault, which stands at a line and a column.
+fn text_line(
+    alloc: Global,
+    text: &[u8],
+    fault: TextFault,
+    position: (usize, usize),
+) -> Result<Vec<u8>, AllocError> {
     let mut line = Vec::new(alloc);
-    let before = text.get(..fault.place).unwrap_or(text);
-    let (row, column) = position(before);
-    line.extend_from_slice(b"line ")?;
+    let (row, column) = position;
+    line.extend_from_slice(b"tbt: line ")?;
     line.extend_from_slice(row.to_string(alloc)?.as_str().as_bytes())?;
     line.extend_from_slice(b", column ")?;
     line.extend_from_slice(column.to_string(alloc)?.as_str().as_bytes())?;
@@ -119,15 +167,35 @@ fn text_line(alloc: Global, text: &[u8], fault: TextFault) -> Result<Vec<u8>, Al
     put_standing(alloc, &mut line, text, fault.place)?;
     line.extend_from_slice(b", expected ")?;
     line.extend_from_slice(expected(fault.lexeme, fault.awaited).as_bytes())?;
+    line.extend_from_slice(b"\n")?;
+    Ok(line)
+}
+
+/// The line of wrong arguments.
+fn arguments_line(alloc: Global, what: &str) -> Result<Vec<u8>, AllocError> {
+    let mut line = Vec::new(alloc);
+    line.extend_from_slice(b"tbt: ")?;
+    line.extend_from_slice(what.as_bytes())?;
+    line.extend_from_slice(b"\n")?;
     Ok(line)
 }
 
 impl Fault {
-    /// The fault of a text.
-    pub fn in_text(alloc: Global, text: &[u8], fault: TextFault) -> Fault {
-        match text_line(alloc, text, fault) {
+    /// The fault of a text, or of a part of one, which goes wrong at a line and a column.
+    pub fn in_text(alloc: Global, text: &[u8], fault: TextFault, position: (usize, usize)) -> Fault
+        ensures { IsOfInput result }
+    {
+        match text_line(alloc, text, fault, position) {
             Ok(line) => Fault::Text(line),
             Err(_) => Fault::NoMemory,
+        }
+    }
+
+    /// The fault of arguments that are none of the program's forms.
+    pub fn in_arguments(alloc: Global, what: &str) -> Fault {
+        match arguments_line(alloc, what) {
+            Ok(line) => Fault::Arguments(line),
+            Err(_) => Fault::Usage,
         }
     }
 
@@ -143,29 +211,33 @@ impl Fault {
             Fault::Dump(DumpFault::NoMemory) => 1,
             Fault::Dump(DumpFault::Frame(FrameFault::Device)) => 1,
             Fault::Dump(DumpFault::Frame(FrameFault::NoMemory)) => 1,
+            Fault::Frame(FrameFault::Device) => 1,
+            Fault::Frame(FrameFault::NoMemory) => 1,
             Fault::Usage => 2,
+            Fault::TimeExhausted => 2,
             Fault::Frame(_) => 2,
             Fault::Dump(_) => 2,
+            Fault::Arguments(_) => 2,
             Fault::Text(_) => 2,
+            Fault::WasTold => 2,
         }
     }
 
-    /// The fault's name, or what is wrong with the text.
-    fn name(&self) -> &[u8] {
+    /// Writes what is wrong as one line, `tbt: ` and what it is, or the page of usage, in one go. A failure to write it
+    /// changes no status.
+    pub fn tell<E: Sink>(&self, faults: &mut E)
+        ensures { TellsOf self.now (E.output faults.old) (E.output faults.new) }
+    {
         match self {
-            Fault::Usage => b"Usage",
-            Fault::Device => b"Device",
-            Fault::NoMemory => b"NoMemory",
-            Fault::Frame(fault) => fault.name().as_bytes(),
-            Fault::Dump(fault) => fault.name().as_bytes(),
-            Fault::Text(line) => line.as_slice(),
+            Fault::Usage => put_line(USAGE.as_bytes(), faults),
+            Fault::Device => put_line(line_of("Device").as_slice(), faults),
+            Fault::NoMemory => put_line(line_of("NoMemory").as_slice(), faults),
+            Fault::TimeExhausted => put_line(line_of("TimeExhausted").as_slice(), faults),
+            Fault::Frame(fault) => put_line(line_of(fault.name()).as_slice(), faults),
+            Fault::Dump(fault) => put_line(line_of(fault.name()).as_slice(), faults),
+            Fault::Arguments(line) => put_line(line.as_slice(), faults),
+            Fault::Text(line) => put_line(line.as_slice(), faults),
+            Fault::WasTold => {}
         }
-    }
-
-    /// Writes the line `tbt: ` and what is wrong. A failure to write it changes no status.
-    pub fn tell<E: Sink>(&self, faults: &mut E) {
-        let _ = put_all(faults, b"tbt: ");
-        let _ = put_all(faults, self.name());
-        let _ = put_all(faults, b"\n");
     }
 }

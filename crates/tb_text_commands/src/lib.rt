@@ -1,10 +1,21 @@
-//! The forms of `tbt` over any reader and writer: statements to scripts and back, replies and dumps to JSON.
+//! The forms of `tbt` over any reader and writer: statements to scripts and back, replies and dumps to JSON, a server for
+//! statements, the audit of a dump, and what is wrong with a script.
 #![tactic(auto)]
 
+mod arguments;
+mod auditing;
 mod commands;
+mod explaining;
 mod faults;
+mod help;
+mod intake;
 mod lines;
 mod objects;
+mod results;
+mod running;
+mod scripts;
+mod statements;
 
-pub use commands::{Order, command, read_order};
+pub use arguments::{Order, read_order};
+pub use commands::command;
 pub use faults::Fault;

@@ -1,11 +1,16 @@
 //! Replies and entries as lines of JSON.
 use crate::objects::{
-    EntryObject, HeadObject, MarkObject, ReplyObject, account_object, id_object, operation_name,
-    result_object, status_name, transfer_object,
+    BalanceObject, EntryObject, EventObject, ExpiredObject, HeadObject, MarkObject, ReplyObject,
+    account_object, id_object, operation_name, result_name, result_object, status_name,
+    transfer_object,
 };
+use crate::results::{is_accepted, results_of};
 use serde::Serialize;
 use std::alloc::{AllocError, Global};
-use tb_records::{Body, DumpHead, DumpItem, Profile, Reply, ReplyBody, Request};
+use tb_machine::{Entry, Machine};
+use tb_records::{
+    Account, Body, DumpHead, DumpItem, EventResult, Profile, Reply, ReplyBody, Request, Transfer,
+};
 
 /// The line of an object.
 fn line<T: Serialize>(alloc: Global, object: &T) -> Result<Vec<u8>, AllocError> {
@@ -126,7 +131,7 @@ fn entry_line(
 }
 
 /// The line of a dump's head.
-pub fn head_line(alloc: Global, head: DumpHead) -> Result<Vec<u8>, AllocError> {
+pub fn head_line(alloc: Global, head: &DumpHead) -> Result<Vec<u8>, AllocError> {
     let object = HeadObject {
         profile: match head.profile {
             Profile::One => 1,
@@ -137,14 +142,116 @@ pub fn head_line(alloc: Global, head: DumpHead) -> Result<Vec<u8>, AllocError> {
     line(alloc, &object)
 }
 
+/// The line of a mark.
+pub fn mark_line(alloc: Global) -> Result<Vec<u8>, AllocError> {
+    line(alloc, &MarkObject { profile: 2 })
+}
+
 /// The line of a mark or an entry of a dump.
 pub fn item_line(alloc: Global, item: &DumpItem) -> Result<Vec<u8>, AllocError> {
     match item {
-        DumpItem::Mark => line(alloc, &MarkObject { profile: 2 }),
+        DumpItem::Mark => mark_line(alloc),
         DumpItem::Entry {
             commit,
             time,
             request,
         } => entry_line(alloc, *commit, *time, request),
     }
+}
+
+/// The name of the result of an event: `created` where none says that it was not accepted.
+fn outcome_name(
+    alloc: Global,
+    operation: u8,
+    results: &[EventResult],
+    index: usize,
+) -> Result<String, AllocError> {
+    for result in results {
+        if result.index as usize == index {
+            return result_name(alloc, operation, result);
+        }
+    }
+    "created".to_string(alloc)
+}
+
+/// The line of an entry of a batch of accounts: those that were created as they were made.
+fn judged_accounts(
+    alloc: Global,
+    machine: &Machine<Global>,
+    entry: &Entry,
+    events: &[Account],
+) -> Result<Vec<u8>, AllocError> {
+    let request = &entry.request;
+    let results = results_of(machine, request.client());
+    let mut objects = Vec::new(alloc);
+    for (index, event) in events.iter().enumerate() {
+        let made = match machine.account(event.id) {
+            Some(made) if is_accepted(results, index) => made,
+            _ => *event,
+        };
+        objects.push(EventObject {
+            result: outcome_name(alloc, request.operation(), results, index)?,
+            event: account_object(alloc, &made)?,
+        })?;
+    }
+    entry_with(alloc, entry.commit, entry.time, request, objects)
+}
+
+/// The line of an entry of a batch of transfers: those that were accepted as they were recorded.
+fn judged_transfers(
+    alloc: Global,
+    machine: &Machine<Global>,
+    entry: &Entry,
+    events: &[Transfer],
+) -> Result<Vec<u8>, AllocError> {
+    let request = &entry.request;
+    let results = results_of(machine, request.client());
+    let mut objects = Vec::new(alloc);
+    for (index, event) in events.iter().enumerate() {
+        let made = match machine.transfer(event.id) {
+            Some(made) if is_accepted(results, index) => made,
+            _ => *event,
+        };
+        objects.push(EventObject {
+            result: outcome_name(alloc, request.operation(), results, index)?,
+            event: transfer_object(alloc, &made)?,
+        })?;
+    }
+    entry_with(alloc, entry.commit, entry.time, request, objects)
+}
+
+/// The line of the machine's last entry, with what became of each event of a batch.
+pub fn judged_line(
+    alloc: Global,
+    machine: &Machine<Global>,
+    entry: &Entry,
+) -> Result<Vec<u8>, AllocError> {
+    match entry.request.body() {
+        Body::CreateAccounts(events) => judged_accounts(alloc, machine, entry, events.as_slice()),
+        Body::CreateTransfers(events) => judged_transfers(alloc, machine, entry, events.as_slice()),
+        _ => entry_line(alloc, entry.commit, entry.time, &entry.request),
+    }
+}
+
+/// The line of a pending transfer that expired at a time.
+pub fn expired_line(alloc: Global, time: u64, transfer: &Transfer) -> Result<Vec<u8>, AllocError> {
+    let object = ExpiredObject {
+        time: time.to_string(alloc)?,
+        expired: transfer_object(alloc, transfer)?,
+    };
+    line(alloc, &object)
+}
+
+/// The line of an account as it stands after an entry.
+pub fn balance_line(
+    alloc: Global,
+    entry: &Entry,
+    account: &Account,
+) -> Result<Vec<u8>, AllocError> {
+    let object = BalanceObject {
+        commit: entry.commit.to_string(alloc)?,
+        time: entry.time.to_string(alloc)?,
+        account: account_object(alloc, account)?,
+    };
+    line(alloc, &object)
 }

@@ -93,6 +93,28 @@ pub struct EntryObject<T> {
     pub events: Vec<T>,
 }
 
+/// An event of a batch, and its result: `created` where it was accepted, and then the record as it was made.
+#[derive(Drop, Serialize)]
+pub struct EventObject<T> {
+    pub result: String,
+    pub event: T,
+}
+
+/// A pending transfer that has expired.
+#[derive(Drop, Serialize)]
+pub struct ExpiredObject {
+    pub time: String,
+    pub expired: TransferObject,
+}
+
+/// An account as it stands after an entry.
+#[derive(Drop, Serialize)]
+pub struct BalanceObject {
+    pub commit: String,
+    pub time: String,
+    pub account: AccountObject,
+}
+
 /// The names of an account's flags; bits that are no flag as one number behind them.
 fn account_flags(alloc: Global, flags: u16) -> Result<Vec<String>, AllocError> {
     let mut names = Vec::new(alloc);
@@ -170,24 +192,32 @@ pub fn id_object(alloc: Global, id: u128) -> Result<IdObject, AllocError> {
     })
 }
 
-/// The object of a result to the events of an operation: its name, or its number where there is none.
-pub fn result_object(
+/// The name of a result to the events of an operation, or its number where there is none.
+pub fn result_name(
     alloc: Global,
     operation: u8,
     event: &EventResult,
-) -> Result<ResultObject, AllocError> {
+) -> Result<String, AllocError> {
     let name = if operation == 129 {
         CreateAccountResult::from_code(event.result).map(|code| code.name())
     } else {
         CreateTransferResult::from_code(event.result).map(|code| code.name())
     };
-    let result_name = match name {
-        Some(name) => name.to_string(alloc)?,
-        None => event.result.to_string(alloc)?,
-    };
+    match name {
+        Some(name) => name.to_string(alloc),
+        None => event.result.to_string(alloc),
+    }
+}
+
+/// The object of a result to the events of an operation.
+pub fn result_object(
+    alloc: Global,
+    operation: u8,
+    event: &EventResult,
+) -> Result<ResultObject, AllocError> {
     Ok(ResultObject {
         index: event.index,
-        result: result_name,
+        result: result_name(alloc, operation, event)?,
     })
 }
 

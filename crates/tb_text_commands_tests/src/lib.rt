@@ -2,4 +2,12 @@
 #![tactic(auto)]
 
 #[cfg(test)]
-mod tests;
+mod devices;
+#[cfg(test)]
+mod dumps;
+#[cfg(test)]
+mod forms;
+#[cfg(test)]
+mod objects;
+#[cfg(test)]
+mod served;

@@ -1,8 +1,9 @@
-//! `tbt`: statements to scripts and back, replies and dumps to JSON, from standard input to standard output.
+//! `tbt`: statements to scripts and back, replies and dumps to JSON, a server for statements, the audit of a dump, from
+//! standard input to standard output.
 #![tactic(auto)]
 
 use std::env;
-use std::io::{self, BufReader, BufWriter, Write};
+use std::io::{self, BufReader, BufWriter, IsTerminal, Write};
 use std::process::ExitCode;
 use tb_records::{Buffered, Counting};
 use tb_text_commands::{Fault, command};
@@ -19,12 +20,34 @@ fn words(rt: &HostRuntime) -> io::Result<Vec<String>> {
     Ok(words)
 }
 
-/// Does what the words ask for between standard input and standard output.
+/// Does what the words ask for between standard input and standard output. Where statements are typed, each fault is told
+/// when it comes; else the line of a fault waits until all output is out, whose loss is a fault that comes before it.
 fn perform(rt: &HostRuntime, words: &[String]) -> io::Result<u8> {
+    let talks = rt.stdin().is_terminal();
     let mut reader = Buffered::new(BufReader::with_capacity(rt.alloc(), BUFFER, rt.stdin())?);
     let mut writer = Counting::new(BufWriter::with_capacity(rt.alloc(), BUFFER, rt.stdout())?);
+    if talks {
+        let mut faults = Counting::new(rt.stderr());
+        let status = command(
+            rt.alloc(),
+            words,
+            true,
+            &mut reader,
+            &mut writer,
+            &mut faults,
+        );
+        writer.into_inner().flush()?;
+        return Ok(status);
+    }
     let mut line = Counting::new(Vec::new(rt.alloc()));
-    let status = command(rt.alloc(), words, &mut reader, &mut writer, &mut line);
+    let status = command(
+        rt.alloc(),
+        words,
+        false,
+        &mut reader,
+        &mut writer,
+        &mut line,
+    );
     writer.into_inner().flush()?;
     let _ = rt.stderr().write_all(line.into_inner().as_slice());
     Ok(status)

@@ -1,0 +1,88 @@
+-- How a form of the program ends: whether its reader or its writer failed.
+use Rattle.std.specs.Prelude.{ℕ, Bool, true, false, ◌≡◌, ◌⊎◌, Result, Ok, Err}
+use Rattle.tb_records.specs.Transport.{Input, Output, risen, Refuses}
+use Rattle.tb_text_commands.specs.declared.faults.Fault.{Fault}
+use Rattle.tb_text_commands.specs.declared.faults.Fault.TheVariants.{Usage, Device, NoMemory, TimeExhausted, Frame, Dump, Arguments, Text, WasTold}
+use Rattle.tb_text_commands.specs.Statuses.{fault_status, TellsOf}
+
+-- nothing failed: no error was counted, and the writer took some of whatever it was offered
+pub record IsWhole (before after : Input) (start written : Output) : Type 0 where
+  pub read : after.failed ≡ before.failed
+  pub wrote : written.failed ≡ start.failed
+  pub flowed : written.stalled ≡ start.stalled
+
+-- the reader failed once, and the writer did not
+pub record ReaderFailed (before after : Input) (start written : Output) : Type 0 where
+  pub rose : after.failed ≡ risen before.failed
+  pub wrote : written.failed ≡ start.failed
+  pub flowed : written.stalled ≡ start.stalled
+
+-- the writer failed or took nothing, once, and the reader did not fail
+pub record WriterFailed (before after : Input) (start written : Output) : Type 0 where
+  pub read : after.failed ≡ before.failed
+  pub refused : Refuses start written
+
+-- a device failed exactly where the fault says so
+abbrev pub StopsBy : Fault → Input → Input → Output → Output → Type 0
+StopsBy Device before after start written = ReaderFailed before after start written ⊎ WriterFailed before after start written
+StopsBy fault before after start written = IsWhole before after start written
+
+pub record Stops (fault : Fault) (before after : Input) (start written : Output) : Type 0 where
+  pub how : StopsBy fault before after start written
+
+abbrev pub Ended : {X : Type 0} → Result X Fault → Input → Input → Output → Output → Type 0
+Ended (Ok x) before after start written = IsWhole before after start written
+Ended (Err fault) before after start written = Stops fault before after start written
+
+-- the same of what only writes
+
+-- the writer did not fail
+pub record Passed (start written : Output) : Type 0 where
+  pub wrote : written.failed ≡ start.failed
+  pub flowed : written.stalled ≡ start.stalled
+
+abbrev pub BreaksBy : Fault → Output → Output → Type 0
+BreaksBy Device start written = Refuses start written
+BreaksBy fault start written = Passed start written
+
+pub record Breaks (fault : Fault) (start written : Output) : Type 0 where
+  pub how : BreaksBy fault start written
+
+abbrev pub Written : {X : Type 0} → Result X Fault → Output → Output → Type 0
+Written (Ok x) start written = Passed start written
+Written (Err fault) start written = Breaks fault start written
+
+-- a fault of the input or of memory: no device failed
+abbrev pub IsOfInput : Fault → Type 0
+IsOfInput Device = ⊥
+IsOfInput fault = Unit {0}
+
+-- a fault behind which a conversation goes on
+abbrev pub is_passing : Fault → Bool
+is_passing (Text line) = true
+is_passing TimeExhausted = true
+is_passing Usage = false
+is_passing Device = false
+is_passing NoMemory = false
+is_passing (Frame fault) = false
+is_passing (Dump fault) = false
+is_passing (Arguments line) = false
+is_passing WasTold = false
+
+-- the exit status of an outcome
+abbrev pub outcome_status : Result (Unit {0}) Fault → ℕ
+outcome_status (Ok done) = 0
+outcome_status (Err fault) = fault_status fault
+
+-- what is told of an outcome: nothing of one that was done, and of a fault its line
+abbrev pub Tells : Result (Unit {0}) Fault → Output → Output → Type 0
+Tells (Ok done) quiet told = told ≡ quiet
+Tells (Err fault) quiet told = TellsOf fault quiet told
+
+-- a form of the program was done, or a fault ended it: the status is the outcome's, and a device failed exactly where that
+-- says so; where no statements are typed, nothing but its line is told
+pub record Exits (talks : Bool) (status : ℕ) (before after : Input) (start written quiet told : Output) : Type 0 where
+  pub outcome : Result (Unit {0}) Fault
+  pub ended : Ended outcome before after start written
+  pub status_is : status ≡ outcome_status outcome
+  pub line : talks ≡ false → Tells outcome quiet told

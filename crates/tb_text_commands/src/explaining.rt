@@ -1,0 +1,246 @@
+//! Where and why `tbs` stops in a script or a dump, in words.
+ghost use Rattle.tb_text_commands.specs.Ends.{Ended};
+
+use crate::faults::Fault;
+use crate::intake::Intake;
+use crate::scripts::put;
+use std::alloc::{AllocError, Global};
+use std::format;
+use tb_machine::{Entry, Machine, status_of};
+use tb_records::dumps::{read_head_from, read_item_from};
+use tb_records::streams::read_timed_from;
+use tb_records::{
+    Counting, DumpFault, DumpHead, DumpItem, FrameFault, LAST_MOMENT, Profile, Sink, Source,
+};
+use tb_sessions::Class;
+
+/// The bytes of which it is said whether they look like text.
+const SAMPLE: usize = 32;
+
+/// What a dump begins with.
+const SIGNATURE: &[u8] = b"TBSDUMP1";
+
+/// A frame's fault in words.
+fn frame_words(fault: FrameFault) -> &'static str {
+    match fault {
+        FrameFault::Short => "the bytes end within it",
+        FrameFault::ClientZero => "its client is 0",
+        FrameFault::UnknownOperation => "no operation has its number",
+        FrameFault::Reserved => "a byte that must be 0 is not",
+        FrameFault::BadLength => "its body has a length that its operation does not allow",
+        FrameFault::TooMany => "it has more than 8190 events or ids",
+        FrameFault::RegisterNumbers => "it is a register, and its session or request is not 0",
+        FrameFault::RequestZero => "its request is 0, and it is no register",
+        FrameFault::Device => "it cannot be read",
+        FrameFault::NoMemory => "there is no memory for it",
+        FrameFault::ReplyNumbers => "its session and its commit number do not go together",
+    }
+}
+
+/// A dump's fault in words.
+fn dump_words(fault: DumpFault) -> &'static str {
+    match fault {
+        DumpFault::Head =>
+            "the first 16 bytes are no head: TBSDUMP1, profile 1 or 2, 1 to 64 clients",
+        DumpFault::Mark => "a mark is not 2, or is there under profile 2",
+        DumpFault::Frame(fault) => frame_words(fault),
+        DumpFault::NotLegal => "it does not follow from the entries before it",
+        DumpFault::NoMemory => "there is no memory for it",
+    }
+}
+
+/// Says that bytes look like text.
+fn looks_like_text(bytes: &[u8]) -> bool {
+    let sample = bytes.get(..SAMPLE).unwrap_or(bytes);
+    for byte in sample {
+        if !matches!(*byte, b'\t' | b'\n' | b'\r' | b' '..=b'~') {
+            return false;
+        }
+    }
+    !sample.is_empty()
+}
+
+/// What is added where bytes look like text.
+fn hint(bytes: &[u8]) -> &'static str {
+    if looks_like_text(bytes) {
+        "It looks like text: tbt script makes a script of statements.\n"
+    } else {
+        ""
+    }
+}
+
+/// What is told of a script.
+fn explain_script(alloc: Global, bytes: &[u8]) -> Result<String, AllocError> {
+    let total = bytes.len();
+    let mut rest = bytes;
+    for number in 1..u64::MAX {
+        let at = total.saturating_sub(rest.len());
+        let mut reader = Counting::new(rest);
+        match read_timed_from(alloc, &mut reader) {
+            Ok(Some((moment, _))) if moment > LAST_MOMENT => {
+                return format!(in alloc;
+                    "pair {number}, at byte {at}: its moment is above 2^63 - 1; where its request is new, no time is left (TimeExhausted)\n"
+                );
+            }
+            Ok(Some(_)) => {}
+            Ok(None) => {
+                let pairs = number - 1;
+                return format!(in alloc;
+                    "a script, {pairs} pairs in {total} bytes: tbs reads it to its end\n"
+                );
+            }
+            Err(fault) => {
+                let words = frame_words(fault);
+                let name = fault.name();
+                let hint = hint(rest);
+                return format!(in alloc; "pair {number}, at byte {at}: {words} ({name})\n{hint}");
+            }
+        }
+        rest = reader.into_inner();
+    }
+    format!(in alloc; "too many pairs\n")
+}
+
+/// Why an entry may not come next.
+fn why_not(alloc: Global, machine: &Machine<Global>, entry: &Entry) -> Result<String, AllocError> {
+    let next = machine.commit() + 1;
+    if entry.commit != next {
+        let commit = entry.commit;
+        return format!(in alloc; "its commit number is {commit}, and {next} comes next");
+    }
+    let class = machine.class(&entry.request);
+    if !matches!(class, Class::New) {
+        let name = status_of(class).name();
+        return format!(in alloc; "its request is not new: {name}");
+    }
+    let time = entry.time;
+    let least = machine
+        .next_time(0, entry.request.body().event_count() as u64)
+        .unwrap_or(LAST_MOMENT);
+    format!(in alloc; "its time is {time}, where {least} to 2^63 - 1 is allowed")
+}
+
+/// Enters what stands next in a dump, or tells why it may not stand there.
+fn follow(
+    alloc: Global,
+    machine: &mut Machine<Global>,
+    item: DumpItem,
+) -> Result<Option<String>, AllocError> {
+    match item {
+        DumpItem::Mark => match machine.profile() {
+            Profile::One => {
+                machine.move_to_two();
+                Ok(None)
+            }
+            Profile::Two => Ok(Some(format!(in alloc; "a mark under profile 2 (Mark)")?)),
+        },
+        DumpItem::Entry {
+            commit,
+            time,
+            request,
+        } => {
+            let entry = Entry {
+                commit,
+                time,
+                request,
+            };
+            if !machine.fits(&entry) {
+                let why = why_not(alloc, machine, &entry)?;
+                return Ok(Some(format!(in alloc; "{why} (NotLegal)")?));
+            }
+            match machine.enter(entry) {
+                Ok(()) => Ok(None),
+                Err(_) => Err(AllocError),
+            }
+        }
+    }
+}
+
+/// What is told of the entries of a dump, which stand behind its head.
+fn explain_entries(
+    alloc: Global,
+    machine: &mut Machine<Global>,
+    bytes: &[u8],
+    entries: &[u8],
+) -> Result<String, AllocError> {
+    let total = bytes.len();
+    let mut rest = entries;
+    for number in 1..u64::MAX {
+        let at = total.saturating_sub(rest.len());
+        let mut reader = Counting::new(rest);
+        match read_item_from(alloc, &mut reader) {
+            Ok(Some(item)) => {
+                if let Some(why) = follow(alloc, machine, item)? {
+                    return format!(in alloc; "entry {number}, at byte {at}: {why}\n");
+                }
+            }
+            Ok(None) => {
+                let commit = machine.commit();
+                return format!(in alloc;
+                    "a dump, {commit} entries in {total} bytes: tbs replays it to its end\n"
+                );
+            }
+            Err(fault) => {
+                let words = dump_words(fault);
+                let name = fault.name();
+                return format!(in alloc; "entry {number}, at byte {at}: {words} ({name})\n");
+            }
+        }
+        rest = reader.into_inner();
+    }
+    format!(in alloc; "too many entries\n")
+}
+
+/// What is told of a dump behind its head.
+fn explain_behind(
+    alloc: Global,
+    head: DumpHead,
+    bytes: &[u8],
+    entries: &[u8],
+) -> Result<String, AllocError> {
+    let mut machine = Machine::new_in(alloc, alloc, head.profile, head.clients_max)?;
+    let told = explain_entries(alloc, &mut machine, bytes, entries);
+    drop(machine);
+    told
+}
+
+/// What is told of a dump.
+fn explain_dump(alloc: Global, bytes: &[u8]) -> Result<String, AllocError> {
+    let mut reader = Counting::new(bytes);
+    let head = match read_head_from(&mut reader) {
+        Ok(head) => head,
+        Err(fault) => {
+            let words = dump_words(fault);
+            let name = fault.name();
+            return format!(in alloc; "the head, at byte 0: {words} ({name})\n");
+        }
+    };
+    let entries = reader.into_inner();
+    explain_behind(alloc, head, bytes, entries)
+}
+
+/// Tells where and why `tbs` stops in a script, or where the input begins as one in a dump.
+pub fn explain<R: Source, W: Sink>(
+    alloc: Global,
+    reader: &mut R,
+    writer: &mut W,
+) -> Result<(), Fault>
+    ensures { Ended result (R.input reader.old) (R.input reader.new) (W.output writer.old) (W.output writer.new) }
+{
+    let mut intake = Intake::new(alloc);
+    for _ in 0..u64::MAX {
+        if !intake.read_more(reader, writer)? {
+            break;
+        }
+    }
+    let bytes = intake.rest();
+    let told = if bytes.starts_with(SIGNATURE) {
+        explain_dump(alloc, bytes)
+    } else {
+        explain_script(alloc, bytes)
+    };
+    match told {
+        Ok(told) => put(writer, told.as_str().as_bytes()),
+        Err(_) => Err(Fault::NoMemory),
+    }
+}

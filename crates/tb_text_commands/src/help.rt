@@ -1,0 +1,32 @@
+//! The page of usage.
+
+/// The line of the program's version.
+pub const VERSION: &str = "tbt 0.1.0\n";
+
+/// How the program is used.
+pub const USAGE: &str = "Usage: tbt FORM
+
+Reads standard input, writes standard output.
+
+  run CLIENTS_MAX [PROFILE]  statements in, the reply to each as a line of JSON out
+  script                     statements in, a script for tbs run out
+  requests                   a script in, its statements out
+  replies                    the replies of tbs in, a line of JSON each out
+  dump                       a dump of tbs in, a line of JSON for each entry out
+  pairs                      a dump in, a script that makes its history out
+  audit [--account ID]       a dump in, what became of each event, expiries, the account's balances out
+  explain                    a script or a dump in, where and why tbs stops in it out
+  --help, -h, --version
+
+CLIENTS_MAX is 1 to 64, PROFILE 1 or 2. The exit status is 0 where all is done, 1 where a
+device or memory failed, 2 where the input or the arguments are wrong.
+
+Example: two accounts, a transfer of 100, and how an account stands then.
+
+  tbt run 2 <<END
+  at=1 client=7 register;
+  at=2 client=7 session=1 request=1 create_accounts id=1 ledger=700 code=10, id=2 ledger=700 code=10;
+  at=3 client=7 session=1 request=2 create_transfers id=11 debit_account_id=1 credit_account_id=2 amount=100 ledger=700 code=10;
+  at=4 client=7 session=1 request=3 lookup_accounts id=2;
+  END
+";

@@ -1,0 +1,121 @@
+//! Bytes that were read and wait to be taken: statements, or replies, one by one.
+ghost use Rattle.tb_text_commands.specs.Ends.{Ended};
+
+use crate::faults::Fault;
+use std::alloc::Global;
+use tb_records::{Sink, Source};
+use tb_text::position;
+
+/// The bytes that are asked for at a time.
+const CHUNK: usize = 4096;
+
+/// Bytes that were read and not taken yet.
+#[derive(Drop)]
+pub struct Intake {
+    bytes: Vec<u8>,
+    /// The bytes before this place were taken.
+    at: usize,
+    /// No statement ends before this place.
+    searched: usize,
+    /// This place is within a comment.
+    in_comment: bool,
+    /// The line and the column of the first byte that is not taken, both from 1.
+    line: usize,
+    column: usize,
+}
+
+impl Intake {
+    /// Nothing read yet.
+    pub fn new(alloc: Global) -> Intake {
+        Intake {
+            bytes: Vec::new(alloc),
+            at: 0,
+            searched: 0,
+            in_comment: false,
+            line: 1,
+            column: 1,
+        }
+    }
+
+    /// What was read and not taken yet.
+    pub fn rest(&self) -> &[u8] {
+        self.bytes.get(self.at..).unwrap_or(&[])
+    }
+
+    /// The line and the column of a place in the rest, both from 1.
+    pub fn position_at(&self, place: usize) -> (usize, usize) {
+        let rest = self.rest();
+        let (line, column) = position(rest.get(..place).unwrap_or(rest));
+        if line == 1 {
+            (
+                self.line,
+                self.column.saturating_add(column.saturating_sub(1)),
+            )
+        } else {
+            (self.line.saturating_add(line.saturating_sub(1)), column)
+        }
+    }
+
+    /// Takes bytes of the rest.
+    pub fn take(&mut self, length: usize) {
+        let (line, column) = self.position_at(length);
+        self.line = line;
+        self.column = column;
+        self.at = self.at.saturating_add(length).min(self.bytes.len());
+        self.searched = self.at;
+        self.in_comment = false;
+    }
+
+    /// The number of bytes as far as the `;` of the next statement, where it was read.
+    pub fn statement(&mut self) -> Option<usize> {
+        let rest = self.bytes.get(self.searched..).unwrap_or(&[]);
+        for (place, byte) in rest.iter().enumerate() {
+            match *byte {
+                b'\n' => self.in_comment = false,
+                b'#' => self.in_comment = true,
+                b';' if !self.in_comment => {
+                    let end = self.searched.saturating_add(place).saturating_add(1);
+                    return Some(end.saturating_sub(self.at));
+                }
+                _ => {}
+            }
+        }
+        self.searched = self.bytes.len();
+        None
+    }
+
+    /// Moves the rest to the beginning of the memory.
+    fn make_room(&mut self) {
+        if self.at == 0 || self.bytes.len() < self.at {
+            return;
+        }
+        let length = self.bytes.len() - self.at;
+        self.bytes.copy_within(self.at.., 0);
+        self.bytes.truncate(length);
+        self.searched = self.searched.saturating_sub(self.at);
+        self.at = 0;
+    }
+
+    /// Reads more bytes: false where the reader is at its end. What was written is passed on first, where the reader may
+    /// have to be waited for.
+    pub fn read_more<R: Source, W: Sink>(
+        &mut self,
+        reader: &mut R,
+        writer: &mut W,
+    ) -> Result<bool, Fault>
+        ensures { Ended result (R.input reader.old) (R.input reader.new) (W.output writer.old) (W.output writer.new) }
+    {
+        if reader.at_hand().is_empty() {
+            writer.pass_on();
+        }
+        let mut buffer = [0; CHUNK];
+        let Ok(read) = reader.pull(&mut buffer) else {
+            return Err(Fault::Device);
+        };
+        self.make_room();
+        if self.bytes.extend_from_slice(&buffer[..read]).is_err() {
+            return Err(Fault::NoMemory);
+        }
+        Ok(read > 0)
+    }
+}

@@ -1,0 +1,25 @@
+//! What became of the events of a machine's last entry.
+use std::alloc::Global;
+use tb_machine::Machine;
+use tb_records::{EventResult, ReplyBody};
+
+/// The results of a client's last request: the events of a batch that were not accepted.
+pub fn results_of(machine: &Machine<Global>, client: u128) -> &[EventResult] {
+    match machine.reply_of(client) {
+        Some(reply) => match reply.body() {
+            ReplyBody::Results(results) => results.as_slice(),
+            _ => &[],
+        },
+        None => &[],
+    }
+}
+
+/// Says that an event of a batch was accepted.
+pub fn is_accepted(results: &[EventResult], index: usize) -> bool {
+    for result in results {
+        if result.index as usize == index {
+            return false;
+        }
+    }
+    true
+}

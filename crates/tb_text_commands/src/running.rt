@@ -1,0 +1,157 @@
+//! A server for statements: each is served when it is read, and its reply is told as a line of JSON.
+ghost use Rattle.std.specs.Prelude.{◌≡◌, false, IfErr, IfOk};
+ghost use Rattle.tb_sessions.specs.Judged.{class_of};
+ghost use Rattle.tb_text_commands.specs.Ends.{Ended, IsOfInput, Written, is_passing};
+
+use crate::faults::Fault;
+use crate::intake::Intake;
+use crate::lines::reply_line;
+use crate::scripts::put_line;
+use crate::statements::next_statement;
+use std::alloc::{AllocError, Global};
+use tb_machine::{Entry, Machine, status_of};
+use tb_records::{ClientsMax, Profile, Reply, Request, Sink, Source};
+use tb_sessions::Class;
+
+/// Enters a new request that comes at a moment, where there is a time for it.
+fn enter(machine: &mut Machine<Global>, moment: u64, request: Request) -> Result<(), Fault>
+    requires { class_of machine.old.rows request ≡ Class.New }
+    ensures { IfErr result IsOfInput }
+{
+    let events = request.body().event_count() as u64;
+    let Some(time) = machine.next_time(moment, events) else {
+        return Err(Fault::TimeExhausted);
+    };
+    let entry = Entry {
+        commit: machine.commit() + 1,
+        time,
+        request,
+    };
+    match machine.enter(entry) {
+        Ok(()) => Ok(()),
+        Err(_) => Err(Fault::NoMemory),
+    }
+}
+
+/// The line of the reply that a client's row keeps.
+fn stored_line(
+    alloc: Global,
+    machine: &Machine<Global>,
+    client: u128,
+) -> Result<Vec<u8>, AllocError> {
+    match machine.reply_of(client) {
+        Some(reply) => reply_line(alloc, reply),
+        None => Ok(Vec::new(alloc)),
+    }
+}
+
+/// Serves a request that comes at a moment, and answers the line of its reply. A new one is entered first.
+fn serve(
+    alloc: Global,
+    machine: &mut Machine<Global>,
+    moment: u64,
+    request: Request,
+) -> Result<Result<Vec<u8>, AllocError>, Fault>
+    ensures { IfErr result IsOfInput }
+{
+    let client = request.client();
+    match machine.class(&request) {
+        Class::New => enter(machine, moment, request)?,
+        Class::Repeat => {}
+        class => return Ok(reply_line(alloc, &Reply::refusal(&request, status_of(class)))),
+    }
+    Ok(stored_line(alloc, machine, client))
+}
+
+/// Serves requests, and writes the lines of their replies.
+fn serve_pairs<W: Sink>(
+    alloc: Global,
+    machine: &mut Machine<Global>,
+    pairs: Vec<(u64, Request)>,
+    writer: &mut W,
+) -> Result<(), Fault>
+    ensures { Written result (W.output writer.old) (W.output writer.new) }
+{
+    for (moment, request) in pairs {
+        let line = serve(alloc, machine, moment, request)?;
+        put_line(writer, line)?;
+    }
+    Ok(())
+}
+
+/// Serves the next statement: false where there is none.
+fn serve_next<R: Source, W: Sink>(
+    alloc: Global,
+    machine: &mut Machine<Global>,
+    intake: &mut Intake,
+    reader: &mut R,
+    writer: &mut W,
+    talks: bool,
+) -> Result<bool, Fault>
+    ensures { Ended result (R.input reader.old) (R.input reader.new) (W.output writer.old) (W.output writer.new) }
+{
+    let Some(pairs) = next_statement(alloc, intake, reader, writer, talks)? else {
+        return Ok(false)
+    };
+    serve_pairs(alloc, machine, pairs.into_vec(), writer)?;
+    Ok(true)
+}
+
+/// Says that the next statement may be read behind a fault.
+fn is_passing(fault: &Fault) -> bool
+    ensures { result ≡ is_passing fault.now }
+{
+    matches!(fault, Fault::Text(_) | Fault::TimeExhausted)
+}
+
+/// Serves statements to their end. Where it `talks`, a wrong statement is told at once, and the next one is read.
+fn converse<R: Source, W: Sink, E: Sink>(
+    alloc: Global,
+    machine: &mut Machine<Global>,
+    talks: bool,
+    reader: &mut R,
+    writer: &mut W,
+    faults: &mut E,
+) -> Result<(), Fault>
+    ensures ended { Ended result (R.input reader.old) (R.input reader.new) (W.output writer.old) (W.output writer.new) }
+    ensures quiet { IfOk result (λ _. faults.new ≡ faults.old) }
+    ensures silent { talks ≡ false → faults.new ≡ faults.old }
+{
+    let mut intake = Intake::new(alloc);
+    let mut told = false;
+    for _ in 0..u64::MAX {
+        match serve_next(alloc, machine, &mut intake, reader, writer, talks) {
+            Ok(true) => {}
+            Ok(false) => break,
+            Err(fault) if talks && is_passing(&fault) => {
+                writer.pass_on();
+                fault.tell(faults);
+                told = true;
+            }
+            Err(fault) => return Err(fault),
+        }
+    }
+    if told { Err(Fault::WasTold) } else { Ok(()) }
+}
+
+/// Serves statements by a machine of its own.
+pub fn run<R: Source, W: Sink, E: Sink>(
+    alloc: Global,
+    clients_max: ClientsMax,
+    profile: Profile,
+    talks: bool,
+    reader: &mut R,
+    writer: &mut W,
+    faults: &mut E,
+) -> Result<(), Fault>
+    ensures ended { Ended result (R.input reader.old) (R.input reader.new) (W.output writer.old) (W.output writer.new) }
+    ensures quiet { IfOk result (λ _. faults.new ≡ faults.old) }
+    ensures silent { talks ≡ false → faults.new ≡ faults.old }
+{
+    let Ok(mut machine) = Machine::new_in(alloc, alloc, profile, clients_max) else {
+        return Err(Fault::NoMemory);
+    };
+    let done = converse(alloc, &mut machine, talks, reader, writer, faults);
+    drop(machine);
+    done
+}

@@ -1,0 +1,101 @@
+//! Readers and writers that fail, and how often the line of faults is written.
+use crate::forms::words_of;
+use std::io::{self, Error, ErrorKind, Read, Write};
+use std::test::Fail;
+use tb_records::{Counting, Sink, Source};
+use tb_text_commands::command;
+
+/// A reader that fails once after its bytes, and is at its end from then on.
+#[derive(Drop)]
+struct Failing<'a> {
+    rest: &'a [u8],
+    failed: bool,
+}
+
+impl Read for Failing<'_> {
+    fn read(&mut self, buf: &mut [u8]) -> io::Result<usize> {
+        if self.rest.is_empty() && !self.failed {
+            self.failed = true;
+            return Err(Error::from(ErrorKind::Other));
+        }
+        self.rest.read(buf)
+    }
+}
+
+/// A writer that fails, and counts how often it is asked.
+#[derive(Drop)]
+struct Closed {
+    asked: u32,
+}
+
+impl Write for Closed {
+    fn write(&mut self, _bytes: &[u8]) -> io::Result<usize> {
+        self.asked += 1;
+        Err(Error::from(ErrorKind::BrokenPipe))
+    }
+
+    fn flush(&mut self) -> io::Result<()> {
+        Ok(())
+    }
+}
+
+/// The forms that read, and bytes that are whole for each.
+const INPUTS: [(&str, &[u8]); 6] = [
+    ("script", b"at=1 client=7 register;"),
+    ("requests", b""),
+    ("replies", b""),
+    ("dump", b"TBSDUMP1\x01\0\0\0\x02\0\0\0"),
+    ("pairs", b"TBSDUMP1\x01\0\0\0\x02\0\0\0"),
+    ("audit", b"TBSDUMP1\x01\0\0\0\x02\0\0\0"),
+];
+
+/// An error of the reader is not the end of the input: the status is 1, the line Device, and the reader is asked no more.
+#[test]
+fn failing_reader(rt: HostRuntime) -> Result<(), Fail> {
+    for (form, bytes) in INPUTS {
+        let words = words_of(&rt, &[form])?;
+        let mut reader = Counting::new(Failing {
+            rest: bytes,
+            failed: false,
+        });
+        let mut writer = Counting::new(Vec::new(rt.alloc()));
+        let mut faults = Counting::new(Vec::new(rt.alloc()));
+        let status = command(
+            rt.alloc(),
+            words.as_slice(),
+            false,
+            &mut reader,
+            &mut writer,
+            &mut faults,
+        );
+        assert_eq!(rt; status, 1, "{form}");
+        assert_eq!(rt; reader.failures(), 1, "{form}");
+        assert_eq!(rt; faults.into_inner().as_slice(), b"tbt: Device\n".as_slice());
+    }
+    Ok(())
+}
+
+/// A writer that fails is asked once, and so is one for the line of the fault.
+#[test]
+fn failing_writer(rt: HostRuntime) -> Result<(), Fail> {
+    for (form, bytes) in INPUTS {
+        if form != "requests" && form != "replies" && form != "pairs" {
+            let words = words_of(&rt, &[form])?;
+            let mut reader = Counting::new(bytes);
+            let mut writer = Counting::new(Closed { asked: 0 });
+            let mut faults = Counting::new(Closed { asked: 0 });
+            let status = command(
+                rt.alloc(),
+                words.as_slice(),
+                false,
+                &mut reader,
+                &mut writer,
+                &mut faults,
+            );
+            assert_eq!(rt; status, 1, "{form}");
+            assert_eq!(rt; writer.into_inner().asked, 1, "{form}");
+            assert_eq!(rt; faults.into_inner().asked, 1, "{form}");
+        }
+    }
+    Ok(())
+}

@@ -1,0 +1,69 @@
+//! A form of the program over bytes in memory, and what it left.
+use std::process::Abort;
+use std::test::Fail;
+use tb_records::Counting;
+use tb_text_commands::command;
+
+/// What a command left.
+#[derive(Drop)]
+pub struct Left {
+    pub status: u8,
+    pub output: Vec<u8>,
+    pub line: Vec<u8>,
+}
+
+/// The words of a command line.
+pub fn words_of(rt: &impl AllocGlobal, words: &[&str]) -> Result<Vec<String>, Fail> {
+    let mut owned = Vec::new(rt.alloc());
+    for word in words {
+        owned.push(word.to_string(rt.alloc())?)?;
+    }
+    Ok(owned)
+}
+
+/// Gives words and the input to the program; where it `talks`, as if statements were typed.
+pub fn left_where(
+    rt: &impl AllocGlobal,
+    words: &[&str],
+    talks: bool,
+    input: &[u8],
+) -> Result<Left, Fail> {
+    let words = words_of(rt, words)?;
+    let mut reader = Counting::new(input);
+    let mut writer = Counting::new(Vec::new(rt.alloc()));
+    let mut faults = Counting::new(Vec::new(rt.alloc()));
+    let status = command(
+        rt.alloc(),
+        words.as_slice(),
+        talks,
+        &mut reader,
+        &mut writer,
+        &mut faults,
+    );
+    Ok(Left {
+        status,
+        output: writer.into_inner(),
+        line: faults.into_inner(),
+    })
+}
+
+/// Gives words and the input to the program.
+pub fn left_by(rt: &impl AllocGlobal, words: &[&str], input: &[u8]) -> Result<Left, Fail> {
+    left_where(rt, words, false, input)
+}
+
+/// Says that words and an input leave this status, output and line of faults.
+pub fn leaves(
+    rt: &(impl Abort + AllocGlobal),
+    words: &[&str],
+    input: &[u8],
+    status: u8,
+    output: &str,
+    line: &str,
+) -> Result<(), Fail> {
+    let left = left_by(rt, words, input)?;
+    assert_eq!(rt; left.line.as_slice(), line.as_bytes());
+    assert_eq!(rt; left.output.as_slice(), output.as_bytes());
+    assert_eq!(rt; left.status, status);
+    Ok(())
+}
