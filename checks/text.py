@@ -9,11 +9,14 @@ Prints a line for each case, and 'N passed, M failed'. The forms are those of do
 """
 import json
 import os
+import pty
 import random
 import re
+import select
 import struct
 import subprocess
 import sys
+import termios
 
 TOP = os.path.dirname(os.path.dirname(os.path.abspath(__file__)))
 TBT = f"{TOP}/crates/tbt/out/tbt"
@@ -106,7 +109,16 @@ for name, text, place in [
     status, out, line = run(TBT, ["script"], text)
     check(name, (status, out, line[: 5 + len(place)]), (2, b"", b"tbt: " + place))
 check("what was right is written", run(TBT, ["script"], TEXT + b"at")[:2], (2, SCRIPT))
-check("wrong arguments", run(TBT, ["serve"], b""), (2, b"", b"tbt: Usage\n"))
+check("wrong arguments", run(TBT, ["serve"], b""), (2, b"", b"tbt: serve: unknown; tbt --help shows the forms\n"))
+check("a wrong number", run(TBT, ["run", "65"], b""), (2, b"", b"tbt: run 65: CLIENTS_MAX is 1 to 64\n"))
+status, page, line = run(TBT, ["--help"], b"")
+check("the page of usage", (status, page.startswith(b"Usage: tbt FORM\n"), line), (0, True, b""))
+check("fits a screen", len(page.splitlines()) <= 32, True)
+check("its short form", run(TBT, ["-h"], b""), (0, page, b""))
+check("no arguments", run(TBT, [], b""), (2, b"", page))
+check("the version", run(TBT, ["--version"], b""), (0, b"tbt 0.1.0\n", b""))
+example = page.split(b"<<END\n")[1].split(b"  END\n")[0]
+check("its example", [it["status"] for it in map(json.loads, run(TBT, ["run", "2"], example)[1].splitlines())], ["reply"] * 4)
 check("a cut script", run(TBT, ["requests"], SCRIPT[:60]), (2, b"at=10 client=7 register;\n", b"tbt: Short\n"))
 check("a cut reply", run(TBT, ["replies"], REPLIES[:50])[::2], (2, b"tbt: Short\n"))
 check("no dump", run(TBT, ["dump"], SCRIPT[:8]), (2, b"", b"tbt: Head\n"))
@@ -149,6 +161,123 @@ while len(wrong) < 60:
         wrong.append((text, place))
 check("what stands before a wrong place goes on", [it for it in wrong if place_told(it[0][: it[1]]) not in (None, it[1])], [])
 check("with the byte there nothing goes on", [it for it in wrong if it[1] < len(it[0]) and place_told(it[0][: it[1] + 1]) != it[1]], [])
+
+# words in, answers out: as through a script, tbs and its replies
+
+
+def piped(clients, profile, text):
+    """What the three programs make of statements, one behind the other."""
+    return run(TBT, ["replies"], run(TBS, ["run", clients, profile], run(TBT, ["script"], text)[1])[1])[1]
+
+
+def random_talk(seed):
+    """Statements of a few clients that register, create, look up, repeat, and name wrong numbers."""
+    lines, clients, moment = [], [seed.getrandbits(128) | 1 for _ in range(4)], 0
+    for _ in range(60):
+        moment += seed.randrange(0, 3 * 10**9)
+        client, session, number = seed.choice(clients), seed.randrange(1, 6), seed.randrange(1, 6)
+        head = f"at={moment} client={client} session={session} request={number} "
+        ids = [seed.randrange(1, 9) for _ in range(seed.randrange(1, 4))]
+        flags = seed.choice(["0", "linked", "pending", "post_pending_transfer", "void_pending_transfer", "balancing_debit", "closing_credit|pending"])
+        transfer = "id={} debit_account_id={} credit_account_id={} amount={} ledger=700 code=10 timeout={} pending_id={} flags=" + flags
+        lines.append(
+            seed.choice(
+                [
+                    f"at={moment} client={client} register;",
+                    head + "create_accounts " + ", ".join(f"id={it} ledger=700 code=10" for it in ids) + ";",
+                    head + "create_transfers " + ", ".join(transfer.format(10 * it, it, seed.randrange(1, 9), seed.randrange(200), seed.randrange(3) if "pending" == flags else 0, 10 * seed.randrange(9) if "_pending" in flags else 0) for it in ids) + ";",
+                    head + "lookup_accounts " + ", ".join(f"id={it}" for it in ids) + ";",
+                    head + "lookup_transfers " + ", ".join(f"id={10 * it}" for it in ids) + ";",
+                    lines[-1] if lines else "",
+                ]
+            )
+        )
+    return "\n".join(lines).encode()
+
+
+for clients, profile in [("1", "1"), ("2", "1"), ("3", "2"), ("64", "2")]:
+    talks = [random_talk(seed) for _ in range(15)]
+    different = [it for it in talks if run(TBT, ["run", clients, profile], it) != (0, piped(clients, profile, it), b"")]
+    check(f"15 conversations of {clients} clients by profile {profile}", different, [])
+
+# each statement, reply and entry is written before more input is there
+
+
+def answers(words, parts):
+    """What a program writes behind each part of its input, before the next part is there."""
+    it = subprocess.Popen([TBT, *words], stdin=subprocess.PIPE, stdout=subprocess.PIPE)
+    told = []
+    for part in parts:
+        it.stdin.write(part)
+        it.stdin.flush()
+        ready = select.select([it.stdout], [], [], 10)[0]
+        told.append(os.read(it.stdout.fileno(), 65536) if ready else None)
+    it.stdin.close()
+    rest = it.stdout.read()
+    return told, rest, it.wait()
+
+
+statements = [it + b";" for it in run(TBT, ["requests"], SCRIPT)[1].split(b";")[:-1]]
+scripts = [run(TBT, ["script"], it)[1] for it in statements]
+frames = [it[0] for it in [(run(TBS, ["run", "2"], b"".join(scripts[: k + 1]))[1],) for k in range(3)]]
+frames = [frames[0], frames[1][len(frames[0]) :], frames[2][len(frames[1]) :]]
+entries = [dumped[:16]] + [run(TBS, ["dump", "2"], b"".join(scripts[: k + 1]))[1] for k in range(3)]
+parts = [entries[0]] + [entries[k + 1][len(entries[k]) :] for k in range(3)]
+check("script at once", answers(["script"], statements), (scripts, b"", 0))
+check("requests at once", answers(["requests"], scripts), ([it.lstrip(b"\n") + b"\n" for it in statements], b"", 0))
+check("replies at once", answers(["replies"], frames), ([run(TBT, ["replies"], it)[1] for it in frames], b"", 0))
+check("run at once", answers(["run", "2"], statements), ([run(TBT, ["replies"], it)[1] for it in frames], b"", 0))
+told, rest, status = answers(["dump"], parts)
+check("dump at once", (b"".join(told), rest, status), (run(TBT, ["dump"], dumped)[1], b"", 0))
+told, rest, status = answers(["audit"], parts)
+check("audit at once", ([it.count(b"\n") for it in told], rest, status), ([1] * 4, b"", 0))
+
+# a terminal
+
+
+def typed(words, lines):
+    """What a program shows behind each line that is typed on a terminal, and its status."""
+    master, slave = pty.openpty()
+    settings = termios.tcgetattr(slave)
+    settings[3] &= ~termios.ECHO
+    termios.tcsetattr(slave, termios.TCSANOW, settings)
+    it = subprocess.Popen([TBT, *words], stdin=slave, stdout=subprocess.PIPE, stderr=subprocess.STDOUT)
+    shown = []
+    for line in lines:
+        os.write(master, line)
+        ready = select.select([it.stdout], [], [], 10)[0]
+        shown.append(os.read(it.stdout.fileno(), 65536) if ready else None)
+    os.write(master, b"\x04")
+    return shown, it.wait(timeout=10)
+
+
+first = run(TBT, ["replies"], frames[0])[1]
+fault = run(TBT, ["script"], b"at=10 clint=7")[2].replace(b"line 1", b"line 2")
+check("a terminal", typed(["run", "2"], [b"at=10 client=7 register;\n", b"at=10 clint=7\n", b"at=10 client=7 register;\n"])[0][:2], [first, fault])
+check("its status", typed(["run", "2"], [b"at=10 client=7 register;\n", b"at=10 clint=7\n"])[1], 2)
+check("its status where all is right", typed(["run", "2"], [b"at=10 client=7 register;\n"])[1], 0)
+
+# dumps: their pairs, their audit, and what is wrong
+
+for turn in range(5):
+    talk = random_talk(seed)
+    script = run(TBT, ["script"], talk)[1]
+    history = run(TBS, ["dump", "3"], script)[1]
+    check(f"pairs of history {turn}", run(TBS, ["dump", "3"], run(TBT, ["pairs"], history)[1]), (0, history, b""))
+    status, lines, line = run(TBT, ["audit"], history)
+    check(f"audit of history {turn}", (status, line), (0, b""))
+    entries = [it for it in map(json.loads, lines.splitlines()) if "operation" in it]
+    plain = [json.loads(it) for it in run(TBT, ["dump"], history)[1].splitlines()][1:]
+    check(f"its entries {turn}", [(it["commit"], it["time"], it["client"], len(it["events"])) for it in entries], [(it["commit"], it["time"], it["client"], len(it["events"])) for it in plain])
+    replies = [it for it in map(json.loads, run(TBT, ["replies"], run(TBS, ["replay"], history)[1])[1].splitlines())]
+    refused = [[(k, it["result"]) for k, it in enumerate(entry["events"]) if it.get("result", "created") != "created"] for entry in entries if entry["operation"].startswith("create")]
+    wanted = [[(it["index"], it["result"]) for it in reply["results"]] for reply in replies if reply["operation"].startswith("create")]
+    check(f"its results {turn}", refused, wanted)
+check("explain a script", run(TBT, ["explain"], SCRIPT), (0, b"a script, 3 pairs in %d bytes: tbs reads it to its end\n" % len(SCRIPT), b""))
+check("explain a cut script", run(TBT, ["explain"], SCRIPT[:60]), (0, b"pair 2, at byte 56: the bytes end within it (Short)\n", b""))
+check("explain text", run(TBT, ["explain"], TEXT)[1].splitlines()[1], b"It looks like text: tbt script makes a script of statements.")
+check("explain a dump", run(TBT, ["explain"], dumped), (0, b"a dump, 3 entries in %d bytes: tbs replays it to its end\n" % len(dumped), b""))
+check("explain a cut dump", run(TBT, ["explain"], dumped[:-1])[1].startswith(b"entry 3, at byte "), True)
 
 print(f"{PASSED} passed, {FAILED} failed")
 sys.exit(1 if FAILED else 0)
