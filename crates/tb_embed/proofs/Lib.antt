@@ -1,6 +1,7 @@
 pub mod Again
 pub mod AsBox
 pub mod Filled
+pub mod Following
 pub mod Frames
 pub mod Lengths
 pub mod Values

@@ -5,6 +5,7 @@ ghost use Rattle.tb_records.specs.Frames.{Spells};
 ghost use Rattle.tb_machine.specs.Histories.{State};
 ghost use Rattle.tb_machine.specs.Runs.{IsTimely};
 ghost use Rattle.tb_embed.specs.Calls.{IsMalformed, IsAnsweredAgain};
+ghost use Rattle.tb_embed.specs.CallRuns.{CallsMakeHistory, OneStatus};
 
 /// The frame of a request is not malformed: so `tb_embed_serve` answers status 4 where the bytes have a fault or more bytes
 /// follow a frame, and nowhere else.
@@ -16,4 +17,17 @@ pub fn frames_are_not_malformed()
 /// whatever moment, it moves nothing and gets the same bytes.
 pub fn answered_again()
     ensures { (S : State) (moment again : ℕ) (r : Message) → IsLawful r → IsTimely S (moment, r) → IsAnsweredAgain S moment again r }
+{}
+
+/// Calls one after another leave the server of an opened handle after a legal history: what is accepted of the requests that
+/// were answered, in their order; and each was told the reply that this history gives. So each law of legal histories
+/// holds of a server inside another program.
+pub fn calls_make_history()
+    ensures { CallsMakeHistory }
+{}
+
+/// But for status 3, want of memory, `tb_embed_serve` has one right status for the same server, moment, bytes and length of
+/// the room. They come in this order: 1 closed, 4 no frame of a request, 5 no time is left, 7 the room is too small, 0.
+pub fn one_status()
+    ensures { OneStatus }
 {}

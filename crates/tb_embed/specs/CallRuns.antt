@@ -1,0 +1,69 @@
+-- What calls make of a server, one after another: a legal history of the requests that were answered.
+use Rattle.std.specs.Prelude.{ℕ, Bool, true, false, ◌≡◌, List, [], ◌∷◌, length, take, filter, Some}
+use Rattle.tb_records.specs.declared.limits.Profile.{Profile}
+use Rattle.tb_records.specs.Messages.{Answer}
+use Rattle.tb_records.specs.Frames.{Spells}
+use Rattle.tb_records.specs.ReplyFrames.{reply_bytes}
+use Rattle.tb_machine.specs.Histories.{State, start, IsLegal, after}
+use Rattle.tb_machine.specs.Scripts.{Pair, accepted, replies_to}
+use Rattle.tb_machine.specs.ScriptLaws.{AreLawful}
+use Rattle.tb_embed.specs.declared.outcomes.Outcome.{Outcome}
+use Rattle.tb_embed.specs.declared.outcomes.Outcome.TheVariants.{Done, NoMemory, TooSmall}
+use Rattle.tb_embed.specs.Calls.{Serves}
+use Rattle.tb_embed.specs.Outcomes.{status_of}
+
+-- a call of tb_embed_serve: the moment and the bytes that it was given, how it fared, and the room after it
+pub record Call : Type 0 where
+  pub moment : ℕ
+  pub bytes : List ℕ
+  pub outcome : Outcome
+  pub room : List ℕ
+
+-- calls one after another; what shows a record between them leaves the server as it is
+abbrev pub Follow : State → List Call → State → Type 0
+Follow S [] T = T ≡ S
+Follow S (c ∷ cs) T = (U : State) × Serves c.outcome (Some S) (Some U) c.moment c.bytes c.room × Follow U cs T
+
+-- the calls that were answered, also where the room was too small for the reply
+abbrev pub is_answered : Outcome → Bool
+is_answered (Done n) = true
+is_answered (TooSmall n) = true
+is_answered outcome = false
+
+abbrev pub answered : List Call → List Call
+answered cs = filter (λ c. is_answered c.outcome) cs
+
+-- what was told of the reply: its bytes in the room, or how many they are
+abbrev pub TellsReply : Outcome → List ℕ → Answer → Type 0
+TellsReply (Done n) room a = take n room ≡ reply_bytes a
+TellsReply (TooSmall n) room a = n ≡ length (reply_bytes a)
+TellsReply outcome room a = ⊥
+
+-- the call asked with this request at this moment, and got this reply
+pub record Asked (c : Call) (p : Pair) (a : Answer) : Type 0 where
+  pub moment : c.moment ≡ p.0
+  pub spelled : Spells c.bytes p.1
+  pub told : TellsReply c.outcome c.room a
+
+abbrev pub AreAsked : List Call → List Pair → List Answer → Type 0
+AreAsked [] [] [] = Unit {0}
+AreAsked (c ∷ cs) (p ∷ ps) (a ∷ replies) = Asked c p a × AreAsked cs ps replies
+AreAsked cs ps replies = ⊥
+
+-- the server stands after the legal history that is accepted of the requests that were answered, and told their replies
+pub record MakesHistory (profile : Profile) (clients_max : ℕ) (cs : List Call) (T : State) : Type 0 where
+  pub pairs : List Pair
+  pub lawful : AreLawful pairs
+  pub asked : AreAsked (answered cs) pairs (replies_to profile clients_max pairs)
+  pub legal : IsLegal profile clients_max (accepted profile clients_max [] pairs)
+  pub stands : T ≡ after profile clients_max (accepted profile clients_max [] pairs)
+
+abbrev pub CallsMakeHistory : Type 0
+CallsMakeHistory = (profile : Profile) (clients_max : ℕ) (cs : List Call) (T : State) → Follow (start profile clients_max) cs T → MakesHistory profile clients_max cs T
+
+-- but for want of memory, one status is right: a closed handle before bytes that are no request, these before a new request
+-- without a time, and that before a room that is too small
+abbrev pub OneStatus : Type 0
+OneStatus = (S T U : State) (moment : ℕ) (bytes room other : List ℕ) (a b : Outcome)
+    → Serves a (Some S) (Some T) moment bytes room → Serves b (Some S) (Some U) moment bytes other → length room ≡ length other
+    → (a ≡ NoMemory → ⊥) → (b ≡ NoMemory → ⊥) → status_of a ≡ status_of b
