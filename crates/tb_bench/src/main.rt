@@ -15,8 +15,12 @@ mod requests;
 mod taking;
 
 use anyhow::{Error, anyhow};
+use std::alloc::Global;
 use std::env;
 use std::marker::Brand;
+use std::rt::Clock;
+use std::sync::Wait;
+use std::thread::Threads;
 use tb_published::Opening;
 use tb_records::{ClientsMax, Profile};
 
@@ -31,33 +35,75 @@ fn opening() -> Result<Opening, Error> {
     Ok(Opening::new(Profile::One, clients_max))
 }
 
-fn main(rt: HostRuntime) -> Result<(), Error> {
-    let mut words = Vec::new(rt.alloc());
-    for word in env::args(&rt)?.skip(1) {
-        words.push(word)?;
-    }
+/// What is measured.
+#[derive(Clone, Copy)]
+enum Task {
+    /// So many rounds of takes.
+    Take(taking::Kind, u32),
+    /// So many batches in a machine alone.
+    Memory(u32),
+    Ports(offering::Scale),
+    Reads(reading::Scale),
+}
+
+/// The task that words tell.
+fn task_of(words: &[String]) -> Result<Task, Error> {
     let kind = words.get(0).ok_or(anyhow!("a word is missing"))?.as_str();
     let first = number(words.get(1))?;
-    if kind == "take" {
-        taking::measure::<Brand, _>(&rt, rt.alloc(), opening()?, taking::Kind::Batches, first)
-    } else if kind == "single" {
-        taking::measure::<Brand, _>(&rt, rt.alloc(), opening()?, taking::Kind::Singles, first)
-    } else if kind == "eights" {
-        taking::measure::<Brand, _>(&rt, rt.alloc(), opening()?, taking::Kind::Eights, first)
-    } else if kind == "memory" {
-        taking::fill_machine(&rt, rt.alloc(), first)
-    } else if kind == "ports" {
-        let orders = number(words.get(2))?;
-        let each = number(words.get(3))?;
-        let scale = offering::Scale {
-            ports: first,
-            orders,
-            each,
-        };
-        offering::measure::<Brand, _>(&rt, rt.alloc(), opening()?, scale)
-    } else {
-        let reads = number(words.get(2))?;
-        let is_calm = kind == "calm";
-        reading::measure::<Brand, _>(&rt, rt.alloc(), opening()?, first, reads, is_calm)
+    match kind {
+        "take" => Ok(Task::Take(taking::Kind::Batches, first)),
+        "single" => Ok(Task::Take(taking::Kind::Singles, first)),
+        "eights" => Ok(Task::Take(taking::Kind::Eights, first)),
+        "memory" => Ok(Task::Memory(first)),
+        "ports" => {
+            let orders = number(words.get(2))?;
+            let each = number(words.get(3))?;
+            Ok(Task::Ports(offering::Scale {
+                ports: first,
+                orders,
+                each,
+            }))
+        }
+        _ => {
+            Ok(Task::Reads(reading::Scale {
+                threads: first,
+                reads: number(words.get(2))?,
+                is_calm: kind == "calm",
+            }))
+        }
     }
+}
+
+/// The task that the program's words tell.
+fn read_task(rt: &HostRuntime) -> Result<Task, Error> {
+    let mut words = Vec::new(rt.alloc());
+    for word in env::args(rt)?.skip(1) {
+        words.push(word)?;
+    }
+    task_of(words.as_slice())
+}
+
+/// Does a task.
+fn run<R: Threads + Wait + Clock + Print + Eprint + Sync>(
+    rt: &R,
+    alloc: Global,
+    task: Task,
+) -> Result<(), Error> {
+    match task {
+        Task::Take(kind, rounds) => taking::measure::<Brand, R>(
+            rt,
+            alloc,
+            opening()?,
+            kind,
+            rounds,
+        ),
+        Task::Memory(rounds) => taking::fill_machine(rt, alloc, rounds),
+        Task::Ports(scale) => offering::measure::<Brand, R>(rt, alloc, opening()?, scale),
+        Task::Reads(scale) => reading::measure::<Brand, R>(rt, alloc, opening()?, scale),
+    }
+}
+
+fn main(rt: HostRuntime) -> Result<(), Error> {
+    let task = read_task(&rt)?;
+    run(&rt, rt.alloc(), task)
 }

@@ -2,6 +2,7 @@
 ghost use Rattle.std.specs.Prelude.{◌≡◌};
 
 use crate::requests::{before_ports, transfer_of};
+use crate::taking::take_all;
 use anyhow::{Error, anyhow};
 use std::alloc::Global;
 use std::mem;
@@ -9,7 +10,7 @@ use std::rt::Clock;
 use std::sync::Wait;
 use std::thread::{self, Threads};
 use std::time::Instant;
-use tb_published::{Held, Naming, Opening, Publisher, SeatCount, open};
+use tb_published::{Naming, Opening, Publisher, SeatCount, open};
 use tb_records::Request;
 use tb_service::{Finished, Moments, Open, Port, PortCount, service};
 
@@ -43,11 +44,15 @@ struct Client {
 impl Client {
     /// The client of a number, which is not 0, with all its orders.
     fn new(alloc: Global, port: Port, number: u32, scale: Scale) -> Result<Client, Error> {
-        let mut orders = Vec::with_capacity(alloc, scale.orders as usize)?;
-        for order in 0..scale.orders {
-            orders.push(make_order(alloc, number, scale, order)?)?;
+        let mut orders = Vec::new(alloc);
+        match put_orders(alloc, &mut orders, number, scale) {
+            Ok(()) => Ok(Client { port, orders }),
+            Err(fault) => {
+                drop(orders);
+                drop(port);
+                Err(fault)
+            }
         }
-        Ok(Client { port, orders })
     }
 
     /// Hands the orders over, in turn, until one comes back.
@@ -59,39 +64,129 @@ impl Client {
             }
         }
     }
+
+    /// Closes the port.
+    fn close<R: Wait>(self, rt: &R) {
+        let Client { port, orders } = self;
+        drop(orders);
+        drop(port.close(rt));
+    }
+}
+
+/// Appends all orders of a client.
+fn put_orders(
+    alloc: Global,
+    orders: &mut Vec<Vec<Request>>,
+    client: u32,
+    scale: Scale,
+) -> Result<(), Error> {
+    for order in 0..scale.orders {
+        orders.push(make_order(alloc, client, scale, order)?)?;
+    }
+    Ok(())
+}
+
+/// Appends the requests of an order.
+fn put_requests(
+    alloc: Global,
+    requests: &mut Vec<Request>,
+    client: u32,
+    scale: Scale,
+    order: u32,
+) -> Result<(), Error> {
+    let first = order.saturating_mul(scale.each);
+    for k in first..first.saturating_add(scale.each) {
+        requests.push(transfer_of(alloc, client, scale.ports, k)?)?;
+    }
+    Ok(())
 }
 
 /// An order of a client, counted from 0.
 fn make_order(alloc: Global, client: u32, scale: Scale, order: u32) -> Result<Vec<Request>, Error> {
     let mut requests = Vec::with_capacity(alloc, scale.each as usize)?;
-    let first = order.saturating_mul(scale.each);
-    for k in first..first.saturating_add(scale.each) {
-        requests.push(transfer_of(alloc, client, scale.ports, k)?)?;
+    match put_requests(alloc, &mut requests, client, scale, order) {
+        Ok(()) => Ok(requests),
+        Err(fault) => {
+            drop(requests);
+            Err(fault)
+        }
     }
-    Ok(requests)
+}
+
+/// Hands several requests over in one order, and says whether the server took it.
+fn offer_many<R: Wait>(rt: &R, port: &mut Port, order: Vec<Request>) -> bool {
+    if order.is_empty() || order.len() > 8 {
+        drop(order);
+        return false;
+    }
+    match port.offer_many(rt, order) {
+        Ok(()) => true,
+        Err(back) => {
+            drop(back);
+            false
+        }
+    }
+}
+
+/// Hands a request over, and says whether the server took it.
+fn offer_one<R: Wait>(rt: &R, port: &mut Port, request: Request) -> bool {
+    match port.offer(rt, request) {
+        Ok(()) => true,
+        Err(back) => {
+            drop(back);
+            false
+        }
+    }
 }
 
 /// Hands an order over, and says whether the server took it.
 fn offer<R: Wait>(rt: &R, port: &mut Port, mut order: Vec<Request>) -> bool {
-    if order.is_empty() || order.len() > 8 {
-        return false;
+    if order.len() != 1 {
+        return offer_many(rt, port, order);
     }
-    if order.len() > 1 {
-        return port.offer_many(rt, order).is_ok();
-    }
-    match order.pop() {
-        Some(request) => port.offer(rt, request).is_ok(),
+    let last = order.pop();
+    drop(order);
+    match last {
+        Some(request) => offer_one(rt, port, request),
         None => false,
     }
 }
 
+/// Adds the client of a number with a port.
+fn add_client(
+    alloc: Global,
+    clients: &mut Vec<Client>,
+    port: Port,
+    number: u32,
+    scale: Scale,
+) -> Result<(), Error> {
+    clients.push(Client::new(alloc, port, number, scale)?)?;
+    Ok(())
+}
+
+/// Adds the clients of ports, with the numbers from 1 on.
+fn add_clients(
+    alloc: Global,
+    clients: &mut Vec<Client>,
+    ports: Vec<Port>,
+    scale: Scale,
+) -> Result<(), Error> {
+    for (number, port) in (1..=scale.ports).zip(ports) {
+        add_client(alloc, clients, port, number, scale)?;
+    }
+    Ok(())
+}
+
 /// The clients of ports, with the numbers from 1 on.
 fn make_clients(alloc: Global, ports: Vec<Port>, scale: Scale) -> Result<Vec<Client>, Error> {
-    let mut clients = Vec::with_capacity(alloc, ports.len())?;
-    for (number, port) in (1..=scale.ports).zip(ports) {
-        clients.push(Client::new(alloc, port, number, scale)?)?;
+    let mut clients = Vec::new(alloc);
+    match add_clients(alloc, &mut clients, ports, scale) {
+        Ok(()) => Ok(clients),
+        Err(fault) => {
+            drop(clients);
+            Err(fault)
+        }
     }
-    Ok(clients)
 }
 
 /// Each client hands its orders over in a thread of its own; then all ports are closed.
@@ -104,9 +199,14 @@ fn offer_in_threads<R: Threads + Wait + Sync>(rt: &R, alloc: Global, mut clients
         &|_, client: &mut Client| { client.offer_all(rt, alloc) },
     );
     for client in clients {
-        let Client { port, orders: _ } = client;
-        let _ = port.close(rt);
+        client.close(rt);
     }
+}
+
+/// The nanoseconds since a moment, where the clock can be read.
+fn nanos_since<R: Clock>(rt: &R, start: Option<Instant>) -> Option<u128> {
+    let spent = start?.elapsed(rt).ok()?;
+    Some(spent.as_nanos())
 }
 
 /// Serves what ports offer, and tells the time from the first order to the end in nanoseconds, where the clock can be read.
@@ -118,29 +218,62 @@ fn serve<J: Naming + Send + Sync, R: Threads + Wait + Clock + Sync>(
     scale: Scale,
 ) -> Result<(Finished<J>, Option<u128>), Error> {
     let (server, ports) = service(alloc, publisher, rt, count, Still, Open)?;
-    let clients = make_clients(alloc, ports, scale)?;
-    let start = Instant::now(rt)?;
+    let clients = match make_clients(alloc, ports, scale) {
+        Ok(clients) => clients,
+        Err(fault) => {
+            drop(server);
+            return Err(fault);
+        }
+    };
+    let start = Instant::now(rt).ok();
     let (finished, ()) = thread::join(
         rt,
         move || server.run(rt),
         move || offer_in_threads(rt, alloc, clients),
     );
-    let spent = start.elapsed(rt).ok().map(|spent| spent.as_nanos());
-    Ok((finished, spent))
+    Ok((finished, nanos_since(rt, start)))
 }
 
-/// A publisher that has taken what comes before the ports' requests.
+/// Takes what comes before the ports' requests.
 fn prepare<J: Naming, R: Wait>(
     rt: &R,
     alloc: Global,
-    publisher: Publisher<J>,
+    publisher: &mut Publisher<J>,
     ports: u32,
-) -> Result<Publisher<J>, Error> {
-    let mut held = Held::new(publisher, rt);
-    for request in before_ports(alloc, ports)? {
-        held.publisher.take(rt, request, 0)?;
+) -> Result<(), Error> {
+    take_all(rt, publisher, before_ports(alloc, ports)?)
+}
+
+/// Tells what was entered and refused, and the time.
+fn tell<R: Print + Eprint>(
+    rt: &R,
+    commits: usize,
+    refused: usize,
+    spent: Option<u128>,
+) -> Result<(), Error> {
+    println!(rt; "commits {commits}")?;
+    println!(rt; "refused {refused}")?;
+    let spent = spent.ok_or(anyhow!("the clock"))?;
+    eprintln!(rt; "orders {spent}")?;
+    Ok(())
+}
+
+/// Measures what the ports of a publisher hand over.
+fn measure_ports<J: Naming + Send + Sync, R: Threads + Wait + Clock + Print + Eprint + Sync>(
+    rt: &R,
+    alloc: Global,
+    mut publisher: Publisher<J>,
+    ports: PortCount,
+    scale: Scale,
+) -> Result<(), Error> {
+    if let Err(fault) = prepare(rt, alloc, &mut publisher, scale.ports) {
+        drop(publisher.close(rt));
+        return Err(fault);
     }
-    Ok(held.into_publisher())
+    let (finished, spent) = serve(rt, alloc, publisher, ports, scale)?;
+    let (commits, refused) = (finished.publisher.history().len(), finished.refused.len());
+    drop(finished.close(rt));
+    tell(rt, commits, refused, spent)
 }
 
 /// Opens a publisher with a seat for each port, and measures what the ports hand over.
@@ -154,14 +287,8 @@ pub fn measure<J: Naming + Send + Sync, R: Threads + Wait + Clock + Print + Epri
 {
     let seats = SeatCount::new(scale.ports).ok_or(anyhow!("seats"))?;
     let ports = PortCount::new(scale.ports).ok_or(anyhow!("ports"))?;
-    let (publisher, _seats) = open::<J, R>(alloc, rt, opening, seats)?;
-    let publisher = prepare(rt, alloc, publisher, scale.ports)?;
-    let (finished, spent) = serve(rt, alloc, publisher, ports, scale)?;
-    let (commits, refused) = (finished.publisher.history().len(), finished.refused.len());
-    finished.close(rt);
-    println!(rt; "commits {commits}")?;
-    println!(rt; "refused {refused}")?;
-    let spent = spent.ok_or(anyhow!("the clock"))?;
-    eprintln!(rt; "orders {spent}")?;
-    Ok(())
+    let (publisher, seats) = open::<J, R>(alloc, rt, opening, seats)?;
+    let measured = measure_ports(rt, alloc, publisher, ports, scale);
+    drop(seats);
+    measured
 }

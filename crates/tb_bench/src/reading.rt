@@ -2,6 +2,7 @@
 ghost use Rattle.std.specs.Prelude.{◌≡◌};
 
 use crate::requests::{first_requests, round};
+use crate::taking::take_all;
 use anyhow::{Error, anyhow};
 use std::alloc::Global;
 use std::rt::Clock;
@@ -9,11 +10,19 @@ use std::sync::Wait;
 use std::sync::atomic::{AtomicBool, Ordering};
 use std::thread::{Threads, join};
 use std::time::Instant;
-use tb_published::{Held, Naming, Opening, Publisher, Seat, SeatCount, open};
+use tb_published::{Naming, Opening, Publisher, Seat, SeatCount, open};
 use tb_records::Request;
 
 /// The accounts that are looked up.
 const IDS: [u128; 2] = [1, 1000];
+
+/// In how many threads is read, how often in each, and whether there is no writer.
+#[derive(Clone, Copy)]
+pub struct Scale {
+    pub threads: u32,
+    pub reads: u32,
+    pub is_calm: bool,
+}
 
 /// What a thread measured: the time of its statuses and of its lookups, in nanoseconds.
 type Times = (u128, u128);
@@ -106,6 +115,22 @@ fn read_in_threads<J: Naming + Send + Sync, R: Threads + Clock + Sync>(
     times
 }
 
+/// Takes the transfer of a number; false where there is no memory for its request.
+fn write_one<J: Naming, R: Wait>(
+    rt: &R,
+    alloc: Global,
+    publisher: &mut Publisher<J>,
+    number: u32,
+) -> bool {
+    match round(alloc, number, 1, 1) {
+        Ok(requests) => {
+            let _ = take_all(rt, publisher, requests);
+            true
+        }
+        Err(_) => false,
+    }
+}
+
 /// Takes single transfers until it is stopped, and tells how many.
 fn write<J: Naming, R: Wait>(
     rt: &R,
@@ -114,14 +139,8 @@ fn write<J: Naming, R: Wait>(
     stop: &AtomicBool,
 ) -> u32 {
     for number in 3..u32::MAX {
-        if stop.load(Ordering::SeqCst) {
+        if stop.load(Ordering::SeqCst) || !write_one(rt, alloc, publisher, number) {
             return number - 3;
-        }
-        let Ok(requests) = round(alloc, number, 1, 1) else {
-            return number - 3;
-        };
-        for request in requests {
-            let _ = publisher.take(rt, request, 0);
         }
     }
     u32::MAX
@@ -133,13 +152,48 @@ fn prepare<J: Naming, R: Wait>(
     alloc: Global,
     publisher: &mut Publisher<J>,
 ) -> Result<(), Error> {
-    for request in first_requests(alloc)? {
-        publisher.take(rt, request, 0)?;
-    }
-    for request in round(alloc, 2, 1, 1)? {
-        publisher.take(rt, request, 0)?;
-    }
-    Ok(())
+    take_all(rt, publisher, first_requests(alloc)?)?;
+    take_all(rt, publisher, round(alloc, 2, 1, 1)?)
+}
+
+/// Reads beside a writer, or, where it is calm, beside none: how many transfers were taken, and the time of the reads.
+fn read_beside<J: Naming + Send + Sync, R: Threads + Wait + Clock + Sync>(
+    rt: &R,
+    alloc: Global,
+    publisher: &mut Publisher<J>,
+    seats: &mut [Seat<J>],
+    request: &Request,
+    scale: Scale,
+) -> (u32, Option<Times>) {
+    let stop = AtomicBool::new(false);
+    join(
+        rt,
+        || {
+            if scale.is_calm {
+                0
+            } else {
+                write(rt, alloc, publisher, &stop)
+            }
+        },
+        || read_in_threads(rt, seats, request, scale.reads, &stop),
+    )
+}
+
+/// Reads of the second of the first requests.
+fn read_second<J: Naming + Send + Sync, R: Threads + Wait + Clock + Sync>(
+    rt: &R,
+    alloc: Global,
+    publisher: &mut Publisher<J>,
+    seats: &mut [Seat<J>],
+    scale: Scale,
+) -> Result<(u32, Option<Times>), Error> {
+    let asked = first_requests(alloc)?;
+    let read = match asked.get(1) {
+        Some(request) => Ok(read_beside(rt, alloc, publisher, seats, request, scale)),
+        None => Err(anyhow!("a request")),
+    };
+    drop(asked);
+    read
 }
 
 /// Measures reads beside a writer, or, where it is calm, beside none.
@@ -148,26 +202,12 @@ fn measure_reads<J: Naming + Send + Sync, R: Threads + Wait + Clock + Print + Ep
     alloc: Global,
     publisher: &mut Publisher<J>,
     seats: &mut [Seat<J>],
-    reads: u32,
-    is_calm: bool,
+    scale: Scale,
 ) -> Result<(), Error> {
-    let asked = first_requests(alloc)?;
     prepare(rt, alloc, publisher)?;
-    let request = asked.get(1).ok_or(anyhow!("a request"))?;
-    let stop = AtomicBool::new(false);
-    let (taken, times) = join(
-        rt,
-        || {
-            if is_calm {
-                0
-            } else {
-                write(rt, alloc, publisher, &stop)
-            }
-        },
-        || read_in_threads(rt, seats, request, reads, &stop),
-    );
+    let (taken, times) = read_second(rt, alloc, publisher, seats, scale)?;
     let (asked, found) = times.ok_or(anyhow!("a seat failed"))?;
-    println!(rt; "reads {reads} in each of {} threads", seats.len())?;
+    println!(rt; "reads {} in each of {} threads", scale.reads, seats.len())?;
     eprintln!(rt; "status {asked}")?;
     eprintln!(rt; "lookup {found}")?;
     eprintln!(rt; "takes {taken}")?;
@@ -179,21 +219,14 @@ pub fn measure<J: Naming + Send + Sync, R: Threads + Wait + Clock + Print + Epri
     rt: &R,
     alloc: Global,
     opening: Opening,
-    threads: u32,
-    reads: u32,
-    is_calm: bool,
+    scale: Scale,
 ) -> Result<(), Error>
     requires { opening ≡ J.opening }
 {
-    let seats = SeatCount::new(threads).ok_or(anyhow!("seats"))?;
-    let (publisher, mut seats) = open::<J, R>(alloc, rt, opening, seats)?;
-    let mut held = Held::new(publisher, rt);
-    measure_reads(
-        rt,
-        alloc,
-        &mut held.publisher,
-        seats.as_mut_slice(),
-        reads,
-        is_calm,
-    )
+    let seats = SeatCount::new(scale.threads).ok_or(anyhow!("seats"))?;
+    let (mut publisher, mut seats) = open::<J, R>(alloc, rt, opening, seats)?;
+    let measured = measure_reads(rt, alloc, &mut publisher, seats.as_mut_slice(), scale);
+    drop(publisher.close(rt));
+    drop(seats);
+    measured
 }

@@ -8,7 +8,7 @@ use std::rt::Clock;
 use std::sync::Wait;
 use std::time::{Duration, Instant};
 use tb_machine::{Entry, Machine};
-use tb_published::{Held, Naming, Opening, Publisher, SeatCount, open};
+use tb_published::{Naming, Opening, Publisher, SeatCount, open};
 use tb_records::{ClientsMax, Profile, Request};
 
 /// What is taken.
@@ -32,33 +32,35 @@ impl Kind {
     }
 }
 
-/// The time of takes, and of the machine's own applies.
-#[derive(Clone, Copy)]
-struct Times {
-    taken: Duration,
-    applied: Duration,
+/// Takes requests with a show each.
+pub fn take_all<J: Naming, R: Wait>(
+    rt: &R,
+    publisher: &mut Publisher<J>,
+    requests: Vec<Request>,
+) -> Result<(), Error> {
+    for request in requests {
+        publisher.take(rt, request, 0)?;
+    }
+    Ok(())
 }
 
-/// Takes requests with a show each.
+/// Takes requests with a show each, and tells the time.
 fn take_round<J: Naming, R: Wait + Clock>(
     rt: &R,
     publisher: &mut Publisher<J>,
     requests: Vec<Request>,
 ) -> Result<Duration, Error> {
-    let start = Instant::now(rt)?;
-    for request in requests {
-        publisher.take(rt, request, 0)?;
-    }
-    Ok(start.elapsed(rt)?)
+    let start = Instant::now(rt);
+    take_all(rt, publisher, requests)?;
+    Ok(start?.elapsed(rt)?)
 }
 
 /// Enters requests with one show for eight.
-fn enter_round<J: Naming, R: Wait + Clock>(
+fn enter_all<J: Naming, R: Wait>(
     rt: &R,
     publisher: &mut Publisher<J>,
     requests: Vec<Request>,
-) -> Result<Duration, Error> {
-    let start = Instant::now(rt)?;
+) -> Result<(), Error> {
     let mut entered = 0u8;
     for request in requests {
         publisher.enter(request, 0)?;
@@ -69,21 +71,31 @@ fn enter_round<J: Naming, R: Wait + Clock>(
             entered = 0;
         }
     }
-    Ok(start.elapsed(rt)?)
+    Ok(())
 }
 
-/// The entries that requests make, one after another, of so many events each.
-fn entries_of(
-    alloc: Global,
-    machine: &Machine<Global>,
+/// Enters requests with one show for eight, and tells the time.
+fn enter_round<J: Naming, R: Wait + Clock>(
+    rt: &R,
+    publisher: &mut Publisher<J>,
+    requests: Vec<Request>,
+) -> Result<Duration, Error> {
+    let start = Instant::now(rt);
+    enter_all(rt, publisher, requests)?;
+    Ok(start?.elapsed(rt)?)
+}
+
+/// Appends the entries that requests make, one after another, of so many events each: the first has the next commit number and
+/// this time.
+fn put_entries(
+    entries: &mut Vec<Entry>,
+    commit: u64,
+    time: u64,
     requests: Vec<Request>,
     each: u32,
-) -> Result<Vec<Entry>, Error> {
-    let mut entries = Vec::with_capacity(alloc, requests.len())?;
-    let mut commit = machine.commit();
-    let mut time = machine
-        .next_time(0, u64::from(each))
-        .ok_or(anyhow!("a time"))?;
+) -> Result<(), Error> {
+    let mut commit = commit;
+    let mut time = time;
     for request in requests {
         commit = commit.saturating_add(1);
         entries.push(Entry {
@@ -93,58 +105,109 @@ fn entries_of(
         })?;
         time = time.saturating_add(u64::from(each));
     }
-    Ok(entries)
+    Ok(())
+}
+
+/// Appends the entries that requests make by a machine, one after another, of so many events each.
+fn put_next(
+    machine: &Machine<Global>,
+    entries: &mut Vec<Entry>,
+    requests: Vec<Request>,
+    each: u32,
+) -> Result<(), Error> {
+    let Some(time) = machine.next_time(0, u64::from(each)) else {
+        drop(requests);
+        return Err(anyhow!("a time"));
+    };
+    put_entries(entries, machine.commit(), time, requests, each)
+}
+
+/// Applies an entry that may come next.
+fn apply_entry(machine: &mut Machine<Global>, entry: &Entry) -> Result<(), Error> {
+    if !machine.fits(entry) {
+        return Err(anyhow!("an entry does not fit"));
+    }
+    machine.apply(entry)?;
+    Ok(())
 }
 
 /// Applies entries that may come next.
+fn apply_all(machine: &mut Machine<Global>, entries: &[Entry]) -> Result<(), Error> {
+    for entry in entries {
+        apply_entry(machine, entry)?;
+    }
+    Ok(())
+}
+
+/// Applies entries that may come next, and tells the time.
 fn apply_round<R: Clock>(
     rt: &R,
     machine: &mut Machine<Global>,
     entries: &[Entry],
 ) -> Result<Duration, Error> {
     let start = Instant::now(rt)?;
-    for entry in entries {
-        if !machine.fits(entry) {
-            return Err(anyhow!("an entry does not fit"));
-        }
-        machine.apply(entry)?;
-    }
+    apply_all(machine, entries)?;
     Ok(start.elapsed(rt)?)
 }
 
+/// Applies a request by the machine's next time.
+fn apply_request(machine: &mut Machine<Global>, request: Request) -> Result<(), Error> {
+    let events = request.body().event_count() as u64;
+    let Some(time) = machine.next_time(0, events) else {
+        drop(request);
+        return Err(anyhow!("a time"));
+    };
+    let entry = Entry {
+        commit: machine.commit() + 1,
+        time,
+        request,
+    };
+    let applied = apply_entry(machine, &entry);
+    drop(entry);
+    applied
+}
+
 /// Applies the first requests.
-fn prepare<R: Clock>(rt: &R, alloc: Global, machine: &mut Machine<Global>) -> Result<(), Error> {
+fn prepare(alloc: Global, machine: &mut Machine<Global>) -> Result<(), Error> {
     for request in first_requests(alloc)? {
-        let events = request.body().event_count() as u64;
-        let time = machine.next_time(0, events).ok_or(anyhow!("a time"))?;
-        let entry = Entry {
-            commit: machine.commit() + 1,
-            time,
-            request,
-        };
-        apply_round(rt, machine, &[entry])?;
+        apply_request(machine, request)?;
     }
     Ok(())
 }
 
-/// Takes a round, and applies the same to the machine.
-fn measure_round<J: Naming, R: Wait + Clock>(
+/// Applies a round to the machine: the requests from a number on. Tells the time.
+fn apply_next<R: Clock>(
     rt: &R,
     alloc: Global,
-    publisher: &mut Publisher<J>,
     machine: &mut Machine<Global>,
     kind: Kind,
     number: u32,
-) -> Result<Times, Error> {
-    let (requests, each) = kind.sizes();
-    let entries = entries_of(alloc, machine, round(alloc, number, requests, each)?, each)?;
-    let applied = apply_round(rt, machine, entries.as_slice())?;
-    let requests = round(alloc, number, requests, each)?;
-    let taken = match kind {
-        Kind::Eights => enter_round(rt, publisher, requests)?,
-        Kind::Batches | Kind::Singles => take_round(rt, publisher, requests)?,
+) -> Result<Duration, Error> {
+    let (count, each) = kind.sizes();
+    let requests = round(alloc, number, count, each)?;
+    let mut entries = Vec::new(alloc);
+    let applied = match put_next(machine, &mut entries, requests, each) {
+        Ok(()) => apply_round(rt, machine, entries.as_slice()),
+        Err(fault) => Err(fault),
     };
-    Ok(Times { taken, applied })
+    drop(entries);
+    applied
+}
+
+/// Takes a round: the requests from a number on. Tells the time.
+fn take_next<J: Naming, R: Wait + Clock>(
+    rt: &R,
+    alloc: Global,
+    publisher: &mut Publisher<J>,
+    kind: Kind,
+    number: u32,
+) -> Result<Duration, Error> {
+    let (count, each) = kind.sizes();
+    let requests = round(alloc, number, count, each)?;
+    match kind {
+        Kind::Eights => enter_round(rt, publisher, requests),
+        Kind::Batches | Kind::Singles => take_round(rt, publisher, requests),
+    }
 }
 
 /// Measures so many rounds, and tells the sums.
@@ -156,16 +219,15 @@ fn measure_rounds<J: Naming, R: Wait + Clock + Print + Eprint>(
     kind: Kind,
     rounds: u32,
 ) -> Result<(), Error> {
-    take_round(rt, publisher, first_requests(alloc)?)?;
-    prepare(rt, alloc, machine)?;
+    take_all(rt, publisher, first_requests(alloc)?)?;
+    prepare(alloc, machine)?;
     let (requests, each) = kind.sizes();
     let mut taken = 0u128;
     let mut applied = 0u128;
     for k in 0..rounds {
         let number = k.saturating_mul(requests).saturating_add(2);
-        let times = measure_round(rt, alloc, publisher, machine, kind, number)?;
-        taken = taken.saturating_add(times.taken.as_nanos());
-        applied = applied.saturating_add(times.applied.as_nanos());
+        applied = applied.saturating_add(apply_next(rt, alloc, machine, kind, number)?.as_nanos());
+        taken = taken.saturating_add(take_next(rt, alloc, publisher, kind, number)?.as_nanos());
     }
     println!(rt; "commits {}", publisher.history().len())?;
     println!(rt;
@@ -177,19 +239,6 @@ fn measure_rounds<J: Naming, R: Wait + Clock + Print + Eprint>(
     Ok(())
 }
 
-/// Applies a round to a machine alone.
-fn apply_alone<R: Clock>(
-    rt: &R,
-    alloc: Global,
-    machine: &mut Machine<Global>,
-    number: u32,
-) -> Result<(), Error> {
-    let (requests, each) = Kind::Batches.sizes();
-    let entries = entries_of(alloc, machine, round(alloc, number, requests, each)?, each)?;
-    apply_round(rt, machine, entries.as_slice())?;
-    Ok(())
-}
-
 /// Applies so many batches to a machine.
 fn fill<R: Clock + Print>(
     rt: &R,
@@ -197,9 +246,9 @@ fn fill<R: Clock + Print>(
     machine: &mut Machine<Global>,
     rounds: u32,
 ) -> Result<(), Error> {
-    prepare(rt, alloc, machine)?;
+    prepare(alloc, machine)?;
     for k in 0..rounds {
-        apply_alone(rt, alloc, machine, k.saturating_add(2))?;
+        apply_next(rt, alloc, machine, Kind::Batches, k.saturating_add(2))?;
     }
     println!(rt; "commits {}", machine.commit())?;
     Ok(())
@@ -209,7 +258,9 @@ fn fill<R: Clock + Print>(
 pub fn fill_machine<R: Clock + Print>(rt: &R, alloc: Global, rounds: u32) -> Result<(), Error> {
     let clients_max = ClientsMax::new(64).ok_or(anyhow!("clients_max"))?;
     let mut machine = Machine::new_in(alloc, alloc, Profile::One, clients_max)?;
-    fill(rt, alloc, &mut machine, rounds)
+    let filled = fill(rt, alloc, &mut machine, rounds);
+    drop(machine);
+    filled
 }
 
 /// Measures a publisher beside a machine with room for so many clients.
@@ -222,7 +273,9 @@ fn measure_beside<J: Naming, R: Wait + Clock + Print + Eprint>(
     rounds: u32,
 ) -> Result<(), Error> {
     let mut machine = Machine::new_in(alloc, alloc, Profile::One, clients_max)?;
-    measure_rounds(rt, alloc, publisher, &mut machine, kind, rounds)
+    let measured = measure_rounds(rt, alloc, publisher, &mut machine, kind, rounds);
+    drop(machine);
+    measured
 }
 
 /// Opens a publisher and a machine, and measures them.
@@ -237,7 +290,9 @@ pub fn measure<J: Naming, R: Wait + Clock + Print + Eprint>(
 {
     let clients_max = ClientsMax::new(64).ok_or(anyhow!("clients_max"))?;
     let seats = SeatCount::new(1).ok_or(anyhow!("seats"))?;
-    let (publisher, _seats) = open::<J, R>(alloc, rt, opening, seats)?;
-    let mut held = Held::new(publisher, rt);
-    measure_beside(rt, alloc, &mut held.publisher, clients_max, kind, rounds)
+    let (mut publisher, seats) = open::<J, R>(alloc, rt, opening, seats)?;
+    let measured = measure_beside(rt, alloc, &mut publisher, clients_max, kind, rounds);
+    drop(publisher.close(rt));
+    drop(seats);
+    measured
 }

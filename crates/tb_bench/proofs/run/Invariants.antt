@@ -1,4 +1,4 @@
-use Rattle.tb_bench.proofs.main.Given as goal
+use Rattle.tb_bench.proofs.run.Given as goal
 
 -- the opening that was just made
 abbrev pub ghosts-measure : goal.ghosts-measure
