@@ -2,10 +2,16 @@
 #![tactic(auto)]
 
 #[cfg(test)]
+mod frames;
+#[cfg(test)]
+mod learning;
+#[cfg(test)]
 mod making;
 #[cfg(test)]
 mod refusals;
 #[cfg(test)]
 mod rows;
+#[cfg(test)]
+mod showing;
 #[cfg(test)]
 mod threads;

@@ -11,7 +11,8 @@ use tb_records::{Account, Body, ClientsMax, Items, Profile, Request, Transfer};
 /// A request's client, session and number.
 pub(crate) type Numbers = (u128, u64, u32);
 
-fn account(id: u128) -> Account {
+/// An account as it is asked for.
+pub(crate) fn account(id: u128) -> Account {
     Account {
         id,
         debits_pending: 0,
@@ -30,9 +31,10 @@ fn account(id: u128) -> Account {
 }
 
 /// A transfer to account 2: its id, the account that it comes from, and its amount.
-type Row = (u128, u128, u128);
+pub(crate) type Transferred = (u128, u128, u128);
 
-fn transfer(row: Row) -> Transfer {
+/// A transfer as it is asked for.
+pub(crate) fn transfer(row: Transferred) -> Transfer {
     let (id, debit_account_id, amount) = row;
     Transfer {
         id,
@@ -70,7 +72,11 @@ pub(crate) fn lookup(alloc: Global, numbers: Numbers, ids: &[u128]) -> Result<Re
     request(numbers, Body::LookupAccounts(Items::new(ids)))
 }
 
-pub(crate) fn transfers(alloc: Global, numbers: Numbers, row: Row) -> Result<Request, Fail> {
+pub(crate) fn transfers(
+    alloc: Global,
+    numbers: Numbers,
+    row: Transferred,
+) -> Result<Request, Fail> {
     let transfers = Vec::from_slice(alloc, &[transfer(row)])?;
     request(numbers, Body::CreateTransfers(Items::new(transfers)))
 }

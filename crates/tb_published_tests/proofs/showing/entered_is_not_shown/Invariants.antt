@@ -1,4 +1,4 @@
-use Rattle.tb_published_tests.proofs.rows.entered_is_not_shown.Given as goal
+use Rattle.tb_published_tests.proofs.showing.entered_is_not_shown.Given as goal
 
 -- the opening that was just made
 abbrev pub ghosts-enter_and_show : goal.ghosts-enter_and_show

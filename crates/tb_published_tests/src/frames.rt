@@ -1,0 +1,59 @@
+//! Reply frames as they are printed in hexadecimal, 16 bytes in each number.
+use std::alloc::Global;
+use std::test::Fail;
+use tb_published::{Naming, Seat};
+use tb_records::{Request, write_reply};
+
+/// The 48 bytes before a reply's body.
+pub(crate) type Header = [u128; 3];
+
+/// Accounts 2 and 1 of ledger 700 and code 10, with times 12 and 11, as nothing was transferred yet.
+const ACCOUNTS: [u128; 16] = [
+    0x02000000_00000000_00000000_00000000,
+    0,
+    0,
+    0,
+    0,
+    0,
+    0,
+    0xbc020000_0a000000_0c000000_00000000,
+    0x01000000_00000000_00000000_00000000,
+    0,
+    0,
+    0,
+    0,
+    0,
+    0,
+    0xbc020000_0a000000_0b000000_00000000,
+];
+
+fn put_lines(bytes: &mut Vec<u8>, lines: &[u128]) -> Result<(), Fail> {
+    for line in lines {
+        bytes.extend_from_slice(&line.to_be_bytes())?;
+    }
+    Ok(())
+}
+
+/// A reply's frame: its header, and the two accounts where it found them.
+pub(crate) fn frame(alloc: Global, header: Header, found: bool) -> Result<Vec<u8>, Fail> {
+    let mut bytes = Vec::new(alloc);
+    put_lines(&mut bytes, &header)?;
+    if found {
+        put_lines(&mut bytes, &ACCOUNTS)?;
+    }
+    Ok(bytes)
+}
+
+/// The frame of a seat's answer to a request.
+pub(crate) fn answered<J: Naming>(
+    alloc: Global,
+    seat: &mut Seat<J>,
+    request: &Request,
+) -> Result<Vec<u8>, Fail> {
+    let reply = seat.answer(request)?;
+    let mut bytes = Vec::new(alloc);
+    let written = write_reply(&reply, &mut bytes);
+    drop(reply);
+    written?;
+    Ok(bytes)
+}
