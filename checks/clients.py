@@ -136,7 +136,7 @@ def statuses():
 def names():
     """The names of the program's faults, as its code has them. ReplyNumbers is of replies, which the program does not read."""
     found = set()
-    for path in ("tb_records/src/faults.rt", "tb_records/src/dumps.rt", "tb_machine/src/serving.rt", "tb_commands/src/commands.rt", "tbs/src/storm/faults.rt"):
+    for path in ("tb_records/src/faults.rt", "tb_records/src/dumps.rt", "tb_machine/src/serving.rt", "tb_commands/src/commands.rt", "tb_storm/src/faults.rt"):
         with open(f"{TOP}/crates/{path}", encoding="utf-8") as code:
             found |= set(re.findall(r'=> "(\w+)"', code.read()))
     return found - {"ReplyNumbers"}

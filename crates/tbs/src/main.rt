@@ -3,14 +3,12 @@
 #![tactic(auto)]
 
 mod arguments;
-mod storm;
-#[cfg(test)]
-mod tests;
 
 use arguments::read_storm;
 use std::process::ExitCode;
 use tb_commands::{fault_of, refuse, serve, words};
 use tb_records::Counting;
+use tb_storm::storm;
 
 fn main(rt: HostRuntime) -> ExitCode {
     let mut faults = Counting::new(rt.stderr());
@@ -18,7 +16,7 @@ fn main(rt: HostRuntime) -> ExitCode {
         Ok(words) => match read_storm(words.as_slice()) {
             Some((clients, transfers)) => {
                 let mut writer = Counting::new(rt.stdout());
-                storm::storm(
+                storm(
                     &rt,
                     rt.alloc(),
                     clients,

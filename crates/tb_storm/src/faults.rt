@@ -1,7 +1,7 @@
 //! Why a storm does not end well.
 ghost use Rattle.std.specs.Prelude.{◌≡◌, ◌<◌};
 ghost use Rattle.tb_commands.specs.Statuses.{Told};
-ghost use Rattle.tbs.specs.Storms.{storm_status, storm_fault_name, storm_line};
+ghost use Rattle.tb_storm.specs.Storms.{storm_status, storm_fault_name, storm_line};
 
 use std::alloc::{AllocError, AllocFailed};
 use tb_commands::{line_of, put_line};

@@ -1,8 +1,8 @@
 //! The clients of a storm.
-ghost use Rattle.std.specs.Prelude.{◌≤◌};
-
-use super::faults::StormFault;
-use std::alloc::{AllocError, Global};
+use crate::faults::StormFault;
+use crate::scale::id_of;
+use crate::stage::Stage;
+use std::alloc::Global;
 use std::sync::Wait;
 use tb_published::{Naming, Seat};
 use tb_records::{Account, Body, Items, Request, Status, Transfer};
@@ -16,33 +16,6 @@ const CALLS: u32 = 100;
 
 /// The account that all transfers credit.
 const BANK: u128 = 1000;
-
-/// How many clients there are, and how many transfers each of them creates.
-#[derive(Clone, Copy)]
-pub struct Scale {
-    pub clients: u32,
-    pub transfers: u32,
-    ghost few: { clients ≤ 16 },
-    ghost short: { transfers ≤ 1000 },
-}
-
-/// The id of a client's kth transfer.
-fn id_of(client: u32, k: u32) -> u128 {
-    u128::from(client) * 1_000_000 + u128::from(k)
-}
-
-impl Scale {
-    /// The ids of the transfers of all clients.
-    pub fn ids(self, alloc: Global) -> Result<Vec<u128>, AllocError> {
-        let mut ids = Vec::new(alloc);
-        for client in 1..=self.clients {
-            for k in 1..=self.transfers {
-                ids.push(id_of(client, k))?;
-            }
-        }
-        Ok(ids)
-    }
-}
 
 /// An account in ledger 700.
 fn account(id: u128) -> Account {
@@ -82,14 +55,14 @@ fn transfer(client: u32, k: u32) -> Transfer {
     }
 }
 
-/// A client: its port and its seat, and how it fared.
+/// A client: its port, until that is closed, its seat, and the fault with which it ended.
 #[derive(Drop)]
-pub struct Client<J: Naming> {
+pub(crate) struct Client<J: Naming> {
     number: u32,
-    port: Port,
-    seat: Seat<J>,
+    port: Option<Port>,
+    pub seat: Seat<J>,
     alloc: Global,
-    outcome: Result<(), StormFault>,
+    pub fault: Option<StormFault>,
 }
 
 impl<J: Naming> Client<J> {
@@ -100,7 +73,7 @@ impl<J: Naming> Client<J> {
         ports: &mut Vec<Port>,
         seats: &mut Vec<Seat<J>>,
     ) -> Result<Client<J>, StormFault> {
-        let port = ports.pop().ok_or(StormFault::NoPlace)?;
+        let port = ports.pop();
         let Some(seat) = seats.pop() else {
             drop(port);
             return Err(StormFault::NoPlace);
@@ -110,21 +83,15 @@ impl<J: Naming> Client<J> {
             port,
             seat,
             alloc,
-            outcome: Ok(()),
+            fault: None,
         })
     }
 
-    /// Closes the port, and tells how the client fared.
-    pub fn close<R: Wait>(self, rt: &R) -> (Seat<J>, Result<(), StormFault>) {
-        let Client {
-            number: _,
-            port,
-            seat,
-            alloc: _,
-            outcome,
-        } = self;
-        drop(port.close(rt));
-        (seat, outcome)
+    /// Closes the port.
+    pub fn close<R: Wait>(&mut self, rt: &R) {
+        if let Some(port) = self.port.take() {
+            drop(port.close(rt));
+        }
     }
 
     /// A request of this client.
@@ -141,20 +108,12 @@ impl<J: Naming> Client<J> {
         self.request(session, k, Body::CreateTransfers(Items::new(transfers)))
     }
 
-    /// Offers a request, and says whether it was taken; where it was not, the server is gone.
-    fn offer<R: Wait>(&mut self, rt: &R, request: Request) -> bool {
-        match self.port.offer(rt, request) {
-            Ok(()) => true,
-            Err(back) => {
-                drop(back);
-                false
-            }
-        }
-    }
-
     /// Calls once: the session of the reply, None where there is none yet.
     fn call<R: Wait>(&mut self, rt: &R, request: &Request) -> Result<Option<u64>, StormFault> {
-        let reply = self.port.call(rt, &mut self.seat, request, TURNS)?;
+        let Some(port) = &mut self.port else {
+            return Err(StormFault::NoPlace);
+        };
+        let reply = port.call(rt, &mut self.seat, request, TURNS)?;
         let session = match reply.status() {
             Status::Reply => Some(reply.session()),
             _ => None,
@@ -163,13 +122,18 @@ impl<J: Naming> Client<J> {
         Ok(session)
     }
 
-    /// Calls until there is a reply, and answers its session; gives up where the server is gone.
-    fn call_on<R: Wait>(&mut self, rt: &R, request: &Request) -> Result<u64, StormFault> {
+    /// Calls until there is a reply, and answers its session; gives up where the server has ended.
+    fn call_on<R: Wait>(
+        &mut self,
+        rt: &R,
+        stage: &Stage,
+        request: &Request,
+    ) -> Result<u64, StormFault> {
         for _ in 0..CALLS {
             if let Some(session) = self.call(rt, request)? {
                 return Ok(session);
             }
-            if !self.offer(rt, request.copy(self.alloc)?) {
+            if stage.is_over() {
                 break;
             }
         }
@@ -177,49 +141,68 @@ impl<J: Naming> Client<J> {
     }
 
     /// Sees a request through to its reply, and answers the session of that.
-    fn settle<R: Wait>(&mut self, rt: &R, request: Request) -> Result<u64, StormFault> {
-        let session = self.call_on(rt, &request);
+    fn settle<R: Wait>(
+        &mut self,
+        rt: &R,
+        stage: &Stage,
+        request: Request,
+    ) -> Result<u64, StormFault> {
+        let session = self.call_on(rt, stage, &request);
         drop(request);
         session
     }
 
     /// Registers, and answers the session.
-    fn register<R: Wait>(&mut self, rt: &R) -> Result<u64, StormFault> {
+    fn register<R: Wait>(&mut self, rt: &R, stage: &Stage) -> Result<u64, StormFault> {
         let request = self.request(0, 0, Body::Register)?;
-        self.settle(rt, request)
+        self.settle(rt, stage, request)
     }
 
-    /// Creates an account for each client, and the one that all transfers credit.
-    fn create_all_accounts<R: Wait>(&mut self, rt: &R, clients: u32) -> Result<(), StormFault> {
-        let session = self.register(rt)?;
+    /// The accounts of so many clients, and the one that all transfers credit.
+    fn accounts(&self, clients: u32) -> Result<Vec<Account>, StormFault> {
         let mut accounts = Vec::new(self.alloc);
         for id in 1..=clients {
             accounts.push(account(u128::from(id)))?;
         }
         accounts.push(account(BANK))?;
-        let request = self.request(session, 1, Body::CreateAccounts(Items::new(accounts)))?;
-        self.settle(rt, request)?;
+        Ok(accounts)
+    }
+
+    /// Creates an account for each client, and the one that all transfers credit.
+    fn create_all_accounts<R: Wait>(
+        &mut self,
+        rt: &R,
+        stage: &Stage,
+        clients: u32,
+    ) -> Result<(), StormFault> {
+        let session = self.register(rt, stage)?;
+        let body = Body::CreateAccounts(Items::new(self.accounts(clients)?));
+        let request = self.request(session, 1, body)?;
+        self.settle(rt, stage, request)?;
         Ok(())
     }
 
     /// Creates the accounts of so many clients.
-    pub fn create_accounts<R: Wait>(&mut self, rt: &R, clients: u32) {
-        self.outcome = self.create_all_accounts(rt, clients);
+    pub fn create_accounts<R: Wait>(&mut self, rt: &R, stage: &Stage, clients: u32) {
+        self.fault = self.create_all_accounts(rt, stage, clients).err();
     }
 
-    /// Offers the request of its kth transfer again.
+    /// Offers the request of its kth transfer again. Where it comes back, the server has ended.
     fn repeat<R: Wait>(&mut self, rt: &R, session: u64, k: u32) -> Result<(), StormFault> {
         let request = self.transfer_request(session, k)?;
-        self.offer(rt, request);
+        match &mut self.port {
+            Some(port) => drop(port.offer(rt, request)),
+            None => drop(request),
+        }
         Ok(())
     }
 
     /// Creates so many transfers, and offers requests again that were answered.
-    fn create<R: Wait>(&mut self, rt: &R, transfers: u32) -> Result<(), StormFault> {
-        let session = self.register(rt)?;
+    fn create<R: Wait>(&mut self, rt: &R, stage: &Stage, transfers: u32) -> Result<(), StormFault> {
+        let session = self.register(rt, stage)?;
         for k in 1..=transfers {
             let request = self.transfer_request(session, k)?;
-            self.settle(rt, request)?;
+            self.settle(rt, stage, request)?;
             self.repeat(rt, session, k)?;
             if k % 3 == 0 {
                 self.repeat(rt, session, k - 2)?;
@@ -229,17 +212,12 @@ impl<J: Naming> Client<J> {
     }
 
     /// Creates so many transfers.
-    pub fn create_transfers<R: Wait>(&mut self, rt: &R, transfers: u32) {
-        self.outcome = self.create(rt, transfers);
+    pub fn create_transfers<R: Wait>(&mut self, rt: &R, stage: &Stage, transfers: u32) {
+        self.fault = self.create(rt, stage, transfers).err();
     }
 
     /// Gives up before any call.
     pub fn give_up(&mut self) {
-        self.outcome = Err(StormFault::GaveUp);
-    }
-
-    /// How the client fared.
-    pub fn outcome(&self) -> Result<(), StormFault> {
-        self.outcome
+        self.fault = Some(StormFault::GaveUp);
     }
 }

@@ -1,4 +1,4 @@
-use Rattle.tbs.proofs.storm.play.Given as goal
+use Rattle.tb_storm.proofs.storms.play.Given as goal
 
 -- the opening that was just made
 abbrev pub ghosts-storm_in : goal.ghosts-storm_in

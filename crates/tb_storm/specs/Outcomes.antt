@@ -1,0 +1,22 @@
+-- Which fault of a storm is told.
+use Rattle.std.specs.Prelude.{Option, Some, None, Result, Ok, Err}
+use Rattle.tb_service.specs.declared.ends.Ended.{Ended}
+use Rattle.tb_service.specs.declared.ends.Ended.TheVariants as way
+use Rattle.tb_storm.specs.declared.faults.StormFault.{StormFault}
+use Rattle.tb_storm.specs.declared.faults.StormFault.TheVariants as storm
+use Rattle.tb_storm.specs.declared.totals.Totals.{Totals}
+
+-- of two faults the first, but that a client gave up is told only where there is no other
+abbrev pub first_of : Option StormFault → Option StormFault → Option StormFault
+first_of None next = next
+first_of (Some storm.GaveUp) None = Some storm.GaveUp
+first_of (Some storm.GaveUp) (Some fault) = Some fault
+first_of (Some fault) next = Some fault
+
+-- Of how the server ended, the fault of the clients and what a seat found at the end: that the server found no memory is told
+-- before all else, and that a client gave up only where the seat met no fault.
+abbrev pub outcome_of : Ended → Option StormFault → Result Totals StormFault → Result Totals StormFault
+outcome_of way.NoMemory fared found = Err storm.NoMemory
+outcome_of way.Closed None found = found
+outcome_of way.Closed (Some storm.GaveUp) (Err fault) = Err fault
+outcome_of way.Closed (Some fault) found = Err fault

@@ -1,0 +1,53 @@
+-- The exit status of each fault of a storm: 1 a device, memory or a copy failed, 3 a client gave up; the line that a fault is told by;
+-- and the lines of a storm that ended well.
+use Rattle.std.specs.Prelude.{ℕ, ◌≡◌, ◌⊎◌, List, ◌++◌, Result, Ok, Err, codes}
+use Rattle.std.specs.Fmt.{decimal}
+use Rattle.tb_records.specs.Transport.{Output, Sent, CutOff}
+use Rattle.tb_commands.specs.Statuses.{line_named, Told}
+use Rattle.tb_storm.specs.declared.faults.StormFault.{StormFault}
+use Rattle.tb_storm.specs.declared.faults.StormFault.TheVariants as storm
+use Rattle.tb_storm.specs.declared.totals.Totals.{Totals}
+
+abbrev pub storm_status : StormFault → ℕ
+storm_status storm.NoMemory = 1
+storm_status storm.NoPlace = 1
+storm_status storm.NoCopy = 1
+storm_status storm.GaveUp = 3
+storm_status storm.Device = 1
+
+-- a fault's name, as its line shows it
+abbrev pub storm_fault_name : StormFault → List ℕ
+storm_fault_name storm.NoMemory = codes "NoMemory"
+storm_fault_name storm.NoPlace = codes "NoPlace"
+storm_fault_name storm.NoCopy = codes "NoCopy"
+storm_fault_name storm.GaveUp = codes "GaveUp"
+storm_fault_name storm.Device = codes "Device"
+
+abbrev pub storm_line : StormFault → List ℕ
+storm_line fault = line_named (storm_fault_name fault)
+
+-- a line of a word and a number
+abbrev pub line_of : List ℕ → ℕ → List ℕ
+line_of word number = word ++ decimal number ++ codes "\n"
+
+-- the four lines of a storm of so many clients
+abbrev pub storm_lines : ℕ → Totals → List ℕ
+storm_lines clients totals =
+    ((line_of (codes "clients ") clients ++ line_of (codes "commits ") totals.commits) ++ line_of (codes "transfers ") totals.transfers)
+    ++ line_of (codes "credited ") totals.credited
+
+-- Lines were written, and nothing is told; or as far as the writer took them, and the fault is Device.
+abbrev pub Writes : List ℕ → ℕ → Output → Output → Output → Output → Type 0
+Writes lines status start written quiet told =
+    ((status ≡ 0) × Sent lines start written × (told ≡ quiet))
+    ⊎ ((status ≡ storm_status storm.Device) × CutOff lines start written × Told (storm_line storm.Device) quiet told)
+
+-- of a storm that ended with totals its lines are written; of another nothing is, and its fault is told
+abbrev pub Exits : ℕ → Result Totals StormFault → ℕ → Output → Output → Output → Output → Type 0
+Exits clients (Ok totals) status start written quiet told = Writes (storm_lines clients totals) status start written quiet told
+Exits clients (Err fault) status start written quiet told = (status ≡ storm_status fault) × (written ≡ start) × Told (storm_line fault) quiet told
+
+-- a storm of so many clients ended, with its totals or a fault
+pub record StormExits (clients status : ℕ) (start written quiet told : Output) : Type 0 where
+  pub outcome : Result Totals StormFault
+  pub exits : Exits clients outcome status start written quiet told

@@ -1,0 +1,34 @@
+//! Which fault of a storm is told.
+ghost use Rattle.std.specs.Prelude.{◌≡◌};
+ghost use Rattle.tb_storm.specs.Outcomes.{first_of, outcome_of};
+
+use crate::faults::StormFault;
+use crate::totals::Totals;
+use tb_service::Ended;
+
+/// Of two faults the first; but that a client gave up is told only where there is no other.
+pub(crate) fn first_fault(first: Option<StormFault>, next: Option<StormFault>) -> Option<StormFault>
+    ensures { result ≡ first_of first next }
+{
+    match (first, next) {
+        (None, next) => next,
+        (Some(StormFault::GaveUp), Some(fault)) => Some(fault),
+        (first, _) => first,
+    }
+}
+
+/// What is told of a storm whose server ended so, whose clients fared so, and after which a seat found these totals.
+pub(crate) fn conclude(
+    ended: Ended,
+    fared: Option<StormFault>,
+    found: Result<Totals, StormFault>,
+) -> Result<Totals, StormFault>
+    ensures { result ≡ outcome_of ended fared found }
+{
+    match (ended, fared, found) {
+        (Ended::NoMemory, _, _) => Err(StormFault::NoMemory),
+        (Ended::Closed, None, found) => found,
+        (Ended::Closed, Some(StormFault::GaveUp), Err(fault)) => Err(fault),
+        (Ended::Closed, Some(fault), _) => Err(fault),
+    }
+}

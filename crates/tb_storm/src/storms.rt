@@ -1,0 +1,276 @@
+//! A storm: the server's thread, the clients' threads, and the lines that tell of them.
+ghost use Rattle.std.specs.Prelude.{◌≡◌, ◌<◌, ◌≤◌, Result, map, fold};
+ghost use Rattle.tb_commands.specs.Statuses.{Told};
+ghost use Rattle.tb_storm.specs.declared.totals.Totals.{Totals};
+ghost use Rattle.tb_storm.specs.declared.faults.StormFault.{StormFault};
+ghost use Rattle.tb_storm.specs.Outcomes.{first_of, outcome_of};
+ghost use Rattle.tb_storm.specs.Storms.{storm_status, storm_line, Writes, StormExits};
+
+use crate::clients::Client;
+use crate::faults::StormFault;
+use crate::outcomes::{conclude, first_fault};
+use crate::scale::Scale;
+use crate::stage::Stage;
+use crate::totals::{Totals, lines_of};
+use std::alloc::{AllocError, Global};
+use std::marker::Brand;
+use std::sync::Wait;
+use std::thread::{self, Threads};
+use tb_published::{Naming, Opening, Publisher, Seat, SeatCount, open};
+use tb_records::{ClientsMax, Profile, Sink, put_all};
+use tb_service::{Finished, Moments, Open, Port, PortCount, Server, service};
+
+/// Moments 1, 2, 3 and so on.
+#[derive(Drop)]
+struct Ticks(u64);
+
+impl Moments for Ticks {
+    ghost tells = { λ before moment after. moment ≡ after.0 };
+
+    fn now(&mut self) -> u64 {
+        self.0 = self.0.saturating_add(1);
+        self.0
+    }
+}
+
+/// Adds the client with a number, with one of the ports and one of the seats.
+fn add_client<J: Naming>(
+    alloc: Global,
+    number: u32,
+    ports: &mut Vec<Port>,
+    seats: &mut Vec<Seat<J>>,
+    clients: &mut Vec<Client<J>>,
+) -> Result<(), StormFault> {
+    let client = Client::new(alloc, number, ports, seats)?;
+    clients.push(client)?;
+    Ok(())
+}
+
+/// The clients of a storm: the first makes the accounts, the others the transfers. Each has one of the ports and one of the seats.
+fn make_clients<J: Naming>(
+    alloc: Global,
+    scale: Scale,
+    ports: &mut Vec<Port>,
+    seats: &mut Vec<Seat<J>>,
+) -> Result<(Client<J>, Vec<Client<J>>), StormFault> {
+    let first = Client::new(alloc, 100, ports, seats)?;
+    let mut others = Vec::new(alloc);
+    for number in 1..=scale.clients {
+        if let Err(fault) = add_client(alloc, number, ports, seats, &mut others) {
+            drop(first);
+            drop(others);
+            return Err(fault);
+        }
+    }
+    Ok((first, others))
+}
+
+/// Once the server has begun the first client makes the accounts, and then all others their transfers at once, each in a
+/// thread of its own.
+fn create_all<J: Naming + Send + Sync, R: Threads + Wait + Sync>(
+    rt: &R,
+    stage: &Stage,
+    first: &mut Client<J>,
+    others: &mut Vec<Client<J>>,
+    scale: Scale,
+) {
+    if stage.has_begun(rt) {
+        first.create_accounts(rt, stage, scale.clients);
+    } else {
+        first.give_up();
+    }
+    if first.fault.is_none() {
+        let threads = others.len().max(1);
+        thread::for_each_mut(
+            rt,
+            others.as_mut_slice(),
+            threads,
+            &|_, client: &mut Client<J>| { client.create_transfers(rt, stage, scale.transfers) },
+        );
+    }
+}
+
+/// Closes all ports.
+fn close_all<J: Naming, R: Wait>(rt: &R, first: &mut Client<J>, others: &mut Vec<Client<J>>) {
+    first.close(rt);
+    for client in others.iter_mut() {
+        client.close(rt);
+    }
+}
+
+/// The fault that is told of the clients.
+fn fared<J: Naming>(first: Option<StormFault>, others: &[Client<J>]) -> Option<StormFault>
+    ensures { result ≡ fold first_of first (map (λ client. client.fault) others.now) }
+{
+    let mut fared = first;
+    for client in others {
+        fared = first_fault(fared, client.fault);
+    }
+    fared
+}
+
+/// What the first client's seat finds once it has learnt all.
+fn totals_of<J: Naming>(
+    alloc: Global,
+    finished: &Finished<J>,
+    seat: &mut Seat<J>,
+    scale: Scale,
+) -> Result<Totals, StormFault> {
+    seat.learn(&finished.publisher.tell());
+    let (_, transfers) = seat.lookup_transfers(scale.ids(alloc)?.as_slice())?;
+    let (_, accounts) = seat.lookup_accounts(&[1000])?;
+    Ok(Totals {
+        commits: finished.publisher.history().len(),
+        transfers: transfers.len(),
+        credited: accounts.first().map_or(0, |account| account.credits_posted),
+    })
+}
+
+/// What is told of a storm whose server has finished.
+fn end<J: Naming, R: Wait>(
+    rt: &R,
+    alloc: Global,
+    finished: Finished<J>,
+    first: &mut Client<J>,
+    others: &[Client<J>],
+    scale: Scale,
+) -> Result<Totals, StormFault>
+    ensures { (found : Result Totals StormFault) × (result ≡ outcome_of finished.ended (fold first_of first.old.fault (map (λ client. client.fault) others.now)) found) }
+{
+    let found = totals_of(alloc, &finished, &mut first.seat, scale);
+    let ended = finished.ended;
+    drop(finished.close(rt));
+    conclude(ended, fared(first.fault, others), found)
+}
+
+/// The storm over a server, whose clients these are.
+fn storm_with<J: Naming + Send + Sync, R: Threads + Wait + Sync>(
+    rt: &R,
+    alloc: Global,
+    server: Server<J, &R, Ticks, Open>,
+    first: &mut Client<J>,
+    others: &mut Vec<Client<J>>,
+    scale: Scale,
+) -> Result<Totals, StormFault> {
+    let stage = &Stage::new();
+    let (finished, ()) = thread::join(
+        rt,
+        move || {
+            stage.begin();
+            let finished = server.run(rt);
+            stage.end();
+            finished
+        },
+        || {
+            create_all(rt, stage, first, others, scale);
+            close_all(rt, first, others);
+        },
+    );
+    end(rt, alloc, finished, first, others, scale)
+}
+
+/// The storm over a publisher and its seats.
+fn storm_over<J: Naming + Send + Sync, R: Threads + Wait + Sync>(
+    rt: &R,
+    alloc: Global,
+    publisher: Publisher<J>,
+    seats: &mut Vec<Seat<J>>,
+    count: PortCount,
+    scale: Scale,
+) -> Result<Totals, StormFault> {
+    let Ok((server, mut ports)) = service(alloc, publisher, rt, count, Ticks(0), Open) else {
+        return Err(StormFault::NoMemory);
+    };
+    let made = make_clients(alloc, scale, &mut ports, seats);
+    drop(ports);
+    match made {
+        Ok((mut first, mut others)) => {
+            let told = storm_with(rt, alloc, server, &mut first, &mut others, scale);
+            drop(first);
+            drop(others);
+            told
+        }
+        Err(fault) => {
+            drop(server);
+            Err(fault)
+        }
+    }
+}
+
+/// The storm of an opening.
+fn storm_in<J: Naming + Send + Sync, R: Threads + Wait + Sync>(
+    rt: &R,
+    alloc: Global,
+    opening: Opening,
+    scale: Scale,
+) -> Result<Totals, StormFault>
+    requires { opening ≡ J.opening }
+{
+    let count = scale.clients + 1;
+    let (Some(seats), Some(ports)) = (SeatCount::new(count), PortCount::new(count)) else {
+        return Err(StormFault::NoPlace);
+    };
+    let (publisher, mut seats) = open::<J, R>(alloc, rt, opening, seats)?;
+    let told = storm_over(rt, alloc, publisher, &mut seats, ports, scale);
+    drop(seats);
+    told
+}
+
+/// The storm of profile 1 and 64 clients.
+fn play<R: Threads + Wait + Sync>(
+    rt: &R,
+    alloc: Global,
+    scale: Scale,
+) -> Result<Totals, StormFault> {
+    let Some(clients_max) = ClientsMax::new(64) else {
+        return Err(StormFault::NoPlace);
+    };
+    let opening = Opening::new(Profile::One, clients_max);
+    storm_in::<Brand, R>(rt, alloc, opening, scale)
+}
+
+/// The exit status of a fault, whose line is told.
+fn refuse<E: Sink>(fault: StormFault, faults: &mut E) -> u8
+    ensures status { result ≡ storm_status fault }
+    ensures line { Told (storm_line fault) (E.output faults.old) (E.output faults.new) }
+    ensures failing { 0 < result }
+{
+    fault.tell(faults);
+    fault.status()
+}
+
+/// Writes the lines of a storm, and answers the exit status.
+fn write_lines<W: Sink, E: Sink>(lines: &[u8], writer: &mut W, faults: &mut E) -> u8
+    ensures quiet { result ≡ 0 → faults.new ≡ faults.old }
+    ensures written { Writes lines.now result (W.output writer.old) (W.output writer.new) (E.output faults.old) (E.output faults.new) }
+{
+    match put_all(writer, lines) {
+        Ok(()) => 0,
+        Err(_) => refuse(StormFault::Device, faults),
+    }
+}
+
+/// So many clients at once create so many transfers each, and repeat requests that were answered. Answers the exit status: 0
+/// done, and four lines are written of what came of it; else that of the fault, whose line goes to `faults`.
+pub fn storm<R: Threads + Wait + Sync, W: Sink, E: Sink>(
+    rt: &R,
+    alloc: Global,
+    clients: u32,
+    transfers: u32,
+    writer: &mut W,
+    faults: &mut E,
+) -> u8
+    requires few { clients ≤ 16 }
+    requires short { transfers ≤ 1000 }
+    ensures quiet { result ≡ 0 → faults.new ≡ faults.old }
+    ensures ends { StormExits clients result (W.output writer.old) (W.output writer.new) (E.output faults.old) (E.output faults.new) }
+{
+    let totals = match play(rt, alloc, Scale { clients, transfers }) {
+        Ok(totals) => totals,
+        Err(fault) => return refuse(fault, faults),
+    };
+    match lines_of(alloc, clients, totals) {
+        Ok(lines) => write_lines(lines.as_bytes(), writer, faults),
+        Err(AllocError) => refuse(StormFault::NoMemory, faults),
+    }
+}
