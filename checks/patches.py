@@ -1,0 +1,83 @@
+#!/usr/bin/env python3
+"""Tries wrong bodies that no contract refuses, but a test does: each a patch in checks/patches.
+
+    python3 checks/patches.py [NAME ..]
+
+A patch names a crate and a test in its first lines. This script applies it to a copy of the repository and runs the crate's
+tests there by `rt try --test`, with checks in place of proofs. It passes where that test does not, and every other test does.
+First it runs the tests of each crate without a patch: all of them must pass. Ends in 'N passed, M failed'.
+"""
+import argparse
+import os
+import re
+import shutil
+import subprocess
+import sys
+import tempfile
+
+ROOT = os.path.dirname(os.path.dirname(os.path.abspath(__file__)))
+FOLDER = f"{ROOT}/checks/patches"
+# A test has so many seconds: one that a patch lets wait for ever is cut off.
+SECONDS = "60"
+
+
+def copied(room):
+    """Copies what git knows of, with what is not committed, to a folder."""
+    told = subprocess.run(["git", "-C", ROOT, "ls-files", "-co", "--exclude-standard"], check=True, capture_output=True, text=True)
+    for path in told.stdout.splitlines():
+        if os.path.isfile(f"{ROOT}/{path}"):
+            os.makedirs(os.path.dirname(f"{room}/{path}"), exist_ok=True)
+            shutil.copy2(f"{ROOT}/{path}", f"{room}/{path}")
+
+
+def tests_of(room, crate):
+    """The tests of a crate that passed and those that did not, in a copy."""
+    words = ["rt", "try", "--test", "--seconds", SECONDS]
+    ran = subprocess.run(words, cwd=f"{room}/crates/{crate}", stdin=subprocess.DEVNULL, stdout=subprocess.PIPE, stderr=subprocess.STDOUT, text=True, errors="replace")
+    told = dict(re.findall(r"^test (\S+) \.\.\. (.*)$", ran.stdout, re.M))
+    return {it for it, said in told.items() if said == "ok"}, {it for it, said in told.items() if said != "ok"}
+
+
+def judge(name, whole):
+    """Why a patch is not refused as it should be, None where it is; `whole` has the tests of each crate without a patch."""
+    path = f"{FOLDER}/{name}.patch"
+    with open(path, encoding="utf-8") as file:
+        text = file.read()
+    crate, test = (re.search(rf"^{word}: (\S+)$", text, re.M)[1] for word in ("crate", "test"))
+    with tempfile.TemporaryDirectory(prefix="patches-") as room:
+        copied(room)
+        if crate not in whole:
+            whole[crate] = tests_of(room, crate)
+        right, wrong = whole[crate]
+        if wrong or test not in right:
+            return f"without it not all tests of {crate} pass, or {test} is not there"
+        if subprocess.run(["git", "apply", path], cwd=room).returncode:
+            return "it does not apply"
+        passed, failed = tests_of(room, crate)
+        if test in passed:
+            return f"{test} passes with it"
+        if failed != {test} or passed != right - {test}:
+            return f"with it {sorted(right - passed)} do not pass, where {test} alone should not"
+    return None
+
+
+def main():
+    words = argparse.ArgumentParser(description=__doc__, formatter_class=argparse.RawDescriptionHelpFormatter)
+    words.add_argument("names", nargs="*", metavar="NAME")
+    given = words.parse_args()
+    known = sorted(it[: -len(".patch")] for it in os.listdir(FOLDER) if it.endswith(".patch"))
+    for name in given.names:
+        if name not in known:
+            words.error(f"checks/patches has no {name}.patch")
+    passed = failed = 0
+    whole = {}
+    for name in given.names or known:
+        why = judge(name, whole)
+        passed, failed = passed + (why is None), failed + (why is not None)
+        print(f"{name}: {'refused by its test' if why is None else why}", flush=True)
+    print(f"{passed} passed, {failed} failed")
+    return 1 if failed else 0
+
+
+if __name__ == "__main__":
+    sys.exit(main())
