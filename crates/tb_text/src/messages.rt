@@ -6,7 +6,8 @@ ghost use Rattle.tb_text.specs.Positions.{is_of_word, ending_word, leading_word}
 use crate::awaited::{Awaited, awaited_behind};
 use crate::nearest::nearest_word;
 use crate::reading::{TextFault, position};
-use crate::words::{Field, Operation, Word, words};
+use crate::scanner::word_named;
+use crate::words::{Field, Operation, Word};
 use std::alloc::{AllocError, Global};
 
 /// The most bytes of a line that are shown.
@@ -114,16 +115,6 @@ fn put_word(out: &mut Vec<u8>, word: &[u8]) -> Result<(), AllocError> {
 /// Appends a number.
 fn put_number(alloc: Global, out: &mut Vec<u8>, number: usize) -> Result<(), AllocError> {
     out.extend_from_slice(number.to_string(alloc)?.as_str().as_bytes())
-}
-
-/// The word that is written so.
-fn known_word(text: &[u8]) -> Option<Word> {
-    for word in words() {
-        if word.text().as_bytes() == text {
-            return Some(*word);
-        }
-    }
-    None
 }
 
 /// Says that a field could stand next.
@@ -259,20 +250,16 @@ fn begins_statement(word: Word) -> bool {
 
 /// Appends what is wrong with a word.
 fn put_wrong_word(out: &mut Vec<u8>, word: &[u8], awaited: &Awaited) -> Result<(), AllocError> {
-    match (known_word(word), awaited.number) {
-        (None, Some(_)) if !awaited.words.is_empty() && !matches!(word, [b'0'..=b'9', ..]) => {
-            put_unknown(out, word, awaited)
-        }
+    let is_name = matches!(word, [b'A'..=b'Z' | b'a'..=b'z', ..]);
+    match (word_named(word), awaited.number) {
+        (None, _) if is_name && !awaited.words.is_empty() => put_unknown(out, word, awaited),
         (None, Some(field)) => put_wrong_number(out, word, field),
-        (Some(Word::Operation(operation)), None) if !awaited.semicolon => {
-            put_early(out, operation, awaited)
-        }
-        (None, None) if !awaited.words.is_empty() && matches!(word, [b'A'..=b'z', ..]) => {
-            put_unknown(out, word, awaited)
-        }
         (None, None) => {
             put(out, "found ")?;
             put_word(out, word)
+        }
+        (Some(Word::Operation(operation)), None) if !awaited.semicolon => {
+            put_early(out, operation, awaited)
         }
         (Some(known), _) if begins_statement(known) && awaited.semicolon => {
             put(out, "';' is missing before ")?;

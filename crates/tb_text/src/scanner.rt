@@ -174,7 +174,7 @@ fn transfer_of(given: &[(Field, u128)]) -> Transfer
 }
 
 /// The word that is written so.
-fn word_named(text: &[u8]) -> Option<Word>
+pub(crate) fn word_named(text: &[u8]) -> Option<Word>
     ensures { result ≡ word_named text.now }
 {
     for word in words() {
