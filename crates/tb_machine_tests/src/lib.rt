@@ -26,8 +26,6 @@ mod pending;
 #[cfg(test)]
 mod records;
 #[cfg(test)]
-mod restoring;
-#[cfg(test)]
 mod scripts;
 #[cfg(test)]
 mod serving;
