@@ -1,0 +1,5 @@
+//! The tests of tb_storm, by its public calls alone: so the library is not proved a second time for them.
+#![tactic(auto)]
+
+#[cfg(test)]
+mod tests;
