@@ -100,11 +100,11 @@ check("results by name", [sorted(it) for it in told[1]["results"]], [["index", "
 check("each result has a name", all(not it["result"].isdigit() for it in told[1]["results"]), True)
 
 for name, text, place in [
-    ("an unknown word", b"at=1 client=7 registr;", b"line 1, column 21: found 'r', expected"),
-    ("a cut text", b"at=1 client=7\nregister", b"line 2, column 9: found the end of the text, expected"),
-    ("a number too great", b"client=7 request=1 create_accounts code=65536;", b"line 1, column 45: found '6', expected"),
-    ("a field twice", b"client=7 request=1 lookup_accounts id=1 id=2;", b"line 1, column 41: found 'id', expected"),
-    ("a byte of no statement", b"client=7 !", b"line 1, column 10: found '!', expected"),
+    ("an unknown word", b"at=1 client=7 registr;", b"line 1, column 21: unknown operation 'registr'; did you mean register?\n  at=1 client=7 registr;\n"),
+    ("a cut text", b"at=1 client=7\nregister", b"line 2, column 9: the text ends within a statement\n"),
+    ("a number too great", b"client=7 request=1 create_accounts code=65536;", b"line 1, column 45: '65536' is too large for code\n"),
+    ("a field twice", b"client=7 request=1 lookup_accounts id=1 id=2;", b"line 1, column 41: 'id' cannot stand here\n"),
+    ("a byte of no statement", b"client=7 !", b"line 1, column 10: "),
 ]:
     status, out, line = run(TBT, ["script"], text)
     check(name, (status, out, line[: 5 + len(place)]), (2, b"", b"tbt: " + place))
@@ -141,7 +141,7 @@ def place_told(text):
     status, out, line = run(TBT, ["script"], text)
     if status == 0:
         return None
-    row, column = (int(it) for it in re.match(rb"tbt: line (\d+), column (\d+): found ", line).groups())
+    row, column = (int(it) for it in re.match(rb"tbt: line (\d+), column (\d+): ", line).groups())
     return sum(len(it) + 1 for it in text.split(b"\n")[: row - 1]) + column - 1
 
 

@@ -403,20 +403,24 @@ fn put_wrong(
     put_expected(alloc, out, awaited)
 }
 
-/// Appends the line and the column of a place.
+/// The line and the column of a place behind bytes whose first stands at a line and a column.
+fn position_from(first: (usize, usize), before: &[u8]) -> (usize, usize) {
+    let (line, column) = position(before);
+    if line == 1 {
+        (first.0, column.saturating_add(first.1.saturating_sub(1)))
+    } else {
+        (line.saturating_add(first.0.saturating_sub(1)), column)
+    }
+}
+
+/// Appends a line and a column.
 fn put_position(
     alloc: Global,
     out: &mut Vec<u8>,
-    first_line: usize,
-    before: &[u8],
+    (line, column): (usize, usize),
 ) -> Result<(), AllocError> {
-    let (line, column) = position(before);
     put(out, "line ")?;
-    put_number(
-        alloc,
-        out,
-        line.saturating_add(first_line.saturating_sub(1)),
-    )?;
+    put_number(alloc, out, line)?;
     put(out, ", column ")?;
     put_number(alloc, out, column)?;
     put(out, ": ")
@@ -449,17 +453,17 @@ fn put_fault(
 
 /// What is wrong with a text, in words for its writer, without a line end behind them: the line and the column, the whole
 /// word there and the nearest one that statements have, the line with a mark under the place, and all that could stand
-/// there. The text begins with a line, whose number is `first_line`, and the fault's place counts from there. AllocError
-/// where there is no memory.
+/// there. The text's first byte stands at the line and the column `first`, both from 1. AllocError where there is no
+/// memory.
 pub fn explain_fault(
     alloc: Global,
     text: &[u8],
     fault: TextFault,
-    first_line: usize,
+    first: (usize, usize),
 ) -> Result<Vec<u8>, AllocError> {
     let mut out = Vec::new(alloc);
     let (before, rest) = around(text, fault.place);
-    put_position(alloc, &mut out, first_line, before)?;
+    put_position(alloc, &mut out, position_from(first, before))?;
     put_fault(alloc, &mut out, before, rest)?;
     Ok(out)
 }

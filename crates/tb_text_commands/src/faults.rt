@@ -7,7 +7,7 @@ use crate::help::USAGE;
 use arrayvec::ArrayVec;
 use std::alloc::{AllocError, Global};
 use tb_records::{DumpFault, FrameFault, Sink, put_all};
-use tb_text::{Field, Lexeme, Place, TextFault};
+use tb_text::{TextFault, explain_fault};
 
 /// The bytes that the line of a name may have: `tbt: `, a name of at most 16 letters, and the line's end.
 const LINE: usize = 32;
@@ -29,7 +29,7 @@ pub enum Fault {
     Dump(DumpFault),
     /// The arguments are none of the program's forms: the line that says so.
     Arguments(Vec<u8>),
-    /// The text goes wrong: the line that says where, what stands there and what was expected.
+    /// The text goes wrong: the lines that say where, what stands there and what could.
     Text(Vec<u8>),
     /// Statements went wrong, and each was told when it came.
     WasTold,
@@ -76,99 +76,19 @@ fn put_line<E: Sink>(line: &[u8], faults: &mut E)
     let _ = put_all(faults, line);
 }
 
-/// What was to stand where a text goes wrong.
-fn expected(lexeme: Lexeme, awaited: Place) -> &'static str {
-    match (lexeme, awaited) {
-        (Lexeme::Prefix, _) => "a digit of the base 16",
-        (_, Place::Head) => "at, client, session, request or an operation",
-        (_, Place::Named(_)) => "'='",
-        (_, Place::Wanted(Field::Flags)) => "a flag or a number",
-        (_, Place::Wanted(Field::Amount)) => "a number or amount_max",
-        (_, Place::Wanted(Field::Client)) => "a number from 1 on that fits",
-        (_, Place::Wanted(Field::Request)) => "a number from 1 on that fits",
-        (_, Place::Wanted(_)) => "a number that fits",
-        (_, Place::Given(Field::Flags)) => "'|', another field, ',' or ';'",
-        (_, Place::Given(field)) if field.is_header() => {
-            "another of at, client, session and request, or an operation that they suit"
-        }
-        (_, Place::Given(_)) => "another field, ',' or ';'",
-        (_, Place::Opened) => "a field or ';'",
-        (_, Place::Parted) => "a field",
-    }
-}
-
-/// Says that a byte is shown as it is.
-fn is_plain(byte: u8) -> bool {
-    b'!' <= byte && byte <= b'~'
-}
-
-/// Says that a byte can be part of what is shown as one word.
-fn is_of_word(byte: u8) -> bool {
-    is_plain(byte) && !matches!(byte, b',' | b';' | b'=' | b'|' | b'#')
-}
-
-/// The number of bytes of the word that the bytes begin with.
-fn word_length(bytes: &[u8]) -> usize {
-    for (place, byte) in bytes.iter().enumerate() {
-        if !is_of_word(*byte) {
-            return place;
-        }
-    }
-    bytes.len()
-}
-
-/// The bytes of the word that a place begins with, or the byte there; none at the end of the text.
-fn standing(text: &[u8], place: usize) -> &[u8] {
-    let Some(rest) = text.get(place..) else {
-        return &[];
-    };
-    match rest.get(..word_length(rest)) {
-        Some(word) if !word.is_empty() => word,
-        _ => rest.get(..1).unwrap_or(rest),
-    }
-}
-
-/// Appends what stands at a place.
-fn put_standing(
-    alloc: Global,
-    line: &mut Vec<u8>,
-    text: &[u8],
-    place: usize,
-) -> Result<(), AllocError> {
-    let word = standing(text, place);
-    match word {
-        [] => line.extend_from_slice(b"the end of the text"),
-        [byte, ..] if is_plain(*byte) => {
-            line.extend_from_slice(b"'")?;
-            line.extend_from_slice(word)?;
-            line.extend_from_slice(b"'")
-        }
-        [byte, ..] => {
-            line.extend_from_slice(b"the byte ")?;
-            line.extend_from_slice(byte.to_string(alloc)?.as_str().as_bytes())
-        }
-    }
-}
-
-/// The line of a text's fault, which stands at a line and a column.
-fn text_line(
+/// The lines of a text's fault, whose first byte stands at a line and a column.
+fn text_lines(
     alloc: Global,
     text: &[u8],
     fault: TextFault,
-    position: (usize, usize),
+    first: (usize, usize),
 ) -> Result<Vec<u8>, AllocError> {
-    let mut line = Vec::new(alloc);
-    let (row, column) = position;
-    line.extend_from_slice(b"tbt: line ")?;
-    line.extend_from_slice(row.to_string(alloc)?.as_str().as_bytes())?;
-    line.extend_from_slice(b", column ")?;
-    line.extend_from_slice(column.to_string(alloc)?.as_str().as_bytes())?;
-    line.extend_from_slice(b": found ")?;
-    put_standing(alloc, &mut line, text, fault.place)?;
-    line.extend_from_slice(b", expected ")?;
-    line.extend_from_slice(expected(fault.lexeme, fault.awaited).as_bytes())?;
-    line.extend_from_slice(b"\n")?;
-    Ok(line)
+    let said = explain_fault(alloc, text, fault, first)?;
+    let mut lines = Vec::new(alloc);
+    lines.extend_from_slice(b"tbt: ")?;
+    lines.extend_from_slice(said.as_slice())?;
+    lines.extend_from_slice(b"\n")?;
+    Ok(lines)
 }
 
 /// The line of wrong arguments.
@@ -181,12 +101,12 @@ fn arguments_line(alloc: Global, what: &str) -> Result<Vec<u8>, AllocError> {
 }
 
 impl Fault {
-    /// The fault of a text, or of a part of one, which goes wrong at a line and a column.
-    pub fn in_text(alloc: Global, text: &[u8], fault: TextFault, position: (usize, usize)) -> Fault
+    /// The fault of a text, or of a part of one, whose first byte stands at a line and a column.
+    pub fn in_text(alloc: Global, text: &[u8], fault: TextFault, first: (usize, usize)) -> Fault
         ensures { IsOfInput result }
     {
-        match text_line(alloc, text, fault, position) {
-            Ok(line) => Fault::Text(line),
+        match text_lines(alloc, text, fault, first) {
+            Ok(lines) => Fault::Text(lines),
             Err(_) => Fault::NoMemory,
         }
     }

@@ -22,7 +22,7 @@ fn take_text(
         return Err(Fault::NoMemory);
     };
     let fault = match reading.fault {
-        Some(fault) => Some(Fault::in_text(alloc, text, fault, intake.position_at(fault.place))),
+        Some(fault) => Some(Fault::in_text(alloc, text, fault, intake.position_at(0))),
         None => None,
     };
     intake.take(length);

@@ -40,7 +40,7 @@ fn conversation(rt: HostRuntime) -> Result<(), Fail> {
 #[test]
 fn wrong_statement(rt: HostRuntime) -> Result<(), Fail> {
     let text = b"at=10 client=7 register;\nat=10 client=0 register;\nat=10 client=8 register;";
-    let line = "tbt: line 2, column 15: found the byte 32, expected a number from 1 on that fits\n";
+    let line = "tbt: line 2, column 15: client is not 0\n  at=10 client=0 register;\n                ^\n  expected a number from 1 to 2^128 - 1\n";
     let left = left_by(&rt, &["script"], text)?;
     assert_eq!(rt; left.status, 2);
     assert_eq!(rt; left.output.len(), 56);
@@ -54,7 +54,7 @@ fn wrong_statement(rt: HostRuntime) -> Result<(), Fail> {
         b"at=10 client=7",
         2,
         "",
-        "tbt: line 1, column 15: found the end of the text, expected a number from 1 on that fits\n",
+        "tbt: line 1, column 15: the text ends within a statement\n  at=10 client=7\n                ^\n  expected session, request or register\n",
     )?;
     leaves(
         &rt,
@@ -62,7 +62,7 @@ fn wrong_statement(rt: HostRuntime) -> Result<(), Fail> {
         b"at=10 client=7\n",
         2,
         "",
-        "tbt: line 2, column 1: found the end of the text, expected another of at, client, session and request, or an operation that they suit\n",
+        "tbt: line 2, column 1: the text ends within a statement\n  \n  ^\n  expected session, request or register\n",
     )
 }
 
@@ -76,7 +76,7 @@ fn typed_statements(rt: HostRuntime) -> Result<(), Fail> {
         "{\"client\":\"7\",\"session\":\"1\",\"request\":0,\"operation\":\"register\",\"status\":\"reply\",\"commit\":\"1\",\"results\":[]}\n{\"client\":\"8\",\"session\":\"2\",\"request\":0,\"operation\":\"register\",\"status\":\"reply\",\"commit\":\"2\",\"results\":[]}\n";
     assert_eq!(rt; left.output.as_slice(), wanted.as_bytes());
     let lines =
-        "tbt: line 2, column 15: found the byte 32, expected a number from 1 on that fits\ntbt: TimeExhausted\n";
+        "tbt: line 2, column 15: client is not 0\n  at=10 client=0 register;\n                ^\n  expected a number from 1 to 2^128 - 1\ntbt: TimeExhausted\n";
     assert_eq!(rt; left.line.as_slice(), lines.as_bytes());
     assert_eq!(rt; left.status, 2);
     Ok(())

@@ -230,10 +230,10 @@ const ROWS: [Row; 21] = [
 ];
 
 /// What is said of a text that goes wrong; nothing of one that does not.
-fn message_of(alloc: Global, text: &[u8], first_line: usize) -> Result<String, Fail> {
+fn message_of(alloc: Global, text: &[u8], first: (usize, usize)) -> Result<String, Fail> {
     let reading = read_text(alloc, text)?;
     let message = match reading.fault {
-        Some(fault) => explain_fault(alloc, text, fault, first_line)?,
+        Some(fault) => explain_fault(alloc, text, fault, first)?,
         None => Vec::new(alloc),
     };
     Ok(String::from_utf8_lossy(alloc, message.as_slice())?)
@@ -242,7 +242,7 @@ fn message_of(alloc: Global, text: &[u8], first_line: usize) -> Result<String, F
 #[test]
 fn messages(rt: HostRuntime) -> Result<(), Fail> {
     for row in &ROWS {
-        let message = message_of(rt.alloc(), row.text.as_bytes(), 1)?;
+        let message = message_of(rt.alloc(), row.text.as_bytes(), (1, 1))?;
         assert_eq!(rt; message.as_str(), row.message);
     }
     Ok(())
@@ -253,8 +253,22 @@ fn a_long_line_is_cut(rt: HostRuntime) -> Result<(), Fail> {
     let text =
         b"client=7 request=1 lookup_accounts id=100000000000000000000000000000000001, id=100000000000000000000000000000000002, id=x, id=100000000000000000000000000000000003;";
     assert_eq!(rt;
-        message_of(rt.alloc(), text, 41)?.as_str(),
+        message_of(rt.alloc(), text, (41, 1))?.as_str(),
         "line 41, column 121: 'x' is no whole number\n  ...00000000000001, id=100000000000000000000000000000000002, id=x, id=1000000000000000000000000000000000...\n                                                                 ^\n  expected a number up to 2^128 - 1"
+    );
+    Ok(())
+}
+
+/// A text that stands within another: its first byte is at a line and a column.
+#[test]
+fn a_part_of_a_text(rt: HostRuntime) -> Result<(), Fail> {
+    assert_eq!(rt;
+        message_of(rt.alloc(), b" client=0 register;", (7, 30))?.as_str(),
+        "line 7, column 39: client is not 0\n   client=0 register;\n           ^\n  expected a number from 1 to 2^128 - 1"
+    );
+    assert_eq!(rt;
+        message_of(rt.alloc(), b"\nclient=0 register;", (7, 30))?.as_str(),
+        "line 8, column 9: client is not 0\n  client=0 register;\n          ^\n  expected a number from 1 to 2^128 - 1"
     );
     Ok(())
 }
