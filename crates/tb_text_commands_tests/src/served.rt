@@ -40,7 +40,8 @@ fn conversation(rt: HostRuntime) -> Result<(), Fail> {
 #[test]
 fn wrong_statement(rt: HostRuntime) -> Result<(), Fail> {
     let text = b"at=10 client=7 register;\nat=10 client=0 register;\nat=10 client=8 register;";
-    let line = "tbt: line 2, column 15: client is not 0\n  at=10 client=0 register;\n                ^\n  expected a number from 1 to 2^128 - 1\n";
+    let line =
+        "tbt: line 2, column 15: client is not 0\n  at=10 client=0 register;\n                ^\n  expected a number from 1 to 2^128 - 1\n";
     let left = left_by(&rt, &["script"], text)?;
     assert_eq!(rt; left.status, 2);
     assert_eq!(rt; left.output.len(), 56);
