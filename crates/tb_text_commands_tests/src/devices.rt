@@ -30,7 +30,7 @@ struct Closed {
 
 impl Write for Closed {
     fn write(&mut self, _bytes: &[u8]) -> io::Result<usize> {
-        self.asked += 1;
+        self.asked = self.asked.saturating_add(1);
         Err(Error::from(ErrorKind::BrokenPipe))
     }
 
@@ -92,9 +92,9 @@ fn failing_writer(rt: HostRuntime) -> Result<(), Fail> {
                 &mut writer,
                 &mut faults,
             );
-            assert_eq!(rt; status, 1, "{form}");
-            assert_eq!(rt; writer.into_inner().asked, 1, "{form}");
-            assert_eq!(rt; faults.into_inner().asked, 1, "{form}");
+            assert_eq!(rt; status, 1);
+            assert_eq!(rt; writer.into_inner().asked, 1);
+            assert_eq!(rt; faults.into_inner().asked, 1);
         }
     }
     Ok(())

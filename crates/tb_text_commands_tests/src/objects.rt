@@ -10,10 +10,11 @@ fn reply_frame(
     commit: u8,
     body: &[u8],
 ) -> Result<Vec<u8>, AllocError> {
+    let length = u32::try_from(body.len()).unwrap_or(0);
     let mut frame = Vec::new(rt.alloc());
     frame.extend_from_slice(&[7, 0, 0, 0, 0, 0, 0, 0, 0, 0, 0, 0, 0, 0, 0, 0])?;
     frame.extend_from_slice(&[5, 0, 0, 0, 0, 0, 0, 0, 6, 0, 0, 0, operation, 0, 0, 0])?;
-    frame.extend_from_slice(&(body.len() as u32).to_le_bytes())?;
+    frame.extend_from_slice(&length.to_le_bytes())?;
     frame.extend_from_slice(&[commit, 0, 0, 0, 0, 0, 0, 0, 0, 0, 0, 0])?;
     frame.extend_from_slice(body)?;
     Ok(frame)
@@ -23,12 +24,12 @@ fn reply_frame(
 /// first; the flags are given.
 fn record(rt: &HostRuntime, first: u8, flags: u16) -> Result<Vec<u8>, AllocError> {
     let mut bytes = Vec::new(rt.alloc());
-    for k in 0..6 {
-        bytes.extend_from_slice(&(u128::from(first) + k).to_le_bytes())?;
+    for k in 0..6_u8 {
+        bytes.extend_from_slice(&(u128::from(first) + u128::from(k)).to_le_bytes())?;
     }
     bytes.extend_from_slice(&(u64::from(first) + 6).to_le_bytes())?;
-    for k in 7..10 {
-        bytes.extend_from_slice(&(u32::from(first) + k).to_le_bytes())?;
+    for k in 7..10_u8 {
+        bytes.extend_from_slice(&(u32::from(first) + u32::from(k)).to_le_bytes())?;
     }
     bytes.extend_from_slice(&(u16::from(first) + 10).to_le_bytes())?;
     bytes.extend_from_slice(&flags.to_le_bytes())?;
