@@ -257,6 +257,31 @@ check("a terminal", typed(["run", "2"], [b"at=10 client=7 register;\n", b"at=10 
 check("its status", typed(["run", "2"], [b"at=10 client=7 register;\n", b"at=10 clint=7\n"])[1], 2)
 check("its status where all is right", typed(["run", "2"], [b"at=10 client=7 register;\n"])[1], 0)
 
+def conversation(words, lines):
+    """What stands on a terminal after these lines were typed, each when all before it was answered, and the program's status. What is
+    typed is shown behind `> `, what comes back as it comes."""
+    master, slave = pty.openpty()
+    settings = termios.tcgetattr(slave)
+    settings[1] &= ~termios.OPOST
+    settings[3] &= ~termios.ECHO
+    termios.tcsetattr(slave, termios.TCSANOW, settings)
+    it = subprocess.Popen([TBT, *words], stdin=slave, stdout=slave, stderr=slave)
+    shown = b""
+    for line in lines:
+        shown += b"> " + line + b"\n"
+        os.write(master, line + b"\n")
+        while select.select([master], [], [], 1 if line.endswith(b";") else 0.2)[0]:
+            shown += os.read(master, 65536)
+    os.write(master, b"\x04")
+    status = it.wait(timeout=10)
+    return shown, status
+
+
+with open(f"{TOP}/checks/terminal.txt", "rb") as stored:
+    wanted = stored.read()
+typed_lines = [it[2:] for it in wanted.split(b"\n") if it.startswith(b"> ")]
+check("a conversation on a terminal", conversation(["run", "2"], typed_lines), (wanted, 2))
+
 # dumps: their pairs, their audit, and what is wrong
 
 for turn in range(5):
