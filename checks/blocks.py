@@ -6,6 +6,7 @@
     checks/blocks.py
 
 - text: statements are read by `tbt script`; any other text is left alone.
+- console: stands in checks/terminal.txt, which checks/text.py types on a terminal.
 - json, directly after statements: the replies to them, as `tbs run` and `tbt replies` give them.
 - python: compiled. sh: read by `bash -n`. c: compiled as far as its syntax goes, where cc is there.
 - rust: stands word for word, but for its imports, in a crate that the gate proves (checks/pages.py); on docs/EMBEDDING.md in an example
@@ -88,6 +89,9 @@ def check(kind: str, block: str, before: str | None, name: str) -> bool:
         script_of(block)
     elif kind == "json" and before is not None:
         compare_replies(before, block)
+    elif kind == "console":
+        if block not in (ROOT / "checks" / "terminal.txt").read_text():
+            raise Wrong("stands not in checks/terminal.txt")
     elif kind == "python":
         compile_python(block, name)
     elif kind == "sh":
