@@ -272,9 +272,10 @@ def conversation(words, lines):
         os.write(master, line + b"\n")
         while select.select([master], [], [], 1 if line.endswith(b";") else 0.2)[0]:
             shown += os.read(master, 65536)
-    os.write(master, b"\x04")
-    status = it.wait(timeout=10)
-    return shown, status
+    for _ in range(2):  # the first Ctrl-D ends what was typed behind the last statement, if only its line end
+        os.write(master, b"\x04")
+        select.select([], [], [], 0.5)
+    return shown, it.wait(timeout=10)
 
 
 with open(f"{TOP}/checks/terminal.txt", "rb") as stored:
