@@ -235,6 +235,13 @@ check("audit at once", ([it.count(b"\n") for it in told], rest, status), ([1] * 
 # a terminal
 
 
+def end(master):
+    """Types the end: the first Ctrl-D ends what stands behind the last statement, if only a line end, the second the input."""
+    for _ in range(2):
+        os.write(master, b"\x04")
+        select.select([], [], [], 0.5)
+
+
 def typed(words, lines):
     """What a program shows behind each line that is typed on a terminal, and its status."""
     master, slave = pty.openpty()
@@ -247,7 +254,7 @@ def typed(words, lines):
         os.write(master, line)
         ready = select.select([it.stdout], [], [], 10)[0]
         shown.append(os.read(it.stdout.fileno(), 65536) if ready else None)
-    os.write(master, b"\x04")
+    end(master)
     return shown, it.wait(timeout=10)
 
 
@@ -272,9 +279,7 @@ def conversation(words, lines):
         os.write(master, line + b"\n")
         while select.select([master], [], [], 1 if line.endswith(b";") else 0.2)[0]:
             shown += os.read(master, 65536)
-    for _ in range(2):  # the first Ctrl-D ends what was typed behind the last statement, if only its line end
-        os.write(master, b"\x04")
-        select.select([], [], [], 0.5)
+    end(master)
     return shown, it.wait(timeout=10)
 
 
