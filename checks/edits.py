@@ -1,12 +1,15 @@
 #!/usr/bin/env python3
 """Tries every must-fail edit, as the gate tries those of crates/*/must-fail, side by side on all cores.
 
-    python3 checks/edits.py [--jobs N] [CRATE ..]
+    python3 checks/edits.py [--texts] [--jobs N] [CRATE ..]
 
 The gate tries the edits in crates/CRATE/must-fail. This script tries those and the ones in crates/CRATE/must-fail-release:
 it copies the repository, with what is kept of earlier checks, puts all edits of a crate into its must-fail folder there, proves
 the libraries below, and runs `rt must-fail CRATE`, one job a crate. Run it before a release, and whenever a public clause or a
 definition changes. Ends in 'N passed, M failed': passed are the edits that the prover refused.
+
+With --texts it proves nothing: it tells each edit whose old text does not stand in its file exactly once, so that `rt must-fail`
+could not apply it. That takes a second, so run it on each change.
 """
 import argparse
 import os
@@ -76,6 +79,43 @@ def below(deps, crates):
     return order
 
 
+def misfit(crate, path):
+    """Why an edit cannot be applied; None where it can."""
+    file, old, texts = None, None, {}
+    with open(path, encoding="utf-8") as edit:
+        for line in edit.read().split("\n"):
+            word, _, rest = line.partition(": ") if not line == "new:" else ("new", "", "")
+            if word == "file":
+                file = rest.strip()
+            elif word == "old":
+                old = rest
+            elif word == "new":
+                if not file or not old:
+                    return "a 'new:' line stands before any 'file:' or 'old:' line"
+                if file not in texts:
+                    if not os.path.isfile(f"{ROOT}/crates/{crate}/{file}"):
+                        return f"there is no file {file}"
+                    with open(f"{ROOT}/crates/{crate}/{file}", encoding="utf-8") as source:
+                        texts[file] = source.read()
+                found = texts[file].count(old)
+                if found != 1:
+                    return f"its old text stands in {file} {found} times: {old}"
+                texts[file], old = texts[file].replace(old, rest), None
+    return None if texts else "it has no 'old:' and 'new:' pair"
+
+
+def try_texts(edits):
+    """Tells each edit that cannot be applied, and answers how many can and how many cannot."""
+    passed = failed = 0
+    for crate, paths in edits.items():
+        for name, path in paths.items():
+            why = misfit(crate, path)
+            passed, failed = passed + (why is None), failed + (why is not None)
+            if why:
+                print(f"{crate}/{name}: {why}")
+    return passed, failed
+
+
 def try_crate(room, crate):
     """Runs `rt must-fail` for a crate, and answers its lines."""
     ran = subprocess.run(["rt", "must-fail", crate], cwd=room, stdin=subprocess.DEVNULL, stdout=subprocess.PIPE, stderr=subprocess.STDOUT, text=True, errors="replace")
@@ -95,6 +135,7 @@ def judge(crate, edits, lines):
 def main():
     words = argparse.ArgumentParser(description=__doc__, formatter_class=argparse.RawDescriptionHelpFormatter)
     words.add_argument("--jobs", type=int, default=len(os.sched_getaffinity(0)), help="how many crates are tried side by side (one a core)")
+    words.add_argument("--texts", action="store_true", help="only whether each edit can be applied")
     words.add_argument("crates", nargs="*", metavar="CRATE")
     given = words.parse_args()
     deps = deps_of()
@@ -103,6 +144,10 @@ def main():
             words.error(f"crates.txt has no crate {crate}")
     edits = {crate: edits_of(crate) for crate in given.crates or deps}
     edits = {crate: paths for crate, paths in edits.items() if paths}
+    if given.texts:
+        passed, failed = try_texts(edits)
+        print(f"{passed} passed, {failed} failed")
+        return 1 if failed else 0
     passed = failed = 0
     with tempfile.TemporaryDirectory(prefix="edits-") as room:
         copy_into(room, edits)
