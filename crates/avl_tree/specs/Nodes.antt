@@ -98,6 +98,10 @@ IsGrown h h' = (h ≤ h') × (h' ≤ h + 1)
 abbrev pub IsShrunk : ℕ → ℕ → Type 0
 IsShrunk h h' = (h' ≤ h) × (h ≤ h' + 1)
 
+-- a change of the height is told, and nothing else
+abbrev pub IsTold : Bool → ℕ → ℕ → Type 0
+IsTold told h h' = (told ≡ false → h' ≡ h) × (told ≡ true → h' ≡ h → ⊥)
+
 -- the root has no left side
 abbrev pub HasNoLeft : {K V A : Type 0} → Tree K V A → Type 0
 HasNoLeft Empty = Unit {0}

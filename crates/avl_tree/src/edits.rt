@@ -1,9 +1,9 @@
 // Changes of the tree.
-ghost use Rattle.std.specs.Prelude.{◌≡◌, ◌+◌, ◌<◌, ◌≤◌, ◌++◌, true, false, None, Some, IsSome, IfSome, MatchOption};
+ghost use Rattle.std.specs.Prelude.{◌≡◌, ◌≢◌, ◌+◌, ◌<◌, ◌≤◌, ◌++◌, true, false, None, Some, IsSome, IfSome, MatchOption};
 ghost use Rattle.std.specs.Option.{option_map, option_and_then, is_some};
 ghost use Rattle.std.specs.Map.{lookup, remove_entry};
 ghost use Rattle.std.specs.BTreeMap.{is_at, insert_entry};
-ghost use Rattle.avl_tree.specs.Nodes.{entries, with_first, stored_height, IsAvl, IsNearlyAvl, SettlesTo, IsOrdered, IsBare, HasLeft, HasNoLeft, beside_root, root_entry, IsGrown, IsShrunk, Exchanges};
+ghost use Rattle.avl_tree.specs.Nodes.{entries, with_first, stored_height, IsAvl, IsNearlyAvl, SettlesTo, IsOrdered, IsBare, HasLeft, HasNoLeft, beside_root, root_entry, IsGrown, IsShrunk, IsTold, Exchanges};
 ghost use Rattle.avl_tree.specs.Map.{first_to};
 ghost use Rattle.avl_tree.specs.declared.tree.Tree.TheVariants.{Empty};
 
@@ -49,7 +49,7 @@ pub fn exchange<K: Ord, V, A: Allocator>(tree: &mut Tree<K, V, A>, key: &K, valu
 fn regrow<K, V, A: Allocator>(tree: &mut Tree<K, V, A>) -> bool
     requires { IsNearlyAvl tree.old }
     ensures settled { SettlesTo tree.old tree.new }
-    ensures stopped { result ≡ false → stored_height tree.new ≡ stored_height tree.old }
+    ensures told { IsTold result (stored_height tree.old) (stored_height tree.new) }
 {
     let before = height(tree);
     settle(tree);
@@ -72,7 +72,7 @@ pub fn insert<K: Ord, V, A: Allocator>(
     ensures balanced { IsAvl tree.new }
     ensures entries { IfSome fresh.value.entry (λ e. entries tree.new ≡ insert_entry K.cmp (entries tree.old) key.now e.1) }
     ensures height { IsGrown (stored_height tree.old) (stored_height tree.new) }
-    ensures stopped { result ≡ false → stored_height tree.new ≡ stored_height tree.old }
+    ensures told { IsTold result (stored_height tree.old) (stored_height tree.new) }
 {
     let grew = match tree {
         Tree::Empty => {
@@ -101,6 +101,7 @@ fn take_top<K, V, A: Allocator>(tree: &mut Tree<K, V, A>) -> Option<Box<Node<K, 
     ensures entries { entries tree.old ≡ with_first (option_and_then (λ b. b.value.entry) result) (entries tree.new) }
     ensures taken { MatchOption result ((tree.old ≡ Empty) × (tree.new ≡ Empty)) (λ b. IsBare b.value × IsSome b.value.entry) }
     ensures height { IsShrunk (stored_height tree.old) (stored_height tree.new) }
+    ensures lower { tree.old ≢ Empty → stored_height tree.new < stored_height tree.old }
 {
     match take(tree) {
         Tree::Empty => None,
@@ -121,11 +122,12 @@ pub fn take_first<K, V, A: Allocator>(
 ) -> Option<Box<Node<K, V, A>, A>>
     requires balanced { IsAvl tree.old }
     requires height_fits { stored_height tree.old < 200 }
+    requires not_lower { lower.old ≡ false }
     ensures balanced { IsAvl tree.new }
     ensures entries { entries tree.old ≡ with_first (option_and_then (λ b. b.value.entry) result) (entries tree.new) }
     ensures taken { MatchOption result ((tree.old ≡ Empty) × (tree.new ≡ Empty)) (λ b. IsBare b.value × IsSome b.value.entry) }
     ensures height { IsShrunk (stored_height tree.old) (stored_height tree.new) }
-    ensures stopped { lower.new ≡ false → stored_height tree.new ≡ stored_height tree.old }
+    ensures told { IsTold lower.new (stored_height tree.old) (stored_height tree.new) }
 {
     let taken = match tree {
         Tree::Empty => return None,
@@ -163,7 +165,8 @@ fn has_left<K, V, A: Allocator>(tree: &Tree<K, V, A>) -> bool
 fn is_top_to<K: Ord, V, A: Allocator>(tree: &Tree<K, V, A>, bound: &K) -> bool
     requires balanced { IsAvl tree.now }
     requires no_left { HasNoLeft tree.now }
-    ensures { result ≡ is_some (first_to K.cmp bound.now (entries tree.now)) }
+    ensures to_bound { result ≡ is_some (first_to K.cmp bound.now (entries tree.now)) }
+    ensures there { result ≡ true → tree.now ≢ Empty }
 {
     match tree {
         Tree::Empty => false,
@@ -185,7 +188,7 @@ fn take_top_to<K: Ord, V, A: Allocator>(
     ensures entries { entries tree.old ≡ with_first (option_and_then (λ b. b.value.entry) result) (entries tree.new) }
     ensures taken { MatchOption result ((tree.new ≡ tree.old) × (lower.new ≡ false)) (λ b. IsBare b.value × IsSome b.value.entry) }
     ensures height { IsShrunk (stored_height tree.old) (stored_height tree.new) }
-    ensures stopped { lower.new ≡ false → stored_height tree.new ≡ stored_height tree.old }
+    ensures told { IsTold lower.new (stored_height tree.old) (stored_height tree.new) }
 {
     if !is_top_to(tree, bound) {
         return None;
@@ -209,7 +212,7 @@ pub fn take_first_to<K: Ord, V, A: Allocator>(
     ensures entries { entries tree.old ≡ with_first (option_and_then (λ b. b.value.entry) result) (entries tree.new) }
     ensures taken { MatchOption result ((tree.new ≡ tree.old) × (lower.new ≡ false)) (λ b. IsBare b.value × IsSome b.value.entry) }
     ensures height { IsShrunk (stored_height tree.old) (stored_height tree.new) }
-    ensures stopped { lower.new ≡ false → stored_height tree.new ≡ stored_height tree.old }
+    ensures told { IsTold lower.new (stored_height tree.old) (stored_height tree.new) }
 {
     if !has_left(tree) {
         return take_top_to(tree, bound, lower);
@@ -263,7 +266,7 @@ fn take_root_off<K, V, A: Allocator>(
     ensures root { option_and_then (λ b. b.value.entry) result ≡ root_entry tree.old }
     ensures taken { IfSome result (λ b. IsBare b.value × IsSome b.value.entry) }
     ensures height { IsShrunk (stored_height tree.old) (stored_height tree.new) }
-    ensures stopped { lower.new ≡ false → stored_height tree.new ≡ stored_height tree.old }
+    ensures told { IsTold lower.new (stored_height tree.old) (stored_height tree.new) }
 {
     let before = height(tree);
     let taken = take_root(tree);
@@ -281,12 +284,13 @@ pub fn remove<K: Ord, V, A: Allocator>(
     requires balanced { IsAvl tree.old }
     requires sorted { IsOrdered K.cmp (entries tree.old) }
     requires height_fits { stored_height tree.old < 200 }
+    requires not_lower { lower.old ≡ false }
     ensures balanced { IsAvl tree.new }
     ensures entries { entries tree.new ≡ remove_entry (is_at (K.cmp key.now)) (entries tree.old) }
     ensures value { option_and_then (λ b. option_map (λ e. e.1) b.value.entry) result ≡ lookup (is_at (K.cmp key.now)) (entries tree.old) }
     ensures taken { IfSome result (λ b. IsBare b.value × IsSome b.value.entry) }
     ensures height { IsShrunk (stored_height tree.old) (stored_height tree.new) }
-    ensures stopped { lower.new ≡ false → stored_height tree.new ≡ stored_height tree.old }
+    ensures told { IsTold lower.new (stored_height tree.old) (stored_height tree.new) }
 {
     let taken = match tree {
         Tree::Empty => return None,

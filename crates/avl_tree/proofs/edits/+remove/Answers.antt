@@ -19,7 +19,7 @@ remove-requires g t c κs within =
     let w = goes_left g.met.K.Ord.total c.args.key.now _ _ _ avl.0 p s in
     let lower : stored_height c.in-Fork.node.value.left < t = omega (arith, falls, avl.3) in
     let below : stored_height c.in-Fork.node.value.left < 200 = omega (arith, fits, avl.3) in
-    rw c.deref_mut.ensures.value (lower, (within.0, (within.1.0, (within.1.1, (avl.1, (w.sorted, below))))))
+    rw c.deref_mut.ensures.value (lower, (within.0, (within.1.0, (within.1.1, (avl.1, (w.sorted, (below, c.requires.not_lower)))))))
 
 pub remove-requires-in-Greater : goal.remove-requires-in-Greater
 remove-requires-in-Greater g t c κs within =
@@ -31,7 +31,7 @@ remove-requires-in-Greater g t c κs within =
     let w = goes_right g.met.K.Ord.total c.args.key.now _ _ _ avl.0 p s in
     let lower : stored_height c.in-Fork.node.value.right < t = omega (arith, falls, avl.3) in
     let below : stored_height c.in-Fork.node.value.right < 200 = omega (arith, fits, avl.3) in
-    rw c.deref_mut-in-Greater.ensures.value (lower, (within.0, (within.1.0, (within.1.1, (avl.2, (w.sorted, below))))))
+    rw c.deref_mut-in-Greater.ensures.value (lower, (within.0, (within.1.0, (within.1.1, (avl.2, (w.sorted, (below, c.requires.not_lower)))))))
 
 pub returns-in-Equal-clause-entries : goal.returns-in-Equal-clause-entries
 returns-in-Equal-clause-entries g t c =
