@@ -1,8 +1,8 @@
 /* The ledger server inside a C program: a request's frame and a moment go in, the reply's frame comes out. Frames are those of
  * docs/FORMATS.md; docs/EMBEDDING.md says what the calls promise and what they trust.
  *
- * First the names and the structs that frames are made of, then the five calls of the library, then functions that write the
- * frames of requests and read those of replies. These are static inline, and need no library. */
+ * First the names and the structs that frames are made of, then the five calls of the library, then functions that write and
+ * read the frames of requests, and read those of replies. These are static inline, and need no library. */
 #ifndef TB_EMBED_H
 #define TB_EMBED_H
 
@@ -369,6 +369,91 @@ static inline size_t tb_write_lookup_transfers(uint8_t *frame, size_t room, tb_u
     return tb_write_frame(frame, room, client, session, request, TB_OPERATION_LOOKUP_TRANSFERS, ids, TB_ID_SIZE, count);
 }
 
+/* A request that was read. It points into the bytes that it was read from: they are to stay as they are while it is used. */
+typedef struct tb_request {
+    tb_request_header header;
+    const uint8_t *body; /* header.length bytes */
+    size_t count;        /* of accounts, transfers or ids */
+} tb_request;
+
+static inline int tb_is_operation(uint8_t operation) {
+    return operation == TB_OPERATION_REGISTER
+           || (operation >= TB_OPERATION_CREATE_ACCOUNTS && operation <= TB_OPERATION_LOOKUP_TRANSFERS);
+}
+
+/* The bytes of an item in a request: a record, or an id. A register has none. */
+static inline size_t tb_request_item_size(uint8_t operation) {
+    return operation == TB_OPERATION_CREATE_ACCOUNTS || operation == TB_OPERATION_CREATE_TRANSFERS ? TB_RECORD_SIZE : TB_ID_SIZE;
+}
+
+static inline int tb_are_zeros(const uint8_t *bytes, size_t length) {
+    size_t at;
+    for (at = 0; at < length; at++)
+        if (bytes[at] != 0) return 0;
+    return 1;
+}
+
+/* What is wrong with the header of a request, by the tests of docs/FORMATS.md in their order. */
+static inline uint32_t tb_request_header_fault(const tb_request_header *header) {
+    int is_register = header->operation == TB_OPERATION_REGISTER;
+    size_t item_size = tb_request_item_size(header->operation);
+    if (tb_u128_equal(header->client, tb_u128_of(0))) return TB_FAULT_CLIENT_ZERO;
+    if (!tb_is_operation(header->operation)) return TB_FAULT_UNKNOWN_OPERATION;
+    if (!tb_are_zeros(header->zeros, sizeof header->zeros) || !tb_are_zeros(header->more_zeros, sizeof header->more_zeros))
+        return TB_FAULT_RESERVED;
+    if (is_register && (header->session != 0 || header->request != 0)) return TB_FAULT_REGISTER_NUMBERS;
+    if (!is_register && header->request == 0) return TB_FAULT_REQUEST_ZERO;
+    if (is_register ? header->length != 0 : header->length % item_size != 0) return TB_FAULT_BAD_LENGTH;
+    if (header->length / item_size > TB_ITEMS_MAX) return TB_FAULT_TOO_MANY;
+    return TB_FAULT_NONE;
+}
+
+/* Reads the request whose frame is at the beginning of the bytes, and answers TB_FAULT_NONE. It has TB_HEADER_SIZE +
+ * header.length bytes; more may follow, but tb_embed_serve takes just these. Else it answers the fault, and the request is all 0.
+ * No byte behind the length is read. */
+static inline uint32_t tb_read_request(const uint8_t *bytes, size_t length, tb_request *request) {
+    tb_request_header header;
+    uint32_t fault;
+    memset(request, 0, sizeof *request);
+    if (length < TB_HEADER_SIZE) return TB_FAULT_SHORT;
+    memcpy(&header, bytes, sizeof header);
+    fault = tb_request_header_fault(&header);
+    if (fault == TB_FAULT_NONE && length - TB_HEADER_SIZE < header.length) fault = TB_FAULT_SHORT;
+    if (fault != TB_FAULT_NONE) return fault;
+    request->header = header;
+    request->body = bytes + TB_HEADER_SIZE;
+    request->count = header.length / tb_request_item_size(header.operation);
+    return TB_FAULT_NONE;
+}
+
+/* What the functions for items have in common: the item at a place from 0 on, where there is one. */
+static inline int tb_item(const uint8_t *body, size_t count, size_t place, void *item, size_t item_size) {
+    if (place >= count) return 0;
+    memcpy(item, body + place * item_size, item_size);
+    return 1;
+}
+
+/* The item of a request at a place from 0 on: 1, or 0 where the request has no such item, or items of another kind. */
+
+/* Of create_accounts. */
+static inline int tb_request_account(const tb_request *request, size_t place, tb_account *account) {
+    if (request->header.operation != TB_OPERATION_CREATE_ACCOUNTS) return 0;
+    return tb_item(request->body, request->count, place, account, TB_RECORD_SIZE);
+}
+
+/* Of create_transfers. */
+static inline int tb_request_transfer(const tb_request *request, size_t place, tb_transfer *transfer) {
+    if (request->header.operation != TB_OPERATION_CREATE_TRANSFERS) return 0;
+    return tb_item(request->body, request->count, place, transfer, TB_RECORD_SIZE);
+}
+
+/* Of lookup_accounts or lookup_transfers. */
+static inline int tb_request_id(const tb_request *request, size_t place, tb_u128 *id) {
+    uint8_t operation = request->header.operation;
+    if (operation != TB_OPERATION_LOOKUP_ACCOUNTS && operation != TB_OPERATION_LOOKUP_TRANSFERS) return 0;
+    return tb_item(request->body, request->count, place, id, TB_ID_SIZE);
+}
+
 /* Replies. A tb_reply points into the bytes that it was read from: they are to stay as they are while it is used. */
 typedef struct tb_reply {
     tb_reply_header header;
@@ -378,11 +463,6 @@ typedef struct tb_reply {
 
 static inline uint64_t tb_commit(const tb_reply_header *header) {
     return (uint64_t)header->commit_high << 32 | header->commit_low;
-}
-
-static inline int tb_is_operation(uint8_t operation) {
-    return operation == TB_OPERATION_REGISTER
-           || (operation >= TB_OPERATION_CREATE_ACCOUNTS && operation <= TB_OPERATION_LOOKUP_TRANSFERS);
 }
 
 /* The bytes of an item in the reply to an operation. */
@@ -429,30 +509,23 @@ static inline uint32_t tb_read_reply(const uint8_t *bytes, size_t length, tb_rep
 
 /* The item of a reply at a place from 0 on: 1, or 0 where the reply has no such item, or items of another kind. */
 
-/* What the three have in common: the item's size is that of the reply's items. */
-static inline int tb_reply_item(const tb_reply *reply, size_t place, void *item, size_t item_size) {
-    if (place >= reply->count) return 0;
-    memcpy(item, reply->body + place * item_size, item_size);
-    return 1;
-}
-
 /* Of the reply to create_accounts or create_transfers. The codes are those of the operation. */
 static inline int tb_reply_result(const tb_reply *reply, size_t place, tb_event_result *result) {
     uint8_t operation = reply->header.operation;
     if (operation != TB_OPERATION_CREATE_ACCOUNTS && operation != TB_OPERATION_CREATE_TRANSFERS) return 0;
-    return tb_reply_item(reply, place, result, TB_RESULT_SIZE);
+    return tb_item(reply->body, reply->count, place, result, TB_RESULT_SIZE);
 }
 
 /* Of the reply to lookup_accounts. */
 static inline int tb_reply_account(const tb_reply *reply, size_t place, tb_account *account) {
     if (reply->header.operation != TB_OPERATION_LOOKUP_ACCOUNTS) return 0;
-    return tb_reply_item(reply, place, account, TB_RECORD_SIZE);
+    return tb_item(reply->body, reply->count, place, account, TB_RECORD_SIZE);
 }
 
 /* Of the reply to lookup_transfers. */
 static inline int tb_reply_transfer(const tb_reply *reply, size_t place, tb_transfer *transfer) {
     if (reply->header.operation != TB_OPERATION_LOOKUP_TRANSFERS) return 0;
-    return tb_reply_item(reply, place, transfer, TB_RECORD_SIZE);
+    return tb_item(reply->body, reply->count, place, transfer, TB_RECORD_SIZE);
 }
 
 /* Names, as docs/RULES.md and docs/FORMATS.md have them; "unknown" of any other number. */

@@ -1,7 +1,9 @@
-/* The functions of tb_embed.h that write requests and read replies: frames MODE.
+/* The functions of tb_embed.h that write and read requests, and read replies: frames MODE.
  *
  *     write     prints the frames of five requests, in hexadecimal
  *     refused   what fields may not hold and rooms that are too small, each byte of them; ends in 'ok'
+ *     requests  reads requests from standard input, as `read` does replies: the fault, or the operation, the client, the session, the
+ *               number and the items of each; what is read is written again, and has the bytes that were read
  *     read      reads replies from standard input, each behind its length (u32), and prints the fault, the status, the commit and
  *               the items of each; the bytes stand in memory of just that length, so that AddressSanitizer tells a read behind it
  *
@@ -148,6 +150,72 @@ static void print_items(const tb_reply *reply) {
     REQUIRE(!tb_reply_transfer(reply, SIZE_MAX, &recorded));
 }
 
+/* Prints each item, and puts them where they can be written again; none is told behind the last one or of another kind. */
+static size_t take_items(const tb_request *request, uint8_t *items) {
+    tb_account account;
+    tb_transfer transfer;
+    tb_u128 id;
+    size_t accounts = 0, transfers = 0, ids = 0, all = request->count;
+    for (; tb_request_account(request, accounts, &account); accounts++) {
+        printf("  account "), print_hex(&account, sizeof account);
+        memcpy(items + accounts * sizeof account, &account, sizeof account);
+    }
+    for (; tb_request_transfer(request, transfers, &transfer); transfers++) {
+        printf("  transfer "), print_hex(&transfer, sizeof transfer);
+        memcpy(items + transfers * sizeof transfer, &transfer, sizeof transfer);
+    }
+    for (; tb_request_id(request, ids, &id); ids++) {
+        printf("  id "), print_hex(&id, sizeof id);
+        memcpy(items + ids * sizeof id, &id, sizeof id);
+    }
+    REQUIRE(accounts + transfers + ids == all && (accounts == all || transfers == all || ids == all));
+    REQUIRE(!tb_request_account(request, SIZE_MAX, &account) && !tb_request_transfer(request, SIZE_MAX, &transfer));
+    REQUIRE(!tb_request_id(request, SIZE_MAX, &id));
+    return all;
+}
+
+/* Writes a request that was read by the function of its operation. */
+static size_t write_again(const tb_request_header *header, const void *items, size_t count, uint8_t *frame, size_t room) {
+    tb_u128 client = header->client;
+    uint64_t session = header->session;
+    uint32_t number = header->request;
+    switch (header->operation) {
+    case TB_OPERATION_REGISTER: return tb_write_register(frame, room, client);
+    case TB_OPERATION_CREATE_ACCOUNTS:
+        return tb_write_create_accounts(frame, room, client, session, number, (const tb_account *)items, count);
+    case TB_OPERATION_CREATE_TRANSFERS:
+        return tb_write_create_transfers(frame, room, client, session, number, (const tb_transfer *)items, count);
+    case TB_OPERATION_LOOKUP_ACCOUNTS: return tb_write_lookup_accounts(frame, room, client, session, number, (const tb_u128 *)items, count);
+    default: return tb_write_lookup_transfers(frame, room, client, session, number, (const tb_u128 *)items, count);
+    }
+}
+
+static void read_requests(void) {
+    uint32_t length, fault;
+    while (fread(&length, 1, sizeof length, stdin) == sizeof length) {
+        uint8_t *bytes = bytes_of(length), *items = bytes_of(length), *frame = bytes_of(length);
+        tb_request request;
+        REQUIRE(fread(bytes, 1, length, stdin) == length);
+        fault = tb_read_request(bytes, length, &request);
+        if (fault == TB_FAULT_NONE) {
+            const tb_request_header *header = &request.header;
+            size_t count, again = TB_HEADER_SIZE + header->length;
+            printf("%s %llu %llu %llu %u\n", tb_operation_name(header->operation), (unsigned long long)header->client.high,
+                   (unsigned long long)header->client.low, (unsigned long long)header->session, (unsigned)header->request);
+            count = take_items(&request, items);
+            REQUIRE(write_again(header, items, count, frame, length) == again && !memcmp(frame, bytes, again));
+        } else {
+            tb_account account;
+            tb_transfer transfer;
+            tb_u128 id;
+            printf("%u %s\n", (unsigned)fault, tb_fault_name(fault));
+            REQUIRE(request.count == 0 && request.body == NULL && request.header.operation == 0);
+            REQUIRE(!tb_request_account(&request, 0, &account) && !tb_request_transfer(&request, 0, &transfer) && !tb_request_id(&request, 0, &id));
+        }
+        free(bytes), free(items), free(frame);
+    }
+}
+
 static void read_replies(void) {
     uint32_t length, fault;
     while (fread(&length, 1, sizeof length, stdin) == sizeof length) {
@@ -169,6 +237,7 @@ int main(int count, char **words) {
     if (count != 2) return 2;
     if (!strcmp(words[1], "write")) write_all();
     else if (!strcmp(words[1], "refused")) refused();
+    else if (!strcmp(words[1], "requests")) read_requests();
     else if (!strcmp(words[1], "read")) read_replies();
     else return 2;
     return 0;

@@ -1,7 +1,8 @@
 #!/usr/bin/env python3
 """Tests what embed/tb_embed.h and embed/rust/tb_embed.rs make and read of frames, without the library: frames.c, as C and as C++, and
-frames.rs write the requests that the client in Python writes, refuse what a frame may not hold, and read replies as the tests of
-docs/FORMATS.md say: right ones, each cut at each byte, each with changed bytes, and too long ones.
+frames.rs write the requests that the client in Python writes, refuse what a frame may not hold, and read requests and replies as the
+tests of docs/FORMATS.md say: right ones, each cut at each byte, each with changed bytes, and too long ones. The client in Python
+reads the same requests, and takes just those that have no fault and nothing behind them.
 
     checks/embed/frames.py
 
@@ -21,7 +22,8 @@ sys.dont_write_bytecode = True
 sys.path.append(f"{TOP}/clients/python")
 
 from tb_client import Account, AccountFlags, Operation, Status, Transfer, TransferFlags, amount_max  # noqa: E402
-from tb_client.frames import Reply, body_of, request_frame  # noqa: E402
+from tb_client.errors import InvalidValue  # noqa: E402
+from tb_client.frames import Reply, Request, body_of, request_frame  # noqa: E402
 
 FAULTS = ["none", "Short", "ClientZero", "UnknownOperation", "Reserved", "BadLength", "TooMany", "RegisterNumbers", "RequestZero", "Device", "NoMemory", "ReplyNumbers"]
 ITEM_SIZES = {129: 8, 130: 8, 131: 128, 132: 128}
@@ -76,6 +78,113 @@ def requests():
     for operation, items in (("create_accounts", [account(100), account(200)]), ("create_transfers", [transfer(300), transfer(400)]), ("lookup_accounts", ids), ("lookup_transfers", ids)):
         kind = Operation[operation]
         yield request_frame(client, session, number, kind, body_of(kind, items))
+
+
+REQUEST_SIZES = {129: 128, 130: 128, 131: 16, 132: 16}
+REQUEST_NAMES = {129: "account", 130: "transfer", 131: "id", 132: "id"}
+
+
+def request_fault(data):
+    """The fault of a request, by the table of docs/FORMATS.md."""
+    if len(data) < 48:
+        return "Short"
+    client = int.from_bytes(data[:16], "little")
+    session, request, operation, zeros, length, more = struct.unpack_from("<QIB3sI12s", data, 16)
+    register, size = operation == 2, REQUEST_SIZES.get(operation, 16)
+    tests = [
+        ("ClientZero", client == 0),
+        ("UnknownOperation", operation != 2 and operation not in REQUEST_SIZES),
+        ("Reserved", any(zeros + more)),
+        ("RegisterNumbers", register and (session or request)),
+        ("RequestZero", not register and request == 0),
+        ("BadLength", length if register else length % size),
+        ("TooMany", length // size > 8190),
+        ("Short", len(data) < 48 + length),
+    ]
+    return next((name for name, holds in tests if holds), "none")
+
+
+def asked(data):
+    """What a program prints of the bytes of a request."""
+    fault = request_fault(data)
+    if fault != "none":
+        return f"{FAULTS.index(fault)} {fault}\n"
+    low, high, session, number, operation, length = struct.unpack_from("<QQQIB3xI", data)
+    lines, size = [f"{Operation(operation).name} {high} {low} {session} {number}"], REQUEST_SIZES.get(operation, 16)
+    lines += [f"  {REQUEST_NAMES[operation]} {data[at : at + size].hex()}" for at in range(48, 48 + length, size)]
+    return "\n".join(lines) + "\n"
+
+
+def header(client, session, number, operation, length):
+    return struct.pack("<QQQIB3xI12x", client % 2**64, client >> 64, session, number, operation, length)
+
+
+def right_requests():
+    """Requests without a fault: a register, and each other operation with 0, 1 and 3 items, and numbers from the least to the greatest."""
+    chance = random.Random(17)
+    yield from requests()
+    yield header(1, 0, 0, 2, 0)
+    for operation, size in REQUEST_SIZES.items():
+        for count in (0, 1, 3):
+            yield header(2**128 - 1, 2**64 - 1, 2**32 - 1, operation, count * size) + chance.randbytes(count * size)
+        yield header(1 << 64, 0, 1, operation, 0)
+
+
+def long_requests():
+    """Requests with as many items as there may be, with one more, and with lengths that are wrong or greater than what is there."""
+    lengths = (0, 1, 15, 16, 17, 127, 128, 129, 383, 384, 385, 512, 2**31, 2**32 - 1, 2**32 - 16, 2**32 - 128)
+    for operation, size in REQUEST_SIZES.items():
+        for count in (8190, 8191):
+            yield header(7, 1, 1, operation, count * size) + bytes(count * size)
+        for length in (*lengths, 8190 * size, 8191 * size, 8191 * size - 1):
+            yield header(7, 1, 1, operation, length) + bytes(3 * size)
+    for length in lengths:
+        yield header(7, 0, 0, 2, length) + bytes(384)
+
+
+def odd_requests():
+    """Each operation, and numbers that are none, with clients, sessions and numbers that may be 0; and each reserved byte set."""
+    for operation in (*range(0, 4), *range(127, 135), 255):
+        for client in (0, 1, 1 << 64, 2**128 - 1):
+            for session in (0, 1, 2**32, 2**64 - 1):
+                for number in (0, 1, 2**16, 2**32 - 1):
+                    yield header(client, session, number, operation, 0)
+    for operation, number in ((2, 0), (129, 1), (132, 1)):
+        for at in (*range(29, 32), *range(36, 48)):
+            for byte in (1, 128, 255):
+                frame = bytearray(header(7, 0, number, operation, 0))
+                frame[at] = byte
+                yield bytes(frame)
+
+
+def request_kinds():
+    right = list(right_requests())
+    return [
+        ("right requests", right),
+        ("requests cut at each byte", [it[:length] for it in right for length in range(len(it))]),
+        ("requests with more bytes behind them", [it + bytes([255] * more) for it in right for more in (1, 16, 48, 128)]),
+        ("the longest requests, and wrong lengths", list(long_requests())),
+        ("requests whose numbers may not go together", list(odd_requests())),
+        ("requests with changed bytes", list(changed(right))),
+    ]
+
+
+def taken_in_python(data):
+    """Whether the client in Python reads these bytes as a request, and writes them again."""
+    try:
+        return Request.from_bytes(data).to_bytes() == data
+    except InvalidValue:
+        return False
+
+
+def request_cases(kinds):
+    """What the definitions of this file say of requests, and what the client in Python makes of them."""
+    found = {request_fault(it) for _, several in kinds for it in several}
+    yield "each fault of a request comes of some request", found == {*FAULTS} - {"Device", "NoMemory", "ReplyNumbers"}, str(found)
+    yield "cut requests are Short", {request_fault(it) for it in kinds[1][1]} == {"Short"}, ""
+    for what, several in kinds:
+        wrong = [it[:60].hex() for it in several if taken_in_python(it) != (request_fault(it) == "none" and len(it) == 48 + int.from_bytes(it[32:36], "little"))]
+        yield f"{len(several)} {what} in Python", not wrong, str(wrong[:1])
 
 
 # Replies
@@ -149,8 +258,8 @@ def odd_numbers():
                     yield Reply(client, session, request, operation, status, commit, b"").to_bytes()
 
 
-def changed_replies(right):
-    """Replies with bytes of their headers changed at random, to numbers that mean something."""
+def changed(right):
+    """Frames with bytes of their headers changed at random, to numbers that mean something."""
     chance = random.Random(11)
     for _ in range(20000):
         frame = bytearray(chance.choice(right))
@@ -161,9 +270,9 @@ def changed_replies(right):
         yield bytes(frame[: chance.choice((len(frame), len(frame), len(frame), chance.randrange(len(frame) + 1)))])
 
 
-def read_by(path, replies):
-    given = b"".join(struct.pack("<I", len(it)) + it for it in replies)
-    ran = subprocess.run([path, "read"], input=given, capture_output=True, timeout=300)
+def read_by(path, mode, several):
+    given = b"".join(struct.pack("<I", len(it)) + it for it in several)
+    ran = subprocess.run([path, mode], input=given, capture_output=True, timeout=300)
     return ran.stdout.decode() if ran.returncode == 0 else ran.stderr.decode(errors="replace")[-1500:]
 
 
@@ -176,11 +285,13 @@ def cases():
         ("replies with more bytes behind them", [it + bytes([255] * more) for it in right for more in (1, 48, 128)]),
         ("the longest replies, and wrong lengths", list(long_replies())),
         ("replies whose numbers may not go together", list(odd_numbers())),
-        ("replies with changed bytes", list(changed_replies(right))),
+        ("replies with changed bytes", list(changed(right))),
     ]
     found = {reply_fault(it) for _, replies in kinds for it in replies}
     yield "each fault comes of some reply", found == {*FAULTS} - {"Device", "NoMemory"}, str(found)
     yield "cut replies are Short", {reply_fault(it) for it in kinds[1][1]} == {"Short"}, ""
+    asking = request_kinds()
+    yield from request_cases(asking)
     wanted = "".join(it.hex() + "\n" for it in requests())
     with tempfile.TemporaryDirectory() as folder:
         for language, path, why in programs(folder):
@@ -190,9 +301,10 @@ def cases():
             written, refused = (subprocess.run([path, mode], capture_output=True, timeout=300) for mode in ("write", "refused"))
             yield f"requests in {language} are those of the client in Python", written.stdout.decode() == wanted, (written.stdout + written.stderr).decode(errors="replace")[-1500:]
             yield f"requests that have no frame in {language}", refused.stdout == b"ok\n" and refused.returncode == 0, (refused.stdout + refused.stderr).decode(errors="replace")[-1500:]
-            for what, replies in kinds:
-                got, lines = read_by(path, replies), "".join(map(told, replies))
-                yield f"{len(replies)} {what} in {language}", got == lines, difference(got, lines)
+            for mode, tell, several in (("requests", asked, asking), ("read", told, kinds)):
+                for what, given in several:
+                    got, lines = read_by(path, mode, given), "".join(map(tell, given))
+                    yield f"{len(given)} {what} in {language}", got == lines, difference(got, lines)
 
 
 def difference(got, wanted):

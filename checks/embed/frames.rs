@@ -179,14 +179,54 @@ fn print_items(reply: &Reply) {
     );
 }
 
-fn read_replies() -> io::Result<()> {
-    let mut all = Vec::new();
+/// The bytes that were given on standard input, each behind its length (u32).
+fn given() -> io::Result<Vec<Vec<u8>>> {
+    let (mut all, mut each) = (Vec::new(), Vec::new());
     io::stdin().read_to_end(&mut all)?;
     let mut rest = &all[..];
     while let Some((length, more)) = rest.split_first_chunk() {
         let (bytes, more) = more.split_at(u32::from_le_bytes(*length) as usize);
+        each.push(bytes.to_vec());
         rest = more;
-        match Reply::from_bytes(bytes) {
+    }
+    Ok(each)
+}
+
+fn print_request(request: &Request) {
+    let (low, high) = (request.client as u64, (request.client >> 64) as u64);
+    let (operation, session, number) = (request.operation(), request.session, request.number);
+    println!("{operation} {high} {low} {session} {number}");
+    match &request.body {
+        Body::Register => {}
+        Body::CreateAccounts(accounts) => accounts
+            .iter()
+            .for_each(|it| println!("  account {}", hex(&it.to_bytes()))),
+        Body::CreateTransfers(transfers) => transfers
+            .iter()
+            .for_each(|it| println!("  transfer {}", hex(&it.to_bytes()))),
+        Body::LookupAccounts(ids) | Body::LookupTransfers(ids) => ids
+            .iter()
+            .for_each(|id| println!("  id {}", hex(&id.to_le_bytes()))),
+    }
+}
+
+/// What is read is written again, and has the bytes that were read.
+fn read_requests() -> io::Result<()> {
+    for bytes in given()? {
+        match Request::from_bytes(&bytes) {
+            Ok((request, length)) => {
+                assert_eq!(request.to_bytes().as_deref(), Ok(&bytes[..length]));
+                print_request(&request);
+            }
+            Err(fault) => println!("{} {fault}", fault as u32),
+        }
+    }
+    io::stdout().flush()
+}
+
+fn read_replies() -> io::Result<()> {
+    for bytes in given()? {
+        match Reply::from_bytes(&bytes) {
             Ok((reply, length)) => {
                 assert!(HEADER_SIZE <= length && length <= bytes.len());
                 println!("{} {} {}", reply.operation, reply.status, reply.commit);
@@ -202,8 +242,9 @@ fn main() -> io::Result<()> {
     match std::env::args().nth(1).as_deref() {
         Some("write") => write_all(wide(7, 9), 0xfffffffe),
         Some("refused") => refused(),
+        Some("requests") => read_requests()?,
         Some("read") => read_replies()?,
-        _ => return Err(io::Error::other("frames write|refused|read")),
+        _ => return Err(io::Error::other("frames write|refused|requests|read")),
     }
     Ok(())
 }

@@ -556,6 +556,23 @@ impl Request {
         Ok(frame)
     }
 
+    /// The request whose frame is at the beginning of the bytes, and how many bytes its frame has. `Server::serve` takes just these.
+    pub fn from_bytes(bytes: &[u8]) -> Result<(Request, usize), Fault> {
+        let (first, rest) = bytes.split_first_chunk().ok_or(Fault::Short)?;
+        let header = RequestHeader::from_bytes(first);
+        if let Some(fault) = header.fault(first) {
+            return Err(fault);
+        }
+        let body = rest.get(..header.length as usize).ok_or(Fault::Short)?;
+        let request = Request {
+            client: header.client,
+            session: header.session,
+            number: header.request,
+            body: Body::from_bytes(header.operation(), body),
+        };
+        Ok((request, HEADER_SIZE + body.len()))
+    }
+
     fn fault(&self) -> Option<Fault> {
         let is_register = self.body == Body::Register;
         if self.client == 0 {
@@ -568,6 +585,77 @@ impl Request {
             Some(Fault::TooMany)
         } else {
             None
+        }
+    }
+}
+
+/// The bytes of an item in a request of an operation: a record, or an id. A register has none.
+fn request_item_size(operation: Operation) -> usize {
+    match operation {
+        Operation::CreateAccounts | Operation::CreateTransfers => RECORD_SIZE,
+        _ => ID_SIZE,
+    }
+}
+
+impl RequestHeader {
+    fn operation(&self) -> Operation {
+        Operation::from_number(self.operation.into())
+    }
+
+    /// What is wrong with it, by the tests of docs/FORMATS.md in their order. The zero bytes are those of `bytes`.
+    fn fault(&self, bytes: &[u8; HEADER_SIZE]) -> Option<Fault> {
+        let operation = self.operation();
+        let is_register = operation == Operation::Register;
+        if self.client == 0 {
+            Some(Fault::ClientZero)
+        } else if matches!(operation, Operation::Unknown(_)) {
+            Some(Fault::UnknownOperation)
+        } else if self.to_bytes() != *bytes {
+            Some(Fault::Reserved)
+        } else if is_register && (self.session != 0 || self.request != 0) {
+            Some(Fault::RegisterNumbers)
+        } else if !is_register && self.request == 0 {
+            Some(Fault::RequestZero)
+        } else {
+            length_fault(self.length, request_item_size(operation), is_register)
+        }
+    }
+}
+
+/// A body is empty, or has whole items, and not too many.
+fn length_fault(length: u32, item_size: usize, is_empty: bool) -> Option<Fault> {
+    let length = length as usize;
+    if length % item_size != 0 || is_empty && length != 0 {
+        Some(Fault::BadLength)
+    } else if length / item_size > ITEMS_MAX {
+        Some(Fault::TooMany)
+    } else {
+        None
+    }
+}
+
+fn records<R>(body: &[u8], read: fn(&[u8; RECORD_SIZE]) -> R) -> Vec<R> {
+    let chunks = body.chunks_exact(RECORD_SIZE);
+    chunks.filter_map(|it| it.first_chunk()).map(read).collect()
+}
+
+fn ids(body: &[u8]) -> Vec<u128> {
+    body.chunks_exact(ID_SIZE)
+        .map(|it| u128::get(it, 0))
+        .collect()
+}
+
+impl Body {
+    /// The items of a body, which has whole ones.
+    fn from_bytes(operation: Operation, body: &[u8]) -> Body {
+        match operation {
+            Operation::CreateAccounts => Body::CreateAccounts(records(body, Account::from_bytes)),
+            Operation::CreateTransfers => {
+                Body::CreateTransfers(records(body, Transfer::from_bytes))
+            }
+            Operation::LookupAccounts => Body::LookupAccounts(ids(body)),
+            Operation::LookupTransfers => Body::LookupTransfers(ids(body)),
+            _ => Body::Register,
         }
     }
 }
@@ -626,7 +714,8 @@ impl ReplyHeader {
         } else if !self.has_commit(is_register, is_refusal) {
             Some(Fault::ReplyNumbers)
         } else {
-            self.length_fault(operation, is_register || is_refusal)
+            let is_empty = is_register || is_refusal;
+            length_fault(self.length, reply_item_size(operation), is_empty)
         }
     }
 
@@ -640,23 +729,6 @@ impl ReplyHeader {
             self.session != 0 && self.session < self.commit
         }
     }
-
-    /// A body is empty, or has whole items, and not too many.
-    fn length_fault(&self, operation: Operation, is_empty: bool) -> Option<Fault> {
-        let (length, item_size) = (self.length as usize, reply_item_size(operation));
-        if length % item_size != 0 || is_empty && length != 0 {
-            Some(Fault::BadLength)
-        } else if length / item_size > ITEMS_MAX {
-            Some(Fault::TooMany)
-        } else {
-            None
-        }
-    }
-}
-
-fn records<R>(body: &[u8], read: fn(&[u8; RECORD_SIZE]) -> R) -> Vec<R> {
-    let chunks = body.chunks_exact(RECORD_SIZE);
-    chunks.filter_map(|it| it.first_chunk()).map(read).collect()
 }
 
 fn results<R>(body: &[u8], result: fn(u32) -> R) -> Vec<EventResult<R>> {
