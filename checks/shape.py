@@ -4,6 +4,9 @@
     checks/shape.py [CRATE ..]          a row for each crate, and the sum
     checks/shape.py --list [CRATE ..]   also each clause over 120 columns, and each function with more than 8 clauses or 40 lines
 
+`cited` are the lines of the definitions that public contracts cite: of the files of specs/ that Lib.antt does not list for private
+functions alone. `public >120` are the clauses over 120 columns of functions that are `pub`.
+
 It reads the sources alone. docs/ARCHITECTURE.md gives its last numbers.
 """
 import os
@@ -11,9 +14,10 @@ import re
 import sys
 
 TOP = os.path.dirname(os.path.dirname(os.path.abspath(__file__)))
-COLUMNS = ("crate", "src", "specs", "proofs", "functions", "clauses", ">100", ">120", ">8 clauses", ">=40 lines", "casts of codes")
+COLUMNS = ("crate", "src", "specs", "cited", "proofs", "functions", "clauses", ">100", ">120", "public >120", ">8 clauses", ">=40 lines", "casts of codes")
 CLAUSE = re.compile(r"\s+(?:requires|ensures|invariant) ?(?:\w+ )?\{")
 FUNCTION = re.compile(r"(\s*)(?:pub(?:\([a-z]+\))? )?(?:const |unsafe )*fn (\w+)")
+PRIVATE = re.compile(r"\s*--.*private")
 CAST = re.compile(r"(?:Result|Code)::\w+ as u\d+")
 
 
@@ -40,6 +44,9 @@ def functions(path):
         for to in range(at, len(text)):
             if body is None and CLAUSE.match(text[to]):
                 clauses.append(to)
+            if body is None and text[to] == f"{found[1]}{{}}":
+                yield found[2], at + 1, 0, clauses
+                break
             if text[to] == f"{found[1]}{{" or (to == at or body is None) and text[to].endswith(" {"):
                 body = to
             if body is None and text[to].endswith(";") and not CLAUSE.match(text[to]):
@@ -49,10 +56,22 @@ def functions(path):
                 break
 
 
+def cited(crate):
+    """The lines of the definitions that public contracts cite, as specs/Lib.antt has them."""
+    listing, total, is_private = f"{TOP}/crates/{crate}/specs/Lib.antt", 0, False
+    for line in lines(listing) if os.path.exists(listing) else ():
+        if line.startswith("--"):
+            is_private = PRIVATE.match(line) is not None
+        elif line.startswith("pub mod ") and not is_private:
+            total += len(lines(f"{TOP}/crates/{crate}/specs/{line[8:]}.antt"))
+    return total
+
+
 def measured(crate, listed):
     row = dict.fromkeys(COLUMNS[1:], 0)
     for folder, ending in (("src", ".rt"), ("specs", ".antt"), ("proofs", ".antt")):
         row[folder] = sum(len(lines(path)) for path in files(crate, folder, ending))
+    row["cited"] = cited(crate)
     for path in files(crate, "src", ".rt"):
         short = os.path.relpath(path, TOP)
         for at, line in enumerate(lines(path), 1):
@@ -63,8 +82,11 @@ def measured(crate, listed):
                 if listed and len(line) > 120:
                     print(f"{short}:{at}: {len(line)} columns")
             row["casts of codes"] += len(CAST.findall(line))
+        text = lines(path)
         for name, at, body, clauses in functions(path):
             row["functions"] += 1
+            is_public = text[at - 1].lstrip().startswith("pub ")
+            row["public >120"] += sum(len(text[it]) > 120 for it in clauses) if is_public else 0
             row[">8 clauses"] += len(clauses) > 8
             row[">=40 lines"] += body >= 40
             if listed and (len(clauses) > 8 or body >= 40):
