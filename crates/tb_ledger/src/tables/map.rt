@@ -1,5 +1,5 @@
 //! A finite map: rows by rising key, in a balanced tree.
-ghost use Rattle.std.specs.Prelude.{◌≡◌, ◌≢◌, ◌⊎◌, ℕ, ◌+◌, ◌-◌, ◌<◌, ◌≤◌, ◌==◌, List, [], length, map, None, find, OnOk, IfSome, IfNone};
+ghost use Rattle.std.specs.Prelude.{◌≡◌, ◌≢◌, ◌⊎◌, ℕ, ◌+◌, ◌-◌, ◌<◌, ◌≤◌, ◌==◌, max, List, [], length, map, None, find, OnOk, IfSome, IfNone};
 ghost use Rattle.std.specs.Option.{option_copied};
 ghost use Rattle.std.specs.Map.{values_of};
 ghost use Rattle.tb_records.specs.Ordered.{put, replaced, taken_out, Rising};
@@ -222,11 +222,12 @@ impl<V: Keyed, A: Allocator + Clone> Table<V, A> {
         }
     }
 
-    /// Makes room for `n` more rows. Where there is no memory the rows stay, and no room is lost.
+    /// Makes room for `n` more rows, and for no more. Where there is no memory the rows stay, and no room is lost.
     pub fn reserve(&mut self, alloc: &A, n: usize) -> Result<(), AllocError>
         ensures rows { self.new.items ≡ self.old.items }
         ensures ok { OnOk result (n ≤ self.new.spare) }
-        ensures room { self.old.spare ≤ self.new.spare }
+        ensures not_less { self.old.spare ≤ self.new.spare }
+        ensures no_more { self.new.spare ≤ max self.old.spare n }
     {
         match &mut self.rows {
             Some(rows) => rows.reserve(n),

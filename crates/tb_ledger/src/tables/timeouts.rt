@@ -1,5 +1,5 @@
 //! When open pending transfers expire: their timeouts, by rising time.
-ghost use Rattle.std.specs.Prelude.{◌≡◌, ◌+◌, ◌-◌, ◌<◌, ◌≤◌, ◌==◌, [], None, find, OnOk};
+ghost use Rattle.std.specs.Prelude.{◌≡◌, ◌+◌, ◌-◌, ◌<◌, ◌≤◌, ◌==◌, max, [], None, find, OnOk};
 ghost use Rattle.tb_records.specs.Ordered.{put, taken_out};
 ghost use Rattle.avl_tree.specs.Map.{entries};
 ghost use Rattle.tb_ledger.specs.Timeouts.{timeout_key, timeouts_of, AreTimeouts, freed, with_timeout, without_timeout, TakesDue, IsFirstDue};
@@ -98,11 +98,12 @@ impl<A: Allocator + Clone> Timeouts<A> {
         let _ = &self.keys;
     }
 
-    /// Makes room for `n` more timeouts. Where there is no memory they stay, and no room is lost.
+    /// Makes room for `n` more timeouts, and for no more. Where there is no memory they stay, and no room is lost.
     pub fn reserve(&mut self, alloc: &A, n: usize) -> Result<(), AllocError>
         ensures timeouts { self.new.items ≡ self.old.items }
         ensures ok { OnOk result (n ≤ self.new.spare) }
-        ensures room { self.old.spare ≤ self.new.spare }
+        ensures not_less { self.old.spare ≤ self.new.spare }
+        ensures no_more { self.new.spare ≤ max self.old.spare n }
     {
         match &mut self.keys {
             Some(keys) => keys.reserve(n),
