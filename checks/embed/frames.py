@@ -2,7 +2,7 @@
 """Tests what embed/tb_embed.h and embed/rust/tb_embed.rs make and read of frames, without the library: frames.c, as C and as C++, and
 frames.rs write the requests that the client in Python writes, refuse what a frame may not hold, and read requests and replies as the
 tests of docs/FORMATS.md say: right ones, each cut at each byte, each with changed bytes, and too long ones. The client in Python
-reads the same requests, and takes just those that have no fault and nothing behind them.
+reads the same requests and replies, and takes just those that have no fault and nothing behind them.
 
     checks/embed/frames.py
 
@@ -22,7 +22,7 @@ sys.dont_write_bytecode = True
 sys.path.append(f"{TOP}/clients/python")
 
 from tb_client import Account, AccountFlags, Operation, Status, Transfer, TransferFlags, amount_max  # noqa: E402
-from tb_client.errors import InvalidValue  # noqa: E402
+from tb_client.errors import BadReply, InvalidValue  # noqa: E402
 from tb_client.frames import Reply, Request, body_of, request_frame  # noqa: E402
 
 FAULTS = ["none", "Short", "ClientZero", "UnknownOperation", "Reserved", "BadLength", "TooMany", "RegisterNumbers", "RequestZero", "Device", "NoMemory", "ReplyNumbers"]
@@ -177,13 +177,27 @@ def taken_in_python(data):
         return False
 
 
+def read_in_python(data):
+    """Whether the client in Python reads these bytes as a reply, and writes them again."""
+    try:
+        return Reply.from_bytes(data).to_bytes() == data
+    except BadReply:
+        return False
+
+
+def wrongly_read(several, takes, fault_of):
+    """Bytes that the client in Python takes though they are no whole frame without a fault, or does not take though they are."""
+    is_whole = [fault_of(it) == "none" and len(it) == 48 + int.from_bytes(it[32:36], "little") for it in several]
+    return [it[:60].hex() for it, whole in zip(several, is_whole) if takes(it) != whole]
+
+
 def request_cases(kinds):
     """What the definitions of this file say of requests, and what the client in Python makes of them."""
     found = {request_fault(it) for _, several in kinds for it in several}
     yield "each fault of a request comes of some request", found == {*FAULTS} - {"Device", "NoMemory", "ReplyNumbers"}, str(found)
     yield "cut requests are Short", {request_fault(it) for it in kinds[1][1]} == {"Short"}, ""
     for what, several in kinds:
-        wrong = [it[:60].hex() for it in several if taken_in_python(it) != (request_fault(it) == "none" and len(it) == 48 + int.from_bytes(it[32:36], "little"))]
+        wrong = wrongly_read(several, taken_in_python, request_fault)
         yield f"{len(several)} {what} in Python", not wrong, str(wrong[:1])
 
 
@@ -290,6 +304,9 @@ def cases():
     found = {reply_fault(it) for _, replies in kinds for it in replies}
     yield "each fault comes of some reply", found == {*FAULTS} - {"Device", "NoMemory"}, str(found)
     yield "cut replies are Short", {reply_fault(it) for it in kinds[1][1]} == {"Short"}, ""
+    for what, several in kinds:
+        wrong = wrongly_read(several, read_in_python, reply_fault)
+        yield f"{len(several)} {what} in Python", not wrong, str(wrong[:1])
     asking = request_kinds()
     yield from request_cases(asking)
     wanted = "".join(it.hex() + "\n" for it in requests())

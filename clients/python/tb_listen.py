@@ -33,6 +33,7 @@ ITEM_SIZES = {129: 128, 130: 128, 131: 16, 132: 16}
 REGISTER = 2
 BODY_MAX = ITEMS_MAX * 128
 SECOND = 10**9
+LAST_READ = 1.0  # seconds for which a client that is told why may still send, so that it reads why and is not cut off before
 PAUSES = (0.1, 0.5, 2.0, 5.0)  # seconds before the command is started again; the last one from then on
 STEADY = 60.0  # seconds after which a command that ends is one that was well until then
 
@@ -151,6 +152,9 @@ class Program:
             self.stdin.close()
             lines = (await told).decode(errors="replace").strip().splitlines()
             status = await process.wait()
+            with contextlib.suppress(asyncio.TimeoutError):  # so that no pipe of it is open when the listener ends
+                await asyncio.wait_for(self.stdout.read(), 1.0)
+                await asyncio.sleep(0.01)
         return status, lines[-1] if lines else ""
 
     async def _read_replies(self) -> None:
@@ -158,12 +162,12 @@ class Program:
         while True:
             try:
                 header = await self.stdout.readexactly(HEADER)
+                if not self.waiting or self.waiting[0][0] != asker(header) or length_of(header) > BODY_MAX:
+                    self.kill()
+                    raise Ended(f"{self.command[0]} wrote a reply that nobody asked for", 1)
                 body = await self.stdout.readexactly(length_of(header))
             except asyncio.IncompleteReadError:
                 return
-            if not self.waiting or self.waiting[0][0] != asker(header):
-                self.kill()
-                raise Ended(f"{self.command[0]} wrote a reply that nobody asked for", 1)
             reply = self.waiting.popleft()[1]
             if not reply.done():
                 reply.set_result(header + body)
@@ -221,7 +225,7 @@ class Listener:
         task = asyncio.current_task()
         assert task is not None
         if len(self.tasks) >= self.given.connections:
-            await self._close(writer, "Busy")
+            await self._close(reader, writer, "Busy")
             return
         self.tasks.add(task)
         why = ""
@@ -231,11 +235,13 @@ class Listener:
             why = str(told)
         except asyncio.CancelledError:
             why = "Stopping"
-        except (ConnectionError, asyncio.IncompleteReadError):
+        except asyncio.IncompleteReadError as end:
+            why = "Short" if end.partial else ""
+        except ConnectionError:
             pass
         finally:
             self.tasks.discard(task)
-        await self._close(writer, why)
+        await self._close(reader, writer, why)
 
     async def _serve(self, task: "asyncio.Task[None]", reader: asyncio.StreamReader, writer: asyncio.StreamWriter) -> None:
         while not self.is_stopping:
@@ -258,20 +264,34 @@ class Listener:
         fault = fault_of(header)
         if fault:
             raise Told(fault)
-        return header + await reader.readexactly(length_of(header))
+        try:
+            return header + await reader.readexactly(length_of(header))
+        except asyncio.IncompleteReadError:
+            raise Told("Short") from None
 
-    async def _close(self, writer: asyncio.StreamWriter, why: str) -> None:
+    async def _close(self, reader: asyncio.StreamReader, writer: asyncio.StreamWriter, why: str) -> None:
         """Tells why, where there is something to tell, and closes the connection."""
-        if why not in ("", "Stopping", "ProgramEnded"):
+        if why not in ("", "Short", "Stopping", "ProgramEnded"):  # who is gone amid a frame is no fault to be told here
             say(f"a connection is closed: {why}")
-        with contextlib.suppress(ConnectionError, asyncio.TimeoutError):
-            if why == "Slow":
-                writer.transport.abort()
-                return
-            if why:
-                writer.write(f"tb_listen: {why}\n".encode("ascii"))
-            writer.close()
+        if why == "Slow":
+            writer.transport.abort()
+            return
+        with contextlib.suppress(ConnectionError, asyncio.TimeoutError, asyncio.CancelledError):  # nothing is left to be done
+            try:
+                if why:
+                    writer.write(f"tb_listen: {why}\n".encode("ascii"))
+                    writer.write_eof()
+                    await asyncio.wait_for(self._read_on(reader), LAST_READ)
+            finally:
+                writer.close()
             await asyncio.wait_for(writer.wait_closed(), 1.0)
+
+    @staticmethod
+    async def _read_on(reader: asyncio.StreamReader) -> None:
+        """Reads what still comes, and does nothing with it. A connection that is closed before it is read cuts its client off, and
+        what the client was told may be lost."""
+        while await reader.read(1 << 16):
+            pass
 
     async def stop(self) -> None:
         """Takes no more requests, and waits until those that were taken are answered."""

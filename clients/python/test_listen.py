@@ -19,7 +19,7 @@ import tb_client as tb
 import tb_listen
 from tb_client import Session, Socket
 from test_sharing import in_threads
-from test_tb_client import PROGRAM, account, has_program, transfer
+from test_tb_client import PROGRAM, account, has_program, transfer, wrong_replies
 
 HERE = os.path.dirname(os.path.abspath(__file__))
 
@@ -181,6 +181,38 @@ class OverSockets(unittest.TestCase):
         self.assertEqual(tb_listen.fault_of(header(operation=132, length=8191 * 16)), "TooMany")
         self.assertEqual(tb_listen.fault_of(header(rest=b"\0" * 11 + b"\1")), "Reserved")
 
+    def test_what_is_told_reaches_who_sends_more(self):
+        """A client that still sends is told why its connection is closed, and not that it broke."""
+        for options in ((), ("--tcp", "127.0.0.1:0")):
+            with Running("--connections", "2", *options) as listener:
+                port = int(listener.said[0].rpartition(":")[2]) if options else 0
+                address = ("127.0.0.1", port) if options else listener.path
+
+                def call():
+                    return socket.create_connection(address, 10) if options else listener.call()
+
+                for name, frame in (("TooMany", header(length=8191 * 128) + bytes(8191 * 128)), ("BadLength", header(length=127) + bytes(4 << 20))):
+                    it = call()
+                    it.sendall(frame)
+                    self.assertEqual(told(it), f"tb_listen: {name}\n".encode())
+                for part in (register(1)[:1], register(1)[:47], header(length=128), header(length=128) + bytes(127)):
+                    it = call()
+                    it.sendall(part)
+                    it.shutdown(socket.SHUT_WR)
+                    self.assertEqual(told(it), b"tb_listen: Short\n")
+                it = call()
+                it.shutdown(socket.SHUT_WR)
+                self.assertEqual(told(it), b"")
+                time.sleep(0.2)
+                with call(), call():
+                    time.sleep(0.2)
+                    for count in (0, 1, 8190):
+                        with Socket(address) as transport, self.assertRaises(tb.ReplyLost) as lost:
+                            Session(transport, 5, session=1, attempts=1).lookup_accounts([1] * count)
+                        self.assertEqual(str(lost.exception), "the server closed the connection: Busy")
+                self.assertEqual(listener.end(), 0)
+                self.assertEqual([it for it in listener.said[1:] if "Busy" not in it], [f"tb_listen: a connection is closed: {name}\n" for name in ("TooMany", "BadLength")])
+
     def test_limits(self):
         with Running("--connections", "2", "--idle", "0.5") as listener:
             with listener.call(), listener.call():
@@ -254,6 +286,27 @@ class OverSockets(unittest.TestCase):
                     self.assertEqual(told(it), b"tb_listen: ProgramEnded\n")
                 self.assertEqual(listener.ended(), status)
                 self.assertEqual(listener.said[-1], f"tb_listen: {line}\n")
+
+    def test_a_server_that_ends_amid_a_reply(self):
+        whole = tb.Reply(1, 1, 0, 2, 0, 1, b"").to_bytes()
+        answered = tb.Reply(1, 1, 1, 131, 0, 2, bytes(128)).to_bytes()
+        for request, reply, cut in ((register(1), whole, 1), (register(1), whole, 47), (header(operation=131), answered, 48), (header(operation=131), answered, 175)):
+            octal = "".join(f"\\{byte:03o}" for byte in reply[:cut])
+            with Running(command=["sh", "-c", f"head -c 56 > /dev/null; printf '{octal}'; echo tbs: Device >&2; exit 1"]) as listener:
+                with listener.call() as it:
+                    it.sendall(request)
+                    self.assertEqual(told(it), b"tb_listen: ProgramEnded\n", "nothing of a cut reply is handed on")
+                self.assertEqual(listener.ended(), 1)
+                self.assertEqual(listener.said[1:], ["tb_listen: tbs: Device\n"])
+
+    def test_a_reply_without_end_is_none(self):
+        octal = "".join(f"\\{byte:03o}" for byte in tb.Reply(1, 1, 0, 2, 0, 1, b"").to_bytes()[:32] + b"\xff" * 4 + bytes(12))
+        with Running(command=["sh", "-c", f"head -c 56 > /dev/null; printf '{octal}'; sleep 10"]) as listener:
+            with listener.call() as it:
+                it.sendall(register(1))
+                self.assertEqual(told(it), b"tb_listen: ProgramEnded\n")
+            self.assertEqual(listener.ended(), 1)
+            self.assertEqual(listener.said[1:], ["tb_listen: sh wrote a reply that nobody asked for\n"])
 
     def test_replies_that_nobody_asked_for(self):
         with Running(command=["sh", "-c", "head -c 48 /dev/zero; sleep 10"]) as listener:
@@ -398,6 +451,16 @@ class Sockets(unittest.TestCase):
         self.assertEqual((type(long), str(long)), (tb.BadReply, f"a reply with a body of {8191 * 128} bytes"))
         self.assertEqual((type(late), str(late)), (tb.ReplyLost, "no reply within 0.5 seconds"))
         self.assertEqual(good, whole)
+
+    def test_each_fault_of_a_reply(self):
+        wrong = wrong_replies()
+        for name, got in zip(wrong, self.answered(*wrong.values())):
+            self.assertEqual((type(got), str(got)), (tb.BadReply, f"what came is no frame of a reply ({name})"))
+
+    def test_a_path_that_looks_like_a_host_and_a_port(self):
+        with Socket("localhost:3001", timeout=0.1) as it, self.assertRaises(tb.CannotConnect) as fault:
+            it.exchange(0, register(1))
+        self.assertEqual(str(fault.exception), "localhost:3001: No such file or directory (a path; a host and a port are ('localhost', 3001))")
 
     def test_a_wrong_frame_is_not_sent(self):
         with Socket("/nowhere") as it:

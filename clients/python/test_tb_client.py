@@ -3,10 +3,13 @@
 
     python3 -m unittest        (in this folder; PROGRAM names another tbs than crates/tbs/out/tbs)
 """
+import dataclasses
 import json
 import os
 import signal
 import struct
+import tempfile
+import time
 import unittest
 
 import tb_client as tb
@@ -16,10 +19,24 @@ HERE = os.path.dirname(os.path.abspath(__file__))
 PROGRAM = os.environ.get("PROGRAM", os.path.join(HERE, "..", "..", "crates", "tbs", "out", "tbs"))
 has_program = unittest.skipUnless(os.access(PROGRAM, os.X_OK), f"{PROGRAM} is not built")
 
-def reply(frame, status=0, session=1, commit=1, body=b""):
-    """A reply to the request of a frame."""
+def reply(frame, status=0, session=1, commit=None, body=b""):
+    """A reply to the request of a frame, with a commit number that goes with status and session where none is given."""
+    if commit is None:
+        commit = 0 if status else session + (frame[28] != tb.Operation.register)
     header = frame[:16] + struct.pack("<QIBB2xIQ4x", session, *struct.unpack_from("<IB", frame, 24), status, len(body), commit)
     return header + body
+
+
+def wrong_replies():
+    """A reply with each fault that a header can have, to the request 1 of client 7 in session 1."""
+    def it(client=7, session=1, number=1, operation=129, status=0, commit=2, body=b""):
+        return tb.Reply(client, session, number, operation, status, commit, body).to_bytes()
+
+    return {
+        "ClientZero": it(client=0), "UnknownOperation": it(operation=133), "Reserved": it()[:47] + b"\1",
+        "RegisterNumbers": it(operation=2, commit=1), "RequestZero": it(number=0), "ReplyNumbers": it(commit=1),
+        "BadLength": it(body=b"1234567"), "TooMany": it(body=bytes(8191 * 8)),
+    }
 
 
 def at_ten():
@@ -83,6 +100,62 @@ class Frames(unittest.TestCase):
         self.assertEqual(read.body, b"\1\0\0\0\x15\0\0\0")
         for wrong in (frame[:47], frame[:-1], frame + b"\0"):
             self.assertRaises(tb.BadReply, tb.Reply.from_bytes, wrong)
+
+    def test_each_fault_of_a_reply(self):
+        """Nothing is read of a reply that has a fault of docs/FORMATS.md, and the error names it."""
+        for name, wrong in wrong_replies().items():
+            with self.assertRaises(tb.BadReply) as raised:
+                tb.Reply.from_bytes(wrong)
+            self.assertEqual(str(raised.exception), f"what came is no frame of a reply ({name})")
+        for field, value in (("client", -1), ("session", 2**64), ("number", 2**32), ("operation", 256), ("status", -1), ("commit", 2**64)):
+            with self.assertRaises(tb.InvalidValue) as refused:
+                dataclasses.replace(tb.Reply(7, 1, 1, 129, 0, 2, b""), **{field: value}).to_bytes()
+            self.assertEqual(refused.exception.field, f"Reply.{field}")
+
+
+class Programs(unittest.TestCase):
+    """What is told of a program that is no server, or ends amid a reply. The programs are shell scripts."""
+
+    def asked(self, answer, then, timeout=0.5):
+        """What a session gets from a program that writes these bytes and then does this, and from the same transport asked again."""
+        with tempfile.TemporaryDirectory() as folder:
+            path, answers = os.path.join(folder, "it"), os.path.join(folder, "answer")
+            for name, data in ((path, f"#!/bin/sh\ncat {answers}\n{then}\n".encode()), (answers, answer)):
+                with open(name, "wb") as file:
+                    file.write(data)
+            os.chmod(path, 0o755)
+            told, began = [], time.monotonic()
+            with Program(path, timeout=timeout) as program:
+                session = Session(program, 7, session=1, attempts=1, now=at_ten)
+                session.prepare(129, [account(1)])
+                for _ in range(2):
+                    try:
+                        told.append(session.retry())
+                    except tb.ClientError as fault:
+                        told.append((type(fault), str(fault)))
+                        self.assertIsNotNone(session.pending)
+            return told, time.monotonic() - began
+
+    def test_a_program_that_is_no_server(self):
+        for name, wrong in wrong_replies().items():
+            fault = (tb.BadReply, f"what came is no frame of a reply ({name})")
+            told, took = self.asked(wrong, "exec sleep 5", timeout=3)
+            self.assertEqual(told, [fault, fault], name)
+            self.assertLess(took, 6, "a wrong header is told at once, and its body is not waited for")
+        told, _ = self.asked(b"Usage: it is a program, and no server. It writes a text.\n", "exec sleep 5", timeout=3)
+        self.assertEqual(told[0], (tb.BadReply, "what came is no frame of a reply (UnknownOperation): 'Usage: it is a program, and no server. It writes'"))
+        right = tb.Reply(7, 1, 1, 129, 0, 2, b"").to_bytes()
+        told, _ = self.asked(right[:32] + b"\xff" * 4 + right[36:], "exec sleep 5", timeout=3)
+        self.assertEqual(told[0], (tb.BadReply, f"a reply with a body of {2**32 - 1} bytes"))
+
+    def test_a_program_that_ends_amid_a_reply(self):
+        whole = tb.Reply(7, 1, 1, 129, 0, 2, bytes(80)).to_bytes()
+        for cut in (0, 1, 47, 48, 49, len(whole) - 1):
+            for then, said in (("exit 0", "the program ended (status 0)"), ("echo tbs: Device >&2; exit 1", "Device (status 1)"), ("kill -9 $$", "killed by SIGKILL (status -9)")):
+                fault = (tb.ProgramEnded, said)
+                self.assertEqual(self.asked(whole[:cut], then, timeout=3)[0], [fault, fault])
+        late = (tb.ReplyLost, "no reply within 0.2 seconds")
+        self.assertEqual(self.asked(whole[:50], "exec sleep 5", timeout=0.2)[0], [late, late])
 
 
 class Retries(unittest.TestCase):

@@ -8,6 +8,7 @@ import decimal
 import fractions
 import json
 import math
+import operator
 import os
 import random
 import tempfile
@@ -162,6 +163,24 @@ class Values(unittest.TestCase):
         self.refused("Transfer.flags", Transfer, 1, flags=AccountFlags.linked, types=TypeError)
         self.refused("Transfer.flags", Transfer, 1, flags=tb.Operation.register, types=TypeError)
         self.assertIs(type(Transfer(1, flags=66).flags), TransferFlags)
+
+    def test_flags_of_the_other_kind_do_not_join(self):
+        for left, right in ((TransferFlags.linked, AccountFlags.closed), (AccountFlags.closed, TransferFlags.linked)):
+            for join in (operator.or_, operator.and_, operator.xor):
+                self.assertRaises(TypeError, join, left, right)
+        both = TransferFlags.linked | TransferFlags.pending
+        self.assertEqual((both, type(both), 1 | TransferFlags.pending, TransferFlags.pending | 1), (3, TransferFlags, both, both))
+        self.assertEqual((both & TransferFlags.pending, both ^ 1, 2 & both, both & ~TransferFlags.linked), (2, 2, 2, 2))
+        self.assertTrue(both & TransferFlags.pending and TransferFlags.pending in both and not both & TransferFlags.closing_debit)
+
+    def test_bytes_of_records(self):
+        for kind in (Account, Transfer):
+            right = bytes(range(128))
+            self.assertEqual((kind.from_bytes(right).to_bytes(), kind.from_bytes(bytearray(right))), (right, kind.from_bytes(memoryview(right))))
+            for length in (0, 1, 127, 129, 256):
+                self.refused(f"{kind.__name__}.from_bytes", kind.from_bytes, bytes(length), types=ValueError)
+            for value in (None, "x" * 128, [0] * 128, 128):
+                self.refused(f"{kind.__name__}.from_bytes", kind.from_bytes, value, types=TypeError)
 
     def test_records_cannot_be_changed(self):
         record = Transfer(1)

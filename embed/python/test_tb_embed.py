@@ -43,7 +43,7 @@ class Library:
         self.inside -= 1
         self.calls.append((moment, request))
         session, number = int.from_bytes(request[16:24], "little"), int.from_bytes(request[24:28], "little")
-        reply = tb_client.Reply(int.from_bytes(request[:16], "little"), session or 1, number, request[28], 0, 9, b"").to_bytes()
+        reply = tb_client.Reply(int.from_bytes(request[:16], "little"), session or 1, number, request[28], 0, 9 if session else 1, b"").to_bytes()
         written.value = len(reply)
         if self.statuses:
             return self.statuses.pop(0)

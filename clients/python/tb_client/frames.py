@@ -3,12 +3,12 @@ from __future__ import annotations
 
 import dataclasses
 import struct
-from typing import Any, Callable, Iterable, List, Mapping, Tuple, TypeVar, Union
+from typing import Any, Callable, Iterable, List, Mapping, Optional, Tuple, TypeVar, Union
 
 from .errors import BadReply, InvalidType, InvalidValue
-from .names import CreateAccountResult, CreateTransferResult, Operation
+from .names import CreateAccountResult, CreateTransferResult, Operation, Status
 from .records import ID, RECORD, Account, EventResult, Transfer, u128, u128_at
-from .values import U32, U64, U128, kind_of, shown, whole
+from .values import U8, U32, U64, U128, kind_of, shown, whole
 
 ITEMS_MAX = 8190
 NUMBER_MAX = U32
@@ -25,6 +25,12 @@ ITEM_SIZES = {
     Operation.create_transfers: RECORD,
     Operation.lookup_accounts: ID,
     Operation.lookup_transfers: ID,
+}
+REPLY_SIZES = {
+    Operation.create_accounts: 8,
+    Operation.create_transfers: 8,
+    Operation.lookup_accounts: RECORD,
+    Operation.lookup_transfers: RECORD,
 }
 ITEM_NAMES = {
     Operation.create_accounts: "accounts",
@@ -157,6 +163,34 @@ def reply_length(data: bytes, at: int = 0) -> int:
     return HEADER + length
 
 
+def reply_fault(data: bytes, at: int = 0) -> Optional[str]:
+    """What is wrong with the header of a reply at this place, by the tests of docs/FORMATS.md in their order."""
+    session, number, operation, status, length, commit = REPLY.unpack_from(data, at + 16)
+    is_register, is_refusal, size = operation == Operation.register, status != Status.Reply, REPLY_SIZES.get(operation, 8)
+    has_numbers = commit == 0 if is_refusal else 0 < session == commit if is_register else 0 < session < commit
+    tests = (
+        ("ClientZero", not any(data[at : at + 16])),
+        ("UnknownOperation", not is_register and operation not in REPLY_SIZES),
+        ("Reserved", status > max(Status) or any(data[at + 30 : at + 32]) or any(data[at + 44 : at + HEADER])),
+        ("RegisterNumbers", is_register and (number or is_refusal and session)),
+        ("RequestZero", not is_register and not number),
+        ("ReplyNumbers", not has_numbers),
+        ("BadLength", length if is_register or is_refusal else length % size),
+        ("TooMany", length // size > ITEMS_MAX),
+    )
+    return next((name for name, holds in tests if holds), None)
+
+
+def test_reply(data: bytes, at: int = 0) -> None:
+    """Raises BadReply where no header of a reply stands at this place: before its body is waited for."""
+    fault, body, first = reply_fault(data, at), reply_length(data, at) - HEADER, bytes(data[at : at + HEADER])
+    if fault in ("BadLength", "TooMany") and body > ITEMS_MAX * RECORD:
+        raise BadReply(f"a reply with a body of {body} bytes")
+    if fault is not None:
+        text = f": {first.decode('ascii').splitlines()[0]!r}" if first.isascii() and first[:8].decode("ascii").isprintable() else ""
+        raise BadReply(f"what came is no frame of a reply ({fault}){text}")
+
+
 @dataclasses.dataclass(frozen=True)
 class Reply:
     client: int
@@ -168,6 +202,8 @@ class Reply:
     body: bytes
 
     def to_bytes(self) -> bytes:
+        for field, greatest in (("client", U128), ("session", U64), ("number", U32), ("operation", U8), ("status", U8), ("commit", U64)):
+            whole(f"Reply.{field}", getattr(self, field), greatest)
         header = REPLY.pack(self.session, self.number, self.operation, self.status, len(self.body), self.commit)
         return u128(self.client) + header + self.body
 
@@ -177,6 +213,7 @@ class Reply:
             raise BadReply(f"{kind_of(frame)} is no frame of a reply")
         if len(frame) < HEADER or len(frame) != reply_length(frame):
             raise BadReply(f"{len(frame)} bytes are no frame of a reply")
+        test_reply(frame)
         session, number, operation, status, _, commit = REPLY.unpack_from(frame, 16)
         return cls(u128_at(frame, 0), session, number, operation, status, commit, bytes(frame[HEADER:]))
 

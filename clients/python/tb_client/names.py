@@ -1,5 +1,10 @@
 """Operations, statuses, flags and result codes, with the names that TigerBeetle gives them."""
+from __future__ import annotations
+
 import enum
+from typing import Any, Callable, Type, TypeVar
+
+F = TypeVar("F", bound=enum.Flag)
 
 
 class Operation(enum.IntEnum):
@@ -21,6 +26,26 @@ class Status(enum.IntEnum):
     NotYet = 7
 
 
+def _kept_apart(kind: Type[F]) -> Type[F]:
+    """Flags go together with others of their kind and with numbers. Those of the other kind of record have other meanings: it is a
+    TypeError to join one with the other, or to test one by the other."""
+
+    def among_its_kind(operation: Callable[[Any, int], int]) -> Callable[[Any, int], int]:
+        def tested(flags: Any, other: int) -> int:
+            if isinstance(other, enum.Flag) and not isinstance(other, kind):
+                return NotImplemented
+            return operation(flags, other)
+
+        return tested
+
+    for name in ("or", "and", "xor"):
+        operation = among_its_kind(getattr(kind, f"__{name}__"))
+        setattr(kind, f"__{name}__", operation)
+        setattr(kind, f"__r{name}__", operation)
+    return kind
+
+
+@_kept_apart
 class AccountFlags(enum.IntFlag):
     linked = 1
     debits_must_not_exceed_credits = 2
@@ -30,6 +55,7 @@ class AccountFlags(enum.IntFlag):
     closed = 32
 
 
+@_kept_apart
 class TransferFlags(enum.IntFlag):
     linked = 1
     pending = 2

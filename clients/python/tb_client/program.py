@@ -11,7 +11,7 @@ import time
 from typing import IO, Optional, Union, cast
 
 from .errors import CannotStart, Closed, InvalidType, NoMemory, ProgramEnded, ReplyLost, ScriptFull
-from .frames import HEADER, header_of, reply_length
+from .frames import HEADER, header_of, reply_length, test_reply
 from .transports import Closing
 from .values import MOMENT_MAX, U64, kind_of, seconds, truth, whole
 
@@ -121,6 +121,7 @@ class Program(Closing):
 
     def _next_reply(self) -> Optional[bytes]:
         while len(self.data) >= self.data_at + HEADER:
+            test_reply(self.data, self.data_at)
             end = self.data_at + reply_length(self.data, self.data_at)
             if len(self.data) < end:
                 return None

@@ -7,7 +7,7 @@ import struct
 from typing import Any, Type, TypeVar, Union
 
 from .names import AccountFlags, CreateAccountResult, CreateTransferResult, TransferFlags
-from .errors import InvalidType
+from .errors import InvalidType, InvalidValue
 from .values import U16, U32, U64, U128, kind_of, whole
 
 RECORD = 128
@@ -46,6 +46,11 @@ def _settle(record: Any, ranges: dict[str, int], flags: Any) -> None:
 
 def _read(kind: Type[Record], data: bytes, flags: Any) -> Record:
     """The record that the bytes spell. All that they can spell is in range."""
+    name = f"{kind.__name__}.from_bytes"
+    if not isinstance(data, (bytes, bytearray, memoryview)):
+        raise InvalidType(name, f"takes bytes, not {kind_of(data)}")
+    if len(data) != RECORD:
+        raise InvalidValue(name, f"takes {RECORD} bytes, not {len(data)}")
     record = object.__new__(kind)
     *narrow, bits, timestamp = NARROW.unpack_from(data, 96)
     values = (*(u128_at(data, at) for at in range(0, 96, 16)), *narrow, flags(bits), timestamp)

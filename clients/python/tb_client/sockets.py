@@ -1,15 +1,15 @@
 """A connection to a server that listens on a socket, as `tb_listen.py` does."""
 from __future__ import annotations
 
+import contextlib
 import os
 import socket
 import threading
 import time
 from typing import Optional, Tuple, Union
 
-from .errors import BadReply, CannotConnect, Closed, InvalidType, InvalidValue, ReplyLost
-from .frames import HEADER, ITEMS_MAX, header_of, reply_length
-from .records import RECORD
+from .errors import CannotConnect, Closed, InvalidType, InvalidValue, ReplyLost
+from .frames import HEADER, header_of, reply_length, test_reply
 from .transports import Closing
 from .values import kind_of, seconds, whole
 
@@ -46,7 +46,7 @@ class Socket(Closing):
             it = self._connected(deadline)
             try:
                 self._wait(it, deadline)
-                it.sendall(frame)
+                self._send(it, frame)
                 return self._reply(it, deadline)
             except OSError as error:
                 self._hang_up()
@@ -64,26 +64,41 @@ class Socket(Closing):
                 self._socket = _call(self.address, max(deadline - time.monotonic(), 0.001))
             except OSError as error:
                 if time.monotonic() + pause > deadline:
-                    raise CannotConnect(f"{_shown(self.address)}: {error.strerror or error}") from None
+                    raise CannotConnect(f"{_shown(self.address)}: {error.strerror or error}{_hint(self.address)}") from None
                 time.sleep(pause)
                 pause = min(2 * pause, LAST_PAUSE)
         return self._socket
 
+    def _send(self, it: socket.socket, frame: bytes) -> None:
+        """Sends the request. Where the server closed the connection, what it said before that is told."""
+        try:
+            it.sendall(frame)
+        except ConnectionError:
+            said = b""
+            with contextlib.suppress(OSError):
+                while len(said) < HEADER and (more := it.recv(HEADER - len(said))):
+                    said += more
+            if said.startswith(TOLD):
+                raise _closed(said) from None
+            raise
+
     def _reply(self, it: socket.socket, deadline: float) -> bytes:
         header = self._read(it, HEADER, deadline)
-        length = reply_length(header) - HEADER
-        if length > ITEMS_MAX * RECORD:
-            raise BadReply(f"a reply with a body of {length} bytes")
-        return header + self._read(it, length, deadline)
+        test_reply(header)
+        return header + self._read(it, reply_length(header) - HEADER, deadline)
 
     def _read(self, it: socket.socket, count: int, deadline: float) -> bytes:
         data = bytearray()
         while len(data) < count:
             self._wait(it, deadline)
-            more = it.recv(count - len(data))
+            try:
+                more = it.recv(count - len(data))
+            except ConnectionError:
+                if data.startswith(TOLD):
+                    raise _closed(data) from None
+                raise
             if not more:
-                why = bytes(data[len(TOLD) :]).decode("ascii", "replace").strip() if data.startswith(TOLD) else ""
-                raise ReplyLost(f"the server closed the connection{why and ': ' + why}")
+                raise _closed(data)
             data += more
         return bytes(data)
 
@@ -104,6 +119,12 @@ class Socket(Closing):
         with self._lock:
             self._closed = True
             self._hang_up()
+
+
+def _closed(said: bytes) -> ReplyLost:
+    """What to raise where the server closed the connection after these bytes: with the name that it told, where it told one."""
+    why = bytes(said[len(TOLD) :]).decode("ascii", "replace").strip() if said.startswith(TOLD) else ""
+    return ReplyLost(f"the server closed the connection{why and ': ' + why}")
 
 
 def _address_of(address: object) -> Union[str, Tuple[str, int]]:
@@ -130,6 +151,13 @@ def _call(address: Union[str, Tuple[str, int]], timeout: float) -> socket.socket
         it.close()
         raise
     return it
+
+
+def _hint(address: Union[str, Tuple[str, int]]) -> str:
+    """What may be meant by a path that looks like a host and a port."""
+    host, colon, port = address.rpartition(":") if isinstance(address, str) else ("", "", "")
+    is_like = bool(host) and "/" not in host and port.isascii() and port.isdigit()
+    return f" (a path; a host and a port are ({host!r}, {port}))" if is_like else ""
 
 
 def _shown(address: Union[str, Tuple[str, int]]) -> str:

@@ -7,7 +7,7 @@ from typing import Any
 
 from .errors import InvalidType, InvalidValue
 
-U16, U32, U64, U128 = (2**bits - 1 for bits in (16, 32, 64, 128))
+U8, U16, U32, U64, U128 = (2**bits - 1 for bits in (8, 16, 32, 64, 128))
 MOMENT_MAX = 2**63 - 1
 
 
