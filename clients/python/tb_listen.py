@@ -218,6 +218,7 @@ class Listener:
         self.program, self.given = program, given
         self.tasks: Set["asyncio.Task[None]"] = set()
         self.at_rest: Set["asyncio.Task[None]"] = set()  # those that wait for a request
+        self.leaving = 0  # connections that were told why, and may still send
         self.is_stopping = False
 
     async def take(self, reader: asyncio.StreamReader, writer: asyncio.StreamWriter) -> None:
@@ -281,17 +282,21 @@ class Listener:
                 if why:
                     writer.write(f"tb_listen: {why}\n".encode("ascii"))
                     writer.write_eof()
-                    await asyncio.wait_for(self._read_on(reader), LAST_READ)
+                    await self._read_on(reader)
             finally:
                 writer.close()
             await asyncio.wait_for(writer.wait_closed(), 1.0)
 
-    @staticmethod
-    async def _read_on(reader: asyncio.StreamReader) -> None:
+    async def _read_on(self, reader: asyncio.StreamReader) -> None:
         """Reads what still comes, and does nothing with it. A connection that is closed before it is read cuts its client off, and
-        what the client was told may be lost."""
-        while await reader.read(1 << 16):
-            pass
+        what the client was told may be lost. No more connections stay so than may be served."""
+        if self.leaving >= self.given.connections:
+            return
+        self.leaving += 1
+        try:
+            await asyncio.wait_for(_drain(reader), LAST_READ)
+        finally:
+            self.leaving -= 1
 
     async def stop(self) -> None:
         """Takes no more requests, and waits until those that were taken are answered."""
@@ -300,6 +305,11 @@ class Listener:
             task.cancel()
         if self.tasks:
             await asyncio.wait(list(self.tasks), timeout=self.given.slow)
+
+
+async def _drain(reader: asyncio.StreamReader) -> None:
+    while await reader.read(1 << 16):
+        pass
 
 
 def unix_socket(path: str) -> socket.socket:
