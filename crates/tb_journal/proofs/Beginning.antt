@@ -1,0 +1,56 @@
+-- The first bytes are written over a blank file.
+use Rattle.std.proofs.Common.{◌≡◌, ◌⊎◌, inl, inr, ℕ, ◌≤◌, ◌==◌, ◌&&◌, ◌||◌, Bool, true, false, List, [], ◌∷◌, ◌++◌, length, take, drop, refl, sym, ◌∙◌, ap, subst, arith, nat_eq, length-drop, if◌then◌else◌, Result, Ok, Err, OnOk}
+use Rattle.std.proofs.lemmas.List.{append-nil, drop_all}
+use Rattle.std.specs.List.{starts_with}
+use Rattle.tb_journal.specs.declared.faults.Fault.{Fault}
+use Rattle.tb_journal.specs.Device.{Disk, IsKept, Torn, LeavesOnly, overwritten}
+use Rattle.tb_journal.specs.Contents.{magic, NotAJournal, Records, walk, contents, recorded, journal_of}
+use Rattle.tb_journal.specs.Steps.{IsAtRest, Overwrites}
+use Rattle.tb_journal.specs.Creating.{is_torn_from, is_blank, IsUnborn, Begins}
+use Rattle.tb_journal.proofs.Walks.{walk-ends}
+use Rattle.tb_journal.proofs.Moments.{started, weaker}
+use Rattle.tb_journal.proofs.Steps.{short_front}
+use Rattle.tb_journal.proofs.Publishing.{rests}
+
+both_right : (a b : Bool) → (a && b) ≡ true → b ≡ true
+both_right true b is = is
+both_right false b is = absurd (cc)
+
+no_longer : (bytes first : List ℕ) → is_torn_from bytes first ≡ true → length bytes ≤ length first
+no_longer [] first is = omega arith
+no_longer (b ∷ bytes) [] is = absurd (cc)
+no_longer (b ∷ bytes) (o ∷ first) is = omega (arith, no_longer bytes first (both_right (b == 0 || b == o) (is_torn_from bytes first) is))
+
+pub blank_short : (file : List ℕ) → is_blank file ≡ true → length file ≤ 9
+blank_short file is = no_longer file (journal_of []) is
+
+by_magic : (b : Bool) (others : List ℕ) → length others ≤ 1 → ((if b then walk 0 8 others else NotAJournal) ≡ NotAJournal) ⊎ ((if b then walk 0 8 others else NotAJournal) ≡ Records [])
+by_magic true others h = inr (walk-ends others 8 (short_front others h))
+by_magic false others h = inl refl
+
+-- so short a file has no record
+pub unborn : (file : List ℕ) → length file ≤ 9 → IsUnborn file
+unborn file short = record { short = short; none = by_magic (starts_with nat_eq file magic) (drop 8 file) (omega (arith, short, length-drop 8 file)) }
+
+torn_short : (file c : List ℕ) → length file ≤ 9 → Torn 0 9 file c → length c ≤ 9
+torn_short file c short torn = omega (arith, short, torn.no_longer)
+
+whole : (file : List ℕ) → length file ≤ 9 → overwritten file 0 (journal_of []) ≡ journal_of []
+whole file short = ap (λ (l : List ℕ). journal_of [] ++ l) (drop_all 9 file (omega (arith, short))) ∙ append-nil (journal_of [])
+
+pub begun : (before after : Disk) (result : Result (Unit {0}) Fault) → is_blank before.seen ≡ true → Overwrites 0 (journal_of []) result before after → Begins result before after
+begun before after result blank write = record {
+  ok = done result write.ok;
+  any_moment = weaker before after (Torn 0 9 before.seen) IsUnborn (λ c torn. unborn c (torn_short before.seen c (blank_short before.seen blank) torn)) write.any_moment;
+  cause = write.cause;
+}
+  where
+    done : (r : Result (Unit {0}) Fault) → OnOk r ((after.seen ≡ overwritten before.seen 0 (journal_of [])) × IsKept after) → OnOk r (IsAtRest after × (recorded after.seen ≡ []))
+    done (Err f) so = tt
+    done (Ok x) so =
+        let is : after.seen ≡ journal_of [] = so.0 ∙ whole before.seen (blank_short before.seen blank) in
+        rests after [] (ap contents is) (is ∙ ap (λ (f : List ℕ). take 8 f ++ 0 ∷ []) (sym is)) so.1
+
+-- before anything is written
+pub still_blank : (disk : Disk) → IsKept disk → is_blank disk.seen ≡ true → ((c : List ℕ) → disk.left_since disk.moment c → disk.may_leave c) → LeavesOnly disk disk IsUnborn
+still_blank disk kept blank now = started disk IsUnborn (λ c left. subst IsUnborn (sym (kept c (now c left))) (unborn disk.seen (blank_short disk.seen blank)))

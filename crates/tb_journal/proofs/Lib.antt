@@ -1,0 +1,16 @@
+pub mod Walks
+pub mod Moments
+pub mod Blocks
+pub mod Steps
+pub mod Kept
+pub mod Remainders
+pub mod Past
+pub mod Publishing
+pub mod Waiting
+pub mod Committing
+pub mod Heads
+pub mod Scanning
+pub mod Repairing
+pub mod Opened
+pub mod Beginning
+pub mod Nexts

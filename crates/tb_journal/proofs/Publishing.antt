@@ -1,0 +1,107 @@
+-- A batch is written behind the closed gate, which is then opened.
+use Rattle.std.proofs.Common.{◌≡◌, inl, ℕ, ◌+◌, ◌≤◌, List, [], ◌∷◌, ◌++◌, length, length-append, take, drop, sym, ◌∙◌, ap, subst, arith, Result, Ok, Err, OnOk, length-take, length-drop}
+use Rattle.std.proofs.lemmas.List.{length-take-le}
+use Rattle.std.specs.List.{AllByRecursion}
+use Rattle.tb_journal.specs.declared.faults.Fault.{Fault}
+use Rattle.tb_journal.specs.Device.{Disk, IsKept, Torn, HasCause, overwritten}
+use Rattle.tb_journal.specs.Contents.{Fits, at_rest, Records, contents, records_of, recorded, records_end}
+use Rattle.tb_journal.specs.Steps.{IsAtRest, IsBeforeOrAfter, Overwrites, Publishes}
+use Rattle.tb_journal.proofs.Moments.{then, weaker}
+use Rattle.tb_journal.proofs.Kept.{has_cause_since}
+use Rattle.tb_journal.proofs.Steps.{length_file, behind_torn, written_behind, reads_new, gate_torn, opened, closed_new}
+
+-- a file that reads as these records, with its closed gate, is at rest
+pub rests : (disk : Disk) (records : List (List ℕ)) → contents disk.seen ≡ Records records
+    → disk.seen ≡ take (records_end records) disk.seen ++ 0 ∷ [] → IsKept disk
+    → IsAtRest disk × (recorded disk.seen ≡ records)
+rests disk records reads closed kept =
+    let same : recorded disk.seen ≡ records = ap records_of reads in (
+      record {
+        reads = reads ∙ ap Records (sym same);
+        closed = closed ∙ ap (λ (r : List (List ℕ)). take (records_end r) disk.seen ++ 0 ∷ []) (sym same);
+        kept = kept;
+      },
+      same,
+    )
+
+-- there is room for each write
+
+pub room : (before : Disk) → IsAtRest before → (end : ℕ) → end ≡ records_end (recorded before.seen)
+    → end + 1 ≤ length before.seen
+room before rest end ends = omega (arith, ends, length_file before.seen (recorded before.seen) rest.reads rest.closed)
+
+pub done_kept : (at : ℕ) (bytes : List ℕ) (before mid : Disk) (result : Result (Unit {0}) Fault)
+    → result ≡ Ok tt → Overwrites at bytes result before mid
+    → (mid.seen ≡ overwritten before.seen at bytes) × IsKept mid
+done_kept at bytes before mid result is stage = subst (λ (r : Result (Unit {0}) Fault). OnOk r ((mid.seen ≡ overwritten before.seen at bytes) × IsKept mid)) is stage.ok
+
+-- a write makes no file shorter
+pub room_written : (at : ℕ) (bytes : List ℕ) (before mid : Disk) (result : Result (Unit {0}) Fault)
+    → result ≡ Ok tt → Overwrites at bytes result before mid → length before.seen ≤ length mid.seen
+room_written at bytes before mid result is stage =
+    let behind = drop (at + length bytes) before.seen in
+    omega (
+      arith,
+      ap length (done_kept at bytes before mid result is stage).0,
+      length-append (take at before.seen) (bytes ++ behind),
+      length-append bytes behind,
+      length-take at before.seen,
+      length-drop (at + length bytes) before.seen,
+    )
+
+opening : (batch : List ℕ) (records : List (List ℕ)) → batch ≡ at_rest records → 1 ≤ length records
+    → 255 ∷ drop 1 batch ≡ at_rest records
+opening batch [] is some = absurd (omega arith)
+opening batch (r ∷ records) is some = ap (λ (l : List ℕ). 255 ∷ drop 1 l) is
+
+module _ (before : Disk) (rest : IsAtRest before) (batch tail : List ℕ) (records : List (List ℕ)) (fits : AllByRecursion Fits records) (spells : batch ≡ at_rest records) (some : 1 ≤ length records) (cut : tail ≡ drop 1 batch) (end : ℕ) (ends : end ≡ records_end (recorded before.seen)) where
+  abbrev olds : List (List ℕ)
+  olds = recorded before.seen
+
+  opens : 255 ∷ tail ≡ at_rest records
+  opens = ap (λ (l : List ℕ). 255 ∷ l) cut ∙ opening batch records spells some
+
+  behind : (c : List ℕ) → Torn (end + 1) (length tail) before.seen c → IsBeforeOrAfter olds records c
+  behind c torn = inl (behind_torn before.seen olds rest.reads rest.closed (length tail) c (subst (λ (e : ℕ). Torn (e + 1) (length tail) before.seen c) ends torn))
+
+  pub stage_failed : (mid : Disk) (result : Result (Unit {0}) Fault) (f : Fault) → result ≡ Err f
+      → Overwrites (end + 1) tail result before mid → Publishes records (Err f) before mid
+  stage_failed mid result f is stage = record {
+    ok = tt;
+    any_moment = weaker before mid (Torn (end + 1) (length tail) before.seen) (IsBeforeOrAfter olds records) behind stage.any_moment;
+    cause = subst (λ (r : Result (Unit {0}) Fault). HasCause r before mid) is stage.cause;
+  }
+
+  module _ (mid : Disk) (result : Result (Unit {0}) Fault) (is : result ≡ Ok tt) (stage : Overwrites (end + 1) tail result before mid) where
+    done : (mid.seen ≡ overwritten before.seen (end + 1) tail) × IsKept mid
+    done = done_kept (end + 1) tail before mid result is stage
+
+    staged : mid.seen ≡ take (records_end olds) before.seen ++ (0 ∷ tail)
+    staged = written_behind before.seen olds rest.reads rest.closed tail mid.seen (done.0 ∙ ap (λ (e : ℕ). overwritten before.seen (e + 1) tail) ends)
+
+    gate : (c : List ℕ) → Torn end 1 mid.seen c → IsBeforeOrAfter olds records c
+    gate c torn =
+        gate_torn before.seen olds rest.reads rest.closed tail records opens fits c (subst (λ (f : List ℕ). Torn (records_end olds) 1 f c) staged (subst (λ (e : ℕ). Torn e 1 mid.seen c) ends torn))
+
+    pub gate_done : (after : Disk) (second : Result (Unit {0}) Fault)
+        → Overwrites end (255 ∷ []) second mid after → Publishes records second before after
+    gate_done after second opened_gate = record {
+      ok = finished second opened_gate.ok;
+      any_moment = then before mid after (IsBeforeOrAfter olds records)
+          (weaker before mid (Torn (end + 1) (length tail) before.seen) (IsBeforeOrAfter olds records) behind stage.any_moment)
+          (weaker mid after (Torn end 1 mid.seen) (IsBeforeOrAfter olds records) gate opened_gate.any_moment);
+      cause = has_cause_since before mid after second stage.cause.later opened_gate.cause;
+    }
+      where
+        finished : (r : Result (Unit {0}) Fault)
+            → OnOk r ((after.seen ≡ overwritten mid.seen end (255 ∷ [])) × IsKept after)
+            → OnOk r (IsAtRest after × (recorded after.seen ≡ olds ++ records))
+        finished (Err f) so = tt
+        finished (Ok x) so =
+            let file = take (records_end olds) before.seen ++ (255 ∷ tail) in
+            let is_open : after.seen ≡ file =
+            opened before.seen olds rest.reads rest.closed tail records opens fits after.seen (so.0 ∙ ap (λ (f : List ℕ). overwritten f end (255 ∷ [])) staged ∙ ap (λ (e : ℕ). overwritten (take (records_end olds) before.seen ++ (0 ∷ tail)) e (255 ∷ [])) ends) in
+            rests after (olds ++ records)
+            (ap contents is_open ∙ reads_new before.seen olds rest.reads rest.closed tail records opens fits)
+            (is_open ∙ closed_new before.seen olds rest.reads rest.closed tail records opens fits ∙ ap (λ (f : List ℕ). take (records_end (olds ++ records)) f ++ 0 ∷ []) (sym is_open))
+            so.1

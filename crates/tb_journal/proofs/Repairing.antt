@@ -1,0 +1,136 @@
+-- A file is read, what stands behind its records cut off, and its gate closed.
+use Rattle.std.proofs.Common.{◌≡◌, inl, ⊎_elim, ℕ, ◌≤◌, List, [], ◌∷◌, ◌++◌, length, take, sym, ◌∙◌, ap, subst, arith, Vec, Result, Ok, Err, OnOk}
+use Rattle.std.specs.Prelude.{IfOk}
+use Rattle.std.proofs.lemmas.List.{take_all, length-take-le}
+use Rattle.std.specs.declared.alloc.Global.{Global}
+use Rattle.tb_journal.specs.declared.faults.Fault.{Fault}
+use Rattle.tb_journal.specs.Device.{Disk, Only, IsKept, Torn, Cut, LeavesOnly, HasCause, Looks, Cuts, Syncs, overwritten}
+use Rattle.tb_journal.specs.Contents.{Records, contents, recorded, records_end}
+use Rattle.tb_journal.specs.Steps.{IsAtRest, Overwrites, Shortens}
+use Rattle.tb_journal.specs.Opening.{IsAsBefore, ReadsKept, Repairs}
+use Rattle.tb_journal.proofs.Moments.{started, goes_on, then, weaker}
+use Rattle.tb_journal.proofs.Kept.{cause_since, has_cause_since}
+use Rattle.tb_journal.proofs.Steps.{within, cut_torn, close_torn, closes, reads_closed, front_closed}
+use Rattle.tb_journal.proofs.Publishing.{rests}
+
+-- a sync and a read
+
+bytes_cause : (before mid after : Disk) (result : Result (Vec ℕ Global) Fault) → before.faults ≤ mid.faults → HasCause result mid after → HasCause result before after
+bytes_cause before mid after (Ok x) le has = record { later = omega (arith, le, has.later); cause = tt }
+bytes_cause before mid after (Err f) le has = record { later = omega (arith, le, has.later); cause = cause_since before mid after f le has.cause }
+
+module _ (before mid : Disk) (now : (c : List ℕ) → before.left_since before.moment c → before.may_leave c) (result : Result (Unit {0}) Fault) (sync : Syncs result before mid) where
+  synced : LeavesOnly before mid (IsAsBefore before)
+  synced = goes_on before before mid (IsAsBefore before) (started before (IsAsBefore before) (λ c left. inl (now c left))) sync.time sync.crash
+
+  failed_cause : (f : Fault) → result ≡ Err f → HasCause {T = Vec ℕ Global} (Err f) before mid
+  failed_cause f is = let has = subst (λ (r : Result (Unit {0}) Fault). HasCause r before mid) is sync.cause in record { later = has.later; cause = has.cause }
+
+  pub read_failed : (f : Fault) → result ≡ Err f → ReadsKept (Err f) before mid
+  read_failed f is = record { ok = tt; seen = sync.seen; any_moment = synced; cause = failed_cause f is }
+
+  pub read_done : (after : Disk) (bytes : Result (Vec ℕ Global) Fault) → result ≡ Ok tt → IfOk bytes (λ v. v.items ≡ mid.seen) → Looks bytes mid after → ReadsKept bytes before after
+  read_done after bytes is same looks = record {
+    ok = whole bytes same;
+    seen = looks.seen ∙ sync.seen;
+    any_moment = goes_on before mid after (IsAsBefore before) synced looks.time (λ c left. sync.crash c (looks.crash c left));
+    cause = bytes_cause before mid after bytes sync.cause.later looks.cause;
+  }
+    where
+      durable : Only before.seen mid.may_leave
+      durable = subst (λ (r : Result (Unit {0}) Fault). OnOk r (Only before.seen mid.may_leave)) is sync.durable
+
+      whole : (r : Result (Vec ℕ Global) Fault) → IfOk r (λ v. v.items ≡ mid.seen) → IfOk r (λ v. (v.items ≡ before.seen) × IsKept after)
+      whole (Ok v) e = (e ∙ sync.seen, λ c left. durable c (looks.crash c left) ∙ sym (looks.seen ∙ sync.seen))
+      whole (Err f) e = tt
+
+-- a cut and a sync
+
+cut_same : (n : ℕ) (file : List ℕ) → Cut n file file
+cut_same n file = record { no_shorter = omega arith; front = take_all (length file) file (omega arith) }
+
+cut_whole : (n : ℕ) (file : List ℕ) → n ≤ length file → Cut n file (take n file)
+cut_whole n file le =
+    let long : length (take n file) ≡ n = length-take-le n file le in
+    record { no_shorter = omega (arith, long); front = ap (λ (k : ℕ). take k file) long }
+
+module _ (n : ℕ) (before mid : Disk) (kept : IsKept before) (fits : n ≤ length before.seen) (now : (c : List ℕ) → before.left_since before.moment c → before.may_leave c) (result : Result (Unit {0}) Fault) (cut : Cuts n result before mid) where
+  shorter : (c : List ℕ) → mid.may_leave c → Cut n before.seen c
+  shorter c left = let from = cut.crash c left in subst (λ (d : List ℕ). Cut n d c) (kept from.0 from.1) from.2
+
+  was_cut : LeavesOnly before mid (Cut n before.seen)
+  was_cut = goes_on before before mid (Cut n before.seen)
+      (started before (Cut n before.seen) (λ c left. subst (λ (d : List ℕ). Cut n before.seen d) (sym (kept c (now c left))) (cut_same n before.seen)))
+      cut.time shorter
+
+  pub shorten_failed : (f : Fault) → result ≡ Err f → Shortens n (Err f) before mid
+  shorten_failed f is = record { ok = tt; any_moment = was_cut; cause = subst (λ (r : Result (Unit {0}) Fault). HasCause r before mid) is cut.cause }
+
+  pub shorten_synced : (after : Disk) (synced : Result (Unit {0}) Fault) → result ≡ Ok tt → Syncs synced mid after → Shortens n synced before after
+  shorten_synced after synced is sync = record {
+    ok = done synced sync.durable;
+    any_moment = goes_on before mid after (Cut n before.seen) was_cut sync.time (λ c left. ⊎_elim (shorter c) (λ all. subst (Cut n before.seen) (sym (all ∙ seen)) (cut_whole n before.seen fits)) (sync.crash c left));
+    cause = has_cause_since before mid after synced cut.cause.later sync.cause;
+  }
+    where
+      seen : mid.seen ≡ take n before.seen
+      seen = subst (λ (r : Result (Unit {0}) Fault). OnOk r (mid.seen ≡ take n before.seen)) is cut.cut
+
+      done : (r : Result (Unit {0}) Fault) → OnOk r (Only mid.seen after.may_leave) → OnOk r ((after.seen ≡ take n before.seen) × IsKept after)
+      done (Ok x) only = (sync.seen ∙ seen, subst (λ (l : List ℕ). Only l after.may_leave) (sym sync.seen) only)
+      done (Err f) only = tt
+
+-- both, and the gate
+
+pub cut_kept_done : (n : ℕ) (before mid : Disk) (result : Result (Unit {0}) Fault) → result ≡ Ok tt → Shortens n result before mid → (mid.seen ≡ take n before.seen) × IsKept mid
+cut_kept_done n before mid result is cut = subst (λ (r : Result (Unit {0}) Fault). OnOk r ((mid.seen ≡ take n before.seen) × IsKept mid)) is cut.ok
+
+module _ (before : Disk) (reads : contents before.seen ≡ Records (recorded before.seen)) (end : ℕ) (ends : end ≡ records_end (recorded before.seen)) where
+  abbrev olds : List (List ℕ)
+  olds = recorded before.seen
+
+  abbrev Same : List ℕ → Type 0
+  Same c = contents c ≡ Records olds
+
+  pub end_within : end ≤ length before.seen
+  end_within = omega (arith, ends, within before.seen olds reads)
+
+  shorter_same : (c : List ℕ) → Cut end before.seen c → Same c
+  shorter_same c cut = cut_torn before.seen olds reads c (subst (λ (e : ℕ). Cut e before.seen c) ends cut)
+
+  pub repair_failed : (mid : Disk) (result : Result (Unit {0}) Fault) (f : Fault) → result ≡ Err f → Shortens end result before mid → Repairs (Err f) before mid
+  repair_failed mid result f is cut = record {
+    ok = tt;
+    any_moment = weaker before mid (Cut end before.seen) Same shorter_same cut.any_moment;
+    cause = subst (λ (r : Result (Unit {0}) Fault). HasCause r before mid) is cut.cause;
+  }
+
+  module _ (mid : Disk) (result : Result (Unit {0}) Fault) (is : result ≡ Ok tt) (cut : Shortens end result before mid) where
+    is_cut : mid.seen ≡ take (records_end olds) before.seen
+    is_cut = (cut_kept_done end before mid result is cut).0 ∙ ap (λ (e : ℕ). take e before.seen) ends
+
+    pub end_left : end ≤ length mid.seen
+    end_left = omega (arith, ends, ap length is_cut, length-take-le (records_end olds) before.seen (within before.seen olds reads))
+
+    closing : (c : List ℕ) → Torn end 1 mid.seen c → Same c
+    closing c torn = close_torn before.seen olds reads c (subst (λ (f : List ℕ). Torn (records_end olds) 1 f c) is_cut (subst (λ (e : ℕ). Torn e 1 mid.seen c) ends torn))
+
+    pub repair_done : (after : Disk) (second : Result (Unit {0}) Fault) → Overwrites end (0 ∷ []) second mid after → Repairs second before after
+    repair_done after second gate = record {
+      ok = finished second gate.ok;
+      any_moment = then before mid after Same
+          (weaker before mid (Cut end before.seen) Same shorter_same cut.any_moment)
+          (weaker mid after (Torn end 1 mid.seen) Same closing gate.any_moment);
+      cause = has_cause_since before mid after second cut.cause.later gate.cause;
+    }
+      where
+        finished : (r : Result (Unit {0}) Fault) → OnOk r ((after.seen ≡ overwritten mid.seen end (0 ∷ [])) × IsKept after) → OnOk r (IsAtRest after × (recorded after.seen ≡ olds))
+        finished (Err f) so = tt
+        finished (Ok x) so =
+            let front = take (records_end olds) before.seen in
+            let is_closed : after.seen ≡ front ++ 0 ∷ [] =
+            closes before.seen olds reads after.seen (so.0 ∙ ap (λ (f : List ℕ). overwritten f end (0 ∷ [])) is_cut ∙ ap (λ (e : ℕ). overwritten front e (0 ∷ [])) ends) in
+            rests after olds
+            (ap contents is_closed ∙ reads_closed before.seen olds reads)
+            (is_closed ∙ ap (λ (f : List ℕ). f ++ 0 ∷ []) (sym (ap (take (records_end olds)) is_closed ∙ front_closed before.seen olds reads (0 ∷ []))))
+            so.1

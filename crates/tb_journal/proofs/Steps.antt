@@ -1,0 +1,218 @@
+-- What a crash leaves in each step of a commit, a recovery and a creation.
+use Rattle.std.proofs.Common.{◌≡◌, ◌⊎◌, inl, inr, ℕ, zero, suc, ◌+◌, ◌-◌, ◌≤◌, ◌==◌, Bool, true, false, List, [], ◌∷◌, ◌++◌, length, take, drop, get_or, flat_map, refl, sym, ◌∙◌, ap, arith, nat_eq, length-append, length-drop, append_assoc, take-append-drop, if◌then◌else◌}
+use Rattle.std.proofs.lemmas.List.{append-nil, take_at, drop_at, take_all, drop_all, drop_more, take-take, length-take-le}
+use Rattle.std.specs.Int.{w32, from_le_bytes}
+use Rattle.std.specs.List.{AllByRecursion, starts_with}
+use Rattle.tb_journal.specs.Device.{Torn, Cut, overwritten}
+use Rattle.tb_journal.specs.Contents.{Fits, block, at_rest, magic, Front, Ends, Spoiled, Whole, behind_gate, front, NotAJournal, Records, with_records, joined, skipped, walk, contents, blocks_length, records_end}
+use Rattle.tb_journal.proofs.Walks.{take_parts, IsFile, is_file, with_records-Records, walk-ends, ended}
+use Rattle.tb_journal.proofs.Blocks.{walk-at_rest, length-blocks}
+
+-- gates
+
+chosen_true : {X : Type 0} (b : Bool) (x y : X) → b ≡ true → (if b then x else y) ≡ x
+chosen_true true x y is = refl
+chosen_true false x y is = absurd (cc)
+
+chosen_false : {X : Type 0} (b : Bool) (x y : X) → b ≡ false → (if b then x else y) ≡ y
+chosen_false false x y is = refl
+chosen_false true x y is = absurd (cc)
+
+-- a closed gate ends the records, whatever stands behind it
+pub closed_gate : (gate : ℕ) (behind : List ℕ) → (gate == 0) ≡ true → front (gate ∷ behind) ≡ Ends
+closed_gate g [] h = refl
+closed_gate g (a ∷ []) h = chosen_true (g == 0) Ends Spoiled h
+closed_gate g (a ∷ b ∷ []) h = chosen_true (g == 0) Ends Spoiled h
+closed_gate g (a ∷ b ∷ c ∷ []) h = chosen_true (g == 0) Ends Spoiled h
+closed_gate g (a ∷ b ∷ c ∷ s ∷ []) h = chosen_true (g == 0) Ends Spoiled h
+closed_gate g (a ∷ b ∷ c ∷ s ∷ t ∷ []) h = chosen_true (g == 0) Ends Spoiled h
+closed_gate g (a ∷ b ∷ c ∷ s ∷ t ∷ u ∷ []) h = chosen_true (g == 0) Ends Spoiled h
+closed_gate g (a ∷ b ∷ c ∷ s ∷ t ∷ u ∷ v ∷ rest) h = chosen_true (g == 0) Ends _ h
+
+-- any other gate is as good as the one that is written
+any_gate : (gate : ℕ) (behind : List ℕ) → (gate == 0) ≡ false → front (gate ∷ behind) ≡ front (255 ∷ behind)
+any_gate g [] h = refl
+any_gate g (a ∷ []) h = chosen_false (g == 0) Ends Spoiled h
+any_gate g (a ∷ b ∷ []) h = chosen_false (g == 0) Ends Spoiled h
+any_gate g (a ∷ b ∷ c ∷ []) h = chosen_false (g == 0) Ends Spoiled h
+any_gate g (a ∷ b ∷ c ∷ s ∷ []) h = chosen_false (g == 0) Ends Spoiled h
+any_gate g (a ∷ b ∷ c ∷ s ∷ t ∷ []) h = chosen_false (g == 0) Ends Spoiled h
+any_gate g (a ∷ b ∷ c ∷ s ∷ t ∷ u ∷ []) h = chosen_false (g == 0) Ends Spoiled h
+any_gate g (a ∷ b ∷ c ∷ s ∷ t ∷ u ∷ v ∷ rest) h = chosen_false (g == 0) Ends _ h
+
+walk-any_gate : (gate at : ℕ) (behind : List ℕ) → (gate == 0) ≡ false → walk 0 at (gate ∷ behind) ≡ walk 0 at (255 ∷ behind)
+walk-any_gate g at behind h = ap (λ (f : Front). joined f at (walk (skipped f) (at + 1) behind)) (any_gate g behind h)
+
+-- what ends the records ends them where it is cut short
+
+spoiled_never : (b : Bool) → (if b then Ends else Spoiled) ≡ Ends → b ≡ true
+spoiled_never true is = refl
+spoiled_never false is = absurd (cc)
+
+whole_never : (b : Bool) (r : List ℕ) → (if b then Whole r else Spoiled) ≡ Ends → ⊥
+whole_never true r is = cc
+whole_never false r is = cc
+
+behind_never : (b : Bool) (size : List ℕ) (sum : ℕ) (rest : List ℕ) → (if b then Ends else behind_gate size sum rest) ≡ Ends → b ≡ true
+behind_never true size sum rest is = refl
+behind_never false size sum rest is = absurd (whole_never _ _ is)
+
+ends_at : (g a : ℕ) (rest : List ℕ) → front (g ∷ a ∷ rest) ≡ Ends → (g == 0) ≡ true
+ends_at g a [] is = spoiled_never (g == 0) is
+ends_at g a (b ∷ []) is = spoiled_never (g == 0) is
+ends_at g a (b ∷ c ∷ []) is = spoiled_never (g == 0) is
+ends_at g a (b ∷ c ∷ s ∷ []) is = spoiled_never (g == 0) is
+ends_at g a (b ∷ c ∷ s ∷ t ∷ []) is = spoiled_never (g == 0) is
+ends_at g a (b ∷ c ∷ s ∷ t ∷ u ∷ []) is = spoiled_never (g == 0) is
+ends_at g a (b ∷ c ∷ s ∷ t ∷ u ∷ v ∷ rest) is = behind_never (g == 0) (a ∷ b ∷ c ∷ []) (from_le_bytes w32 (s ∷ t ∷ u ∷ v ∷ [])) rest is
+
+front_cut : (k : ℕ) (bytes : List ℕ) → front bytes ≡ Ends → front (take k bytes) ≡ Ends
+front_cut zero bytes is = refl
+front_cut (suc k) [] is = refl
+front_cut (suc zero) (g ∷ bytes) is = refl
+front_cut (suc (suc k)) (g ∷ []) is = refl
+front_cut (suc (suc k)) (g ∷ a ∷ rest) is = closed_gate g (a ∷ take k rest) (ends_at g a rest is)
+
+pub short_front : (bytes : List ℕ) → length bytes ≤ 1 → front bytes ≡ Ends
+short_front [] h = refl
+short_front (a ∷ []) h = refl
+short_front (a ∷ b ∷ bytes) h = absurd (omega arith)
+
+-- a file of records, of which the blocks alone count
+
+module _ (file : List ℕ) (records : List (List ℕ)) (reads : contents file ≡ Records records) where
+  abbrev end : ℕ
+  end = records_end records
+
+  parts : IsFile file records
+  parts = is_file file records reads
+
+  pub within : end ≤ length file
+  within = parts.within
+
+  pub length_front : length (take end file) ≡ end
+  length_front = length-take-le end file within
+
+  -- whatever ends the records may stand behind them
+  pub with_end : (others : List ℕ) → front others ≡ Ends → contents (take end file ++ others) ≡ Records records
+  with_end others is = parts.goes_on others ∙ ended records end others is
+
+  -- a cut at their end
+  pub cut_torn : (c : List ℕ) → Cut end file c → contents c ≡ Records records
+  cut_torn c cut =
+      let le = within in
+      let k = length c - end in
+      let far : length c ≡ end + k = omega (arith, cut.no_shorter, le) in
+      let whole : c ≡ take end file ++ take k (drop end file) = sym cut.front ∙ ap (λ (n : ℕ). take n file) far ∙ take_parts end k file in
+      ap contents whole ∙ with_end (take k (drop end file)) (front_cut k (drop end file) parts.ends)
+
+  -- the closing gate behind it
+  pub close_torn : (c : List ℕ) → Torn end 1 (take end file) c → contents c ≡ Records records
+  close_torn c torn =
+      let long = length_front in
+      let begins : take end c ≡ take end file = torn.before ∙ take-take end end file (omega arith) in
+      let whole : c ≡ take end file ++ drop end c = sym (take-append-drop end c) ∙ ap (λ (l : List ℕ). l ++ drop end c) begins in
+      ap contents whole ∙ with_end (drop end c) (short_front (drop end c) (omega (arith, torn.no_longer, long, length-drop end c)))
+
+  pub closes : (c : List ℕ) → c ≡ overwritten (take end file) end (0 ∷ []) → c ≡ take end file ++ 0 ∷ []
+  closes c is =
+      let long = length_front in
+      is ∙ ap (λ (l : List ℕ). l ++ (0 ∷ drop (end + 1) (take end file))) (take-take end end file (omega arith))
+      ∙ ap (λ (l : List ℕ). take end file ++ 0 ∷ l) (drop_all (end + 1) (take end file) (omega (arith, long)))
+
+  pub reads_closed : contents (take end file ++ 0 ∷ []) ≡ Records records
+  reads_closed = with_end (0 ∷ []) refl
+
+  pub front_closed : (others : List ℕ) → take end (take end file ++ others) ≡ take end file
+  front_closed others = take_at (take end file) others end length_front
+
+-- a file at rest: its blocks, and a closed gate
+
+module _ (file : List ℕ) (records : List (List ℕ)) (reads : contents file ≡ Records records) (closed : file ≡ take (records_end records) file ++ 0 ∷ []) where
+  abbrev gate_at : ℕ
+  gate_at = records_end records
+
+  pub length_file : length file ≡ gate_at + 1
+  length_file = ap length closed ∙ length-append (take gate_at file) (0 ∷ []) ∙ ap (λ (n : ℕ). n + 1) (length_front file records reads)
+
+  -- the closed gate stands in each outcome of a write behind it
+  pub behind_torn : (n : ℕ) (c : List ℕ) → Torn (gate_at + 1) n file c → contents c ≡ Records records
+  behind_torn n c torn =
+      let long = length_file in
+      let begins : take (gate_at + 1) c ≡ take gate_at file ++ 0 ∷ [] = torn.before ∙ take_all (gate_at + 1) file (omega (arith, long)) ∙ closed in
+      let whole : c ≡ take gate_at file ++ (0 ∷ drop (gate_at + 1) c) =
+      sym (take-append-drop (gate_at + 1) c) ∙ ap (λ (l : List ℕ). l ++ drop (gate_at + 1) c) begins ∙ append_assoc (take gate_at file) (0 ∷ []) (drop (gate_at + 1) c) in
+      ap contents whole ∙ with_end file records reads (0 ∷ drop (gate_at + 1) c) (closed_gate 0 (drop (gate_at + 1) c) refl)
+
+  pub written_behind : (tail c : List ℕ) → c ≡ overwritten file (gate_at + 1) tail → c ≡ take gate_at file ++ (0 ∷ tail)
+  written_behind tail c is =
+      let long = length_file in
+      is ∙ ap (λ (l : List ℕ). l ++ (tail ++ drop (gate_at + 1 + length tail) file)) (take_all (gate_at + 1) file (omega (arith, long)) ∙ closed)
+      ∙ ap (λ (l : List ℕ). (take gate_at file ++ 0 ∷ []) ++ (tail ++ l)) (drop_all (gate_at + 1 + length tail) file (omega (arith, long)))
+      ∙ ap (λ (l : List ℕ). (take gate_at file ++ 0 ∷ []) ++ l) (append-nil tail)
+      ∙ append_assoc (take gate_at file) (0 ∷ []) tail
+
+  module _ (tail : List ℕ) (new : List (List ℕ)) (opens : 255 ∷ tail ≡ at_rest new) (fits : AllByRecursion Fits new) where
+    front_staged : take gate_at (take gate_at file ++ (0 ∷ tail)) ≡ take gate_at file
+    front_staged = take_at (take gate_at file) (0 ∷ tail) gate_at (length_front file records reads)
+
+    back_staged : drop (gate_at + 1) (take gate_at file ++ (0 ∷ tail)) ≡ tail
+    back_staged =
+        let long = length_front file records reads in
+        ap (drop (gate_at + 1)) (sym (append_assoc (take gate_at file) (0 ∷ []) tail))
+        ∙ drop_at (take gate_at file ++ 0 ∷ []) tail (gate_at + 1) (length-append (take gate_at file) (0 ∷ []) ∙ ap (λ (n : ℕ). n + 1) long)
+
+    pub long_staged : length (take gate_at file ++ (0 ∷ tail)) ≡ gate_at + suc (length tail)
+    long_staged = length-append (take gate_at file) (0 ∷ tail) ∙ ap (λ (n : ℕ). n + suc (length tail)) (length_front file records reads)
+
+    pub reads_new : contents (take gate_at file ++ (255 ∷ tail)) ≡ Records (records ++ new)
+    reads_new =
+        ap (λ (l : List ℕ). contents (take gate_at file ++ l)) opens ∙ (is_file file records reads).goes_on (at_rest new)
+        ∙ ap (with_records records) (walk-at_rest new gate_at fits) ∙ with_records-Records records new
+
+    -- the blocks stand whole in each outcome of the write of the gate
+    pub gate_torn : (c : List ℕ) → Torn gate_at 1 (take gate_at file ++ (0 ∷ tail)) c → (contents c ≡ Records records) ⊎ (contents c ≡ Records (records ++ new))
+    gate_torn c torn =
+        let long = long_staged in
+        let gate = get_or c gate_at 0 in
+        let rest : drop gate_at c ≡ gate ∷ tail = drop_more c gate_at 0 (omega (arith, torn.no_shorter, long)) ∙ ap (λ (l : List ℕ). gate ∷ l) (torn.after ∙ back_staged) in
+        let whole : c ≡ take gate_at file ++ (gate ∷ tail) =
+        sym (take-append-drop gate_at c) ∙ ap (λ (l : List ℕ). l ++ drop gate_at c) (torn.before ∙ front_staged) ∙ ap (λ (l : List ℕ). take gate_at file ++ l) rest in
+        by_gate c gate whole (gate == 0) refl
+      where
+        by_gate : (c : List ℕ) (gate : ℕ) → c ≡ take gate_at file ++ (gate ∷ tail) → (b : Bool) → (gate == 0) ≡ b → (contents c ≡ Records records) ⊎ (contents c ≡ Records (records ++ new))
+        by_gate c gate whole true is = inl (ap contents whole ∙ with_end file records reads (gate ∷ tail) (closed_gate gate tail is))
+        by_gate c gate whole false is = inr (
+            ap contents whole ∙ (is_file file records reads).goes_on (gate ∷ tail) ∙ ap (with_records records) (walk-any_gate gate gate_at tail is)
+            ∙ sym ((is_file file records reads).goes_on (255 ∷ tail)) ∙ reads_new
+            )
+
+    pub opened : (c : List ℕ) → c ≡ overwritten (take gate_at file ++ (0 ∷ tail)) gate_at (255 ∷ []) → c ≡ take gate_at file ++ (255 ∷ tail)
+    opened c is =
+        is ∙ ap (λ (l : List ℕ). l ++ (255 ∷ drop (gate_at + 1) (take gate_at file ++ (0 ∷ tail)))) front_staged
+        ∙ ap (λ (l : List ℕ). take gate_at file ++ (255 ∷ l)) back_staged
+
+    blocks_length-append : (xs ys : List (List ℕ)) → blocks_length (xs ++ ys) ≡ blocks_length xs + blocks_length ys
+    blocks_length-append [] ys = sym (let e : 0 + blocks_length ys ≡ blocks_length ys = omega arith in e)
+    blocks_length-append (x ∷ xs) ys = omega (arith, blocks_length-append xs ys)
+
+    pub end_new : records_end (records ++ new) ≡ gate_at + blocks_length new
+    end_new = omega (arith, blocks_length-append records new)
+
+    pub closed_new : take gate_at file ++ (255 ∷ tail) ≡ take (records_end (records ++ new)) (take gate_at file ++ (255 ∷ tail)) ++ 0 ∷ []
+    closed_new =
+        let all : take gate_at file ++ (255 ∷ tail) ≡ (take gate_at file ++ flat_map block new) ++ 0 ∷ [] =
+        ap (λ (l : List ℕ). take gate_at file ++ l) opens ∙ sym (append_assoc (take gate_at file) (flat_map block new) (0 ∷ [])) in
+        let long : length (take gate_at file ++ flat_map block new) ≡ records_end (records ++ new) =
+        length-append (take gate_at file) (flat_map block new) ∙ ap (λ (n : ℕ). n + length (flat_map block new)) (length_front file records reads)
+        ∙ ap (λ (n : ℕ). gate_at + n) (length-blocks new) ∙ sym end_new in
+        all ∙ ap (λ (l : List ℕ). l ++ 0 ∷ []) (sym (ap (take (records_end (records ++ new))) all ∙ take_at (take gate_at file ++ flat_map block new) (0 ∷ []) (records_end (records ++ new)) long))
+
+-- a creation that is cut short leaves no journal, or one with no record
+
+by_magic : (b : Bool) (others : List ℕ) → length others ≤ 1 → ((if b then walk 0 8 others else NotAJournal) ≡ NotAJournal) ⊎ ((if b then walk 0 8 others else NotAJournal) ≡ Records [])
+by_magic true others h = inr (walk-ends others 8 (short_front others h))
+by_magic false others h = inl refl
+
+pub created_torn : (c : List ℕ) → Torn 0 9 [] c → (contents c ≡ NotAJournal) ⊎ (contents c ≡ Records [])
+created_torn c torn = by_magic (starts_with nat_eq c magic) (drop 8 c) (omega (arith, torn.no_longer, length-drop 8 c))

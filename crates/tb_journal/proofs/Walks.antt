@@ -1,0 +1,219 @@
+-- How what a file stands for follows from its blocks.
+use Rattle.std.proofs.Common.{◌≡◌, ℕ, zero, suc, ◌+◌, ◌≤◌, ◌==◌, ◌&&◌, Bool, true, false, List, [], ◌∷◌, ◌++◌, length, take, drop, refl, sym, ◌∙◌, ap, subst, arith, nat_le, nat_eq, length-append, if◌then◌else◌}
+use Rattle.std.proofs.lemmas.List.{append-nil, append_assoc, take_at, drop_at, length-take-le, take-append-drop}
+use Rattle.std.proofs.lemmas.Bool.Decides.{nat_tests, Decides-eqb}
+use Rattle.std.proofs.lemmas.Slice.Eq.{slice_eq-Decides}
+use Rattle.std.specs.Int.{w32, from_le_bytes}
+use Rattle.std.specs.List.{starts_with}
+use Rattle.tb_journal.specs.Checksum.{checksum}
+use Rattle.tb_journal.specs.Contents.{magic, Front, Ends, Spoiled, Whole, behind_gate, front, Contents, NotAJournal, Damaged, Records, with_record, with_records, joined, skipped, walk, contents, blocks_length, records_end}
+
+-- lists
+
+take_nil : (k : ℕ) → [] ≡ take {A = ℕ} k []
+take_nil zero = refl
+take_nil (suc k) = refl
+
+drop_nil : (k : ℕ) → [] ≡ drop {A = ℕ} k []
+drop_nil zero = refl
+drop_nil (suc k) = refl
+
+-- a longer beginning, in two parts
+pub take_parts : (m n : ℕ) (l : List ℕ) → take (m + n) l ≡ take m l ++ take n (drop m l)
+take_parts zero n l = ap (λ (k : ℕ). take k l) (omega arith)
+take_parts (suc m) n [] = ap (λ (k : ℕ). take k []) (let e : suc m + n ≡ suc (m + n) = omega arith in e) ∙ take_nil n
+take_parts (suc m) n (x ∷ l) = ap (λ (k : ℕ). take k (x ∷ l)) (let e : suc m + n ≡ suc (m + n) = omega arith in e) ∙ ap (λ (r : List ℕ). x ∷ r) (take_parts m n l)
+
+pub drop_parts : (m n : ℕ) (l : List ℕ) → drop (m + n) l ≡ drop n (drop m l)
+drop_parts zero n l = ap (λ (k : ℕ). drop k l) (omega arith)
+drop_parts (suc m) n [] = ap (λ (k : ℕ). drop k []) (let e : suc m + n ≡ suc (m + n) = omega arith in e) ∙ drop_nil n
+drop_parts (suc m) n (x ∷ l) = ap (λ (k : ℕ). drop k (x ∷ l)) (let e : suc m + n ≡ suc (m + n) = omega arith in e) ∙ drop_parts m n l
+
+-- the walk
+
+walk-skip : (k at : ℕ) (bytes : List ℕ) → walk k at bytes ≡ walk 0 (at + k) (drop k bytes)
+walk-skip zero at bytes = let e : at ≡ at + zero = omega arith in ap (λ (a : ℕ). walk 0 a bytes) e
+walk-skip (suc k) at [] = refl
+walk-skip (suc k) at (b ∷ bytes) = let e : at + 1 + k ≡ at + suc k = omega arith in walk-skip k (at + 1) bytes ∙ ap (λ (a : ℕ). walk 0 a (drop k bytes)) e
+
+pub walk-whole : (bytes record_bytes : List ℕ) (at : ℕ) → front bytes ≡ Whole record_bytes → walk 0 at bytes ≡ with_record record_bytes (walk 0 (at + (8 + length record_bytes)) (drop (8 + length record_bytes) bytes))
+walk-whole [] r at is = absurd (cc)
+walk-whole (gate ∷ behind) r at is =
+    let n = 7 + length r in
+    let place : at + 1 + n ≡ at + (8 + length r) = omega arith in
+    let far : suc n ≡ 8 + length r = omega arith in
+    ap (λ (f : Front). joined f at (walk (skipped f) (at + 1) behind)) is
+    ∙ ap (with_record r) (walk-skip n (at + 1) behind ∙ ap (λ (a : ℕ). walk 0 a (drop n behind)) place ∙ ap (λ (k : ℕ). walk 0 (at + (8 + length r)) (drop k (gate ∷ behind))) far)
+
+pub walk-ends : (bytes : List ℕ) (at : ℕ) → front bytes ≡ Ends → walk 0 at bytes ≡ Records []
+walk-ends [] at is = refl
+walk-ends (gate ∷ behind) at is = ap (λ (f : Front). joined f at (walk (skipped f) (at + 1) behind)) is
+
+pub walk-spoiled : (bytes : List ℕ) (at : ℕ) → front bytes ≡ Spoiled → walk 0 at bytes ≡ Damaged at
+walk-spoiled [] at is = absurd (cc)
+walk-spoiled (gate ∷ behind) at is = ap (λ (f : Front). joined f at (walk (skipped f) (at + 1) behind)) is
+
+-- a whole block stays whole, whatever follows it
+
+pub record IsWhole (bytes record_bytes : List ℕ) : Type 0 where
+  pub within : 8 + length record_bytes ≤ length bytes
+  pub stays : (others : List ℕ) → front (take (8 + length record_bytes) bytes ++ others) ≡ Whole record_bytes
+
+choice_true : {X : Type 0} (b : Bool) (x y : X) → b ≡ true → (if b then x else y) ≡ x
+choice_true true x y is = refl
+choice_true false x y is = absurd (cc)
+
+choice_false : {X : Type 0} (b : Bool) (x y : X) → b ≡ false → (if b then x else y) ≡ y
+choice_false false x y is = refl
+choice_false true x y is = absurd (cc)
+
+both_true : (a b : Bool) → (a && b) ≡ true → (a ≡ true) × (b ≡ true)
+both_true true true is = (refl, refl)
+both_true true false is = absurd (cc)
+both_true false b is = absurd (cc)
+
+whole_choice : (b : Bool) (r s : List ℕ) → (if b then Whole s else Spoiled) ≡ Whole r → (b ≡ true) × (s ≡ r)
+whole_choice true r s is = (refl, cc)
+whole_choice false r s is = absurd (cc)
+
+never : (b : Bool) (r : List ℕ) → (if b then Ends else Spoiled) ≡ Whole r → ⊥
+never true r is = cc
+never false r is = cc
+
+open_choice : (b : Bool) (f : Front) (r : List ℕ) → (if b then Ends else f) ≡ Whole r → (b ≡ false) × (f ≡ Whole r)
+open_choice true f r is = absurd (cc)
+open_choice false f r is = (refl, is)
+
+pub record StaysBehind (size : List ℕ) (sum : ℕ) (rest record_bytes : List ℕ) : Type 0 where
+  pub count : from_le_bytes w32 (size ++ 0 ∷ []) ≡ length record_bytes
+  pub within : length record_bytes ≤ length rest
+  pub stays : (others : List ℕ) → behind_gate size sum (take (length record_bytes) rest ++ others) ≡ Whole record_bytes
+
+stays_behind : (size : List ℕ) (sum : ℕ) (rest record_bytes : List ℕ) → behind_gate size sum rest ≡ Whole record_bytes → StaysBehind size sum rest record_bytes
+stays_behind size sum rest r is =
+    let n = from_le_bytes w32 (size ++ 0 ∷ []) in
+    let chosen = whole_choice (nat_le n (length rest) && (sum == checksum (size ++ take n rest))) r (take n rest) is in
+    let tests = both_true (nat_le n (length rest)) (sum == checksum (size ++ take n rest)) chosen.0 in
+    let fits : n ≤ length rest = grind (arith, nat_tests) in
+    let long : length (take n rest) ≡ n = length-take-le n rest fits in
+    let counts : n ≡ length r = sym long ∙ ap length chosen.1 in
+    record {
+      count = counts;
+      within = omega (arith, fits, counts);
+      stays = λ others.
+          let whole : take (length r) rest ++ others ≡ r ++ others = ap (λ (k : ℕ). take k rest ++ others) (sym counts) ∙ ap (λ (l : List ℕ). l ++ others) chosen.1 in
+          let front_is : take n (r ++ others) ≡ r = take_at r others n (sym counts) in
+          let room : nat_le n (length (r ++ others)) ≡ true = room_for n (length (r ++ others)) (omega (arith, counts, length-append r others)) in
+          let same : (sum == checksum (size ++ take n (r ++ others))) ≡ true = ap (λ (l : List ℕ). sum == checksum (size ++ l)) (front_is ∙ sym chosen.1) ∙ tests.1 in
+          ap (behind_gate size sum) whole ∙ choice_true (nat_le n (length (r ++ others)) && (sum == checksum (size ++ take n (r ++ others)))) (Whole (take n (r ++ others))) Spoiled (both room same) ∙ ap Whole front_is;
+    }
+  where
+    room_for : (a b : ℕ) → a ≤ b → nat_le a b ≡ true
+    room_for a b le = grind (arith, nat_tests)
+
+    both : {a b : Bool} → a ≡ true → b ≡ true → (a && b) ≡ true
+    both {a} {b} x y = ap (λ (z : Bool). z && b) x ∙ y
+
+pub is_whole : (bytes record_bytes : List ℕ) → front bytes ≡ Whole record_bytes → IsWhole bytes record_bytes
+is_whole [] r is = absurd (cc)
+is_whole (g ∷ []) r is = absurd (cc)
+is_whole (g ∷ a ∷ []) r is = absurd (never (g == 0) r is)
+is_whole (g ∷ a ∷ b ∷ []) r is = absurd (never (g == 0) r is)
+is_whole (g ∷ a ∷ b ∷ c ∷ []) r is = absurd (never (g == 0) r is)
+is_whole (g ∷ a ∷ b ∷ c ∷ s ∷ []) r is = absurd (never (g == 0) r is)
+is_whole (g ∷ a ∷ b ∷ c ∷ s ∷ t ∷ []) r is = absurd (never (g == 0) r is)
+is_whole (g ∷ a ∷ b ∷ c ∷ s ∷ t ∷ u ∷ []) r is = absurd (never (g == 0) r is)
+is_whole (g ∷ a ∷ b ∷ c ∷ s ∷ t ∷ u ∷ v ∷ rest) r is =
+    let size = a ∷ b ∷ c ∷ [] in
+    let sum = from_le_bytes w32 (s ∷ t ∷ u ∷ v ∷ []) in
+    let chosen = open_choice (g == 0) (behind_gate size sum rest) r is in
+    let kept = stays_behind size sum rest r chosen.1 in
+    let far : 8 + length r ≡ suc (suc (suc (suc (suc (suc (suc (suc (length r)))))))) = omega arith in
+    record {
+      within = omega (arith, kept.within);
+      stays = λ others.
+          let head = take (length r) rest ++ others in
+          ap (λ (k : ℕ). front (take k (g ∷ a ∷ b ∷ c ∷ s ∷ t ∷ u ∷ v ∷ rest) ++ others)) far
+          ∙ choice_false (g == 0) Ends (behind_gate size sum head) chosen.0 ∙ kept.stays others;
+    }
+
+-- what a walk that finds records says of its bytes
+
+pub record IsSplit (file : List ℕ) (records : List (List ℕ)) : Type 0 where
+  pub within : blocks_length records ≤ length file
+  pub goes_on : (at : ℕ) (others : List ℕ) → walk 0 at (take (blocks_length records) file ++ others) ≡ with_records records (walk 0 (at + blocks_length records) others)
+  pub ends : front (drop (blocks_length records) file) ≡ Ends
+
+unjoined : (r : List ℕ) (others : Contents) (records : List (List ℕ)) → with_record r others ≡ Records records → (rest : List (List ℕ)) × (others ≡ Records rest) × (records ≡ r ∷ rest)
+unjoined r NotAJournal records is = absurd (cc)
+unjoined r (Damaged at) records is = absurd (cc)
+unjoined r (Records rest) records is = (rest, refl, cc)
+
+split_first : (file r : List ℕ) (records : List (List ℕ)) → front file ≡ Whole r → IsSplit (drop (8 + length r) file) records → IsSplit file (r ∷ records)
+split_first file r records is later =
+    let n = 8 + length r in
+    let k = blocks_length records in
+    let whole = is_whole file r is in
+    let long : length (take n file) ≡ n = length-take-le n file whole.within in
+    record {
+      within = omega (arith, later.within, whole.within, ap length (take-append-drop n file), length-append (take n file) (drop n file), long);
+      goes_on = λ at others.
+          let parts : take (n + k) file ++ others ≡ take n file ++ (take k (drop n file) ++ others) = ap (λ (l : List ℕ). l ++ others) (take_parts n k file) ∙ append_assoc (take n file) (take k (drop n file)) others in
+          let rest = take k (drop n file) ++ others in
+          let first = walk-whole (take n file ++ rest) r at (whole.stays rest) in
+          let behind : drop n (take n file ++ rest) ≡ rest = drop_at (take n file) rest n long in
+          let place : at + n + k ≡ at + (n + k) = omega arith in
+          ap (walk 0 at) parts ∙ first ∙ ap (λ (l : List ℕ). with_record r (walk 0 (at + n) l)) behind
+          ∙ ap (with_record r) (later.goes_on (at + n) others ∙ ap (λ (a : ℕ). with_records records (walk 0 a others)) place);
+      ends = ap front (drop_parts n k file) ∙ later.ends;
+    }
+
+split_at : (records : List (List ℕ)) (at : ℕ) (file : List ℕ) (f : Front) → front file ≡ f → walk 0 at file ≡ Records records → IsSplit file records
+split_at [] at file Ends is found = record { within = omega arith; goes_on = λ at others. (let e : at ≡ at + 0 = omega arith in ap (λ (a : ℕ). walk 0 a others) e); ends = is }
+split_at (r ∷ records) at file Ends is found = let e = walk-ends file at is in absurd (cc)
+split_at records at file Spoiled is found = let e = walk-spoiled file at is in absurd (cc)
+split_at [] at file (Whole r) is found =
+    let rest = unjoined r (walk 0 (at + (8 + length r)) (drop (8 + length r) file)) [] (sym (walk-whole file r at is) ∙ found) in
+    let e = rest.2 in
+    absurd (cc)
+split_at (s ∷ records) at file (Whole r) is found =
+    let rest = unjoined r (walk 0 (at + (8 + length r)) (drop (8 + length r) file)) (s ∷ records) (sym (walk-whole file r at is) ∙ found) in
+    let e = rest.2 in
+    let first : s ≡ r = cc in
+    let others : records ≡ rest.0 = cc in
+    let later = split_at records (at + (8 + length r)) (drop (8 + length r) file) (front (drop (8 + length r) file)) refl (rest.1 ∙ ap Records (sym others)) in
+    subst (λ (x : List ℕ). IsSplit file (x ∷ records)) (sym first) (split_first file r records is later)
+
+-- and of a whole file
+
+pub record IsFile (file : List ℕ) (records : List (List ℕ)) : Type 0 where
+  pub within : records_end records ≤ length file
+  pub goes_on : (others : List ℕ) → contents (take (records_end records) file ++ others) ≡ with_records records (walk 0 (records_end records) others)
+  pub ends : front (drop (records_end records) file) ≡ Ends
+
+journal_choice : (b : Bool) (x : Contents) (records : List (List ℕ)) → (if b then x else NotAJournal) ≡ Records records → (b ≡ true) × (x ≡ Records records)
+journal_choice true x records is = (refl, is)
+journal_choice false x records is = absurd (cc)
+
+pub is_file : (file : List ℕ) (records : List (List ℕ)) → contents file ≡ Records records → IsFile file records
+is_file file records is =
+    let chosen = journal_choice (starts_with nat_eq file magic) (walk 0 8 (drop 8 file)) records is in
+    let begins : magic ≡ take 8 file = (slice_eq-Decides Decides-eqb magic (take 8 file) (starts_with nat_eq file magic) refl).0 chosen.0 in
+    let parts = split_at records 8 (drop 8 file) (front (drop 8 file)) refl chosen.1 in
+    let k = blocks_length records in
+    record {
+      within = omega (arith, parts.within, ap length begins, ap length (take-append-drop 8 file), length-append (take 8 file) (drop 8 file));
+      goes_on = λ others.
+          let cut : take (8 + k) file ++ others ≡ magic ++ (take k (drop 8 file) ++ others) =
+          ap (λ (l : List ℕ). l ++ others) (take_parts 8 k file) ∙ append_assoc (take 8 file) (take k (drop 8 file)) others ∙ ap (λ (l : List ℕ). l ++ (take k (drop 8 file) ++ others)) (sym begins) in
+          ap contents cut ∙ parts.goes_on 8 others;
+      ends = ap front (drop_parts 8 k file) ∙ parts.ends;
+    }
+
+pub with_records-Records : (records others : List (List ℕ)) → with_records records (Records others) ≡ Records (records ++ others)
+with_records-Records [] others = refl
+with_records-Records (r ∷ records) others = ap (with_record r) (with_records-Records records others)
+
+-- an end behind the records adds none
+pub ended : (records : List (List ℕ)) (at : ℕ) (others : List ℕ) → front others ≡ Ends → with_records records (walk 0 at others) ≡ Records records
+ended records at others is = ap (with_records records) (walk-ends others at is) ∙ with_records-Records records [] ∙ ap Records (append-nil records)

@@ -1,0 +1,22 @@
+use Rattle.std.proofs.Common.{length, ap, subst, sym, arith}
+use Rattle.tb_journal.specs.Contents.{at_rest}
+use Rattle.tb_journal.specs.Ready.{Kept, IsReady}
+use Rattle.tb_journal.proofs.Committing.{fewer, next_ready}
+use Rattle.tb_journal.proofs.journals.Journal.commit.Goals as goal
+
+pub overflow_add-self-in-Ok : goal.overflow_add-self-in-Ok
+overflow_add-self-in-Ok g c = omega (arith, c.self.invariant.0, c.self.invariant.1, fewer c.self.inside.batch, c.count-in-Ok.ensures)
+
+pub invariant_of-self : goal.invariant_of-self
+invariant_of-self g c =
+    let bytes = ap length c.bytes-in-Ok.ensures.spells in
+    let none = ap (λ batch. length (at_rest batch)) c.clear.ensures in (
+      omega (arith, c.self.invariant.0, bytes, none, fewer c.self.inside.batch),
+      omega (arith, c.self.invariant.1, bytes, c.count-in-Ok.ensures, fewer c.self.inside.batch),
+    )
+
+pub returns-in-Ok-clause-ready : goal.returns-in-Ok-clause-ready
+returns-in-Ok-clause-ready g c t =
+    let ready = subst (λ (j : Kept g.row.D.Denot). IsReady g.D.Device.disk j) (sym c.self.view_is) (c.requires t) in
+    let done = (c.in-Ok.ensures t c.self.inside.batch c.bytes.ensures.fits c.bytes.ensures.spells (omega (arith, c.count.ensures, c.if-count-eq0.false))).ok in
+    next_ready g.D.Device.disk _ c.publish.new.device _ _ c.clear.new.self ready done.0 done.1 (ap length c.bytes-in-Ok.ensures.spells) c.count-in-Ok.ensures

@@ -1,0 +1,12 @@
+use Rattle.std.proofs.Common.{sym, ◌∙◌}
+use Rattle.tb_journal.proofs.Past.{sync_failed, sync_done}
+use Rattle.tb_journal.proofs.memory.MemoryDevice.sync.Goals as goal
+
+pub returns-then-trips : goal.returns-then-trips
+returns-then-trips c t =
+    sync_failed c.args.self.now.first.items c.args.self.now.calls.items c.args.self.now.bytes.items c.args.self.now.fuse c.trips.new.fuse (sym c.trips.ensures.fails ∙ c.if-trips.true) c.trips.ensures.counted
+
+pub returns : goal.returns
+returns c t =
+    sync_done c.args.self.now.first.items c.args.self.now.calls.items c.push.new.self.items c.args.self.now.bytes.items c.args.self.now.fuse c.trips.new.fuse c.trips.ensures.counted
+    c.in_ok-file.file (c.in_ok-file.ensures.items ∙ c.deref.ensures.value) c.in_ok-push.ensures.items

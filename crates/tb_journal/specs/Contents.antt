@@ -1,0 +1,124 @@
+-- What the bytes of a journal's file stand for.
+use Rattle.std.specs.Prelude.{◌≡◌, ℕ, ◌+◌, ◌<◌, ◌^◌, ◌==◌, ◌&&◌, nat_le, nat_eq, zero, suc, List, [], ◌∷◌, ◌++◌, length, take, drop, flat_map, codes, if◌then◌else◌, refl}
+use Rattle.std.specs.Int.{w32, to_le_bytes, from_le_bytes}
+use Rattle.std.specs.List.{AllByRecursion, starts_with}
+use Rattle.tb_journal.specs.Checksum.{checksum, byte_on, bit_on}
+
+-- the first 8 bytes
+abbrev pub magic : List ℕ
+magic = codes "TBJRNL01"
+
+-- what has a block: fewer than 2^24 bytes
+pub record Fits (record_bytes : List ℕ) : Type 0 where
+  pub short : length record_bytes < 2 ^ 24
+  pub bytes : AllByRecursion (λ byte. byte < 256) record_bytes
+
+-- a length in 3 bytes, the low one first
+abbrev pub size_bytes : List ℕ → List ℕ
+size_bytes record_bytes = take 3 (to_le_bytes w32 (length record_bytes))
+
+-- an open gate, the length, the checksum of length and record, and the record
+abbrev pub block : List ℕ → List ℕ
+block bytes = 255 ∷ (size_bytes bytes ++ (to_le_bytes w32 (checksum (size_bytes bytes ++ bytes)) ++ bytes))
+
+-- blocks, and a closed gate behind them
+abbrev pub at_rest : List (List ℕ) → List ℕ
+at_rest records = flat_map block records ++ 0 ∷ []
+
+-- a whole file of these records
+abbrev pub journal_of : List (List ℕ) → List ℕ
+journal_of records = magic ++ at_rest records
+
+-- what stands at the head of some bytes: the end of the records, a block that is not whole, or a whole one
+pub data Front : Type 0 where
+  Ends : Front
+  Spoiled : Front
+  Whole : List ℕ → Front
+
+-- behind an open gate: the length, the checksum, and what follows
+abbrev pub behind_gate : List ℕ → ℕ → List ℕ → Front
+behind_gate size sum rest =
+    let count = from_le_bytes w32 (size ++ 0 ∷ []) in
+    if nat_le count (length rest) && (sum == checksum (size ++ take count rest)) then Whole (take count rest) else Spoiled
+
+-- a gate of 0 is closed, and one with nothing behind it ends the records too
+abbrev pub front : List ℕ → Front
+front [] = Ends
+front (gate ∷ []) = Ends
+front (gate ∷ a ∷ b ∷ c ∷ s ∷ t ∷ u ∷ v ∷ rest) = if gate == 0 then Ends else behind_gate (a ∷ b ∷ c ∷ []) (from_le_bytes w32 (s ∷ t ∷ u ∷ v ∷ [])) rest
+front (gate ∷ behind) = if gate == 0 then Ends else Spoiled
+
+-- a file is no journal, is damaged at a place, or has records
+pub data Contents : Type 0 where
+  NotAJournal : Contents
+  Damaged : ℕ → Contents
+  Records : List (List ℕ) → Contents
+
+-- one record before others
+abbrev pub with_record : List ℕ → Contents → Contents
+with_record bytes NotAJournal = NotAJournal
+with_record bytes (Damaged at) = Damaged at
+with_record bytes (Records records) = Records (bytes ∷ records)
+
+-- several
+abbrev pub with_records : List (List ℕ) → Contents → Contents
+with_records [] others = others
+with_records (bytes ∷ records) others = with_record bytes (with_records records others)
+
+-- what stands at this place, and what follows it
+abbrev pub joined : Front → ℕ → Contents → Contents
+joined Ends at others = Records []
+joined Spoiled at others = Damaged at
+joined (Whole bytes) at others = with_record bytes others
+
+-- the bytes of a block behind its gate
+abbrev pub skipped : Front → ℕ
+skipped (Whole bytes) = 7 + length bytes
+skipped other = 0
+
+-- the blocks from a place on, after so many bytes that belong to the one before
+abbrev pub walk : ℕ → ℕ → List ℕ → Contents
+walk skip at [] = Records []
+walk (suc skip) at (byte ∷ bytes) = walk skip (at + 1) bytes
+walk zero at (gate ∷ behind) = joined (front (gate ∷ behind)) at (walk (skipped (front (gate ∷ behind))) (at + 1) behind)
+
+abbrev pub contents : List ℕ → Contents
+contents file = if starts_with nat_eq file magic then walk 0 8 (drop 8 file) else NotAJournal
+
+-- the records of a file that has some
+abbrev pub records_of : Contents → List (List ℕ)
+records_of (Records records) = records
+records_of other = []
+
+abbrev pub recorded : List ℕ → List (List ℕ)
+recorded file = records_of (contents file)
+
+-- the bytes that their blocks take
+abbrev pub blocks_length : List (List ℕ) → ℕ
+blocks_length [] = 0
+blocks_length (bytes ∷ records) = 8 + length bytes + blocks_length records
+
+-- where they end in a file
+abbrev pub records_end : List (List ℕ) → ℕ
+records_end records = 8 + blocks_length records
+
+-- rows
+
+pub nothing_is_no_journal : contents [] ≡ NotAJournal
+nothing_is_no_journal = refl
+
+-- a closed gate ends the records, whatever follows
+pub ends_at_a_closed_gate : contents (codes "TBJRNL01" ++ 0 ∷ 7 ∷ 7 ∷ []) ≡ Records []
+ends_at_a_closed_gate = refl
+
+-- an open gate with nothing behind it ends them too
+pub ends_at_the_end : contents (codes "TBJRNL01" ++ 255 ∷ []) ≡ Records []
+ends_at_the_end = refl
+
+pub two_records : contents (journal_of (codes "ab" ∷ [] ∷ [])) ≡ Records (codes "ab" ∷ [] ∷ [])
+unfolding byte_on bit_on
+two_records = refl
+
+-- a block that is cut short is damage, at its gate
+pub cut_short : contents (codes "TBJRNL01" ++ 255 ∷ 1 ∷ 0 ∷ []) ≡ Damaged 8
+cut_short = refl

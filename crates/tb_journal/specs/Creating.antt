@@ -1,0 +1,66 @@
+-- How a journal is created, and what a crash may leave of it.
+use Rattle.std.specs.Prelude.{◌≡◌, ◌⊎◌, ◌==◌, ◌&&◌, ◌||◌, ℕ, ◌≤◌, Bool, true, false, List, [], ◌∷◌, ◌++◌, length, codes, refl, Result, OnOk, IfErr}
+use Rattle.tb_journal.specs.declared.faults.Fault.{Fault}
+use Rattle.tb_journal.specs.declared.faults.Fault.TheVariants.{NotEmpty}
+use Rattle.tb_journal.specs.declared.opening.OpenFault.{OpenFault}
+use Rattle.tb_journal.specs.declared.opening.OpenFault.TheVariants as open_faults
+use Rattle.tb_journal.specs.Device.{Disk, LeavesOnly, HasCause, IsCause}
+use Rattle.tb_journal.specs.Contents.{NotAJournal, Records, contents, journal_of, recorded}
+use Rattle.tb_journal.specs.Steps.{IsAtRest}
+use Rattle.tb_journal.specs.Ready.{Kept, IsReady}
+use Rattle.tb_journal.specs.Opening.{IsAsBefore}
+
+-- no more bytes than these, each of them 0 or the one that stands there
+abbrev pub is_torn_from : List ℕ → List ℕ → Bool
+is_torn_from [] first = true
+is_torn_from (byte ∷ bytes) [] = false
+is_torn_from (byte ∷ bytes) (own ∷ first) = (byte == 0 || byte == own) && is_torn_from bytes first
+
+-- an empty file, or one such as a creation leaves that is cut short: a journal may be created there
+abbrev pub is_blank : List ℕ → Bool
+is_blank file = is_torn_from file (journal_of [])
+
+-- a file of 9 bytes at most in which there is no record
+pub record IsUnborn (file : List ℕ) : Type 0 where
+  pub short : length file ≤ 9
+  pub none : (contents file ≡ NotAJournal) ⊎ (contents file ≡ Records [])
+
+-- what a crash may leave of a file while a journal is created there: the file as it was, or, if it was blank, no record
+abbrev pub MayBeCreated : Disk → List ℕ → Type 0
+MayBeCreated before file = IsAsBefore before file ⊎ ((is_blank before.seen ≡ true) × IsUnborn file)
+
+-- why no journal is created: something else stands there, or the device has a cause
+abbrev pub IsCreateCause : Disk → Disk → OpenFault → Type 0
+IsCreateCause before after (open_faults.Refused why) = ⊥
+IsCreateCause before after (open_faults.Device fault) = IsCause before after fault ⊎ ((fault ≡ NotEmpty) × (is_blank before.seen ≡ false))
+
+-- an error has a cause
+pub record HasCreateCause {T : Type 0} (result : Result T OpenFault) (before after : Disk) : Type 0 where
+  pub later : before.faults ≤ after.faults
+  pub cause : IfErr result (IsCreateCause before after)
+
+-- a journal that has no records, and none that wait
+pub record IsNew {D : Type 0} (disk : D → Disk) (journal : Kept D) : Type 0 where
+  pub ready : IsReady disk journal
+  pub no_records : recorded (disk journal.device).seen ≡ []
+  pub none_waits : journal.waiting ≡ []
+
+-- the first bytes are written over a blank file
+pub record Begins (result : Result (Unit {0}) Fault) (before after : Disk) : Type 0 where
+  pub ok : OnOk result (IsAtRest after × (recorded after.seen ≡ []))
+  pub any_moment : LeavesOnly before after IsUnborn
+  pub cause : HasCause result before after
+
+-- rows
+
+pub nothing_is_blank : is_blank [] ≡ true
+nothing_is_blank = refl
+
+pub some_of_the_first_bytes : is_blank (codes "TBJ") ≡ true
+some_of_the_first_bytes = refl
+
+pub zeros_in_their_place : is_blank (codes "TBJ" ++ 0 ∷ 0 ∷ 0 ∷ []) ≡ true
+zeros_in_their_place = refl
+
+pub other_bytes : is_blank (codes "TBX") ≡ false
+other_bytes = refl

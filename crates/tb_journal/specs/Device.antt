@@ -1,0 +1,95 @@
+-- What the calls of a device do to its file, and what a crash may leave between two syncs.
+use Rattle.std.specs.Prelude.{◌<◌, ◌≡◌, ◌⊎◌, ℕ, ◌+◌, ◌≤◌, min, max, List, ◌++◌, length, take, drop, Result, IfErr, OnOk}
+use Rattle.tb_journal.specs.declared.faults.Fault.{Fault}
+use Rattle.tb_journal.specs.declared.faults.Fault.TheVariants.{Memory, Failed, Full}
+
+-- a disk with one file, and its clock
+pub record Disk : Type 1 where
+  pub seen : List ℕ  -- the bytes that a read returns
+  pub may_leave : List ℕ → Type 0  -- what a crash at this moment may leave
+  pub moment : ℕ  -- a number that does not fall
+  pub left_since : ℕ → List ℕ → Type 0  -- what a crash at some moment from that one on might have left
+  pub faults : ℕ  -- how often the disk has failed
+
+-- a crash leaves this and nothing else
+abbrev pub Only : List ℕ → (List ℕ → Type 0) → Type 0
+Only file outcomes = (c : List ℕ) → outcomes c → c ≡ file
+
+-- all that a read returns is on the disk
+abbrev pub IsKept : Disk → Type 0
+IsKept disk = Only disk.seen disk.may_leave
+
+-- the file with these bytes in the place of those at this offset
+abbrev pub overwritten : List ℕ → ℕ → List ℕ → List ℕ
+overwritten file at bytes = take at file ++ (bytes ++ drop (at + length bytes) file)
+
+-- after a write of n bytes that a crash cuts short: any bytes in the range and past the old end, the same elsewhere
+pub record Torn (at n : ℕ) (old new : List ℕ) : Type 0 where
+  pub before : take at new ≡ take at old
+  pub after : drop (at + n) new ≡ drop (at + n) old
+  pub no_shorter : length old ≤ length new
+  pub no_longer : length new ≤ max (length old) (at + n)
+
+-- after a cut: some length between
+pub record Cut (n : ℕ) (old new : List ℕ) : Type 0 where
+  pub no_shorter : min n (length old) ≤ length new
+  pub front : take (length new) old ≡ new
+
+-- each new outcome of a crash is an old outcome after a step
+abbrev pub Follows : (List ℕ → List ℕ → Type 0) → Disk → Disk → Type 0
+Follows step before after = (c : List ℕ) → after.may_leave c → (d : List ℕ) × before.may_leave d × step d c
+
+-- a crash leaves nothing that it might not have left before
+abbrev pub AddsNone : Disk → Disk → Type 0
+AddsNone before after = (c : List ℕ) → after.may_leave c → before.may_leave c
+
+-- time goes on: a crash since t might have left what it might have left before, or what it may leave now
+pub record Elapses (before after : Disk) : Type 0 where
+  pub later : before.moment ≤ after.moment
+  pub nothing_else : (t : ℕ) (c : List ℕ) → t ≤ before.moment → after.left_since t c → before.left_since t c ⊎ after.may_leave c
+  pub keeps : (t : ℕ) (c : List ℕ) → t ≤ before.moment → before.left_since t c → after.left_since t c
+
+-- a crash at any moment since before leaves a file that has P
+pub record LeavesOnly (before after : Disk) (P : List ℕ → Type 0) : Type 0 where
+  pub later : before.moment ≤ after.moment
+  pub each : (c : List ℕ) → after.left_since before.moment c → P c
+  -- for a run that began earlier
+  pub earlier : (t : ℕ) (c : List ℕ) → t ≤ before.moment → after.left_since t c → before.left_since t c ⊎ P c
+
+-- why a device fails: it has no memory, or the disk has failed since, or is full
+abbrev pub IsCause : Disk → Disk → Fault → Type 0
+IsCause before after fault = (fault ≡ Memory) ⊎ (((fault ≡ Failed) ⊎ (fault ≡ Full)) × (before.faults < after.faults))
+
+-- an error has a cause
+pub record HasCause {T : Type 0} (result : Result T Fault) (before after : Disk) : Type 0 where
+  pub later : before.faults ≤ after.faults
+  pub cause : IfErr result (IsCause before after)
+
+-- a call that only looks
+pub record Looks {T : Type 0} (result : Result T Fault) (before after : Disk) : Type 0 where
+  pub seen : after.seen ≡ before.seen
+  pub crash : AddsNone before after
+  pub time : Elapses before after
+  pub cause : HasCause result before after
+
+-- a write
+pub record Writes (at : ℕ) (bytes : List ℕ) (result : Result (Unit {0}) Fault) (before after : Disk) : Type 0 where
+  pub written : OnOk result (after.seen ≡ overwritten before.seen at bytes)
+  pub crash : Follows (Torn at (length bytes)) before after
+  pub time : Elapses before after
+  pub cause : HasCause result before after
+
+-- a cut
+pub record Cuts (n : ℕ) (result : Result (Unit {0}) Fault) (before after : Disk) : Type 0 where
+  pub cut : OnOk result (after.seen ≡ take n before.seen)
+  pub crash : Follows (Cut n) before after
+  pub time : Elapses before after
+  pub cause : HasCause result before after
+
+-- a sync, before the end of which a crash may leave what it might have left, or what a read returns
+pub record Syncs (result : Result (Unit {0}) Fault) (before after : Disk) : Type 0 where
+  pub durable : OnOk result (Only before.seen after.may_leave)
+  pub seen : after.seen ≡ before.seen
+  pub crash : (c : List ℕ) → after.may_leave c → before.may_leave c ⊎ (c ≡ before.seen)
+  pub time : Elapses before after
+  pub cause : HasCause result before after

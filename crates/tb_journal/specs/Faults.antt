@@ -1,0 +1,20 @@
+-- The numbers and the names of faults.
+use Rattle.std.specs.Prelude.{ℕ, List, codes}
+use Rattle.tb_journal.specs.declared.faults.Fault.{Fault}
+use Rattle.tb_journal.specs.declared.faults.Fault.TheVariants.{Memory, Failed, Full, TooLong, NotEmpty}
+
+-- a fault's number, by which other programs may know it
+abbrev pub fault_number : Fault → ℕ
+fault_number Memory = 1
+fault_number Failed = 2
+fault_number Full = 3
+fault_number TooLong = 4
+fault_number NotEmpty = 5
+
+-- a fault's name, as a message shows it
+abbrev pub fault_name : Fault → List ℕ
+fault_name Memory = codes "Memory"
+fault_name Failed = codes "Failed"
+fault_name Full = codes "Full"
+fault_name TooLong = codes "TooLong"
+fault_name NotEmpty = codes "NotEmpty"

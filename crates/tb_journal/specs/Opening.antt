@@ -1,0 +1,72 @@
+-- How a journal is opened, and what stays of its file.
+use Rattle.std.specs.Prelude.{◌≡◌, ◌⊎◌, ℕ, ◌≤◌, ◌^◌, List, [], length, Result, Ok, Err, Vec, IfOk, IfErr, OnOk}
+use Rattle.std.specs.declared.alloc.Global.{Global}
+use Rattle.tb_journal.specs.declared.faults.Fault.{Fault}
+use Rattle.tb_journal.specs.declared.faults.Fault.TheVariants as faults
+use Rattle.tb_journal.specs.declared.reading.Refusal.{Refusal}
+use Rattle.tb_journal.specs.declared.reading.Refusal.TheVariants as refusals
+use Rattle.tb_journal.specs.declared.opening.OpenFault.{OpenFault}
+use Rattle.tb_journal.specs.declared.opening.OpenFault.TheVariants as open_faults
+use Rattle.tb_journal.specs.declared.opening.NotOpened.{NotOpened}
+use Rattle.tb_journal.specs.Device.{Disk, IsKept, LeavesOnly, HasCause, IsCause}
+use Rattle.tb_journal.specs.Contents.{Contents, NotAJournal, Damaged, Records, contents, recorded}
+use Rattle.tb_journal.specs.Steps.{IsAtRest}
+use Rattle.tb_journal.specs.Ready.{Kept, IsReady}
+
+-- what a file stands for that is refused
+abbrev pub refused_as : Refusal → Contents
+refused_as refusals.NotAJournal = NotAJournal
+refused_as (refusals.Damaged at) = Damaged at
+
+-- a file that a crash might have left before, or the one that a read returned
+abbrev pub IsAsBefore : Disk → List ℕ → Type 0
+IsAsBefore before file = before.may_leave file ⊎ (file ≡ before.seen)
+
+-- a file that a crash might have left before, or one that stands for what was read
+abbrev pub StandsForTheSame : Disk → List ℕ → Type 0
+StandsForTheSame before file = before.may_leave file ⊎ (contents file ≡ contents before.seen)
+
+-- why a journal is not opened: the file is refused, the device has a cause, or the file has no room for one more byte
+abbrev pub IsOpenCause : Disk → Disk → OpenFault → Type 0
+IsOpenCause before after (open_faults.Refused why) = contents before.seen ≡ refused_as why
+IsOpenCause before after (open_faults.Device fault) = IsCause before after fault ⊎ ((fault ≡ faults.Full) × (2 ^ 62 ≤ length before.seen))
+
+-- a refusal leaves the file as it was, at each moment
+abbrev pub IsUntouched : Disk → Disk → OpenFault → Type 0
+IsUntouched before after (open_faults.Refused why) = (after.seen ≡ before.seen) × LeavesOnly before after (IsAsBefore before)
+IsUntouched before after (open_faults.Device fault) = Unit {0}
+
+-- the device of a journal, or the one that is given back
+abbrev pub device_left : {D : Type 0} → Result (Kept D) (NotOpened D) → D
+device_left (Ok journal) = journal.device
+device_left (Err failed) = failed.device
+
+-- and why it was
+abbrev pub fault_left : {D : Type 0} → Result (Kept D) (NotOpened D) → Result (Unit {0}) OpenFault
+fault_left (Ok journal) = Ok tt
+fault_left (Err failed) = Err failed.fault
+
+-- an error has a cause
+pub record HasOpenCause {T : Type 0} (result : Result T OpenFault) (before after : Disk) : Type 0 where
+  pub later : before.faults ≤ after.faults
+  pub cause : IfErr result (IsOpenCause before after)
+
+-- the journal of a file that read so: ready, with the same records, and none that wait
+pub record IsOpened {D : Type 0} (disk : D → Disk) (file : List ℕ) (journal : Kept D) : Type 0 where
+  pub reads : contents file ≡ Records (recorded file)
+  pub ready : IsReady disk journal
+  pub same : recorded (disk journal.device).seen ≡ recorded file
+  pub none_waits : journal.waiting ≡ []
+
+-- a sync, and a read
+pub record ReadsKept (result : Result (Vec ℕ Global) Fault) (before after : Disk) : Type 0 where
+  pub ok : IfOk result (λ bytes. (bytes.items ≡ before.seen) × IsKept after)
+  pub seen : after.seen ≡ before.seen
+  pub any_moment : LeavesOnly before after (IsAsBefore before)
+  pub cause : HasCause result before after
+
+-- what stands behind the records is cut off, and a closed gate written
+pub record Repairs (result : Result (Unit {0}) Fault) (before after : Disk) : Type 0 where
+  pub ok : OnOk result (IsAtRest after × (recorded after.seen ≡ recorded before.seen))
+  pub any_moment : LeavesOnly before after (λ file. contents file ≡ Records (recorded before.seen))
+  pub cause : HasCause result before after

@@ -1,0 +1,18 @@
+-- A journal that may be written to.
+use Rattle.std.specs.Prelude.{◌≡◌, ℕ, List, length}
+use Rattle.tb_journal.specs.Device.{Disk}
+use Rattle.tb_journal.specs.Contents.{recorded, records_end}
+use Rattle.tb_journal.specs.Steps.{IsAtRest}
+
+-- a device with a journal's file, where the records in it end and how many they are, and the records that wait
+pub record Kept (D : Type 0) : Type 0 where
+  pub device : D
+  pub end : ℕ
+  pub count : ℕ
+  pub waiting : List (List ℕ)
+
+-- the file is at rest, and the journal's numbers are those of its records
+pub record IsReady {D : Type 0} (disk : D → Disk) (journal : Kept D) : Type 0 where
+  pub at_rest : IsAtRest (disk journal.device)
+  pub ends : journal.end ≡ records_end (recorded (disk journal.device).seen)
+  pub counts : journal.count ≡ length (recorded (disk journal.device).seen)

@@ -1,0 +1,38 @@
+//! Calls on a device that are on the disk before the next.
+ghost use Rattle.std.specs.Prelude.{◌≡◌, ◌≤◌, ◌<◌, ◌+◌, ◌^◌, List, ℕ, [], length};
+ghost use Rattle.std.specs.List.{AllByRecursion};
+ghost use Rattle.tb_journal.specs.Device.{IsKept};
+ghost use Rattle.tb_journal.specs.Contents.{Fits, at_rest, recorded, records_end};
+ghost use Rattle.tb_journal.specs.Steps.{IsAtRest, Overwrites, Publishes};
+
+use crate::batches::OPEN;
+use crate::devices::Device;
+use crate::faults::Fault;
+
+// Writes, and syncs.
+pub fn write_kept<D: Device>(device: &mut D, at: usize, bytes: &[u8]) -> Result<(), Fault>
+    requires kept { D.tells → IsKept (D.disk device.old) }
+    requires within { D.tells → at ≤ length (D.disk device.old).seen }
+    ensures { D.tells → Overwrites at bytes.now result (D.disk device.old) (D.disk device.new) }
+{
+    match device.write_at(at, bytes) {
+        Ok(()) => device.sync(),
+        Err(fault) => Err(fault),
+    }
+}
+
+// Writes blocks behind the closed gate at this offset, and then opens it.
+pub fn publish<D: Device>(device: &mut D, end: usize, batch: &[u8]) -> Result<(), Fault>
+    requires some { 1 ≤ length batch.now }
+    requires short { end < 2 ^ 63 }
+    requires at_rest { D.tells → IsAtRest (D.disk device.old) }
+    requires ends { D.tells → end ≡ records_end (recorded (D.disk device.old).seen) }
+    ensures { D.tells → (records : List (List ℕ)) → AllByRecursion Fits records → batch.now ≡ at_rest records
+        → 1 ≤ length records → Publishes records result (D.disk device.old) (D.disk device.new) }
+{
+    let (_, tail) = batch.split_at(1);
+    match write_kept(device, end + 1, tail) {
+        Ok(()) => write_kept(device, end, &[OPEN]),
+        Err(fault) => Err(fault),
+    }
+}

@@ -1,0 +1,110 @@
+//! A journal is created.
+ghost use Rattle.std.specs.Prelude.{◌≡◌, true, IfOk};
+ghost use Rattle.tb_journal.specs.Device.{IsKept, LeavesOnly};
+ghost use Rattle.tb_journal.specs.Opening.{device_left, fault_left};
+ghost use Rattle.tb_journal.specs.Creating.{is_torn_from, is_blank, MayBeCreated, HasCreateCause, IsNew, IsUnborn, Begins};
+
+use crate::batches::Batch;
+use crate::calls::write_kept;
+use crate::devices::Device;
+use crate::faults::Fault;
+use crate::journals::Journal;
+use crate::opening::{NotOpened, OpenFault, read_kept};
+use crate::reading::MAGIC;
+use std::alloc::Global;
+
+// A journal without records.
+const FIRST: [u8; 9] = [84, 66, 74, 82, 78, 76, 48, 49, 0];
+
+/// Creates a journal without records in an empty file. Any other file stays as it was, but one such
+/// as a creation leaves that a crash has cut short: nothing was acknowledged there, and the call
+/// may be made again.
+pub fn create<D: Device>(alloc: Global, device: D) -> Result<Journal<D>, NotOpened<D>>
+    ensures created { D.tells → IfOk result (IsNew D.disk) }
+    ensures blank { D.tells → IfOk result (λ _. is_blank (D.disk device).seen ≡ true) }
+    // A crash at any moment of the call leaves the file as it was, or no record in it.
+    ensures any_moment { D.tells
+        → LeavesOnly (D.disk device) (D.disk (device_left result)) (MayBeCreated (D.disk device)) }
+    ensures cause { D.tells → HasCreateCause (fault_left result) (D.disk device) (D.disk (device_left result)) }
+{
+    let mut device = device;
+    match read_kept(alloc, &mut device) {
+        Ok(bytes) => {
+            if is_blank(&bytes) {
+                begin(alloc, device)
+            } else {
+                Err(NotOpened {
+                    device,
+                    fault: OpenFault::Device(Fault::NotEmpty),
+                })
+            }
+        }
+        Err(fault) => Err(NotOpened {
+            device,
+            fault: OpenFault::Device(fault),
+        }),
+    }
+}
+
+// Writes over a blank file.
+fn begin<D: Device>(alloc: Global, device: D) -> Result<Journal<D>, NotOpened<D>>
+    requires kept { D.tells → IsKept (D.disk device) }
+    requires blank { D.tells → is_blank (D.disk device).seen ≡ true }
+    ensures created { D.tells → IfOk result (IsNew D.disk) }
+    ensures any_moment { D.tells → LeavesOnly (D.disk device) (D.disk (device_left result)) IsUnborn }
+    ensures cause { D.tells → HasCreateCause (fault_left result) (D.disk device) (D.disk (device_left result)) }
+{
+    match Batch::new(alloc) {
+        Ok(batch) => {
+            let mut device = device;
+            match write_first(&mut device) {
+                Ok(()) => Ok(Journal {
+                    device,
+                    end: MAGIC.len(),
+                    count: 0,
+                    batch,
+                }),
+                Err(fault) => Err(NotOpened {
+                    device,
+                    fault: OpenFault::Device(fault),
+                }),
+            }
+        }
+        Err(_) => Err(NotOpened {
+            device,
+            fault: OpenFault::Device(Fault::Memory),
+        }),
+    }
+}
+
+// Writes the first bytes, all in one write: whatever a crash leaves of them holds no record.
+fn write_first<D: Device>(device: &mut D) -> Result<(), Fault>
+    requires kept { D.tells → IsKept (D.disk device.old) }
+    requires blank { D.tells → is_blank (D.disk device.old).seen ≡ true }
+    ensures { D.tells → Begins result (D.disk device.old) (D.disk device.new) }
+{
+    write_kept(device, 0, &FIRST)
+}
+
+fn is_blank(bytes: &[u8]) -> bool
+    ensures { result ≡ is_blank bytes.now }
+{
+    is_torn_from(bytes, &FIRST)
+}
+
+fn is_torn_from(bytes: &[u8], first: &[u8]) -> bool
+    ensures { result ≡ is_torn_from bytes.now first.now }
+{
+    let mut rest = bytes;
+    let mut owns = first;
+    while let [byte, others @ ..] = rest {
+        match owns {
+            [own, behind @ ..] if *byte == 0 || byte == own => {
+                rest = others;
+                owns = behind;
+            }
+            _ => return false,
+        }
+    }
+    true
+}

@@ -1,0 +1,77 @@
+//! Why a call on a device or a journal failed.
+ghost use Rattle.std.specs.Prelude.{◌≡◌, Some};
+ghost use Rattle.tb_journal.specs.Faults.{fault_number, fault_name};
+
+use std::alloc::{AllocError, AllocFailed};
+use std::fmt;
+
+/// What went wrong in a call on a device or a journal.
+#[derive(Clone, Copy, Debug, PartialEq, Eq)]
+pub enum Fault {
+    /// There is no memory.
+    Memory,
+    /// The device failed.
+    Failed,
+    /// The device is full, or the journal at its greatest length.
+    Full,
+    /// A record has 2^24 bytes or more.
+    TooLong,
+    /// A journal is to be created where there is something.
+    NotEmpty,
+}
+
+impl Fault {
+    /// The fault's number, 1 to 5.
+    pub fn number(self) -> u8
+        ensures { result ≡ fault_number self }
+    {
+        match self {
+            Fault::Memory => 1,
+            Fault::Failed => 2,
+            Fault::Full => 3,
+            Fault::TooLong => 4,
+            Fault::NotEmpty => 5,
+        }
+    }
+
+    /// The fault's name, as a message shows it.
+    pub fn name(self) -> &'static str
+        ensures { result.now ≡ fault_name self }
+    {
+        match self {
+            Fault::Memory => "Memory",
+            Fault::Failed => "Failed",
+            Fault::Full => "Full",
+            Fault::TooLong => "TooLong",
+            Fault::NotEmpty => "NotEmpty",
+        }
+    }
+}
+
+impl From<AllocError> for Fault {
+    ghost use Rattle.tb_journal.specs.declared.faults.Fault.TheVariants.{Memory};
+
+    ghost from_gives = { λ _ fault. fault ≡ Memory };
+
+    fn from(_: AllocError) -> Fault {
+        Fault::Memory
+    }
+}
+
+impl<T: Drop> From<AllocFailed<T>> for Fault {
+    ghost use Rattle.tb_journal.specs.declared.faults.Fault.TheVariants.{Memory};
+
+    ghost from_gives = { λ _ fault. fault ≡ Memory };
+
+    fn from(_: AllocFailed<T>) -> Fault {
+        Fault::Memory
+    }
+}
+
+impl fmt::Display for Fault {
+    ghost output = { λ fault. Some (fault_name fault) };
+
+    fn fmt<W: fmt::Write>(&self, f: &mut fmt::Formatter<W>) -> fmt::Result {
+        f.write_str(self.name())
+    }
+}

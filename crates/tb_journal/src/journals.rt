@@ -1,0 +1,112 @@
+//! A journal: records in a file, each on the disk before it counts.
+ghost use Rattle.std.specs.Prelude.{◌≡◌, ◌↔◌, ◌≤◌, ◌<◌, ◌+◌, ◌^◌, ◌++◌, List, [], ◌∷◌, length, Ok, OnOk, OnErr, IsErrOf};
+ghost use Rattle.tb_journal.specs.Device.{LeavesOnly, HasCause};
+ghost use Rattle.tb_journal.specs.Contents.{at_rest, recorded};
+ghost use Rattle.tb_journal.specs.Steps.{IsBeforeOrAfter};
+ghost use Rattle.tb_journal.specs.Ready.{Kept, IsReady};
+
+use crate::batches::Batch;
+use crate::calls::publish;
+use crate::devices::Device;
+use crate::faults::Fault;
+use std::marker::Model;
+
+/// A record has fewer bytes than this.
+pub const RECORD_BYTES_MAX: usize = 1 << 24;
+
+/// A journal's file has at most so many bytes.
+pub const FILE_BYTES_MAX: usize = 1 << 62;
+
+/// A file of records, and the records that wait to be written.
+#[derive(Drop)]
+pub struct Journal<D: Device> {
+    pub(crate) device: D,
+    pub(crate) end: usize,
+    pub(crate) count: usize,
+    pub(crate) batch: Batch,
+}
+
+impl<D: Device> Model for Journal<D> {
+    ghost Value = { Kept D };
+
+    ghost view = { λ j. record { device = j.device; end = j.end; count = j.count; waiting = j.batch } };
+
+    ghost invariant = { λ j. (j.end + length (at_rest j.batch) ≤ 2 ^ 62) × (j.count ≤ j.end) };
+}
+
+impl<D: Device> Journal<D> {
+    /// Lets a record wait for the next commit. The file stays as it is. At an `Err` nothing has changed.
+    pub fn append(&mut self, content: &[u8]) -> Result<(), Fault>
+        ensures ok { OnOk result (self.new ≡ record self.old { waiting = self.old.waiting ++ content.now ∷ [] }) }
+        ensures err { OnErr result (self.new ≡ self.old) }
+        ensures long { IsErrOf result Fault.TooLong ↔ (2 ^ 24 ≤ length content.now) }
+        ensures full { IsErrOf result Fault.Full
+            → 2 ^ 62 < self.old.end + length (at_rest self.old.waiting) + 8 + length content.now }
+        ensures failed { IsErrOf result Fault.Failed → ⊥ }
+    {
+        if content.len() >= RECORD_BYTES_MAX {
+            return Err(Fault::TooLong);
+        }
+        if content.len() + 8 > FILE_BYTES_MAX - self.end - self.batch.bytes().len() {
+            return Err(Fault::Full);
+        }
+        match self.batch.add(content) {
+            Ok(()) => Ok(()),
+            Err(_) => Err(Fault::Memory),
+        }
+    }
+
+    /// Writes the records that wait. At `Ok` they are acknowledged: from then on each crash leaves a file that has
+    /// them. Where none waits the device is not called. It takes no memory of its own. After an `Err` the journal is
+    /// not used again: the file has to be recovered.
+    pub fn commit(&mut self) -> Result<(), Fault>
+        requires { D.tells → IsReady D.disk self.old }
+
+        ensures ready { D.tells → OnOk result (IsReady D.disk self.new) }
+        ensures acknowledged { D.tells → OnOk result
+            (recorded (D.disk self.new.device).seen ≡ recorded (D.disk self.old.device).seen ++ self.old.waiting) }
+        ensures emptied { OnOk result (self.new.waiting ≡ []) }
+        ensures idle { self.old.waiting ≡ [] → (result ≡ Ok tt) × (self.new ≡ self.old) }
+
+        // A crash at any moment of the call leaves the records from before it, with the whole batch or with none of it.
+        ensures any_moment { D.tells → LeavesOnly (D.disk self.old.device) (D.disk self.new.device)
+            (IsBeforeOrAfter (recorded (D.disk self.old.device).seen) self.old.waiting) }
+
+        // It does not give up by itself.
+        ensures cause { D.tells → HasCause result (D.disk self.old.device) (D.disk self.new.device) }
+    {
+        if self.batch.count() == 0 {
+            return Ok(());
+        }
+        match publish(&mut self.device, self.end, self.batch.bytes()) {
+            Ok(()) => {
+                self.end += self.batch.bytes().len() - 1;
+                self.count += self.batch.count();
+                self.batch.clear();
+                Ok(())
+            }
+            Err(fault) => Err(fault),
+        }
+    }
+
+    /// The file.
+    pub fn device(&self) -> &D
+        ensures { result.now ≡ self.now.device }
+    {
+        &self.device
+    }
+
+    /// The number of records in the file.
+    pub fn count(&self) -> usize
+        ensures { result ≡ self.now.count }
+    {
+        self.count
+    }
+
+    /// The number of records that wait.
+    pub fn waiting(&self) -> usize
+        ensures { result ≡ length self.now.waiting }
+    {
+        self.batch.count()
+    }
+}

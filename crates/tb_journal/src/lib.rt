@@ -1,0 +1,27 @@
+//! A journal: records in a file, each on the disk before it counts, and read again after a crash at any moment.
+#![tactic(auto)]
+
+mod batches;
+mod calls;
+mod checksums;
+mod creating;
+mod devices;
+mod faults;
+mod journals;
+mod memory;
+mod opening;
+mod reading;
+mod real;
+mod records;
+mod scanned;
+
+pub use creating::create;
+pub use devices::Device;
+pub use faults::Fault;
+pub use journals::{FILE_BYTES_MAX, Journal, RECORD_BYTES_MAX};
+pub use memory::Memory;
+pub use opening::{NotOpened, OpenFault, read_journal, recover};
+pub use reading::{Extent, Refusal, scan};
+pub use real::{FileFault, Real};
+pub use records::Records;
+pub use scanned::Scanned;

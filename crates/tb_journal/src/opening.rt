@@ -1,0 +1,149 @@
+//! A journal is opened from a file that a crash may have left.
+ghost use Rattle.std.specs.Prelude.{◌≡◌, ◌≤◌, List, ℕ, length, IfOk, IfErr};
+ghost use Rattle.tb_journal.specs.Device.{IsKept, LeavesOnly};
+ghost use Rattle.tb_journal.specs.Contents.{Records, contents, recorded, records_end};
+ghost use Rattle.tb_journal.specs.Steps.{Shortens};
+ghost use Rattle.tb_journal.specs.Opening.{IsAsBefore, StandsForTheSame, HasOpenCause, IsUntouched, IsOpened, ReadsKept, Repairs, device_left, fault_left};
+
+use crate::batches::{Batch, CLOSED};
+use crate::calls::write_kept;
+use crate::devices::Device;
+use crate::faults::Fault;
+use crate::journals::{FILE_BYTES_MAX, Journal};
+use crate::reading::{Extent, Refusal};
+use crate::scanned::Scanned;
+use std::alloc::Global;
+
+/// Why a journal was not opened.
+#[derive(Clone, Copy, Debug, PartialEq, Eq)]
+pub enum OpenFault {
+    /// The file is no journal, or it is damaged. It is as it was.
+    Refused(Refusal),
+    /// A call on the device failed, there is no memory, or the file is at its greatest length.
+    Device(Fault),
+}
+
+/// A device whose file was not opened, and why.
+#[derive(Drop)]
+pub struct NotOpened<D: Device> {
+    pub device: D,
+    pub fault: OpenFault,
+}
+
+// What a read returns is on the disk before it is read.
+pub fn read_kept<D: Device>(alloc: Global, device: &mut D) -> Result<Vec<u8>, Fault>
+    ensures { D.tells → ReadsKept result (D.disk device.old) (D.disk device.new) }
+{
+    match device.sync() {
+        Ok(()) => device.read(alloc),
+        Err(fault) => Err(fault),
+    }
+}
+
+// Cuts, and syncs.
+fn cut_kept<D: Device>(device: &mut D, len: usize) -> Result<(), Fault>
+    requires kept { D.tells → IsKept (D.disk device.old) }
+    requires within { D.tells → len ≤ length (D.disk device.old).seen }
+    ensures { D.tells → Shortens len result (D.disk device.old) (D.disk device.new) }
+{
+    match device.cut(len) {
+        Ok(()) => device.sync(),
+        Err(fault) => Err(fault),
+    }
+}
+
+// Cuts off what stands behind the records, and writes a closed gate there. The cut is on the disk
+// first: behind a gate that is torn open, what was there would count.
+fn repair<D: Device>(device: &mut D, end: usize) -> Result<(), Fault>
+    requires kept { D.tells → IsKept (D.disk device.old) }
+    requires reads { D.tells → contents (D.disk device.old).seen ≡ Records (recorded (D.disk device.old).seen) }
+    requires ends { D.tells → end ≡ records_end (recorded (D.disk device.old).seen) }
+    ensures { D.tells → Repairs result (D.disk device.old) (D.disk device.new) }
+{
+    match cut_kept(device, end) {
+        Ok(()) => write_kept(device, end, &[CLOSED]),
+        Err(fault) => Err(fault),
+    }
+}
+
+/// Reads a journal's file, and writes nothing. What it read is on the disk.
+pub fn read_journal<D: Device>(alloc: Global, device: &mut D) -> Result<Scanned, OpenFault>
+    ensures found { D.tells
+        → IfOk result (λ file. (file ≡ (D.disk device.old).seen) × IsKept (D.disk device.new)) }
+    ensures seen { D.tells → (D.disk device.new).seen ≡ (D.disk device.old).seen }
+    ensures untouched { D.tells
+        → LeavesOnly (D.disk device.old) (D.disk device.new) (IsAsBefore (D.disk device.old)) }
+    ensures cause { D.tells → HasOpenCause result (D.disk device.old) (D.disk device.new) }
+{
+    match read_kept(alloc, device) {
+        Ok(bytes) => match Scanned::new(bytes) {
+            Ok(file) => Ok(file),
+            Err(why) => Err(OpenFault::Refused(why)),
+        },
+        Err(fault) => Err(OpenFault::Device(fault)),
+    }
+}
+
+impl<D: Device> Journal<D> {
+    /// Opens the file that was read: what stands behind its records is cut off. A crash at any
+    /// moment of the call leaves a file of the same records.
+    pub fn open(alloc: Global, device: D, file: &Scanned) -> Result<Journal<D>, NotOpened<D>>
+        requires kept { D.tells → IsKept (D.disk device) }
+        requires read { D.tells → (D.disk device).seen ≡ file.now }
+
+        ensures opened { D.tells → IfOk result (IsOpened D.disk file.now) }
+        ensures any_moment { D.tells
+            → LeavesOnly (D.disk device) (D.disk (device_left result))
+            (λ c. contents c ≡ Records (recorded file.now)) }
+        ensures cause { D.tells → HasOpenCause (fault_left result) (D.disk device) (D.disk (device_left result)) }
+    {
+        let Extent { end, count } = file.extent();
+        if end >= FILE_BYTES_MAX {
+            return Err(NotOpened {
+                device,
+                fault: OpenFault::Device(Fault::Full),
+            });
+        }
+        match Batch::new(alloc) {
+            Ok(batch) => {
+                let mut device = device;
+                match repair(&mut device, end) {
+                    Ok(()) => Ok(Journal {
+                        device,
+                        end,
+                        count,
+                        batch,
+                    }),
+                    Err(fault) => Err(NotOpened {
+                        device,
+                        fault: OpenFault::Device(fault),
+                    }),
+                }
+            }
+            Err(_) => Err(NotOpened {
+                device,
+                fault: OpenFault::Device(Fault::Memory),
+            }),
+        }
+    }
+}
+
+/// Opens a journal from a file that a crash may have left. Its records are those that the file
+/// stands for, and it is ready. A crash at any moment of the call leaves a file of the same
+/// records, so that the call may be made again.
+pub fn recover<D: Device>(alloc: Global, device: D) -> Result<Journal<D>, NotOpened<D>>
+    ensures opened { D.tells → IfOk result (IsOpened D.disk (D.disk device).seen) }
+    ensures any_moment { D.tells
+        → LeavesOnly (D.disk device) (D.disk (device_left result))
+        (StandsForTheSame (D.disk device)) }
+    // A file that is no journal, or is damaged, stays as it was.
+    ensures untouched { D.tells
+        → IfErr result (λ failed. IsUntouched (D.disk device) (D.disk failed.device) failed.fault) }
+    ensures cause { D.tells → HasOpenCause (fault_left result) (D.disk device) (D.disk (device_left result)) }
+{
+    let mut device = device;
+    match read_journal(alloc, &mut device) {
+        Ok(file) => Journal::open(alloc, device, &file),
+        Err(fault) => Err(NotOpened { device, fault }),
+    }
+}

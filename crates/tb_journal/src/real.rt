@@ -1,0 +1,139 @@
+//! A file of the system.
+ghost use Rattle.tb_journal.specs.Real.{untold};
+
+use crate::devices::Device;
+use crate::faults::Fault;
+use std::alloc::Global;
+use std::fs::{File, Files, TryLockError};
+use std::io;
+use std::io::{ErrorKind, Read, Seek, SeekFrom};
+use std::os::fd::AsRawFd;
+use std::os::unix::fs::FileExt;
+
+/// Why a file was not opened.
+#[derive(Debug, Drop)]
+pub enum FileFault {
+    /// Another process has it open.
+    Locked,
+    /// The system's answer.
+    System(io::Error),
+}
+
+impl From<io::Error> for FileFault {
+    fn from(error: io::Error) -> FileFault {
+        FileFault::System(error)
+    }
+}
+
+/// A file of the system, locked as long as it is open. What its calls do no proof knows: they are
+/// trusted to keep what `Device` says.
+#[derive(Drop)]
+pub struct Real {
+    file: File,
+}
+
+impl Real {
+    /// Opens a file that is there.
+    pub fn open<R: Files<File = File>>(rt: &R, path: &str) -> Result<Real, FileFault> {
+        Real::locked(File::options().read(true).write(true).open(rt, path)?)
+    }
+
+    /// Opens a file, and makes it where it is not there; then its name is on the disk.
+    pub fn make<R: Files<File = File>>(rt: &R, path: &str) -> Result<Real, FileFault> {
+        let mut how = File::options();
+        let file = how.read(true).write(true).create(true).open(rt, path)?;
+        let real = Real::locked(file)?;
+        File::open(rt, folder_of(path))?.sync_all()?;
+        Ok(real)
+    }
+
+    fn locked(file: File) -> Result<Real, FileFault> {
+        match file.try_lock() {
+            Ok(()) => {
+                settle(&file)?;
+                Ok(Real { file })
+            }
+            Err(TryLockError::WouldBlock) => Err(FileFault::Locked),
+            Err(TryLockError::Error(error)) => Err(FileFault::System(error)),
+        }
+    }
+}
+
+// Lets the system's copies of the file go: a sync that failed in an earlier process may have left them
+// other than the disk has them.
+fn settle(file: &File) -> io::Result<()> {
+    file.sync_all()?;
+    let answer = libc::posix_fadvise(file.as_raw_fd(), 0, 0, libc::POSIX_FADV_DONTNEED);
+    if answer == 0 {
+        Ok(())
+    } else {
+        Err(io::Error::from_raw_os_error(answer))
+    }
+}
+
+// The folder that a file lies in.
+fn folder_of(path: &str) -> &str {
+    match path.rfind('/') {
+        Some(0) => "/",
+        Some(at) => &path[..at],
+        None => ".",
+    }
+}
+
+impl Device for Real {
+    ghost tells = { ⊥ };
+
+    ghost disk = { λ _. untold };
+
+    ghost counts_now = { λ _ t c le now. now };
+
+    ghost only_now = { λ _ c left. left };
+
+    fn read(&mut self, alloc: Global) -> Result<Vec<u8>, Fault> {
+        let mut bytes = Vec::new(alloc);
+        match read_all(&mut self.file, &mut bytes) {
+            Ok(()) => Ok(bytes),
+            Err(error) => Err(fault_of(&error)),
+        }
+    }
+
+    fn len(&mut self) -> Result<usize, Fault> {
+        match self.file.metadata() {
+            Ok(metadata) => Ok(metadata.len() as usize),
+            Err(error) => Err(fault_of(&error)),
+        }
+    }
+
+    fn write_at(&mut self, at: usize, bytes: &[u8]) -> Result<(), Fault> {
+        told(self.file.write_all_at(bytes, at as u64))
+    }
+
+    fn cut(&mut self, len: usize) -> Result<(), Fault> {
+        told(self.file.set_len(len as u64))
+    }
+
+    fn sync(&mut self) -> Result<(), Fault> {
+        told(self.file.sync_data())
+    }
+}
+
+fn read_all(file: &mut File, bytes: &mut Vec<u8>) -> io::Result<()> {
+    file.seek(SeekFrom::Start(0))?;
+    file.read_to_end(bytes)?;
+    Ok(())
+}
+
+fn told(answer: io::Result<()>) -> Result<(), Fault> {
+    match answer {
+        Ok(()) => Ok(()),
+        Err(error) => Err(fault_of(&error)),
+    }
+}
+
+fn fault_of(error: &io::Error) -> Fault {
+    match error.kind() {
+        ErrorKind::OutOfMemory => Fault::Memory,
+        ErrorKind::StorageFull | ErrorKind::QuotaExceeded | ErrorKind::FileTooLarge => Fault::Full,
+        _ => Fault::Failed,
+    }
+}

@@ -1,0 +1,92 @@
+//! What is read again after a crash, at each moment and with each tear of a small run.
+use crate::steps::{ONE_RECORD, THREE_RECORDS, commit_two, opened};
+use std::alloc::Global;
+use std::process::Abort;
+use std::test::Fail;
+use tb_journal::{Memory, recover};
+
+/// What a torn write leaves in its range: bytes of the batch, zeros, and ones.
+const BLOCKS: [u8; 22] = [
+    0, 0, 0, 0x7a, 0xa3, 0x64, 0x60, //
+    255, 6, 0, 0, 0x53, 0x98, 0x6c, 0xa5, 115, 101, 99, 111, 110, 100, //
+    0,
+];
+
+const ZEROS: [u8; 22] = [0; 22];
+
+const ONES: [u8; 22] = [255; 22];
+
+/// Opens what a crash leaves, and says how many records it has: one, or the whole batch as well.
+fn records_after(
+    rt: &impl Abort,
+    alloc: Global,
+    file: &Memory,
+    moment: usize,
+    torn: &[u8],
+) -> usize {
+    assert!(rt; moment <= file.moments());
+    let left = file.after_crash(moment, torn).expect(rt, "memory");
+    let again = Memory::new(alloc, left).expect(rt, "memory");
+    let journal = recover(alloc, again).ok().expect(rt, "a journal");
+    let bytes = journal.device().bytes();
+    // Any byte but 0 is an open gate, and stays as it was.
+    let is_whole = bytes.get(..18) == THREE_RECORDS.get(..18)
+        && bytes.get(19..) == THREE_RECORDS.get(19..);
+    assert!(rt; bytes == ONE_RECORD.as_slice() || is_whole);
+    journal.count()
+}
+
+/// A crash at a moment leaves so many records at least, and so many at most, however the last write is torn.
+pub(crate) fn expect_records(
+    rt: &impl Abort,
+    alloc: Global,
+    file: &Memory,
+    moment: usize,
+    least: usize,
+    most: usize,
+) {
+    for bytes in [&BLOCKS, &ZEROS, &ONES] {
+        for len in 0..=22 {
+            let (torn, _) = bytes.split_at(len);
+            let count = records_after(rt, alloc, file, moment, torn);
+            assert!(rt;
+                least <= count && count <= most,
+                "{count} records at moment {moment}"
+            );
+        }
+    }
+}
+
+#[test]
+fn a_crash_leaves_the_whole_batch_or_none_of_it(rt: HostRuntime) -> Result<(), Fail> {
+    let alloc = rt.alloc();
+    let mut journal = opened(alloc, &ONE_RECORD).expect(&rt, "a journal");
+    let begin = journal.device().moments();
+    assert!(rt; commit_two(&mut journal) == Ok(()));
+    let file = journal.device();
+    assert!(rt; file.moments() == begin + 4);
+    // Before the write of the blocks, behind it, and behind the sync.
+    expect_records(&rt, alloc, file, begin, 1, 1);
+    expect_records(&rt, alloc, file, begin + 1, 1, 1);
+    expect_records(&rt, alloc, file, begin + 2, 1, 1);
+    // Behind the write of the gate, and behind its sync.
+    expect_records(&rt, alloc, file, begin + 3, 1, 3);
+    expect_records(&rt, alloc, file, begin + 4, 3, 3);
+    Ok(())
+}
+
+#[test]
+fn an_open_gate_counts_with_all_its_batch(rt: HostRuntime) -> Result<(), Fail> {
+    let alloc = rt.alloc();
+    let mut journal = opened(alloc, &ONE_RECORD).expect(&rt, "a journal");
+    assert!(rt; commit_two(&mut journal) == Ok(()));
+    let gate = journal.device().moments().saturating_sub(1);
+    for byte in 0..=255u8 {
+        let count = records_after(&rt, alloc, journal.device(), gate, &[byte]);
+        assert!(rt;
+            (count == 1) == (byte == 0),
+            "{count} records behind the gate {byte}"
+        );
+    }
+    Ok(())
+}

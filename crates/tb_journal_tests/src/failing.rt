@@ -1,0 +1,52 @@
+//! A device that fails at one call.
+use crate::crashes::expect_records;
+use crate::steps::{ONE_RECORD, commit_two};
+use std::alloc::Global;
+use std::process::Abort;
+use std::test::Fail;
+use tb_journal::{Fault, Memory, OpenFault, recover};
+
+/// Opens a journal of one record and commits two more, over a device whose call of this number fails. Says which step
+/// failed: the first is to open it, and none is the third.
+fn failed_step(rt: &impl Abort, alloc: Global, number: u64) -> usize {
+    let bytes = Vec::from_slice(alloc, &ONE_RECORD).expect(rt, "memory");
+    let mut file = Memory::new(alloc, bytes).expect(rt, "memory");
+    file.fail_at(number);
+    match recover(alloc, file) {
+        Ok(journal) => {
+            let mut journal = journal;
+            let committed = commit_two(&mut journal);
+            let file = journal.device();
+            let moments = file.moments();
+            if committed == Ok(()) {
+                expect_records(rt, alloc, file, moments, 3, 3);
+                return 3;
+            }
+            assert!(rt; committed == Err(Fault::Failed));
+            expect_records(rt, alloc, file, moments, 1, 3);
+            2
+        }
+        Err(failed) => {
+            assert!(rt; failed.fault == OpenFault::Device(Fault::Failed));
+            let moments = failed.device.moments();
+            expect_records(rt, alloc, &failed.device, moments, 1, 1);
+            1
+        }
+    }
+}
+
+#[test]
+fn each_call_of_a_small_run_fails_once(rt: HostRuntime) -> Result<(), Fail> {
+    let alloc = rt.alloc();
+    // To open a journal takes a sync, a read, a cut, a sync, a write and a sync.
+    for number in 1..=6 {
+        assert!(rt; failed_step(&rt, alloc, number) == 1, "call {number}");
+    }
+    // A commit takes a write, a sync, a write and a sync.
+    for number in 7..=10 {
+        assert!(rt; failed_step(&rt, alloc, number) == 2, "call {number}");
+    }
+    assert!(rt; failed_step(&rt, alloc, 11) == 3);
+    assert!(rt; failed_step(&rt, alloc, 0) == 3);
+    Ok(())
+}

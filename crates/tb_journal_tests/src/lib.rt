@@ -1,0 +1,13 @@
+//! Journals over a file in memory: worked rows, byte for byte, and what a crash or a call that fails leaves.
+#![tactic(auto)]
+
+#[cfg(test)]
+mod crashes;
+#[cfg(test)]
+mod failing;
+#[cfg(test)]
+mod files;
+#[cfg(test)]
+mod rows;
+#[cfg(test)]
+mod steps;

@@ -1,0 +1,52 @@
+//! Steps on a journal over a file in memory, and the bytes of small journals.
+ghost use Rattle.std.specs.Prelude.{◌≡◌, IfOk, IfSome, OnOk};
+ghost use Rattle.tb_journal.specs.Memory.{memory_disk};
+ghost use Rattle.tb_journal.specs.Ready.{IsReady};
+
+use std::alloc::Global;
+use tb_journal::{Fault, Journal, Memory, recover};
+
+/// The file of a journal without records: `TBJRNL01`, and a closed gate.
+pub(crate) const NO_RECORDS: [u8; 9] = [84, 66, 74, 82, 78, 76, 48, 49, 0];
+
+/// One record, `ab`. The checksum of `02 00 00 61 62` is 2693f789.
+pub(crate) const ONE_RECORD: [u8; 19] = [
+    84, 66, 74, 82, 78, 76, 48, 49, //
+    255, 2, 0, 0, 0x89, 0xf7, 0x93, 0x26, 97, 98, //
+    0,
+];
+
+/// The records `ab`, an empty one, and `second`.
+pub(crate) const THREE_RECORDS: [u8; 41] = [
+    84, 66, 74, 82, 78, 76, 48, 49, //
+    255, 2, 0, 0, 0x89, 0xf7, 0x93, 0x26, 97, 98, //
+    255, 0, 0, 0, 0x7a, 0xa3, 0x64, 0x60, //
+    255, 6, 0, 0, 0x53, 0x98, 0x6c, 0xa5, 115, 101, 99, 111, 110, 100, //
+    0,
+];
+
+/// Opens a journal's file, of which all bytes are on the disk.
+pub(crate) fn opened(alloc: Global, bytes: &[u8]) -> Option<Journal<Memory>>
+    ensures { IfSome result (IsReady memory_disk) }
+{
+    let file = Memory::new(alloc, Vec::from_slice(alloc, bytes).ok()?).ok()?;
+    recover(alloc, file).ok()
+}
+
+/// Lets a record wait.
+pub(crate) fn wait(journal: &mut Journal<Memory>, record: &[u8]) -> Result<(), Fault>
+    requires { IsReady memory_disk journal.old }
+    ensures { OnOk result (IsReady memory_disk journal.new) }
+{
+    journal.append(record)
+}
+
+/// Commits an empty record, and `second`, as one batch.
+pub(crate) fn commit_two(journal: &mut Journal<Memory>) -> Result<(), Fault>
+    requires { IsReady memory_disk journal.old }
+    ensures { OnOk result (IsReady memory_disk journal.new) }
+{
+    wait(journal, &[])?;
+    wait(journal, &[115, 101, 99, 111, 110, 100])?;
+    journal.commit()
+}
