@@ -1,12 +1,12 @@
 -- One more call joins those that a file in memory has had.
-use Rattle.std.proofs.Common.{◌≡◌, ◌⊎◌, inl, inr, ⊎_elim, ℕ, ◌+◌, ◌≤◌, ◌<◌, ◌-◌, ◌==◌, List, [], ◌∷◌, ◌++◌, length, take, refl, sym, ◌∙◌, ap, subst, arith, reverse, drop, get_or, length-append, length-drop, length-take, Result, Ok, Err, if◌then◌else◌, Bool, true, false}
-use Rattle.std.proofs.lemmas.List.{take_all, take_at, drop_at, take_more, take_min, length-take-le, take-append-le, reverse-append}
+use Rattle.std.proofs.Common.{◌≡◌, ◌⊎◌, inl, inr, ⊎_elim, ℕ, ◌+◌, ◌≤◌, ◌<◌, ◌-◌, ◌==◌, List, [], ◌∷◌, ◌++◌, length, take, refl, sym, ◌∙◌, ap, subst, arith, reverse, get_or, length-append, length-take, Ok, Err, if◌then◌else◌, true}
+use Rattle.std.proofs.lemmas.List.{take_all, take_more, take_min, take-append-le, reverse-append}
 use Rattle.std.proofs.lemmas.Bool.{cases_lt}
 use Rattle.std.proofs.lemmas.Bool.Decides.{nat_tests}
-use Rattle.tb_journal.specs.Device.{Disk, Elapses, Torn, Cut, Only, HasCause, Writes, Cuts, Syncs, overwritten}
+use Rattle.tb_journal.specs.Device.{Elapses, Torn, Cut, HasCause, Writes, Cuts, Syncs, overwritten}
 use Rattle.tb_journal.specs.Torn.{Adds}
 use Rattle.tb_journal.specs.Memory.{LeftBy, disk_after}
-use Rattle.std.specs.Prelude.{Vec, min}
+use Rattle.std.specs.Prelude.{Vec}
 use Rattle.std.specs.declared.alloc.Global.{Global}
 use Rattle.tb_journal.specs.declared.memory.Call.{Call}
 use Rattle.tb_journal.specs.declared.memory.Call.TheVariants as variants

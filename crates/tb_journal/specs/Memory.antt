@@ -1,6 +1,6 @@
 -- What a crash may leave of a file in memory, by the calls that were made.
-use Rattle.std.specs.Prelude.{◌≡◌, ℕ, ◌≤◌, ◌-◌, ◌==◌, List, [], ◌∷◌, length, take, reverse, refl, if◌then◌else◌}
-use Rattle.std.proofs.Common.{arith, subst, ap, sym, ◌∙◌}
+use Rattle.std.specs.Prelude.{◌≡◌, ℕ, ◌≤◌, ◌==◌, List, [], ◌∷◌, length, take, reverse, if◌then◌else◌}
+use Rattle.std.proofs.Common.{arith, subst, sym}
 use Rattle.std.proofs.lemmas.List.{take_all}
 use Rattle.tb_journal.specs.Device.{Disk}
 use Rattle.tb_journal.specs.Torn.{Adds}
