@@ -10,8 +10,8 @@ use Rattle.tb_machine.specs.Runs.{answer_bytes, Turns}
 use Rattle.tb_embed.specs.Filling.{Fills}
 
 -- a room as a writer: what was written begins with its name
-abbrev room_output : ℕ → ℕ → List ℕ → ℕ → Bool → Output
-room_output name at bytes stalls halted = record { written = Some (name ∷ take at bytes); failed = 0; stalled = stalls; halted = halted }
+abbrev room_output : ℕ → ℕ → List ℕ → ℕ → Bool → Bool → Output
+room_output name at bytes stalls halted held = record { written = Some (name ∷ take at bytes); failed = 0; stalled = stalls; halted = halted; held = held }
 
 named_same : (named name : ℕ) (front bytes : List ℕ) → named ∷ front ≡ name ∷ bytes → (named ≡ name) × (front ≡ bytes)
 named_same named name front bytes e = (ap head_of e, ap tail_of e)
@@ -25,16 +25,16 @@ named_same named name front bytes e = (ap head_of e, ap tail_of e)
     tail_of (x ∷ xs) = xs
 
 -- a room before and after; the caller's bytes are the room's where its name is still that of the caller's reference
-module _ (lent name named empty at stalled stalls : ℕ) (was is : Bool) (start room bytes : List ℕ) (S T : State) (p : Pair)
+module _ (lent name named empty at stalled stalls : ℕ) (was is kept held : Bool) (start room bytes : List ℕ) (S T : State) (p : Pair)
     (same : name ≡ lent) (at_start : empty ≡ 0) (within : at ≤ length room) (full : is ≡ true → at ≡ length room) (back : lent ≡ named → bytes ≡ room) where
   abbrev Served : Result (Unit {0}) RunFault → Type 0
-  Served result = Turns result S T p (room_output name empty start stalled was) (room_output named at room stalls is)
+  Served result = Turns result S T p (room_output name empty start stalled was kept) (room_output named at room stalls is held)
 
   abbrev Begun : Result (Unit {0}) RunFault → Type 0
-  Begun result = Turns result S T p (room_output name 0 start stalled was) (room_output named at room stalls is)
+  Begun result = Turns result S T p (room_output name 0 start stalled was kept) (room_output named at room stalls is held)
 
   begun : (result : Result (Unit {0}) RunFault) → Served result → Begun result
-  begun result turn = subst (λ (n : ℕ). Turns result S T p (room_output name n start stalled was) (room_output named at room stalls is)) at_start turn
+  begun result turn = subst (λ (n : ℕ). Turns result S T p (room_output name n start stalled was kept) (room_output named at room stalls is held)) at_start turn
 
   bytes_are : named ≡ name → room ≡ bytes
   bytes_are e = sym (back (sym (e ∙ same)))

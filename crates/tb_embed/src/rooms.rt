@@ -13,6 +13,8 @@ pub(crate) struct Room<'a> {
     stalls: u64,
     // Says that nothing was taken the last time, of bytes that were offered.
     halted: bool,
+    // Says that bytes were taken since the last time that they were passed on.
+    held: bool,
     ghost within: { at ≤ length bytes.now },
     ghost full: { halted ≡ true → at ≡ length bytes.now },
 }
@@ -28,6 +30,7 @@ impl<'a> Room<'a> {
             at: 0,
             stalls: 0,
             halted: false,
+            held: false,
         }
     }
 
@@ -41,7 +44,7 @@ impl<'a> Room<'a> {
 
 // What was written begins with the name of the caller's reference, so that a room after writing is known as the room before.
 impl Sink for Room<'_> {
-    ghost output = { λ r. record { written = Some (r.bytes.ghost_name ∷ take r.at r.bytes.now); failed = 0; stalled = r.stalls; halted = r.halted } };
+    ghost output = { λ r. record { written = Some (r.bytes.ghost_name ∷ take r.at r.bytes.now); failed = 0; stalled = r.stalls; halted = r.halted; held = r.held } };
 
     fn put(&mut self, bytes: &[u8]) -> io::Result<usize> {
         let count = bytes.len().min(self.bytes.len() - self.at);
@@ -51,10 +54,17 @@ impl Sink for Room<'_> {
             self.stalls = self.stalls.saturating_add(1);
         }
         self.at += count;
+        if count > 0 {
+            self.held = true;
+        }
         Ok(count)
     }
 
     fn failures(&self) -> u64 {
         0
+    }
+
+    fn pass_on(&mut self) {
+        self.held = false;
     }
 }

@@ -201,8 +201,9 @@ replaying_passed profile clients_max k S before middle first written passed r on
 
 -- what ends a replay
 
-pub replay_ended : (profile : Profile) (clients_max k n : ℕ) (S T : State) (before middle after : Input) (first written next : Output) → Replaying profile clients_max k S before middle first written → n ≡ T.commit → ReplaysOn (Ok false) S T middle after written next → Replayed (Ok n) before after first next
-replay_ended profile clients_max k n S T before middle after first written next r is ends = record {
+-- at the end nothing more was written, and what was written was passed on
+pub replay_ended : (profile : Profile) (clients_max k n : ℕ) (S T : State) (before middle after : Input) (first written next passed : Output) → Replaying profile clients_max k S before middle first written → n ≡ T.commit → ReplaysOn (Ok false) S T middle after written next → Sent [] next passed → Replayed (Ok n) before after first passed
+replay_ended profile clients_max k n S T before middle after first written next passed r is ends on = record {
   profile = profile;
   clients_max = clients_max;
   history = r.history;
@@ -210,7 +211,7 @@ replay_ended profile clients_max k n S T before middle after first written next 
   middle = middle;
   made = written;
   has_replayed = r.has_replayed;
-  ended = (sym r.count ∙ sym (ap (λ (V : State). V.commit) ends.0) ∙ sym is, ends.1, subst (λ (o : Output). Sent [] written o) (sym ends.2) (sends_none written));
+  ended = (sym r.count ∙ sym (ap (λ (V : State). V.commit) ends.0) ∙ sym is, ends.1, subst (λ (o : Output). Sent [] o passed) ends.2 on);
 }
 
 pub replay_stopped : (f : DumpFault) (profile : Profile) (clients_max k : ℕ) (S T : State) (before middle after : Input) (first written next : Output) → Replaying profile clients_max k S before middle first written → ReplaysOn (Err f) S T middle after written next → Replayed (Err f) before after first next

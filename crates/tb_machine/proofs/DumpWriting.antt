@@ -304,14 +304,17 @@ module _ (clients_max : ℕ) (at : Option ℕ) where
 
   -- what ends a dump
 
-  pub dump_ended : (k n : ℕ) (S T : State) (before middle after : Input) (first written next : Output) → Dumping k S before middle first written → n ≡ T.commit → DumpsOn (Ok false) at S T middle after written next → DumpRan clients_max at (Ok n) before after first next
-  dump_ended k n S T before middle after first written next d is ends = inr (record {
-    pairs = d.pairs;
-    middle = middle;
-    made = written;
-    has_dumped = d.has_dumped;
-    ended = (sym d.count ∙ sym (ap (λ (V : State). V.commit) ends.0) ∙ sym is, ends.1);
-  })
+  -- at the end nothing more was written, and what was written was passed on
+  pub dump_ended : (k n : ℕ) (S T : State) (before middle after : Input) (first written next passed : Output) → Dumping k S before middle first written → n ≡ T.commit → DumpsOn (Ok false) at S T middle after written next → Sent [] next passed → DumpRan clients_max at (Ok n) before after first passed
+  dump_ended k n S T before middle after first written next passed d is ends on =
+      let all = dumping_passed k S before middle first written passed d (subst (λ (o : Output). Sent [] o passed) ends.1.silent on) in
+      inr (record {
+        pairs = all.pairs;
+        middle = middle;
+        made = passed;
+        has_dumped = all.has_dumped;
+        ended = (sym all.count ∙ sym (ap (λ (V : State). V.commit) ends.0) ∙ sym is, record { answer = ends.1.answer; counted = ends.1.counted; silent = refl });
+      })
 
   stopped : (f : RunFault) (S T : State) (ps : List Pair) (middle after : Input) (written next : Output) → S ≡ after_at One clients_max at (history_of clients_max at ps) → DumpStops f at S T middle after written next → DumpedTo clients_max at (Err f) ps middle after written next
   stopped (fault.Frame f) S T ps middle after written next is stops = (T, subst (λ (V : State). DumpStops (fault.Frame f) at V T middle after written next) is stops)

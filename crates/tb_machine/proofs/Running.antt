@@ -146,8 +146,11 @@ module _ (profile : Profile) (clients_max : ℕ) where
 
   -- what ends a run
 
-  pub ran_out : (k : ℕ) (S T : State) (before middle after : Input) (first written next : Output) → Serving k S before middle first written → Serves (Ok false) S T middle after written next → Ran profile clients_max (Ok k) before after first next
-  ran_out k S T before middle after first written next s e = record { pairs = s.pairs; middle = middle; replied = written; served = s.served; ended = (s.long, e) }
+  -- at the end nothing more was written, and what was written was passed on
+  pub ran_out : (k : ℕ) (S T : State) (before middle after : Input) (first written next passed : Output) → Serving k S before middle first written → Serves (Ok false) S T middle after written next → Sent [] next passed → Ran profile clients_max (Ok k) before after first passed
+  ran_out k S T before middle after first written next passed s e on =
+      let all = serving_passed k S before middle first written passed s (subst (λ (o : Output). Sent [] o passed) e.silent on) in
+      record { pairs = all.pairs; middle = middle; replied = passed; served = all.served; ended = (all.long, record { answer = e.answer; counted = e.counted; silent = refl }) }
 
   ends_by : (f : RunFault) (ps : List Pair) (T : State) (middle after : Input) (written next : Output) → Serves (Err f) (state_after profile clients_max ps) T middle after written next → EndsBy profile clients_max f ps middle after written next
   ends_by (fault.Frame f) ps T middle after written next (inl unread) = inl unread

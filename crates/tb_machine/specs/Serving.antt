@@ -2,12 +2,20 @@
 use Rattle.std.specs.Prelude.{Bool, true, false, ◌≡◌, ◌⊎◌, ℕ, List, [], ◌∷◌, Result, Ok, Err, MatchResult}
 use Rattle.tb_records.specs.declared.faults.FrameFault.{FrameFault}
 use Rattle.tb_records.specs.declared.faults.FrameFault.TheVariants.{Device}
+use Rattle.tb_records.specs.AtHand.{holds_pair, holds_item}
 use Rattle.tb_records.specs.Transport.{Input, Output, Sent, CutOff}
 use Rattle.tb_machine.specs.declared.serving.RunFault.{RunFault}
 use Rattle.tb_machine.specs.declared.serving.RunFault.TheVariants as fault
 use Rattle.tb_machine.specs.Histories.{State, step}
 use Rattle.tb_machine.specs.Scripts.{Pair, entry_of, has_time}
 use Rattle.tb_machine.specs.Runs.{Reads, Turns, Unread, Ends}
+
+-- nothing is held back where the next pair, or the next item of a dump, may have to be waited for
+abbrev pub IsPromptForPair : Input → Output → Type 0
+IsPromptForPair input output = holds_pair input.at_hand ≡ false → output.held ≡ false
+
+abbrev pub IsPromptForItem : Input → Output → Type 0
+IsPromptForItem input output = holds_item input.at_hand ≡ false → output.held ≡ false
 
 -- the bytes were written, or the device failed and left a beginning of them
 abbrev pub Told : Result (Unit {0}) FrameFault → List ℕ → Output → Output → Type 0

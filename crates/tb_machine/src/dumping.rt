@@ -1,5 +1,5 @@
 //! The dump of a script: its new requests are executed, and the history that they make is written.
-ghost use Rattle.std.specs.Prelude.{◌≡◌, ◌++◌, true, MatchResult, Some};
+ghost use Rattle.std.specs.Prelude.{◌≡◌, ◌++◌, true, false, IfOk, MatchResult, Some};
 ghost use Rattle.std.specs.Option.{is_some};
 ghost use Rattle.tb_records.specs.declared.limits.Profile.TheVariants.{One};
 ghost use Rattle.tb_records.specs.DumpBytes.{head_bytes, entry_bytes, IsClients};
@@ -7,6 +7,7 @@ ghost use Rattle.tb_records.specs.Transport.{Sent, CutOff};
 ghost use Rattle.tb_ledger.specs.Books.{profile_of};
 ghost use Rattle.tb_sessions.specs.Judged.{class_of, row_of};
 ghost use Rattle.tb_machine.specs.DumpRuns.{mark_before, marks_at, turned, DumpRan, DumpsOn, DumpsPair, Written};
+ghost use Rattle.tb_machine.specs.Serving.{IsPromptForPair};
 
 use crate::machines::Machine;
 use crate::serving::{RunFault, enter, pass_on_before_waiting};
@@ -124,7 +125,8 @@ fn dump_pair<W: Sink>(
     }
 }
 
-/// Dumps the next pair of a script: false where there is none.
+/// Dumps the next pair of a script: false where there is none. The reader is asked only where nothing is held back, or a
+/// whole pair is at hand.
 fn dump_next<R: Source, W: Sink>(
     alloc: Global,
     machine: &mut Machine<Global>,
@@ -132,7 +134,8 @@ fn dump_next<R: Source, W: Sink>(
     reader: &mut R,
     writer: &mut W,
 ) -> Result<bool, RunFault>
-    requires { marks_at at machine.old.commit ≡ true → profile_of machine.old.books ≡ Profile.One }
+    requires by_one { marks_at at machine.old.commit ≡ true → profile_of machine.old.books ≡ Profile.One }
+    requires prompt { IsPromptForPair (R.input reader.old) (W.output writer.old) }
     ensures { DumpsOn result at machine.old machine.new (R.input reader.old) (R.input reader.new) (W.output writer.old) (W.output writer.new) }
 {
     let Some((moment, request)) = read_timed_from(alloc, reader)? else {
@@ -144,7 +147,7 @@ fn dump_next<R: Source, W: Sink>(
 
 /// Serves a script by profile 1, and writes the history that it makes as a dump: a head, and the entry of each new request.
 /// Where `at` is given, a mark is written directly before the first entry whose commit number is above it, and from that
-/// request on profile 2 serves. Answers the number of entries written. The head is written before the script is read. On a
+/// request on profile 2 serves. Answers the number of entries written, of which none is held back any more. The head is written before the script is read. On a
 /// fault the entries of all earlier pairs are written, and the rest of the script is unread; where the writer failed, a
 /// beginning of what is next was written too.
 pub fn dump<R: Source, W: Sink>(
@@ -154,7 +157,8 @@ pub fn dump<R: Source, W: Sink>(
     reader: &mut R,
     writer: &mut W,
 ) -> Result<u64, RunFault>
-    ensures { DumpRan clients_max at result (R.input reader.old) (R.input reader.new) (W.output writer.old) (W.output writer.new) }
+    ensures ran { DumpRan clients_max at result (R.input reader.old) (R.input reader.new) (W.output writer.old) (W.output writer.new) }
+    ensures passed { IfOk result (λ _. (W.output writer.new).held ≡ false) }
 {
     let mut machine = Machine::new_in(alloc, alloc, Profile::One, clients_max)?;
     match write_head(writer, clients_max) {
@@ -176,6 +180,7 @@ pub fn dump<R: Source, W: Sink>(
         if !more {
             let entries = machine.commit();
             drop(machine);
+            writer.pass_on();
             return Ok(entries);
         }
     }

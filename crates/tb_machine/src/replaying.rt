@@ -1,16 +1,17 @@
 //! The replay of a dump: its history is checked entry by entry, and the reply to each is written.
-ghost use Rattle.std.specs.Prelude.{◌≡◌, [], MatchResult};
+ghost use Rattle.std.specs.Prelude.{◌≡◌, [], false, IfOk, MatchResult};
 ghost use Rattle.tb_records.specs.Transport.{Sent};
 ghost use Rattle.tb_ledger.specs.Books.{profile_of};
 ghost use Rattle.tb_machine.specs.Histories.{to_two};
 ghost use Rattle.tb_machine.specs.Replays.{EntersNext, ReplayRan, ReplaysEntry, ReplaysOn};
+ghost use Rattle.tb_machine.specs.Serving.{IsPromptForItem};
 
 use crate::entries::Entry;
 use crate::machines::Machine;
 use crate::serving::stored;
 use std::alloc::Global;
-use tb_records::dumps::{read_head_from, read_item_from};
-use tb_records::{DumpFault, DumpItem, Profile, Sink, Source, holds_frame, send_reply};
+use tb_records::dumps::{holds_item, read_head_from, read_item_from};
+use tb_records::{DumpFault, DumpItem, Profile, Sink, Source, send_reply};
 
 /// Enters an entry, where it may come next.
 fn enter_next(machine: &mut Machine<Global>, entry: Entry) -> Result<(), DumpFault>
@@ -51,13 +52,15 @@ fn replay_mark(machine: &mut Machine<Global>) -> Result<(), DumpFault>
     }
 }
 
-/// Replays what stands next in a dump: false where nothing does.
+/// Replays what stands next in a dump: false where nothing does. The reader is asked only where nothing is held back, or
+/// a whole item is at hand.
 fn replay_next<R: Source, W: Sink>(
     alloc: Global,
     machine: &mut Machine<Global>,
     reader: &mut R,
     writer: &mut W,
 ) -> Result<bool, DumpFault>
+    requires { IsPromptForItem (R.input reader.old) (W.output writer.old) }
     ensures { ReplaysOn result machine.old machine.new (R.input reader.old) (R.input reader.new) (W.output writer.old) (W.output writer.new) }
 {
     match read_item_from(alloc, reader)? {
@@ -81,14 +84,10 @@ fn replay_next<R: Source, W: Sink>(
     Ok(true)
 }
 
-/// Says that bytes begin with a whole mark or entry.
-fn holds_item(bytes: &[u8]) -> bool {
-    bytes.len() >= 16 && (bytes[..8] == [0; 8] || holds_frame(&bytes[16..]))
-}
-
 /// Gives out the replies where the next item of a dump may have to be waited for.
 fn pass_on_before_item<R: Source, W: Sink>(reader: &R, writer: &mut W)
-    ensures { Sent [] (W.output writer.old) (W.output writer.new) }
+    ensures sent { Sent [] (W.output writer.old) (W.output writer.new) }
+    ensures prompt { IsPromptForItem (R.input reader.now) (W.output writer.new) }
 {
     if !holds_item(reader.at_hand()) {
         writer.pass_on();
@@ -96,14 +95,15 @@ fn pass_on_before_item<R: Source, W: Sink>(reader: &R, writer: &mut W)
 }
 
 /// Replays a dump: reads its head and its entries one by one, enters each that may come next into a machine, writes the
-/// reply to it, and answers the number of replies written. On a fault the replies to all earlier entries are written, and
+/// reply to it, and answers the number of replies written, of which none is held back any more. On a fault the replies to all earlier entries are written, and
 /// the rest of the dump is unread; where the writer failed, a beginning of the next reply was written too.
 pub fn replay<R: Source, W: Sink>(
     alloc: Global,
     reader: &mut R,
     writer: &mut W,
 ) -> Result<u64, DumpFault>
-    ensures { ReplayRan result (R.input reader.old) (R.input reader.new) (W.output writer.old) (W.output writer.new) }
+    ensures ran { ReplayRan result (R.input reader.old) (R.input reader.new) (W.output writer.old) (W.output writer.new) }
+    ensures passed { IfOk result (λ _. (W.output writer.new).held ≡ false) }
 {
     let head = read_head_from(reader)?;
     let mut machine = Machine::new_in(alloc, alloc, head.profile, head.clients_max)?;
@@ -119,6 +119,7 @@ pub fn replay<R: Source, W: Sink>(
         if !more {
             let replies = machine.commit();
             drop(machine);
+            writer.pass_on();
             return Ok(replies);
         }
     }

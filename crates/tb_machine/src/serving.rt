@@ -1,5 +1,5 @@
 //! The serving of a script: moments and requests are read, executed and answered, one after another.
-ghost use Rattle.std.specs.Prelude.{◌≡◌, ◌≢◌, true, false, [], IsTrue, MatchResult, Some};
+ghost use Rattle.std.specs.Prelude.{◌≡◌, ◌≢◌, true, false, [], IfOk, IsTrue, MatchResult, Some};
 ghost use Rattle.std.specs.Option.{is_some, option_map};
 ghost use Rattle.tb_records.specs.Messages.{IsLawful};
 ghost use Rattle.tb_records.specs.ReplyFrames.{reply_bytes};
@@ -9,7 +9,7 @@ ghost use Rattle.tb_machine.specs.Histories.{status_of, answer_to, fits};
 ghost use Rattle.tb_machine.specs.RunFaults.{run_fault_number, run_fault_name};
 ghost use Rattle.tb_machine.specs.Runs.{is_new_in, Turns, Ran};
 ghost use Rattle.tb_machine.specs.Scripts.{entry_of, has_time};
-ghost use Rattle.tb_machine.specs.Serving.{Enters, Delivers, Serves};
+ghost use Rattle.tb_machine.specs.Serving.{Enters, Delivers, IsPromptForPair, Serves};
 
 use crate::entries::Entry;
 use crate::machines::Machine;
@@ -17,7 +17,7 @@ use std::alloc::{AllocError, Global};
 use std::fmt;
 use tb_records::streams::read_timed_from;
 use tb_records::{
-    ClientsMax, FrameFault, Profile, Reply, Request, Sink, Source, Status, holds_frame, send_reply,
+    ClientsMax, FrameFault, Profile, Reply, Request, Sink, Source, Status, holds_pair, send_reply,
 };
 use tb_sessions::{Class, Row};
 use thiserror::Error;
@@ -213,13 +213,15 @@ pub fn serve_pair<W: Sink>(
     }
 }
 
-/// Serves the next pair of a script: false where there is none.
+/// Serves the next pair of a script: false where there is none. The reader is asked only where nothing is held back, or a
+/// whole pair is at hand.
 fn serve_next<R: Source, W: Sink>(
     alloc: Global,
     machine: &mut Machine<Global>,
     reader: &mut R,
     writer: &mut W,
 ) -> Result<bool, RunFault>
+    requires { IsPromptForPair (R.input reader.old) (W.output writer.old) }
     ensures { Serves result machine.old machine.new (R.input reader.old) (R.input reader.new) (W.output writer.old) (W.output writer.new) }
 {
     let Some((moment, request)) = read_timed_from(alloc, reader)? else {
@@ -229,15 +231,11 @@ fn serve_next<R: Source, W: Sink>(
     Ok(true)
 }
 
-/// Says that bytes begin with a whole pair of a moment and a request frame.
-fn holds_pair(bytes: &[u8]) -> bool {
-    bytes.len() >= 8 && holds_frame(&bytes[8..])
-}
-
 /// Gives out what is answered where the next pair may have to be waited for, so that a client that waits for its reply
 /// has it.
 pub(crate) fn pass_on_before_waiting<R: Source, W: Sink>(reader: &R, writer: &mut W)
-    ensures { Sent [] (W.output writer.old) (W.output writer.new) }
+    ensures sent { Sent [] (W.output writer.old) (W.output writer.new) }
+    ensures prompt { IsPromptForPair (R.input reader.now) (W.output writer.new) }
 {
     if !holds_pair(reader.at_hand()) {
         writer.pass_on();
@@ -245,8 +243,8 @@ pub(crate) fn pass_on_before_waiting<R: Source, W: Sink>(reader: &R, writer: &mu
 }
 
 /// Serves a script of pairs, a moment and the frame of a request each, until it ends, and answers the number of replies
-/// written. On a fault the replies to all earlier pairs are written, and the rest of the script is unread; where the
-/// writer failed, a beginning of the next reply was written too.
+/// written, of which none is held back any more. On a fault the replies to all earlier pairs are written, and the rest of
+/// the script is unread; where the writer failed, a beginning of the next reply was written too.
 pub fn run<R: Source, W: Sink>(
     alloc: Global,
     profile: Profile,
@@ -254,7 +252,8 @@ pub fn run<R: Source, W: Sink>(
     reader: &mut R,
     writer: &mut W,
 ) -> Result<u64, RunFault>
-    ensures { Ran profile clients_max result (R.input reader.old) (R.input reader.new) (W.output writer.old) (W.output writer.new) }
+    ensures ran { Ran profile clients_max result (R.input reader.old) (R.input reader.new) (W.output writer.old) (W.output writer.new) }
+    ensures passed { IfOk result (λ _. (W.output writer.new).held ≡ false) }
 {
     let mut machine = Machine::new_in(alloc, alloc, profile, clients_max)?;
     for k in 0..u64::MAX {
@@ -268,6 +267,7 @@ pub fn run<R: Source, W: Sink>(
         };
         if !more {
             drop(machine);
+            writer.pass_on();
             return Ok(k);
         }
     }

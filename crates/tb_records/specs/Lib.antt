@@ -17,6 +17,7 @@ pub mod Inputs
 pub mod DumpBytes
 pub mod DumpFaults
 pub mod Transport
+pub mod AtHand
 pub mod Ordered
 -- what private functions alone cite
 pub mod HeaderFields

@@ -4,19 +4,23 @@ use Rattle.std.specs.Io.KnownBytes.{Appends}
 use Rattle.tb_records.specs.declared.faults.FrameFault.{FrameFault}
 use Rattle.tb_records.specs.declared.faults.FrameFault.TheVariants.{Device}
 
--- a reader: the bytes that are left, where it tells them, the number of its errors, and whether its last answer was one
+-- a reader: the bytes that are left, where it tells them, the number of its errors, whether its last answer was one, and the
+-- bytes that are at hand, which the next reads give without waiting for more
 pub record Input : Type 0 where
   pub left : Option (List ℕ)
   pub failed : ℕ
   pub halted : Bool
+  pub at_hand : List ℕ
 
 -- a writer: the bytes written, where it tells them, the number of its errors, how often it took nothing of what it was
--- offered, and whether its last answer was one of these
+-- offered, whether its last answer was one of these, and whether it holds bytes back: it took some since what it holds was
+-- passed on the last time
 pub record Output : Type 0 where
   pub written : Option (List ℕ)
   pub failed : ℕ
   pub stalled : ℕ
   pub halted : Bool
+  pub held : Bool
 
 -- a std reader or writer, with its counts
 pub record Counted (T : Type 0) : Type 0 where
@@ -24,10 +28,11 @@ pub record Counted (T : Type 0) : Type 0 where
   pub failures : ℕ
   pub stalls : ℕ
   pub halted : Bool
+  pub held : Bool
 
 -- nothing was counted yet
 abbrev pub uncounted : {T : Type 0} → T → Counted T
-uncounted inner = record { inner = inner; failures = 0; stalls = 0; halted = false }
+uncounted inner = record { inner = inner; failures = 0; stalls = 0; halted = false; held = false }
 
 -- a count that is raised by one, and stays at its greatest
 abbrev pub risen : ℕ → ℕ
@@ -67,17 +72,19 @@ pub record Refuses (before after : Output) : Type 0 where
   pub rose : ((after.failed ≡ risen before.failed) × (after.stalled ≡ before.stalled)) ⊎ ((after.failed ≡ before.failed) × (after.stalled ≡ risen before.stalled))
   pub last : after.halted ≡ true
 
--- one answer: the writer took so many of the bytes
+-- one answer: the writer took so many of the bytes, and holds them back until they are passed on
 pub record Takes (taken : ℕ) (bytes : List ℕ) (before after : Output) : Type 0 where
   pub counted : after.failed ≡ before.failed
   pub stalls : after.stalled ≡ (if is_stall taken bytes then risen before.stalled else before.stalled)
   pub last : after.halted ≡ is_stall taken bytes
+  pub holds : after.held ≡ (if taken == 0 then before.held else true)
 
 -- one answer that is an error
 pub record Errs (before after : Output) : Type 0 where
   pub rose : after.failed ≡ risen before.failed
   pub flowed : after.stalled ≡ before.stalled
   pub last : after.halted ≡ true
+  pub holds : after.held ≡ before.held
 
 -- all bytes were written
 pub record Sent (bytes : List ℕ) (before after : Output) : Type 0 where

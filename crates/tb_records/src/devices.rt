@@ -1,7 +1,7 @@
 //! Readers and writers that count their failures, and the loops that fill and empty buffers.
-ghost use Rattle.std.specs.Prelude.{◌≡◌, ◌≤◌, ◌<◌, ◌+◌, ◌*◌, ℕ, [], List, Option, MatchResult, IfOk, IfSome, length, flat_map};
+ghost use Rattle.std.specs.Prelude.{false, ◌≡◌, ◌≤◌, ◌<◌, ◌+◌, ◌*◌, ℕ, [], List, Option, MatchResult, IfOk, IfSome, length, flat_map};
 ghost use Rattle.std.specs.Io.{ReadsAtMost, WritesAtMost, StartsWith};
-ghost use Rattle.std.specs.Io.Buffered.{reader_remaining};
+ghost use Rattle.std.specs.Io.Buffered.{reader_buffer, reader_remaining};
 ghost use Rattle.std.specs.Io.KnownBytes.{ReadConsumes, WriteAppends};
 ghost use Rattle.tb_records.specs.Transport.{uncounted, Input, Output, Fails, Gives, Counts, Takes, Errs, Sent, CutOff};
 ghost use Rattle.tb_records.specs.Reading.{Filled, Lost, ReadsItem, ReadsItems, ReadFault, BodyFault};
@@ -31,10 +31,8 @@ pub trait Source {
 
     /// The bytes that the next pulls give without waiting for more; none of a reader that does not know.
     fn at_hand(&self) -> &[u8]
-        ensures { IfSome (input self.now).left (λ bytes. StartsWith bytes result.now) }
-    {
-        &[]
-    }
+        ensures exact { result.now ≡ (input self.now).at_hand }
+        ensures first { IfSome (input self.now).left (λ bytes. StartsWith bytes result.now) };
 }
 
 /// A writer that counts the errors that it answers.
@@ -55,8 +53,8 @@ pub trait Sink {
     /// Moves on what was put, as far as it goes now, to whoever waits for it. Nothing more is written, and no error is
     /// counted: one that comes up shows at a later put, or where the writer is flushed at its end.
     fn pass_on(&mut self)
-        ensures { Sent [] (output self.old) (output self.new) }
-    {}
+        ensures sent { Sent [] (output self.old) (output self.new) }
+        ensures passed { (output self.new).held ≡ false };
 }
 
 /// A std reader or writer, with a count of its errors.
@@ -68,6 +66,8 @@ pub struct Counting<T> {
     stalls: u64,
     // Says that the last answer was an error, or that nothing was taken.
     halted: bool,
+    // Says that bytes were taken since the last time that they were passed on.
+    held: bool,
 }
 
 impl<T> Model for Counting<T> {
@@ -75,7 +75,7 @@ impl<T> Model for Counting<T> {
 
     ghost Value = { Counted T };
 
-    ghost view = { λ s. record { inner = s.inner; failures = s.failures; stalls = s.stalls; halted = s.halted } };
+    ghost view = { λ s. record { inner = s.inner; failures = s.failures; stalls = s.stalls; halted = s.halted; held = s.held } };
 }
 
 impl<T> Counting<T> {
@@ -88,6 +88,7 @@ impl<T> Counting<T> {
             failures: 0,
             stalls: 0,
             halted: false,
+            held: false,
         }
     }
 
@@ -101,7 +102,7 @@ impl<T> Counting<T> {
 }
 
 impl<T: Read> Source for Counting<T> {
-    ghost input = { λ s. record { left = T.remaining s.inner; failed = s.failures; halted = s.halted } };
+    ghost input = { λ s. record { left = T.remaining s.inner; failed = s.failures; halted = s.halted; at_hand = [] } };
 
     fn pull(&mut self, buf: &mut [u8]) -> io::Result<usize> {
         let answer = self.inner.read(buf);
@@ -115,17 +116,25 @@ impl<T: Read> Source for Counting<T> {
     fn failures(&self) -> u64 {
         self.failures
     }
+
+    fn at_hand(&self) -> &[u8] {
+        &[]
+    }
 }
 
 impl<T: Write> Sink for Counting<T> {
-    ghost output = { λ s. record { written = T.contents s.inner; failed = s.failures; stalled = s.stalls; halted = s.halted } };
+    ghost output = { λ s. record { written = T.contents s.inner; failed = s.failures; stalled = s.stalls; halted = s.halted; held = s.held } };
 
     fn put(&mut self, bytes: &[u8]) -> io::Result<usize> {
         let answer = self.inner.write(bytes);
         self.halted = true;
         match &answer {
             Ok(0) if !bytes.is_empty() => self.stalls = self.stalls.saturating_add(1),
-            Ok(_) => self.halted = false,
+            Ok(0) => self.halted = false,
+            Ok(_) => {
+                self.halted = false;
+                self.held = true;
+            }
             Err(_) => self.failures = self.failures.saturating_add(1),
         }
         answer
@@ -137,6 +146,7 @@ impl<T: Write> Sink for Counting<T> {
 
     fn pass_on(&mut self) {
         let _ = self.inner.flush();
+        self.held = false;
     }
 }
 
@@ -168,7 +178,7 @@ impl<R: Read> Buffered<R> {
 }
 
 impl<R: Read> Source for Buffered<R> {
-    ghost input = { λ s. record { left = reader_remaining R.remaining s.inner; failed = s.failures; halted = s.halted } };
+    ghost input = { λ s. record { left = reader_remaining R.remaining s.inner; failed = s.failures; halted = s.halted; at_hand = reader_buffer s.inner } };
 
     fn pull(&mut self, buf: &mut [u8]) -> io::Result<usize> {
         self.inner.pull(buf)

@@ -4,13 +4,14 @@ ghost use Rattle.tb_records.specs.DumpBytes.{head_bytes, entry_bytes, mark_bytes
 ghost use Rattle.tb_records.specs.DumpNumbers.{NumbersAnswers};
 ghost use Rattle.tb_records.specs.DumpFaults.{dump_fault_name, dump_fault_number};
 ghost use Rattle.tb_records.specs.Transport.{Counts, CutOff, Sent};
+ghost use Rattle.tb_records.specs.AtHand.{holds_item};
 
 use crate::devices::{Sink, Source, fill, put_all};
 use crate::encoding::{put_u32, put_u64, u32_at, u64_at};
 use crate::faults::FrameFault;
 use crate::limits::{ClientsMax, Profile};
 use crate::requests::Request;
-use crate::streams::request_from;
+use crate::streams::{holds_frame, request_from};
 use crate::writing::send_request;
 use std::alloc::{AllocError, Global};
 use std::fmt;
@@ -216,6 +217,13 @@ pub fn read_item_from<S: Source>(
         })),
         None => Err(DumpFault::Frame(FrameFault::Short)),
     }
+}
+
+/// Says that bytes begin with a whole mark or entry.
+pub fn holds_item(bytes: &[u8]) -> bool
+    ensures { result ≡ holds_item bytes.now }
+{
+    bytes.len() >= 16 && (u64_at(bytes, 0) == 0 || holds_frame(&bytes[16..]))
 }
 
 /// The 16 bytes of a head.

@@ -39,7 +39,7 @@ pub use records::{Account, EventResult, Transfer};
 pub use replies::{Reply, Status};
 pub use reply_reading::read_reply;
 pub use requests::Request;
-pub use streams::{RequestStream, holds_frame, read_timed_from};
+pub use streams::{RequestStream, holds_frame, holds_pair, read_timed_from};
 pub use transfer_flags::TransferFlag;
 pub use transfer_results::CreateTransferResult;
 pub use writing::{send_reply, send_request, write_reply, write_request};

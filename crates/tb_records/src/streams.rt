@@ -5,6 +5,7 @@ ghost use Rattle.tb_records.specs.HeaderFields.{body_length, HeaderAnswers, IsHe
 ghost use Rattle.tb_records.specs.Operations.{operation_code};
 ghost use Rattle.tb_records.specs.Inputs.{opened, fault_in, Answers, IsTimed, TimedAnswers};
 ghost use Rattle.tb_records.specs.Transport.{Counts};
+ghost use Rattle.tb_records.specs.AtHand.{holds_frame, holds_pair};
 ghost use Rattle.tb_records.specs.Reading.{BodyFault, MomentAnswers};
 
 use crate::bodies::Body;
@@ -92,9 +93,16 @@ impl<R: Source + Drop> RequestStream<R> {
 
 /// Says that bytes begin with a whole request frame, as far as its header tells its length.
 pub fn holds_frame(bytes: &[u8]) -> bool
-    ensures { result ≡ (nat_le 48 (length bytes.now) && nat_le (48 + length_at bytes.now) (length bytes.now)) }
+    ensures { result ≡ holds_frame bytes.now }
 {
     bytes.len() >= 48 && bytes.len() - 48 >= u32_at(bytes, 32) as usize
+}
+
+/// Says that bytes begin with a whole pair of a moment and a request frame.
+pub fn holds_pair(bytes: &[u8]) -> bool
+    ensures { result ≡ holds_pair bytes.now }
+{
+    bytes.len() >= 8 && holds_frame(&bytes[8..])
 }
 
 /// Reads the items of a body. The room for them is made before the first byte is read.
