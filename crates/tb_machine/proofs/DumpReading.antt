@@ -10,7 +10,8 @@ use Rattle.tb_records.specs.declared.limits.Profile.{Profile}
 use Rattle.tb_records.specs.declared.limits.Profile.TheVariants.{One, Two}
 use Rattle.tb_records.specs.DumpBytes.{head_bytes, mark_bytes, HeadAnswers, ItemAnswers}
 use Rattle.tb_records.specs.Messages.{Answer}
-use Rattle.tb_records.specs.ReplyFrames.{reply_bytes}
+use Rattle.tb_records.specs.Ordered.{Each}
+use Rattle.tb_records.specs.ReplyFrames.{reply_bytes, IsReply}
 use Rattle.tb_records.specs.Transport.{Input, Output, Sent}
 use Rattle.tb_ledger.specs.Books.{profile_of}
 use Rattle.tb_ledger.specs.Verdicts.{max_time}
@@ -124,7 +125,7 @@ replaying_none head S before middle o is answer counted = record {
   few = omega arith;
   profile_is = ap (λ (S : State). profile_of S.books) is ∙ profile_start head.profile head.clients_max;
   marked = tt;
-  has_replayed = record { read = read_head head before.left middle.left answer; counted = counted; legal = tt; replied = sends_none o };
+  has_replayed = record { read = read_head head before.left middle.left answer; counted = counted; legal = tt; replied = sends_none o; spelled = tt };
 }
 
 module _ (profile : Profile) (clients_max k : ℕ) (S T : State) (before middle after : Input) (first written next : Output) (r : Replaying profile clients_max k S before middle first written) where
@@ -151,6 +152,8 @@ module _ (profile : Profile) (clients_max k : ℕ) (S T : State) (before middle 
           replied = subst (λ bytes. Sent bytes first next)
               (sym (ap (flat_map reply_bytes) (replies_with_snoc profile clients_max r.place h e r.marked) ∙ flat_map-append reply_bytes (replies_with profile clients_max r.place h) (reply_at U e ∷ []) ∙ ap (λ l. flat_map reply_bytes (replies_with profile clients_max r.place h) ++ l) (append-nil (reply_bytes (reply_at U e)) ∙ ap reply_bytes (sym reply))))
               (sends_then (flat_map reply_bytes (replies_with profile clients_max r.place h)) (reply_bytes (reply_at S e)) first written next r.has_replayed.replied taken.turn.2);
+          spelled = subst (Each IsReply) (sym (replies_with_snoc profile clients_max r.place h e r.marked))
+              (each_snoc IsReply (replies_with profile clients_max r.place h) (reply_at U e) r.has_replayed.spelled (subst IsReply reply taken.turn.3));
         };
       }
 
@@ -173,6 +176,7 @@ module _ (profile : Profile) (clients_max k : ℕ) (S T : State) (before middle 
           legal = legal_marked profile clients_max h (subst (λ place. IsLegalWith profile clients_max place h) none.0 r.has_replayed.legal);
           replied = subst (λ (o : Output). Sent (flat_map reply_bytes (replies_with profile clients_max (Some (length h)) h)) first o) (sym taken.silent)
               (subst (λ replies. Sent (flat_map reply_bytes replies) first written) (ap (λ place. replies_with profile clients_max place h) none.0 ∙ sym (replies_marked profile clients_max h)) r.has_replayed.replied);
+          spelled = subst (Each IsReply) (ap (λ place. replies_with profile clients_max place h) none.0 ∙ sym (replies_marked profile clients_max h)) r.has_replayed.spelled;
         };
       }
 
@@ -196,6 +200,7 @@ replaying_passed profile clients_max k S before middle first written passed r on
     legal = r.has_replayed.legal;
     replied = subst (λ bytes. Sent bytes first passed) (append-nil (flat_map reply_bytes (replies_with profile clients_max r.place r.history)))
         (sends_then (flat_map reply_bytes (replies_with profile clients_max r.place r.history)) [] first written passed r.has_replayed.replied on);
+    spelled = r.has_replayed.spelled;
   };
 }
 
@@ -235,7 +240,7 @@ replay_nowhere head before middle o answer counted = record {
   place = None;
   middle = middle;
   made = o;
-  has_replayed = record { read = read_head head before.left middle.left answer; counted = counted; legal = tt; replied = sends_none o };
+  has_replayed = record { read = read_head head before.left middle.left answer; counted = counted; legal = tt; replied = sends_none o; spelled = tt };
   ended = inr (refl, refl, refl, refl);
 }
 

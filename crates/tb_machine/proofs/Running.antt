@@ -3,7 +3,8 @@ use Rattle.std.proofs.Common.{◌≡◌, ℕ, ◌+◌, Bool, true, false, cond, 
 use Rattle.std.proofs.lemmas.Grind.{flat_map-append}
 use Rattle.std.specs.Io.KnownBytes.{Appends}
 use Rattle.tb_records.specs.declared.limits.Profile.{Profile}
-use Rattle.tb_records.specs.ReplyFrames.{reply_bytes}
+use Rattle.tb_records.specs.Ordered.{Each}
+use Rattle.tb_records.specs.ReplyFrames.{reply_bytes, IsReply}
 use Rattle.tb_records.specs.Inputs.{timed_bytes, TimedAnswers}
 use Rattle.tb_records.specs.Transport.{Input, Output, Sent}
 use Rattle.tb_machine.specs.declared.entries.Entry.{Entry}
@@ -105,6 +106,13 @@ module _ (profile : Profile) (clients_max : ℕ) where
       (append-nil (reply_bytes (answer_to (after profile clients_max (with_pair profile clients_max (accepted profile clients_max [] ps) p)) p.1))
       ∙ ap (λ (S : State). reply_bytes (answer_to S p.1)) (after_with_pair (accepted profile clients_max [] ps) p))
 
+  spelled_snoc : (ps : List Pair) (p : Pair) → Each IsReply (replies_to profile clients_max ps) → IsReply (answer_to (after_pair (state_after profile clients_max ps) p) p.1) → Each IsReply (replies_to profile clients_max (ps ++ p ∷ []))
+  spelled_snoc ps p all one =
+      let h = accepted profile clients_max [] ps in
+      subst (Each IsReply) (sym (replies_snoc [] ps p))
+      (each_snoc IsReply (replies_to profile clients_max ps) (answer_to (after profile clients_max (with_pair profile clients_max h p)) p.1) all
+      (subst (λ (U : State). IsReply (answer_to U p.1)) (sym (after_with_pair h p)) one))
+
   -- the loop's invariant: k pairs were served
   pub record Serving (k : ℕ) (S : State) (before middle : Input) (first written : Output) : Type 0 where
     pub pairs : List Pair
@@ -113,11 +121,11 @@ module _ (profile : Profile) (clients_max : ℕ) where
     pub served : Served profile clients_max pairs before middle first written
 
   pub serving_none : (S : State) (i : Input) (o : Output) → S ≡ start profile clients_max → Serving 0 S i i o o
-  serving_none S i o is = record { pairs = []; long = refl; state = is; served = record { read = reads_none i; times = tt; replied = sends_none o } }
+  serving_none S i o is = record { pairs = []; long = refl; state = is; served = record { read = reads_none i; times = tt; replied = sends_none o; spelled = tt } }
 
   pub serving_on : (k : ℕ) (S T : State) (before middle after : Input) (first written next : Output) → Serving k S before middle first written → Serves (Ok true) S T middle after written next → Serving (k + 1) T before after first next
   serving_on k S T before middle after first written next s n =
-      let turn = subst (λ (U : State). IsTimely U n.pair × (T ≡ after_pair U n.pair) × Sent (answer_bytes U n.pair) written next) s.state n.turn in
+      let turn = subst (λ (U : State). IsTimely U n.pair × (T ≡ after_pair U n.pair) × Sent (answer_bytes U n.pair) written next × IsReply (answer_to (after_pair U n.pair) n.pair.1)) s.state n.turn in
       record {
         pairs = s.pairs ++ n.pair ∷ [];
         long = omega (arith, s.long, length-append s.pairs (n.pair ∷ []));
@@ -127,6 +135,7 @@ module _ (profile : Profile) (clients_max : ℕ) where
           times = times_snoc [] s.pairs n.pair s.served.times turn.0;
           replied = subst (λ bytes. Sent bytes first next) (sym (bytes_snoc s.pairs n.pair))
               (sends_then (flat_map reply_bytes (replies_to profile clients_max s.pairs)) (answer_bytes (state_after profile clients_max s.pairs) n.pair) first written next s.served.replied turn.2);
+          spelled = spelled_snoc s.pairs n.pair s.served.spelled turn.3;
         };
       }
 
@@ -141,6 +150,7 @@ module _ (profile : Profile) (clients_max : ℕ) where
       times = s.served.times;
       replied = subst (λ bytes. Sent bytes first passed) (append-nil (flat_map reply_bytes (replies_to profile clients_max s.pairs)))
           (sends_then (flat_map reply_bytes (replies_to profile clients_max s.pairs)) [] first written passed s.served.replied on);
+      spelled = s.served.spelled;
     };
   }
 
@@ -172,4 +182,4 @@ module _ (profile : Profile) (clients_max : ℕ) where
   ran_too_long S before middle first written s = record { pairs = s.pairs; middle = middle; replied = written; served = s.served; ended = (s.long, refl, refl) }
 
   pub ran_nowhere : (i : Input) (o : Output) → Ran profile clients_max (Err fault.NoMemory) i i o o
-  ran_nowhere i o = record { pairs = []; middle = i; replied = o; served = record { read = reads_none i; times = tt; replied = sends_none o }; ended = inl (refl, refl, refl) }
+  ran_nowhere i o = record { pairs = []; middle = i; replied = o; served = record { read = reads_none i; times = tt; replied = sends_none o; spelled = tt }; ended = inl (refl, refl, refl) }

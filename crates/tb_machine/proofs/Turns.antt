@@ -1,5 +1,5 @@
 -- One pair: what its entry leaves for its request, and the answers that the rows give.
-use Rattle.std.proofs.Common.{true≢false, ◌≡◌, ◌≢◌, ℕ, ◌+◌, Bool, true, false, cond, ◌&&◌, ◌==◌, List, [], ◌∷◌, is_some, Option, Some, None, Result, Ok, Err, refl, sym, ap, ◌∙◌, subst, arith, eqb, ltb, eq-eqb}
+use Rattle.std.proofs.Common.{true≢false, ◌≡◌, ◌≢◌, ℕ, ◌+◌, Bool, true, false, cond, ◌&&◌, ◌==◌, List, [], ◌∷◌, is_some, Option, Some, None, Result, Ok, Err, OnOk, refl, sym, ap, ◌∙◌, subst, arith, eqb, ltb, eq-eqb}
 use Rattle.std.proofs.lemmas.Bool.Decides.{nat_tests}
 use Rattle.tb_records.specs.Messages.{Message, Answer, is_register, IsLawful}
 use Rattle.tb_records.specs.Same.{same_body}
@@ -13,7 +13,7 @@ use Rattle.tb_sessions.specs.Admission.{driven_out, without, admitted}
 use Rattle.tb_machine.specs.declared.entries.Entry.{Entry}
 use Rattle.tb_machine.specs.Histories.{State, is_new, session_of, row_at, reply_at, step, status_of, refusal, answer_by, answer_to}
 use Rattle.tb_machine.specs.Scripts.{Pair, entry_of, has_time, after_pair}
-use Rattle.tb_records.specs.ReplyFrames.{reply_bytes}
+use Rattle.tb_records.specs.ReplyFrames.{reply_bytes, IsReply}
 use Rattle.tb_records.specs.Transport.{Output, Sent, CutOff}
 use Rattle.tb_machine.specs.declared.serving.RunFault.{RunFault}
 use Rattle.tb_machine.specs.Runs.{is_new_in, Turns}
@@ -90,9 +90,9 @@ refused S r class a is other told = ap (λ (c : Class). answer_by c (row_of S.ro
 -- a new pair whose entry is entered, and whose reply is written
 pub entered_turn : (result : Result (Unit {0}) RunFault) (S T : State) (p : Pair) (before after : Output)
     → IsLawful p.1 → class_of S.rows p.1 ≡ New → has_time S p ≡ true → T ≡ step S (entry_of S p)
-    → Delivers result (reply_bytes (reply_at S (entry_of S p))) before after
+    → Delivers result (reply_bytes (reply_at S (entry_of S p))) before after → OnOk result (IsReply (reply_at S (entry_of S p)))
     → Turns result S T p before after
-entered_turn result S T p before after lawful class time entered sent = by result sent
+entered_turn result S T p before after lawful class time entered sent fits = by result sent fits
   where
     new : is_new_in S p ≡ true
     new = ap is_new class
@@ -101,16 +101,16 @@ entered_turn result S T p before after lawful class time entered sent = by resul
     answer_is = ap (λ (U : State). answer_to U p.1) (after_new S p new time) ∙ answer_after S (entry_of S p) lawful
 
     by : (result : Result (Unit {0}) RunFault)
-        → Delivers result (reply_bytes (reply_at S (entry_of S p))) before after
+        → Delivers result (reply_bytes (reply_at S (entry_of S p))) before after → OnOk result (IsReply (reply_at S (entry_of S p)))
         → Turns result S T p before after
-    by (Ok done) sent = ((λ _. time), entered ∙ sym (after_new S p new time), subst (λ (b : Answer). Sent (reply_bytes b) before after) (sym answer_is) sent)
-    by (Err f) sent = subst (λ (f : RunFault). Turns (Err f) S T p before after) (sym sent.0)
+    by (Ok done) sent fits = ((λ _. time), entered ∙ sym (after_new S p new time), subst (λ (b : Answer). Sent (reply_bytes b) before after) (sym answer_is) sent, subst IsReply (sym answer_is) fits)
+    by (Err f) sent fits = subst (λ (f : RunFault). Turns (Err f) S T p before after) (sym sent.0)
         ((λ _. time), entered ∙ sym (after_new S p new time), refl, subst (λ (b : Answer). CutOff (reply_bytes b) before after) (sym answer_is) sent.1)
 
 pub known_turn : (result : Result (Unit {0}) RunFault) (S : State) (p : Pair) (before after : Output) → class_of S.rows p.1 ≢ New
-    → Delivers result (reply_bytes (answer_to S p.1)) before after
+    → Delivers result (reply_bytes (answer_to S p.1)) before after → OnOk result (IsReply (answer_to S p.1))
     → Turns result S S p before after
-known_turn result S p before after known sent = by result sent
+known_turn result S p before after known sent fits = by result sent fits
   where
     not_new : (class : Class) → class ≢ New → is_new class ≡ false
     not_new New other = absurd (other refl)
@@ -126,8 +126,8 @@ known_turn result S p before after known sent = by result sent
     timely new = absurd (true≢false (sym new ∙ old))
 
     by : (result : Result (Unit {0}) RunFault)
-        → Delivers result (reply_bytes (answer_to S p.1)) before after
+        → Delivers result (reply_bytes (answer_to S p.1)) before after → OnOk result (IsReply (answer_to S p.1))
         → Turns result S S p before after
-    by (Ok done) sent = (timely, sym stays, subst (λ (U : State). Sent (reply_bytes (answer_to U p.1)) before after) (sym stays) sent)
-    by (Err f) sent = subst (λ (f : RunFault). Turns (Err f) S S p before after) (sym sent.0)
+    by (Ok done) sent fits = (timely, sym stays, subst (λ (U : State). Sent (reply_bytes (answer_to U p.1)) before after) (sym stays) sent, subst (λ (U : State). IsReply (answer_to U p.1)) (sym stays) fits)
+    by (Err f) sent fits = subst (λ (f : RunFault). Turns (Err f) S S p before after) (sym sent.0)
         (timely, sym stays, refl, subst (λ (U : State). CutOff (reply_bytes (answer_to U p.1)) before after) (sym stays) sent.1)

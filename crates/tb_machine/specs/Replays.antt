@@ -9,7 +9,8 @@ use Rattle.tb_records.specs.declared.faults.FrameFault.TheVariants.{Device}
 use Rattle.tb_records.specs.declared.limits.Profile.{Profile}
 use Rattle.tb_records.specs.declared.limits.Profile.TheVariants.{One, Two}
 use Rattle.tb_records.specs.DumpBytes.{HeadAnswers, HeadCounts, ItemAnswers, ItemCounts}
-use Rattle.tb_records.specs.ReplyFrames.{reply_bytes}
+use Rattle.tb_records.specs.Ordered.{Each}
+use Rattle.tb_records.specs.ReplyFrames.{reply_bytes, IsReply}
 use Rattle.tb_records.specs.Transport.{Input, Output, Sent, CutOff}
 use Rattle.tb_ledger.specs.Books.{profile_of}
 use Rattle.tb_machine.specs.declared.entries.Entry.{Entry}
@@ -35,7 +36,7 @@ EntersNext (Err f) S T e = ⊥
 
 -- an entry that may come next is entered and its reply is written, or it is not
 abbrev pub ReplaysEntry : Result (Unit {0}) DumpFault → State → State → Entry → Output → Output → Type 0
-ReplaysEntry (Ok done) S T e before after = IsTrue (fits S e) × (T ≡ step S e) × Sent (reply_bytes (reply_at S e)) before after
+ReplaysEntry (Ok done) S T e before after = IsTrue (fits S e) × (T ≡ step S e) × Sent (reply_bytes (reply_at S e)) before after × IsReply (reply_at S e)
 ReplaysEntry (Err (fault.Frame f)) S T e before after = IsTrue (fits S e) × (f ≡ Device) × CutOff (reply_bytes (reply_at S e)) before after
 ReplaysEntry (Err fault.NotLegal) S T e before after = (fits S e ≡ false) × (after ≡ before)
 ReplaysEntry (Err fault.NoMemory) S T e before after = IsTrue (fits S e) × (after ≡ before)
@@ -78,12 +79,14 @@ ReadsDump profile clients_max h place None after = Unit {0}
 ReadsDump profile clients_max h place (Some before) None = ⊥
 ReadsDump profile clients_max h place (Some before) (Some after) = (bytes : List ℕ) × DumpSpells bytes profile clients_max h place × (before ≡ bytes ++ after)
 
--- a legal history was read, with its mark, if there is one; the replies were written, and nothing else
+-- a legal history was read, with its mark, if there is one; the replies were written, and nothing else; what was written
+-- spells them
 pub record HasReplayed (profile : Profile) (clients_max : ℕ) (h : List Entry) (place : Option ℕ) (before after : Input) (start written : Output) : Type 0 where
   pub read : ReadsDump profile clients_max h place before.left after.left
   pub counted : after.failed ≡ before.failed
   pub legal : IsLegalWith profile clients_max place h
   pub replied : Sent (flat_map reply_bytes (replies_with profile clients_max place h)) start written
+  pub spelled : Each IsReply (replies_with profile clients_max place h)
 
 -- what ended the replay behind the entries h: the end of the dump, a fault at what follows, or no memory for the machine;
 -- the T of a fault is of no account

@@ -6,7 +6,7 @@ use Rattle.tb_records.specs.declared.faults.FrameFault.TheVariants.{Device}
 use Rattle.tb_records.specs.declared.limits.Profile.{Profile}
 use Rattle.tb_records.specs.Ordered.{Each}
 use Rattle.tb_records.specs.Frames.{IsRequest}
-use Rattle.tb_records.specs.ReplyFrames.{reply_bytes}
+use Rattle.tb_records.specs.ReplyFrames.{reply_bytes, IsReply}
 use Rattle.tb_records.specs.Inputs.{timed_bytes, TimedAnswers}
 use Rattle.tb_records.specs.Transport.{Input, Output, FaultCounts, Sent, CutOff}
 use Rattle.tb_sessions.specs.Judged.{class_of}
@@ -43,10 +43,11 @@ IsTimely S p = is_new_in S p ≡ true → has_time S p ≡ true
 abbrev pub answer_bytes : State → Pair → List ℕ
 answer_bytes S p = reply_bytes (answer_to (after_pair S p) p.1)
 
--- a pair is answered: by the reply that its entry has once it is entered, or by the one that its request has as it stands;
+-- a pair is answered: by the reply that its entry has once it is entered, or by the one that its request has as it stands,
+-- whose numbers fit, so that what is written is read as that reply and no other;
 -- where the reply could not be written, the machine has moved on all the same, and a repeat gets that reply
 abbrev pub Turns : Result (Unit {0}) RunFault → State → State → Pair → Output → Output → Type 0
-Turns (Ok done) S T p before after = IsTimely S p × (T ≡ after_pair S p) × Sent (answer_bytes S p) before after
+Turns (Ok done) S T p before after = IsTimely S p × (T ≡ after_pair S p) × Sent (answer_bytes S p) before after × IsReply (answer_to (after_pair S p) p.1)
 Turns (Err (fault.Frame f)) S T p before after = IsTimely S p × (T ≡ after_pair S p) × (f ≡ Device) × CutOff (answer_bytes S p) before after
 Turns (Err fault.NoMemory) S T p before after = (is_new_in S p ≡ true) × (has_time S p ≡ true) × (T ≡ S) × (after ≡ before)
 Turns (Err fault.TimeExhausted) S T p before after = (is_new_in S p ≡ true) × (has_time S p ≡ false) × (T ≡ S) × (after ≡ before)
@@ -76,11 +77,12 @@ module _ (profile : Profile) (clients_max : ℕ) where
   abbrev pub state_after : List Pair → State
   state_after ps = after profile clients_max (accepted profile clients_max [] ps)
 
-  -- the pairs were read and answered, and nothing else was read or written
+  -- the pairs were read and answered, and nothing else was read or written; what was written spells the replies
   pub record Served (ps : List Pair) (before middle : Input) (start grown : Output) : Type 0 where
     pub read : Reads ps before middle
     pub times : HasTimes [] ps
     pub replied : Sent (flat_map reply_bytes (replies_to profile clients_max ps)) start grown
+    pub spelled : Each IsReply (replies_to profile clients_max ps)
 
   -- one more pair was read, of a new request, and nothing was written
   pub record Halts (ps : List Pair) (has : Bool) (middle after : Input) (replied written : Output) : Type 0 where

@@ -1,11 +1,11 @@
 //! The machine: a ledger and the sessions of its clients, which entries move on.
-ghost use Rattle.std.specs.Prelude.{◌≡◌, ◌+◌, ◌≤◌, ◌<◌, max, IfOk, MatchOption, MatchResult, IsTrue, None, Some};
+ghost use Rattle.std.specs.Prelude.{◌≡◌, ◌+◌, ◌≤◌, ◌<◌, max, IfOk, MatchOption, MatchResult, OnOk, IsTrue, None, Some};
 ghost use Rattle.std.specs.Option.{option_map};
 ghost use Rattle.tb_records.specs.Messages.{IsLawful};
 ghost use Rattle.tb_ledger.specs.Books.{account_now, profile_of, transfer_at, found_accounts, found_transfers};
 ghost use Rattle.tb_ledger.specs.Verdicts.{max_time};
 ghost use Rattle.tb_sessions.specs.Judged.{class_of, row_of};
-ghost use Rattle.tb_records.specs.ReplyFrames.{reply_bytes};
+ghost use Rattle.tb_records.specs.ReplyFrames.{reply_bytes, IsReply};
 ghost use Rattle.tb_machine.specs.Histories.{start, step, reply_at, to_two, fits, least_time};
 ghost use Rattle.tb_machine.specs.Serving.{Told};
 
@@ -212,7 +212,8 @@ impl<A: Allocator + Clone> Machine<A> {
     ) -> Result<Result<(), FrameFault>, Entry>
         requires { IsTrue (fits self.old entry) }
         ensures { MatchResult result
-            (λ told. (self.new ≡ step self.old entry) × Told told (reply_bytes (reply_at self.old entry)) (W.output writer.old) (W.output writer.new))
+            (λ told. (self.new ≡ step self.old entry) × Told told (reply_bytes (reply_at self.old entry)) (W.output writer.old) (W.output writer.new)
+            × OnOk told (IsReply (reply_at self.old entry)))
             (λ back. (back ≡ entry) × (self.new ≡ self.old) × (writer.new ≡ writer.old)) }
     {
         let commit = entry.commit;

@@ -1,8 +1,8 @@
 //! The serving of a script: moments and requests are read, executed and answered, one after another.
-ghost use Rattle.std.specs.Prelude.{◌≡◌, ◌≢◌, true, false, [], IfOk, IsTrue, MatchResult, Some};
+ghost use Rattle.std.specs.Prelude.{◌≡◌, ◌≢◌, true, false, [], IfOk, IsTrue, MatchResult, OnOk, Some};
 ghost use Rattle.std.specs.Option.{is_some, option_map};
 ghost use Rattle.tb_records.specs.Messages.{IsLawful};
-ghost use Rattle.tb_records.specs.ReplyFrames.{reply_bytes};
+ghost use Rattle.tb_records.specs.ReplyFrames.{reply_bytes, IsReply};
 ghost use Rattle.tb_records.specs.Transport.{Sent};
 ghost use Rattle.tb_sessions.specs.Judged.{class_of, row_of};
 ghost use Rattle.tb_machine.specs.Histories.{status_of, answer_to, fits};
@@ -155,7 +155,8 @@ pub(crate) fn stored(machine: &Machine<Global>, client: u128) -> &Reply
 
 /// Writes a reply.
 fn send<W: Sink>(writer: &mut W, reply: &Reply) -> Result<(), RunFault>
-    ensures { Delivers result (reply_bytes reply.now) (W.output writer.old) (W.output writer.new) }
+    ensures fits { OnOk result (IsReply reply.now) }
+    ensures delivers { Delivers result (reply_bytes reply.now) (W.output writer.old) (W.output writer.new) }
 {
     send_reply(writer, reply)?;
     Ok(())
@@ -188,7 +189,8 @@ fn answer_known<W: Sink>(
 ) -> Result<(), RunFault>
     requires class { class ≡ class_of machine.now.rows request.now }
     requires known { class ≢ Class.New }
-    ensures { Delivers result (reply_bytes (answer_to machine.now request.now)) (W.output writer.old) (W.output writer.new) }
+    ensures fits { OnOk result (IsReply (answer_to machine.now request.now)) }
+    ensures delivers { Delivers result (reply_bytes (answer_to machine.now request.now)) (W.output writer.old) (W.output writer.new) }
 {
     match class {
         Class::Repeat => send(writer, stored(machine, request.client())),

@@ -1,5 +1,5 @@
 //! Readers and writers that count their failures, and the loops that fill and empty buffers.
-ghost use Rattle.std.specs.Prelude.{false, ◌≡◌, ◌≤◌, ◌<◌, ◌+◌, ◌*◌, ℕ, [], List, Option, MatchResult, IfOk, IfSome, length, flat_map};
+ghost use Rattle.std.specs.Prelude.{false, ◌≡◌, ◌≤◌, ◌<◌, ◌+◌, ◌*◌, ℕ, [], List, Option, MatchResult, IfSome, OnOk, All, length, flat_map};
 ghost use Rattle.std.specs.Io.{ReadsAtMost, WritesAtMost, StartsWith};
 ghost use Rattle.std.specs.Io.Buffered.{reader_buffer, reader_remaining};
 ghost use Rattle.std.specs.Io.KnownBytes.{ReadConsumes, WriteAppends};
@@ -264,9 +264,10 @@ pub(crate) fn items_from<S: Source, T: Item>(
 
 /// Writes a row of items, or stops where the writer fails or takes nothing.
 pub(crate) fn put_items<W: Sink, T: Item>(sink: &mut W, items: &[T]) -> Result<(), FrameFault>
-    ensures { MatchResult result
+    ensures sent { MatchResult result
         (λ _. Sent (flat_map T.spelling items.now) (W.output sink.old) (W.output sink.new))
         (λ f. (f ≡ FrameFault.Device) × CutOff (flat_map T.spelling items.now) (W.output sink.old) (W.output sink.new)) }
+    ensures fit { OnOk result (All T.Fits items.now) }
 {
     let mut buf = [0; 128];
     for item in items {

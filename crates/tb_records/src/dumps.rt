@@ -1,6 +1,6 @@
 //! The bytes of a dump: its head, and behind it the entries of a history and at most one mark among them.
-ghost use Rattle.std.specs.Prelude.{◌≡◌, IfSome, MatchResult, None, length};
-ghost use Rattle.tb_records.specs.DumpBytes.{head_bytes, entry_bytes, mark_bytes, numbers_bytes, profile_number, HasNoHead, HeadAnswers, HeadCounts, IsClients, ItemAnswers, ItemCounts};
+ghost use Rattle.std.specs.Prelude.{◌≡◌, ◌<◌, IfSome, MatchResult, OnOk, None, length};
+ghost use Rattle.tb_records.specs.DumpBytes.{head_bytes, entry_bytes, mark_bytes, numbers_bytes, profile_number, HasNoHead, HeadAnswers, HeadCounts, IsClients, IsDumped, ItemAnswers, ItemCounts};
 ghost use Rattle.tb_records.specs.DumpNumbers.{NumbersAnswers};
 ghost use Rattle.tb_records.specs.DumpFaults.{dump_fault_name, dump_fault_number};
 ghost use Rattle.tb_records.specs.Transport.{Counts, CutOff, Sent};
@@ -275,9 +275,10 @@ pub fn send_entry<W: Sink>(
     time: u64,
     request: &Request,
 ) -> Result<(), FrameFault>
-    ensures { MatchResult result
+    ensures sent { MatchResult result
         (λ _. Sent (entry_bytes commit time request.now) (W.output sink.old) (W.output sink.new))
         (λ f. (f ≡ FrameFault.Device) × CutOff (entry_bytes commit time request.now) (W.output sink.old) (W.output sink.new)) }
+    ensures fits { OnOk result (0 < commit → IsDumped commit time request.now) }
 {
     put_all(sink, &bytes_of_numbers(commit, time))?;
     send_request(sink, request)

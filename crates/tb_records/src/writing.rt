@@ -165,9 +165,10 @@ pub fn write_reply(reply: &Reply, out: &mut Vec<u8>) -> Result<(), AllocError>
 /// Writes the body of a request to a sink.
 #[tactic(auto, unfolding(crate::specs::Frames::body_bytes))]
 fn send_request_body<W: Sink>(sink: &mut W, body: &Body) -> Result<(), FrameFault>
-    ensures { MatchResult result
+    ensures sent { MatchResult result
         (λ _. Sent (body_bytes body.now) (W.output sink.old) (W.output sink.new))
         (λ f. (f ≡ FrameFault.Device) × CutOff (body_bytes body.now) (W.output sink.old) (W.output sink.new)) }
+    ensures fits { OnOk result (BodyFits body.now) }
 {
     match body {
         Body::Register => Ok(()),
@@ -179,11 +180,13 @@ fn send_request_body<W: Sink>(sink: &mut W, body: &Body) -> Result<(), FrameFaul
 }
 
 /// Writes a request's frame to a sink. Device where the sink answers an error, or takes nothing of what is left: then a
-/// beginning of the frame went out.
+/// beginning of the frame went out. That the request's numbers fit, so that the frame is read as no other, is said of
+/// what was written.
 pub fn send_request<W: Sink>(sink: &mut W, request: &Request) -> Result<(), FrameFault>
-    ensures { MatchResult result
+    ensures sent { MatchResult result
         (λ _. Sent (request_bytes request.now) (W.output sink.old) (W.output sink.new))
         (λ f. (f ≡ FrameFault.Device) × CutOff (request_bytes request.now) (W.output sink.old) (W.output sink.new)) }
+    ensures fits { OnOk result (IsRequest request.now) }
 {
     let body = request.body();
     let len = body_len(body);
@@ -194,9 +197,10 @@ pub fn send_request<W: Sink>(sink: &mut W, request: &Request) -> Result<(), Fram
 /// Writes the body of a reply to a sink.
 #[tactic(auto, unfolding(crate::specs::ReplyFrames::reply_body_bytes))]
 fn send_body<W: Sink>(sink: &mut W, body: &ReplyBody) -> Result<(), FrameFault>
-    ensures { MatchResult result
+    ensures sent { MatchResult result
         (λ _. Sent (reply_body_bytes body.now) (W.output sink.old) (W.output sink.new))
         (λ f. (f ≡ FrameFault.Device) × CutOff (reply_body_bytes body.now) (W.output sink.old) (W.output sink.new)) }
+    ensures fits { OnOk result (ReplyBodyFits body.now) }
 {
     match body {
         ReplyBody::Empty => Ok(()),
@@ -207,11 +211,13 @@ fn send_body<W: Sink>(sink: &mut W, body: &ReplyBody) -> Result<(), FrameFault>
 }
 
 /// Writes a reply's frame to a sink. Device where the sink answers an error, or takes nothing of what is left: then a
-/// beginning of the frame went out, and nothing more is offered.
+/// beginning of the frame went out, and nothing more is offered. That the reply's numbers fit, so that the frame is read as
+/// no other, is said of what was written.
 pub fn send_reply<W: Sink>(sink: &mut W, reply: &Reply) -> Result<(), FrameFault>
-    ensures { MatchResult result
+    ensures sent { MatchResult result
         (λ _. Sent (reply_bytes reply.now) (W.output sink.old) (W.output sink.new))
         (λ f. (f ≡ FrameFault.Device) × CutOff (reply_bytes reply.now) (W.output sink.old) (W.output sink.new)) }
+    ensures fits { OnOk result (IsReply reply.now) }
 {
     let body = reply.body();
     let len = reply_body_len(body);

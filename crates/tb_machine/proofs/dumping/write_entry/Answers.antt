@@ -4,7 +4,7 @@ use Rattle.tb_records.proofs.Sendings.{sent_rest, sent_few}
 use Rattle.tb_machine.proofs.dumping.write_entry.Goals as goal
 
 pub returns : goal.returns
-returns g c = sent_rest _ _ _ _ _ _ refl c.in_ok-write_mark.ensures c.send_entry.result c.send_entry.ensures
+returns g c = sent_rest _ _ _ _ _ _ refl c.in_ok-write_mark.ensures c.send_entry.result c.send_entry.ensures.sent
 
 pub returns-in_err-write_mark : goal.returns-in_err-write_mark
 returns-in_err-write_mark g c =

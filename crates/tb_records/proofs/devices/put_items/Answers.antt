@@ -3,8 +3,8 @@ use Rattle.std.proofs.lemmas.Result.{err_from_is_err_and}
 use Rattle.tb_records.proofs.Pieces.{cut_off_at}
 use Rattle.tb_records.proofs.devices.put_items.Goals as goal
 
-pub returns-in_err-put_all : goal.returns-in_err-put_all
-returns-in_err-put_all g c =
+pub returns-in_err-put_all-clause-sent : goal.returns-in_err-put_all-clause-sent
+returns-in_err-put_all-clause-sent g c =
     let p = err_from_is_err_and c.from_residual.result c.from_residual.ensures.1 in
     rw (p.1, p.2) (
       c.in_err-put_all.ensures.0,
