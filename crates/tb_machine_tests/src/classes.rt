@@ -1,7 +1,8 @@
 //! Sessions by the machine's own calls: repeats, classes, and who is evicted.
 use crate::fixtures::transfer;
 use crate::machines::{
-    Ask, Numbers, class_of, enter, enter_all, entry_of, first_four, machine, reply_of, request_of,
+    Ask, Numbers, ReplyNumbers, class_of, enter, enter_all, entry_of, first_four, machine,
+    reply_of, request_of,
 };
 use std::alloc::Global;
 use std::process::Abort;
@@ -18,8 +19,39 @@ fn answer_to(
     ask: Ask,
 ) -> Result<(Status, u64, u64), Fail> {
     let request = request_of(alloc, numbers, ask)?;
-    let reply = answer_of(alloc, machine, &request)?;
-    Ok((reply.status(), reply.session(), reply.commit()))
+    let answered = answer_of(alloc, machine, &request);
+    drop(request);
+    let reply = answered?;
+    let answer = (reply.status(), reply.session(), reply.commit());
+    drop(reply);
+    Ok(answer)
+}
+
+/// A request has this answer: its status, session and commit number.
+fn expect_answer(
+    rt: &impl Abort,
+    alloc: Global,
+    machine: &Machine<Global>,
+    numbers: Numbers,
+    ask: Ask,
+    answer: (Status, u64, u64),
+) -> Result<(), Fail> {
+    let given = answer_to(alloc, machine, numbers, ask)?;
+    assert!(rt; given == answer);
+    Ok(())
+}
+
+/// Client 7's register has this class, and this is its stored reply.
+fn expect_register(
+    rt: &impl Abort,
+    alloc: Global,
+    machine: &Machine<Global>,
+    class: Class,
+    stored: Option<ReplyNumbers>,
+) -> Result<(), Fail> {
+    let found = class_of(alloc, machine, (7, 0, 0), Ask::Register)?;
+    assert!(rt; found == class && reply_of(machine, 7) == stored);
+    Ok(())
 }
 
 /// Client 7's register, twice, and the answers once it is registered.
@@ -29,17 +61,17 @@ fn expect_repeat(
     machine: &mut Machine<Global>,
 ) -> Result<(), Fail> {
     let register = (7, 0, 0);
-    assert!(rt; class_of(alloc, machine, register, Ask::Register)? == Class::New);
-    assert!(rt; reply_of(machine, 7).is_none());
-    assert!(rt; enter(alloc, machine, register, Ask::Register)? == (1, 10));
-    assert!(rt; class_of(alloc, machine, register, Ask::Register)? == Class::Repeat);
-    assert!(rt; reply_of(machine, 7) == Some((1, 0, Status::Reply, 1)));
+    expect_register(rt, alloc, machine, Class::New, None)?;
+    let entered = enter(alloc, machine, register, Ask::Register)?;
+    assert!(rt; entered == (1, 10));
+    let stored = (1, 0, Status::Reply, 1);
+    expect_register(rt, alloc, machine, Class::Repeat, Some(stored))?;
     for (numbers, ask, answer) in [
         ((7, 0, 0), Ask::Register, (Status::Reply, 1, 1)),
         ((8, 0, 0), Ask::Register, (Status::NotYet, 0, 0)),
         ((7, 2, 1), Ask::NoneLookedUp, (Status::NewerSession, 2, 0)),
     ] {
-        assert!(rt; answer_to(alloc, machine, numbers, ask)? == answer);
+        expect_answer(rt, alloc, machine, numbers, ask, answer)?;
     }
     Ok(())
 }
@@ -47,7 +79,9 @@ fn expect_repeat(
 #[test]
 fn register_repeated(rt: HostRuntime) -> Result<(), Fail> {
     let mut machine = machine(rt.alloc(), 2)?;
-    expect_repeat(&rt, rt.alloc(), &mut machine)
+    let done = expect_repeat(&rt, rt.alloc(), &mut machine);
+    drop(machine);
+    done
 }
 
 /// A request that creates transfer 11 of an amount: its class, and whether its entry may come next, which only a New one may.
@@ -61,14 +95,10 @@ fn expect_class(
 ) -> Result<(), Fail> {
     let ask = Ask::Transfer(transfer(11, 1, 2, amount));
     let entry = entry_of(alloc, machine, numbers, ask)?;
-    assert!(rt;
-        machine.fits(&entry) == (class == Class::New),
-        "fits {numbers:?}"
-    );
-    assert!(rt;
-        machine.class(&entry.request) == class,
-        "class of {numbers:?}"
-    );
+    let right = machine.fits(&entry) == (class == Class::New);
+    let same = machine.class(&entry.request) == class;
+    drop(entry);
+    assert!(rt; right && same, "class of {numbers:?}");
     Ok(())
 }
 
@@ -97,7 +127,9 @@ fn expect_classes(
 #[test]
 fn each_refusal_by_its_class(rt: HostRuntime) -> Result<(), Fail> {
     let mut machine = machine(rt.alloc(), 2)?;
-    expect_classes(&rt, rt.alloc(), &mut machine)
+    let done = expect_classes(&rt, rt.alloc(), &mut machine);
+    drop(machine);
+    done
 }
 
 fn session_of(machine: &Machine<Global>, client: u128) -> Option<u64> {
@@ -124,6 +156,33 @@ fn first_class(
     class_of(alloc, machine, (client, session, 1), Ask::NoneLookedUp)
 }
 
+/// A client's first request in a session has this class.
+fn expect_first(
+    rt: &impl Abort,
+    alloc: Global,
+    machine: &Machine<Global>,
+    client: u128,
+    session: u64,
+    class: Class,
+) -> Result<(), Fail> {
+    let found = first_class(alloc, machine, client, session)?;
+    assert!(rt; found == class);
+    Ok(())
+}
+
+/// Registers a client, which then has this session.
+fn expect_session(
+    rt: &impl Abort,
+    alloc: Global,
+    machine: &mut Machine<Global>,
+    client: u128,
+    session: u64,
+) -> Result<(), Fail> {
+    let made = registered(alloc, machine, client)?;
+    assert!(rt; made == Some(session));
+    Ok(())
+}
+
 /// Each client that registers takes the place of the one whose reply has the least commit number. Client 8's first request
 /// is of the session that its register began.
 fn expect_evictions(
@@ -142,9 +201,9 @@ fn expect_evictions(
         (8, 5, 7, Class::SessionTooLow),
         (7, 6, 9, Class::SessionTooLow),
     ] {
-        assert!(rt; registered(alloc, machine, client)? == Some(session));
+        expect_session(rt, alloc, machine, client, session)?;
         assert!(rt; session_of(machine, evicted).is_none());
-        assert!(rt; first_class(alloc, machine, 8, 2)? == late);
+        expect_first(rt, alloc, machine, 8, 2, late)?;
     }
     Ok(())
 }
@@ -152,7 +211,9 @@ fn expect_evictions(
 #[test]
 fn least_commit_is_evicted(rt: HostRuntime) -> Result<(), Fail> {
     let mut machine = machine(rt.alloc(), 2)?;
-    expect_evictions(&rt, rt.alloc(), &mut machine)
+    let done = expect_evictions(&rt, rt.alloc(), &mut machine);
+    drop(machine);
+    done
 }
 
 /// Registers clients 1 to 100, one after another.
@@ -181,17 +242,20 @@ fn expect_one_place(
     machine: &mut Machine<Global>,
 ) -> Result<(), Fail> {
     register_hundred(alloc, machine)?;
-    assert!(rt; without_session(alloc, machine)? == 99);
+    let without = without_session(alloc, machine)?;
     let (commit, _) = enter(alloc, machine, (100, 100, 1), Ask::NoneLookedUp)?;
-    assert!(rt; commit == 101);
-    assert!(rt; registered(alloc, machine, 1)? == Some(102));
-    assert!(rt; first_class(alloc, machine, 1, 1)? == Class::SessionTooLow);
-    assert!(rt; first_class(alloc, machine, 100, 100)? == Class::NoSession);
+    assert!(rt; without == 99 && commit == 101);
+    expect_session(rt, alloc, machine, 1, 102)?;
+    for (client, session, class) in [(1, 1, Class::SessionTooLow), (100, 100, Class::NoSession)] {
+        expect_first(rt, alloc, machine, client, session, class)?;
+    }
     Ok(())
 }
 
 #[test]
 fn many_clients_in_one_place(rt: HostRuntime) -> Result<(), Fail> {
     let mut machine = machine(rt.alloc(), 1)?;
-    expect_one_place(&rt, rt.alloc(), &mut machine)
+    let done = expect_one_place(&rt, rt.alloc(), &mut machine);
+    drop(machine);
+    done
 }

@@ -91,6 +91,21 @@ fn dumped(
     writer.into_inner()
 }
 
+/// Dumps a script, and compares the answer; gives how many bytes were written.
+fn length_dumped(
+    rt: &impl Abort,
+    alloc: Global,
+    clients_max: ClientsMax,
+    at: Option<u64>,
+    script: &[u8],
+    answer: Result<u64, RunFault>,
+) -> usize {
+    let dump = dumped(rt, alloc, clients_max, at, script, answer);
+    let length = dump.len();
+    drop(dump);
+    length
+}
+
 /// Replays a dump, and compares the answer; gives the replies.
 fn replayed(
     rt: &impl Abort,
@@ -117,11 +132,14 @@ fn expect_one_entry(
     put_lines(want, &ONE_REGISTER)?;
     put_lines(want, &REPLY)?;
     let clients_max = room(2)?;
-    let dump = dumped(rt, alloc, clients_max, None, script.as_slice(), Ok(1));
+    let mut dump = dumped(rt, alloc, clients_max, None, script.as_slice(), Ok(1));
+    let length = dump.len();
     let replies = replayed(rt, alloc, dump.as_slice(), Ok(1));
-    assert!(rt; dump.len() == 80);
-    assert!(rt; want.as_slice().get(..80) == Some(dump.as_slice()));
-    assert!(rt; want.as_slice().get(80..) == Some(replies.as_slice()));
+    let put = dump.extend_from_slice(replies.as_slice()).is_ok();
+    drop(replies);
+    let same = dump.as_slice() == want.as_slice();
+    drop(dump);
+    assert!(rt; put && length == 80 && same);
     Ok(())
 }
 
@@ -129,7 +147,30 @@ fn expect_one_entry(
 fn dump_and_replay(rt: HostRuntime) -> Result<(), Fail> {
     let mut script = Vec::new(rt.alloc());
     let mut want = Vec::new(rt.alloc());
-    expect_one_entry(&rt, rt.alloc(), &mut script, &mut want)
+    let done = expect_one_entry(&rt, rt.alloc(), &mut script, &mut want);
+    drop(script);
+    drop(want);
+    done
+}
+
+/// A dump has the mark at this place, where one is named.
+fn has_mark(dump: &[u8], mark: Option<usize>) -> bool {
+    match mark {
+        Some(place) => {
+            let end = place.wrapping_add(16);
+            dump.get(place..end) == Some(MARK.to_be_bytes().as_slice())
+        }
+        None => true,
+    }
+}
+
+/// Replies have the code 21 of the first transfer 77, and this code of the second one, or no result of it where that is 0.
+fn has_codes(replies: &[u8], code: u8) -> bool {
+    let first = replies.get(148..152) == Some([21, 0, 0, 0].as_slice());
+    if code == 0 {
+        return first && replies.len() == 200;
+    }
+    first && replies.len() == 208 && replies.get(204..) == Some([code, 0, 0, 0].as_slice())
 }
 
 /// Dumps with the mark before the first entry above `at`: the length of the dump, where the mark stands, and the code of
@@ -145,18 +186,11 @@ fn expect_mark(
     let (length, mark, code) = want;
     let dump = dumped(rt, alloc, clients_max, at, script, Ok(4));
     let replies = replayed(rt, alloc, dump.as_slice(), Ok(4));
-    assert!(rt; dump.len() == length);
-    if let Some(place) = mark {
-        let end = place.wrapping_add(16);
-        assert!(rt; dump.as_slice().get(place..end) == Some(MARK.to_be_bytes().as_slice()));
-    }
-    let written = replies.as_slice();
-    assert!(rt; written.get(148..152) == Some([21, 0, 0, 0].as_slice()));
-    if code == 0 {
-        assert!(rt; written.len() == 200);
-    } else {
-        assert!(rt; written.len() == 208 && written.get(204..) == Some([code, 0, 0, 0].as_slice()));
-    }
+    let marked = dump.len() == length && has_mark(dump.as_slice(), mark);
+    let answered = has_codes(replies.as_slice(), code);
+    drop(replies);
+    drop(dump);
+    assert!(rt; marked && answered);
 }
 
 /// Marks behind no entry, behind the last, and before the fourth and the third.
@@ -262,11 +296,9 @@ fn expect_no_mark(rt: &impl Abort, alloc: Global, script: &mut Vec<u8>) -> Resul
     let clients_max = room(2)?;
     let short = Err(RunFault::Frame(FrameFault::Short));
     let late = Err(RunFault::TimeExhausted);
-    let one = dumped(rt, alloc, clients_max, Some(1), script.as_slice(), late);
-    assert!(rt; one.len() == 80);
-    drop(one);
-    let none = dumped(rt, alloc, clients_max, Some(0), &[0; 8], short);
-    assert!(rt; none.len() == 16);
+    let one = length_dumped(rt, alloc, clients_max, Some(1), script.as_slice(), late);
+    let none = length_dumped(rt, alloc, clients_max, Some(0), &[0; 8], short);
+    assert!(rt; one == 80 && none == 16);
     Ok(())
 }
 

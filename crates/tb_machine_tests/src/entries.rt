@@ -22,15 +22,28 @@ fn expect_last(
     Ok(())
 }
 
-#[test]
-fn time_runs_out(rt: HostRuntime) -> Result<(), Fail> {
+/// A register's entry at the last moment.
+fn expect_last_of(
+    rt: &impl Abort,
+    alloc: Global,
+    machine: &mut Machine<Global>,
+) -> Result<(), Fail> {
     let register = Entry {
         commit: 1,
         time: LAST,
-        request: request_of(rt.alloc(), (7, 0, 0), Ask::Register)?,
+        request: request_of(alloc, (7, 0, 0), Ask::Register)?,
     };
+    let done = expect_last(rt, machine, &register);
+    drop(register);
+    done
+}
+
+#[test]
+fn time_runs_out(rt: HostRuntime) -> Result<(), Fail> {
     let mut machine = machine(rt.alloc(), 2)?;
-    expect_last(&rt, &mut machine, &register)
+    let done = expect_last_of(&rt, rt.alloc(), &mut machine);
+    drop(machine);
+    done
 }
 
 /// Two entries have the same numbers and the same body.
@@ -46,7 +59,9 @@ fn alike(one: &Entry, other: &Entry) -> bool {
 /// The entry's copy is like it.
 fn expect_copy(rt: &impl Abort, alloc: Global, entry: &Entry) -> Result<(), Fail> {
     let copy = entry.copy(alloc)?;
-    assert!(rt; alike(entry, &copy));
+    let same = alike(entry, &copy);
+    drop(copy);
+    assert!(rt; same);
     Ok(())
 }
 
@@ -58,5 +73,7 @@ fn entries_are_copied(rt: HostRuntime) -> Result<(), Fail> {
         time: 13,
         request: request_of(rt.alloc(), (7, 1, 2), Ask::ThreeLookedUp)?,
     };
-    expect_copy(&rt, rt.alloc(), &entry)
+    let done = expect_copy(&rt, rt.alloc(), &entry);
+    drop(entry);
+    done
 }

@@ -26,6 +26,8 @@ mod pending;
 #[cfg(test)]
 mod records;
 #[cfg(test)]
+mod restoring;
+#[cfg(test)]
 mod scripts;
 #[cfg(test)]
 mod serving;

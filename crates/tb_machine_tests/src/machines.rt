@@ -69,7 +69,9 @@ pub fn class_of(
     ask: Ask,
 ) -> Result<Class, Fail> {
     let request = request_of(alloc, numbers, ask)?;
-    Ok(machine.class(&request))
+    let class = machine.class(&request);
+    drop(request);
+    Ok(class)
 }
 
 /// Enters an entry, its request copied.

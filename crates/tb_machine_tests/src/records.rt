@@ -50,6 +50,16 @@ fn replies_no_result(machine: &Machine<Global>) -> bool {
     }
 }
 
+/// The machine finds accounts with these ids and timestamps by these ids.
+fn finds_times(
+    machine: &Machine<Global>,
+    ids: &[u128],
+    want: &[(u128, u64)],
+) -> Result<bool, Fail> {
+    let found = machine.lookup_accounts(ids)?;
+    Ok(have_times(found.as_slice(), want))
+}
+
 /// Accounts 2, 9 and 1 by client 7's request and by the machine's own lookup.
 fn expect_accounts(
     rt: &impl Abort,
@@ -57,20 +67,20 @@ fn expect_accounts(
     machine: &mut Machine<Global>,
 ) -> Result<(), Fail> {
     enter_all(alloc, machine, &first_four()[..2])?;
-    assert!(rt; enter(alloc, machine, (7, 1, 2), Ask::ThreeLookedUp)? == (3, 13));
-    assert!(rt; reply_of(machine, 7) == Some((1, 2, Status::Reply, 3)));
+    let entered = enter(alloc, machine, (7, 1, 2), Ask::ThreeLookedUp)?;
     let want = [(2, 12), (1, 11)];
-    assert!(rt; replies_accounts(machine, &want));
-    assert!(rt; machine.account(9).is_none());
-    let accounts = machine.lookup_accounts(&[2, 9, 1])?;
-    assert!(rt; have_times(accounts.as_slice(), &want));
+    let found = finds_times(machine, &[2, 9, 1], &want)?;
+    assert!(rt; entered == (3, 13) && reply_of(machine, 7) == Some((1, 2, Status::Reply, 3)));
+    assert!(rt; replies_accounts(machine, &want) && machine.account(9).is_none() && found);
     Ok(())
 }
 
 #[test]
 fn accounts_looked_up_in_order(rt: HostRuntime) -> Result<(), Fail> {
     let mut machine = machine(rt.alloc(), 2)?;
-    expect_accounts(&rt, rt.alloc(), &mut machine)
+    let done = expect_accounts(&rt, rt.alloc(), &mut machine);
+    drop(machine);
+    done
 }
 
 fn amount_and_time(machine: &Machine<Global>, id: u128) -> Option<(u128, u64)> {
@@ -85,18 +95,21 @@ fn expect_transfer(
     machine: &mut Machine<Global>,
 ) -> Result<(), Fail> {
     enter_all(alloc, machine, &first_four())?;
-    assert!(rt; reply_of(machine, 7) == Some((1, 3, Status::Reply, 4)));
-    assert!(rt; replies_no_result(machine));
-    assert!(rt; amount_and_time(machine, 11) == Some((100, 14)));
-    assert!(rt; machine.account(1) == Some(found([0, 100, 0, 0], 11, account(1))));
-    assert!(rt; machine.account(2) == Some(found([0, 0, 0, 100], 12, account(2))));
+    let stored = reply_of(machine, 7) == Some((1, 3, Status::Reply, 4));
+    let first = found([0, 100, 0, 0], 11, account(1));
+    let second = found([0, 0, 0, 100], 12, account(2));
+    let moved = machine.account(1) == Some(first) && machine.account(2) == Some(second);
+    assert!(rt; stored && replies_no_result(machine));
+    assert!(rt; amount_and_time(machine, 11) == Some((100, 14)) && moved);
     Ok(())
 }
 
 #[test]
 fn transfer_recorded(rt: HostRuntime) -> Result<(), Fail> {
     let mut machine = machine(rt.alloc(), 2)?;
-    expect_transfer(&rt, rt.alloc(), &mut machine)
+    let done = expect_transfer(&rt, rt.alloc(), &mut machine);
+    drop(machine);
+    done
 }
 
 /// Client 7's first to seventh request: accounts 1 and 2, three pending transfers, and posts of the whole, of 15 and of
@@ -130,16 +143,38 @@ fn posts() -> [Transfer; 2] {
     ]
 }
 
+/// The machine finds these accounts by these ids.
+fn finds_accounts(machine: &Machine<Global>, ids: &[u128], want: &[Account]) -> Result<bool, Fail> {
+    let found = machine.lookup_accounts(ids)?;
+    Ok(found.as_slice() == want)
+}
+
+/// The machine finds these transfers by these ids.
+fn finds_transfers(
+    machine: &Machine<Global>,
+    ids: &[u128],
+    want: &[Transfer],
+) -> Result<bool, Fail> {
+    let found = machine.lookup_transfers(ids)?;
+    Ok(found.as_slice() == want)
+}
+
+/// The machine finds transfers with these ids and amounts by these ids.
+fn finds_amounts(
+    machine: &Machine<Global>,
+    ids: &[u128],
+    want: &[(u128, u128)],
+) -> Result<bool, Fail> {
+    let found = machine.lookup_transfers(ids)?;
+    Ok(have_amounts(found.as_slice(), want))
+}
+
 /// The machine's own lookups find accounts and posts, field by field.
 fn expect_lookups(rt: &impl Abort, machine: &Machine<Global>) -> Result<(), Fail> {
-    let accounts = machine.lookup_accounts(&[1, 2])?;
-    assert!(rt; accounts.as_slice() == posted_accounts().as_slice());
-    drop(accounts);
-    let whole = machine.lookup_transfers(&[21, 23])?;
-    assert!(rt; whole.as_slice() == posts().as_slice());
-    drop(whole);
-    let amounts = machine.lookup_transfers(&[21, 23, 26, 25])?;
-    assert!(rt; have_amounts(amounts.as_slice(), &[(21, 40), (23, 15), (25, 0)]));
+    let accounts = finds_accounts(machine, &[1, 2], &posted_accounts())?;
+    let whole = finds_transfers(machine, &[21, 23], &posts())?;
+    let amounts = finds_amounts(machine, &[21, 23, 26, 25], &[(21, 40), (23, 15), (25, 0)])?;
+    assert!(rt; accounts && whole && amounts);
     Ok(())
 }
 
@@ -159,5 +194,7 @@ fn expect_posts(rt: &impl Abort, alloc: Global, machine: &mut Machine<Global>) -
 #[test]
 fn posts_record_their_amounts(rt: HostRuntime) -> Result<(), Fail> {
     let mut machine = machine(rt.alloc(), 2)?;
-    expect_posts(&rt, rt.alloc(), &mut machine)
+    let done = expect_posts(&rt, rt.alloc(), &mut machine);
+    drop(machine);
+    done
 }

@@ -273,6 +273,9 @@ impl Script {
         let body = mem::replace(&mut self.body, Vec::new(self.alloc));
         let answer = mem::replace(&mut self.answer, Vec::new(self.alloc));
         self.events = 0;
-        self.next(operation, body.as_slice(), answer.as_slice())
+        let sent = self.next(operation, body.as_slice(), answer.as_slice());
+        drop(answer);
+        drop(body);
+        sent
     }
 }

@@ -10,7 +10,7 @@ use tb_records::{ClientsMax, Counting, Profile, Reply, Request, RequestStream, w
 use tb_sessions::Class;
 
 /// What `run` answers to a script, and what it writes.
-pub fn serve(
+fn serve(
     alloc: Global,
     clients_max: ClientsMax,
     profile: Profile,
@@ -22,6 +22,22 @@ pub fn serve(
     (result, writer.into_inner())
 }
 
+/// Serves the bytes of a script, and compares the answer and the replies with those that are wanted.
+pub fn expect_bytes(
+    rt: &impl Abort,
+    alloc: Global,
+    clients_max: ClientsMax,
+    profile: Profile,
+    script: &[u8],
+    answer: Result<u64, RunFault>,
+    wanted: &[u8],
+) {
+    let (result, replies) = serve(alloc, clients_max, profile, script);
+    let right = result == answer && replies.as_slice() == wanted;
+    drop(replies);
+    assert!(rt; right);
+}
+
 /// Serves a script, and compares the answer and the replies with those that are wanted.
 pub fn expect(
     rt: &impl Abort,
@@ -30,15 +46,23 @@ pub fn expect(
     profile: Profile,
     answer: Result<u64, RunFault>,
 ) {
-    let bytes = script.bytes.as_slice();
-    let (result, replies) = serve(script.alloc, clients_max, profile, bytes);
-    assert!(rt; result == answer && replies.as_slice() == script.replies.as_slice());
+    let (bytes, replies) = (script.bytes.as_slice(), script.replies.as_slice());
+    expect_bytes(
+        rt,
+        script.alloc,
+        clients_max,
+        profile,
+        bytes,
+        answer,
+        replies,
+    );
 }
 
 /// Applies the entry of a request that comes at a moment.
 fn apply(machine: &mut Machine<Global>, moment: u64, request: Request) -> Result<(), Fail> {
     let events = request.body().event_count() as u64;
     let Some(time) = machine.next_time(moment, events) else {
+        drop(request);
         return Err("a time".into());
     };
     let entry = Entry {
@@ -46,7 +70,9 @@ fn apply(machine: &mut Machine<Global>, moment: u64, request: Request) -> Result
         time,
         request,
     };
-    apply_entry(machine, &entry)
+    let applied = apply_entry(machine, &entry);
+    drop(entry);
+    applied
 }
 
 /// Writes the stored reply of a client.
@@ -59,16 +85,11 @@ fn put_reply(reply: &Reply, replies: &mut Vec<u8>) -> Result<(), Fail> {
     Ok(write_reply(reply, replies)?)
 }
 
-/// Enters a new request that comes at a moment, and writes its reply.
-fn answer_new(
-    machine: &mut Machine<Global>,
-    moment: u64,
-    request: Request,
-    replies: &mut Vec<u8>,
-) -> Result<(), Fail> {
-    let client = request.client();
-    apply(machine, moment, request)?;
-    put_stored(machine, client, replies)
+/// Writes a reply that refuses a request, and lets it go.
+fn put_refusal(refusal: Reply, replies: &mut Vec<u8>) -> Result<(), Fail> {
+    let put = put_reply(&refusal, replies);
+    drop(refusal);
+    put
 }
 
 /// Answers a request that comes at a moment by the machine's own calls.
@@ -78,11 +99,17 @@ fn answer(
     request: Request,
     replies: &mut Vec<u8>,
 ) -> Result<(), Fail> {
+    let client = request.client();
     match machine.class(&request) {
-        Class::New => answer_new(machine, moment, request, replies),
-        Class::Repeat => put_stored(machine, request.client(), replies),
-        class => put_reply(&Reply::refusal(&request, status_of(class)), replies),
+        Class::New => apply(machine, moment, request)?,
+        Class::Repeat => drop(request),
+        class => {
+            let refusal = Reply::refusal(&request, status_of(class));
+            drop(request);
+            return put_refusal(refusal, replies);
+        }
     }
+    put_stored(machine, client, replies)
 }
 
 /// Hands so many pairs of a script to a machine, one after another.
@@ -163,7 +190,9 @@ pub fn serve_steps(
     steps: &[Step],
 ) -> Result<(), Fail> {
     let mut script = Script::new(alloc);
-    put_and_serve(rt, &mut script, profiles, steps, &[])
+    let served = put_and_serve(rt, &mut script, profiles, steps, &[]);
+    drop(script);
+    served
 }
 
 /// Puts the first two requests into a script, and two parts behind them, and serves it by profiles.
@@ -187,7 +216,9 @@ pub fn serve_both(
     last: &[Step],
 ) -> Result<(), Fail> {
     let mut script = Script::new(alloc);
-    begin_and_serve(rt, &mut script, profiles, first, last)
+    let served = begin_and_serve(rt, &mut script, profiles, first, last);
+    drop(script);
+    served
 }
 
 /// Serves steps behind the first two requests by profiles.
