@@ -60,8 +60,8 @@ fn probes_stay_short(rt: HostRuntime) -> Result<(), Fail> {
     probe_thousand(&rt, &mut AvlMap::new_in(rt.alloc()))
 }
 
-fn look_eight_up(rt: &impl Abort, map: &mut AvlMap<u32, u64, Global>) -> Result<(), Fail> {
-    put_rising(rt, map, 100)?;
+/// Eight keys are looked up by one call, two of them absent and one twice.
+fn expect_eight(rt: &impl Abort, map: &AvlMap<u32, u64, Global>) {
     let wanted = [
         Some(500),
         Some(10),
@@ -73,9 +73,14 @@ fn look_eight_up(rt: &impl Abort, map: &mut AvlMap<u32, u64, Global>) -> Result<
         Some(640),
     ];
     let found = map.get_many(&[50, 1, 101, 100, 0, 7, 7, 64]);
-    for (value, wanted) in found.into_iter().zip(wanted) {
-        assert_eq!(rt; value.copied(), wanted);
+    for (value, wanted) in found.iter().zip(wanted.iter()) {
+        assert_eq!(rt; value.copied(), *wanted);
     }
+}
+
+fn look_eight_up(rt: &impl Abort, map: &mut AvlMap<u32, u64, Global>) -> Result<(), Fail> {
+    put_rising(rt, map, 100)?;
+    expect_eight(rt, map);
     Ok(())
 }
 
@@ -95,16 +100,45 @@ fn digits<A: Allocator + Clone>(map: &AvlMap<u64, u128, A>, low: u64, high: u64)
     digits
 }
 
+/// The key has this value, or is absent.
+fn expect_value(rt: &impl Abort, map: &AvlMap<u64, u128, Global>, key: u64, value: Option<u128>) {
+    assert_eq!(rt; map.get(&key).copied(), value, "key {key}");
+}
+
+/// These are the keys from `low` to `high`, by their digits.
+fn expect_digits<A: Allocator + Clone>(
+    rt: &impl Abort,
+    map: &AvlMap<u64, u128, A>,
+    low: u64,
+    high: u64,
+    wanted: u64,
+) {
+    assert_eq!(rt; digits(map, low, high), wanted, "{low} to {high}");
+}
+
+/// The map has so many pairs.
+fn expect_len<K: Ord + Copy, V, A: Allocator + Clone>(
+    rt: &impl Abort,
+    map: &AvlMap<K, V, A>,
+    len: usize,
+) {
+    assert_eq!(rt; map.len(), len);
+}
+
 /// The keys 2, 1 and 3 take three of the spare nodes.
+fn take_three(rt: &impl Abort, map: &mut AvlMap<u64, u128, Global>) {
+    let reserved = map.spare();
+    for (key, value) in [(2, 20), (1, 10), (3, 30)] {
+        put(rt, map, key, value);
+    }
+    assert!(rt; reserved >= 3 && reserved.checked_sub(map.spare()) == Some(3));
+}
+
+/// Puts the keys 2, 1 and 3 in.
 fn put_three(rt: &impl Abort, map: &mut AvlMap<u64, u128, Global>) -> Result<(), Fail> {
     map.reserve(3)?;
-    let reserved = map.spare();
-    assert!(rt; reserved >= 3);
-    put(rt, map, 2, 20);
-    put(rt, map, 1, 10);
-    put(rt, map, 3, 30);
-    assert_eq!(rt; reserved.checked_sub(map.spare()), Some(3));
-    assert_eq!(rt; map.len(), 3);
+    take_three(rt, map);
+    expect_len(rt, map, 3);
     Ok(())
 }
 
@@ -112,21 +146,34 @@ fn put_three(rt: &impl Abort, map: &mut AvlMap<u64, u128, Global>) -> Result<(),
 fn remove_twice(rt: &impl Abort, map: &mut AvlMap<u64, u128, Global>) {
     let before = map.spare();
     for value in [Some(20), None] {
-        assert_eq!(rt; map.remove(&2), value);
-        assert_eq!(rt; map.spare().checked_sub(before), Some(1));
+        let removed = map.remove(&2);
+        assert!(rt;
+            removed == value && map.spare().checked_sub(before) == Some(1),
+            "{value:?}"
+        );
     }
+}
+
+/// Sets the value of a key, which gives this answer.
+fn expect_set(
+    rt: &impl Abort,
+    map: &mut AvlMap<u64, u128, Global>,
+    key: u64,
+    value: u128,
+    answer: Result<u128, u128>,
+) {
+    assert_eq!(rt; map.set(key, value), answer, "key {key}");
 }
 
 /// Keys 1 and 3 are left.
 fn expect_two(rt: &impl Abort, map: &mut AvlMap<u64, u128, Global>) {
-    assert_eq!(rt; map.set(4, 40), Err(40));
-    assert_eq!(rt; map.set(3, 33), Ok(30));
-    assert_eq!(rt; map.get(&3).copied(), Some(33));
-    assert_eq!(rt; map.get(&2).copied(), None);
+    expect_set(rt, map, 4, 40, Err(40));
+    expect_set(rt, map, 3, 33, Ok(30));
+    expect_value(rt, map, 3, Some(33));
+    expect_value(rt, map, 2, None);
+    expect_digits(rt, map, 0, 9, 13);
+    expect_digits(rt, map, 9, 0, 0);
     assert_eq!(rt; map.first().map(|(key, _)| *key), Some(1));
-
-    assert_eq!(rt; digits(map, 0, 9), 13);
-    assert_eq!(rt; digits(map, 9, 0), 0);
 }
 
 fn keep_spare_nodes(rt: &impl Abort, map: &mut AvlMap<u64, u128, Global>) -> Result<(), Fail> {
@@ -180,13 +227,25 @@ fn transfer<A: Allocator + Clone>(
     )
 }
 
+/// Moves an amount from one key to another, which is to give this answer.
+fn expect_transfer(
+    rt: &impl Abort,
+    map: &mut AvlMap<u64, u128, Global>,
+    from: u64,
+    to: u64,
+    amount: u128,
+    moved: Option<bool>,
+) {
+    let answer = transfer(map, from, to, amount);
+    assert_eq!(rt; answer, moved, "{from} {to}");
+}
+
 /// Ten from one key to each other, and back.
 fn move_there_and_back(rt: &impl Abort, map: &mut AvlMap<u64, u128, Global>, from: u64) {
     for to in 1..=7 {
-        let moved = transfer(map, from, to, 10);
-        assert_eq!(rt; moved, (from != to).then_some(true), "{from} {to}");
-        let back = transfer(map, to, from, 10);
-        assert_eq!(rt; back, moved, "{to} {from}");
+        let moved = (from != to).then_some(true);
+        expect_transfer(rt, map, from, to, 10, moved);
+        expect_transfer(rt, map, to, from, 10, moved);
         look_up_all(rt, map, 1, 7);
     }
 }
@@ -194,12 +253,12 @@ fn move_there_and_back(rt: &impl Abort, map: &mut AvlMap<u64, u128, Global>, fro
 /// Too much, a key that is absent, and all that there is.
 fn move_what_there_is(rt: &impl Abort, map: &mut AvlMap<u64, u128, Global>) {
     for (from, to, amount, moved) in [(1, 7, 11, Some(false)), (1, 8, 1, None), (8, 1, 1, None)] {
-        assert_eq!(rt; transfer(map, from, to, amount), moved);
+        expect_transfer(rt, map, from, to, amount, moved);
     }
     look_up_all(rt, map, 1, 7);
-    assert_eq!(rt; transfer(map, 7, 1, 70), Some(true));
-    assert_eq!(rt; map.get(&7).copied(), Some(0));
-    assert_eq!(rt; map.get(&1).copied(), Some(80));
+    expect_transfer(rt, map, 7, 1, 70, Some(true));
+    expect_value(rt, map, 7, Some(0));
+    expect_value(rt, map, 1, Some(80));
 }
 
 fn change_two(rt: &impl Abort, map: &mut AvlMap<u64, u128, Global>) -> Result<(), Fail> {
@@ -217,15 +276,30 @@ fn two_values_change_at_once(rt: HostRuntime) -> Result<(), Fail> {
     change_two(&rt, &mut AvlMap::new_in(rt.alloc()))
 }
 
+/// Doubles the value of a key, which was this one, or absent.
+fn expect_double(
+    rt: &impl Abort,
+    map: &mut AvlMap<u64, u128, Global>,
+    key: u64,
+    before: Option<u128>,
+) {
+    assert_eq!(rt; double(map, key), before, "key {key}");
+}
+
+/// Key 3 is doubled twice, and key 4 is absent.
+fn double_in_place(rt: &impl Abort, map: &mut AvlMap<u64, u128, Global>) {
+    for (key, before) in [(3, Some(30)), (3, Some(60)), (4, None)] {
+        expect_double(rt, map, key, before);
+    }
+    expect_value(rt, map, 3, Some(120));
+    look_up_all(rt, map, 1, 2);
+    expect_len(rt, map, 3);
+}
+
 fn change_in_place(rt: &impl Abort, map: &mut AvlMap<u64, u128, Global>) -> Result<(), Fail> {
     map.reserve(3)?;
     put_all(rt, map, 1, 3);
-    for (key, before) in [(3, Some(30)), (3, Some(60)), (4, None)] {
-        assert_eq!(rt; double(map, key), before);
-    }
-    assert_eq!(rt; map.get(&3).copied(), Some(120));
-    look_up_all(rt, map, 1, 2);
-    assert_eq!(rt; map.len(), 3);
+    double_in_place(rt, map);
     Ok(())
 }
 
@@ -326,21 +400,36 @@ fn put_pairs(rt: &impl Abort, map: &mut Pairs) -> Result<(), Fail> {
     Ok(())
 }
 
+/// This key is the first.
+fn expect_first(rt: &impl Abort, map: &Pairs, key: (u64, u128)) {
+    assert_eq!(rt; map.first().map(|(key, _)| *key), Some(key));
+}
+
 /// The first key leaves the map, and the next one is the first.
 fn remove_first(rt: &impl Abort, map: &mut Pairs) {
-    assert_eq!(rt; map.first().map(|(key, _)| *key), Some((1, 8)));
+    expect_first(rt, map, (1, 8));
     assert_eq!(rt; map.remove(&(1, 8)), Some(()));
-    assert_eq!(rt; map.first().map(|(key, _)| *key), Some((1, 9)));
+    expect_first(rt, map, (1, 9));
+}
+
+/// The first pair comes out, or none.
+fn expect_popped(rt: &impl Abort, map: &mut Pairs, first: Option<((u64, u128), ())>) {
+    assert_eq!(rt; map.pop_first(), first);
+}
+
+/// So many spare nodes were won.
+fn expect_won(rt: &impl Abort, map: &Pairs, before: usize, won: usize) {
+    assert_eq!(rt; map.spare().checked_sub(before), Some(won));
 }
 
 /// The other two come out by order.
 fn pop_all(rt: &impl Abort, map: &mut Pairs) {
     let before = map.spare();
     for first in [Some(((1, 9), ())), Some(((2, 1), ())), None] {
-        assert_eq!(rt; map.pop_first(), first);
+        expect_popped(rt, map, first);
     }
-    assert_eq!(rt; map.len(), 0);
-    assert_eq!(rt; map.spare().checked_sub(before), Some(2));
+    expect_len(rt, map, 0);
+    expect_won(rt, map, before, 2);
 }
 
 fn order_pairs(rt: &impl Abort, map: &mut Pairs) -> Result<(), Fail> {
@@ -355,9 +444,18 @@ fn pairs_come_by_both_parts(rt: HostRuntime) -> Result<(), Fail> {
     order_pairs(&rt, &mut AvlMap::new_in(rt.alloc()))
 }
 
+/// What comes out up to a bound.
+fn expect_popped_to(
+    rt: &impl Abort,
+    map: &mut Pairs,
+    bound: (u64, u128),
+    first: Option<((u64, u128), ())>,
+) {
+    assert_eq!(rt; map.pop_first_to(&bound), first, "{bound:?}");
+}
+
 /// What comes out of the three pairs up to each bound, the number of pairs that are left, and the spare nodes that were won.
-fn pop_to_bounds(rt: &impl Abort, map: &mut Pairs) -> Result<(), Fail> {
-    put_pairs(rt, map)?;
+fn pop_three(rt: &impl Abort, map: &mut Pairs) {
     let before = map.spare();
     for (bound, first, left) in [
         ((1, 7), None, 3),
@@ -368,10 +466,15 @@ fn pop_to_bounds(rt: &impl Abort, map: &mut Pairs) -> Result<(), Fail> {
         ((u64::MAX, 0), Some(((2, 1), ())), 0),
         ((u64::MAX, 0), None, 0),
     ] {
-        assert_eq!(rt; map.pop_first_to(&bound), first, "{bound:?}");
-        assert_eq!(rt; map.len(), left);
+        expect_popped_to(rt, map, bound, first);
+        expect_len(rt, map, left);
     }
-    assert_eq!(rt; map.spare().checked_sub(before), Some(3));
+    expect_won(rt, map, before, 3);
+}
+
+fn pop_to_bounds(rt: &impl Abort, map: &mut Pairs) -> Result<(), Fail> {
+    put_pairs(rt, map)?;
+    pop_three(rt, map);
     Ok(())
 }
 
@@ -380,18 +483,20 @@ fn the_first_pair_comes_out_to_a_bound(rt: HostRuntime) -> Result<(), Fail> {
     pop_to_bounds(&rt, &mut AvlMap::new_in(rt.alloc()))
 }
 
+/// The key that a bound names comes out, if it is due, and none behind it.
+fn expect_due(rt: &impl Abort, map: &mut AvlMap<u32, u64, Global>, bound: u32, due: bool) {
+    let key = map.pop_first_to(&bound).map(|(key, _)| key);
+    let no_more = map.pop_first_to(&bound).is_none();
+    assert!(rt; key == due.then_some(bound) && no_more, "{bound}: {key:?}");
+}
+
 /// As many keys as there are, in order, up to a bound that rises: each comes out once its turn is there, and no other.
 fn pop_by_bounds(rt: &impl Abort, map: &mut AvlMap<u32, u64, Global>) -> Result<(), Fail> {
     put_rising(rt, map, 1000)?;
     for bound in 0..=1001u32 {
-        let due = (1..=1000).contains(&bound);
-        assert_eq!(rt;
-            map.pop_first_to(&bound).map(|(key, _)| key),
-            due.then_some(bound)
-        );
-        assert!(rt; map.pop_first_to(&bound).is_none());
+        expect_due(rt, map, bound, (1..=1000).contains(&bound));
     }
-    assert_eq!(rt; map.len(), 0);
+    expect_len(rt, map, 0);
     Ok(())
 }
 
@@ -447,8 +552,8 @@ fn refuse_reserve(
 
 /// The keys 1 to 3 are there, and no other below 10.
 fn expect_three(rt: &impl Abort, map: &AvlMap<u64, u128, &Limited<Global>>) {
-    assert_eq!(rt; map.len(), 3);
-    assert_eq!(rt; digits(map, 0, 9), 123);
+    expect_len(rt, map, 3);
+    expect_digits(rt, map, 0, 9, 123);
     look_up_all(rt, map, 1, 3);
 }
 
@@ -481,7 +586,7 @@ fn reserve_and_fill(
     reserve_twice(rt, limited, map, given)?;
     limited.allow(0);
     put_all(rt, map, 4, 9);
-    assert_eq!(rt; digits(map, 0, 9), 123_456_789);
+    expect_digits(rt, map, 0, 9, 123_456_789);
     look_up_all(rt, map, 4, 9);
     Ok(())
 }
