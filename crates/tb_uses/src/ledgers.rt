@@ -1,5 +1,6 @@
 //! A caller of the ledger.
 ghost use Rattle.std.specs.Prelude.{◌≡◌, ◌+◌, ◌<◌, ◌∷◌, [], IfOk, OnOk, OnErr};
+ghost use Rattle.std.specs.Option.{option_to_list};
 ghost use Rattle.tb_ledger.specs.Batches.{batch_after, results, transfer_events};
 ghost use Rattle.tb_ledger.specs.Verdicts.{max_time};
 
@@ -7,14 +8,23 @@ use std::alloc::{AllocError, Allocator, Global};
 use tb_ledger::Ledger;
 use tb_records::{EventResult, Transfer};
 
-/// Enters one transfer at the next moment, and answers what it was refused for: nothing where it was accepted.
+/// Enters one transfer at the next moment, and answers what it was refused for, as the one result of its batch: nothing where it
+/// was accepted.
 pub fn enter_transfer<A: Allocator + Clone>(
     ledger: &mut Ledger<A>,
     global: Global,
     transfer: Transfer,
 ) -> Result<Option<EventResult>, AllocError>
     requires { ledger.old.time < max_time }
-    ensures books { OnOk result (ledger.new ≡ (batch_after transfer_events ledger.old (transfer ∷ []) (ledger.old.time + 1)).books) }
+    ensures answer { IfOk result
+        (λ refused.
+        option_to_list refused
+        ≡ results
+        (batch_after transfer_events ledger.old (transfer ∷ [])
+        (ledger.old.time + 1)).codes) }
+    ensures books { OnOk result
+        (ledger.new
+        ≡ (batch_after transfer_events ledger.old (transfer ∷ []) (ledger.old.time + 1)).books) }
     ensures unchanged { OnErr result (ledger.new ≡ ledger.old) }
 {
     let time = ledger.time() + 1;

@@ -5,6 +5,7 @@ pub mod ledgers;
 pub mod maps;
 pub mod publishing;
 pub mod retries;
+pub mod seating;
 pub mod sessions;
 #[cfg(test)]
 mod tests;

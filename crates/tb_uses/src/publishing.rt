@@ -1,19 +1,25 @@
 //! A caller of the published copies: a writer takes and tells, a client thread learns and asks.
-ghost use Rattle.std.specs.Prelude.{◌≡◌, IfOk};
+ghost use Rattle.std.specs.Prelude.{◌≡◌, Ok, IfOk};
 ghost use Rattle.tb_published.specs.Lines.{AnswersIn, LegalIn};
+ghost use Rattle.tb_published.specs.Taking.{Takes};
 
 use std::sync::Wait;
 use tb_published::{Naming, Publisher, Seat, SeatFault, TakeFault, Taken, Told};
 use tb_records::{Reply, Request};
 
-/// Takes a request that comes at a moment, and tells what the copies show then, for seats to learn.
+/// Takes a request that comes at a moment: answers what became of it, as `Publisher::take` does, and tells what the copies show
+/// then, which is the whole history, for seats to learn.
 pub fn take_and_tell<J: Naming, W: Wait>(
     rt: &W,
     publisher: &mut Publisher<J>,
     request: Request,
     now: u64,
 ) -> Result<(Taken, Told<J>), TakeFault>
-    ensures { IfOk result (λ answer. answer.1 ≡ publisher.new.shown) }
+    ensures taken { IfOk result
+        (λ answer.
+        Takes J.opening publisher.old.history request now (Ok answer.0)
+        publisher.new.history publisher.new.shown) }
+    ensures told { IfOk result (λ answer. answer.1 ≡ publisher.new.shown) }
 {
     let taken = publisher.take(rt, request, now)?;
     Ok((taken, publisher.tell()))
