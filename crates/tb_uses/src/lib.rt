@@ -6,6 +6,7 @@ pub mod maps;
 pub mod publishing;
 pub mod retries;
 pub mod seating;
+pub mod serving;
 pub mod sessions;
 #[cfg(test)]
 mod tests;

@@ -1,0 +1,128 @@
+//! A caller of the service: one port, one request, and what then follows of the history that the server leaves.
+ghost use Rattle.std.specs.Prelude.{◌≡◌, [], ◌∷◌, length, IfOk};
+ghost use Rattle.tb_service.specs.Names.{Name};
+ghost use Rattle.tb_service.specs.Ports.{AreNumbered, offered, number_of, service as service_of, offered_by, number_by, service_by};
+ghost use Rattle.tb_service.specs.Servers.{room_at, service_on, port_count};
+ghost use Rattle.tb_service.specs.OfferedLaws.{GrowsByOffers};
+
+use std::alloc::Global;
+use std::sync::Wait;
+use tb_published::{Naming, Publisher};
+use tb_records::Request;
+use tb_service::{Closed, Finished, Gate, Moments, Port, PortCount, Server, laws, service};
+
+/// Why nothing was served, or nothing is known of it.
+#[derive(Debug, Drop)]
+pub enum Unserved {
+    /// There was no memory for the server and its port, or for the places of the port.
+    NoMemory,
+    /// The server was gone before the request was handed over.
+    Gone,
+}
+
+/// The one port.
+fn only_port(ports: Vec<Port>) -> Port
+    requires one { length ports.items ≡ 1 }
+    ensures { (name : Name) → AreNumbered name 0 ports.items
+        → (service_of result ≡ name) × (number_of result ≡ 0) × (offered result ≡ []) }
+{
+    let mut ports = ports;
+    let port = ports.pop().unwrap();
+    drop(ports);
+    port
+}
+
+/// Hands a request over through a port that has offered nothing, and closes it.
+fn hand_over<R: Wait>(rt: &R, port: Port, request: Request) -> Result<Closed, Unserved>
+    requires fresh { offered port ≡ [] }
+    ensures offered { IfOk result (λ closed. offered_by closed ≡ request ∷ []) }
+    ensures same { IfOk result
+        (λ closed. (service_by closed ≡ service_of port) × (number_by closed ≡ number_of port)) }
+{
+    let mut port = port;
+    match port.offer(rt, request) {
+        Ok(()) => Ok(port.close(rt)),
+        Err(back) => {
+            drop(back);
+            drop(port);
+            Err(Unserved::Gone)
+        }
+    }
+}
+
+/// Runs a server whose one port is closed.
+fn run_closed<J: Naming, W: Wait + Drop, M: Moments + Drop, G: Gate + Drop, R: Wait>(
+    rt: &R,
+    server: Server<J, W, M, G>,
+    closed: Closed,
+) -> Result<Finished<J>, Unserved>
+    requires alone { port_count server ≡ 1 }
+    requires own { (service_by closed ≡ service_on server) × (number_by closed ≡ 0) }
+    ensures { IfOk result
+        (λ finished.
+        GrowsByOffers 1 (λ port. offered_by closed) (room_at server).history
+        finished.publisher.history) }
+{
+    laws::none_invented::<J, M, G>();
+    let mut finished = server.run(rt);
+    match finished.offered_by(closed) {
+        Ok(places) => {
+            drop(places);
+            Ok(finished)
+        }
+        Err(back) => {
+            drop(back);
+            drop(finished.close(rt));
+            Err(Unserved::NoMemory)
+        }
+    }
+}
+
+/// Runs a server whose one port hands a request over and is closed.
+fn run_one<J: Naming, W: Wait + Drop, M: Moments + Drop, G: Gate + Drop, R: Wait>(
+    rt: &R,
+    server: Server<J, W, M, G>,
+    port: Port,
+    request: Request,
+) -> Result<Finished<J>, Unserved>
+    requires alone { port_count server ≡ 1 }
+    requires own { (service_of port ≡ service_on server) × (number_of port ≡ 0) }
+    requires fresh { offered port ≡ [] }
+    ensures { IfOk result
+        (λ finished.
+        GrowsByOffers 1 (λ port. request ∷ []) (room_at server).history
+        finished.publisher.history) }
+{
+    match hand_over(rt, port, request) {
+        Ok(closed) => run_closed(rt, server, closed),
+        Err(fault) => {
+            drop(server);
+            Err(fault)
+        }
+    }
+}
+
+/// Serves one request through a server of one port. The history that it leaves begins with the publisher's, and each entry
+/// after that has this request: nothing is invented.
+pub fn serve_one<J: Naming, R: Wait, M: Moments + Drop, G: Gate + Drop>(
+    rt: &R,
+    alloc: Global,
+    publisher: Publisher<J>,
+    moments: M,
+    gate: G,
+    request: Request,
+) -> Result<Finished<J>, Unserved>
+    ensures none_invented { IfOk result
+        (λ finished.
+        GrowsByOffers 1 (λ port. request ∷ []) publisher.history
+        finished.publisher.history) }
+{
+    let one = PortCount::new(1).unwrap();
+    match service(alloc, publisher, rt, one, moments, gate) {
+        Ok((server, ports)) => run_one(rt, server, only_port(ports), request),
+        Err(_) => {
+            drop(request);
+            Err(Unserved::NoMemory)
+        }
+    }
+}
