@@ -1,7 +1,7 @@
 //! `Machine::apply`: a refused call leaves all as it was, and made again it gives the answer.
 use crate::scripts::{Pair, copy_of, put_reply};
 use crate::troubles::{Trouble, Why, expect, note};
-use std::alloc::Global;
+use std::alloc::{AllocError, Global};
 use tb_machine::{Entry, Machine, answer_of};
 use tb_records::{Account, Body, ClientsMax, Profile, Reply, Transfer};
 use tb_sessions::Class;
@@ -38,16 +38,27 @@ impl Named {
     }
 }
 
+/// Notes what requests name.
+fn add_all(named: &mut Named, pairs: &[Pair]) -> Result<(), Trouble> {
+    for pair in pairs {
+        named.add(pair)?;
+    }
+    Ok(())
+}
+
 fn named_in(alloc: Global, pairs: &[Pair]) -> Result<Named, Trouble> {
     let mut named = Named {
         accounts: Vec::new(alloc),
         transfers: Vec::new(alloc),
         clients: Vec::new(alloc),
     };
-    for pair in pairs {
-        named.add(pair)?;
+    match add_all(&mut named, pairs) {
+        Ok(()) => Ok(named),
+        Err(trouble) => {
+            drop(named);
+            Err(trouble)
+        }
     }
-    Ok(named)
 }
 
 /// What a machine shows of whatever a script names: its accounts, transfers and stored replies, its last commit number and
@@ -183,16 +194,49 @@ impl Watched<'_> {
             time: time.ok_or(Trouble::Wrong(Why::NoTime))?,
             request: copy_of(rt, alloc, &pair.request)?,
         };
-        self.apply(rt, &entry)
+        let applied = self.apply(rt, &entry);
+        drop(entry);
+        applied
     }
 
     /// The answer to a request.
     fn answer<R: Eprint>(&self, rt: &R, alloc: Global, pair: &Pair) -> Result<Reply, Trouble> {
-        if let Ok(reply) = answer_of(alloc, &self.machine, &pair.request) {
-            return Ok(reply);
+        match answer_of(alloc, &self.machine, &pair.request) {
+            Ok(reply) => Ok(reply),
+            Err(AllocError) => {
+                note(rt, "answer_of NoMemory");
+                Ok(answer_of(alloc, &self.machine, &pair.request)?)
+            }
         }
-        note(rt, "answer_of NoMemory");
-        Ok(answer_of(alloc, &self.machine, &pair.request)?)
+    }
+
+    /// Enters the request of a pair, and appends the answer to it.
+    fn serve<R: Eprint>(
+        &mut self,
+        rt: &R,
+        alloc: Global,
+        pair: &Pair,
+        out: &mut Vec<u8>,
+    ) -> Result<(), Trouble> {
+        self.enter(rt, alloc, pair)?;
+        let reply = self.answer(rt, alloc, pair)?;
+        let put = put_reply(&reply, out);
+        drop(reply);
+        put
+    }
+
+    /// Serves all pairs, one after another.
+    fn serve_all<R: Eprint>(
+        &mut self,
+        rt: &R,
+        alloc: Global,
+        pairs: &[Pair],
+        out: &mut Vec<u8>,
+    ) -> Result<(), Trouble> {
+        for pair in pairs {
+            self.serve(rt, alloc, pair, out)?;
+        }
+        Ok(())
     }
 }
 
@@ -201,11 +245,60 @@ fn new_machine<R: Eprint>(
     alloc: Global,
     clients_max: ClientsMax,
 ) -> Result<Machine<Global>, Trouble> {
-    if let Ok(machine) = Machine::new_in(alloc, alloc, Profile::One, clients_max) {
-        return Ok(machine);
+    match Machine::new_in(alloc, alloc, Profile::One, clients_max) {
+        Ok(machine) => Ok(machine),
+        Err(AllocError) => {
+            note(rt, "new_in NoMemory");
+            Ok(Machine::new_in(alloc, alloc, Profile::One, clients_max)?)
+        }
     }
-    note(rt, "new_in NoMemory");
-    Ok(Machine::new_in(alloc, alloc, Profile::One, clients_max)?)
+}
+
+/// A machine that is watched for whatever a script names.
+fn watch<'a, R: Eprint>(
+    rt: &R,
+    alloc: Global,
+    clients_max: ClientsMax,
+    named: &'a Named,
+) -> Result<Watched<'a>, Trouble> {
+    let before = Shown::with_room(alloc, named)?;
+    let behind = match Shown::with_room(alloc, named) {
+        Ok(behind) => behind,
+        Err(trouble) => {
+            drop(before);
+            return Err(trouble);
+        }
+    };
+    match new_machine(rt, alloc, clients_max) {
+        Ok(machine) => {
+            Ok(Watched {
+                machine,
+                named,
+                before,
+                behind,
+            })
+        }
+        Err(trouble) => {
+            drop(before);
+            drop(behind);
+            Err(trouble)
+        }
+    }
+}
+
+/// Serves the pairs of a script, which name these.
+fn apply_named<R: Eprint>(
+    rt: &R,
+    alloc: Global,
+    clients_max: ClientsMax,
+    named: &Named,
+    pairs: &[Pair],
+    out: &mut Vec<u8>,
+) -> Result<(), Trouble> {
+    let mut watched = watch(rt, alloc, clients_max, named)?;
+    let served = watched.serve_all(rt, alloc, pairs, out);
+    drop(watched);
+    served
 }
 
 /// Applies the entries of a script, and appends the answers to its requests.
@@ -217,15 +310,7 @@ pub fn apply_all<R: Eprint>(
     out: &mut Vec<u8>,
 ) -> Result<(), Trouble> {
     let named = named_in(alloc, pairs)?;
-    let mut watched = Watched {
-        before: Shown::with_room(alloc, &named)?,
-        behind: Shown::with_room(alloc, &named)?,
-        machine: new_machine(rt, alloc, clients_max)?,
-        named: &named,
-    };
-    for pair in pairs {
-        watched.enter(rt, alloc, pair)?;
-        put_reply(&watched.answer(rt, alloc, pair)?, out)?;
-    }
-    Ok(())
+    let served = apply_named(rt, alloc, clients_max, &named, pairs, out);
+    drop(named);
+    served
 }

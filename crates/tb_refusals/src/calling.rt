@@ -4,13 +4,13 @@ ghost use Rattle.std.specs.Prelude.{◌≡◌};
 use crate::offering::{Listed, next_port};
 use crate::openings::opened;
 use crate::scripts::{Pair, put_history, put_reply};
-use crate::troubles::{Trouble, Why, expect, note};
-use std::alloc::Global;
+use crate::troubles::{Trouble, Why, note};
+use std::alloc::{AllocError, Global};
 use std::sync::Wait;
 use std::sync::atomic::{AtomicBool, Ordering};
 use std::thread::{self, Threads, join};
 use tb_published::{Naming, Opening, Publisher, Seat, SeatCount, SeatFault, TakeFault};
-use tb_records::{ClientsMax, Request, Status};
+use tb_records::{ClientsMax, Reply, Request, Status};
 use tb_service::{Ended, Finished, Open, Port, PortCount, service};
 
 /// So many calls are made for a request at most.
@@ -36,9 +36,64 @@ fn has_begun(begun: &AtomicBool) -> bool {
 
 /// The server takes nothing more: a copy of the request comes back.
 fn is_gone<R: Wait>(rt: &R, alloc: Global, port: &mut Port, request: &Request) -> bool {
-    match request.copy(alloc) {
-        Ok(copy) => port.offer(rt, copy).is_err(),
-        Err(_) => false,
+    let Ok(copy) = request.copy(alloc) else {
+        return false;
+    };
+    match port.offer(rt, copy) {
+        Ok(()) => false,
+        Err(back) => {
+            drop(back);
+            true
+        }
+    }
+}
+
+/// Appends a reply; false where it is NotYet.
+fn put_answer(reply: &Reply, out: &mut Vec<u8>) -> Result<bool, Trouble> {
+    if reply.status() == Status::NotYet {
+        return Ok(false);
+    }
+    put_reply(reply, out)?;
+    Ok(true)
+}
+
+/// Calls once; false where the call was refused, or the reply is NotYet though the server is not gone.
+fn call_once<J: Naming, R: Wait + Eprint>(
+    rt: &R,
+    alloc: Global,
+    port: &mut Port,
+    seat: &mut Seat<J>,
+    request: &Request,
+    out: &mut Vec<u8>,
+) -> Result<bool, Trouble> {
+    let seen = seat.seen();
+    let called = port.call(rt, seat, request, TURNS);
+    if seat.seen() < seen {
+        drop(called);
+        return Err(Trouble::Wrong(Why::SeenFell));
+    }
+    let put = match called {
+        Ok(reply) => {
+            let put = put_answer(&reply, out);
+            drop(reply);
+            put
+        }
+        Err(fault) => {
+            note_fault(rt, fault);
+            return Ok(false);
+        }
+    };
+    match put {
+        Ok(false) if is_gone(rt, alloc, port, request) => Err(Trouble::Gone),
+        put => put,
+    }
+}
+
+/// Says why a call was refused.
+fn note_fault<R: Eprint>(rt: &R, fault: SeatFault) {
+    match fault {
+        SeatFault::NoMemory => note(rt, "call NoMemory"),
+        SeatFault::NoCopy => note(rt, "call NoCopy"),
     }
 }
 
@@ -52,36 +107,31 @@ fn call_until<J: Naming, R: Wait + Eprint>(
     out: &mut Vec<u8>,
 ) -> Result<(), Trouble> {
     for _ in 0..CALLS {
-        let seen = seat.seen();
-        let answered = port.call(rt, seat, request, TURNS);
-        expect(seen <= seat.seen(), Why::SeenFell)?;
-        match answered {
-            Ok(reply) if reply.status() != Status::NotYet => return put_reply(&reply, out),
-            Ok(_) => {
-                if is_gone(rt, alloc, port, request) {
-                    return Err(Trouble::Gone);
-                }
-            }
-            Err(SeatFault::NoMemory) => note(rt, "call NoMemory"),
-            Err(SeatFault::NoCopy) => note(rt, "call NoCopy"),
+        if call_once(rt, alloc, port, seat, request, out)? {
+            return Ok(());
         }
     }
     Err(Trouble::Wrong(Why::NoAnswer))
 }
 
-/// Calls the requests of all pairs, one after another.
+/// Calls the requests of all pairs, one after another, once the server has begun. False where it has no thread.
 fn call_pairs<J: Naming, R: Wait + Eprint>(
     rt: &R,
     alloc: Global,
+    begun: &AtomicBool,
     port: &mut Port,
     seat: &mut Seat<J>,
     pairs: &[Pair],
     out: &mut Vec<u8>,
-) -> Result<(), Trouble> {
+) -> Result<bool, Trouble> {
+    if !has_begun(begun) {
+        note(rt, "join NoThread");
+        return Ok(false);
+    }
     for pair in pairs {
         call_until(rt, alloc, port, seat, &pair.request, out)?;
     }
-    Ok(())
+    Ok(true)
 }
 
 /// The client's thread: calls once the server has begun, and closes the port. False where the server has no thread.
@@ -94,13 +144,9 @@ fn call_beside<J: Naming, R: Wait + Eprint>(
     pairs: &[Pair],
     out: &mut Vec<u8>,
 ) -> Result<bool, Trouble> {
-    let called = if has_begun(begun) {
-        call_pairs(rt, alloc, &mut port, &mut seat, pairs, out).map(|()| true)
-    } else {
-        note(rt, "join NoThread");
-        Ok(false)
-    };
-    let _ = port.close(rt);
+    let called = call_pairs(rt, alloc, begun, &mut port, &mut seat, pairs, out);
+    drop(port.close(rt));
+    drop(seat);
     called
 }
 
@@ -116,6 +162,21 @@ fn tell_end<J: Naming, R: Eprint>(rt: &R, finished: &Finished<J>) {
     }
 }
 
+/// The last port and the last seat that are left.
+fn next_ends<J: Naming>(
+    ports: &mut Vec<Port>,
+    seats: &mut Vec<Seat<J>>,
+) -> Result<(Port, Seat<J>), Trouble> {
+    let port = next_port(ports)?;
+    match seats.pop() {
+        Some(seat) => Ok((port, seat)),
+        None => {
+            drop(port);
+            Err(Trouble::Wrong(Why::NoSeat))
+        }
+    }
+}
+
 /// The server and the client, each in its thread.
 fn call_over<J: Naming + Send + Sync, R: Threads + Wait + Eprint + Sync>(
     rt: &R,
@@ -127,21 +188,35 @@ fn call_over<J: Naming + Send + Sync, R: Threads + Wait + Eprint + Sync>(
     pairs: &[Pair],
     out: &mut Vec<u8>,
 ) -> Result<Option<(Finished<J>, Result<bool, Trouble>)>, Trouble> {
-    let Ok((server, mut ports)) = service(alloc, publisher, rt, count, moments, Open) else {
-        note(rt, "service NoMemory");
-        return Ok(None);
+    let (server, mut ports) = match service(alloc, publisher, rt, count, moments, Open) {
+        Ok(made) => made,
+        Err(AllocError) => {
+            note(rt, "service NoMemory");
+            drop(seats);
+            return Ok(None);
+        }
     };
-    let port = next_port(&mut ports)?;
-    let seat = seats.pop().ok_or(Trouble::Wrong(Why::NoSeat))?;
+    let (port, seat) = match next_ends(&mut ports, &mut seats) {
+        Ok(ends) => ends,
+        Err(trouble) => {
+            drop(server);
+            drop(ports);
+            drop(seats);
+            return Err(trouble);
+        }
+    };
     let begun = &AtomicBool::new(false);
-    Ok(Some(join(
+    let called = join(
         rt,
         move || {
             begun.store(true, Ordering::SeqCst);
             server.run(rt)
         },
         move || call_beside(rt, alloc, begun, port, seat, pairs, out),
-    )))
+    );
+    drop(ports);
+    drop(seats);
+    Ok(Some(called))
 }
 
 /// Calls the requests of a script, and appends the answers and the history; false where the opening, the service or the
@@ -160,6 +235,7 @@ pub fn call_all<J: Naming + Send + Sync, R: Threads + Wait + Eprint + Sync>(
     let seats = SeatCount::new(2).ok_or(Trouble::SetUp)?;
     let moments = Listed::new(alloc, pairs)?;
     let Some((publisher, seats)) = opened::<J, R>(rt, alloc, opening, seats) else {
+        drop(moments);
         return Ok(false);
     };
     let called = call_over(rt, alloc, publisher, seats, count, moments, pairs, out)?;
@@ -171,7 +247,7 @@ pub fn call_all<J: Naming + Send + Sync, R: Threads + Wait + Eprint + Sync>(
         _ => put_history(clients_max, finished.publisher.history(), out),
     };
     tell_end(rt, &finished);
-    finished.close(rt);
+    drop(finished.close(rt));
     written?;
     outcome
 }

@@ -69,17 +69,22 @@ fn form_of(word: &str) -> Option<Form> {
     }
 }
 
+/// The form and the number of clients that words name.
+fn task_of(words: &[String]) -> Result<(Form, ClientsMax), Trouble> {
+    let form = words.get(0).ok_or(Trouble::SetUp)?;
+    let clients = words.get(1).ok_or(Trouble::SetUp)?;
+    let form = form_of(form.as_str()).ok_or(Trouble::SetUp)?;
+    let clients = clients.as_str().parse::<u32>().map_err(|_| Trouble::SetUp)?;
+    Ok((form, ClientsMax::new(clients).ok_or(Trouble::SetUp)?))
+}
+
 /// The form and the number of clients that the program's words name.
 fn read_words(rt: &HostRuntime) -> Result<(Form, ClientsMax), Trouble> {
     let mut words = Vec::new(rt.alloc());
     for word in env::args(rt)?.skip(1) {
         words.push(word)?;
     }
-    let form = words.get(0).ok_or(Trouble::SetUp)?;
-    let clients = words.get(1).ok_or(Trouble::SetUp)?;
-    let form = form_of(form.as_str()).ok_or(Trouble::SetUp)?;
-    let clients = clients.as_str().parse::<u32>().map_err(|_| Trouble::SetUp)?;
-    Ok((form, ClientsMax::new(clients).ok_or(Trouble::SetUp)?))
+    task_of(words.as_slice())
 }
 
 /// Serves a script by an opening. False where the opening, or its service, is refused.
@@ -134,11 +139,15 @@ fn serve<R: Threads + Wait + Eprint + Sync>(
         Form::Replay => running::replay_once(rt, alloc, script, out),
         Form::Apply => {
             let pairs = read_pairs(alloc, script)?;
-            applying::apply_all(rt, alloc, clients_max, pairs.as_slice(), out)
+            let served = applying::apply_all(rt, alloc, clients_max, pairs.as_slice(), out);
+            drop(pairs);
+            served
         }
         Form::Publish(way) => {
             let pairs = read_pairs(alloc, script)?;
-            serve_published(rt, alloc, way, clients_max, pairs.as_slice(), out)
+            let served = serve_published(rt, alloc, way, clients_max, pairs.as_slice(), out);
+            drop(pairs);
+            served
         }
     }
 }

@@ -8,7 +8,7 @@ ghost use Rattle.tb_service.specs.Finished.{service_at};
 use crate::openings::opened;
 use crate::scripts::{Pair, copy_all, put_history};
 use crate::troubles::{Trouble, Why, expect, note};
-use std::alloc::Global;
+use std::alloc::{AllocError, Global};
 use std::sync::Wait;
 use tb_published::{Naming, Opening, Publisher, Seat, SeatCount, TakeFault};
 use tb_records::{ClientsMax, Request};
@@ -64,15 +64,43 @@ fn two_ports<'a, J: Naming, R: Wait + Eprint>(
 ) -> Result<Option<(Started<'a, J, R>, Port, Port)>, Trouble>
     ensures { IfOk result (λ some. IfSome some (λ made. (service made.1 ≡ service_on made.0) × (service made.2 ≡ service_on made.0))) }
 {
-    match service(alloc, publisher, rt, count, moments, Open) {
-        Ok((server, mut ports)) => {
-            let second = next_port(&mut ports)?;
-            let first = next_port(&mut ports)?;
-            Ok(Some((server, first, second)))
-        }
-        Err(_) => {
+    let (server, mut ports) = match service(alloc, publisher, rt, count, moments, Open) {
+        Ok(made) => made,
+        Err(AllocError) => {
             note(rt, "service NoMemory");
-            Ok(None)
+            return Ok(None);
+        }
+    };
+    let second = match next_port(&mut ports) {
+        Ok(port) => port,
+        Err(trouble) => {
+            drop(ports);
+            drop(server);
+            return Err(trouble);
+        }
+    };
+    let first = match next_port(&mut ports) {
+        Ok(port) => port,
+        Err(trouble) => {
+            drop(second);
+            drop(ports);
+            drop(server);
+            return Err(trouble);
+        }
+    };
+    drop(ports);
+    Ok(Some((server, first, second)))
+}
+
+/// Offers a request; false where it comes back.
+fn offer<R: Wait>(rt: &R, request: Request, port: &mut Port) -> bool
+    ensures { service port.new ≡ service port.old }
+{
+    match port.offer(rt, request) {
+        Ok(()) => true,
+        Err(back) => {
+            drop(back);
+            false
         }
     }
 }
@@ -88,9 +116,9 @@ fn offer_in_turn<R: Wait>(
     ensures { (service first.new ≡ service first.old) × (service second.new ≡ service second.old) }
 {
     if turn {
-        second.offer(rt, request).is_ok()
+        offer(rt, request, second)
     } else {
-        first.offer(rt, request).is_ok()
+        offer(rt, request, first)
     }
 }
 
@@ -125,7 +153,13 @@ fn places<J: Naming, R: Eprint>(
         Ok(places) => Some(places),
         Err(closed) => {
             note(rt, "offered_by NoMemory");
-            finished.offered_by(closed).ok()
+            match finished.offered_by(closed) {
+                Ok(places) => Some(places),
+                Err(closed) => {
+                    drop(closed);
+                    None
+                }
+            }
         }
     }
 }
@@ -143,12 +177,22 @@ fn rise_by_two(places: &[u64], first: u64) -> bool {
 }
 
 /// The places of both ports are those of their turns; answers how many there are.
-fn check_places(first: Option<Vec<u64>>, second: Option<Vec<u64>>) -> Result<u64, Trouble> {
-    let first = first.ok_or(Trouble::Wrong(Why::RefusedTwice))?;
-    let second = second.ok_or(Trouble::Wrong(Why::RefusedTwice))?;
+fn check_places(first: &Option<Vec<u64>>, second: &Option<Vec<u64>>) -> Result<u64, Trouble> {
+    let (Some(first), Some(second)) = (first, second) else {
+        return Err(Trouble::Wrong(Why::RefusedTwice));
+    };
     let right = rise_by_two(first.as_slice(), 1) && rise_by_two(second.as_slice(), 2);
     expect(right, Why::OtherPlace)?;
     Ok((first.len() as u64).saturating_add(second.len() as u64))
+}
+
+/// Looks accounts up; where that is refused, it is done again. Then the seat has seen all.
+fn look<J: Naming, R: Eprint>(rt: &R, seat: &mut Seat<J>, last: u64) -> Result<(), Trouble> {
+    if seat.lookup_accounts(&[1, 2]).is_err() {
+        note(rt, "lookup NoMemory");
+        expect(seat.lookup_accounts(&[1, 2]).is_ok(), Why::RefusedTwice)?;
+    }
+    expect(seat.seen() == last, Why::SeenTooLittle)
 }
 
 /// Shows the whole history, and has a seat see it.
@@ -164,12 +208,12 @@ fn show_all<J: Naming, R: Wait + Eprint>(
         shown = finished.publisher.show(rt);
     }
     expect(shown == Ok(last), Why::NotShown)?;
-    let mut seat = seats.pop().ok_or(Trouble::Wrong(Why::NoSeat))?;
-    if seat.lookup_accounts(&[1, 2]).is_err() {
-        note(rt, "lookup NoMemory");
-        expect(seat.lookup_accounts(&[1, 2]).is_ok(), Why::RefusedTwice)?;
-    }
-    expect(seat.seen() == last, Why::SeenTooLittle)
+    let Some(mut seat) = seats.pop() else {
+        return Err(Trouble::Wrong(Why::NoSeat));
+    };
+    let seen = look(rt, &mut seat, last);
+    drop(seat);
+    seen
 }
 
 /// Says which places were refused, and how the run ended.
@@ -181,6 +225,55 @@ fn tell_end<J: Naming, R: Eprint>(rt: &R, finished: &Finished<J>, taken: u64) {
         Ended::Closed => eprintln!(rt; "closed {taken}"),
         Ended::NoMemory => eprintln!(rt; "stopped {taken}"),
     };
+}
+
+/// Checks what a run left, and appends the history.
+fn check_end<J: Naming, R: Wait + Eprint>(
+    rt: &R,
+    mut finished: Finished<J>,
+    first: Closed,
+    second: Closed,
+    seats: &mut Vec<Seat<J>>,
+    clients_max: ClientsMax,
+    out: &mut Vec<u8>,
+) -> Result<(), Trouble>
+    requires first { service_by first ≡ service_at finished }
+    requires second { service_by second ≡ service_at finished }
+{
+    let first = places(rt, &mut finished, first);
+    let second = places(rt, &mut finished, second);
+    let taken = check_places(&first, &second);
+    drop(first);
+    drop(second);
+    let shown = show_all(rt, &mut finished, seats);
+    let written = put_history(clients_max, finished.publisher.history(), out);
+    tell_end(rt, &finished, taken.unwrap_or(0));
+    drop(finished.close(rt));
+    taken?;
+    shown?;
+    written
+}
+
+/// Offers requests to a server by turns, which then runs.
+fn offer_over<J: Naming, R: Wait + Eprint>(
+    rt: &R,
+    server: Started<'_, J, R>,
+    first: Port,
+    second: Port,
+    requests: Vec<Request>,
+    seats: &mut Vec<Seat<J>>,
+    clients_max: ClientsMax,
+    out: &mut Vec<u8>,
+) -> Result<bool, Trouble>
+    requires first { service first ≡ service_on server }
+    requires second { service second ≡ service_on server }
+{
+    let (offered, first, second) = offer_by_turns(rt, requests, first, second);
+    let finished = server.run(rt);
+    let checked = check_end(rt, finished, first, second, seats, clients_max, out);
+    expect(offered, Why::OfferRefused)?;
+    checked?;
+    Ok(true)
 }
 
 /// Serves the pairs of a script, and appends the history; false where the opening or the service is refused.
@@ -197,25 +290,40 @@ pub fn offer_all<J: Naming, R: Wait + Eprint>(
     let count = PortCount::new(2).ok_or(Trouble::SetUp)?;
     let seats = SeatCount::new(2).ok_or(Trouble::SetUp)?;
     let moments = Listed::new(alloc, pairs)?;
-    let requests = copy_all(rt, alloc, pairs)?;
+    let requests = match copy_all(rt, alloc, pairs) {
+        Ok(requests) => requests,
+        Err(trouble) => {
+            drop(moments);
+            return Err(trouble);
+        }
+    };
     let Some((publisher, mut seats)) = opened::<J, R>(rt, alloc, opening, seats) else {
+        drop(moments);
+        drop(requests);
         return Ok(false);
     };
-    let Some((server, first, second)) = two_ports(rt, alloc, publisher, count, moments)? else {
-        return Ok(false);
+    let served = match two_ports(rt, alloc, publisher, count, moments) {
+        Ok(Some((server, first, second))) => {
+            offer_over(
+                rt,
+                server,
+                first,
+                second,
+                requests,
+                &mut seats,
+                clients_max,
+                out,
+            )
+        }
+        Ok(None) => {
+            drop(requests);
+            Ok(false)
+        }
+        Err(trouble) => {
+            drop(requests);
+            Err(trouble)
+        }
     };
-    let (offered, first, second) = offer_by_turns(rt, requests, first, second);
-    let mut finished = server.run(rt);
-    let first = places(rt, &mut finished, first);
-    let second = places(rt, &mut finished, second);
-    let taken = check_places(first, second);
-    let shown = show_all(rt, &mut finished, &mut seats);
-    let written = put_history(clients_max, finished.publisher.history(), out);
-    tell_end(rt, &finished, taken.unwrap_or(0));
-    finished.close(rt);
-    expect(offered, Why::OfferRefused)?;
-    taken?;
-    shown?;
-    written?;
-    Ok(true)
+    drop(seats);
+    served
 }

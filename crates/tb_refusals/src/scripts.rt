@@ -1,6 +1,6 @@
 //! The pairs of a script, and what is written of a history.
 use crate::troubles::{Trouble, Why, expect, note};
-use std::alloc::Global;
+use std::alloc::{AllocError, Global};
 use tb_machine::Entry;
 use tb_records::dumps::{send_entry, send_head};
 use tb_records::{
@@ -17,36 +17,65 @@ pub struct Pair {
     pub request: Request,
 }
 
-/// All pairs of a script.
-pub fn read_pairs(alloc: Global, script: &[u8]) -> Result<Vec<Pair>, Trouble> {
-    let mut pairs = Vec::new(alloc);
+/// Appends all pairs of a script.
+fn put_pairs(alloc: Global, script: &[u8], pairs: &mut Vec<Pair>) -> Result<(), Trouble> {
     let mut stream = RequestStream::new(Counting::new(script));
     for _ in 0..=PAIRS_MAX {
         match stream.next_timed(alloc) {
             Ok(Some((moment, request))) => pairs.push(Pair { moment, request })?,
-            Ok(None) => return Ok(pairs),
+            Ok(None) => return Ok(()),
             Err(_) => return Err(Trouble::SetUp),
         }
     }
     Err(Trouble::Wrong(Why::TooManyPairs))
 }
 
+/// All pairs of a script.
+pub fn read_pairs(alloc: Global, script: &[u8]) -> Result<Vec<Pair>, Trouble> {
+    let mut pairs = Vec::new(alloc);
+    match put_pairs(alloc, script, &mut pairs) {
+        Ok(()) => Ok(pairs),
+        Err(trouble) => {
+            drop(pairs);
+            Err(trouble)
+        }
+    }
+}
+
 /// A copy of a request; the growth for it may be refused once.
 pub fn copy_of<R: Eprint>(rt: &R, alloc: Global, request: &Request) -> Result<Request, Trouble> {
-    if let Ok(copy) = request.copy(alloc) {
-        return Ok(copy);
+    match request.copy(alloc) {
+        Ok(copy) => Ok(copy),
+        Err(AllocError) => {
+            note(rt, "copy NoMemory");
+            Ok(request.copy(alloc)?)
+        }
     }
-    note(rt, "copy NoMemory");
-    Ok(request.copy(alloc)?)
+}
+
+/// Appends copies of all requests.
+fn put_copies<R: Eprint>(
+    rt: &R,
+    alloc: Global,
+    pairs: &[Pair],
+    all: &mut Vec<Request>,
+) -> Result<(), Trouble> {
+    for pair in pairs {
+        all.push(copy_of(rt, alloc, &pair.request)?)?;
+    }
+    Ok(())
 }
 
 /// Copies of all requests.
 pub fn copy_all<R: Eprint>(rt: &R, alloc: Global, pairs: &[Pair]) -> Result<Vec<Request>, Trouble> {
     let mut all = Vec::with_capacity(alloc, pairs.len())?;
-    for pair in pairs {
-        all.push(copy_of(rt, alloc, &pair.request)?)?;
+    match put_copies(rt, alloc, pairs, &mut all) {
+        Ok(()) => Ok(all),
+        Err(trouble) => {
+            drop(all);
+            Err(trouble)
+        }
     }
-    Ok(all)
 }
 
 /// Appends a reply, for which there is room.

@@ -6,9 +6,7 @@ use crate::scripts::{Pair, copy_of, put_history, put_reply};
 use crate::troubles::{Trouble, Why, expect, note};
 use std::alloc::Global;
 use std::sync::Wait;
-use tb_published::{
-    Held, Naming, Opening, Publisher, Seat, SeatCount, SeatFault, TakeFault, Taken,
-};
+use tb_published::{Naming, Opening, Publisher, Seat, SeatCount, SeatFault, TakeFault, Taken};
 use tb_records::{ClientsMax, Reply, Request, Status};
 
 /// A call of `take` that was refused: where the history has grown, the next call is a repeat.
@@ -98,23 +96,49 @@ fn take_pair<J: Naming, R: Wait + Eprint>(
     }
 }
 
+/// A seat's answer; None where it is refused.
+fn ask<J: Naming, R: Eprint>(
+    rt: &R,
+    seat: &mut Seat<J>,
+    request: &Request,
+) -> Result<Option<Reply>, Trouble> {
+    let seen = seat.seen();
+    let answered = seat.answer(request);
+    if seat.seen() < seen {
+        drop(answered);
+        return Err(Trouble::Wrong(Why::SeenFell));
+    }
+    match answered {
+        Ok(reply) => Ok(Some(reply)),
+        Err(SeatFault::NoMemory) => {
+            note(rt, "answer NoMemory");
+            Ok(None)
+        }
+        Err(SeatFault::NoCopy) => {
+            note(rt, "answer NoCopy");
+            Ok(None)
+        }
+    }
+}
+
 /// A seat's answer; where that is refused, it is asked again.
-pub fn answer<J: Naming, R: Eprint>(
+fn answer<J: Naming, R: Eprint>(
     rt: &R,
     seat: &mut Seat<J>,
     request: &Request,
 ) -> Result<Reply, Trouble> {
     for _ in 0..2 {
-        let seen = seat.seen();
-        let answered = seat.answer(request);
-        expect(seen <= seat.seen(), Why::SeenFell)?;
-        match answered {
-            Ok(reply) => return Ok(reply),
-            Err(SeatFault::NoMemory) => note(rt, "answer NoMemory"),
-            Err(SeatFault::NoCopy) => note(rt, "answer NoCopy"),
+        if let Some(reply) = ask(rt, seat, request)? {
+            return Ok(reply);
         }
     }
     Err(Trouble::Wrong(Why::RefusedTwice))
+}
+
+/// Appends a reply, which is not NotYet.
+fn put_answer(reply: &Reply, out: &mut Vec<u8>) -> Result<(), Trouble> {
+    expect(reply.status() != Status::NotYet, Why::NotShown)?;
+    put_reply(reply, out)
 }
 
 /// Takes the pairs of a script, and appends the seat's answer to each.
@@ -128,11 +152,41 @@ fn take_pairs<J: Naming, R: Wait + Eprint>(
 ) -> Result<(), Trouble> {
     for pair in pairs {
         take_pair(rt, alloc, publisher, seat, pair)?;
-        let reply = answer(rt, seat, &pair.request)?;
-        expect(reply.status() != Status::NotYet, Why::NotShown)?;
-        put_reply(&reply, out)?;
+        answer_pair(rt, seat, pair, out)?;
     }
     Ok(())
+}
+
+/// Appends a seat's answer to the request of a pair.
+fn answer_pair<J: Naming, R: Eprint>(
+    rt: &R,
+    seat: &mut Seat<J>,
+    pair: &Pair,
+    out: &mut Vec<u8>,
+) -> Result<(), Trouble> {
+    let reply = answer(rt, seat, &pair.request)?;
+    let put = put_answer(&reply, out);
+    drop(reply);
+    put
+}
+
+/// Takes the pairs of a script, and appends the seat's answers and the history.
+fn take_over<J: Naming, R: Wait + Eprint>(
+    rt: &R,
+    alloc: Global,
+    publisher: &mut Publisher<J>,
+    seats: &mut Vec<Seat<J>>,
+    clients_max: ClientsMax,
+    pairs: &[Pair],
+    out: &mut Vec<u8>,
+) -> Result<(), Trouble> {
+    let Some(mut seat) = seats.pop() else {
+        return Err(Trouble::Wrong(Why::NoSeat));
+    };
+    let taken = take_pairs(rt, alloc, publisher, &mut seat, pairs, out);
+    drop(seat);
+    taken?;
+    put_history(clients_max, publisher.history(), out)
 }
 
 /// Takes the pairs of a script, and appends the seat's answers and the history; false where the opening is refused.
@@ -147,12 +201,20 @@ pub fn take_all<J: Naming, R: Wait + Eprint>(
     requires { opening ≡ J.opening }
 {
     let count = SeatCount::new(2).ok_or(Trouble::SetUp)?;
-    let Some((publisher, mut seats)) = opened::<J, R>(rt, alloc, opening, count) else {
+    let Some((mut publisher, mut seats)) = opened::<J, R>(rt, alloc, opening, count) else {
         return Ok(false);
     };
-    let mut held = Held::new(publisher, rt);
-    let mut seat = seats.pop().ok_or(Trouble::Wrong(Why::NoSeat))?;
-    take_pairs(rt, alloc, &mut held.publisher, &mut seat, pairs, out)?;
-    put_history(clients_max, held.publisher.history(), out)?;
+    let taken = take_over(
+        rt,
+        alloc,
+        &mut publisher,
+        &mut seats,
+        clients_max,
+        pairs,
+        out,
+    );
+    drop(seats);
+    drop(publisher.close(rt));
+    taken?;
     Ok(true)
 }
