@@ -1,3 +1,5 @@
+pub mod Completed
 pub mod Ends
+pub mod Heads
 pub mod Orders
 pub mod Statuses

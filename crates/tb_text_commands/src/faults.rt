@@ -6,6 +6,7 @@ ghost use Rattle.tb_text_commands.specs.Statuses.{dump_fault_of, fault_status, f
 use crate::help::USAGE;
 use arrayvec::ArrayVec;
 use std::alloc::{AllocError, Global};
+use std::format;
 use tb_records::{DumpFault, FrameFault, Sink, put_all};
 use tb_text::{TextFault, explain_fault};
 
@@ -76,17 +77,27 @@ fn put_line<E: Sink>(line: &[u8], faults: &mut E)
     let _ = put_all(faults, line);
 }
 
-/// The lines of a text's fault, whose first byte stands at a line and a column.
+/// What is said of a fault behind its position.
+fn behind_position(said: &[u8]) -> &[u8] {
+    for (place, byte) in said.iter().enumerate() {
+        if *byte == b':' {
+            return said.get(place.saturating_add(2)..).unwrap_or(said);
+        }
+    }
+    said
+}
+
+/// The lines of a text's fault that stands at a line and a column for the writer of the text.
 fn text_lines(
     alloc: Global,
     text: &[u8],
     fault: TextFault,
-    first: (usize, usize),
+    (line, column): (usize, usize),
 ) -> Result<Vec<u8>, AllocError> {
-    let said = explain_fault(alloc, text, fault, first)?;
-    let mut lines = Vec::new(alloc);
-    lines.extend_from_slice(b"tbt: ")?;
-    lines.extend_from_slice(said.as_slice())?;
+    let said = explain_fault(alloc, text, fault, (1, 1))?;
+    let position = format!(in alloc; "tbt: line {line}, column {column}: ")?;
+    let mut lines = Vec::from_slice(alloc, position.as_str().as_bytes())?;
+    lines.extend_from_slice(behind_position(said.as_slice()))?;
     lines.extend_from_slice(b"\n")?;
     Ok(lines)
 }
@@ -101,11 +112,11 @@ fn arguments_line(alloc: Global, what: &str) -> Result<Vec<u8>, AllocError> {
 }
 
 impl Fault {
-    /// The fault of a text, or of a part of one, whose first byte stands at a line and a column.
-    pub fn in_text(alloc: Global, text: &[u8], fault: TextFault, first: (usize, usize)) -> Fault
+    /// The fault of a text that stands at a line and a column for its writer.
+    pub fn in_text(alloc: Global, text: &[u8], fault: TextFault, position: (usize, usize)) -> Fault
         ensures { IsOfInput result }
     {
-        match text_lines(alloc, text, fault, first) {
+        match text_lines(alloc, text, fault, position) {
             Ok(lines) => Fault::Text(lines),
             Err(_) => Fault::NoMemory,
         }

@@ -24,9 +24,8 @@ device or memory failed, 2 where the input or the arguments are wrong.
 Example: two accounts, a transfer of 100, and how an account stands then.
 
   tbt run 2 <<END
-  at=1 client=7 register;
-  at=2 client=7 session=1 request=1 create_accounts id=1 ledger=700 code=10, id=2 ledger=700 code=10;
-  at=3 client=7 session=1 request=2 create_transfers id=11 debit_account_id=1 credit_account_id=2 amount=100 ledger=700 code=10;
-  at=4 client=7 session=1 request=3 lookup_accounts id=2;
+  create_accounts id=1 ledger=700 code=10, id=2 ledger=700 code=10;
+  create_transfers id=11 debit_account_id=1 credit_account_id=2 amount=100 ledger=700 code=10;
+  lookup_accounts id=2;
   END
 ";

@@ -19,6 +19,8 @@ pub struct Intake {
     searched: usize,
     /// This place is within a comment.
     in_comment: bool,
+    /// The reader told its end, and is not asked again.
+    ended: bool,
     /// The line and the column of the first byte that is not taken, both from 1.
     line: usize,
     column: usize,
@@ -32,6 +34,7 @@ impl Intake {
             at: 0,
             searched: 0,
             in_comment: false,
+            ended: false,
             line: 1,
             column: 1,
         }
@@ -96,8 +99,8 @@ impl Intake {
         self.at = 0;
     }
 
-    /// Reads more bytes: false where the reader is at its end. What was written is passed on first, where the reader may
-    /// have to be waited for.
+    /// Reads more bytes: false where the reader is at its end, which it tells once. What was written is passed on first,
+    /// where the reader may have to be waited for.
     pub fn read_more<R: Source, W: Sink>(
         &mut self,
         reader: &mut R,
@@ -105,6 +108,9 @@ impl Intake {
     ) -> Result<bool, Fault>
         ensures { Ended result (R.input reader.old) (R.input reader.new) (W.output writer.old) (W.output writer.new) }
     {
+        if self.ended {
+            return Ok(false);
+        }
         if reader.at_hand().is_empty() {
             writer.pass_on();
         }
@@ -116,6 +122,7 @@ impl Intake {
         if self.bytes.extend_from_slice(&buffer[..read]).is_err() {
             return Err(Fault::NoMemory);
         }
+        self.ended = read == 0;
         Ok(read > 0)
     }
 }

@@ -5,8 +5,11 @@
 mod arguments;
 mod auditing;
 mod commands;
+mod completing;
+pub mod completing_laws;
 mod explaining;
 mod faults;
+mod heads;
 mod help;
 mod intake;
 mod lines;
@@ -15,6 +18,7 @@ mod results;
 mod running;
 mod scripts;
 mod statements;
+mod told;
 
 pub use arguments::{Order, read_order};
 pub use commands::command;

@@ -1,8 +1,10 @@
 //! A server for statements: each is served when it is read, and its reply is told as a line of JSON.
-ghost use Rattle.std.specs.Prelude.{◌≡◌, false, IfErr, IfOk};
+ghost use Rattle.std.specs.Prelude.{◌≡◌, false, IfErr, IfOk, Some};
 ghost use Rattle.tb_sessions.specs.Judged.{class_of};
+ghost use Rattle.tb_text_commands.specs.Completed.{standing_in};
 ghost use Rattle.tb_text_commands.specs.Ends.{Ended, IsOfInput, Written, is_passing};
 
+use crate::completing::{Standing, Standings};
 use crate::faults::Fault;
 use crate::intake::Intake;
 use crate::lines::reply_line;
@@ -12,6 +14,33 @@ use std::alloc::{AllocError, Global};
 use tb_machine::{Entry, Machine, status_of};
 use tb_records::{ClientsMax, Profile, Reply, Request, Sink, Source};
 use tb_sessions::Class;
+
+/// The client of statements before which none was named.
+const FIRST_CLIENT: u128 = 1;
+
+/// A machine, and the client that was named last.
+#[derive(Drop)]
+struct Server {
+    machine: Machine<Global>,
+    last: u128,
+}
+
+impl Standings for Server {
+    ghost last = { λ server. Some server.last };
+
+    ghost standing = { λ server client. standing_in server.machine.rows server.machine.commit client };
+
+    fn last(&self) -> Option<u128> {
+        Some(self.last)
+    }
+
+    fn standing(&self, client: u128) -> Standing {
+        match self.machine.reply_of(client) {
+            Some(reply) => Standing::behind(reply.session(), reply.request()),
+            None => Standing::Closed(self.machine.commit() + 1),
+        }
+    }
+}
 
 /// Enters a new request that comes at a moment, where there is a time for it.
 fn enter(machine: &mut Machine<Global>, moment: u64, request: Request) -> Result<(), Fault>
@@ -66,14 +95,15 @@ fn serve(
 /// Serves requests, and writes the lines of their replies.
 fn serve_pairs<W: Sink>(
     alloc: Global,
-    machine: &mut Machine<Global>,
+    server: &mut Server,
     pairs: Vec<(u64, Request)>,
     writer: &mut W,
 ) -> Result<(), Fault>
     ensures { Written result (W.output writer.old) (W.output writer.new) }
 {
     for (moment, request) in pairs {
-        let line = serve(alloc, machine, moment, request)?;
+        server.last = request.client();
+        let line = serve(alloc, &mut server.machine, moment, request)?;
         put_line(writer, line)?;
     }
     Ok(())
@@ -82,7 +112,7 @@ fn serve_pairs<W: Sink>(
 /// Serves the next statement: false where there is none.
 fn serve_next<R: Source, W: Sink>(
     alloc: Global,
-    machine: &mut Machine<Global>,
+    server: &mut Server,
     intake: &mut Intake,
     reader: &mut R,
     writer: &mut W,
@@ -90,10 +120,10 @@ fn serve_next<R: Source, W: Sink>(
 ) -> Result<bool, Fault>
     ensures { Ended result (R.input reader.old) (R.input reader.new) (W.output writer.old) (W.output writer.new) }
 {
-    let Some(pairs) = next_statement(alloc, intake, reader, writer, talks)? else {
+    let Some(pairs) = next_statement(alloc, intake, server, reader, writer, talks)? else {
         return Ok(false)
     };
-    serve_pairs(alloc, machine, pairs.into_vec(), writer)?;
+    serve_pairs(alloc, server, pairs.into_vec(), writer)?;
     Ok(true)
 }
 
@@ -107,7 +137,7 @@ fn is_passing(fault: &Fault) -> bool
 /// Serves statements to their end. Where it `talks`, a wrong statement is told at once, and the next one is read.
 fn converse<R: Source, W: Sink, E: Sink>(
     alloc: Global,
-    machine: &mut Machine<Global>,
+    server: &mut Server,
     talks: bool,
     reader: &mut R,
     writer: &mut W,
@@ -120,7 +150,7 @@ fn converse<R: Source, W: Sink, E: Sink>(
     let mut intake = Intake::new(alloc);
     let mut told = false;
     for _ in 0..u64::MAX {
-        match serve_next(alloc, machine, &mut intake, reader, writer, talks) {
+        match serve_next(alloc, server, &mut intake, reader, writer, talks) {
             Ok(true) => {}
             Ok(false) => break,
             Err(fault) if talks && is_passing(&fault) => {
@@ -148,10 +178,14 @@ pub fn run<R: Source, W: Sink, E: Sink>(
     ensures quiet { IfOk result (λ _. faults.new ≡ faults.old) }
     ensures silent { talks ≡ false → faults.new ≡ faults.old }
 {
-    let Ok(mut machine) = Machine::new_in(alloc, alloc, profile, clients_max) else {
+    let Ok(machine) = Machine::new_in(alloc, alloc, profile, clients_max) else {
         return Err(Fault::NoMemory);
     };
-    let done = converse(alloc, &mut machine, talks, reader, writer, faults);
-    drop(machine);
+    let mut server = Server {
+        machine,
+        last: FIRST_CLIENT,
+    };
+    let done = converse(alloc, &mut server, talks, reader, writer, faults);
+    drop(server);
     done
 }

@@ -5,6 +5,7 @@ use crate::faults::{Fault, dump_fault, frame_fault};
 use crate::intake::Intake;
 use crate::lines::{head_line, item_line, reply_line};
 use crate::statements::next_statement;
+use crate::told::Told;
 use std::alloc::{AllocError, Global};
 use tb_records::dumps::{read_head_from, read_item_from};
 use tb_records::streams::read_timed_from;
@@ -55,7 +56,8 @@ fn put_pairs<W: Sink>(writer: &mut W, pairs: &[(u64, Request)]) -> Result<(), Fa
     Ok(())
 }
 
-/// Writes the script of statements; where they go wrong, that of the statements before.
+/// Writes the script of statements, with what they leave out where the statements before tell it; where they go wrong, that
+/// of the statements before.
 pub fn script<R: Source, W: Sink>(
     alloc: Global,
     reader: &mut R,
@@ -64,10 +66,12 @@ pub fn script<R: Source, W: Sink>(
     ensures { Ended result (R.input reader.old) (R.input reader.new) (W.output writer.old) (W.output writer.new) }
 {
     let mut intake = Intake::new(alloc);
+    let mut told = Told::new(alloc);
     for _ in 0..u64::MAX {
-        let Some(pairs) = next_statement(alloc, &mut intake, reader, writer, false)? else {
+        let Some(pairs) = next_statement(alloc, &mut intake, &told, reader, writer, false)? else {
             break;
         };
+        told.note(pairs.as_slice())?;
         put_pairs(writer, pairs.as_slice())?;
     }
     Ok(())

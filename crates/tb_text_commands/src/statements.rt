@@ -2,27 +2,41 @@
 ghost use Rattle.std.specs.Prelude.{IfErr};
 ghost use Rattle.tb_text_commands.specs.Ends.{Ended, IsOfInput};
 
+use crate::completing::{Standings, completed};
 use crate::faults::Fault;
 use crate::intake::Intake;
 use std::alloc::Global;
 use tb_records::{Items, Request, Sink, Source};
-use tb_text::read_text;
+use tb_text::{TextFault, read_text};
+
+/// The fault of the whole statement that a text stands for, where its writer sees it.
+fn fault_in(alloc: Global, intake: &Intake, text: &[u8], whole: &[u8], fault: TextFault) -> Fault
+    ensures { IsOfInput result }
+{
+    let added = whole.len().saturating_sub(text.len());
+    let position = intake.position_at(fault.place.saturating_sub(added));
+    Fault::in_text(alloc, whole, fault, position)
+}
 
 /// The requests of the first bytes of the rest, which are taken; or where they go wrong.
-fn take_text(
+fn take_text<S: Standings>(
     alloc: Global,
     intake: &mut Intake,
+    standings: &S,
     length: usize,
 ) -> Result<Items<(u64, Request)>, Fault>
     ensures { IfErr result IsOfInput }
 {
     let rest = intake.rest();
     let text = rest.get(..length).unwrap_or(rest);
-    let Ok(reading) = read_text(alloc, text) else {
+    let Ok(whole) = completed(alloc, standings, text) else {
+        return Err(Fault::NoMemory);
+    };
+    let Ok(reading) = read_text(alloc, whole.as_slice()) else {
         return Err(Fault::NoMemory);
     };
     let fault = match reading.fault {
-        Some(fault) => Some(Fault::in_text(alloc, text, fault, intake.position_at(0))),
+        Some(fault) => Some(fault_in(alloc, intake, text, whole.as_slice(), fault)),
         None => None,
     };
     intake.take(length);
@@ -32,24 +46,33 @@ fn take_text(
     }
 }
 
-/// Says that the rest begins no text of statements, whatever follows.
-fn goes_wrong(alloc: Global, intake: &Intake) -> Result<bool, Fault>
+/// Says that the lines of the rest begin no statement, whatever follows.
+fn goes_wrong<S: Standings>(alloc: Global, intake: &Intake, standings: &S) -> Result<bool, Fault>
     ensures { IfErr result IsOfInput }
 {
-    match read_text(alloc, intake.rest()) {
+    let rest = intake.rest();
+    if !matches!(rest, [.., b'\n']) {
+        return Ok(false);
+    }
+    let Ok(whole) = completed(alloc, standings, rest) else {
+        return Err(Fault::NoMemory);
+    };
+    match read_text(alloc, whole.as_slice()) {
         Ok(reading) => Ok(match reading.fault {
-            Some(fault) => fault.place < intake.rest().len(),
+            Some(fault) => fault.place < whole.len(),
             None => false,
         }),
         Err(_) => Err(Fault::NoMemory),
     }
 }
 
-/// The requests of the next statement, or of what stands behind the last one: none. None where nothing is left. Where it is
-/// `urgent`, a statement that goes wrong is told before its `;` is there, with all that was read.
-pub fn next_statement<R: Source, W: Sink>(
+/// The requests of the next statement, or of what stands behind the last one: none. None where nothing is left. What the
+/// statement leaves out is filled in. Where it is `urgent`, a statement that goes wrong is told with its line, before its `;`
+/// is there.
+pub fn next_statement<R: Source, W: Sink, S: Standings>(
     alloc: Global,
     intake: &mut Intake,
+    standings: &S,
     reader: &mut R,
     writer: &mut W,
     urgent: bool,
@@ -58,17 +81,17 @@ pub fn next_statement<R: Source, W: Sink>(
 {
     for _ in 0..u64::MAX {
         if let Some(length) = intake.statement() {
-            return Ok(Some(take_text(alloc, intake, length)?));
+            return Ok(Some(take_text(alloc, intake, standings, length)?));
         }
         let length = intake.rest().len();
-        if urgent && goes_wrong(alloc, intake)? {
-            return Ok(Some(take_text(alloc, intake, length)?));
+        if urgent && goes_wrong(alloc, intake, standings)? {
+            return Ok(Some(take_text(alloc, intake, standings, length)?));
         }
         if !intake.read_more(reader, writer)? {
             return if length == 0 {
                 Ok(None)
             } else {
-                Ok(Some(take_text(alloc, intake, length)?))
+                Ok(Some(take_text(alloc, intake, standings, length)?))
             };
         }
     }

@@ -1,0 +1,102 @@
+-- A statement that leaves out its client, its session or its request's number, and the whole statement that it stands for.
+use Rattle.std.specs.Prelude.{ℕ, Bool, ◌&&◌, ◌||◌, ◌==◌, ◌+◌, ◌^◌, nat_eq, nat_lt, option_map, List, [], ◌∷◌, ◌++◌, Option, Some, None, if◌then◌else◌, codes}
+use Rattle.std.specs.Option.{is_some, option_or}
+use Rattle.std.specs.Cmp.Lexicographic.{pointwise}
+use Rattle.std.specs.Fmt.{decimal}
+use Rattle.tb_records.specs.Messages.{Answer}
+use Rattle.tb_sessions.specs.Judged.{row_of}
+use Rattle.tb_sessions.specs.declared.rows.Row.{Row}
+use Rattle.tb_text_commands.specs.Heads.{given_in}
+use Rattle.tb_text_commands.specs.declared.heads.Given.{Given}
+use Rattle.tb_text_commands.specs.declared.completing.LeftOut.{LeftOut}
+use Rattle.tb_text_commands.specs.declared.completing.Standing.{Standing}
+use Rattle.tb_text_commands.specs.declared.completing.Standing.TheVariants.{Open, Closed, Unknown}
+
+-- how a client stands
+
+-- behind a request in a session; behind the greatest number nothing is next
+abbrev pub standing_behind : ℕ → ℕ → Standing
+standing_behind session request = if nat_lt (request + 1) (2 ^ 32) then Open session (request + 1) else Unknown
+
+-- by the reply to its last request; a register that is the next entry gives a session the entry's number
+abbrev pub standing_by : ℕ → Option Answer → Standing
+standing_by commit None = Closed (commit + 1)
+standing_by commit (Some reply) = standing_behind reply.session reply.request
+
+-- in a machine with these rows of clients, behind so many entries
+abbrev pub standing_in : List Row → ℕ → ℕ → Standing
+standing_in rows commit client = standing_by commit (option_map (λ row. row.reply) (row_of rows client))
+
+-- what is left out
+
+abbrev pub nothing : LeftOut
+nothing = record { registered = None; client = None; session = None; request = None }
+
+-- what stands for a number that is left out
+abbrev pub unless_given : Option ℕ → ℕ → Option ℕ
+unless_given None n = Some n
+unless_given (Some m) n = None
+
+-- the number of the next request in a session
+abbrev pub next_in : ℕ → Standing → ℕ
+next_in session (Open current next) = if current == session then next else 1
+next_in session (Closed new) = 1
+next_in session Unknown = 1
+
+-- where the session is left out: it is the client's, and a client that has none is registered first
+abbrev pub without_session : Given → ℕ → Standing → LeftOut
+without_session g c (Open session next) = record { registered = None; client = unless_given g.client c; session = Some session; request = unless_given g.request next }
+without_session g c (Closed session) = record { registered = Some c; client = unless_given g.client c; session = Some session; request = unless_given g.request 1 }
+without_session g c Unknown = nothing
+
+abbrev pub by_session : Given → ℕ → Standing → Option ℕ → LeftOut
+by_session g c standing None = without_session g c standing
+by_session g c standing (Some session) = record { registered = None; client = unless_given g.client c; session = None; request = unless_given g.request (next_in session standing) }
+
+-- where client and request stand, a session that is left out is 0, as ever
+abbrev pub left_out_of_batch : Given → ℕ → Standing → LeftOut
+left_out_of_batch g c standing = if is_some g.client && is_some g.request then nothing else by_session g c standing g.session
+
+abbrev pub left_out_of_register : Given → ℕ → LeftOut
+left_out_of_register g c = record { registered = None; client = unless_given g.client c; session = None; request = None }
+
+-- an operation on events or ids
+abbrev pub is_batch : List ℕ → Bool
+is_batch word =
+    pointwise nat_eq word (codes "create_accounts")
+    || pointwise nat_eq word (codes "create_transfers")
+    || pointwise nat_eq word (codes "lookup_accounts")
+    || pointwise nat_eq word (codes "lookup_transfers")
+
+-- of a client that stands so, before an operation
+abbrev pub left_out : Given → List ℕ → ℕ → Standing → LeftOut
+left_out g operation c standing =
+    if pointwise nat_eq operation (codes "register") then left_out_of_register g c
+    else if is_batch operation then left_out_of_batch g c standing
+    else nothing
+
+-- a statement means the client that it names, or the one that was named last
+abbrev pub left_out_by : Option ℕ → (ℕ → Standing) → Given → List ℕ → LeftOut
+left_out_by None standing g operation = nothing
+left_out_by (Some c) standing g operation = left_out g operation c (standing c)
+
+unfoldable pub left_out_in : Option ℕ → (ℕ → Standing) → List ℕ → LeftOut
+left_out_in last standing text = left_out_by (option_or (given_in text).0.client last) standing (given_in text).0 (given_in text).1
+
+-- a line of a number, between a field's name with `=` and an ending
+abbrev pub number_line : List ℕ → List ℕ → Option ℕ → List ℕ
+number_line name ending None = []
+number_line name ending (Some n) = name ++ (decimal n ++ ending)
+
+-- a line for each, a whole statement where a client is registered
+unfoldable pub written : LeftOut → List ℕ
+written x =
+    number_line (codes "client=") (codes " register;\n") x.registered
+    ++ (number_line (codes "client=") (codes "\n") x.client
+    ++ (number_line (codes "session=") (codes "\n") x.session
+    ++ number_line (codes "request=") (codes "\n") x.request))
+
+-- The whole statement: lines for what is left out, and the statement as it stands. The client named last is known, and how
+-- each client stands.
+abbrev pub completed : Option ℕ → (ℕ → Standing) → List ℕ → List ℕ
+completed last standing text = written (left_out_in last standing text) ++ text

@@ -1,0 +1,98 @@
+-- What stands before the operation of a statement: at, client, session and request, each with its number, in any order, with
+-- spaces and comments between.
+use Rattle.std.specs.Prelude.{ℕ, Bool, true, false, not, ◌&&◌, ◌||◌, ◌==◌, ◌+◌, ◌-◌, ◌*◌, ◌^◌, nat_le, nat_lt, nat_eq, List, [], ◌∷◌, drop, take, unwrap_or, Option, Some, None, if◌then◌else◌, codes}
+use Rattle.std.specs.Option.{option_and_then}
+use Rattle.std.specs.Cmp.Lexicographic.{pointwise}
+use Rattle.tb_text_commands.specs.declared.heads.HeadField.{HeadField}
+use Rattle.tb_text_commands.specs.declared.heads.HeadField.TheVariants.{At, Client, Session, Request}
+use Rattle.tb_text_commands.specs.declared.heads.Given.{Given}
+
+-- the length of the spaces and comments that bytes begin with
+abbrev pub gap_length : Bool → List ℕ → ℕ
+gap_length in_comment [] = 0
+gap_length true (b ∷ bs) = gap_length (not (b == 10)) bs + 1
+gap_length false (b ∷ bs) =
+    if b == 35 then gap_length true bs + 1
+    else if b == 32 || b == 10 || b == 9 || b == 13 then gap_length false bs + 1
+    else 0
+
+abbrev pub past_gap : List ℕ → List ℕ
+past_gap bytes = drop (gap_length false bytes) bytes
+
+-- the bytes of a word or a number
+abbrev pub is_word_byte : ℕ → Bool
+is_word_byte b = (nat_le 97 b && nat_le b 122) || (nat_le 65 b && nat_le b 90) || (nat_le 48 b && nat_le b 57) || b == 95
+
+-- the length of the word that bytes begin with
+abbrev pub word_length : List ℕ → ℕ
+word_length [] = 0
+word_length (b ∷ bs) = if is_word_byte b then word_length bs + 1 else 0
+
+abbrev pub first_word : List ℕ → List ℕ
+first_word bytes = take (word_length bytes) bytes
+
+abbrev pub behind_word : List ℕ → List ℕ
+behind_word bytes = past_gap (drop (word_length bytes) bytes)
+
+abbrev pub behind_equals : List ℕ → Option (List ℕ)
+behind_equals [] = None
+behind_equals (b ∷ bs) = if b == 61 then Some (past_gap bs) else None
+
+-- numbers
+
+abbrev pub digit_of : ℕ → Option ℕ
+digit_of b =
+    if nat_le 48 b && nat_le b 57 then Some (b - 48)
+    else if nat_le 97 b && nat_le b 102 then Some (b - 87)
+    else if nat_le 65 b && nat_le b 70 then Some (b - 55)
+    else None
+
+-- a number with one digit more, where it is below 2^128
+abbrev pub with_digit : ℕ → ℕ → ℕ → Option ℕ
+with_digit base n b = option_and_then (λ d. if nat_lt d base && nat_lt (n * base + d) (2 ^ 128) then Some (n * base + d) else None) (digit_of b)
+
+-- the number that digits spell behind those that spelled n
+abbrev pub number_from : ℕ → ℕ → List ℕ → Option ℕ
+number_from base n [] = Some n
+number_from base n (b ∷ bs) = option_and_then (λ m. number_from base m bs) (with_digit base n b)
+
+-- in decimal digits, or in hexadecimal ones behind `0x`
+abbrev pub number_of : List ℕ → Option ℕ
+number_of [] = None
+number_of (b ∷ []) = number_from 10 0 (b ∷ [])
+number_of (b ∷ c ∷ bs) = if b == 48 && c == 120 then number_from 16 0 bs else number_from 10 0 (b ∷ c ∷ bs)
+
+-- fields
+
+abbrev pub field_named : List ℕ → Option HeadField
+field_named word =
+    if pointwise nat_eq word (codes "at") then Some At
+    else if pointwise nat_eq word (codes "client") then Some Client
+    else if pointwise nat_eq word (codes "session") then Some Session
+    else if pointwise nat_eq word (codes "request") then Some Request
+    else None
+
+abbrev pub with_field : Given → HeadField → ℕ → Given
+with_field g At n = g
+with_field g Client n = record { client = Some n; session = g.session; request = g.request }
+with_field g Session n = record { client = g.client; session = Some n; request = g.request }
+with_field g Request n = record { client = g.client; session = g.session; request = Some n }
+
+-- the field that bytes begin with, among those before it, and what stands behind it
+abbrev pub field_read : Given → List ℕ → Option (Given × List ℕ)
+field_read g bytes =
+    option_and_then (λ f.
+    option_and_then (λ value.
+    option_and_then (λ n. Some (with_field g f n, behind_word value)) (number_of (first_word value))) (behind_equals (behind_word bytes))) (field_named (first_word bytes))
+
+-- behind one field more, where one stands
+unfoldable pub next : Given × List ℕ → Given × List ℕ
+next h = unwrap_or (field_read h.0 h.1) h
+
+-- behind the fields of a statement: there are four
+abbrev pub head_of : List ℕ → Given × List ℕ
+head_of text = next (next (next (next (record { client = None; session = None; request = None }, past_gap text))))
+
+-- what stands before the operation of a statement, and the operation's word
+abbrev pub given_in : List ℕ → Given × List ℕ
+given_in text = ((head_of text).0, first_word (head_of text).1)

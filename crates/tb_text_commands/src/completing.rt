@@ -1,0 +1,228 @@
+//! Statements that leave out their client, their session or their request's number, and what stands for these.
+ghost use Rattle.std.specs.Prelude.{◌≡◌, ◌++◌, List, Option, ℕ, IfOk, OnOk};
+ghost use Rattle.tb_text_commands.specs.Completed.{by_session, completed, is_batch, left_out, left_out_in, left_out_of_batch, left_out_of_register, next_in, nothing, standing_behind, number_line, unless_given, without_session, written};
+ghost use Rattle.tb_text_commands.specs.declared.completing.Standing.{Standing};
+
+use crate::heads::{Given, given_in};
+use std::alloc::{AllocError, Global};
+
+/// How a client stands.
+#[derive(Clone, Copy)]
+pub enum Standing {
+    /// It has a session, and the next request there has this number.
+    Open(u64, u32),
+    /// It has no session, and a register gives it this one.
+    Closed(u64),
+    /// Nothing is known of it.
+    Unknown,
+}
+
+impl Standing {
+    /// Behind a request in a session.
+    pub fn behind(session: u64, request: u32) -> Standing
+        ensures { result ≡ standing_behind session request }
+    {
+        match request.checked_add(1) {
+            Some(next) => Standing::Open(session, next),
+            None => Standing::Unknown,
+        }
+    }
+}
+
+/// What is known where a statement leaves something out.
+pub trait Standings {
+    // The client that was named last.
+    ghost last: { Self → Option ℕ };
+
+    // How a client stands.
+    ghost standing: { Self → ℕ → Standing };
+
+    /// The client that was named last.
+    fn last(&self) -> Option<u128>
+        ensures { result ≡ last self.now };
+
+    /// How a client stands.
+    fn standing(&self, client: u128) -> Standing
+        ensures { result ≡ standing self.now client };
+}
+
+/// What stands for what a statement leaves out: a client that is registered first, and numbers.
+#[derive(Clone, Copy)]
+pub struct LeftOut {
+    pub registered: Option<u128>,
+    pub client: Option<u128>,
+    pub session: Option<u128>,
+    pub request: Option<u128>,
+}
+
+/// What stands for a number that is left out.
+fn unless_given(given: Option<u128>, number: u128) -> Option<u128>
+    ensures { result ≡ unless_given given number }
+{
+    match given {
+        None => Some(number),
+        Some(_) => None,
+    }
+}
+
+/// The number of the next request in a session.
+fn next_in(session: u128, standing: Standing) -> u128
+    ensures { result ≡ next_in session standing }
+{
+    match standing {
+        Standing::Open(current, next) if current as u128 == session => next as u128,
+        _ => 1,
+    }
+}
+
+impl LeftOut {
+    /// Nothing is left out.
+    fn nothing() -> LeftOut
+        ensures { result ≡ nothing }
+    {
+        LeftOut {
+            registered: None,
+            client: None,
+            session: None,
+            request: None,
+        }
+    }
+
+    /// Before a register.
+    fn of_register(given: Given, client: u128) -> LeftOut
+        ensures { result ≡ left_out_of_register given client }
+    {
+        LeftOut {
+            client: unless_given(given.client, client),
+            ..LeftOut::nothing()
+        }
+    }
+
+    /// Before a batch or a lookup without a session.
+    fn without_session(given: Given, client: u128, standing: Standing) -> LeftOut
+        ensures { result ≡ without_session given client standing }
+    {
+        match standing {
+            Standing::Open(session, next) => LeftOut {
+                registered: None,
+                client: unless_given(given.client, client),
+                session: Some(session as u128),
+                request: unless_given(given.request, next as u128),
+            },
+            Standing::Closed(session) => LeftOut {
+                registered: Some(client),
+                client: unless_given(given.client, client),
+                session: Some(session as u128),
+                request: unless_given(given.request, 1),
+            },
+            Standing::Unknown => LeftOut::nothing(),
+        }
+    }
+
+    /// Before a batch or a lookup that leaves something out.
+    fn by_session(given: Given, client: u128, standing: Standing) -> LeftOut
+        ensures { result ≡ by_session given client standing given.session }
+    {
+        match given.session {
+            None => LeftOut::without_session(given, client, standing),
+            Some(session) => LeftOut {
+                client: unless_given(given.client, client),
+                request: unless_given(given.request, next_in(session, standing)),
+                ..LeftOut::nothing()
+            },
+        }
+    }
+
+    /// Before a batch or a lookup.
+    fn of_batch(given: Given, client: u128, standing: Standing) -> LeftOut
+        ensures { result ≡ left_out_of_batch given client standing }
+    {
+        if given.client.is_some() && given.request.is_some() {
+            LeftOut::nothing()
+        } else {
+            LeftOut::by_session(given, client, standing)
+        }
+    }
+
+    /// Before an operation.
+    fn before(given: Given, operation: &[u8], client: u128, standing: Standing) -> LeftOut
+        ensures { result ≡ left_out given operation.now client standing }
+    {
+        if operation == b"register".as_slice() {
+            LeftOut::of_register(given, client)
+        } else if is_batch(operation) {
+            LeftOut::of_batch(given, client, standing)
+        } else {
+            LeftOut::nothing()
+        }
+    }
+
+    /// What stands for what a statement leaves out.
+    #[tactic(auto, unfolding(crate::specs::Completed::left_out_in))]
+    fn in_statement<S: Standings>(standings: &S, text: &[u8]) -> LeftOut
+        ensures { result ≡ left_out_in (S.last standings.now) (S.standing standings.now) text.now }
+    {
+        let (given, operation) = given_in(text);
+        match given.client.or(standings.last()) {
+            Some(client) => {
+                LeftOut::before(given, operation, client, standings.standing(client))
+            }
+            None => LeftOut::nothing(),
+        }
+    }
+}
+
+/// Says that a word is an operation on events or ids.
+fn is_batch(word: &[u8]) -> bool
+    ensures { result ≡ is_batch word.now }
+{
+    word == b"create_accounts".as_slice()
+        || word == b"create_transfers".as_slice()
+        || word == b"lookup_accounts".as_slice()
+        || word == b"lookup_transfers".as_slice()
+}
+
+/// Appends the line of a number, between a field's name with `=` and an ending.
+fn put_line(
+    alloc: Global,
+    out: &mut Vec<u8>,
+    name: &[u8],
+    ending: &[u8],
+    number: Option<u128>,
+) -> Result<(), AllocError>
+    ensures { OnOk result (out.new.items ≡ out.old.items ++ number_line name.now ending.now number) }
+{
+    match number {
+        None => Ok(()),
+        Some(number) => {
+            out.extend_from_slice(name)?;
+            out.extend_from_slice(number.to_string(alloc)?.as_str().as_bytes())?;
+            out.extend_from_slice(ending)
+        }
+    }
+}
+
+/// Appends the lines of what is left out.
+#[tactic(auto, unfolding(crate::specs::Completed::written))]
+fn put_left_out(alloc: Global, out: &mut Vec<u8>, left_out: LeftOut) -> Result<(), AllocError>
+    ensures { OnOk result (out.new.items ≡ out.old.items ++ written left_out) }
+{
+    put_line(alloc, out, b"client=", b" register;\n", left_out.registered)?;
+    put_line(alloc, out, b"client=", b"\n", left_out.client)?;
+    put_line(alloc, out, b"session=", b"\n", left_out.session)?;
+    put_line(alloc, out, b"request=", b"\n", left_out.request)
+}
+
+/// The whole statement that a statement stands for: lines for what it leaves out, and itself.
+pub fn completed<S: Standings>(
+    alloc: Global,
+    standings: &S,
+    text: &[u8],
+) -> Result<Vec<u8>, AllocError>
+    ensures { IfOk result (λ whole. whole.items ≡ completed (S.last standings.now) (S.standing standings.now) text.now) }
+{
+    let mut whole = Vec::new(alloc);
+    put_left_out(alloc, &mut whole, LeftOut::in_statement(standings, text))?;
+    whole.extend_from_slice(text)?;
+    Ok(whole)
+}

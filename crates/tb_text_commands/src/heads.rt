@@ -1,0 +1,218 @@
+//! What stands before the operation of a statement.
+ghost use Rattle.std.specs.Prelude.{◌≡◌, ◌≤◌, length, MatchOption, None, Some, false};
+ghost use Rattle.tb_text_commands.specs.Heads.{behind_equals, behind_word, digit_of, field_named, field_read, first_word, gap_length, given_in, is_word_byte, next, number_from, number_of, past_gap, with_digit, with_field, word_length};
+
+/// What may stand before an operation.
+#[derive(Clone, Copy)]
+pub enum HeadField {
+    At,
+    Client,
+    Session,
+    Request,
+}
+
+/// The numbers that stand before an operation, but for the moment.
+#[derive(Clone, Copy)]
+pub struct Given {
+    pub client: Option<u128>,
+    pub session: Option<u128>,
+    pub request: Option<u128>,
+}
+
+/// The number of bytes of the spaces and comments that the bytes begin with.
+fn gap_length(bytes: &[u8]) -> usize
+    ensures value { result ≡ gap_length false bytes.now }
+    ensures within { result ≤ length bytes.now }
+{
+    let mut in_comment = false;
+    for (place, byte) in bytes.iter().enumerate() {
+        if in_comment {
+            in_comment = *byte != b'\n';
+        } else if *byte == b'#' {
+            in_comment = true;
+        } else if !matches!(*byte, b' ' | b'\n' | b'\t' | b'\r') {
+            return place;
+        }
+    }
+    bytes.len()
+}
+
+/// Says that a byte is one of a word or a number.
+fn is_word_byte(byte: u8) -> bool
+    ensures { result ≡ is_word_byte byte }
+{
+    (b'a' <= byte && byte <= b'z')
+        || (b'A' <= byte && byte <= b'Z')
+        || (b'0' <= byte && byte <= b'9')
+        || byte == b'_'
+}
+
+/// The number of bytes of the word that the bytes begin with.
+fn word_length(bytes: &[u8]) -> usize
+    ensures value { result ≡ word_length bytes.now }
+    ensures within { result ≤ length bytes.now }
+{
+    for (place, byte) in bytes.iter().enumerate() {
+        if !is_word_byte(*byte) {
+            return place;
+        }
+    }
+    bytes.len()
+}
+
+/// The bytes behind spaces and comments.
+fn past_gap(bytes: &[u8]) -> &[u8]
+    ensures { result.now ≡ past_gap bytes.now }
+{
+    bytes.split_at(gap_length(bytes)).1
+}
+
+/// The word that the bytes begin with.
+fn first_word(bytes: &[u8]) -> &[u8]
+    ensures { result.now ≡ first_word bytes.now }
+{
+    bytes.split_at(word_length(bytes)).0
+}
+
+/// What stands behind the word that the bytes begin with.
+fn behind_word(bytes: &[u8]) -> &[u8]
+    ensures { result.now ≡ behind_word bytes.now }
+{
+    past_gap(bytes.split_at(word_length(bytes)).1)
+}
+
+/// What stands behind a `=`.
+fn behind_equals(bytes: &[u8]) -> Option<&[u8]>
+    ensures { MatchOption result (behind_equals bytes.now ≡ None) (λ rest. behind_equals bytes.now ≡ Some rest.now) }
+{
+    match bytes {
+        [b'=', rest @ ..] => Some(past_gap(rest)),
+        _ => None,
+    }
+}
+
+/// The value of a digit.
+fn digit(byte: u8) -> Option<u128>
+    ensures { result ≡ digit_of byte }
+{
+    match byte {
+        b'0'..=b'9' => Some((byte - b'0') as u128),
+        b'a'..=b'f' => Some((byte - b'W') as u128),
+        b'A'..=b'F' => Some((byte - b'7') as u128),
+        _ => None,
+    }
+}
+
+/// A number with one digit more, where it is below 2^128.
+fn with_digit(base: u128, n: u128, byte: u8) -> Option<u128>
+    ensures { result ≡ with_digit base n byte }
+{
+    let digit = digit(byte)?;
+    if digit < base {
+        n.checked_mul(base)?.checked_add(digit)
+    } else {
+        None
+    }
+}
+
+/// The number that digits spell.
+fn number_from(base: u128, digits: &[u8]) -> Option<u128>
+    ensures { result ≡ number_from base 0 digits.now }
+{
+    let mut n: u128 = 0;
+    for byte in digits {
+        match with_digit(base, n, *byte) {
+            Some(more) => n = more,
+            None => return None,
+        }
+    }
+    Some(n)
+}
+
+/// The number that a word spells, in decimal digits or behind `0x`.
+fn number_of(word: &[u8]) -> Option<u128>
+    ensures { result ≡ number_of word.now }
+{
+    match word {
+        [] => None,
+        [b'0', b'x', digits @ ..] => number_from(16, digits),
+        digits => number_from(10, digits),
+    }
+}
+
+/// The field before an operation that has a name.
+fn field_named(word: &[u8]) -> Option<HeadField>
+    ensures { result ≡ field_named word.now }
+{
+    if word == b"at".as_slice() {
+        Some(HeadField::At)
+    } else if word == b"client".as_slice() {
+        Some(HeadField::Client)
+    } else if word == b"session".as_slice() {
+        Some(HeadField::Session)
+    } else if word == b"request".as_slice() {
+        Some(HeadField::Request)
+    } else {
+        None
+    }
+}
+
+impl Given {
+    /// With one number more.
+    fn with_field(self, field: HeadField, number: u128) -> Given
+        ensures { result ≡ with_field self field number }
+    {
+        match field {
+            HeadField::At => self,
+            HeadField::Client => Given {
+                client: Some(number),
+                ..self
+            },
+            HeadField::Session => Given {
+                session: Some(number),
+                ..self
+            },
+            HeadField::Request => Given {
+                request: Some(number),
+                ..self
+            },
+        }
+    }
+}
+
+/// The field that the bytes begin with, among those before it, and what stands behind it.
+fn field_read(given: Given, bytes: &[u8]) -> Option<(Given, &[u8])>
+    ensures { MatchOption result (field_read given bytes.now ≡ None) (λ found. field_read given bytes.now ≡ Some (found.0, found.1.now)) }
+{
+    let field = field_named(first_word(bytes))?;
+    let value = behind_equals(behind_word(bytes))?;
+    let number = number_of(first_word(value))?;
+    Some((given.with_field(field, number), behind_word(value)))
+}
+
+/// Behind one field more, where one stands.
+#[tactic(auto, unfolding(crate::specs::Heads::next))]
+fn next(given: Given, bytes: &[u8]) -> (Given, &[u8])
+    ensures { (result.0, result.1.now) ≡ next (given, bytes.now) }
+{
+    match field_read(given, bytes) {
+        Some(found) => found,
+        None => (given, bytes),
+    }
+}
+
+/// What stands before the operation of a statement, and the word of the operation.
+pub fn given_in(text: &[u8]) -> (Given, &[u8])
+    ensures { (result.0, result.1.now) ≡ given_in text.now }
+{
+    let none = Given {
+        client: None,
+        session: None,
+        request: None,
+    };
+    let (given, rest) = next(none, past_gap(text));
+    let (given, rest) = next(given, rest);
+    let (given, rest) = next(given, rest);
+    let (given, rest) = next(given, rest);
+    (given, first_word(rest))
+}

@@ -1,0 +1,72 @@
+//! What statements tell of clients: the one named last, their sessions, and the numbers of their requests.
+ghost use Rattle.std.specs.BTreeMap.{get};
+ghost use Rattle.std.specs.Ordering.{nat_cmp};
+ghost use Rattle.std.specs.Prelude.{◌≡◌, IfErr, unwrap_or};
+ghost use Rattle.tb_text_commands.specs.Completed.{standing_behind};
+ghost use Rattle.tb_text_commands.specs.declared.completing.Standing.TheVariants.{Unknown};
+ghost use Rattle.tb_text_commands.specs.Ends.{IsOfInput};
+
+use crate::completing::{Standing, Standings};
+use crate::faults::Fault;
+use std::alloc::Global;
+use std::collections::BTreeMap;
+use tb_records::Request;
+
+/// What the statements before tell.
+#[derive(Drop)]
+pub struct Told {
+    last: Option<u128>,
+    clients: BTreeMap<u128, Standing>,
+}
+
+impl Standings for Told {
+    ghost last = { λ told. told.last };
+
+    ghost standing = { λ told client. unwrap_or (get nat_cmp told.clients client) Unknown };
+
+    fn last(&self) -> Option<u128> {
+        self.last
+    }
+
+    fn standing(&self, client: u128) -> Standing {
+        match self.clients.get(&client) {
+            Some(standing) => *standing,
+            None => Standing::Unknown,
+        }
+    }
+}
+
+impl Told {
+    /// Nothing is told.
+    pub fn new(alloc: Global) -> Told {
+        Told {
+            last: None,
+            clients: BTreeMap::new(alloc),
+        }
+    }
+
+    /// Notes a request: its client is the one named last, and has its session, but for a register, whose reply tells that.
+    fn note_one(&mut self, request: &Request) -> Result<(), Fault>
+        ensures { IfErr result IsOfInput }
+    {
+        let standing = match request.session() {
+            0 => Standing::Unknown,
+            session => Standing::behind(session, request.request()),
+        };
+        self.last = Some(request.client());
+        match self.clients.insert(request.client(), standing) {
+            Ok(_) => Ok(()),
+            Err(_) => Err(Fault::NoMemory),
+        }
+    }
+
+    /// Notes requests.
+    pub fn note(&mut self, pairs: &[(u64, Request)]) -> Result<(), Fault>
+        ensures { IfErr result IsOfInput }
+    {
+        for (_, request) in pairs {
+            self.note_one(request)?;
+        }
+        Ok(())
+    }
+}
