@@ -8,6 +8,8 @@ mod failing;
 #[cfg(test)]
 mod files;
 #[cfg(test)]
+mod openings;
+#[cfg(test)]
 mod rows;
 #[cfg(test)]
 mod steps;
