@@ -70,7 +70,8 @@ pub fn insert<K: Ord, V, A: Allocator>(
     requires bare { IsBare fresh.value }
     requires key { option_map (λ e. e.0) fresh.value.entry ≡ Some key.now }
     ensures balanced { IsAvl tree.new }
-    ensures entries { IfSome fresh.value.entry (λ e. entries tree.new ≡ insert_entry K.cmp (entries tree.old) key.now e.1) }
+    ensures entries { IfSome fresh.value.entry
+        (λ e. entries tree.new ≡ insert_entry K.cmp (entries tree.old) key.now e.1) }
     ensures height { IsGrown (stored_height tree.old) (stored_height tree.new) }
     ensures told { IsTold result (stored_height tree.old) (stored_height tree.new) }
 {
@@ -98,8 +99,10 @@ fn take_top<K, V, A: Allocator>(tree: &mut Tree<K, V, A>) -> Option<Box<Node<K, 
     requires balanced { IsAvl tree.old }
     requires no_left { HasNoLeft tree.old }
     ensures balanced { IsAvl tree.new }
-    ensures entries { entries tree.old ≡ with_first (option_and_then (λ b. b.value.entry) result) (entries tree.new) }
-    ensures taken { MatchOption result ((tree.old ≡ Empty) × (tree.new ≡ Empty)) (λ b. IsBare b.value × IsSome b.value.entry) }
+    ensures entries { entries tree.old
+        ≡ with_first (option_and_then (λ b. b.value.entry) result) (entries tree.new) }
+    ensures taken { MatchOption result ((tree.old ≡ Empty) × (tree.new ≡ Empty))
+        (λ b. IsBare b.value × IsSome b.value.entry) }
     ensures height { IsShrunk (stored_height tree.old) (stored_height tree.new) }
     ensures lower { tree.old ≢ Empty → stored_height tree.new < stored_height tree.old }
 {
@@ -124,8 +127,10 @@ pub fn take_first<K, V, A: Allocator>(
     requires height_fits { stored_height tree.old < 200 }
     requires not_lower { lower.old ≡ false }
     ensures balanced { IsAvl tree.new }
-    ensures entries { entries tree.old ≡ with_first (option_and_then (λ b. b.value.entry) result) (entries tree.new) }
-    ensures taken { MatchOption result ((tree.old ≡ Empty) × (tree.new ≡ Empty)) (λ b. IsBare b.value × IsSome b.value.entry) }
+    ensures entries { entries tree.old
+        ≡ with_first (option_and_then (λ b. b.value.entry) result) (entries tree.new) }
+    ensures taken { MatchOption result ((tree.old ≡ Empty) × (tree.new ≡ Empty))
+        (λ b. IsBare b.value × IsSome b.value.entry) }
     ensures height { IsShrunk (stored_height tree.old) (stored_height tree.new) }
     ensures told { IsTold lower.new (stored_height tree.old) (stored_height tree.new) }
 {
@@ -185,8 +190,10 @@ fn take_top_to<K: Ord, V, A: Allocator>(
     requires not_lower { lower.old ≡ false }
     ensures balanced { IsAvl tree.new }
     ensures first { option_and_then (λ b. b.value.entry) result ≡ first_to K.cmp bound.now (entries tree.old) }
-    ensures entries { entries tree.old ≡ with_first (option_and_then (λ b. b.value.entry) result) (entries tree.new) }
-    ensures taken { MatchOption result ((tree.new ≡ tree.old) × (lower.new ≡ false)) (λ b. IsBare b.value × IsSome b.value.entry) }
+    ensures entries { entries tree.old
+        ≡ with_first (option_and_then (λ b. b.value.entry) result) (entries tree.new) }
+    ensures taken { MatchOption result ((tree.new ≡ tree.old) × (lower.new ≡ false))
+        (λ b. IsBare b.value × IsSome b.value.entry) }
     ensures height { IsShrunk (stored_height tree.old) (stored_height tree.new) }
     ensures told { IsTold lower.new (stored_height tree.old) (stored_height tree.new) }
 {
@@ -209,8 +216,10 @@ pub fn take_first_to<K: Ord, V, A: Allocator>(
     requires not_lower { lower.old ≡ false }
     ensures balanced { IsAvl tree.new }
     ensures first { option_and_then (λ b. b.value.entry) result ≡ first_to K.cmp bound.now (entries tree.old) }
-    ensures entries { entries tree.old ≡ with_first (option_and_then (λ b. b.value.entry) result) (entries tree.new) }
-    ensures taken { MatchOption result ((tree.new ≡ tree.old) × (lower.new ≡ false)) (λ b. IsBare b.value × IsSome b.value.entry) }
+    ensures entries { entries tree.old
+        ≡ with_first (option_and_then (λ b. b.value.entry) result) (entries tree.new) }
+    ensures taken { MatchOption result ((tree.new ≡ tree.old) × (lower.new ≡ false))
+        (λ b. IsBare b.value × IsSome b.value.entry) }
     ensures height { IsShrunk (stored_height tree.old) (stored_height tree.new) }
     ensures told { IsTold lower.new (stored_height tree.old) (stored_height tree.new) }
 {
@@ -287,7 +296,8 @@ pub fn remove<K: Ord, V, A: Allocator>(
     requires not_lower { lower.old ≡ false }
     ensures balanced { IsAvl tree.new }
     ensures entries { entries tree.new ≡ remove_entry (is_at (K.cmp key.now)) (entries tree.old) }
-    ensures value { option_and_then (λ b. option_map (λ e. e.1) b.value.entry) result ≡ lookup (is_at (K.cmp key.now)) (entries tree.old) }
+    ensures value { option_and_then (λ b. option_map (λ e. e.1) b.value.entry) result
+        ≡ lookup (is_at (K.cmp key.now)) (entries tree.old) }
     ensures taken { IfSome result (λ b. IsBare b.value × IsSome b.value.entry) }
     ensures height { IsShrunk (stored_height tree.old) (stored_height tree.new) }
     ensures told { IsTold lower.new (stored_height tree.old) (stored_height tree.new) }

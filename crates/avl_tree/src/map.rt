@@ -187,8 +187,10 @@ impl<K: Ord + Copy, V, A: Allocator + Clone> AvlMap<K, V, A> {
     pub fn set(&mut self, key: K, value: V) -> Result<V, V>
         ensures spare { self.new.spare ≡ self.old.spare }
         ensures old { IfOk result (λ v. get K.cmp self.old key ≡ Some v) }
-        ensures written { IfOk result (λ _. entries self.new ≡ set_value (is_at (K.cmp key)) (entries self.old) value) }
-        ensures absent { IfErr result (λ v. (v ≡ value) × (get K.cmp self.old key ≡ None) × (self.new ≡ self.old)) }
+        ensures written { IfOk result
+            (λ _. entries self.new ≡ set_value (is_at (K.cmp key)) (entries self.old) value) }
+        ensures absent { IfErr result
+            (λ v. (v ≡ value) × (get K.cmp self.old key ≡ None) × (self.new ≡ self.old)) }
     {
         let mut value = value;
         if edits::exchange(&mut self.root, &key, &mut value) {
@@ -203,8 +205,12 @@ impl<K: Ord + Copy, V, A: Allocator + Clone> AvlMap<K, V, A> {
     pub fn update<R, F: FnMut(&mut V) -> R>(&mut self, key: &K, f: &mut F) -> Option<R>
         requires { F.IsAlwaysCallable f.old }
         ensures callable { F.IsAlwaysCallable f.new }
-        ensures changed { IfSome result (λ r. Changed F.FnMut (is_at (K.cmp key.now)) (entries self.old) f.old r f.new (entries self.new)) }
-        ensures absent { IfNone result ((get K.cmp self.old key.now ≡ None) × (f.new ≡ f.old) × (self.new ≡ self.old)) }
+        ensures changed { IfSome result
+            (λ r.
+            Changed F.FnMut (is_at (K.cmp key.now)) (entries self.old) f.old r f.new
+            (entries self.new)) }
+        ensures absent { IfNone result
+            ((get K.cmp self.old key.now ≡ None) × (f.new ≡ f.old) × (self.new ≡ self.old)) }
         ensures spare { self.new.spare ≡ self.old.spare }
     {
         updates::update(&mut self.root, key, f)
@@ -221,8 +227,14 @@ impl<K: Ord + Copy, V, A: Allocator + Clone> AvlMap<K, V, A> {
         requires differ { is_eq (K.cmp a.now b.now) ≡ false }
         requires callable { F.IsAlwaysCallable f.old }
         ensures callable { F.IsAlwaysCallable f.new }
-        ensures changed { IfSome result (λ r. ChangedTwo F.FnMut (is_at (K.cmp a.now)) (is_at (K.cmp b.now)) (entries self.old) f.old r f.new (entries self.new)) }
-        ensures absent { IfNone result (((get K.cmp self.old a.now ≡ None) ⊎ (get K.cmp self.old b.now ≡ None)) × (f.new ≡ f.old) × (self.new ≡ self.old)) }
+        ensures changed { IfSome result
+            (λ r.
+            ChangedTwo F.FnMut (is_at (K.cmp a.now)) (is_at (K.cmp b.now))
+            (entries self.old) f.old r f.new (entries self.new)) }
+        ensures absent { IfNone result
+            (((get K.cmp self.old a.now ≡ None) ⊎ (get K.cmp self.old b.now ≡ None))
+            × (f.new ≡ f.old)
+            × (self.new ≡ self.old)) }
         ensures spare { self.new.spare ≡ self.old.spare }
     {
         match a.cmp(b) {

@@ -62,7 +62,10 @@ fn answer_both<K, V, R, F: FnMut(&mut V, &mut V) -> R>(
     requires empty { out.old ≡ None }
     ensures callable { F.IsAlwaysCallable f.new }
     ensures answered { IsSome out.new }
-    ensures called { IfSome out.new (λ r. CalledAtEntries F.FnMut in_order f.old held.old other.old r f.new held.new other.new) }
+    ensures called { IfSome out.new
+        (λ r.
+        CalledAtEntries F.FnMut in_order f.old held.old other.old r f.new held.new
+        other.new) }
 {
     answer(out, call_both(held, other, in_order, f));
 }
@@ -82,7 +85,8 @@ fn beside<K: Ord, V, A: Allocator, R, F: FnMut(&mut V, &mut V) -> R>(
     requires callable { F.IsAlwaysCallable f.old }
     requires empty { out.old ≡ None }
     ensures callable { F.IsAlwaysCallable f.new }
-    ensures changes { ChangesBeside F.FnMut in_order (is_at (K.cmp key.now)) held.old tree.old f.old out.new f.new held.new tree.new }
+    ensures changes { ChangesBeside F.FnMut in_order (is_at (K.cmp key.now)) held.old tree.old f.old out.new f.new
+        held.new tree.new }
 {
     match tree {
         Tree::Empty => {}
@@ -109,7 +113,8 @@ fn beside_left<K: Ord, V, A: Allocator, R, F: FnMut(&mut V, &mut V) -> R>(
     requires empty { out.old ≡ None }
     ensures callable { F.IsAlwaysCallable f.new }
     ensures right { node.new.right ≡ node.old.right }
-    ensures changes { ChangesBeside F.FnMut in_order (is_at (K.cmp key.now)) node.old.entry node.old.left f.old out.new f.new node.new.entry node.new.left }
+    ensures changes { ChangesBeside F.FnMut in_order (is_at (K.cmp key.now)) node.old.entry node.old.left f.old
+        out.new f.new node.new.entry node.new.left }
 {
     beside(&mut node.left, key, &mut node.entry, in_order, f, out)
 }
@@ -129,7 +134,8 @@ fn beside_right<K: Ord, V, A: Allocator, R, F: FnMut(&mut V, &mut V) -> R>(
     requires empty { out.old ≡ None }
     ensures callable { F.IsAlwaysCallable f.new }
     ensures left { node.new.left ≡ node.old.left }
-    ensures changes { ChangesBeside F.FnMut in_order (is_at (K.cmp key.now)) node.old.entry node.old.right f.old out.new f.new node.new.entry node.new.right }
+    ensures changes { ChangesBeside F.FnMut in_order (is_at (K.cmp key.now)) node.old.entry node.old.right f.old
+        out.new f.new node.new.entry node.new.right }
 {
     beside(&mut node.right, key, &mut node.entry, in_order, f, out)
 }
@@ -153,7 +159,8 @@ fn apart<K: Ord, V, A: Allocator, R, F: FnMut(&mut V, &mut V) -> R>(
     requires callable { F.IsAlwaysCallable f.old }
     requires empty { out.old ≡ None }
     ensures callable { F.IsAlwaysCallable f.new }
-    ensures changes { ChangesApart F.FnMut in_order (is_at (K.cmp key.now)) (is_at (K.cmp other_key.now)) tree.old other.old f.old out.new f.new tree.new other.new }
+    ensures changes { ChangesApart F.FnMut in_order (is_at (K.cmp key.now)) (is_at (K.cmp other_key.now)) tree.old
+        other.old f.old out.new f.new tree.new other.new }
 {
     let Tree::Fork(_, node) = tree else {
         return;
@@ -187,7 +194,8 @@ fn apart_at<K: Ord, V, A: Allocator, R, F: FnMut(&mut V, &mut V) -> R>(
     requires empty { out.old ≡ None }
     ensures callable { F.IsAlwaysCallable f.new }
     ensures entry { node.new.entry ≡ node.old.entry }
-    ensures changes { ChangesApart F.FnMut in_order (is_at (K.cmp low.now)) (is_at (K.cmp high.now)) node.old.left node.old.right f.old out.new f.new node.new.left node.new.right }
+    ensures changes { ChangesApart F.FnMut in_order (is_at (K.cmp low.now)) (is_at (K.cmp high.now)) node.old.left
+        node.old.right f.old out.new f.new node.new.left node.new.right }
 {
     apart(&mut node.left, &mut node.right, low, high, in_order, f, out)
 }
@@ -207,7 +215,8 @@ fn seek_both<K: Ord, V, A: Allocator, R, F: FnMut(&mut V, &mut V) -> R>(
     requires callable { F.IsAlwaysCallable f.old }
     requires empty { out.old ≡ None }
     ensures callable { F.IsAlwaysCallable f.new }
-    ensures changes { ChangesBoth F.FnMut in_order (is_at (K.cmp low.now)) (is_at (K.cmp high.now)) tree.old f.old out.new f.new tree.new }
+    ensures changes { ChangesBoth F.FnMut in_order (is_at (K.cmp low.now)) (is_at (K.cmp high.now)) tree.old f.old
+        out.new f.new tree.new }
 {
     let Tree::Fork(_, node) = tree else {
         return;
@@ -238,7 +247,8 @@ pub fn update_two<K: Ord, V, A: Allocator, R, F: FnMut(&mut V, &mut V) -> R>(
     requires lower { K.cmp low.now high.now ≡ Less }
     requires callable { F.IsAlwaysCallable f.old }
     ensures callable { F.IsAlwaysCallable f.new }
-    ensures changes { ChangesBoth F.FnMut in_order (is_at (K.cmp low.now)) (is_at (K.cmp high.now)) tree.old f.old result f.new tree.new }
+    ensures changes { ChangesBoth F.FnMut in_order (is_at (K.cmp low.now)) (is_at (K.cmp high.now)) tree.old f.old
+        result f.new tree.new }
 {
     let mut out = None;
     seek_both(tree, low, high, in_order, f, &mut out);

@@ -19,7 +19,8 @@ fn update_value<K, V, A: Allocator, R, F: FnMut(&mut V) -> R>(
     ensures callable { F.IsAlwaysCallable f.new }
     ensures left { node.new.left ≡ node.old.left }
     ensures right { node.new.right ≡ node.old.right }
-    ensures called { IfSome node.old.entry (λ e. IfSome result (λ r. CalledAtValue F.FnMut f.old e r f.new node.new.entry)) }
+    ensures called { IfSome node.old.entry
+        (λ e. IfSome result (λ r. CalledAtValue F.FnMut f.old e r f.new node.new.entry)) }
     ensures answered { IsSome result }
 {
     match &mut node.entry {

@@ -64,7 +64,8 @@ fn perform<R: Source, W: Sink>(
     reader: &mut R,
     writer: &mut W,
 ) -> Result<u64, Fault>
-    ensures { Performs order result (R.input reader.old) (R.input reader.new) (W.output writer.old) (W.output writer.new) }
+    ensures { Performs order result (R.input reader.old) (R.input reader.new) (W.output writer.old)
+        (W.output writer.new) }
 {
     let served = match order {
         Order::Run(clients_max, profile) => run(alloc, profile, clients_max, reader, writer),
@@ -89,9 +90,15 @@ pub fn command<R: Source, W: Sink, E: Sink>(
     writer: &mut W,
     faults: &mut E,
 ) -> u8
-    ensures usage { order_of (map string_bytes words.now) ≡ None → (result ≡ 2) × (reader.new ≡ reader.old) × (writer.new ≡ writer.old) × Told (fault_line Fault.Usage) (E.output faults.old) (E.output faults.new) }
+    ensures usage { order_of (map string_bytes words.now) ≡ None
+        → (result ≡ 2)
+        × (reader.new ≡ reader.old)
+        × (writer.new ≡ writer.old)
+        × Told (fault_line Fault.Usage) (E.output faults.old) (E.output faults.new) }
     ensures quiet { result ≡ 0 → faults.new ≡ faults.old }
-    ensures served { (order : Order) → order_of (map string_bytes words.now) ≡ Some order → Exits order result (R.input reader.old) (R.input reader.new) (W.output writer.old) (W.output writer.new) (E.output faults.old) (E.output faults.new) }
+    ensures served { (order : Order) → order_of (map string_bytes words.now) ≡ Some order
+        → Exits order result (R.input reader.old) (R.input reader.new) (W.output writer.old)
+        (W.output writer.new) (E.output faults.old) (E.output faults.new) }
 {
     let Some(order) = read_order(words) else {
         tell(Fault::Usage, faults);

@@ -24,7 +24,10 @@ pub extern "C" fn tb_embed_open(
     profile: u32,
     clients_max: u32,
 ) -> u32
-    ensures { Tells result (λ outcome. Opens outcome profile clients_max (standing server.old.held.state) (standing server.new.held.state)) }
+    ensures { Tells result
+        (λ outcome.
+        Opens outcome profile clients_max (standing server.old.held.state)
+        (standing server.new.held.state)) }
 {
     open(alloc, server, profile, clients_max).status()
 }
@@ -42,7 +45,10 @@ pub extern "C" fn tb_embed_serve(
     reply: &mut [u8],
     written: &mut usize,
 ) -> u32
-    ensures { TellsLength result written.new (λ outcome. Serves outcome (standing server.old.held.state) (standing server.new.held.state) moment request.now reply.new) }
+    ensures { TellsLength result written.new
+        (λ outcome.
+        Serves outcome (standing server.old.held.state) (standing server.new.held.state)
+        moment request.now reply.new) }
 {
     let outcome = serve(alloc, server, moment, request, reply);
     *written = outcome.length();
@@ -59,7 +65,13 @@ pub extern "C" fn tb_embed_account(
     id_high: u64,
     account: &mut [u8],
 ) -> u32
-    ensures { Tells result (λ outcome. Shows (λ (S : State). option_map account_bytes (account_now S.books (id_of id_low id_high))) outcome (standing server.old.held.state) (standing server.new.held.state) account.new) }
+    ensures { Tells result
+        (λ outcome.
+        Shows
+        (λ (S : State).
+        option_map account_bytes (account_now S.books (id_of id_low id_high)))
+        outcome (standing server.old.held.state) (standing server.new.held.state)
+        account.new) }
 {
     show_account(alloc, server, id(id_low, id_high), account).status()
 }
@@ -73,7 +85,13 @@ pub extern "C" fn tb_embed_transfer(
     id_high: u64,
     transfer: &mut [u8],
 ) -> u32
-    ensures { Tells result (λ outcome. Shows (λ (S : State). option_map transfer_bytes (transfer_at S.books (id_of id_low id_high))) outcome (standing server.old.held.state) (standing server.new.held.state) transfer.new) }
+    ensures { Tells result
+        (λ outcome.
+        Shows
+        (λ (S : State).
+        option_map transfer_bytes (transfer_at S.books (id_of id_low id_high)))
+        outcome (standing server.old.held.state) (standing server.new.held.state)
+        transfer.new) }
 {
     show_transfer(alloc, server, id(id_low, id_high), transfer).status()
 }

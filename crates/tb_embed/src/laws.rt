@@ -16,7 +16,9 @@ pub fn frames_are_not_malformed()
 /// A request that was served loses nothing where its reply did not arrive, as in a room that was too small: sent again, at
 /// whatever moment, it moves nothing and gets the same bytes.
 pub fn answered_again()
-    ensures { (S : State) (moment again : ℕ) (r : Message) → IsLawful r → IsTimely S (moment, r) → IsAnsweredAgain S moment again r }
+    ensures { (S : State) (moment again : ℕ) (r : Message) → IsLawful r
+        → IsTimely S (moment, r)
+        → IsAnsweredAgain S moment again r }
 {}
 
 /// Calls one after another leave the server of an opened handle after a legal history: what is accepted of the requests that

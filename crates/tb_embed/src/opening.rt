@@ -39,7 +39,8 @@ fn server_in(
 
 /// Opens a handle that is closed.
 pub(crate) fn open(alloc: Global, server: &mut TbServer, profile: u32, clients_max: u32) -> Outcome
-    ensures { Opens result profile clients_max (standing server.old.held.state) (standing server.new.held.state) }
+    ensures { Opens result profile clients_max (standing server.old.held.state)
+        (standing server.new.held.state) }
 {
     let Some(profile) = profile_of(profile) else {
         return Outcome::Usage

@@ -44,7 +44,14 @@ impl<'a> Room<'a> {
 
 // What was written begins with the name of the caller's reference, so that a room after writing is known as the room before.
 impl Sink for Room<'_> {
-    ghost output = { λ r. record { written = Some (r.bytes.ghost_name ∷ take r.at r.bytes.now); failed = 0; stalled = r.stalls; halted = r.halted; held = r.held } };
+    ghost output = { λ r.
+        record {
+          written = Some (r.bytes.ghost_name ∷ take r.at r.bytes.now);
+          failed = 0;
+          stalled = r.stalls;
+          halted = r.halted;
+          held = r.held;
+        } };
 
     fn put(&mut self, bytes: &[u8]) -> io::Result<usize> {
         let count = bytes.len().min(self.bytes.len() - self.at);

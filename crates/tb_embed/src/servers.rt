@@ -30,7 +30,8 @@ impl TbServer {
     /// Takes the server out of the handle, which is closed then.
     pub(crate) fn take(&mut self, alloc: Global) -> Option<Box<Server>>
         ensures left { self.new.held.state ≡ None }
-        ensures taken { MatchOption result (self.old.held.state ≡ None) (λ server. self.old.held.state ≡ Some server.value) }
+        ensures taken { MatchOption result (self.old.held.state ≡ None)
+            (λ server. self.old.held.state ≡ Some server.value) }
     {
         let TbServer { held, is_open } = mem::replace(self, TbServer::closed(alloc));
         if !is_open {

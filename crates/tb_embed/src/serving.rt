@@ -81,7 +81,8 @@ pub(crate) fn serve(
     frame: &[u8],
     reply: &mut [u8],
 ) -> Outcome
-    ensures { Serves result (standing server.old.held.state) (standing server.new.held.state) moment frame.now reply.new }
+    ensures { Serves result (standing server.old.held.state) (standing server.new.held.state) moment
+        frame.now reply.new }
 {
     let Some(mut held) = server.take(alloc) else {
         return Outcome::Closed

@@ -40,7 +40,8 @@ pub(crate) fn show_account(
     id: u128,
     room: &mut [u8],
 ) -> Outcome
-    ensures { Shows (λ (S : State). option_map account_bytes (account_now S.books id)) result (standing server.old.held.state) (standing server.new.held.state) room.new }
+    ensures { Shows (λ (S : State). option_map account_bytes (account_now S.books id)) result
+        (standing server.old.held.state) (standing server.new.held.state) room.new }
 {
     let Some(held) = server.take(alloc) else {
         return Outcome::Closed
@@ -60,7 +61,8 @@ pub(crate) fn show_transfer(
     id: u128,
     room: &mut [u8],
 ) -> Outcome
-    ensures { Shows (λ (S : State). option_map transfer_bytes (transfer_at S.books id)) result (standing server.old.held.state) (standing server.new.held.state) room.new }
+    ensures { Shows (λ (S : State). option_map transfer_bytes (transfer_at S.books id)) result
+        (standing server.old.held.state) (standing server.new.held.state) room.new }
 {
     let Some(held) = server.take(alloc) else {
         return Outcome::Closed

@@ -27,8 +27,11 @@ pub fn publish<D: Device>(device: &mut D, end: usize, batch: &[u8]) -> Result<()
     requires short { end < 2 ^ 63 }
     requires at_rest { D.tells → IsAtRest (D.disk device.old) }
     requires ends { D.tells → end ≡ records_end (recorded (D.disk device.old).seen) }
-    ensures { D.tells → (records : List (List ℕ)) → AllByRecursion Fits records → batch.now ≡ at_rest records
-        → 1 ≤ length records → Publishes records result (D.disk device.old) (D.disk device.new) }
+    ensures { D.tells
+        → (records : List (List ℕ)) → AllByRecursion Fits records
+        → batch.now ≡ at_rest records
+        → 1 ≤ length records
+        → Publishes records result (D.disk device.old) (D.disk device.new) }
 {
     let (_, tail) = batch.split_at(1);
     match write_kept(device, end + 1, tail) {

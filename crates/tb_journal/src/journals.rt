@@ -37,7 +37,8 @@ impl<D: Device> Model for Journal<D> {
 impl<D: Device> Journal<D> {
     /// Lets a record wait for the next commit. The file stays as it is. At an `Err` nothing has changed.
     pub fn append(&mut self, content: &[u8]) -> Result<(), Fault>
-        ensures ok { OnOk result (self.new ≡ record self.old { waiting = self.old.waiting ++ content.now ∷ [] }) }
+        ensures ok { OnOk result
+            (self.new ≡ record self.old { waiting = self.old.waiting ++ content.now ∷ [] }) }
         ensures err { OnErr result (self.new ≡ self.old) }
         ensures long { IsErrOf result Fault.TooLong ↔ (2 ^ 24 ≤ length content.now) }
         ensures full { IsErrOf result Fault.Full
@@ -63,8 +64,10 @@ impl<D: Device> Journal<D> {
         requires { D.tells → IsReady D.disk self.old }
 
         ensures ready { D.tells → OnOk result (IsReady D.disk self.new) }
-        ensures acknowledged { D.tells → OnOk result
-            (recorded (D.disk self.new.device).seen ≡ recorded (D.disk self.old.device).seen ++ self.old.waiting) }
+        ensures acknowledged { D.tells
+            → OnOk result
+            (recorded (D.disk self.new.device).seen
+            ≡ recorded (D.disk self.old.device).seen ++ self.old.waiting) }
         ensures emptied { OnOk result (self.new.waiting ≡ []) }
         ensures idle { self.old.waiting ≡ [] → (result ≡ Ok tt) × (self.new ≡ self.old) }
 

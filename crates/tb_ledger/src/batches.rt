@@ -42,8 +42,14 @@ pub(crate) fn run_batch<E: Event, A: Allocator + Clone, R: Allocator>(
     requires stamped { rows.old.time < time + 1000000000 }
     requires index_fits { length events.now < 2 ^ 32 }
     requires time_fits { time + length events.now < 2 ^ 64 }
-    ensures books { books_in rows.new ≡ (blocks_after E.kind (books_in rows.old) (blocks E.kind (timed_from time events.now))).books }
-    ensures results { results.new.items ≡ results.old.items ++ results_from 0 (blocks_after E.kind (books_in rows.old) (blocks E.kind (timed_from time events.now))).codes }
+    ensures books { books_in rows.new
+        ≡ (blocks_after E.kind (books_in rows.old)
+        (blocks E.kind (timed_from time events.now))).books }
+    ensures results { results.new.items
+        ≡ results.old.items
+        ++ results_from 0
+        (blocks_after E.kind (books_in rows.old)
+        (blocks E.kind (timed_from time events.now))).codes }
     ensures kept { IsKept rows.new }
     ensures time { rows.new.time ≡ rows.old.time }
 {

@@ -50,7 +50,10 @@ fn reserve_transfers<A: Allocator + Clone>(
     requires { IsKept rows.old }
     ensures kept { IsKept rows.new }
     ensures books { books_in rows.new ≡ books_in rows.old }
-    ensures ok { OnOk result ((n ≤ rows.new.transfers.spare) × (n ≤ rows.new.timeouts.spare) × (rows.new.keeps_failed ≡ true → n ≤ rows.new.failed.spare)) }
+    ensures ok { OnOk result
+        ((n ≤ rows.new.transfers.spare)
+        × (n ≤ rows.new.timeouts.spare)
+        × (rows.new.keeps_failed ≡ true → n ≤ rows.new.failed.spare)) }
 {
     rows.transfers.reserve(alloc, n)?;
     rows.timeouts.reserve(alloc, n)?;
@@ -76,8 +79,10 @@ fn enter<E: Event, A: Allocator + Clone>(
     requires later { rows.old.time + max (length events.now) 1 ≤ t }
     requires in_range { t ≤ max_time }
     ensures kept { IsKept rows.new }
-    ensures books { OnOk result (books_in rows.new ≡ (batch_after E.kind (books_in rows.old) events.now t).books) }
-    ensures results { IfOk result (λ r. r.items ≡ results (batch_after E.kind (books_in rows.old) events.now t).codes) }
+    ensures books { OnOk result
+        (books_in rows.new ≡ (batch_after E.kind (books_in rows.old) events.now t).books) }
+    ensures results { IfOk result
+        (λ r. r.items ≡ results (batch_after E.kind (books_in rows.old) events.now t).codes) }
     ensures err { OnErr result (books_in rows.new ≡ books_in rows.old) }
 {
     let n = events.len();
@@ -184,7 +189,8 @@ impl<A: Allocator + Clone> Ledger<A> {
         requires later { self.old.time + max (length events.now) 1 ≤ t }
         requires in_range { t ≤ max_time }
         ensures books { OnOk result (self.new ≡ (batch_after account_events self.old events.now t).books) }
-        ensures results { IfOk result (λ r. r.items ≡ results (batch_after account_events self.old events.now t).codes) }
+        ensures results { IfOk result
+            (λ r. r.items ≡ results (batch_after account_events self.old events.now t).codes) }
         ensures err { OnErr result (self.new ≡ self.old) }
     {
         self.rows.accounts.reserve(&self.alloc, events.len())?;
@@ -203,7 +209,8 @@ impl<A: Allocator + Clone> Ledger<A> {
         requires later { self.old.time + max (length events.now) 1 ≤ t }
         requires in_range { t ≤ max_time }
         ensures books { OnOk result (self.new ≡ (batch_after transfer_events self.old events.now t).books) }
-        ensures results { IfOk result (λ r. r.items ≡ results (batch_after transfer_events self.old events.now t).codes) }
+        ensures results { IfOk result
+            (λ r. r.items ≡ results (batch_after transfer_events self.old events.now t).codes) }
         ensures err { OnErr result (self.new ≡ self.old) }
     {
         reserve_transfers(&mut self.rows, &self.alloc, events.len())?;

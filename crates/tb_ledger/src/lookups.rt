@@ -14,7 +14,8 @@ use tb_records::{Account, Transfer};
 /// Appends the accounts of the rows that are there.
 fn push_accounts(rows: &[Option<&AccountRow>], out: &mut Vec<Account>)
     requires { vec_len out.old + length rows.now ≤ vec_capacity out.old }
-    ensures items { out.new.items ≡ out.old.items ++ filter_map (λ r. option_map row_now (option_copied r)) rows.now }
+    ensures items { out.new.items
+        ≡ out.old.items ++ filter_map (λ r. option_map row_now (option_copied r)) rows.now }
     ensures len { vec_len out.new ≤ vec_len out.old + length rows.now }
     ensures capacity { vec_capacity out.new ≡ vec_capacity out.old }
 {
@@ -32,7 +33,8 @@ fn fill_eights_of_accounts<'a, A: Allocator + Clone>(
     out: &mut Vec<Account>,
 ) -> &'a [u128]
     requires { vec_len out.old + length ids.now ≤ vec_capacity out.old }
-    ensures items { out.new.items ++ filter_map (account_in table.now.items) result.now ≡ out.old.items ++ filter_map (account_in table.now.items) ids.now }
+    ensures items { out.new.items ++ filter_map (account_in table.now.items) result.now
+        ≡ out.old.items ++ filter_map (account_in table.now.items) ids.now }
     ensures room { vec_len out.new + length result.now ≤ vec_capacity out.new }
     ensures capacity { vec_capacity out.new ≡ vec_capacity out.old }
 {
@@ -78,7 +80,8 @@ pub(crate) fn fill_accounts<A: Allocator + Clone>(
 /// Appends the transfers of the rows that are there.
 fn push_transfers(rows: &[Option<&TransferRow>], out: &mut Vec<Transfer>)
     requires { vec_len out.old + length rows.now ≤ vec_capacity out.old }
-    ensures items { out.new.items ≡ out.old.items ++ filter_map (λ r. option_map (λ t. t.recorded) (option_copied r)) rows.now }
+    ensures items { out.new.items
+        ≡ out.old.items ++ filter_map (λ r. option_map (λ t. t.recorded) (option_copied r)) rows.now }
     ensures len { vec_len out.new ≤ vec_len out.old + length rows.now }
     ensures capacity { vec_capacity out.new ≡ vec_capacity out.old }
 {
@@ -96,7 +99,8 @@ fn fill_eights_of_transfers<'a, A: Allocator + Clone>(
     out: &mut Vec<Transfer>,
 ) -> &'a [u128]
     requires { vec_len out.old + length ids.now ≤ vec_capacity out.old }
-    ensures items { out.new.items ++ filter_map (transfer_in table.now.items) result.now ≡ out.old.items ++ filter_map (transfer_in table.now.items) ids.now }
+    ensures items { out.new.items ++ filter_map (transfer_in table.now.items) result.now
+        ≡ out.old.items ++ filter_map (transfer_in table.now.items) ids.now }
     ensures room { vec_len out.new + length result.now ≤ vec_capacity out.new }
     ensures capacity { vec_capacity out.new ≡ vec_capacity out.old }
 {

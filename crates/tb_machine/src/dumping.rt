@@ -52,7 +52,9 @@ fn row_of(machine: &Machine<Global>, client: u128) -> &Row
 fn write_head<W: Sink>(writer: &mut W, clients_max: ClientsMax) -> Result<(), RunFault>
     ensures sent { MatchResult result
         (λ _. Sent (head_bytes One clients_max) (W.output writer.old) (W.output writer.new))
-        (λ f. (f ≡ RunFault.Frame FrameFault.Device) × CutOff (head_bytes One clients_max) (W.output writer.old) (W.output writer.new)) }
+        (λ f.
+        (f ≡ RunFault.Frame FrameFault.Device)
+        × CutOff (head_bytes One clients_max) (W.output writer.old) (W.output writer.new)) }
     ensures right { IsClients clients_max }
 {
     let head = DumpHead {
@@ -80,7 +82,8 @@ fn write_entry<W: Sink>(
     time: u64,
     request: &Request,
 ) -> Result<(), FrameFault>
-    ensures { Written result (mark_before due ++ entry_bytes commit time request.now) (W.output writer.old) (W.output writer.new) }
+    ensures { Written result (mark_before due ++ entry_bytes commit time request.now)
+        (W.output writer.old) (W.output writer.new) }
 {
     write_mark(writer, due)?;
     send_entry(writer, commit, time, request)
@@ -97,7 +100,8 @@ fn dump_new<W: Sink>(
 ) -> Result<(), RunFault>
     requires new { class_of machine.old.rows request ≡ Class.New }
     requires by_one { marks_at at machine.old.commit ≡ true → profile_of machine.old.books ≡ Profile.One }
-    ensures { DumpsPair result at machine.old machine.new (moment, request) (W.output writer.old) (W.output writer.new) }
+    ensures { DumpsPair result at machine.old machine.new (moment, request) (W.output writer.old)
+        (W.output writer.new) }
 {
     let client = request.client();
     let due = marks_at(at, machine.commit());
@@ -117,7 +121,8 @@ fn dump_pair<W: Sink>(
     request: Request,
 ) -> Result<(), RunFault>
     requires { marks_at at machine.old.commit ≡ true → profile_of machine.old.books ≡ Profile.One }
-    ensures { DumpsPair result at machine.old machine.new (moment, request) (W.output writer.old) (W.output writer.new) }
+    ensures { DumpsPair result at machine.old machine.new (moment, request) (W.output writer.old)
+        (W.output writer.new) }
 {
     match machine.class(&request) {
         Class::New => dump_new(machine, at, writer, moment, request),
@@ -136,7 +141,8 @@ fn dump_next<R: Source, W: Sink>(
 ) -> Result<bool, RunFault>
     requires by_one { marks_at at machine.old.commit ≡ true → profile_of machine.old.books ≡ Profile.One }
     requires prompt { IsPromptForPair (R.input reader.old) (W.output writer.old) }
-    ensures { DumpsOn result at machine.old machine.new (R.input reader.old) (R.input reader.new) (W.output writer.old) (W.output writer.new) }
+    ensures { DumpsOn result at machine.old machine.new (R.input reader.old) (R.input reader.new)
+        (W.output writer.old) (W.output writer.new) }
 {
     let Some((moment, request)) = read_timed_from(alloc, reader)? else {
         return Ok(false)
@@ -157,7 +163,8 @@ pub fn dump<R: Source, W: Sink>(
     reader: &mut R,
     writer: &mut W,
 ) -> Result<u64, RunFault>
-    ensures ran { DumpRan clients_max at result (R.input reader.old) (R.input reader.new) (W.output writer.old) (W.output writer.new) }
+    ensures ran { DumpRan clients_max at result (R.input reader.old) (R.input reader.new)
+        (W.output writer.old) (W.output writer.new) }
     ensures passed { IfOk result (λ _. (W.output writer.new).held ≡ false) }
 {
     let mut machine = Machine::new_in(alloc, alloc, Profile::One, clients_max)?;

@@ -20,7 +20,10 @@ pub(crate) fn execute<A: Allocator + Clone>(
     requires few { item_count body.now ≤ items_max }
     requires later { ledger.old.time + max (count body.now) 1 ≤ time }
     requires in_range { time ≤ max_time }
-    ensures { MatchResult result (λ answer. (ledger.new ≡ executed ledger.old body.now time) × (answer ≡ found ledger.old body.now time)) (λ _. ledger.new ≡ ledger.old) }
+    ensures { MatchResult result
+        (λ answer.
+        (ledger.new ≡ executed ledger.old body.now time)
+        × (answer ≡ found ledger.old body.now time)) (λ _. ledger.new ≡ ledger.old) }
 {
     match body {
         Body::Register => {
@@ -93,7 +96,9 @@ pub(crate) fn row_for<A: Allocator + Clone>(
     requires in_range { entry.time ≤ max_time }
     requires right { IsRight (reply_with entry (found ledger.old entry.request.body entry.time)) }
     ensures { MatchResult result
-        (λ row. (ledger.new ≡ executed ledger.old entry.request.body entry.time) × (row ≡ row_with entry (found ledger.old entry.request.body entry.time)))
+        (λ row.
+        (ledger.new ≡ executed ledger.old entry.request.body entry.time)
+        × (row ≡ row_with entry (found ledger.old entry.request.body entry.time)))
         (λ back. (back ≡ entry) × (ledger.new ≡ ledger.old)) }
 {
     let body = match execute(global, ledger, entry.time, entry.request.body()) {

@@ -38,9 +38,22 @@ impl<A: Allocator + Clone> Model for Machine<A> {
 
     ghost Value = { State };
 
-    ghost view = { λ m. record { clients_max = m.sessions.clients_max; commit = m.commit; books = m.ledger; rows = m.sessions.rows } };
+    ghost view = { λ m.
+        record {
+          clients_max = m.sessions.clients_max;
+          commit = m.commit;
+          books = m.ledger;
+          rows = m.sessions.rows;
+        } };
 
-    ghost invariant = { λ m. IsSound (record { clients_max = m.sessions.clients_max; commit = m.commit; books = m.ledger; rows = m.sessions.rows }) };
+    ghost invariant = { λ m.
+        IsSound
+        (record {
+          clients_max = m.sessions.clients_max;
+          commit = m.commit;
+          books = m.ledger;
+          rows = m.sessions.rows;
+        }) };
 }
 
 impl<A: Allocator + Clone> Machine<A> {
@@ -65,7 +78,8 @@ impl<A: Allocator + Clone> Machine<A> {
     /// The time of a request of n events that comes at a moment: the larger of the moment and the last entry's time and
     /// n, or 1 where there is no event. None where that is above `2^63 - 1`.
     pub fn next_time(&self, now: u64, n: u64) -> Option<u64>
-        ensures { let time = max now (self.now.books.time + max n 1) in MatchOption result (max_time < time) (λ t. (t ≡ time) × (t ≤ max_time)) }
+        ensures { let time = max now (self.now.books.time + max n 1) in
+            MatchOption result (max_time < time) (λ t. (t ≡ time) × (t ≤ max_time)) }
     {
         let least = self.ledger.time().checked_add(n.max(1))?;
         let time = now.max(least);
@@ -114,7 +128,8 @@ impl<A: Allocator + Clone> Machine<A> {
 
     /// The reply to a client's last request; None of a client without a session.
     pub fn reply_of(&self, client: u128) -> Option<&Reply>
-        ensures { let stored = option_map (λ (row : Row). row.reply) (row_of self.now.rows client) in MatchOption result (stored ≡ None) (λ reply. stored ≡ Some reply.now) }
+        ensures { let stored = option_map (λ (row : Row). row.reply) (row_of self.now.rows client) in
+            MatchOption result (stored ≡ None) (λ reply. stored ≡ Some reply.now) }
     {
         match self.sessions.stored(client) {
             Some(row) => Some(&row.reply),
@@ -124,7 +139,8 @@ impl<A: Allocator + Clone> Machine<A> {
 
     /// The row of a client: its last request that was executed, and the reply to it.
     pub(crate) fn row_of(&self, client: u128) -> Option<&Row>
-        ensures { MatchOption result (row_of self.now.rows client ≡ None) (λ row. row_of self.now.rows client ≡ Some row.now) }
+        ensures { MatchOption result (row_of self.now.rows client ≡ None)
+            (λ row. row_of self.now.rows client ≡ Some row.now) }
     {
         self.sessions.stored(client)
     }
@@ -191,7 +207,8 @@ impl<A: Allocator + Clone> Machine<A> {
     /// back.
     pub fn enter(&mut self, entry: Entry) -> Result<(), Entry>
         requires { IsTrue (fits self.old entry) }
-        ensures { MatchResult result (λ _. self.new ≡ step self.old entry) (λ back. (back ≡ entry) × (self.new ≡ self.old)) }
+        ensures { MatchResult result (λ _. self.new ≡ step self.old entry)
+            (λ back. (back ≡ entry) × (self.new ≡ self.old)) }
     {
         let commit = entry.commit;
         let row = match row_for(self.global, &mut self.ledger, entry) {
@@ -212,7 +229,10 @@ impl<A: Allocator + Clone> Machine<A> {
     ) -> Result<Result<(), FrameFault>, Entry>
         requires { IsTrue (fits self.old entry) }
         ensures { MatchResult result
-            (λ told. (self.new ≡ step self.old entry) × Told told (reply_bytes (reply_at self.old entry)) (W.output writer.old) (W.output writer.new)
+            (λ told.
+            (self.new ≡ step self.old entry)
+            × Told told (reply_bytes (reply_at self.old entry)) (W.output writer.old)
+            (W.output writer.new)
             × OnOk told (IsReply (reply_at self.old entry)))
             (λ back. (back ≡ entry) × (self.new ≡ self.old) × (writer.new ≡ writer.old)) }
     {

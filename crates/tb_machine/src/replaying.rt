@@ -29,7 +29,8 @@ fn replay_entry<W: Sink>(
     writer: &mut W,
     entry: Entry,
 ) -> Result<(), DumpFault>
-    ensures { ReplaysEntry result machine.old machine.new entry (W.output writer.old) (W.output writer.new) }
+    ensures { ReplaysEntry result machine.old machine.new entry (W.output writer.old)
+        (W.output writer.new) }
 {
     let client = entry.request.client();
     enter_next(machine, entry)?;
@@ -61,7 +62,8 @@ fn replay_next<R: Source, W: Sink>(
     writer: &mut W,
 ) -> Result<bool, DumpFault>
     requires { IsPromptForItem (R.input reader.old) (W.output writer.old) }
-    ensures { ReplaysOn result machine.old machine.new (R.input reader.old) (R.input reader.new) (W.output writer.old) (W.output writer.new) }
+    ensures { ReplaysOn result machine.old machine.new (R.input reader.old) (R.input reader.new)
+        (W.output writer.old) (W.output writer.new) }
 {
     match read_item_from(alloc, reader)? {
         Some(
@@ -102,7 +104,8 @@ pub fn replay<R: Source, W: Sink>(
     reader: &mut R,
     writer: &mut W,
 ) -> Result<u64, DumpFault>
-    ensures ran { ReplayRan result (R.input reader.old) (R.input reader.new) (W.output writer.old) (W.output writer.new) }
+    ensures ran { ReplayRan result (R.input reader.old) (R.input reader.new) (W.output writer.old)
+        (W.output writer.new) }
     ensures passed { IfOk result (λ _. (W.output writer.new).held ≡ false) }
 {
     let head = read_head_from(reader)?;

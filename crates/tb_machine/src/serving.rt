@@ -112,7 +112,10 @@ pub fn status_of(class: Class) -> Status
 fn next_entry(machine: &Machine<Global>, moment: u64, request: Request) -> Result<Entry, RunFault>
     requires { is_new_in machine.now (moment, request) ≡ true }
     ensures timed { MatchResult result
-        (λ entry. (has_time machine.now (moment, request) ≡ true) × (entry ≡ entry_of machine.now (moment, request)) × IsTrue (fits machine.now entry))
+        (λ entry.
+        (has_time machine.now (moment, request) ≡ true)
+        × (entry ≡ entry_of machine.now (moment, request))
+        × IsTrue (fits machine.now entry))
         (λ f. (f ≡ RunFault.TimeExhausted) × (has_time machine.now (moment, request) ≡ false)) }
     ensures lawful { IsLawful request }
 {
@@ -170,7 +173,8 @@ fn answer_new<W: Sink>(
     request: Request,
 ) -> Result<(), RunFault>
     requires { class_of machine.old.rows request ≡ Class.New }
-    ensures { Turns result machine.old machine.new (moment, request) (W.output writer.old) (W.output writer.new) }
+    ensures { Turns result machine.old machine.new (moment, request) (W.output writer.old)
+        (W.output writer.new) }
 {
     let entry = next_entry(machine, moment, request)?;
     match machine.enter_and_tell(writer, entry) {
@@ -190,7 +194,8 @@ fn answer_known<W: Sink>(
     requires class { class ≡ class_of machine.now.rows request.now }
     requires known { class ≢ Class.New }
     ensures fits { OnOk result (IsReply (answer_to machine.now request.now)) }
-    ensures delivers { Delivers result (reply_bytes (answer_to machine.now request.now)) (W.output writer.old) (W.output writer.new) }
+    ensures delivers { Delivers result (reply_bytes (answer_to machine.now request.now)) (W.output writer.old)
+        (W.output writer.new) }
 {
     match class {
         Class::Repeat => send(writer, stored(machine, request.client())),
@@ -207,7 +212,8 @@ pub fn serve_pair<W: Sink>(
     moment: u64,
     request: Request,
 ) -> Result<(), RunFault>
-    ensures { Turns result machine.old machine.new (moment, request) (W.output writer.old) (W.output writer.new) }
+    ensures { Turns result machine.old machine.new (moment, request) (W.output writer.old)
+        (W.output writer.new) }
 {
     match machine.class(&request) {
         Class::New => answer_new(machine, writer, moment, request),
@@ -224,7 +230,8 @@ fn serve_next<R: Source, W: Sink>(
     writer: &mut W,
 ) -> Result<bool, RunFault>
     requires { IsPromptForPair (R.input reader.old) (W.output writer.old) }
-    ensures { Serves result machine.old machine.new (R.input reader.old) (R.input reader.new) (W.output writer.old) (W.output writer.new) }
+    ensures { Serves result machine.old machine.new (R.input reader.old) (R.input reader.new)
+        (W.output writer.old) (W.output writer.new) }
 {
     let Some((moment, request)) = read_timed_from(alloc, reader)? else {
         return Ok(false)
@@ -254,7 +261,8 @@ pub fn run<R: Source, W: Sink>(
     reader: &mut R,
     writer: &mut W,
 ) -> Result<u64, RunFault>
-    ensures ran { Ran profile clients_max result (R.input reader.old) (R.input reader.new) (W.output writer.old) (W.output writer.new) }
+    ensures ran { Ran profile clients_max result (R.input reader.old) (R.input reader.new)
+        (W.output writer.old) (W.output writer.new) }
     ensures passed { IfOk result (λ _. (W.output writer.new).held ≡ false) }
 {
     let mut machine = Machine::new_in(alloc, alloc, profile, clients_max)?;

@@ -28,7 +28,8 @@ pub(crate) fn stored_commit(machine: &Machine<Global>, request: &Request) -> u64
 
 /// What becomes of a request that is not new; None where it is.
 pub(crate) fn known(machine: &Machine<Global>, request: &Request) -> Option<Taken>
-    ensures { MatchOption result (class_of machine.now.rows request.now ≡ class.New) (λ taken. IsKnown machine.now request.now taken) }
+    ensures { MatchOption result (class_of machine.now.rows request.now ≡ class.New)
+        (λ taken. IsKnown machine.now request.now taken) }
 {
     match machine.class(request) {
         Class::New => None,
@@ -39,7 +40,10 @@ pub(crate) fn known(machine: &Machine<Global>, request: &Request) -> Option<Take
 
 /// The entry of a request that comes at a moment; None where there is no time for it.
 pub(crate) fn entry_for(machine: &Machine<Global>, request: Request, now: u64) -> Option<Entry>
-    ensures entry { MatchOption result (has_time machine.now (now, request) ≡ false) (λ e. (has_time machine.now (now, request) ≡ true) × (e ≡ entry_of machine.now (now, request))) }
+    ensures entry { MatchOption result (has_time machine.now (now, request) ≡ false)
+        (λ e.
+        (has_time machine.now (now, request) ≡ true)
+        × (e ≡ entry_of machine.now (now, request))) }
     ensures lawful { IsLawful request }
 {
     let events = request.body().event_count() as u64;
@@ -59,7 +63,12 @@ pub(crate) fn add_to(
     entry: Entry,
 ) -> Result<u64, AllocError>
     requires { IsTrue (fits machine.old entry) }
-    ensures { MatchResult result (λ c. (c ≡ entry.commit) × (machine.new ≡ step machine.old entry) × (history.new.items ≡ history.old.items ++ entry ∷ [])) (λ _. (machine.new ≡ machine.old) × (history.new.items ≡ history.old.items)) }
+    ensures { MatchResult result
+        (λ c.
+        (c ≡ entry.commit)
+        × (machine.new ≡ step machine.old entry)
+        × (history.new.items ≡ history.old.items ++ entry ∷ []))
+        (λ _. (machine.new ≡ machine.old) × (history.new.items ≡ history.old.items)) }
 {
     if let Err(AllocError) = history.reserve(1) {
         drop(entry);

@@ -72,7 +72,13 @@ impl Model for Front {
 
     ghost Value = { Line };
 
-    ghost view = { λ f. record { opening = record { book = f.seen.book; profile = f.profile; clients_max = f.clients_max }; list = f.seen.log } };
+    ghost view = { λ f.
+        record {
+          opening =
+              record
+              { book = f.seen.book; profile = f.profile; clients_max = f.clients_max };
+          list = f.seen.log;
+        } };
 
     ghost invariant = { λ f. (f.count ≡ length f.seen.log) × IsLegal f.profile f.clients_max f.seen.log };
 }

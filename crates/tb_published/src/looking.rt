@@ -56,7 +56,8 @@ pub(crate) fn look_status<J: Naming>(
 ) -> (Place<J>, Option<(Front, Status)>)
     requires knows { Knows (view place.place) front.now }
     requires named { front.now.opening ≡ J.opening }
-    ensures looked { MatchOption result.1 (Knows (view result.0.place) front.now) (λ t. Looked J.opening (view result.0.place) front.now t.0) }
+    ensures looked { MatchOption result.1 (Knows (view result.0.place) front.now)
+        (λ t. Looked J.opening (view result.0.place) front.now t.0) }
     ensures status { IfSome result.1 (λ t. t.1 ≡ (answer_to (after_in J.opening t.0.list) request.now).status) }
 {
     match enter(place, front) {
@@ -89,7 +90,8 @@ pub(crate) fn look_answer<J: Naming>(
 ) -> (Place<J>, Option<(Front, Result<Reply, AllocError>)>)
     requires knows { Knows (view place.place) front.now }
     requires named { front.now.opening ≡ J.opening }
-    ensures looked { MatchOption result.1 (Knows (view result.0.place) front.now) (λ t. Looked J.opening (view result.0.place) front.now t.0) }
+    ensures looked { MatchOption result.1 (Knows (view result.0.place) front.now)
+        (λ t. Looked J.opening (view result.0.place) front.now t.0) }
     ensures answer { IfSome result.1 (λ t. IfOk t.1 (λ reply. AnswersIn J.opening t.0.list request.now reply)) }
 {
     match enter(place, front) {
@@ -109,8 +111,14 @@ pub(crate) fn look_accounts<J: Naming>(
 ) -> (Place<J>, Option<(Front, Result<Vec<Account>, AllocError>)>)
     requires knows { Knows (view place.place) front.now }
     requires named { front.now.opening ≡ J.opening }
-    ensures looked { MatchOption result.1 (Knows (view result.0.place) front.now) (λ t. Looked J.opening (view result.0.place) front.now t.0) }
-    ensures found { IfSome result.1 (λ t. IfOk t.1 (λ accounts. accounts.items ≡ found_accounts (after_in J.opening t.0.list).books ids.now)) }
+    ensures looked { MatchOption result.1 (Knows (view result.0.place) front.now)
+        (λ t. Looked J.opening (view result.0.place) front.now t.0) }
+    ensures found { IfSome result.1
+        (λ t.
+        IfOk t.1
+        (λ accounts.
+        accounts.items
+        ≡ found_accounts (after_in J.opening t.0.list).books ids.now)) }
 {
     match enter(place, front) {
         Ok((reading, shown)) => {
@@ -129,8 +137,14 @@ pub(crate) fn look_transfers<J: Naming>(
 ) -> (Place<J>, Option<(Front, Result<Vec<Transfer>, AllocError>)>)
     requires knows { Knows (view place.place) front.now }
     requires named { front.now.opening ≡ J.opening }
-    ensures looked { MatchOption result.1 (Knows (view result.0.place) front.now) (λ t. Looked J.opening (view result.0.place) front.now t.0) }
-    ensures found { IfSome result.1 (λ t. IfOk t.1 (λ transfers. transfers.items ≡ found_transfers (after_in J.opening t.0.list).books ids.now)) }
+    ensures looked { MatchOption result.1 (Knows (view result.0.place) front.now)
+        (λ t. Looked J.opening (view result.0.place) front.now t.0) }
+    ensures found { IfSome result.1
+        (λ t.
+        IfOk t.1
+        (λ transfers.
+        transfers.items
+        ≡ found_transfers (after_in J.opening t.0.list).books ids.now)) }
 {
     match enter(place, front) {
         Ok((reading, shown)) => {

@@ -12,5 +12,9 @@ pub trait Naming {
 impl Naming for Brand {
     ghost use Rattle.tb_records.specs.declared.limits.Profile.TheVariants.{One};
 
-    ghost opening = { record { book = record { number = 0; log_name = 0; cells_name = 0 }; profile = One; clients_max = 1 } };
+    ghost opening = { record {
+      book = record { number = 0; log_name = 0; cells_name = 0 };
+      profile = One;
+      clients_max = 1;
+    } };
 }

@@ -19,7 +19,11 @@ pub(crate) fn next_order<J: Naming>(
     requires named { offered.old.opening ≡ J.opening }
     requires begins { IsPrefix offered.old.list history.now }
     requires legal { LegalIn J.opening history.now }
-    ensures { MatchOption result (offered.new ≡ offered.old) (λ order. (order.front ≡ offered.new) × (offered.new ≡ with_entry offered.old order.entry) × IsPrefix offered.new.list history.now) }
+    ensures { MatchOption result (offered.new ≡ offered.old)
+        (λ order.
+        (order.front ≡ offered.new)
+        × (offered.new ≡ with_entry offered.old order.entry)
+        × IsPrefix offered.new.list history.now) }
 {
     let count = offered.front().len();
     let entry = history.get(count as usize)?;

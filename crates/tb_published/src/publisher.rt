@@ -50,7 +50,10 @@ where
 
     ghost view = { λ p. record { history = p.history.items; shown = p.copies.desk.shown.value.list } };
 
-    ghost invariant = { λ p. Ties J.opening p.history.items p.machine p.offered p.copies.desk.shown.value (known p.copies.desk.place) (drop p.copies.behind p.copies.log.items ++ option_to_list p.waiting) };
+    ghost invariant = { λ p.
+        Ties J.opening p.history.items p.machine p.offered p.copies.desk.shown.value
+        (known p.copies.desk.place)
+        (drop p.copies.behind p.copies.log.items ++ option_to_list p.waiting) };
 }
 
 impl<J: Naming> Publisher<J> {

@@ -67,7 +67,10 @@ impl<J: Naming> Seat<J> {
     /// its refusal. It takes no memory.
     pub fn status(&mut self, request: &Request) -> Result<Status, SeatFault>
         ensures begins { IsPrefix self.old self.new }
-        ensures status { IfOk result (λ status. LegalIn J.opening self.new × (status ≡ (answer_to (after_in J.opening self.new) request.now).status)) }
+        ensures status { IfOk result
+            (λ status.
+            LegalIn J.opening self.new
+            × (status ≡ (answer_to (after_in J.opening self.new) request.now).status)) }
         ensures fault { IfErr result (λ f. (f ≡ seat_fault.NoCopy) × (self.new ≡ self.old)) }
     {
         let front = &self.front;
@@ -87,7 +90,9 @@ impl<J: Naming> Seat<J> {
     /// the copy of a reply's body finds none; the seat has then seen what is shown all the same.
     pub fn answer(&mut self, request: &Request) -> Result<Reply, SeatFault>
         ensures begins { IsPrefix self.old self.new }
-        ensures answer { IfOk result (λ reply. LegalIn J.opening self.new × AnswersIn J.opening self.new request.now reply) }
+        ensures answer { IfOk result
+            (λ reply.
+            LegalIn J.opening self.new × AnswersIn J.opening self.new request.now reply) }
         ensures fault { IfErr result (λ f. f ≡ seat_fault.NoCopy → self.new ≡ self.old) }
     {
         let front = &self.front;
@@ -107,7 +112,11 @@ impl<J: Naming> Seat<J> {
     /// number of those entries.
     pub fn lookup_accounts(&mut self, ids: &[u128]) -> Result<(u64, Vec<Account>), SeatFault>
         ensures begins { IsPrefix self.old self.new }
-        ensures found { IfOk result (λ t. LegalIn J.opening self.new × (t.0 ≡ length self.new) × (t.1.items ≡ found_accounts (after_in J.opening self.new).books ids.now)) }
+        ensures found { IfOk result
+            (λ t.
+            LegalIn J.opening self.new
+            × (t.0 ≡ length self.new)
+            × (t.1.items ≡ found_accounts (after_in J.opening self.new).books ids.now)) }
         ensures fault { IfErr result (λ f. f ≡ seat_fault.NoCopy → self.new ≡ self.old) }
     {
         let front = &self.front;
@@ -130,7 +139,11 @@ impl<J: Naming> Seat<J> {
     /// are shown.
     pub fn lookup_transfers(&mut self, ids: &[u128]) -> Result<(u64, Vec<Transfer>), SeatFault>
         ensures begins { IsPrefix self.old self.new }
-        ensures found { IfOk result (λ t. LegalIn J.opening self.new × (t.0 ≡ length self.new) × (t.1.items ≡ found_transfers (after_in J.opening self.new).books ids.now)) }
+        ensures found { IfOk result
+            (λ t.
+            LegalIn J.opening self.new
+            × (t.0 ≡ length self.new)
+            × (t.1.items ≡ found_transfers (after_in J.opening self.new).books ids.now)) }
         ensures fault { IfErr result (λ f. f ≡ seat_fault.NoCopy → self.new ≡ self.old) }
     {
         let front = &self.front;

@@ -26,7 +26,9 @@ fn copies_of<J: Naming>(
 ) -> Result<Copies<J>, AllocError>
     requires named { front.now.opening ≡ J.opening }
     requires empty { front.now.list ≡ [] }
-    ensures { IfOk result (λ copies. (copies.desk.shown.value ≡ front.now) × (drop copies.behind copies.log.items ≡ [])) }
+    ensures { IfOk result
+        (λ copies.
+        (copies.desk.shown.value ≡ front.now) × (drop copies.behind copies.log.items ≡ [])) }
 {
     let first = Replica::new(alloc, front)?;
     let second = match Replica::new(alloc, front) {
@@ -48,7 +50,11 @@ pub(crate) fn begin<J: Naming, W: Wait>(
 ) -> Result<Copies<J>, AllocError>
     requires named { front.now.opening ≡ J.opening }
     requires empty { front.now.list ≡ [] }
-    ensures { IfOk result (λ copies. (copies.desk.shown.value ≡ front.now) × (drop copies.behind copies.log.items ≡ []) × (view copies.desk.place ≡ Some front.now)) }
+    ensures { IfOk result
+        (λ copies.
+        (copies.desk.shown.value ≡ front.now)
+        × (drop copies.behind copies.log.items ≡ [])
+        × (view copies.desk.place ≡ Some front.now)) }
 {
     let (copies, shown) = turn(copies_of(alloc, front, seats)?, rt);
     if let Err(AllocError) = shown {
@@ -62,7 +68,9 @@ pub(crate) fn begin<J: Naming, W: Wait>(
 /// they show what they showed, and the orders wait.
 fn turn<J: Naming, W: Wait>(copies: Copies<J>, rt: &W) -> (Copies<J>, Result<(), AllocError>)
     requires { Follows copies.desk.shown.value (drop copies.behind copies.log.items) }
-    ensures { Turned result.1 copies.desk.shown.value (drop copies.behind copies.log.items) (view copies.desk.place) result.0.desk.shown.value (drop result.0.behind result.0.log.items) (view result.0.desk.place) }
+    ensures { Turned result.1 copies.desk.shown.value (drop copies.behind copies.log.items)
+        (view copies.desk.place) result.0.desk.shown.value
+        (drop result.0.behind result.0.log.items) (view result.0.desk.place) }
 {
     copies.publish_as::<Look, W>(rt)
 }
@@ -70,14 +78,19 @@ fn turn<J: Naming, W: Wait>(copies: Copies<J>, rt: &W) -> (Copies<J>, Result<(),
 /// As `turn`, in place.
 pub(crate) fn publish<J: Naming, W: Wait>(copies: &mut Copies<J>, rt: &W) -> Result<(), AllocError>
     requires { Follows copies.old.desk.shown.value (drop copies.old.behind copies.old.log.items) }
-    ensures { Turned result copies.old.desk.shown.value (drop copies.old.behind copies.old.log.items) (view copies.old.desk.place) copies.new.desk.shown.value (drop copies.new.behind copies.new.log.items) (view copies.new.desk.place) }
+    ensures { Turned result copies.old.desk.shown.value (drop copies.old.behind copies.old.log.items)
+        (view copies.old.desk.place) copies.new.desk.shown.value
+        (drop copies.new.behind copies.new.log.items) (view copies.new.desk.place) }
 {
     replace_with(copies, rt, turn)
 }
 
 /// A reader's place at the copies, which has seen what they show.
 pub(crate) fn new_place<J: Naming>(copies: &mut Copies<J>) -> Result<Place<J>, AllocError>
-    ensures copies { (copies.new.desk.shown.value ≡ copies.old.desk.shown.value) × (copies.new.log ≡ copies.old.log) × (copies.new.behind ≡ copies.old.behind) × (view copies.new.desk.place ≡ view copies.old.desk.place) }
+    ensures copies { (copies.new.desk.shown.value ≡ copies.old.desk.shown.value)
+        × (copies.new.log ≡ copies.old.log)
+        × (copies.new.behind ≡ copies.old.behind)
+        × (view copies.new.desk.place ≡ view copies.old.desk.place) }
     ensures place { IfOk result (λ p. view p.place ≡ view copies.old.desk.place) }
 {
     let mut place = copies.factory().reader()?;

@@ -123,14 +123,16 @@ impl CreateAccountResult {
 
     /// The verdict that has a number; None where none has it.
     pub fn from_code(code: u32) -> Option<CreateAccountResult>
-        ensures { (verdict : CreateAccountResult) → (result ≡ Some verdict) ↔ (account_result_code verdict ≡ code) }
+        ensures { (verdict : CreateAccountResult)
+            → (result ≡ Some verdict) ↔ (account_result_code verdict ≡ code) }
     {
         first_verdict_numbered(&CreateAccountResult::ALL, code)
     }
 
     /// The verdict that has a name; None where none has it.
     pub fn from_name(name: &[u8]) -> Option<CreateAccountResult>
-        ensures { (verdict : CreateAccountResult) → (result ≡ Some verdict) ↔ (account_result_name verdict ≡ name.now) }
+        ensures { (verdict : CreateAccountResult)
+            → (result ≡ Some verdict) ↔ (account_result_name verdict ≡ name.now) }
     {
         first_verdict_named(&CreateAccountResult::ALL, name)
     }
@@ -159,7 +161,8 @@ fn first_verdict_numbered(
 
 /// The first of some verdicts that has a name.
 fn first_verdict_named(verdicts: &[CreateAccountResult], name: &[u8]) -> Option<CreateAccountResult>
-    ensures { result ≡ find (λ verdict. pointwise nat_eq (account_result_name verdict) name.now) verdicts.now }
+    ensures { result
+        ≡ find (λ verdict. pointwise nat_eq (account_result_name verdict) name.now) verdicts.now }
 {
     verdicts
         .iter()

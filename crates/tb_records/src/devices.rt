@@ -23,7 +23,8 @@ pub trait Source {
     fn pull(&mut self, buf: &mut [u8]) -> io::Result<usize>
         ensures bound { ReadsAtMost result buf.new }
         ensures bytes { ReadConsumes (input self.old).left (input self.new).left result buf.new }
-        ensures counted { MatchResult result (λ _. Gives (input self.old) (input self.new)) (λ _. Fails (input self.old) (input self.new)) };
+        ensures counted { MatchResult result (λ _. Gives (input self.old) (input self.new))
+            (λ _. Fails (input self.old) (input self.new)) };
 
     /// The number of errors answered. It stays at `2^64 - 1`.
     fn failures(&self) -> u64
@@ -44,7 +45,8 @@ pub trait Sink {
     fn put(&mut self, bytes: &[u8]) -> io::Result<usize>
         ensures bound { WritesAtMost result bytes.now }
         ensures bytes { WriteAppends (output self.old).written (output self.new).written result bytes.now }
-        ensures counted { MatchResult result (λ n. Takes n bytes.now (output self.old) (output self.new)) (λ _. Errs (output self.old) (output self.new)) };
+        ensures counted { MatchResult result (λ n. Takes n bytes.now (output self.old) (output self.new))
+            (λ _. Errs (output self.old) (output self.new)) };
 
     /// The number of errors answered. It stays at `2^64 - 1`.
     fn failures(&self) -> u64
@@ -75,7 +77,14 @@ impl<T> Model for Counting<T> {
 
     ghost Value = { Counted T };
 
-    ghost view = { λ s. record { inner = s.inner; failures = s.failures; stalls = s.stalls; halted = s.halted; held = s.held } };
+    ghost view = { λ s.
+        record {
+          inner = s.inner;
+          failures = s.failures;
+          stalls = s.stalls;
+          halted = s.halted;
+          held = s.held;
+        } };
 }
 
 impl<T> Counting<T> {
@@ -102,7 +111,9 @@ impl<T> Counting<T> {
 }
 
 impl<T: Read> Source for Counting<T> {
-    ghost input = { λ s. record { left = T.remaining s.inner; failed = s.failures; halted = s.halted; at_hand = [] } };
+    ghost input = { λ s.
+        record
+        { left = T.remaining s.inner; failed = s.failures; halted = s.halted; at_hand = [] } };
 
     fn pull(&mut self, buf: &mut [u8]) -> io::Result<usize> {
         let answer = self.inner.read(buf);
@@ -123,7 +134,14 @@ impl<T: Read> Source for Counting<T> {
 }
 
 impl<T: Write> Sink for Counting<T> {
-    ghost output = { λ s. record { written = T.contents s.inner; failed = s.failures; stalled = s.stalls; halted = s.halted; held = s.held } };
+    ghost output = { λ s.
+        record {
+          written = T.contents s.inner;
+          failed = s.failures;
+          stalled = s.stalls;
+          halted = s.halted;
+          held = s.held;
+        } };
 
     fn put(&mut self, bytes: &[u8]) -> io::Result<usize> {
         let answer = self.inner.write(bytes);
@@ -178,7 +196,13 @@ impl<R: Read> Buffered<R> {
 }
 
 impl<R: Read> Source for Buffered<R> {
-    ghost input = { λ s. record { left = reader_remaining R.remaining s.inner; failed = s.failures; halted = s.halted; at_hand = reader_buffer s.inner } };
+    ghost input = { λ s.
+        record {
+          left = reader_remaining R.remaining s.inner;
+          failed = s.failures;
+          halted = s.halted;
+          at_hand = reader_buffer s.inner;
+        } };
 
     fn pull(&mut self, buf: &mut [u8]) -> io::Result<usize> {
         self.inner.pull(buf)
@@ -197,7 +221,9 @@ impl<R: Read> Source for Buffered<R> {
 pub(crate) fn fill<S: Source>(source: &mut S, buf: &mut [u8]) -> Result<usize, FrameFault>
     ensures bytes { MatchResult result
         (λ n. Filled n buf.new (S.input source.old).left (S.input source.new).left)
-        (λ f. (f ≡ FrameFault.Device) × Lost (length buf.old) (S.input source.old).left (S.input source.new).left) }
+        (λ f.
+        (f ≡ FrameFault.Device)
+        × Lost (length buf.old) (S.input source.old).left (S.input source.new).left) }
     ensures counted { Counts result (S.input source.old) (S.input source.new) }
 {
     let mut at = 0;
@@ -250,7 +276,9 @@ pub(crate) fn items_from<S: Source, T: Item>(
     count: usize,
 ) -> Result<Vec<T>, FrameFault>
     ensures bytes { MatchResult result
-        (λ v. ReadsItems T.spelling T.Fits count v.items (S.input source.old).left (S.input source.new).left)
+        (λ v.
+        ReadsItems T.spelling T.Fits count v.items (S.input source.old).left
+        (S.input source.new).left)
         (λ f. BodyFault f (count * T.SIZE) (S.input source.old).left (S.input source.new).left) }
     ensures counted { Counts result (S.input source.old) (S.input source.new) }
 {
@@ -266,7 +294,9 @@ pub(crate) fn items_from<S: Source, T: Item>(
 pub(crate) fn put_items<W: Sink, T: Item>(sink: &mut W, items: &[T]) -> Result<(), FrameFault>
     ensures sent { MatchResult result
         (λ _. Sent (flat_map T.spelling items.now) (W.output sink.old) (W.output sink.new))
-        (λ f. (f ≡ FrameFault.Device) × CutOff (flat_map T.spelling items.now) (W.output sink.old) (W.output sink.new)) }
+        (λ f.
+        (f ≡ FrameFault.Device)
+        × CutOff (flat_map T.spelling items.now) (W.output sink.old) (W.output sink.new)) }
     ensures fit { OnOk result (All T.Fits items.now) }
 {
     let mut buf = [0; 128];

@@ -145,7 +145,10 @@ fn number_of(profile: Profile) -> u32
 /// The head that 16 bytes spell.
 fn head_in(bytes: &[u8]) -> Option<DumpHead>
     requires { length bytes.now ≡ 16 }
-    ensures some { IfSome result (λ head. (bytes.now ≡ head_bytes head.profile head.clients_max) × IsClients head.clients_max) }
+    ensures some { IfSome result
+        (λ head.
+        (bytes.now ≡ head_bytes head.profile head.clients_max)
+        × IsClients head.clients_max) }
     ensures none { result ≡ None → HasNoHead bytes.now }
 {
     if u64_at(bytes, 0) != SIGNATURE {
@@ -252,8 +255,13 @@ fn bytes_of_numbers(first: u64, second: u64) -> [u8; 16]
 /// went out.
 pub fn send_head<W: Sink>(sink: &mut W, head: DumpHead) -> Result<(), FrameFault>
     ensures sent { MatchResult result
-        (λ _. Sent (head_bytes head.profile head.clients_max) (W.output sink.old) (W.output sink.new))
-        (λ f. (f ≡ FrameFault.Device) × CutOff (head_bytes head.profile head.clients_max) (W.output sink.old) (W.output sink.new)) }
+        (λ _.
+        Sent (head_bytes head.profile head.clients_max) (W.output sink.old)
+        (W.output sink.new))
+        (λ f.
+        (f ≡ FrameFault.Device)
+        × CutOff (head_bytes head.profile head.clients_max) (W.output sink.old)
+        (W.output sink.new)) }
     ensures right { IsClients head.clients_max }
 {
     put_all(sink, &bytes_of_head(head))
@@ -276,8 +284,12 @@ pub fn send_entry<W: Sink>(
     request: &Request,
 ) -> Result<(), FrameFault>
     ensures sent { MatchResult result
-        (λ _. Sent (entry_bytes commit time request.now) (W.output sink.old) (W.output sink.new))
-        (λ f. (f ≡ FrameFault.Device) × CutOff (entry_bytes commit time request.now) (W.output sink.old) (W.output sink.new)) }
+        (λ _.
+        Sent (entry_bytes commit time request.now) (W.output sink.old) (W.output sink.new))
+        (λ f.
+        (f ≡ FrameFault.Device)
+        × CutOff (entry_bytes commit time request.now) (W.output sink.old)
+        (W.output sink.new)) }
     ensures fits { OnOk result (0 < commit → IsDumped commit time request.now) }
 {
     put_all(sink, &bytes_of_numbers(commit, time))?;

@@ -10,10 +10,14 @@ pub fn spelled_whole()
 
 /// Each request has one frame, and no frame begins another one.
 pub fn one_reading()
-    ensures { (r s : Message) (x y : List ℕ) → IsRequest r → IsRequest s → request_bytes r ++ x ≡ request_bytes s ++ y → (r ≡ s) × (x ≡ y) }
+    ensures { (r s : Message) (x y : List ℕ) → IsRequest r
+        → IsRequest s
+        → request_bytes r ++ x ≡ request_bytes s ++ y
+        → (r ≡ s) × (x ≡ y) }
 {}
 
 /// The first fault of a request's values is the first fault of their frame.
 pub fn one_fault()
-    ensures { (r : Message) (more : List ℕ) → FitsFrame r → request_fault (request_bytes r ++ more) ≡ number_fault r }
+    ensures { (r : Message) (more : List ℕ) → FitsFrame r
+        → request_fault (request_bytes r ++ more) ≡ number_fault r }
 {}

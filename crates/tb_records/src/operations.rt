@@ -40,7 +40,8 @@ impl Operation {
 
     /// The operation that has a number; None where none has it.
     pub fn from_code(code: u8) -> Option<Operation>
-        ensures value { MatchOption result (is_operation code ≡ false) (λ operation. operation_code operation ≡ code) }
+        ensures value { MatchOption result (is_operation code ≡ false)
+            (λ operation. operation_code operation ≡ code) }
         ensures only { (operation : Operation) → (result ≡ Some operation) ↔ (operation_code operation ≡ code) }
     {
         match code {
@@ -68,7 +69,8 @@ impl Operation {
 
     /// The operation that has a name; None where none has it.
     pub fn from_name(name: &[u8]) -> Option<Operation>
-        ensures { (operation : Operation) → (result ≡ Some operation) ↔ (operation_name operation ≡ name.now) }
+        ensures { (operation : Operation)
+            → (result ≡ Some operation) ↔ (operation_name operation ≡ name.now) }
     {
         first_operation_named(&Operation::ALL, name)
     }
@@ -84,7 +86,8 @@ impl fmt::Display for Operation {
 
 /// The first of some operations that has a name.
 fn first_operation_named(operations: &[Operation], name: &[u8]) -> Option<Operation>
-    ensures { result ≡ find (λ operation. pointwise nat_eq (operation_name operation) name.now) operations.now }
+    ensures { result
+        ≡ find (λ operation. pointwise nat_eq (operation_name operation) name.now) operations.now }
 {
     operations
         .iter()

@@ -15,7 +15,9 @@ use std::alloc::Global;
 /// comes only where there is no fault.
 pub fn read_request(alloc: Global, bytes: &[u8]) -> Result<(Request, usize), FrameFault>
     ensures found { Found result bytes.now }
-    ensures only { (r : Message) (front rest : List ℕ) → Spells front r → bytes.now ≡ front ++ rest → OnlyThis result r (length front) }
+    ensures only { (r : Message) (front rest : List ℕ) → Spells front r
+        → bytes.now ≡ front ++ rest
+        → OnlyThis result r (length front) }
 {
     read(alloc, bytes)
 }

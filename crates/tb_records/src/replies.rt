@@ -139,9 +139,28 @@ impl Model for Reply {
 
     ghost Value = { Answer };
 
-    ghost view = { λ r. record { client = r.client; session = r.session; request = r.request; operation = r.operation; status = r.status; commit = r.commit; body = r.body } };
+    ghost view = { λ r.
+        record {
+          client = r.client;
+          session = r.session;
+          request = r.request;
+          operation = r.operation;
+          status = r.status;
+          commit = r.commit;
+          body = r.body;
+        } };
 
-    ghost invariant = { λ r. IsRight (record { client = r.client; session = r.session; request = r.request; operation = r.operation; status = r.status; commit = r.commit; body = r.body }) };
+    ghost invariant = { λ r.
+        IsRight
+        (record {
+          client = r.client;
+          session = r.session;
+          request = r.request;
+          operation = r.operation;
+          status = r.status;
+          commit = r.commit;
+          body = r.body;
+        }) };
 }
 
 /// Says that an operation has this number.
@@ -222,7 +241,8 @@ impl Reply {
         commit: u64,
         body: ReplyBody,
     ) -> Result<Reply, FrameFault>
-        ensures { let r = answered client session request operation status commit body in MatchOption (answer_fault r) (result ≡ Ok r) (λ f. result ≡ Err f) }
+        ensures { let r = answered client session request operation status commit body in
+            MatchOption (answer_fault r) (result ≡ Ok r) (λ f. result ≡ Err f) }
     {
         let code = status.code();
         if client == 0 {
@@ -279,7 +299,9 @@ impl Reply {
     /// commit 0 and no body.
     pub fn refusal(request: &Request, status: Status) -> Reply
         requires { status ≢ Status.Reply }
-        ensures { result ≡ answered request.now.client request.now.session request.now.request (operation request.now.body) status 0 ReplyBody.Empty }
+        ensures { result
+            ≡ answered request.now.client request.now.session request.now.request
+            (operation request.now.body) status 0 ReplyBody.Empty }
     {
         let body = request.body();
         Reply {

@@ -10,11 +10,16 @@ pub fn spelled_whole()
 
 /// Each reply has one frame, and no frame begins another one.
 pub fn one_reading()
-    ensures { (r s : Answer) (x y : List ℕ) → IsReply r → IsReply s → reply_bytes r ++ x ≡ reply_bytes s ++ y → (r ≡ s) × (x ≡ y) }
+    ensures { (r s : Answer) (x y : List ℕ) → IsReply r
+        → IsReply s
+        → reply_bytes r ++ x ≡ reply_bytes s ++ y
+        → (r ≡ s) × (x ≡ y) }
 {}
 
 /// The first fault of a reply's values is the first fault of their frame, where the body is of the kind that the operation
 /// and the status ask for.
 pub fn one_fault()
-    ensures { (r : Answer) (more : List ℕ) → FitsFrame r → HasKind r → reply_fault (reply_bytes r ++ more) ≡ answer_fault r }
+    ensures { (r : Answer) (more : List ℕ) → FitsFrame r
+        → HasKind r
+        → reply_fault (reply_bytes r ++ more) ≡ answer_fault r }
 {}

@@ -30,7 +30,8 @@ pub(crate) struct ReplyHeader {
 /// The fields at the beginning of the bytes; or what is wrong with the client, the operation, the status or the zero bytes.
 fn fields_in(bytes: &[u8]) -> Result<ReplyHeader, FrameFault>
     requires { 48 ≤ length bytes.now }
-    ensures { MatchResult result (λ h. HasReplyFields bytes.now h) (λ f. first_fault (reply_field_tests bytes.now) ≡ Some f) }
+    ensures { MatchResult result (λ h. HasReplyFields bytes.now h)
+        (λ f. first_fault (reply_field_tests bytes.now) ≡ Some f) }
 {
     let client = u128_at(bytes, 0);
     if client == 0 {
@@ -75,7 +76,8 @@ fn length_fault(operation: u8, status: u8, len: u32) -> Option<FrameFault>
 /// The header at the beginning of the bytes, or what is wrong with it.
 fn header_in(bytes: &[u8]) -> Result<ReplyHeader, FrameFault>
     requires { 48 ≤ length bytes.now }
-    ensures { MatchResult result (λ h. IsReplyHeader bytes.now h) (λ f. reply_header_fault bytes.now ≡ Some f) }
+    ensures { MatchResult result (λ h. IsReplyHeader bytes.now h)
+        (λ f. reply_header_fault bytes.now ≡ Some f) }
 {
     let header = fields_in(bytes)?;
     let status = header.status.code();
@@ -180,7 +182,9 @@ fn read(alloc: Global, bytes: &[u8]) -> Result<(Reply, usize), FrameFault>
 /// tests. NoMemory comes after all of these.
 pub fn read_reply(alloc: Global, bytes: &[u8]) -> Result<(Reply, usize), FrameFault>
     ensures found { FoundReply result bytes.now }
-    ensures only { (r : Answer) (front rest : List ℕ) → SpellsReply front r → bytes.now ≡ front ++ rest → OnlyThisReply result r (length front) }
+    ensures only { (r : Answer) (front rest : List ℕ) → SpellsReply front r
+        → bytes.now ≡ front ++ rest
+        → OnlyThisReply result r (length front) }
 {
     read(alloc, bytes)
 }

@@ -24,14 +24,18 @@ impl Model for Request {
 
     ghost view = { λ r. record { client = r.client; session = r.session; request = r.request; body = r.body } };
 
-    ghost invariant = { λ r. IsLawful (record { client = r.client; session = r.session; request = r.request; body = r.body }) };
+    ghost invariant = { λ r.
+        IsLawful
+        (record
+        { client = r.client; session = r.session; request = r.request; body = r.body }) };
 }
 
 impl Request {
     /// The first of ClientZero, RegisterNumbers (a register with session or request not 0), RequestZero (any other
     /// with request 0) and TooMany (more than 8190 items) that holds; else the request.
     pub fn new(client: u128, session: u64, request: u32, body: Body) -> Result<Request, FrameFault>
-        ensures { let r = asked client session request body in MatchOption (number_fault r) (result ≡ Ok r) (λ f. result ≡ Err f) }
+        ensures { let r = asked client session request body in
+            MatchOption (number_fault r) (result ≡ Ok r) (λ f. result ≡ Err f) }
     {
         let register = matches!(&body, Body::Register);
         if client == 0 {

@@ -50,8 +50,10 @@ impl<R: Source + Drop> RequestStream<R> {
     /// nothing more is asked of it.
     pub fn next_request(&mut self, alloc: Global) -> Result<Option<Request>, FrameFault>
         ensures again { (f : FrameFault) → self.old.fault ≡ Some f → (result ≡ Err f) × (self.new ≡ self.old) }
-        ensures answer { self.old.fault ≡ None → Answers result (R.input self.old.source).left (R.input self.new.source).left }
-        ensures counted { self.old.fault ≡ None → Counts result (R.input self.old.source) (R.input self.new.source) }
+        ensures answer { self.old.fault ≡ None
+            → Answers result (R.input self.old.source).left (R.input self.new.source).left }
+        ensures counted { self.old.fault ≡ None
+            → Counts result (R.input self.old.source) (R.input self.new.source) }
         ensures keeps { self.old.fault ≡ None → self.new.fault ≡ fault_in result }
     {
         if let Some(fault) = self.fault {
@@ -68,8 +70,10 @@ impl<R: Source + Drop> RequestStream<R> {
     /// where it ends in the moment or in the frame, or between the two.
     pub fn next_timed(&mut self, alloc: Global) -> Result<Option<(u64, Request)>, FrameFault>
         ensures again { (f : FrameFault) → self.old.fault ≡ Some f → (result ≡ Err f) × (self.new ≡ self.old) }
-        ensures answer { self.old.fault ≡ None → TimedAnswers result (R.input self.old.source).left (R.input self.new.source).left }
-        ensures counted { self.old.fault ≡ None → Counts result (R.input self.old.source) (R.input self.new.source) }
+        ensures answer { self.old.fault ≡ None
+            → TimedAnswers result (R.input self.old.source).left (R.input self.new.source).left }
+        ensures counted { self.old.fault ≡ None
+            → Counts result (R.input self.old.source) (R.input self.new.source) }
         ensures keeps { self.old.fault ≡ None → self.new.fault ≡ fault_in result }
     {
         if let Some(fault) = self.fault {
@@ -115,8 +119,12 @@ fn body_from<S: Source>(
 ) -> Result<Body, FrameFault>
     requires { operation_code operation ≡ 2 → count ≡ 0 }
     ensures bytes { MatchResult result
-        (λ b. ReadsBody (operation_code operation) count b (S.input source.old).left (S.input source.new).left)
-        (λ f. BodyFault f (count * item_size (operation_code operation)) (S.input source.old).left (S.input source.new).left) }
+        (λ b.
+        ReadsBody (operation_code operation) count b (S.input source.old).left
+        (S.input source.new).left)
+        (λ f.
+        BodyFault f (count * item_size (operation_code operation))
+        (S.input source.old).left (S.input source.new).left) }
     ensures counted { Counts result (S.input source.old) (S.input source.new) }
 {
     match operation {
@@ -149,7 +157,9 @@ pub(crate) fn request_behind<S: Source>(
     requires { IsHeader header.now }
     ensures bytes { MatchResult result
         (λ r. ReadsRequest header.now r (S.input source.old).left (S.input source.new).left)
-        (λ f. BodyFault f (body_length header.now) (S.input source.old).left (S.input source.new).left) }
+        (λ f.
+        BodyFault f (body_length header.now) (S.input source.old).left
+        (S.input source.new).left) }
     ensures counted { Counts result (S.input source.old) (S.input source.new) }
 {
     let body = body_from(alloc, source, header.operation, header.count)?;

@@ -291,14 +291,16 @@ impl CreateTransferResult {
 
     /// The verdict that has a number; None where none has it.
     pub fn from_code(code: u32) -> Option<CreateTransferResult>
-        ensures { (verdict : CreateTransferResult) → (result ≡ Some verdict) ↔ (transfer_result_code verdict ≡ code) }
+        ensures { (verdict : CreateTransferResult)
+            → (result ≡ Some verdict) ↔ (transfer_result_code verdict ≡ code) }
     {
         first_verdict_numbered(&CreateTransferResult::ALL, code)
     }
 
     /// The verdict that has a name; None where none has it.
     pub fn from_name(name: &[u8]) -> Option<CreateTransferResult>
-        ensures { (verdict : CreateTransferResult) → (result ≡ Some verdict) ↔ (transfer_result_name verdict ≡ name.now) }
+        ensures { (verdict : CreateTransferResult)
+            → (result ≡ Some verdict) ↔ (transfer_result_name verdict ≡ name.now) }
     {
         first_verdict_named(&CreateTransferResult::ALL, name)
     }
@@ -330,7 +332,8 @@ fn first_verdict_named(
     verdicts: &[CreateTransferResult],
     name: &[u8],
 ) -> Option<CreateTransferResult>
-    ensures { result ≡ find (λ verdict. pointwise nat_eq (transfer_result_name verdict) name.now) verdicts.now }
+    ensures { result
+        ≡ find (λ verdict. pointwise nat_eq (transfer_result_name verdict) name.now) verdicts.now }
 {
     verdicts
         .iter()

@@ -17,8 +17,12 @@ use std::alloc::AllocError;
 
 /// The header of a request before a body of this length.
 fn request_header(request: &Request, len: u32) -> [u8; 48]
-    ensures header { result ≡ header_bytes request.now.client request.now.session request.now.request (operation request.now.body) len }
-    ensures fits { (request.now.client < 2 ^ 128) × (request.now.session < 2 ^ 64) × (request.now.request < 2 ^ 32) }
+    ensures header { result
+        ≡ header_bytes request.now.client request.now.session request.now.request
+        (operation request.now.body) len }
+    ensures fits { (request.now.client < 2 ^ 128)
+        × (request.now.session < 2 ^ 64)
+        × (request.now.request < 2 ^ 32) }
 {
     let mut header = [0; 48];
     put_u128(&mut header, 0, request.client());
@@ -36,7 +40,10 @@ fn request_header(request: &Request, len: u32) -> [u8; 48]
 /// The header of a reply before a body of this length.
 fn reply_header(reply: &Reply, len: u32) -> [u8; 48]
     ensures header { result ≡ header_of_reply reply.now len }
-    ensures fits { (reply.now.client < 2 ^ 128) × (reply.now.session < 2 ^ 64) × (reply.now.request < 2 ^ 32) × (reply.now.commit < 2 ^ 64) }
+    ensures fits { (reply.now.client < 2 ^ 128)
+        × (reply.now.session < 2 ^ 64)
+        × (reply.now.request < 2 ^ 32)
+        × (reply.now.commit < 2 ^ 64) }
 {
     let mut header = [0; 48];
     put_u128(&mut header, 0, reply.client());
@@ -165,9 +172,10 @@ pub fn write_reply(reply: &Reply, out: &mut Vec<u8>) -> Result<(), AllocError>
 /// Writes the body of a request to a sink.
 #[tactic(auto, unfolding(crate::specs::Frames::body_bytes))]
 fn send_request_body<W: Sink>(sink: &mut W, body: &Body) -> Result<(), FrameFault>
-    ensures sent { MatchResult result
-        (λ _. Sent (body_bytes body.now) (W.output sink.old) (W.output sink.new))
-        (λ f. (f ≡ FrameFault.Device) × CutOff (body_bytes body.now) (W.output sink.old) (W.output sink.new)) }
+    ensures sent { MatchResult result (λ _. Sent (body_bytes body.now) (W.output sink.old) (W.output sink.new))
+        (λ f.
+        (f ≡ FrameFault.Device)
+        × CutOff (body_bytes body.now) (W.output sink.old) (W.output sink.new)) }
     ensures fits { OnOk result (BodyFits body.now) }
 {
     match body {
@@ -185,7 +193,9 @@ fn send_request_body<W: Sink>(sink: &mut W, body: &Body) -> Result<(), FrameFaul
 pub fn send_request<W: Sink>(sink: &mut W, request: &Request) -> Result<(), FrameFault>
     ensures sent { MatchResult result
         (λ _. Sent (request_bytes request.now) (W.output sink.old) (W.output sink.new))
-        (λ f. (f ≡ FrameFault.Device) × CutOff (request_bytes request.now) (W.output sink.old) (W.output sink.new)) }
+        (λ f.
+        (f ≡ FrameFault.Device)
+        × CutOff (request_bytes request.now) (W.output sink.old) (W.output sink.new)) }
     ensures fits { OnOk result (IsRequest request.now) }
 {
     let body = request.body();
@@ -199,7 +209,9 @@ pub fn send_request<W: Sink>(sink: &mut W, request: &Request) -> Result<(), Fram
 fn send_body<W: Sink>(sink: &mut W, body: &ReplyBody) -> Result<(), FrameFault>
     ensures sent { MatchResult result
         (λ _. Sent (reply_body_bytes body.now) (W.output sink.old) (W.output sink.new))
-        (λ f. (f ≡ FrameFault.Device) × CutOff (reply_body_bytes body.now) (W.output sink.old) (W.output sink.new)) }
+        (λ f.
+        (f ≡ FrameFault.Device)
+        × CutOff (reply_body_bytes body.now) (W.output sink.old) (W.output sink.new)) }
     ensures fits { OnOk result (ReplyBodyFits body.now) }
 {
     match body {
@@ -216,7 +228,9 @@ fn send_body<W: Sink>(sink: &mut W, body: &ReplyBody) -> Result<(), FrameFault>
 pub fn send_reply<W: Sink>(sink: &mut W, reply: &Reply) -> Result<(), FrameFault>
     ensures sent { MatchResult result
         (λ _. Sent (reply_bytes reply.now) (W.output sink.old) (W.output sink.new))
-        (λ f. (f ≡ FrameFault.Device) × CutOff (reply_bytes reply.now) (W.output sink.old) (W.output sink.new)) }
+        (λ f.
+        (f ≡ FrameFault.Device)
+        × CutOff (reply_bytes reply.now) (W.output sink.old) (W.output sink.new)) }
     ensures fits { OnOk result (IsReply reply.now) }
 {
     let body = reply.body();

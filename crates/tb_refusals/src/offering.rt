@@ -44,7 +44,10 @@ impl Moments for Listed {
 
 /// The last port that is left.
 pub fn next_port(ports: &mut Vec<Port>) -> Result<Port, Trouble>
-    ensures { IfOk result (λ port. (name : Name) (n : ℕ) → AreNumbered name n ports.old.items → AreNumbered name n ports.new.items × (service port ≡ name)) }
+    ensures { IfOk result
+        (λ port.
+        (name : Name) (n : ℕ) → AreNumbered name n ports.old.items
+        → AreNumbered name n ports.new.items × (service port ≡ name)) }
 {
     if let Some(port) = ports.pop() {
         return Ok(port);
@@ -62,7 +65,12 @@ fn two_ports<'a, J: Naming, R: Wait + Eprint>(
     count: PortCount,
     moments: Listed,
 ) -> Result<Option<(Started<'a, J, R>, Port, Port)>, Trouble>
-    ensures { IfOk result (λ some. IfSome some (λ made. (service made.1 ≡ service_on made.0) × (service made.2 ≡ service_on made.0))) }
+    ensures { IfOk result
+        (λ some.
+        IfSome some
+        (λ made.
+        (service made.1 ≡ service_on made.0)
+        × (service made.2 ≡ service_on made.0))) }
 {
     let (server, mut ports) = match service(alloc, publisher, rt, count, moments, Open) {
         Ok(made) => made,

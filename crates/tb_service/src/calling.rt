@@ -18,7 +18,8 @@ pub(crate) fn ask<J: Naming>(
     requires legal { LegalIn J.opening seat.old }
     requires answer { AnswersIn J.opening seat.old request.now reply }
     ensures begins { IsPrefix seat.old seat.new }
-    ensures answer { IfOk result (λ reply. LegalIn J.opening seat.new × AnswersIn J.opening seat.new request.now reply) }
+    ensures answer { IfOk result
+        (λ reply. LegalIn J.opening seat.new × AnswersIn J.opening seat.new request.now reply) }
 {
     for _ in 0..turns {
         let newest = match seat.answer(request) {

@@ -30,7 +30,9 @@ impl<J: Naming, W: Wait + Drop, M: Moments + Drop, G: Gate + Drop> Clerk<J, W, M
     /// Makes room for the requests of one order.
     pub fn room(&mut self) -> Result<(), AllocError>
         ensures room { OnOk result (HasRoom 8 self.new) }
-        ensures same { (room_of self.new ≡ room_of self.old) × (self.new.ports.items ≡ self.old.ports.items) × (self.new.refused.items ≡ self.old.refused.items) }
+        ensures same { (room_of self.new ≡ room_of self.old)
+            × (self.new.ports.items ≡ self.old.ports.items)
+            × (self.new.refused.items ≡ self.old.refused.items) }
     {
         self.ports.reserve(REQUESTS_MAX)?;
         self.refused.reserve(REQUESTS_MAX)
@@ -39,7 +41,8 @@ impl<J: Naming, W: Wait + Drop, M: Moments + Drop, G: Gate + Drop> Clerk<J, W, M
     /// One request has its turn.
     fn serve(&mut self, port: u32, request: Request)
         requires { HasRoom 1 self.old }
-        ensures served { ServesOn J.opening M.tells G.passes (room_of self.old) (length self.old.ports.items + 1) (request ∷ []) self.old.refused.items self.new.refused.items (room_of self.new) }
+        ensures served { ServesOn J.opening M.tells G.passes (room_of self.old) (length self.old.ports.items + 1)
+            (request ∷ []) self.old.refused.items self.new.refused.items (room_of self.new) }
         ensures ports { self.new.ports.items ≡ self.old.ports.items ++ port ∷ [] }
         ensures room { Uses 1 self.old self.new }
     {
@@ -55,7 +58,8 @@ impl<J: Naming, W: Wait + Drop, M: Moments + Drop, G: Gate + Drop> Clerk<J, W, M
     /// Requests have their turns, one after another.
     fn serve_all(&mut self, port: u32, requests: Vec<Request>)
         requires { HasRoom (length requests.items) self.old }
-        ensures served { ServesOn J.opening M.tells G.passes (room_of self.old) (length self.old.ports.items + 1) requests.items self.old.refused.items self.new.refused.items (room_of self.new) }
+        ensures served { ServesOn J.opening M.tells G.passes (room_of self.old) (length self.old.ports.items + 1)
+            requests.items self.old.refused.items self.new.refused.items (room_of self.new) }
         ensures ports { self.new.ports.items ≡ self.old.ports.items ++ replicate (length requests.items) port }
     {
         for request in requests {
@@ -66,8 +70,11 @@ impl<J: Naming, W: Wait + Drop, M: Moments + Drop, G: Gate + Drop> Clerk<J, W, M
     /// The requests of an order have their turns.
     pub fn serve_order(&mut self, order: Order)
         requires { HasRoom 8 self.old }
-        ensures served { ServesOn J.opening M.tells G.passes (room_of self.old) (length self.old.ports.items + 1) (requests_in order.what) self.old.refused.items self.new.refused.items (room_of self.new) }
-        ensures ports { self.new.ports.items ≡ self.old.ports.items ++ replicate (length (requests_in order.what)) order.port }
+        ensures served { ServesOn J.opening M.tells G.passes (room_of self.old) (length self.old.ports.items + 1)
+            (requests_in order.what) self.old.refused.items self.new.refused.items
+            (room_of self.new) }
+        ensures ports { self.new.ports.items
+            ≡ self.old.ports.items ++ replicate (length (requests_in order.what)) order.port }
     {
         let Order { port, what } = order;
         match what {
@@ -79,8 +86,11 @@ impl<J: Naming, W: Wait + Drop, M: Moments + Drop, G: Gate + Drop> Clerk<J, W, M
 
     /// Shows what was entered. Where there is no memory for it, a later call shows the rest.
     pub fn show<R: Wait>(&mut self, rt: &R)
-        ensures same { (room_of self.new ≡ room_of self.old) × (self.new.ports.items ≡ self.old.ports.items) × (self.new.refused.items ≡ self.old.refused.items) }
-        ensures room { (vec_capacity self.new.ports ≡ vec_capacity self.old.ports) × (vec_capacity self.new.refused ≡ vec_capacity self.old.refused) }
+        ensures same { (room_of self.new ≡ room_of self.old)
+            × (self.new.ports.items ≡ self.old.ports.items)
+            × (self.new.refused.items ≡ self.old.refused.items) }
+        ensures room { (vec_capacity self.new.ports ≡ vec_capacity self.old.ports)
+            × (vec_capacity self.new.refused ≡ vec_capacity self.old.refused) }
     {
         let _ = self.held.publisher.show(rt);
     }

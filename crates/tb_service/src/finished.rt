@@ -68,9 +68,13 @@ impl<J: Naming> Finished<J> {
         requires seated { IsSeatAt (sends_on sender) pass }
         requires serves { (view pass).serves ≡ true }
         requires placed { ports (view pass).taken ≡ places.items }
-        requires over { ended ≡ way.Closed → (p : ℕ) → p < (view pass).ports → is_closed p (view pass).taken ≡ true }
+        requires over { ended ≡ way.Closed
+            → (p : ℕ) → p < (view pass).ports
+            → is_closed p (view pass).taken ≡ true }
         ensures parts { (result.publisher ≡ publisher) × (result.ended ≡ ended) × (result.refused ≡ refused) }
-        ensures pass { (taken result ≡ requests (view pass).taken) × (port_at result ≡ ports (view pass).taken) × (service_at result ≡ service_of pass) }
+        ensures pass { (taken result ≡ requests (view pass).taken)
+            × (port_at result ≡ ports (view pass).taken)
+            × (service_at result ≡ service_of pass) }
     {
         Finished {
             publisher,
@@ -87,11 +91,18 @@ impl<J: Naming> Finished<J> {
     /// same port comes back, and nothing has changed.
     pub fn offered_by(&mut self, closed: Closed) -> Result<Vec<u64>, Closed>
         requires service { service_by closed ≡ service_at self.old }
-        ensures places { IfOk result (λ places. places.items ≡ places_from (number_by closed) 1 (port_at self.old)) }
-        ensures offered { IfOk result (λ places. IsOffered (offered_by closed) (taken self.old) places.items self.old.ended) }
+        ensures places { IfOk result
+            (λ places. places.items ≡ places_from (number_by closed) 1 (port_at self.old)) }
+        ensures offered { IfOk result
+            (λ places.
+            IsOffered (offered_by closed) (taken self.old) places.items self.old.ended) }
         ensures back { IfErr result (λ back. (back ≡ closed) × (self.new ≡ self.old)) }
-        ensures same { (taken self.new ≡ taken self.old) × (port_at self.new ≡ port_at self.old) × (service_at self.new ≡ service_at self.old) }
-        ensures rest { (self.new.publisher ≡ self.old.publisher) × (self.new.ended ≡ self.old.ended) × (self.new.refused ≡ self.old.refused) }
+        ensures same { (taken self.new ≡ taken self.old)
+            × (port_at self.new ≡ port_at self.old)
+            × (service_at self.new ≡ service_at self.old) }
+        ensures rest { (self.new.publisher ≡ self.old.publisher)
+            × (self.new.ended ≡ self.old.ended)
+            × (self.new.refused ≡ self.old.refused) }
     {
         let Ok(places) = places_of(self.alloc, closed.number(), &self.places) else {
             return Err(closed);

@@ -57,9 +57,14 @@ impl Inbox {
     /// One port more.
     pub fn port(&mut self, alloc: Global, number: u32) -> Result<Port, AllocError>
         requires { number ≡ (view self.old.pass).ports }
-        ensures port { IfOk result (λ port. (offered port ≡ []) × (number_of port ≡ number) × (service port ≡ service_of self.old.pass)) }
+        ensures port { IfOk result
+            (λ port.
+            (offered port ≡ [])
+            × (number_of port ≡ number)
+            × (service port ≡ service_of self.old.pass)) }
         ensures more { IfOk result (λ port. (view self.new.pass).ports ≡ (view self.old.pass).ports + 1) }
-        ensures same { ((view self.new.pass).taken ≡ (view self.old.pass).taken) × (service_of self.new.pass ≡ service_of self.old.pass) }
+        ensures same { ((view self.new.pass).taken ≡ (view self.old.pass).taken)
+            × (service_of self.new.pass ≡ service_of self.old.pass) }
     {
         let sender = self.sender.try_clone()?;
         self.closed.push(false)?;
@@ -70,8 +75,10 @@ impl Inbox {
     /// Waits for an order; none where the receive failed.
     pub fn take<R: Wait>(&mut self, rt: &R) -> Option<Order>
         ensures owned { IfSome result (λ order. order.port < (view self.old.pass).ports) }
-        ensures taken { MatchOption result ((view self.new.pass).taken ≡ (view self.old.pass).taken) (λ order. (view self.new.pass).taken ≡ (view self.old.pass).taken ++ order ∷ []) }
-        ensures same { ((view self.new.pass).ports ≡ (view self.old.pass).ports) × (service_of self.new.pass ≡ service_of self.old.pass) }
+        ensures taken { MatchOption result ((view self.new.pass).taken ≡ (view self.old.pass).taken)
+            (λ order. (view self.new.pass).taken ≡ (view self.old.pass).taken ++ order ∷ []) }
+        ensures same { ((view self.new.pass).ports ≡ (view self.old.pass).ports)
+            × (service_of self.new.pass ≡ service_of self.old.pass) }
     {
         let Ok(order) = self.receiver.recv_as::<Takes, R>(rt, &mut self.pass) else {
             return None;
@@ -84,7 +91,9 @@ impl Inbox {
 
     /// Each port was closed.
     pub fn is_over(&self) -> bool
-        ensures { result ≡ true → (p : ℕ) → p < (view self.now.pass).ports → is_closed p (view self.now.pass).taken ≡ true }
+        ensures { result ≡ true
+            → (p : ℕ) → p < (view self.now.pass).ports
+            → is_closed p (view self.now.pass).taken ≡ true }
     {
         self.closed.iter().all(|is_closed| *is_closed)
     }

@@ -68,7 +68,8 @@ impl Port {
 
     /// Hands a request over. It comes back only where the server is gone, or the port handed 2^64 - 1 requests over.
     pub fn offer<R: Wait>(&mut self, rt: &R, request: Request) -> Result<(), Request>
-        ensures offered { MatchResult result (λ _. offered self.new ≡ offered self.old ++ request ∷ []) (λ back. (back ≡ request) × (offered self.new ≡ offered self.old)) }
+        ensures offered { MatchResult result (λ _. offered self.new ≡ offered self.old ++ request ∷ [])
+            (λ back. (back ≡ request) × (offered self.new ≡ offered self.old)) }
         ensures same { (service self.new ≡ service self.old) × (number_of self.new ≡ number_of self.old) }
     {
         if self.count == u64::MAX {
@@ -99,7 +100,8 @@ impl Port {
     ) -> Result<(), Vec<Request>>
         requires some { 0 < length requests.items }
         requires few { length requests.items ≤ 8 }
-        ensures offered { MatchResult result (λ _. offered self.new ≡ offered self.old ++ requests.items) (λ back. (back ≡ requests) × (offered self.new ≡ offered self.old)) }
+        ensures offered { MatchResult result (λ _. offered self.new ≡ offered self.old ++ requests.items)
+            (λ back. (back ≡ requests) × (offered self.new ≡ offered self.old)) }
         ensures same { (service self.new ≡ service self.old) × (number_of self.new ≡ number_of self.old) }
     {
         let more = requests.len() as u64;
@@ -133,8 +135,12 @@ impl Port {
         turns: u32,
     ) -> Result<Reply, SeatFault>
         ensures begins { IsPrefix seat.old seat.new }
-        ensures answer { IfOk result (λ reply. LegalIn J.opening seat.new × AnswersIn J.opening seat.new request.now reply) }
-        ensures offered { (offered self.new ≡ offered self.old) ⊎ ((offered self.new ≡ offered self.old ++ request.now ∷ []) × WasNotYet J.opening seat.old seat.new request.now) }
+        ensures answer { IfOk result
+            (λ reply.
+            LegalIn J.opening seat.new × AnswersIn J.opening seat.new request.now reply) }
+        ensures offered { (offered self.new ≡ offered self.old)
+            ⊎ ((offered self.new ≡ offered self.old ++ request.now ∷ [])
+            × WasNotYet J.opening seat.old seat.new request.now) }
         ensures same { (service self.new ≡ service self.old) × (number_of self.new ≡ number_of self.old) }
     {
         let reply = seat.answer(request)?;

@@ -43,7 +43,8 @@ pub(crate) fn send<R: Wait>(
     requires own { order.port ≡ (view pass.old).port }
     requires fresh { (view pass.old).closed ≡ false }
     ensures seated { IsSeatAt (sends_on sender.now) pass.new × (pass.new.id ≡ pass.old.id) }
-    ensures sent { MatchResult result (λ _. view pass.new ≡ sent (view pass.old) order) (λ back. (back ≡ order) × (view pass.new ≡ view pass.old)) }
+    ensures sent { MatchResult result (λ _. view pass.new ≡ sent (view pass.old) order)
+        (λ back. (back ≡ order) × (view pass.new ≡ view pass.old)) }
 {
     for naps in 0..NAPS {
         match sender.try_send_as::<Sends, R>(rt, pass, order) {

@@ -33,8 +33,11 @@ impl<J: Naming, W: Wait + Drop, M: Moments + Drop, G: Gate + Drop> Desk<J, W, M,
 
     /// Takes one order and serves it; or says that all is over.
     fn step<R: Wait>(&mut self, rt: &R) -> Option<Ended>
-        ensures served { ServesOrders J.opening M.tells G.passes self.old.inbox.pass self.old.clerk self.new.inbox.pass self.new.clerk }
-        ensures over { result ≡ Some way.Closed → (p : ℕ) → p < (view self.new.inbox.pass).ports → is_closed p (view self.new.inbox.pass).taken ≡ true }
+        ensures served { ServesOrders J.opening M.tells G.passes self.old.inbox.pass self.old.clerk
+            self.new.inbox.pass self.new.clerk }
+        ensures over { result ≡ Some way.Closed
+            → (p : ℕ) → p < (view self.new.inbox.pass).ports
+            → is_closed p (view self.new.inbox.pass).taken ≡ true }
     {
         if self.inbox.is_over() {
             return Some(Ended::Closed);
@@ -50,8 +53,11 @@ impl<J: Naming, W: Wait + Drop, M: Moments + Drop, G: Gate + Drop> Desk<J, W, M,
 
     /// Serves orders until all is over.
     fn serve<R: Wait>(&mut self, rt: &R) -> Ended
-        ensures served { ServesOrders J.opening M.tells G.passes self.old.inbox.pass self.old.clerk self.new.inbox.pass self.new.clerk }
-        ensures over { result ≡ way.Closed → (p : ℕ) → p < (view self.new.inbox.pass).ports → is_closed p (view self.new.inbox.pass).taken ≡ true }
+        ensures served { ServesOrders J.opening M.tells G.passes self.old.inbox.pass self.old.clerk
+            self.new.inbox.pass self.new.clerk }
+        ensures over { result ≡ way.Closed
+            → (p : ℕ) → p < (view self.new.inbox.pass).ports
+            → is_closed p (view self.new.inbox.pass).taken ≡ true }
     {
         for _ in rt.forever() {
             if let Some(ended) = self.step(rt) {
@@ -82,7 +88,9 @@ impl<J: Naming, W: Wait + Drop, M: Moments + Drop, G: Gate + Drop> Server<J, W, 
         requires fresh { (view inbox.pass).taken ≡ [] }
         requires unused { clerk.ports.items ≡ [] }
         requires blameless { clerk.refused.items ≡ [] }
-        ensures { (room_at result ≡ room_of clerk) × (service_on result ≡ service_of inbox.pass) × (port_count result ≡ (view inbox.pass).ports) }
+        ensures { (room_at result ≡ room_of clerk)
+            × (service_on result ≡ service_of inbox.pass)
+            × (port_count result ≡ (view inbox.pass).ports) }
     {
         Server {
             desk: Desk { inbox, clerk },
@@ -93,7 +101,8 @@ impl<J: Naming, W: Wait + Drop, M: Moments + Drop, G: Gate + Drop> Server<J, W, 
     /// Serves what the ports offer, until each of them is closed, or there is no memory for the places of one order more. Each
     /// request that is taken was offered by one of the ports that `service` gave out.
     pub fn run<R: Wait>(self, rt: &R) -> Finished<J>
-        ensures served { Finishes J.opening M.tells G.passes (room_at self) (taken result) result.refused.items result.publisher.history }
+        ensures served { Finishes J.opening M.tells G.passes (room_at self) (taken result) result.refused.items
+            result.publisher.history }
         ensures ports { HaveOwners (port_count self) (taken result) (port_at result) }
         ensures same { service_at result ≡ service_on self }
     {

@@ -18,9 +18,13 @@ use tb_published::{Held, Naming, Publisher};
 // The ports of a queue that has none, numbered from 0.
 fn make_ports(inbox: &mut Inbox, alloc: Global, count: u32) -> Result<Vec<Port>, AllocError>
     requires { (view inbox.old.pass).ports ≡ 0 }
-    ensures ports { IfOk result (λ ports. AreNumbered (service_of inbox.old.pass) 0 ports.items × (length ports.items ≡ count)) }
+    ensures ports { IfOk result
+        (λ ports.
+        AreNumbered (service_of inbox.old.pass) 0 ports.items
+        × (length ports.items ≡ count)) }
     ensures made { IfOk result (λ _. (view inbox.new.pass).ports ≡ count) }
-    ensures same { ((view inbox.new.pass).taken ≡ (view inbox.old.pass).taken) × (service_of inbox.new.pass ≡ service_of inbox.old.pass) }
+    ensures same { ((view inbox.new.pass).taken ≡ (view inbox.old.pass).taken)
+        × (service_of inbox.new.pass ≡ service_of inbox.old.pass) }
 {
     let mut ports = Vec::new(alloc);
     for number in 0..count {
@@ -40,8 +44,12 @@ pub fn service<J: Naming, W: Wait + Drop, M: Moments + Drop, G: Gate + Drop>(
     moments: M,
     gate: G,
 ) -> Result<(Server<J, W, M, G>, Vec<Port>), AllocError>
-    ensures begins { IfOk result (λ made. room_at made.0 ≡ record { history = publisher.history; moments = moments; gate = gate }) }
-    ensures ports { IfOk result (λ made. AreNumbered (service_on made.0) 0 made.1.items × (length made.1.items ≡ count)) }
+    ensures begins { IfOk result
+        (λ made.
+        room_at made.0
+        ≡ record { history = publisher.history; moments = moments; gate = gate }) }
+    ensures ports { IfOk result
+        (λ made. AreNumbered (service_on made.0) 0 made.1.items × (length made.1.items ≡ count)) }
     ensures count { IfOk result (λ made. port_count made.0 ≡ count) }
 {
     let held = Held::new(publisher, rt);

@@ -119,7 +119,10 @@ pub(crate) fn ports(count: u32) -> Result<PortCount, Fail> {
 
 /// The last port that is left.
 fn next_port(ports: &mut Vec<Port>) -> Result<Port, Fail>
-    ensures { IfOk result (λ port. (name : Name) (n : ℕ) → AreNumbered name n ports.old.items → AreNumbered name n ports.new.items × (service port ≡ name)) }
+    ensures { IfOk result
+        (λ port.
+        (name : Name) (n : ℕ) → AreNumbered name n ports.old.items
+        → AreNumbered name n ports.new.items × (service port ≡ name)) }
 {
     if let Some(port) = ports.pop() {
         return Ok(port);
@@ -150,7 +153,8 @@ pub(crate) fn two_ports<'a, J: Naming, R: Wait>(
     count: PortCount,
     moments: Every,
 ) -> Result<(Started<'a, J, R>, Port, Port), Fail>
-    ensures { IfOk result (λ made. (service made.1 ≡ service_on made.0) × (service made.2 ≡ service_on made.0)) }
+    ensures { IfOk result
+        (λ made. (service made.1 ≡ service_on made.0) × (service made.2 ≡ service_on made.0)) }
 {
     let (server, mut ports) = service(alloc, publisher, rt, count, moments, Open)?;
     let second = next_port(&mut ports)?;

@@ -55,7 +55,8 @@ impl Sessions {
 
     /// The row of a client; None of a client without a session.
     pub fn stored(&self, client: u128) -> Option<&Row>
-        ensures { MatchOption result (row_of self.now.rows client ≡ None) (λ row. row_of self.now.rows client ≡ Some row.now) }
+        ensures { MatchOption result (row_of self.now.rows client ≡ None)
+            (λ row. row_of self.now.rows client ≡ Some row.now) }
     {
         self.rows.get(&client)
     }
@@ -117,8 +118,15 @@ impl Sessions {
     /// Puts a row in the place of its client's row, which comes back; or the row itself, of a client without one.
     fn renew(&mut self, row: Row) -> Result<Row, Row>
         requires later { Each (λ (other : Row). other.commit < row.commit) self.old.rows }
-        ensures renewed { IfOk result (λ old. (row_of self.old.rows row.client ≡ Some old) × (self.new ≡ record self.old { rows = replaced client_of row self.old.rows })) }
-        ensures absent { IfErr result (λ back. (back ≡ row) × (row_of self.old.rows row.client ≡ None) × (self.new ≡ self.old)) }
+        ensures renewed { IfOk result
+            (λ old.
+            (row_of self.old.rows row.client ≡ Some old)
+            × (self.new ≡ record self.old { rows = replaced client_of row self.old.rows })) }
+        ensures absent { IfErr result
+            (λ back.
+            (back ≡ row)
+            × (row_of self.old.rows row.client ≡ None)
+            × (self.new ≡ self.old)) }
     {
         match self.rows.set(row.client, row) {
             Ok(old) => {
@@ -132,7 +140,8 @@ impl Sessions {
     /// Takes the row of least commit out.
     fn drive_out(&mut self) -> Row
         requires { self.old.clients_max ≤ length self.old.rows }
-        ensures table { self.new ≡ record self.old { rows = taken_out client_of (client_of result) self.old.rows } }
+        ensures table { self.new
+            ≡ record self.old { rows = taken_out client_of (client_of result) self.old.rows } }
         ensures left { oldest self.old.rows ≡ Some result }
         ensures room { length self.new.rows < length self.old.rows }
     {

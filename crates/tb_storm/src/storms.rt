@@ -135,7 +135,10 @@ fn end<J: Naming, R: Wait>(
     others: &[Client<J>],
     scale: Scale,
 ) -> Result<Totals, StormFault>
-    ensures { (found : Result Totals StormFault) × (result ≡ outcome_of finished.ended (fold first_of first.old.fault (map (λ client. client.fault) others.now)) found) }
+    ensures { (found : Result Totals StormFault)
+        × (result
+        ≡ outcome_of finished.ended
+        (fold first_of first.old.fault (map (λ client. client.fault) others.now)) found) }
 {
     let found = totals_of(alloc, &finished, &mut first.seat, scale);
     let ended = finished.ended;
@@ -242,7 +245,8 @@ fn refuse<E: Sink>(fault: StormFault, faults: &mut E) -> u8
 /// Writes the lines of a storm, and answers the exit status.
 fn write_lines<W: Sink, E: Sink>(lines: &[u8], writer: &mut W, faults: &mut E) -> u8
     ensures quiet { result ≡ 0 → faults.new ≡ faults.old }
-    ensures written { Writes lines.now result (W.output writer.old) (W.output writer.new) (E.output faults.old) (E.output faults.new) }
+    ensures written { Writes lines.now result (W.output writer.old) (W.output writer.new) (E.output faults.old)
+        (E.output faults.new) }
 {
     match put_all(writer, lines) {
         Ok(()) => 0,
@@ -263,7 +267,8 @@ pub fn storm<R: Threads + Wait + Sync, W: Sink, E: Sink>(
     requires few { clients ≤ 16 }
     requires short { transfers ≤ 1000 }
     ensures quiet { result ≡ 0 → faults.new ≡ faults.old }
-    ensures ends { StormExits clients result (W.output writer.old) (W.output writer.new) (E.output faults.old) (E.output faults.new) }
+    ensures ends { StormExits clients result (W.output writer.old) (W.output writer.new) (E.output faults.old)
+        (E.output faults.new) }
 {
     let totals = match play(rt, alloc, Scale { clients, transfers }) {
         Ok(totals) => totals,

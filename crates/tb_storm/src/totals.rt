@@ -14,7 +14,8 @@ pub struct Totals {
 
 /// Adds a line of a word and a number.
 fn add_line(alloc: Global, lines: &mut String, word: &str, number: u128) -> Result<(), AllocError>
-    ensures { IfOk result (λ _. string_bytes lines.new ≡ string_bytes lines.old ++ line_of word.now number) }
+    ensures { IfOk result
+        (λ _. string_bytes lines.new ≡ string_bytes lines.old ++ line_of word.now number) }
 {
     let digits = number.to_string(alloc)?;
     lines.push_str(word)?;

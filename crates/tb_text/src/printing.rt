@@ -176,7 +176,9 @@ fn put_operation<T: Event>(
     operation: Operation,
     events: &[T],
 ) -> Result<(), AllocError>
-    ensures { OnOk result (out.new.items ≡ out.old.items ++ (operation_name operation ++ items_text T.text events.now)) }
+    ensures { OnOk result
+        (out.new.items
+        ≡ out.old.items ++ (operation_name operation ++ items_text T.text events.now)) }
 {
     out.extend_from_slice(operation.name().as_bytes())?;
     put_events(alloc, out, events)

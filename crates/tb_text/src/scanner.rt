@@ -35,7 +35,19 @@ impl Model for Scanner {
 
     ghost Value = { Scan };
 
-    ghost view = { λ s. record { pairs = s.pairs.items; lexeme = s.lexeme; spelled = s.spelled.items; place = s.place; operation = s.operation; header = s.header.items; given = s.given.items; accounts = s.accounts.items; transfers = s.transfers.items; ids = s.ids.items } };
+    ghost view = { λ s.
+        record {
+          pairs = s.pairs.items;
+          lexeme = s.lexeme;
+          spelled = s.spelled.items;
+          place = s.place;
+          operation = s.operation;
+          header = s.header.items;
+          given = s.given.items;
+          accounts = s.accounts.items;
+          transfers = s.transfers.items;
+          ids = s.ids.items;
+        } };
 }
 
 /// Says that a byte is space.
@@ -509,7 +521,9 @@ impl Scanner {
 
     /// Takes a `;`.
     fn close(&mut self) -> Result<(), Refusal>
-        ensures { Steps self.old result (option_and_then (λ o. closed_at self.old o self.old.place) self.old.operation) self.new }
+        ensures { Steps self.old result
+            (option_and_then (λ o. closed_at self.old o self.old.place) self.old.operation)
+            self.new }
     {
         let Some(operation) = self.operation else {
             return Err(Refusal::Unexpected);
@@ -526,7 +540,9 @@ impl Scanner {
 
     /// Takes a `,`.
     fn part(&mut self) -> Result<(), Refusal>
-        ensures { Steps self.old result (option_and_then (λ o. parted_at self.old o self.old.place) self.old.operation) self.new }
+        ensures { Steps self.old result
+            (option_and_then (λ o. parted_at self.old o self.old.place) self.old.operation)
+            self.new }
     {
         let Some(operation) = self.operation else {
             return Err(Refusal::Unexpected);

@@ -17,22 +17,32 @@ pub fn one_meaning()
 
 /// Where reading stops before the end, no statements begin with the text up to the byte there, that byte with it.
 pub fn nothing_goes_on()
-    ensures { (text : List ℕ) (pairs others : List (ℕ × Message)) (place : ℕ) (more : List ℕ) → place < length text → Stops text pairs place → Means (take (place + 1) text ++ more) others → ⊥ }
+    ensures { (text : List ℕ) (pairs others : List (ℕ × Message)) (place : ℕ) (more : List ℕ)
+        → place < length text
+        → Stops text pairs place
+        → Means (take (place + 1) text ++ more) others
+        → ⊥ }
 {}
 
 /// A text that is read as a whole is a text of statements; one in which reading stops begins one up to that place, and
 /// not with the byte there.
 pub fn begins_up_to_the_place()
-    ensures { (text : List ℕ) (pairs : List (ℕ × Message)) (place : Option ℕ) → Reads text pairs place → BeginsUpTo text place }
+    ensures { (text : List ℕ) (pairs : List (ℕ × Message)) (place : Option ℕ) → Reads text pairs place
+        → BeginsUpTo text place }
 {}
 
 /// However a text goes on behind the place where reading stops, the requests of the statements that were whole there
 /// are its first ones.
 pub fn whole_statements_stay()
-    ensures { (text more : List ℕ) (pairs others : List (ℕ × Message)) (place : ℕ) → Stops text pairs place → Means (take place text ++ more) others → StandFirst pairs others }
+    ensures { (text more : List ℕ) (pairs others : List (ℕ × Message)) (place : ℕ)
+        → Stops text pairs place
+        → Means (take place text ++ more) others
+        → StandFirst pairs others }
 {}
 
 /// A text in which reading stops has no meaning.
 pub fn no_meaning()
-    ensures { (text : List ℕ) (pairs others : List (ℕ × Message)) (place : ℕ) → Stops text pairs place → Means text others → ⊥ }
+    ensures { (text : List ℕ) (pairs others : List (ℕ × Message)) (place : ℕ) → Stops text pairs place
+        → Means text others
+        → ⊥ }
 {}

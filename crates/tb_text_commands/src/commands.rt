@@ -23,7 +23,8 @@ fn perform<R: Source, W: Sink, E: Sink>(
     writer: &mut W,
     faults: &mut E,
 ) -> Result<(), Fault>
-    ensures ended { Ended result (R.input reader.old) (R.input reader.new) (W.output writer.old) (W.output writer.new) }
+    ensures ended { Ended result (R.input reader.old) (R.input reader.new) (W.output writer.old)
+        (W.output writer.new) }
     ensures quiet { IfOk result (λ _. faults.new ≡ faults.old) }
     ensures silent { talks ≡ false → faults.new ≡ faults.old }
 {
@@ -67,8 +68,11 @@ pub fn command<R: Source, W: Sink, E: Sink>(
 ) -> u8
     ensures status { result < 3 }
     ensures quiet { result ≡ 0 → faults.new ≡ faults.old }
-    ensures usage { order_of (map string_bytes words.now) ≡ None → (result ≡ 2) × (reader.new ≡ reader.old) × (writer.new ≡ writer.old) }
-    ensures ended { (order : Order) → order_of (map string_bytes words.now) ≡ Some order → Exits talks result (R.input reader.old) (R.input reader.new) (W.output writer.old) (W.output writer.new) (E.output faults.old) (E.output faults.new) }
+    ensures usage { order_of (map string_bytes words.now) ≡ None
+        → (result ≡ 2) × (reader.new ≡ reader.old) × (writer.new ≡ writer.old) }
+    ensures ended { (order : Order) → order_of (map string_bytes words.now) ≡ Some order
+        → Exits talks result (R.input reader.old) (R.input reader.new) (W.output writer.old)
+        (W.output writer.new) (E.output faults.old) (E.output faults.new) }
 {
     let Some(order) = read_order(words) else {
         usage_fault(alloc, words).tell(faults);

@@ -219,7 +219,9 @@ pub fn completed<S: Standings>(
     standings: &S,
     text: &[u8],
 ) -> Result<Vec<u8>, AllocError>
-    ensures { IfOk result (λ whole. whole.items ≡ completed (S.last standings.now) (S.standing standings.now) text.now) }
+    ensures { IfOk result
+        (λ whole.
+        whole.items ≡ completed (S.last standings.now) (S.standing standings.now) text.now) }
 {
     let mut whole = Vec::new(alloc);
     put_left_out(alloc, &mut whole, LeftOut::in_statement(standings, text))?;

@@ -83,7 +83,8 @@ fn behind_word(bytes: &[u8]) -> &[u8]
 
 /// What stands behind a `=`.
 fn behind_equals(bytes: &[u8]) -> Option<&[u8]>
-    ensures { MatchOption result (behind_equals bytes.now ≡ None) (λ rest. behind_equals bytes.now ≡ Some rest.now) }
+    ensures { MatchOption result (behind_equals bytes.now ≡ None)
+        (λ rest. behind_equals bytes.now ≡ Some rest.now) }
 {
     match bytes {
         [b'=', rest @ ..] => Some(past_gap(rest)),
@@ -182,7 +183,8 @@ impl Given {
 
 /// The field that the bytes begin with, among those before it, and what stands behind it.
 fn field_read(given: Given, bytes: &[u8]) -> Option<(Given, &[u8])>
-    ensures { MatchOption result (field_read given bytes.now ≡ None) (λ found. field_read given bytes.now ≡ Some (found.0, found.1.now)) }
+    ensures { MatchOption result (field_read given bytes.now ≡ None)
+        (λ found. field_read given bytes.now ≡ Some (found.0, found.1.now)) }
 {
     let field = field_named(first_word(bytes))?;
     let value = behind_equals(behind_word(bytes))?;

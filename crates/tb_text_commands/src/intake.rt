@@ -106,7 +106,8 @@ impl Intake {
         reader: &mut R,
         writer: &mut W,
     ) -> Result<bool, Fault>
-        ensures { Ended result (R.input reader.old) (R.input reader.new) (W.output writer.old) (W.output writer.new) }
+        ensures { Ended result (R.input reader.old) (R.input reader.new) (W.output writer.old)
+            (W.output writer.new) }
     {
         if self.ended {
             return Ok(false);

@@ -118,7 +118,8 @@ fn serve_next<R: Source, W: Sink>(
     writer: &mut W,
     talks: bool,
 ) -> Result<bool, Fault>
-    ensures { Ended result (R.input reader.old) (R.input reader.new) (W.output writer.old) (W.output writer.new) }
+    ensures { Ended result (R.input reader.old) (R.input reader.new) (W.output writer.old)
+        (W.output writer.new) }
 {
     let Some(pairs) = next_statement(alloc, intake, server, reader, writer, talks)? else {
         return Ok(false)
@@ -143,7 +144,8 @@ fn converse<R: Source, W: Sink, E: Sink>(
     writer: &mut W,
     faults: &mut E,
 ) -> Result<(), Fault>
-    ensures ended { Ended result (R.input reader.old) (R.input reader.new) (W.output writer.old) (W.output writer.new) }
+    ensures ended { Ended result (R.input reader.old) (R.input reader.new) (W.output writer.old)
+        (W.output writer.new) }
     ensures quiet { IfOk result (λ _. faults.new ≡ faults.old) }
     ensures silent { talks ≡ false → faults.new ≡ faults.old }
 {
@@ -174,7 +176,8 @@ pub fn run<R: Source, W: Sink, E: Sink>(
     writer: &mut W,
     faults: &mut E,
 ) -> Result<(), Fault>
-    ensures ended { Ended result (R.input reader.old) (R.input reader.new) (W.output writer.old) (W.output writer.new) }
+    ensures ended { Ended result (R.input reader.old) (R.input reader.new) (W.output writer.old)
+        (W.output writer.new) }
     ensures quiet { IfOk result (λ _. faults.new ≡ faults.old) }
     ensures silent { talks ≡ false → faults.new ≡ faults.old }
 {

@@ -63,7 +63,8 @@ pub fn script<R: Source, W: Sink>(
     reader: &mut R,
     writer: &mut W,
 ) -> Result<(), Fault>
-    ensures { Ended result (R.input reader.old) (R.input reader.new) (W.output writer.old) (W.output writer.new) }
+    ensures { Ended result (R.input reader.old) (R.input reader.new) (W.output writer.old)
+        (W.output writer.new) }
 {
     let mut intake = Intake::new(alloc);
     let mut told = Told::new(alloc);
@@ -88,7 +89,8 @@ pub fn requests<R: Source, W: Sink>(
     reader: &mut R,
     writer: &mut W,
 ) -> Result<(), Fault>
-    ensures { Ended result (R.input reader.old) (R.input reader.new) (W.output writer.old) (W.output writer.new) }
+    ensures { Ended result (R.input reader.old) (R.input reader.new) (W.output writer.old)
+        (W.output writer.new) }
 {
     for _ in 0..u64::MAX {
         if !holds_pair(reader.at_hand()) {
@@ -115,7 +117,8 @@ fn next_reply<R: Source, W: Sink>(
     reader: &mut R,
     writer: &mut W,
 ) -> Result<Option<Reply>, Fault>
-    ensures { Ended result (R.input reader.old) (R.input reader.new) (W.output writer.old) (W.output writer.new) }
+    ensures { Ended result (R.input reader.old) (R.input reader.new) (W.output writer.old)
+        (W.output writer.new) }
 {
     for _ in 0..u64::MAX {
         match read_reply(alloc, intake.rest()) {
@@ -144,7 +147,8 @@ pub fn replies<R: Source, W: Sink>(
     reader: &mut R,
     writer: &mut W,
 ) -> Result<(), Fault>
-    ensures { Ended result (R.input reader.old) (R.input reader.new) (W.output writer.old) (W.output writer.new) }
+    ensures { Ended result (R.input reader.old) (R.input reader.new) (W.output writer.old)
+        (W.output writer.new) }
 {
     let mut intake = Intake::new(alloc);
     for _ in 0..u64::MAX {
@@ -167,7 +171,8 @@ pub fn next_item<R: Source, W: Sink>(
     reader: &mut R,
     writer: &mut W,
 ) -> Result<Option<DumpItem>, Fault>
-    ensures { Ended result (R.input reader.old) (R.input reader.new) (W.output writer.old) (W.output writer.new) }
+    ensures { Ended result (R.input reader.old) (R.input reader.new) (W.output writer.old)
+        (W.output writer.new) }
 {
     if !holds_item(reader.at_hand()) {
         writer.pass_on();
@@ -180,7 +185,8 @@ pub fn next_item<R: Source, W: Sink>(
 
 /// Writes a line for the head, each entry and the mark of a dump.
 pub fn dump<R: Source, W: Sink>(alloc: Global, reader: &mut R, writer: &mut W) -> Result<(), Fault>
-    ensures { Ended result (R.input reader.old) (R.input reader.new) (W.output writer.old) (W.output writer.new) }
+    ensures { Ended result (R.input reader.old) (R.input reader.new) (W.output writer.old)
+        (W.output writer.new) }
 {
     let head = match read_head_from(reader) {
         Ok(head) => head,
@@ -198,7 +204,8 @@ pub fn dump<R: Source, W: Sink>(alloc: Global, reader: &mut R, writer: &mut W) -
 
 /// Writes the pairs of a dump's entries: each request at its entry's time.
 pub fn pairs<R: Source, W: Sink>(alloc: Global, reader: &mut R, writer: &mut W) -> Result<(), Fault>
-    ensures { Ended result (R.input reader.old) (R.input reader.new) (W.output writer.old) (W.output writer.new) }
+    ensures { Ended result (R.input reader.old) (R.input reader.new) (W.output writer.old)
+        (W.output writer.new) }
 {
     if let Err(fault) = read_head_from(reader) {
         return Err(dump_fault(fault));

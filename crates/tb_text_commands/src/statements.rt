@@ -77,7 +77,8 @@ pub fn next_statement<R: Source, W: Sink, S: Standings>(
     writer: &mut W,
     urgent: bool,
 ) -> Result<Option<Items<(u64, Request)>>, Fault>
-    ensures { Ended result (R.input reader.old) (R.input reader.new) (W.output writer.old) (W.output writer.new) }
+    ensures { Ended result (R.input reader.old) (R.input reader.new) (W.output writer.old)
+        (W.output writer.new) }
 {
     for _ in 0..u64::MAX {
         if let Some(length) = intake.statement() {

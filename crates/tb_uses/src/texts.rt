@@ -12,7 +12,10 @@ pub fn requests_of(
     alloc: Global,
     text: &[u8],
 ) -> Result<Result<Items<(u64, Request)>, TextFault>, AllocError>
-    ensures { IfOk result (λ read. MatchResult read (λ pairs. Means text.now pairs) (λ fault. (whole : List (ℕ × Message)) × Stops text.now whole fault.place)) }
+    ensures { IfOk result
+        (λ read.
+        MatchResult read (λ pairs. Means text.now pairs)
+        (λ fault. (whole : List (ℕ × Message)) × Stops text.now whole fault.place)) }
 {
     let reading = read_text(alloc, text)?;
     match reading.fault {

@@ -47,15 +47,22 @@ pub(crate) fn run_block<E: Event, A: Allocator + Clone, R: Allocator>(
     requires stamped { rows.old.time < time + 1000000000 }
     requires index_fits { index + length block.now < 2 ^ 32 }
     requires time_fits { time + length block.now < 2 ^ 64 }
-    ensures books { books_in rows.new ≡ (block_after E.kind (books_in rows.old) (timed_from time block.now)).books }
-    ensures results { results.new.items ≡ results.old.items ++ results_from index (block_after E.kind (books_in rows.old) (timed_from time block.now)).codes }
+    ensures books { books_in rows.new
+        ≡ (block_after E.kind (books_in rows.old) (timed_from time block.now)).books }
+    ensures results { results.new.items
+        ≡ results.old.items
+        ++ results_from index
+        (block_after E.kind (books_in rows.old) (timed_from time block.now)).codes }
     ensures results_len { vec_len results.new ≤ vec_len results.old + length block.now }
     ensures results_capacity { vec_capacity results.new ≡ vec_capacity results.old }
     ensures kept { IsKept rows.new }
     ensures time { rows.new.time ≡ rows.old.time }
-    ensures room { E.room rows.old.accounts.spare rows.old.transfers.spare ≤ E.room rows.new.accounts.spare rows.new.transfers.spare + length block.now }
-    ensures timeouts_room { (n : ℕ) → E.HasTimeoutRoom (length block.now + n) rows.old.timeouts.spare → E.HasTimeoutRoom n rows.new.timeouts.spare }
-    ensures ids { (n : ℕ) → E.HasIdRoom (length block.now + n) rows.old.keeps_failed rows.old.failed.spare → E.HasIdRoom n rows.new.keeps_failed rows.new.failed.spare }
+    ensures room { E.room rows.old.accounts.spare rows.old.transfers.spare
+        ≤ E.room rows.new.accounts.spare rows.new.transfers.spare + length block.now }
+    ensures timeouts_room { (n : ℕ) → E.HasTimeoutRoom (length block.now + n) rows.old.timeouts.spare
+        → E.HasTimeoutRoom n rows.new.timeouts.spare }
+    ensures ids { (n : ℕ) → E.HasIdRoom (length block.now + n) rows.old.keeps_failed rows.old.failed.spare
+        → E.HasIdRoom n rows.new.keeps_failed rows.new.failed.spare }
     ensures empty { trail.new.items ≡ [] }
     ensures capacity { vec_capacity trail.new ≡ vec_capacity trail.old }
 {
@@ -89,13 +96,19 @@ fn take_in_chain<E: Event, A: Allocator + Clone>(
     requires timeouts_room { E.HasTimeoutRoom 1 rows.old.timeouts.spare }
     requires stamped { rows.old.time < time + 1000000000 }
     requires trail_room { vec_len trail.old + TRAIL_PER_EVENT ≤ vec_capacity trail.old }
-    ensures code { result ≡ (if last && E.kind.linked event.now then 2 else E.kind.verdict (books_in rows.old) event.now time) }
+    ensures code { result
+        ≡ (if last && E.kind.linked event.now then
+        2
+        else
+        E.kind.verdict (books_in rows.old) event.now time) }
     ensures done { result ≡ 0 → books_in rows.new ≡ E.kind.recorded (books_in rows.old) event.now time }
     ensures fresh { result ≢ 0 → E.IsNew (books_in rows.old).failed event.now result }
     ensures kept { IsKept rows.new }
     ensures step { IsStep TRAIL_PER_EVENT rows.old rows.new trail.old trail.new }
-    ensures room { E.room rows.old.accounts.spare rows.old.transfers.spare ≤ E.room rows.new.accounts.spare rows.new.transfers.spare + 1 }
-    ensures timeouts_room { (n : ℕ) → E.HasTimeoutRoom (1 + n) rows.old.timeouts.spare → E.HasTimeoutRoom n rows.new.timeouts.spare }
+    ensures room { E.room rows.old.accounts.spare rows.old.transfers.spare
+        ≤ E.room rows.new.accounts.spare rows.new.transfers.spare + 1 }
+    ensures timeouts_room { (n : ℕ) → E.HasTimeoutRoom (1 + n) rows.old.timeouts.spare
+        → E.HasTimeoutRoom n rows.new.timeouts.spare }
 {
     if last && event.linked() {
         LINKED_EVENT_CHAIN_OPEN

@@ -54,8 +54,10 @@ pub trait Event: Copy {
         ensures fresh { result ≢ 0 → IsNew (books_in rows.old).failed self.now result }
         ensures kept { IsKept rows.new }
         ensures step { IsStep TRAIL_PER_EVENT rows.old rows.new trail.old trail.new }
-        ensures room { room rows.old.accounts.spare rows.old.transfers.spare ≤ room rows.new.accounts.spare rows.new.transfers.spare + 1 }
-        ensures timeouts_room { (n : ℕ) → HasTimeoutRoom (1 + n) rows.old.timeouts.spare → HasTimeoutRoom n rows.new.timeouts.spare };
+        ensures room { room rows.old.accounts.spare rows.old.transfers.spare
+            ≤ room rows.new.accounts.spare rows.new.transfers.spare + 1 }
+        ensures timeouts_room { (n : ℕ) → HasTimeoutRoom (1 + n) rows.old.timeouts.spare
+            → HasTimeoutRoom n rows.new.timeouts.spare };
 
     /// Notes what the event's refusal leaves behind.
     fn refuse<A: Allocator + Clone>(&self, rows: &mut Rows<A>, code: u32)
@@ -67,7 +69,8 @@ pub trait Event: Copy {
         ensures accounts { rows.new.accounts ≡ rows.old.accounts }
         ensures transfers { rows.new.transfers ≡ rows.old.transfers }
         ensures timeouts { rows.new.timeouts ≡ rows.old.timeouts }
-        ensures ids { (n : ℕ) → HasIdRoom (1 + n) rows.old.keeps_failed rows.old.failed.spare → HasIdRoom n rows.new.keeps_failed rows.new.failed.spare }
+        ensures ids { (n : ℕ) → HasIdRoom (1 + n) rows.old.keeps_failed rows.old.failed.spare
+            → HasIdRoom n rows.new.keeps_failed rows.new.failed.spare }
         ensures time { rows.new.time ≡ rows.old.time };
 
     ghost more_room: { (a b c d : ℕ) → a ≤ c → b ≤ d → room a b ≤ room c d };
@@ -146,7 +149,8 @@ impl Event for Transfer {
 
     ghost HasIdRoom = { λ n keeps spare. keeps ≡ true → n ≤ spare };
 
-    ghost IsNew = { λ failed t code. is_final code ≡ true → option_map_or (list_any (λ id. id == t.id)) failed false ≡ false };
+    ghost IsNew = { λ failed t code.
+        is_final code ≡ true → option_map_or (list_any (λ id. id == t.id)) failed false ≡ false };
 
     fn linked(&self) -> bool {
         self.is_linked()

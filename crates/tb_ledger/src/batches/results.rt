@@ -23,7 +23,12 @@ pub(crate) fn break_off<E: Event, A: Allocator>(
     requires fits { index + length block.now < 2 ^ 32 }
     requires within { place < length block.now }
     requires refused { code ≢ 0 }
-    ensures items { results.new.items ≡ results.old.items ++ results_from index (replicate place 1 ++ code ∷ undone E.kind (timed_from 0 (drop (place + 1) block.now))) }
+    ensures items { results.new.items
+        ≡ results.old.items
+        ++ results_from index
+        (replicate place 1
+        ++ code
+        ∷ undone E.kind (timed_from 0 (drop (place + 1) block.now))) }
     ensures len { vec_len results.new ≡ vec_len results.old + length block.now }
     ensures capacity { vec_capacity results.new ≡ vec_capacity results.old }
 {
@@ -55,7 +60,8 @@ fn push_failed<A: Allocator>(results: &mut Vec<EventResult, A>, index: u32, n: u
 fn push_undone<E: Event, A: Allocator>(results: &mut Vec<EventResult, A>, rest: &[E], index: u32)
     requires room { vec_len results.old + length rest.now ≤ vec_capacity results.old }
     requires fits { index + length rest.now < 2 ^ 32 }
-    ensures items { results.new.items ≡ results.old.items ++ results_from index (undone E.kind (timed_from 0 rest.now)) }
+    ensures items { results.new.items
+        ≡ results.old.items ++ results_from index (undone E.kind (timed_from 0 rest.now)) }
     ensures len { vec_len results.new ≡ vec_len results.old + length rest.now }
     ensures capacity { vec_capacity results.new ≡ vec_capacity results.old }
 {

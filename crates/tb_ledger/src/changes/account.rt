@@ -46,9 +46,13 @@ fn record_account<A: Allocator + Clone>(rows: &mut Rows<A>, trail: &mut Vec<Undo
     requires room { 0 < rows.old.accounts.spare }
     requires trail_room { vec_len trail.old + TRAIL_PER_EVENT ≤ vec_capacity trail.old }
     requires fresh { account_at (books_in rows.old) a.now.id ≡ None }
-    requires sound { Sound (record (books_in rows.old) { accounts = put account_key a.now (books_in rows.old).accounts }) }
+    requires sound { Sound
+        (record (books_in rows.old)
+        { accounts = put account_key a.now (books_in rows.old).accounts }) }
     ensures kept { IsKept rows.new }
-    ensures books { books_in rows.new ≡ record (books_in rows.old) { accounts = put account_key a.now (books_in rows.old).accounts } }
+    ensures books { books_in rows.new
+        ≡ record (books_in rows.old)
+        { accounts = put account_key a.now (books_in rows.old).accounts } }
     ensures step { IsStep TRAIL_PER_EVENT rows.old rows.new trail.old trail.new }
     ensures accounts_room { rows.new.accounts.spare + 1 ≡ rows.old.accounts.spare }
     ensures transfers_room { rows.new.transfers.spare ≡ rows.old.transfers.spare }
@@ -66,7 +70,11 @@ fn add_account_row<A: Allocator + Clone>(
     requires room { 0 < accounts.old.spare }
     requires trail_room { vec_len trail.old < vec_capacity trail.old }
     requires fresh { find (λ row. row.created.id == a.now.id) accounts.old.items ≡ None }
-    ensures accounts { accounts.new ≡ record { items = put account_row_key (new_row a.now) accounts.old.items; spare = accounts.old.spare - 1 } }
+    ensures accounts { accounts.new
+        ≡ record {
+          items = put account_row_key (new_row a.now) accounts.old.items;
+          spare = accounts.old.spare - 1;
+        } }
     ensures noted { IsNoted 1 accounts.old.items accounts.new.items trail.old trail.new }
 {
     let empty = Side {

@@ -56,7 +56,9 @@ fn mark_expired<A: Allocator + Clone>(
 ) -> TransferRow
     requires { IsTimeout transfers.old.items due }
     ensures found { find (λ t. t.recorded.id == due.id) transfers.old.items ≡ Some result }
-    ensures transfers { transfers.new ≡ record transfers.old { items = replaced transfer_row_key (settled Expired result) transfers.old.items } }
+    ensures transfers { transfers.new
+        ≡ record transfers.old
+        { items = replaced transfer_row_key (settled Expired result) transfers.old.items } }
     ensures rising { Rising transfer_row_key transfers.old.items }
 {
     transfers.ordered();
@@ -78,7 +80,8 @@ fn release_due<A: Allocator + Clone>(rows: &mut Rows<A>, time: u64)
     ensures kept { AreKept rows.new.accounts.items rows.new.transfers.items time }
     ensures index { IsIndex rows.new.transfers.items rows.new.timeouts.items }
     ensures accounts { map (λ a. a.created) rows.new.accounts.items ≡ map (λ a. a.created) rows.old.accounts.items }
-    ensures transfers { map (λ t. t.recorded) rows.new.transfers.items ≡ map (λ t. t.recorded) rows.old.transfers.items }
+    ensures transfers { map (λ t. t.recorded) rows.new.transfers.items
+        ≡ map (λ t. t.recorded) rows.old.transfers.items }
     ensures accounts_room { rows.new.accounts.spare ≡ rows.old.accounts.spare }
     ensures transfers_room { rows.new.transfers.spare ≡ rows.old.transfers.spare }
     ensures timeouts_room { rows.old.timeouts.spare ≤ rows.new.timeouts.spare }

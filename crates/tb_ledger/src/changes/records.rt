@@ -35,10 +35,15 @@ pub(crate) fn add_row<A: Allocator + Clone>(
     requires trail_room { vec_len trail.old < vec_capacity trail.old }
     requires fresh { find (λ t. t.recorded.id == row.now.recorded.id) transfers.old.items ≡ None }
     requires can_list { times_out row.now ≡ true → CanList row.now timeouts.old }
-    ensures transfers { transfers.new ≡ record { items = put transfer_row_key row.now transfers.old.items; spare = transfers.old.spare - 1 } }
+    ensures transfers { transfers.new
+        ≡ record {
+          items = put transfer_row_key row.now transfers.old.items;
+          spare = transfers.old.spare - 1;
+        } }
     ensures timeouts { timeouts.new ≡ listed row.now timeouts.old }
     ensures rising { Rising transfer_row_key transfers.old.items }
-    ensures marked { IsMarked 1 transfers.old.items transfers.new.items timeouts.old timeouts.new trail.old trail.new }
+    ensures marked { IsMarked 1 transfers.old.items transfers.new.items timeouts.old timeouts.new trail.old
+        trail.new }
 {
     trail.push_reserved(Undo::AddedTransfer(*row));
     transfers.insert_reserved(*row);

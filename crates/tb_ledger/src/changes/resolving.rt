@@ -74,7 +74,10 @@ fn settle<A: Allocator + Clone>(
     requires resolves { FoundPending (books_in rows.old) r.now }
     ensures code { result ≡ closed_code (books_in rows.old) r.now p.now.recorded }
     ensures kept { IsKept rows.new }
-    ensures books { result ≡ 0 → books_in rows.new ≡ record (books_in rows.old) { transfers = put transfer_key r.now (books_in rows.old).transfers } }
+    ensures books { result ≡ 0
+        → books_in rows.new
+        ≡ record (books_in rows.old)
+        { transfers = put transfer_key r.now (books_in rows.old).transfers } }
     ensures step { IsStep TRAIL_PER_EVENT rows.old rows.new trail.old trail.new }
     ensures transfers_room { rows.old.transfers.spare ≤ rows.new.transfers.spare + 1 }
     ensures timeouts_room { rows.old.timeouts.spare ≤ rows.new.timeouts.spare + 1 }
@@ -109,8 +112,10 @@ fn settle_accounts<A: Allocator + Clone>(
     requires apart { r.now.debit_account_id ≢ r.now.credit_account_id }
     requires debit { IsSome (row_at accounts.old.items r.now.debit_account_id) }
     requires credit { IsSome (row_at accounts.old.items r.now.credit_account_id) }
-    requires can_debit { (a : AccountRow) → row_at accounts.old.items r.now.debit_account_id ≡ Some a → CanSettle p.now r.now a.debits }
-    requires can_credit { (a : AccountRow) → row_at accounts.old.items r.now.credit_account_id ≡ Some a → CanSettle p.now r.now a.credits }
+    requires can_debit { (a : AccountRow) → row_at accounts.old.items r.now.debit_account_id ≡ Some a
+        → CanSettle p.now r.now a.debits }
+    requires can_credit { (a : AccountRow) → row_at accounts.old.items r.now.credit_account_id ≡ Some a
+        → CanSettle p.now r.now a.credits }
     ensures settled { SettlesIn p.now r.now accounts.old.items result accounts.new.items }
     ensures room { accounts.new.spare ≡ accounts.old.spare }
 {
@@ -182,11 +187,14 @@ fn close_row<A: Allocator + Clone>(
     requires trail_room { vec_len trail.old < vec_capacity trail.old }
     requires found { find (λ row. row.recorded.id == p.now.recorded.id) transfers.old.items ≡ Some p.now }
     requires is_listed { times_out p.now ≡ true → IsListed timeouts.old.items p.now }
-    ensures transfers { transfers.new ≡ record transfers.old { items = replaced transfer_row_key (settled state p.now) transfers.old.items } }
+    ensures transfers { transfers.new
+        ≡ record transfers.old
+        { items = replaced transfer_row_key (settled state p.now) transfers.old.items } }
     ensures timeouts { timeouts.new ≡ unlisted p.now timeouts.old }
     ensures rising { Rising transfer_row_key transfers.old.items }
     ensures ordered { AreTimeouts timeouts.old.items }
-    ensures marked { IsMarked 1 transfers.old.items transfers.new.items timeouts.old timeouts.new trail.old trail.new }
+    ensures marked { IsMarked 1 transfers.old.items transfers.new.items timeouts.old timeouts.new trail.old
+        trail.new }
 {
     transfers.ordered();
     trail.push_reserved(Undo::Transfer(*p));

@@ -60,7 +60,8 @@ pub(crate) fn settle_side(
     closes: bool,
     closes_anew: bool,
 ) -> Side
-    ensures { CanSettle p.now r.now s → result ≡ gained (λ _. closes_anew) r.now (released (λ _. closes) p.now s) }
+    ensures { CanSettle p.now r.now s
+        → result ≡ gained (λ _. closes_anew) r.now (released (λ _. closes) p.now s) }
 {
     let left = release_side(s, p, closes);
     let held = pending_part(r);

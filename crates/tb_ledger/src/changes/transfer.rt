@@ -48,13 +48,16 @@ pub(crate) fn take_transfer<A: Allocator + Clone>(
 pub(crate) fn note_failed<A: Allocator + Clone>(rows: &mut Rows<A>, t: &Transfer, code: u32)
     requires kept { IsKept rows.old }
     requires ids { rows.old.keeps_failed ≡ true → 1 ≤ rows.old.failed.spare }
-    requires fresh { is_final code ≡ true → option_map_or (list_any (λ id. id == t.now.id)) (books_in rows.old).failed false ≡ false }
+    requires fresh { is_final code ≡ true
+        → option_map_or (list_any (λ id. id == t.now.id)) (books_in rows.old).failed false ≡ false }
     ensures books { books_in rows.new ≡ transfer_events.refused (books_in rows.old) t.now code }
     ensures kept { IsKept rows.new }
     ensures accounts { rows.new.accounts ≡ rows.old.accounts }
     ensures transfers { rows.new.transfers ≡ rows.old.transfers }
     ensures timeouts { rows.new.timeouts ≡ rows.old.timeouts }
-    ensures ids { (n : ℕ) → (rows.old.keeps_failed ≡ true → 1 + n ≤ rows.old.failed.spare) → rows.new.keeps_failed ≡ true → n ≤ rows.new.failed.spare }
+    ensures ids { (n : ℕ) → (rows.old.keeps_failed ≡ true → 1 + n ≤ rows.old.failed.spare)
+        → rows.new.keeps_failed ≡ true
+        → n ≤ rows.new.failed.spare }
     ensures time { rows.new.time ≡ rows.old.time }
 {
     if !rows.keeps_failed {

@@ -62,7 +62,8 @@ fn rows_of<'a, V: Keyed, A: Allocator + Clone>(
     ids: &[u128; 8],
 ) -> [Option<&'a V>; 8]
     requires { IsTable V.key (entries rows.now) }
-    ensures { map option_copied result ≡ map (λ id. find (λ row. V.key row == id) (values_of (entries rows.now))) ids.now }
+    ensures { map option_copied result
+        ≡ map (λ id. find (λ row. V.key row == id) (values_of (entries rows.now))) ids.now }
 {
     rows.get_many(ids)
 }
@@ -111,8 +112,13 @@ fn update_row<V: Keyed, A: Allocator + Clone, R, F: FnMut(&mut V) -> R>(
     requires callable { F.IsAlwaysCallable f.old }
     requires keeps { KeepsKey V.key F.FnMut }
     ensures table { IsTable V.key (entries rows.new) }
-    ensures changed { IfSome result (λ r. ChangedRow V.key F.FnMut id (values_of (entries rows.old)) f.old r f.new (values_of (entries rows.new))) }
-    ensures absent { IfNone result ((find (λ y. V.key y == id) (values_of (entries rows.old)) ≡ None) × (values_of (entries rows.new) ≡ values_of (entries rows.old))) }
+    ensures changed { IfSome result
+        (λ r.
+        ChangedRow V.key F.FnMut id (values_of (entries rows.old)) f.old r f.new
+        (values_of (entries rows.new))) }
+    ensures absent { IfNone result
+        ((find (λ y. V.key y == id) (values_of (entries rows.old)) ≡ None)
+        × (values_of (entries rows.new) ≡ values_of (entries rows.old))) }
     ensures room { rows.new.spare ≡ rows.old.spare }
 {
     rows.update(&id, f)
@@ -130,8 +136,14 @@ fn update_rows<V: Keyed, A: Allocator + Clone, R, F: FnMut(&mut V, &mut V) -> R>
     requires callable { F.IsAlwaysCallable f.old }
     requires keeps { KeepsKeys V.key F.FnMut }
     ensures table { IsTable V.key (entries rows.new) }
-    ensures changed { IfSome result (λ r. ChangedRows V.key F.FnMut a b (values_of (entries rows.old)) f.old r f.new (values_of (entries rows.new))) }
-    ensures absent { IfNone result (((find (λ y. V.key y == a) (values_of (entries rows.old)) ≡ None) ⊎ (find (λ y. V.key y == b) (values_of (entries rows.old)) ≡ None)) × (values_of (entries rows.new) ≡ values_of (entries rows.old))) }
+    ensures changed { IfSome result
+        (λ r.
+        ChangedRows V.key F.FnMut a b (values_of (entries rows.old)) f.old r f.new
+        (values_of (entries rows.new))) }
+    ensures absent { IfNone result
+        (((find (λ y. V.key y == a) (values_of (entries rows.old)) ≡ None)
+        ⊎ (find (λ y. V.key y == b) (values_of (entries rows.old)) ≡ None))
+        × (values_of (entries rows.new) ≡ values_of (entries rows.old))) }
     ensures room { rows.new.spare ≡ rows.old.spare }
 {
     rows.update_two(&a, &b, f)
@@ -180,7 +192,8 @@ impl<V: Keyed, A: Allocator + Clone> Table<V, A> {
 
     /// The rows with eight keys, each as [`Table::get`] gives it. The searches go on by turns.
     pub fn get_many<'a>(&'a self, ids: &[u128; 8]) -> [Option<&'a V>; 8]
-        ensures { map option_copied result ≡ map (λ id. find (λ row. V.key row == id) self.now.items) ids.now }
+        ensures { map option_copied result
+            ≡ map (λ id. find (λ row. V.key row == id) self.now.items) ids.now }
     {
         match &self.rows {
             Some(rows) => rows_of(rows, ids),
@@ -269,8 +282,11 @@ impl<V: Keyed, A: Allocator + Clone> Table<V, A> {
     pub fn update<R, F: FnMut(&mut V) -> R>(&mut self, id: u128, f: &mut F) -> Option<R>
         requires callable { F.IsAlwaysCallable f.old }
         requires keeps { KeepsKey V.key F.FnMut }
-        ensures changed { IfSome result (λ r. ChangedRow V.key F.FnMut id self.old.items f.old r f.new self.new.items) }
-        ensures absent { IfNone result ((find (λ y. V.key y == id) self.old.items ≡ None) × (self.new.items ≡ self.old.items)) }
+        ensures changed { IfSome result
+            (λ r. ChangedRow V.key F.FnMut id self.old.items f.old r f.new self.new.items) }
+        ensures absent { IfNone result
+            ((find (λ y. V.key y == id) self.old.items ≡ None)
+            × (self.new.items ≡ self.old.items)) }
         ensures room { self.new.spare ≡ self.old.spare }
     {
         match &mut self.rows {
@@ -289,8 +305,12 @@ impl<V: Keyed, A: Allocator + Clone> Table<V, A> {
         requires differ { a ≢ b }
         requires callable { F.IsAlwaysCallable f.old }
         requires keeps { KeepsKeys V.key F.FnMut }
-        ensures changed { IfSome result (λ r. ChangedRows V.key F.FnMut a b self.old.items f.old r f.new self.new.items) }
-        ensures absent { IfNone result (((find (λ y. V.key y == a) self.old.items ≡ None) ⊎ (find (λ y. V.key y == b) self.old.items ≡ None)) × (self.new.items ≡ self.old.items)) }
+        ensures changed { IfSome result
+            (λ r. ChangedRows V.key F.FnMut a b self.old.items f.old r f.new self.new.items) }
+        ensures absent { IfNone result
+            (((find (λ y. V.key y == a) self.old.items ≡ None)
+            ⊎ (find (λ y. V.key y == b) self.old.items ≡ None))
+            × (self.new.items ≡ self.old.items)) }
         ensures room { self.new.spare ≡ self.old.spare }
     {
         match &mut self.rows {

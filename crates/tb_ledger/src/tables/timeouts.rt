@@ -49,8 +49,12 @@ fn insert_key<A: Allocator + Clone>(keys: &mut AvlMap<(u64, u128), (), A>, timeo
 fn remove_key<A: Allocator + Clone>(keys: &mut AvlMap<(u64, u128), (), A>, timeout: Timeout)
     requires ordered { AreTimeouts (timeouts_of (entries keys.old)) }
     ensures ordered { AreTimeouts (timeouts_of (entries keys.new)) }
-    ensures timeouts { timeouts_of (entries keys.new) ≡ taken_out timeout_key (timeout_key timeout) (timeouts_of (entries keys.old)) }
-    ensures room { keys.new.spare ≡ keys.old.spare + freed (find (λ d. timeout_key d == timeout_key timeout) (timeouts_of (entries keys.old))) }
+    ensures timeouts { timeouts_of (entries keys.new)
+        ≡ taken_out timeout_key (timeout_key timeout) (timeouts_of (entries keys.old)) }
+    ensures room { keys.new.spare
+        ≡ keys.old.spare
+        + freed
+        (find (λ d. timeout_key d == timeout_key timeout) (timeouts_of (entries keys.old))) }
 {
     let _ = keys.remove(&(timeout.at, timeout.id));
 }
@@ -76,7 +80,8 @@ fn pop_first_due<A: Allocator + Clone>(
 ) -> Option<Timeout>
     requires { AreTimeouts (timeouts_of (entries keys.old)) }
     ensures ordered { AreTimeouts (timeouts_of (entries keys.new)) }
-    ensures taken { TakesDue time (record { items = timeouts_of (entries keys.old); spare = keys.old.spare }) result (record { items = timeouts_of (entries keys.new); spare = keys.new.spare }) }
+    ensures taken { TakesDue time (record { items = timeouts_of (entries keys.old); spare = keys.old.spare })
+        result (record { items = timeouts_of (entries keys.new); spare = keys.new.spare }) }
 {
     let due = first_due(keys, time)?;
     let _ = keys.pop_first();

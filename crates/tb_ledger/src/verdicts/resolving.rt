@@ -29,8 +29,14 @@ pub(crate) fn judge_resolving<'a, A: Allocator + Clone>(
     requires kept { IsKept rows.now }
     requires resolving { resolves t.now ≡ true }
     ensures refused { IfErr result (λ code. (resolve_code (books_in rows.now) t.now ≡ code) × (code ≢ 0)) }
-    ensures left { IfOk result (λ x. resolve_code (books_in rows.now) t.now ≡ closed_code (books_in rows.now) t.now x.pending.now.recorded) }
-    ensures pending { IfOk result (λ x. find (λ row. row.recorded.id == t.now.pending_id) rows.now.transfers.items ≡ Some x.pending.now) }
+    ensures left { IfOk result
+        (λ x.
+        resolve_code (books_in rows.now) t.now
+        ≡ closed_code (books_in rows.now) t.now x.pending.now.recorded) }
+    ensures pending { IfOk result
+        (λ x.
+        find (λ row. row.recorded.id == t.now.pending_id) rows.now.transfers.items
+        ≡ Some x.pending.now) }
     ensures record { IfOk result (λ x. x.record ≡ filled (books_in rows.now) t.now) }
     ensures found { IfOk result (λ x. FoundPending (books_in rows.now) x.record) }
 {

@@ -121,7 +121,11 @@ fn transfer_there(f: &Transfer, e: &Transfer) -> u32
 
 /// The amount differs; of a balancing transfer, which may have moved less than it asks, it is below the recorded one.
 fn other_amount(f: &Transfer, e: &Transfer) -> bool
-    ensures { result ≡ (if balancing f.now then nat_lt f.now.amount e.now.amount else is_not f.now.amount e.now.amount) }
+    ensures { result
+        ≡ (if balancing f.now then
+        nat_lt f.now.amount e.now.amount
+        else
+        is_not f.now.amount e.now.amount) }
 {
     if f.is_balancing() {
         f.amount < e.amount
