@@ -7,7 +7,6 @@ use std::alloc::Global;
 use std::fs::{File, Files, TryLockError};
 use std::io;
 use std::io::{ErrorKind, Read, Seek, SeekFrom};
-use std::os::fd::AsRawFd;
 use std::os::unix::fs::FileExt;
 
 /// Why a file was not opened.
@@ -50,24 +49,12 @@ impl Real {
     fn locked(file: File) -> Result<Real, FileFault> {
         match file.try_lock() {
             Ok(()) => {
-                settle(&file)?;
+                file.sync_all()?;
                 Ok(Real { file })
             }
             Err(TryLockError::WouldBlock) => Err(FileFault::Locked),
             Err(TryLockError::Error(error)) => Err(FileFault::System(error)),
         }
-    }
-}
-
-// Lets the system's copies of the file go: a sync that failed in an earlier process may have left them
-// other than the disk has them.
-fn settle(file: &File) -> io::Result<()> {
-    file.sync_all()?;
-    let answer = libc::posix_fadvise(file.as_raw_fd(), 0, 0, libc::POSIX_FADV_DONTNEED);
-    if answer == 0 {
-        Ok(())
-    } else {
-        Err(io::Error::from_raw_os_error(answer))
     }
 }
 
