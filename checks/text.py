@@ -200,6 +200,50 @@ for clients, profile in [("1", "1"), ("2", "1"), ("3", "2"), ("64", "2")]:
     different = [it for it in talks if run(TBT, ["run", clients, profile], it) != (0, piped(clients, profile, it), b"")]
     check(f"15 conversations of {clients} clients by profile {profile}", different, [])
 
+# what a statement leaves out
+
+ALONE = b"create_accounts id=1 ledger=700 code=10, id=2 ledger=700 code=10;\nlookup_accounts id=1;"
+WHOLE = b"client=1 register;\nclient=1 session=1 request=1 " + ALONE.replace(b"lookup", b"client=1 session=1 request=2 lookup")
+check("a statement alone", run(TBT, ["run", "2"], ALONE), run(TBT, ["run", "2"], WHOLE))
+check("as a script", run(TBT, ["run", "2"], ALONE)[1], piped("2", "1", WHOLE))
+for name, short, whole in [
+    ("the client named last", b"client=7 register; session=1 request=1 lookup_accounts; register;", b"client=7 register; client=7 session=1 request=1 lookup_accounts; client=7 register;"),
+    ("its session and its next number", b"client=7 session=3 request=5 lookup_accounts; lookup_accounts id=1;", b"client=7 session=3 request=5 lookup_accounts; client=7 session=3 request=6 lookup_accounts id=1;"),
+    ("of each client", b"client=7 session=3 request=5 lookup_accounts; client=8 session=4 lookup_accounts; client=0x7 lookup_accounts id=1;", b"client=7 session=3 request=5 lookup_accounts; client=8 session=4 request=1 lookup_accounts; client=7 session=3 request=6 lookup_accounts id=1;"),
+    ("a new session", b"client=7 session=3 request=5 lookup_accounts; at=9 session=4 lookup_accounts;", b"client=7 session=3 request=5 lookup_accounts; at=9 client=7 session=4 request=1 lookup_accounts;"),
+    ("a session that is left out beside client and request", b"client=7 session=3 request=5 lookup_accounts; client=7 request=6 lookup_accounts;", b"client=7 session=3 request=5 lookup_accounts; client=7 session=0 request=6 lookup_accounts;"),
+]:
+    check(f"script fills in {name}", (run(TBT, ["script"], short)[::2], run(TBT, ["script"], short)[1]), ((0, b""), run(TBT, ["script"], whole)[1]))
+for name, text, place in [
+    ("no client", b"lookup_accounts id=1;", b"line 1, column 1: a client comes first: write client=N before lookup_accounts\n  lookup_accounts id=1;\n"),
+    ("no session", b"client=7 register;\n lookup_accounts id=1;", b"line 2, column 2: "),
+    ("a wrong field behind what is filled in", b"client=7 session=3 request=5 lookup_accounts;\n lookup_accounts\n  id=1 code=2;", b"line 3, column 8: 'code' cannot stand here\n    id=1 code=2;\n"),
+]:
+    status, out, line = run(TBT, ["script"], text)
+    check(f"script: {name}", (status, line[: 5 + len(place)]), (2, b"tbt: " + place))
+
+
+def shortened(line):
+    """A statement without its client and its request's number."""
+    return re.sub(r" (client|request)=\d+", "", line) if " request=" in line else line
+
+
+def talk_of_one(seed):
+    """A conversation of one client, whose numbers count up."""
+    lines, number = ["at=1 client=9 register;"], 0
+    for line in random_talk(seed).decode().splitlines():
+        if " request=" in line:
+            number += 1
+            lines.append(re.sub(r"client=\d+ session=\d+ request=\d+", f"client=9 session=1 request={number}", line))
+    return lines
+
+
+for turn in range(5):
+    lines = talk_of_one(seed)
+    whole, short = ("\n".join(it).encode() for it in (lines, map(shortened, lines)))
+    check(f"a conversation with less {turn}", run(TBT, ["run", "2"], short), run(TBT, ["run", "2"], whole))
+    check(f"a script with less {turn}", run(TBT, ["script"], short), run(TBT, ["script"], whole))
+
 # each statement, reply and entry is written before more input is there
 
 
@@ -236,10 +280,8 @@ check("audit at once", ([it.count(b"\n") for it in told], rest, status), ([1] * 
 
 
 def end(master):
-    """Types the end: the first Ctrl-D ends what stands behind the last statement, if only a line end, the second the input."""
-    for _ in range(2):
-        os.write(master, b"\x04")
-        select.select([], [], [], 0.5)
+    """Types the end, one Ctrl-D at the beginning of a line."""
+    os.write(master, b"\x04")
 
 
 def typed(words, lines):
