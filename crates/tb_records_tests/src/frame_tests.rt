@@ -3,6 +3,7 @@ use crate::vectors::{CREATION, REGISTER, account, creation, first, lookup, recor
 use std::alloc::{AllocError, Global};
 use std::io;
 use std::io::{Error, ErrorKind, Read};
+use std::process::Abort;
 use tb_records::{
     Account, Body, Counting, FrameFault, Operation, Request, RequestStream, Source, Transfer,
     read_request, read_timed_from,
@@ -59,7 +60,9 @@ fn frame_of(request: &Request) -> u32 {
 /// Which of the three frames is read, and its length.
 fn read_frame(alloc: Global, bytes: &[u8]) -> Result<(u32, usize), FrameFault> {
     let (request, n) = read_request(alloc, bytes)?;
-    Ok((frame_of(&request), n))
+    let frame = frame_of(&request);
+    drop(request);
+    Ok((frame, n))
 }
 
 /// Which of the three frames comes next; None at the end.
@@ -68,7 +71,11 @@ fn next_frame<R: Source + Drop>(
     stream: &mut RequestStream<R>,
 ) -> Result<Option<u32>, FrameFault> {
     match stream.next_request(alloc)? {
-        Some(request) => Ok(Some(frame_of(&request))),
+        Some(request) => {
+            let frame = frame_of(&request);
+            drop(request);
+            Ok(Some(frame))
+        }
         None => Ok(None),
     }
 }
@@ -78,7 +85,11 @@ fn timed_frame(
     answer: Result<Option<(u64, Request)>, FrameFault>,
 ) -> Result<Option<(u64, u32)>, FrameFault> {
     match answer? {
-        Some((moment, request)) => Ok(Some((moment, frame_of(&request)))),
+        Some((moment, request)) => {
+            let frame = frame_of(&request);
+            drop(request);
+            Ok(Some((moment, frame)))
+        }
         None => Ok(None),
     }
 }
@@ -108,12 +119,17 @@ fn transfers_in_bytes(rt: HostRuntime) {
     assert!(rt; transfer.to_bytes() == counted());
 }
 
+/// One of the three frames is read, of this length.
+fn expect_frame(rt: &impl Abort, alloc: Global, bytes: &[u8], frame: u32, length: usize) {
+    assert_eq!(rt; read_frame(alloc, bytes), Ok((frame, length)));
+}
+
 #[test]
 fn frames_are_read(rt: HostRuntime) {
     let alloc = rt.alloc();
-    assert_eq!(rt; read_frame(alloc, &REGISTER), Ok((1, 48)));
-    assert_eq!(rt; read_frame(alloc, &creation(&CREATION)), Ok((2, 304)));
-    assert_eq!(rt; read_frame(alloc, &lookup()), Ok((3, 96)));
+    expect_frame(&rt, alloc, &REGISTER, 1, 48);
+    expect_frame(&rt, alloc, &creation(&CREATION), 2, 304);
+    expect_frame(&rt, alloc, &lookup(), 3, 96);
 }
 
 #[test]
@@ -170,7 +186,9 @@ fn many(alloc: Global, low: u8) -> Result<Vec<u8>, AllocError> {
 /// The number of items that are read, and the length of their frame.
 fn read_count(alloc: Global, bytes: &[u8]) -> Result<(usize, usize), FrameFault> {
     let (request, n) = read_request(alloc, bytes)?;
-    Ok((request.body().len(), n))
+    let count = request.body().len();
+    drop(request);
+    Ok((count, n))
 }
 
 #[test]

@@ -1,5 +1,8 @@
 //! The bits and codes of the reference and their names, each way.
 use crate::vectors::account;
+use std::alloc::Global;
+use std::fmt::Display;
+use std::process::Abort;
 use tb_records::{
     Account, AccountFlag, CreateAccountResult, CreateTransferResult, ITEMS_MAX, LAST_MOMENT,
     NANOSECONDS_PER_SECOND, Operation, Status, Transfer, TransferFlag,
@@ -188,21 +191,32 @@ fn transfer_flags_by_name(rt: HostRuntime) {
     assert!(rt; TransferFlag::from_name(b"").is_none());
 }
 
+/// What a transfer is: linked, pending, a post, a void, resolving, balancing and closing.
+fn kinds(transfer: Transfer) -> [bool; 7] {
+    [
+        transfer.is_linked(),
+        transfer.is_pending(),
+        transfer.is_post(),
+        transfer.is_void(),
+        transfer.is_resolving(),
+        transfer.is_balancing(),
+        transfer.is_closing(),
+    ]
+}
+
+/// The flags of which one is enough to be of a kind, in that order.
+const KINDS: [u16; 7] = [1, 2, 4, 8, 4 | 8, 16 | 32, 64 | 128];
+
+/// Each of the kinds is by its flags.
 #[test]
 fn kinds_of_transfers(rt: HostRuntime) {
-    assert!(rt; flagged(1).is_linked() && !flagged(510).is_linked());
-    assert!(rt; flagged(2).is_pending() && !flagged(509).is_pending());
-    assert!(rt; flagged(4).is_post() && !flagged(507).is_post());
-    assert!(rt; flagged(8).is_void() && !flagged(503).is_void());
-    assert!(rt;
-        flagged(4).is_resolving() && flagged(8).is_resolving() && !flagged(499).is_resolving()
-    );
-    assert!(rt;
-        flagged(16).is_balancing() && flagged(32).is_balancing() && !flagged(463).is_balancing()
-    );
-    assert!(rt;
-        flagged(64).is_closing() && flagged(128).is_closing() && !flagged(319).is_closing()
-    );
+    for flags in 0..512 {
+        let wanted = KINDS.iter().map(|kind| flags & *kind != 0);
+        assert!(rt;
+            kinds(flagged(flags)).iter().copied().eq(wanted),
+            "flags {flags}"
+        );
+    }
 }
 
 /// Says that the verdict has this code and name, and is found by each.
@@ -277,19 +291,28 @@ fn statuses_by_code_and_name(rt: HostRuntime) {
     assert!(rt; Status::from_name(b"").is_none());
 }
 
+/// Two names are shown by this line.
+fn expect_shown<A: Display + Drop, B: Display + Drop>(
+    rt: &impl Abort,
+    alloc: Global,
+    one: A,
+    other: B,
+    wanted: &str,
+) {
+    let line = format!(in alloc; "{one} {other}").expect(rt, "a line");
+    assert!(rt; line.as_str() == wanted);
+}
+
 #[test]
 fn names_are_shown(rt: HostRuntime) {
     let alloc = rt.alloc();
     let code = CreateTransferResult::DebitAccountNotFound;
-    let line = format!(in alloc; "{code} {}", TransferFlag::ClosingDebit).expect(&rt, "a line");
-    assert!(rt; line.as_str() == "debit_account_not_found closing_debit");
+    let line = "debit_account_not_found closing_debit";
+    expect_shown(&rt, alloc, code, TransferFlag::ClosingDebit, line);
     let code = CreateAccountResult::Exists;
-    let line = format!(in alloc; "{code} {}", AccountFlag::History).expect(&rt, "a line");
-    assert!(rt; line.as_str() == "exists history");
-    let line = format!(in alloc; "{} {}", Operation::Register, Status::NotYet).expect(
-        &rt, "a line",
-    );
-    assert!(rt; line.as_str() == "register NotYet");
+    expect_shown(&rt, alloc, code, AccountFlag::History, "exists history");
+    let code = Operation::Register;
+    expect_shown(&rt, alloc, code, Status::NotYet, "register NotYet");
 }
 
 #[test]

@@ -6,6 +6,7 @@ use crate::vectors::{
     record, transfer, two_behind, with,
 };
 use std::alloc::{AllocError, Global};
+use std::process::Abort;
 use tb_records::{
     Account, Body, Counting, CreateTransferResult, EventResult, FrameFault, ITEMS_MAX, Items,
     Operation, Reply, ReplyBody, Request, Status, Transfer, read_reply, send_reply, write_reply,
@@ -150,31 +151,36 @@ fn same(a: &Reply, b: &Reply) -> bool {
 /// Says that the reply is read from these bytes.
 fn is_read(alloc: Global, reply: &Reply, bytes: &[u8]) -> bool {
     match read_reply(alloc, bytes) {
-        Ok((read, n)) => n == bytes.len() && same(&read, reply),
+        Ok((read, n)) => {
+            let is_same = n == bytes.len() && same(&read, reply);
+            drop(read);
+            is_same
+        }
         Err(_) => false,
     }
 }
 
-/// Says that there is a reply, which is written and sent as these bytes and read from them.
-fn both_ways(alloc: Global, reply: Result<Reply, FrameFault>, bytes: &[u8]) -> bool {
-    match reply {
-        Ok(reply) => {
-            is_written(alloc, &reply, bytes)
-                && is_sent(alloc, &reply, bytes)
-                && is_read(alloc, &reply, bytes)
-        }
-        Err(_) => false,
-    }
+/// Says that the reply is written and sent as these bytes and read from them.
+fn is_both_ways(alloc: Global, reply: &Reply, bytes: &[u8]) -> bool {
+    is_written(alloc, reply, bytes) && is_sent(alloc, reply, bytes) && is_read(alloc, reply, bytes)
+}
+
+/// There is a reply, which is written and sent as these bytes and read from them.
+fn expect_both(rt: &impl Abort, alloc: Global, reply: Result<Reply, FrameFault>, bytes: &[u8]) {
+    let reply = reply.expect(rt, "a reply");
+    let both = is_both_ways(alloc, &reply, bytes);
+    drop(reply);
+    assert!(rt; both);
 }
 
 #[test]
 fn replies_both_ways(rt: HostRuntime) {
     let alloc = rt.alloc();
     let registered = answer(0, Operation::Register, 1, ReplyBody::Empty);
-    assert!(rt; both_ways(alloc, registered, &REGISTERED));
+    expect_both(&rt, alloc, registered, &REGISTERED);
     let created = results(alloc, 1, Operation::CreateAccounts, 2, &[]);
-    assert!(rt; both_ways(alloc, created, &CREATED));
-    assert!(rt; both_ways(alloc, found(alloc), &found_bytes()));
+    expect_both(&rt, alloc, created, &CREATED);
+    expect_both(&rt, alloc, found(alloc), &found_bytes());
 }
 
 /// An event of a batch and its result.
@@ -191,36 +197,48 @@ fn results_both_ways(rt: HostRuntime) {
         event(2, CreateTransferResult::LinkedEventFailed),
     ];
     let reply = results(rt.alloc(), 3, Operation::CreateTransfers, 4, &codes);
-    assert!(rt; both_ways(rt.alloc(), reply, &BROKEN_CHAIN));
+    expect_both(&rt, rt.alloc(), reply, &BROKEN_CHAIN);
 }
 
 #[test]
 fn transfers_both_ways(rt: HostRuntime) {
     let reply = transfers(rt.alloc(), 4, 5, &[transfer(9), transfer(8)]);
     let bytes = two_behind(&MOVED, &movement(9), &movement(8));
-    assert!(rt; both_ways(rt.alloc(), reply, &bytes));
+    expect_both(&rt, rt.alloc(), reply, &bytes);
 }
 
-/// Says that there is a request, which is appended to other bytes as these.
-fn is_appended(alloc: Global, request: Result<Request, FrameFault>, bytes: &[u8]) -> bool {
-    match (request, REGISTER.to_vec(alloc)) {
-        (Ok(request), Ok(mut out)) => {
-            write_request(&request, &mut out).is_ok()
-                && out.as_slice().starts_with(&REGISTER)
-                && out.as_slice().ends_with(bytes)
-                && out.len() == 48 + bytes.len()
-        }
-        _ => false,
-    }
+/// Says that the request is appended to other bytes as these.
+fn is_appended(alloc: Global, request: &Request, bytes: &[u8]) -> bool {
+    let Ok(mut out) = REGISTER.to_vec(alloc) else {
+        return false;
+    };
+    let written = write_request(request, &mut out).is_ok();
+    written
+        && out.as_slice().starts_with(&REGISTER)
+        && out.as_slice().ends_with(bytes)
+        && out.len() == 48 + bytes.len()
+}
+
+/// There is a request, which is appended to other bytes as these.
+fn expect_appended(
+    rt: &impl Abort,
+    alloc: Global,
+    request: Result<Request, FrameFault>,
+    bytes: &[u8],
+) {
+    let request = request.expect(rt, "a request");
+    let appended = is_appended(alloc, &request, bytes);
+    drop(request);
+    assert!(rt; appended);
 }
 
 #[test]
 fn requests_are_written(rt: HostRuntime) {
     let alloc = rt.alloc();
     let register = Request::new(7, 0, 0, Body::Register);
-    assert!(rt; is_appended(alloc, register, &REGISTER));
-    assert!(rt; is_appended(alloc, creating(alloc), &creation(&CREATION)));
-    assert!(rt; is_appended(alloc, looking_up(alloc), &lookup()));
+    expect_appended(&rt, alloc, register, &REGISTER);
+    expect_appended(&rt, alloc, creating(alloc), &creation(&CREATION));
+    expect_appended(&rt, alloc, looking_up(alloc), &lookup());
 }
 
 /// The fault of the bytes.
@@ -349,35 +367,47 @@ fn body_of_another_kind(rt: HostRuntime) {
 fn too_low(alloc: Global) -> Result<Reply, FrameFault> {
     let ids = items(alloc, &[9u128])?;
     let request = ask(5, Body::LookupTransfers(ids))?;
-    Ok(Reply::refusal(&request, Status::SessionTooLow))
+    let refusal = Reply::refusal(&request, Status::SessionTooLow);
+    drop(request);
+    Ok(refusal)
 }
 
 #[test]
 fn refusals_name_the_request(rt: HostRuntime) {
-    assert!(rt; both_ways(rt.alloc(), too_low(rt.alloc()), &TOO_LOW));
+    expect_both(&rt, rt.alloc(), too_low(rt.alloc()), &TOO_LOW);
 }
 
 /// A copy of the reply to the lookup.
 fn found_copy(alloc: Global) -> Result<Reply, FrameFault> {
-    Ok(found(alloc)?.copy(alloc)?)
+    let reply = found(alloc)?;
+    let copy = reply.copy(alloc);
+    drop(reply);
+    Ok(copy?)
 }
 
 /// A copy of the request that creates two accounts.
 fn creating_copy(alloc: Global) -> Result<Request, FrameFault> {
-    Ok(creating(alloc)?.copy(alloc)?)
+    let request = creating(alloc)?;
+    let copy = request.copy(alloc);
+    drop(request);
+    Ok(copy?)
 }
 
 #[test]
 fn copies_are_equal(rt: HostRuntime) {
     let alloc = rt.alloc();
-    assert!(rt; both_ways(alloc, found_copy(alloc), &found_bytes()));
-    assert!(rt; is_appended(alloc, creating_copy(alloc), &creation(&CREATION)));
+    expect_both(&rt, alloc, found_copy(alloc), &found_bytes());
+    expect_appended(&rt, alloc, creating_copy(alloc), &creation(&CREATION));
 }
 
 /// Says that a copy of the body is the same.
 fn copies(alloc: Global, body: &Body) -> bool {
     match body.copy(alloc) {
-        Ok(copy) => copy.same(body),
+        Ok(copy) => {
+            let same = copy.same(body);
+            drop(copy);
+            same
+        }
         Err(_) => false,
     }
 }
@@ -391,18 +421,25 @@ fn accounts_of(alloc: Global, one: u128, other: u128) -> Result<Body, FrameFault
 #[test]
 fn bodies_are_the_same(rt: HostRuntime) {
     let body = accounts_of(rt.alloc(), 1, 2).expect(&rt, "memory");
-    assert!(rt; copies(rt.alloc(), &body) && !body.same(&Body::Register));
     let other = accounts_of(rt.alloc(), 1, 3).expect(&rt, "memory");
-    assert!(rt; !body.same(&other));
+    let kept = copies(rt.alloc(), &body);
+    let mistaken = body.same(&Body::Register) || body.same(&other);
+    drop(other);
+    drop(body);
+    assert!(rt; kept && !mistaken);
 }
 
 #[test]
 fn bodies_of_other_operations(rt: HostRuntime) {
-    let ids = items(rt.alloc(), &[1u128]).expect(&rt, "memory");
-    let same_ids = items(rt.alloc(), &[1u128]).expect(&rt, "memory");
-    assert!(rt; !Body::LookupAccounts(ids).same(&Body::LookupTransfers(same_ids)));
-    let events = items(rt.alloc(), &[transfer(1)]).expect(&rt, "memory");
-    assert!(rt; copies(rt.alloc(), &Body::CreateTransfers(events)));
+    let accounts = Body::LookupAccounts(items(rt.alloc(), &[1u128]).expect(&rt, "memory"));
+    let transfers = Body::LookupTransfers(items(rt.alloc(), &[1u128]).expect(&rt, "memory"));
+    let events = Body::CreateTransfers(items(rt.alloc(), &[transfer(1)]).expect(&rt, "memory"));
+    let mistaken = accounts.same(&transfers);
+    let kept = copies(rt.alloc(), &events);
+    drop(accounts);
+    drop(transfers);
+    drop(events);
+    assert!(rt; kept && !mistaken);
 }
 
 /// The reply that lists so many results.
@@ -435,14 +472,20 @@ fn read_back(alloc: Global, reply: &Reply) -> Result<Reply, FrameFault>
 fn replies_come_back(rt: HostRuntime) {
     let reply = found(rt.alloc()).expect(&rt, "a reply");
     let read = read_back(rt.alloc(), &reply).expect(&rt, "memory");
-    assert!(rt; same(&read, &reply));
+    let is_same = same(&read, &reply);
+    drop(read);
+    drop(reply);
+    assert!(rt; is_same);
 }
 
 #[test]
 fn largest_reply(rt: HostRuntime) {
     let most = many(rt.alloc(), ITEMS_MAX).expect(&rt, "a reply");
     let bytes = frame_of(rt.alloc(), &most).expect(&rt, "memory");
-    assert!(rt; most.body().len() == ITEMS_MAX && bytes.len() == 65568);
-    assert!(rt; is_read(rt.alloc(), &most, bytes.as_slice()));
+    let sizes = (most.body().len(), bytes.len());
+    let read = is_read(rt.alloc(), &most, bytes.as_slice());
+    drop(bytes);
+    drop(most);
+    assert!(rt; read && sizes == (ITEMS_MAX, 65568));
     assert!(rt; many(rt.alloc(), ITEMS_MAX + 1).err() == Some(FrameFault::TooMany));
 }
