@@ -1,5 +1,5 @@
 -- What passes between two accounts, or is settled there, changes their rows as the books say.
-use Rattle.std.proofs.Common.{◌≡◌, ◌≢◌, ℕ, Bool, true, false, cond, eqb, ◌==◌, ◌+◌, List, [], ◌∷◌, ◌++◌, Vec, vec_len, vec_capacity, find, Some, Result, Ok, Err, option_map, refl, sym, subst, ap, ◌∙◌, arith}
+use Rattle.std.proofs.Common.{◌≡◌, ◌≢◌, ℕ, Bool, true, false, cond, eqb, ◌==◌, List, [], ◌∷◌, ◌++◌, find, Some, Result, Ok, Err, option_map, refl, sym, subst, ap, ◌∙◌}
 use Rattle.tb_records.specs.declared.records.Transfer.{Transfer}
 use Rattle.tb_records.specs.Ordered.{replaced, changed}
 use Rattle.tb_records.proofs.ByKey.{changed_found, replaced-changed}
@@ -18,6 +18,8 @@ use Rattle.tb_ledger.specs.declared.changes.resolving.Parties.{Parties}
 use Rattle.tb_ledger.specs.Settlings.{CanSettle, Settles, SettlesIn}
 use Rattle.tb_ledger.proofs.Settled.{both_written, found_still, refound}
 use Rattle.tb_ledger.specs.Tables.{Stored}
+use Rattle.tb_ledger.specs.Noted.{Noted, with_noted}
+use Rattle.tb_ledger.proofs.Trails.{grown_by_two}
 
 -- a row put in its own place changes nothing
 replaced_same : {X : Type 0} (key : X → ℕ) (x : X) (xs : List X) → find (λ y. key y == key x) xs ≡ Some x → replaced key x xs ≡ xs
@@ -88,24 +90,22 @@ can_two : (us : List Undo) (d c : AccountRow) (ts : Stored Timeout) → CanUnwin
 can_two [] d c ts can = (tt, (tt, tt))
 can_two (w ∷ us) d c ts can = (subst (CanUndo w) (sym (unwound_timeouts_two us d c ts)) can.0, can_two us d c ts can.1)
 
-pub noted_two : {A : Type 0} (d_id c_id : ℕ) (takes gives : AccountRow → AccountRow) (d c : AccountRow) (accounts later : List AccountRow) (trail grown : Vec Undo A) → ((y : AccountRow) → account_row_key (takes y) ≡ account_row_key y) → ((y : AccountRow) → account_row_key (gives y) ≡ account_row_key y)
-    → grown.items ≡ trail.items ++ Account d ∷ Account c ∷ [] → vec_len grown ≡ vec_len trail + 2 → vec_capacity grown ≡ vec_capacity trail
+pub noted_two : (d_id c_id : ℕ) (takes gives : AccountRow → AccountRow) (d c : AccountRow) (accounts later : List AccountRow) (trail mid grown : Noted) → ((y : AccountRow) → account_row_key (takes y) ≡ account_row_key y) → ((y : AccountRow) → account_row_key (gives y) ≡ account_row_key y)
+    → mid ≡ with_noted (Account d) trail → grown ≡ with_noted (Account c) mid
     → d_id ≢ c_id → row_at accounts d_id ≡ Some d → row_at accounts c_id ≡ Some c → later ≡ changed account_row_key c_id gives (changed account_row_key d_id takes accounts) → IsNoted 2 accounts later trail grown
-noted_two d_id c_id takes gives d c accounts later trail grown same same' pushed len cap apart d_is c_is changes =
+noted_two d_id c_id takes gives d c accounts later trail mid grown same same' first_noted then_noted apart d_is c_is changes =
     let between = changed account_row_key d_id takes accounts in
     let still = found_still d_id c_id takes c accounts same apart c_is in
     let second : replaced account_row_key c later ≡ between = ap (replaced account_row_key c) changes ∙ replaced-changed account_row_key c_id gives c between same' still in
     let first : replaced account_row_key d between ≡ accounts = replaced-changed account_row_key d_id takes d accounts same d_is in
-    record {
-      undo_accounts = ap (λ us. unwound_accounts us later) pushed ∙ unwound_two trail.items (Account d) (Account c) later ∙ ap (unwound_accounts trail.items) (ap (replaced account_row_key d) second ∙ first);
-      undo_transfers = λ rows. ap (λ us. unwound_transfers us rows) pushed ∙ unwound_transfers_two trail.items d c rows;
-      undo_timeouts = λ ts. ap (λ us. unwound_timeouts us ts) pushed ∙ unwound_timeouts_two trail.items d c ts;
-      can_unwind = λ ts can. subst (λ us. CanUnwind us ts) (sym pushed) (can_two trail.items d c ts can);
-      length = omega (arith, len);
-      capacity = cap;
-    }
+    grown_by_two (Account d) (Account c) trail mid grown first_noted then_noted (λ pushed. record {
+      undo_accounts = ap (λ us. unwound_accounts us later) pushed ∙ unwound_two trail.changes (Account d) (Account c) later ∙ ap (unwound_accounts trail.changes) (ap (replaced account_row_key d) second ∙ first);
+      undo_transfers = λ rows. ap (λ us. unwound_transfers us rows) pushed ∙ unwound_transfers_two trail.changes d c rows;
+      undo_timeouts = λ ts. ap (λ us. unwound_timeouts us ts) pushed ∙ unwound_timeouts_two trail.changes d c ts;
+      can_unwind = λ ts can. subst (λ us. CanUnwind us ts) (sym pushed) (can_two trail.changes d c ts can);
+    })
 
-pub noted_passed : {A : Type 0} (t : Transfer) (d c : AccountRow) (accounts later : List AccountRow) (trail grown : Vec Undo A) → grown.items ≡ trail.items ++ Account d ∷ Account c ∷ [] → vec_len grown ≡ vec_len trail + 2 → vec_capacity grown ≡ vec_capacity trail
+pub noted_passed : (t : Transfer) (d c : AccountRow) (accounts later : List AccountRow) (trail mid grown : Noted) → mid ≡ with_noted (Account d) trail → grown ≡ with_noted (Account c) mid
     → t.debit_account_id ≢ t.credit_account_id → row_at accounts t.debit_account_id ≡ Some d → row_at accounts t.credit_account_id ≡ Some c → later ≡ accounts_gained t accounts → IsNoted 2 accounts later trail grown
-noted_passed t d c accounts later trail grown pushed len cap apart d_is c_is gains =
-    noted_two t.debit_account_id t.credit_account_id (on_debits (gained closing_debit t)) (on_credits (gained closing_credit t)) d c accounts later trail grown (λ y. refl) (λ y. refl) pushed len cap apart d_is c_is gains
+noted_passed t d c accounts later trail mid grown first_noted then_noted apart d_is c_is gains =
+    noted_two t.debit_account_id t.credit_account_id (on_debits (gained closing_debit t)) (on_credits (gained closing_credit t)) d c accounts later trail mid grown (λ y. refl) (λ y. refl) first_noted then_noted apart d_is c_is gains

@@ -1,5 +1,5 @@
 -- The last change of a trail is undone first.
-use Rattle.std.proofs.Common.{◌≡◌, ◌==◌, List, [], ◌∷◌, ◌++◌, find, Some, None, refl, sym, subst, ap, ◌∙◌}
+use Rattle.std.proofs.Common.{◌≡◌, ◌==◌, ◌+◌, ◌≤◌, Bool, true, false, ℕ, List, length, length-append, append_assoc, [], ◌∷◌, ◌++◌, find, Some, None, refl, sym, subst, ap, ◌∙◌, if◌then◌else◌, arith}
 use Rattle.tb_records.specs.Ordered.{put, replaced, taken_out}
 use Rattle.tb_records.proofs.ByKey.{replaced-replaced, taken_out-put}
 use Rattle.tb_ledger.specs.declared.tables.rows.AccountRow.{AccountRow}
@@ -8,8 +8,9 @@ use Rattle.tb_ledger.specs.declared.tables.timeouts.Timeout.{Timeout}
 use Rattle.tb_ledger.specs.declared.tables.trail.Undo.{Undo}
 use Rattle.tb_ledger.specs.declared.tables.trail.Undo.TheVariants.{Transfer, AddedAccount, AddedTransfer}
 use Rattle.tb_ledger.specs.Kept.{account_row_key, transfer_row_key}
-use Rattle.tb_ledger.specs.Trail.{undo_account, undo_transfer, undo_timeouts, unwound_accounts, unwound_transfers, unwound_timeouts, CanUndo, CanUnwind}
+use Rattle.tb_ledger.specs.Trail.{undo_account, undo_transfer, undo_timeouts, unwound_accounts, unwound_transfers, unwound_timeouts, CanUndo, CanUnwind, Grows}
 use Rattle.tb_ledger.specs.Tables.{Stored}
+use Rattle.tb_ledger.specs.Noted.{Noted, with_noted}
 
 pub unwound_accounts_push : (us : List Undo) (u : Undo) (rows : List AccountRow) → unwound_accounts (us ++ u ∷ []) rows ≡ unwound_accounts us (undo_account u rows)
 unwound_accounts_push [] u rows = refl
@@ -70,3 +71,42 @@ other_transfers us more u leaves pushed rows = ap (λ vs. unwound_transfers vs r
 
 pub other_accounts : (us more : List Undo) (u : Undo) → ((rows : List AccountRow) → undo_account u rows ≡ rows) → more ≡ us ++ u ∷ [] → (rows : List AccountRow) → unwound_accounts more rows ≡ unwound_accounts us rows
 other_accounts us more u leaves pushed rows = ap (λ vs. unwound_accounts vs rows) pushed ∙ unwound_accounts_push us u rows ∙ ap (unwound_accounts us) (leaves rows)
+
+-- one change more is noted, or none is
+pub grown_by : {back : List Undo → List Undo → Type 0} (u : Undo) (trail grown : Noted) → grown ≡ with_noted u trail → (grown.changes ≡ trail.changes ++ u ∷ [] → back trail.changes grown.changes) → Grows 1 back trail grown
+grown_by {back = back} u trail grown is leads = by trail.noting refl is
+  where
+    by : (b : Bool) → trail.noting ≡ b → grown ≡ (if b then record trail { changes = trail.changes ++ u ∷ [] } else trail) → Grows 1 back trail grown
+    by true noting more = record {
+      leads = λ _. leads (ap (λ t. t.changes) more);
+      noting = ap (λ t. t.noting) more;
+      length = omega (arith, ap (λ t. length t.changes) more, length-append trail.changes (u ∷ []));
+      capacity = ap (λ t. t.capacity) more;
+    }
+    by false noting more = record {
+      leads = λ is. absurd (let no : true ≡ false = sym is ∙ noting in cc);
+      noting = ap (λ t. t.noting) more;
+      length = omega (arith, ap (λ t. length t.changes) more);
+      capacity = ap (λ t. t.capacity) more;
+    }
+
+-- one step after another
+pub grows_both : {P Q R : List Undo → List Undo → Type 0} (n m k : ℕ) (trail mid grown : Noted) → Grows n P trail mid → Grows m Q mid grown → n + m ≤ k → ((us vs ws : List Undo) → P us vs → Q vs ws → R us ws) → Grows k R trail grown
+grows_both n m k trail mid grown first second few joins = record {
+  leads = λ is. joins trail.changes mid.changes grown.changes (first.leads is) (second.leads (first.noting ∙ is));
+  noting = second.noting ∙ first.noting;
+  length = omega (arith, first.length, second.length, few);
+  capacity = second.capacity ∙ first.capacity;
+}
+
+-- two changes are noted, or none is
+pub grown_by_two : {back : List Undo → List Undo → Type 0} (u v : Undo) (trail mid grown : Noted) → mid ≡ with_noted u trail → grown ≡ with_noted v mid → (grown.changes ≡ trail.changes ++ u ∷ v ∷ [] → back trail.changes grown.changes) → Grows 2 back trail grown
+grown_by_two u v trail mid grown first second leads =
+    let a = grown_by {back = λ us vs. vs ≡ us ++ u ∷ []} u trail mid first (λ is. is) in
+    let b = grown_by {back = λ us vs. vs ≡ us ++ v ∷ []} v mid grown second (λ is. is) in
+    record {
+      leads = λ is. leads (b.leads (a.noting ∙ is) ∙ ap (λ us. us ++ v ∷ []) (a.leads is) ∙ append_assoc trail.changes (u ∷ []) (v ∷ []));
+      noting = b.noting ∙ a.noting;
+      length = omega (arith, a.length, b.length);
+      capacity = b.capacity ∙ a.capacity;
+    }

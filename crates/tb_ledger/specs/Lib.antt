@@ -14,5 +14,6 @@ pub mod Timeouts
 pub mod Found
 pub mod Exchanges
 pub mod Settlings
+pub mod Noted
 pub mod Trail
 pub mod Lookups

@@ -1,5 +1,5 @@
 -- A trail of changes, the oldest first, and what undoing them gives.
-use Rattle.std.specs.Prelude.{ℕ, true, ◌≡◌, ◌+◌, ◌≤◌, List, [], ◌∷◌, Vec, vec_len, vec_capacity}
+use Rattle.std.specs.Prelude.{ℕ, true, ◌≡◌, ◌+◌, ◌≤◌, List, [], ◌∷◌, length}
 use Rattle.tb_ledger.specs.declared.tables.rows.AccountRow.{AccountRow}
 use Rattle.tb_ledger.specs.declared.tables.rows.TransferRow.{TransferRow}
 use Rattle.tb_ledger.specs.declared.tables.rows.Rows.{Rows}
@@ -11,6 +11,7 @@ use Rattle.tb_ledger.specs.Kept.{account_row_key, transfer_row_key, times_out, l
 use Rattle.tb_ledger.specs.Books.{expires_at}
 use Rattle.tb_ledger.specs.Verdicts.{max_time}
 use Rattle.tb_ledger.specs.Tables.{Stored}
+use Rattle.tb_ledger.specs.Noted.{Noted}
 
 abbrev pub undo_account : Undo → List AccountRow → List AccountRow
 undo_account (Account row) rows = replaced account_row_key row rows
@@ -57,32 +58,49 @@ abbrev pub CanUnwind : List Undo → Stored Timeout → Type 0
 CanUnwind [] ts = Unit {0}
 CanUnwind (u ∷ us) ts = CanUndo u (unwound_timeouts us ts) × CanUnwind us ts
 
+-- from the accounts after some changes the longer list leads back to where the shorter one does
+pub record AccountsLeadBack (accounts later : List AccountRow) (changes more : List Undo) : Type 0 where
+  pub undo_accounts : unwound_accounts more later ≡ unwound_accounts changes accounts
+  pub undo_transfers : (transfers : List TransferRow) → unwound_transfers more transfers ≡ unwound_transfers changes transfers
+  pub undo_timeouts : (ts : Stored Timeout) → unwound_timeouts more ts ≡ unwound_timeouts changes ts
+  pub can_unwind : (ts : Stored Timeout) → CanUnwind changes ts → CanUnwind more ts
+
+-- the same of transfers, and their timeouts with them
+pub record TransfersLeadBack (transfers later : List TransferRow) (ts ts_later : Stored Timeout) (changes more : List Undo) : Type 0 where
+  pub undo_accounts : (accounts : List AccountRow) → unwound_accounts more accounts ≡ unwound_accounts changes accounts
+  pub undo_transfers : unwound_transfers more later ≡ unwound_transfers changes transfers
+  pub undo_timeouts : unwound_timeouts more ts_later ≡ unwound_timeouts changes ts
+  pub can_unwind : CanUnwind changes ts → CanUnwind more ts_later
+
+-- the same of all rows
+pub record LeadsBack {A : Type 0} (rows later : Rows A) (changes more : List Undo) : Type 0 where
+  pub undo_accounts : unwound_accounts more later.accounts.items ≡ unwound_accounts changes rows.accounts.items
+  pub undo_transfers : unwound_transfers more later.transfers.items ≡ unwound_transfers changes rows.transfers.items
+  pub undo_timeouts : unwound_timeouts more later.timeouts ≡ unwound_timeouts changes rows.timeouts
+  pub can_unwind : CanUnwind changes rows.timeouts → CanUnwind more later.timeouts
+
+-- no more than n changes were added, and where they are noted at all they lead back
+pub record Grows (n : ℕ) (back : List Undo → List Undo → Type 0) (trail grown : Noted) : Type 0 where
+  pub leads : trail.noting ≡ true → back trail.changes grown.changes
+  pub noting : grown.noting ≡ trail.noting
+  pub length : length grown.changes ≤ length trail.changes + n
+  pub capacity : grown.capacity ≡ trail.capacity
+
 -- accounts changed, with n records more at most that lead back
-pub record IsNoted {A : Type 0} (n : ℕ) (accounts later : List AccountRow) (trail grown : Vec Undo A) : Type 0 where
-  pub undo_accounts : unwound_accounts grown.items later ≡ unwound_accounts trail.items accounts
-  pub undo_transfers : (transfers : List TransferRow) → unwound_transfers grown.items transfers ≡ unwound_transfers trail.items transfers
-  pub undo_timeouts : (ts : Stored Timeout) → unwound_timeouts grown.items ts ≡ unwound_timeouts trail.items ts
-  pub can_unwind : (ts : Stored Timeout) → CanUnwind trail.items ts → CanUnwind grown.items ts
-  pub length : vec_len grown ≤ vec_len trail + n
-  pub capacity : vec_capacity grown ≡ vec_capacity trail
+abbrev pub IsNoted : ℕ → List AccountRow → List AccountRow → Noted → Noted → Type 0
+IsNoted n accounts later = Grows n (AccountsLeadBack accounts later)
 
 -- a transfer's row changed or added, and its timeout with it, with n records more at most that lead back
-pub record IsMarked {A : Type 0} (n : ℕ) (transfers later : List TransferRow) (ts ts_later : Stored Timeout) (trail grown : Vec Undo A) : Type 0 where
-  pub undo_accounts : (accounts : List AccountRow) → unwound_accounts grown.items accounts ≡ unwound_accounts trail.items accounts
-  pub undo_transfers : unwound_transfers grown.items later ≡ unwound_transfers trail.items transfers
-  pub undo_timeouts : unwound_timeouts grown.items ts_later ≡ unwound_timeouts trail.items ts
-  pub can_unwind : CanUnwind trail.items ts → CanUnwind grown.items ts_later
-  pub length : vec_len grown ≤ vec_len trail + n
-  pub capacity : vec_capacity grown ≡ vec_capacity trail
+abbrev pub IsMarked : ℕ → List TransferRow → List TransferRow → Stored Timeout → Stored Timeout → Noted → Noted → Type 0
+IsMarked n transfers later ts ts_later = Grows n (TransfersLeadBack transfers later ts ts_later)
 
--- a step that the trail leads back from, with n records more at most
-pub record IsStep {A : Type 0} (n : ℕ) (rows later : Rows A) (trail grown : Vec Undo A) : Type 0 where
-  pub undo_accounts : unwound_accounts grown.items later.accounts.items ≡ unwound_accounts trail.items rows.accounts.items
-  pub undo_transfers : unwound_transfers grown.items later.transfers.items ≡ unwound_transfers trail.items rows.transfers.items
-  pub undo_timeouts : unwound_timeouts grown.items later.timeouts ≡ unwound_timeouts trail.items rows.timeouts
-  pub can_unwind : CanUnwind trail.items rows.timeouts → CanUnwind grown.items later.timeouts
+-- a step of the rows that the trail leads back from, with n records more at most; failed ids and the time stay
+pub record IsStep {A : Type 0} (n : ℕ) (rows later : Rows A) (trail grown : Noted) : Type 0 where
   pub failed : later.failed ≡ rows.failed
   pub keeps_failed : later.keeps_failed ≡ rows.keeps_failed
   pub time : later.time ≡ rows.time
-  pub length : vec_len grown ≤ vec_len trail + n
-  pub capacity : vec_capacity grown ≡ vec_capacity trail
+  pub grows : Grows n (LeadsBack rows later) trail grown
+
+-- an event that is refused leaves all as it is
+abbrev pub Stays : {A : Type 0} → Rows A → Rows A → Noted → Noted → Type 0
+Stays rows later trail grown = (later ≡ rows) × (grown ≡ trail)

@@ -1,5 +1,5 @@
 //! A batch: its chains, one after another.
-ghost use Rattle.std.specs.Prelude.{◌≡◌, ◌+◌, ◌*◌, ◌^◌, ◌<◌, ◌≤◌, ◌++◌, [], length, vec_len, vec_capacity};
+ghost use Rattle.std.specs.Prelude.{◌≡◌, ◌+◌, ◌*◌, ◌^◌, ◌<◌, ◌≤◌, ◌++◌, length, vec_len, vec_capacity};
 ghost use Rattle.tb_ledger.specs.Batches.{blocks, blocks_after, timed_from, results_from};
 ghost use Rattle.tb_ledger.specs.Kept.{books_in, IsKept};
 
@@ -10,7 +10,7 @@ mod results;
 use crate::batches::chains::{block_length, run_block};
 use crate::batches::events::Event;
 use crate::tables::rows::Rows;
-use crate::tables::trail::{TRAIL_PER_EVENT, Undo};
+use crate::tables::trail::{TRAIL_PER_EVENT, Trail};
 use std::alloc::Allocator;
 use tb_records::EventResult;
 
@@ -27,17 +27,16 @@ fn look_ahead<E: Event, A: Allocator + Clone>(rows: &mut Rows<A>, rest: &[E], in
 /// Runs the chains of a batch, whose first event has the timestamp `time`. Each event that isn't accepted adds its result.
 pub(crate) fn run_batch<E: Event, A: Allocator + Clone, R: Allocator>(
     rows: &mut Rows<A>,
-    trail: &mut Vec<Undo, A>,
+    trail: &mut Trail<A>,
     results: &mut Vec<EventResult, R>,
     events: &[E],
     time: u64,
 )
     requires kept { IsKept rows.old }
-    requires empty { trail.old.items ≡ [] }
     requires room { length events.now ≤ E.room rows.old.accounts.spare rows.old.transfers.spare }
     requires timeouts_room { E.HasTimeoutRoom (length events.now) rows.old.timeouts.spare }
     requires ids { E.HasIdRoom (length events.now) rows.old.keeps_failed rows.old.failed.spare }
-    requires trail_room { TRAIL_PER_EVENT * length events.now ≤ vec_capacity trail.old }
+    requires trail_room { TRAIL_PER_EVENT * length events.now ≤ trail.old.capacity }
     requires results_room { vec_len results.old + length events.now ≤ vec_capacity results.old }
     requires stamped { rows.old.time < time + 1000000000 }
     requires index_fits { length events.now < 2 ^ 32 }

@@ -13,7 +13,7 @@ use crate::changes::expiry::expire;
 use crate::lookups;
 use crate::tables::rows::Rows;
 use crate::tables::standing::as_it_stands;
-use crate::tables::trail::TRAIL_PER_EVENT;
+use crate::tables::trail::Trail;
 use std::alloc::{AllocError, Allocator, Global};
 use std::marker::Model;
 use tb_records::{Account, EventResult, Profile, Transfer};
@@ -86,7 +86,7 @@ fn enter<E: Event, A: Allocator + Clone>(
     ensures err { OnErr result (books_in rows.new ≡ books_in rows.old) }
 {
     let n = events.len();
-    let mut trail = Vec::with_capacity(alloc.clone()?, TRAIL_PER_EVENT * n)?;
+    let mut trail = Trail::with_room(alloc.clone()?, n)?;
     let mut refused = Vec::with_capacity(global, n)?;
     expire(rows, t);
     run_batch(rows, &mut trail, &mut refused, events, t + 1 - n as u64);

@@ -1,13 +1,13 @@
 //! Chains: all of one, or nothing of it.
-ghost use Rattle.std.specs.Prelude.{◌≡◌, ◌≢◌, ℕ, ◌+◌, ◌*◌, ◌^◌, ◌<◌, ◌≤◌, ◌&&◌, ◌++◌, [], length, if◌then◌else◌, vec_len, vec_capacity};
+ghost use Rattle.std.specs.Prelude.{◌≡◌, ◌≢◌, ℕ, ◌+◌, ◌*◌, ◌^◌, ◌<◌, ◌≤◌, ◌&&◌, ◌++◌, length, if◌then◌else◌, vec_len, vec_capacity};
 ghost use Rattle.tb_ledger.specs.Batches.{block_length, block_after, timed_from, results_from};
 ghost use Rattle.tb_ledger.specs.Kept.{books_in, IsKept};
-ghost use Rattle.tb_ledger.specs.Trail.{IsStep};
+ghost use Rattle.tb_ledger.specs.Trail.{Stays, IsStep};
 
 use crate::batches::events::Event;
 use crate::batches::results::{LINKED_EVENT_CHAIN_OPEN, break_off};
 use crate::tables::rows::Rows;
-use crate::tables::trail::{TRAIL_PER_EVENT, Undo, unwind};
+use crate::tables::trail::{TRAIL_PER_EVENT, Trail, unwind};
 use std::alloc::Allocator;
 use tb_records::EventResult;
 
@@ -31,18 +31,17 @@ pub(crate) fn block_length<E: Event>(events: &[E]) -> usize
 /// accepted adds its result.
 pub(crate) fn run_block<E: Event, A: Allocator + Clone, R: Allocator>(
     rows: &mut Rows<A>,
-    trail: &mut Vec<Undo, A>,
+    trail: &mut Trail<A>,
     results: &mut Vec<EventResult, R>,
     block: &[E],
     index: u32,
     time: u64,
 )
     requires kept { IsKept rows.old }
-    requires empty { trail.old.items ≡ [] }
     requires room { length block.now ≤ E.room rows.old.accounts.spare rows.old.transfers.spare }
     requires timeouts_room { E.HasTimeoutRoom (length block.now) rows.old.timeouts.spare }
     requires ids { E.HasIdRoom (length block.now) rows.old.keeps_failed rows.old.failed.spare }
-    requires trail_room { TRAIL_PER_EVENT * length block.now ≤ vec_capacity trail.old }
+    requires trail_room { TRAIL_PER_EVENT * length block.now ≤ trail.old.capacity }
     requires results_room { vec_len results.old + length block.now ≤ vec_capacity results.old }
     requires stamped { rows.old.time < time + 1000000000 }
     requires index_fits { index + length block.now < 2 ^ 32 }
@@ -63,9 +62,10 @@ pub(crate) fn run_block<E: Event, A: Allocator + Clone, R: Allocator>(
         → E.HasTimeoutRoom n rows.new.timeouts.spare }
     ensures ids { (n : ℕ) → E.HasIdRoom (length block.now + n) rows.old.keeps_failed rows.old.failed.spare
         → E.HasIdRoom n rows.new.keeps_failed rows.new.failed.spare }
-    ensures empty { trail.new.items ≡ [] }
-    ensures capacity { vec_capacity trail.new ≡ vec_capacity trail.old }
+    ensures capacity { trail.new.capacity ≡ trail.old.capacity }
 {
+    // an event that is refused changes nothing, so one that stands alone has nothing to undo
+    trail.start(block.len() > 1);
     let mut i = 0;
     let mut stamp = time;
     while i < block.len() {
@@ -80,7 +80,6 @@ pub(crate) fn run_block<E: Event, A: Allocator + Clone, R: Allocator>(
         i += 1;
         stamp += 1;
     }
-    trail.clear();
 }
 
 /// Takes an event of a chain. Linked with nothing after it, the chain is open: 2.
@@ -88,14 +87,14 @@ fn take_in_chain<E: Event, A: Allocator + Clone>(
     event: &E,
     last: bool,
     rows: &mut Rows<A>,
-    trail: &mut Vec<Undo, A>,
+    trail: &mut Trail<A>,
     time: u64,
 ) -> u32
     requires kept { IsKept rows.old }
     requires room { 0 < E.room rows.old.accounts.spare rows.old.transfers.spare }
     requires timeouts_room { E.HasTimeoutRoom 1 rows.old.timeouts.spare }
     requires stamped { rows.old.time < time + 1000000000 }
-    requires trail_room { vec_len trail.old + TRAIL_PER_EVENT ≤ vec_capacity trail.old }
+    requires trail_room { length trail.old.changes + TRAIL_PER_EVENT ≤ trail.old.capacity }
     ensures code { result
         ≡ (if last && E.kind.linked event.now then
         2
@@ -104,6 +103,7 @@ fn take_in_chain<E: Event, A: Allocator + Clone>(
     ensures done { result ≡ 0 → books_in rows.new ≡ E.kind.recorded (books_in rows.old) event.now time }
     ensures fresh { result ≢ 0 → E.IsNew (books_in rows.old).failed event.now result }
     ensures kept { IsKept rows.new }
+    ensures refused { result ≢ 0 → Stays rows.old rows.new trail.old trail.new }
     ensures step { IsStep TRAIL_PER_EVENT rows.old rows.new trail.old trail.new }
     ensures room { E.room rows.old.accounts.spare rows.old.transfers.spare
         ≤ E.room rows.new.accounts.spare rows.new.transfers.spare + 1 }

@@ -1,12 +1,12 @@
 //! What a batch asks of its events.
-ghost use Rattle.std.specs.Prelude.{◌≡◌, ◌≢◌, ℕ, ◌+◌, ◌<◌, ◌≤◌, ◌==◌, true, false, vec_len, vec_capacity};
+ghost use Rattle.std.specs.Prelude.{◌≡◌, ◌≢◌, ℕ, ◌+◌, ◌<◌, ◌≤◌, ◌==◌, true, false, length};
 ghost use Rattle.tb_ledger.specs.Kept.{books_in, IsKept};
-ghost use Rattle.tb_ledger.specs.Trail.{IsStep};
+ghost use Rattle.tb_ledger.specs.Trail.{Stays, IsStep};
 
 use crate::changes::account::take_account;
 use crate::changes::transfer::{note_failed, take_transfer};
 use crate::tables::rows::Rows;
-use crate::tables::trail::{TRAIL_PER_EVENT, Undo};
+use crate::tables::trail::{TRAIL_PER_EVENT, Trail};
 use std::alloc::Allocator;
 use tb_records::{Account, Transfer};
 
@@ -38,21 +38,17 @@ pub trait Event: Copy {
         ensures { rows.new ≡ rows.old };
 
     /// Judges the event as of its timestamp, and records it where the verdict is 0. The trail leads back to before it.
-    fn take<A: Allocator + Clone>(
-        &self,
-        rows: &mut Rows<A>,
-        trail: &mut Vec<Undo, A>,
-        time: u64,
-    ) -> u32
+    fn take<A: Allocator + Clone>(&self, rows: &mut Rows<A>, trail: &mut Trail<A>, time: u64) -> u32
         requires kept { IsKept rows.old }
         requires room { 0 < room rows.old.accounts.spare rows.old.transfers.spare }
         requires timeouts_room { HasTimeoutRoom 1 rows.old.timeouts.spare }
         requires stamped { rows.old.time < time + 1000000000 }
-        requires trail_room { vec_len trail.old + TRAIL_PER_EVENT ≤ vec_capacity trail.old }
+        requires trail_room { length trail.old.changes + TRAIL_PER_EVENT ≤ trail.old.capacity }
         ensures code { result ≡ kind.verdict (books_in rows.old) self.now time }
         ensures done { result ≡ 0 → books_in rows.new ≡ kind.recorded (books_in rows.old) self.now time }
         ensures fresh { result ≢ 0 → IsNew (books_in rows.old).failed self.now result }
         ensures kept { IsKept rows.new }
+        ensures refused { result ≢ 0 → Stays rows.old rows.new trail.old trail.new }
         ensures step { IsStep TRAIL_PER_EVENT rows.old rows.new trail.old trail.new }
         ensures room { room rows.old.accounts.spare rows.old.transfers.spare
             ≤ room rows.new.accounts.spare rows.new.transfers.spare + 1 }
@@ -108,7 +104,7 @@ impl Event for Account {
     fn take<A: Allocator + Clone>(
         &self,
         rows: &mut Rows<A>,
-        trail: &mut Vec<Undo, A>,
+        trail: &mut Trail<A>,
         time: u64,
     ) -> u32 {
         take_account(rows, trail, self, time)
@@ -165,7 +161,7 @@ impl Event for Transfer {
     fn take<A: Allocator + Clone>(
         &self,
         rows: &mut Rows<A>,
-        trail: &mut Vec<Undo, A>,
+        trail: &mut Trail<A>,
         time: u64,
     ) -> u32 {
         take_transfer(rows, trail, self, time)

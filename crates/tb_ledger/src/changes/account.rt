@@ -1,15 +1,15 @@
 //! An account is judged, and added where it is accepted.
-ghost use Rattle.std.specs.Prelude.{◌≡◌, ◌+◌, ◌<◌, ◌≤◌, ◌==◌, vec_len, vec_capacity, ◌-◌, find, None};
+ghost use Rattle.std.specs.Prelude.{◌≡◌, ◌≢◌, ◌+◌, ◌<◌, ◌≤◌, ◌==◌, length, ◌-◌, find, None};
 ghost use Rattle.tb_ledger.specs.Batches.{account_events};
 ghost use Rattle.tb_ledger.specs.Books.{account_at};
 ghost use Rattle.tb_ledger.specs.Kept.{books_in, IsKept, account_row_key, new_row};
-ghost use Rattle.tb_ledger.specs.Trail.{IsStep, IsNoted};
+ghost use Rattle.tb_ledger.specs.Trail.{Stays, IsStep, IsNoted};
 ghost use Rattle.tb_records.specs.Ordered.{put};
 ghost use Rattle.tb_ledger.specs.Sound.{Sound, account_key};
 
 use crate::tables::map::Table;
 use crate::tables::rows::{AccountRow, Rows, Side};
-use crate::tables::trail::{TRAIL_PER_EVENT, Undo};
+use crate::tables::trail::{TRAIL_PER_EVENT, Trail, Undo};
 use crate::verdicts::account::account_code;
 use std::alloc::Allocator;
 use tb_records::Account;
@@ -17,16 +17,17 @@ use tb_records::Account;
 /// Judges an account, and records it with its timestamp where the verdict is 0.
 pub(crate) fn take_account<A: Allocator + Clone>(
     rows: &mut Rows<A>,
-    trail: &mut Vec<Undo, A>,
+    trail: &mut Trail<A>,
     a: &Account,
     time: u64,
 ) -> u32
     requires kept { IsKept rows.old }
     requires room { 0 < rows.old.accounts.spare }
-    requires trail_room { vec_len trail.old + TRAIL_PER_EVENT ≤ vec_capacity trail.old }
+    requires trail_room { length trail.old.changes + TRAIL_PER_EVENT ≤ trail.old.capacity }
     ensures code { result ≡ account_events.verdict (books_in rows.old) a.now time }
     ensures done { result ≡ 0 → books_in rows.new ≡ account_events.recorded (books_in rows.old) a.now time }
     ensures kept { IsKept rows.new }
+    ensures refused { result ≢ 0 → Stays rows.old rows.new trail.old trail.new }
     ensures step { IsStep TRAIL_PER_EVENT rows.old rows.new trail.old trail.new }
     ensures room { rows.old.accounts.spare ≤ rows.new.accounts.spare + 1 }
 {
@@ -41,10 +42,10 @@ pub(crate) fn take_account<A: Allocator + Clone>(
 }
 
 /// Adds an account as it is recorded.
-fn record_account<A: Allocator + Clone>(rows: &mut Rows<A>, trail: &mut Vec<Undo, A>, a: &Account)
+fn record_account<A: Allocator + Clone>(rows: &mut Rows<A>, trail: &mut Trail<A>, a: &Account)
     requires kept { IsKept rows.old }
     requires room { 0 < rows.old.accounts.spare }
-    requires trail_room { vec_len trail.old + TRAIL_PER_EVENT ≤ vec_capacity trail.old }
+    requires trail_room { length trail.old.changes + TRAIL_PER_EVENT ≤ trail.old.capacity }
     requires fresh { account_at (books_in rows.old) a.now.id ≡ None }
     requires sound { Sound
         (record (books_in rows.old)
@@ -64,11 +65,11 @@ fn record_account<A: Allocator + Clone>(rows: &mut Rows<A>, trail: &mut Vec<Undo
 /// Adds the row of an account: no transfer names it yet.
 fn add_account_row<A: Allocator + Clone>(
     accounts: &mut Table<AccountRow, A>,
-    trail: &mut Vec<Undo, A>,
+    trail: &mut Trail<A>,
     a: &Account,
 )
     requires room { 0 < accounts.old.spare }
-    requires trail_room { vec_len trail.old < vec_capacity trail.old }
+    requires trail_room { length trail.old.changes < trail.old.capacity }
     requires fresh { find (λ row. row.created.id == a.now.id) accounts.old.items ≡ None }
     ensures accounts { accounts.new
         ≡ record {
@@ -82,7 +83,7 @@ fn add_account_row<A: Allocator + Clone>(
         posted: 0,
         held_closed: false,
     };
-    trail.push_reserved(Undo::AddedAccount(a.id));
+    trail.note(Undo::AddedAccount(a.id));
     accounts.insert_reserved(AccountRow {
         created: *a,
         debits: empty,

@@ -1,5 +1,5 @@
 //! The row of a transfer that is recorded.
-ghost use Rattle.std.specs.Prelude.{◌≡◌, ◌-◌, ◌<◌, ◌≤◌, ◌==◌, true, find, None, vec_len, vec_capacity};
+ghost use Rattle.std.specs.Prelude.{◌≡◌, ◌-◌, ◌<◌, ◌≤◌, ◌==◌, true, find, None, length};
 ghost use Rattle.tb_records.specs.Ordered.{put, Rising};
 ghost use Rattle.tb_ledger.specs.Verdicts.{int_max};
 ghost use Rattle.tb_ledger.specs.Kept.{transfer_row_key, times_out, listed, CanList, new_transfer_row};
@@ -9,7 +9,7 @@ use crate::tables::index::list;
 use crate::tables::map::Table;
 use crate::tables::rows::{State, TransferRow};
 use crate::tables::timeouts::Timeouts;
-use crate::tables::trail::Undo;
+use crate::tables::trail::{Trail, Undo};
 use std::alloc::Allocator;
 use tb_records::Transfer;
 
@@ -28,11 +28,11 @@ pub(crate) fn row_of(recorded: Transfer) -> TransferRow
 pub(crate) fn add_row<A: Allocator + Clone>(
     transfers: &mut Table<TransferRow, A>,
     timeouts: &mut Timeouts<A>,
-    trail: &mut Vec<Undo, A>,
+    trail: &mut Trail<A>,
     row: &TransferRow,
 )
     requires room { 0 < transfers.old.spare }
-    requires trail_room { vec_len trail.old < vec_capacity trail.old }
+    requires trail_room { length trail.old.changes < trail.old.capacity }
     requires fresh { find (λ t. t.recorded.id == row.now.recorded.id) transfers.old.items ≡ None }
     requires can_list { times_out row.now ≡ true → CanList row.now timeouts.old }
     ensures transfers { transfers.new
@@ -45,7 +45,7 @@ pub(crate) fn add_row<A: Allocator + Clone>(
     ensures marked { IsMarked 1 transfers.old.items transfers.new.items timeouts.old timeouts.new trail.old
         trail.new }
 {
-    trail.push_reserved(Undo::AddedTransfer(*row));
+    trail.note(Undo::AddedTransfer(*row));
     transfers.insert_reserved(*row);
     list(timeouts, row);
 }

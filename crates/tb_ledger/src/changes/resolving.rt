@@ -1,11 +1,11 @@
 //! A post or void: the pending transfer that it names is closed, and the sums of both accounts settled.
-ghost use Rattle.std.specs.Prelude.{◌≡◌, ◌≢◌, ◌+◌, ◌<◌, ◌≤◌, ◌==◌, true, vec_len, vec_capacity, find, Some, None, IsSome};
+ghost use Rattle.std.specs.Prelude.{◌≡◌, ◌≢◌, ◌+◌, ◌<◌, ◌≤◌, ◌==◌, true, length, find, Some, None, IsSome};
 ghost use Rattle.std.specs.Option.{ok_or};
 ghost use Rattle.tb_ledger.specs.Batches.{transfer_events};
 ghost use Rattle.tb_ledger.specs.Books.{resolves, transfer_at};
 ghost use Rattle.tb_ledger.specs.Exchanges.{row_at};
 ghost use Rattle.tb_ledger.specs.Kept.{books_in, IsKept, transfer_row_key, times_out, unlisted, IsListed, settled, state_given_by};
-ghost use Rattle.tb_ledger.specs.Trail.{IsStep, IsMarked};
+ghost use Rattle.tb_ledger.specs.Trail.{Stays, IsStep, IsMarked};
 ghost use Rattle.tb_ledger.specs.Settlings.{closed_code, CanSettle, Settles, SettlesIn};
 ghost use Rattle.tb_ledger.specs.Verdicts.{id_code};
 ghost use Rattle.tb_records.specs.Ordered.{put, replaced, Rising};
@@ -19,7 +19,7 @@ use crate::tables::index::unlist;
 use crate::tables::map::Table;
 use crate::tables::rows::{AccountRow, Rows, State, TransferRow};
 use crate::tables::timeouts::Timeouts;
-use crate::tables::trail::{TRAIL_PER_EVENT, Undo};
+use crate::tables::trail::{TRAIL_PER_EVENT, Trail, Undo};
 use crate::verdicts::resolving::{Resolution, closed_code, judge_resolving};
 use std::alloc::Allocator;
 use tb_records::{Transfer, TransferFlag};
@@ -27,18 +27,19 @@ use tb_records::{Transfer, TransferFlag};
 /// Judges a post or void whose id is free, and records it, filled and stamped, where the verdict is 0.
 pub(crate) fn take_resolving<A: Allocator + Clone>(
     rows: &mut Rows<A>,
-    trail: &mut Vec<Undo, A>,
+    trail: &mut Trail<A>,
     t: &Transfer,
     time: u64,
 ) -> u32
     requires kept { IsKept rows.old }
     requires room { 0 < rows.old.transfers.spare }
-    requires trail_room { vec_len trail.old + TRAIL_PER_EVENT ≤ vec_capacity trail.old }
+    requires trail_room { length trail.old.changes + TRAIL_PER_EVENT ≤ trail.old.capacity }
     requires free { id_code (books_in rows.old) t.now ≡ 0 }
     requires resolving { resolves t.now ≡ true }
     ensures code { result ≡ transfer_events.verdict (books_in rows.old) t.now time }
     ensures done { result ≡ 0 → books_in rows.new ≡ transfer_events.recorded (books_in rows.old) t.now time }
     ensures kept { IsKept rows.new }
+    ensures refused { result ≢ 0 → Stays rows.old rows.new trail.old trail.new }
     ensures step { IsStep TRAIL_PER_EVENT rows.old rows.new trail.old trail.new }
     ensures room { rows.old.transfers.spare ≤ rows.new.transfers.spare + 1 }
     ensures timeouts_room { rows.old.timeouts.spare ≤ rows.new.timeouts.spare + 1 }
@@ -61,13 +62,13 @@ pub(crate) fn take_resolving<A: Allocator + Clone>(
 /// or 0. A void passes closed accounts too.
 fn settle<A: Allocator + Clone>(
     rows: &mut Rows<A>,
-    trail: &mut Vec<Undo, A>,
+    trail: &mut Trail<A>,
     p: &TransferRow,
     r: &Transfer,
 ) -> u32
     requires kept { IsKept rows.old }
     requires room { 0 < rows.old.transfers.spare }
-    requires trail_room { vec_len trail.old + TRAIL_PER_EVENT ≤ vec_capacity trail.old }
+    requires trail_room { length trail.old.changes + TRAIL_PER_EVENT ≤ trail.old.capacity }
     requires fresh { transfer_at (books_in rows.old) r.now.id ≡ None }
     requires found { find (λ row. row.recorded.id == r.now.pending_id) rows.old.transfers.items ≡ Some p.now }
     requires is_resolver { resolves r.now ≡ true }
@@ -78,14 +79,15 @@ fn settle<A: Allocator + Clone>(
         → books_in rows.new
         ≡ record (books_in rows.old)
         { transfers = put transfer_key r.now (books_in rows.old).transfers } }
+    ensures refused { result ≢ 0 → Stays rows.old rows.new trail.old trail.new }
     ensures step { IsStep TRAIL_PER_EVENT rows.old rows.new trail.old trail.new }
     ensures transfers_room { rows.old.transfers.spare ≤ rows.new.transfers.spare + 1 }
     ensures timeouts_room { rows.old.timeouts.spare ≤ rows.new.timeouts.spare + 1 }
 {
     match settle_accounts(&mut rows.accounts, &p.recorded, r) {
         Ok(before) => {
-            trail.push_reserved(Undo::Account(before.debit));
-            trail.push_reserved(Undo::Account(before.credit));
+            trail.note(Undo::Account(before.debit));
+            trail.note(Undo::Account(before.credit));
             let state = state_given(r);
             close_row(&mut rows.transfers, &mut rows.timeouts, trail, p, state);
             let row = row_of(*r);
@@ -180,11 +182,11 @@ fn settle_rows(
 fn close_row<A: Allocator + Clone>(
     transfers: &mut Table<TransferRow, A>,
     timeouts: &mut Timeouts<A>,
-    trail: &mut Vec<Undo, A>,
+    trail: &mut Trail<A>,
     p: &TransferRow,
     state: State,
 )
-    requires trail_room { vec_len trail.old < vec_capacity trail.old }
+    requires trail_room { length trail.old.changes < trail.old.capacity }
     requires found { find (λ row. row.recorded.id == p.now.recorded.id) transfers.old.items ≡ Some p.now }
     requires is_listed { times_out p.now ≡ true → IsListed timeouts.old.items p.now }
     ensures transfers { transfers.new
@@ -197,7 +199,7 @@ fn close_row<A: Allocator + Clone>(
         trail.new }
 {
     transfers.ordered();
-    trail.push_reserved(Undo::Transfer(*p));
+    trail.note(Undo::Transfer(*p));
     let closed = transfers.update(
         p.recorded.id,
         &mut |row: &mut TransferRow| {

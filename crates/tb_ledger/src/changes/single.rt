@@ -1,10 +1,10 @@
 //! A transfer between two accounts: both rows are found by one walk, judged, and changed where they stand.
-ghost use Rattle.std.specs.Prelude.{◌≡◌, ◌+◌, ◌<◌, ◌≤◌, false, vec_len, vec_capacity, ◌≢◌, if◌then◌else◌};
+ghost use Rattle.std.specs.Prelude.{◌≡◌, ◌+◌, ◌<◌, ◌≤◌, false, length, ◌≢◌, if◌then◌else◌};
 ghost use Rattle.std.specs.Option.{is_some, ok_or};
 ghost use Rattle.tb_ledger.specs.Batches.{transfer_events};
 ghost use Rattle.tb_ledger.specs.Books.{resolves};
 ghost use Rattle.tb_ledger.specs.Kept.{books_in, IsKept};
-ghost use Rattle.tb_ledger.specs.Trail.{IsStep};
+ghost use Rattle.tb_ledger.specs.Trail.{Stays, IsStep};
 ghost use Rattle.tb_ledger.specs.Verdicts.{id_code};
 ghost use Rattle.tb_ledger.specs.Exchanges.{Exchanges, ExchangesIn, row_at};
 
@@ -12,7 +12,7 @@ use crate::changes::records::{add_row, row_of};
 use crate::changes::sides::gain_side;
 use crate::tables::map::Table;
 use crate::tables::rows::{AccountRow, Rows};
-use crate::tables::trail::{TRAIL_PER_EVENT, Undo};
+use crate::tables::trail::{TRAIL_PER_EVENT, Trail, Undo};
 use crate::verdicts::single::{between, single_own};
 use std::alloc::Allocator;
 use tb_records::{CreateTransferResult, Transfer, TransferFlag};
@@ -20,20 +20,21 @@ use tb_records::{CreateTransferResult, Transfer, TransferFlag};
 /// Judges a transfer between two accounts whose id is free, and records it, balanced and stamped, where the verdict is 0.
 pub(crate) fn take_single<A: Allocator + Clone>(
     rows: &mut Rows<A>,
-    trail: &mut Vec<Undo, A>,
+    trail: &mut Trail<A>,
     t: &Transfer,
     time: u64,
 ) -> u32
     requires kept { IsKept rows.old }
     requires room { 0 < rows.old.transfers.spare }
     requires timeouts_room { 0 < rows.old.timeouts.spare }
-    requires trail_room { vec_len trail.old + TRAIL_PER_EVENT ≤ vec_capacity trail.old }
+    requires trail_room { length trail.old.changes + TRAIL_PER_EVENT ≤ trail.old.capacity }
     requires stamped { rows.old.time < time + 1000000000 }
     requires free { id_code (books_in rows.old) t.now ≡ 0 }
     requires single { resolves t.now ≡ false }
     ensures code { result ≡ transfer_events.verdict (books_in rows.old) t.now time }
     ensures done { result ≡ 0 → books_in rows.new ≡ transfer_events.recorded (books_in rows.old) t.now time }
     ensures kept { IsKept rows.new }
+    ensures refused { result ≢ 0 → Stays rows.old rows.new trail.old trail.new }
     ensures step { IsStep TRAIL_PER_EVENT rows.old rows.new trail.old trail.new }
     ensures room { rows.old.transfers.spare ≤ rows.new.transfers.spare + 1 }
     ensures timeouts_room { rows.old.timeouts.spare ≤ rows.new.timeouts.spare + 1 }
@@ -44,8 +45,8 @@ pub(crate) fn take_single<A: Allocator + Clone>(
     }
     match exchange(&mut rows.accounts, t, time) {
         Ok(passed) => {
-            trail.push_reserved(Undo::Account(passed.debit));
-            trail.push_reserved(Undo::Account(passed.credit));
+            trail.note(Undo::Account(passed.debit));
+            trail.note(Undo::Account(passed.credit));
             let mut recorded = *t;
             recorded.amount = passed.amount;
             recorded.timestamp = time;

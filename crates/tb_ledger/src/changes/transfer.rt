@@ -1,15 +1,15 @@
 //! A transfer is judged, and recorded where it is accepted; by profile 2 the id of one that fails for good is noted.
-ghost use Rattle.std.specs.Prelude.{◌≡◌, ℕ, ◌+◌, ◌<◌, ◌≤◌, ◌==◌, true, false, vec_len, vec_capacity};
+ghost use Rattle.std.specs.Prelude.{◌≡◌, ◌≢◌, ℕ, ◌+◌, ◌<◌, ◌≤◌, ◌==◌, true, false, length};
 ghost use Rattle.std.specs.List.{list_any};
 ghost use Rattle.std.specs.Option.{option_map_or};
 ghost use Rattle.tb_ledger.specs.Batches.{is_final, transfer_events};
 ghost use Rattle.tb_ledger.specs.Kept.{books_in, IsKept};
-ghost use Rattle.tb_ledger.specs.Trail.{IsStep};
+ghost use Rattle.tb_ledger.specs.Trail.{Stays, IsStep};
 
 use crate::changes::resolving::take_resolving;
 use crate::changes::single::take_single;
 use crate::tables::rows::Rows;
-use crate::tables::trail::{TRAIL_PER_EVENT, Undo};
+use crate::tables::trail::{TRAIL_PER_EVENT, Trail};
 use crate::verdicts::transfer::{id_code, resolving};
 use std::alloc::Allocator;
 use tb_records::{CreateTransferResult, Transfer};
@@ -17,18 +17,19 @@ use tb_records::{CreateTransferResult, Transfer};
 /// Judges a transfer, and records it where the verdict is 0.
 pub(crate) fn take_transfer<A: Allocator + Clone>(
     rows: &mut Rows<A>,
-    trail: &mut Vec<Undo, A>,
+    trail: &mut Trail<A>,
     t: &Transfer,
     time: u64,
 ) -> u32
     requires kept { IsKept rows.old }
     requires room { 0 < rows.old.transfers.spare }
     requires timeouts_room { 0 < rows.old.timeouts.spare }
-    requires trail_room { vec_len trail.old + TRAIL_PER_EVENT ≤ vec_capacity trail.old }
+    requires trail_room { length trail.old.changes + TRAIL_PER_EVENT ≤ trail.old.capacity }
     requires stamped { rows.old.time < time + 1000000000 }
     ensures code { result ≡ transfer_events.verdict (books_in rows.old) t.now time }
     ensures done { result ≡ 0 → books_in rows.new ≡ transfer_events.recorded (books_in rows.old) t.now time }
     ensures kept { IsKept rows.new }
+    ensures refused { result ≢ 0 → Stays rows.old rows.new trail.old trail.new }
     ensures step { IsStep TRAIL_PER_EVENT rows.old rows.new trail.old trail.new }
     ensures room { rows.old.transfers.spare ≤ rows.new.transfers.spare + 1 }
     ensures timeouts_room { rows.old.timeouts.spare ≤ rows.new.timeouts.spare + 1 }

@@ -1,10 +1,12 @@
 //! The trail of a chain's changes, by which a chain that breaks is undone.
-ghost use Rattle.std.specs.Prelude.{◌≡◌, ◌≤◌, [], vec_capacity};
+ghost use Rattle.std.specs.Prelude.{◌≡◌, ◌*◌, ◌+◌, ◌<◌, ◌≤◌, ◌++◌, [], ◌∷◌, length, IfOk, IfSome, IfNone};
 ghost use Rattle.tb_ledger.specs.Trail.{unwound_accounts, unwound_transfers, unwound_timeouts, CanUnwind};
+ghost use Rattle.tb_ledger.specs.Noted.{with_noted};
 
 use crate::tables::index::{list, unlist};
 use crate::tables::rows::{AccountRow, Rows, TransferRow};
-use std::alloc::Allocator;
+use std::alloc::{AllocError, Allocator};
+use std::marker::Model;
 
 /// What undoes a change.
 #[derive(Clone, Copy)]
@@ -22,19 +24,75 @@ pub enum Undo {
 /// The records that an event adds to a trail at most.
 pub const TRAIL_PER_EVENT: usize = 4;
 
+/// The changes since a chain began, the oldest first. Of an event that stands alone none is noted: it happens whole or not at
+/// all.
+#[derive(Drop)]
+pub struct Trail<A: Allocator + Clone> {
+    log: Vec<Undo, A>,
+    noting: bool,
+}
+
+impl<A: Allocator + Clone> Model for Trail<A> {
+    ghost use Rattle.std.specs.Prelude.{vec_capacity};
+    ghost use Rattle.tb_ledger.specs.Noted.{Noted};
+
+    ghost Value = { Noted };
+
+    ghost view = { λ t.
+        record { changes = t.log.items; noting = t.noting; capacity = vec_capacity t.log } };
+}
+
+impl<A: Allocator + Clone> Trail<A> {
+    /// An empty trail with room for the changes of so many events.
+    pub fn with_room(alloc: A, events: usize) -> Result<Self, AllocError>
+        requires { events ≤ 8190 }
+        ensures { IfOk result (λ trail. TRAIL_PER_EVENT * events ≤ trail.capacity) }
+    {
+        let log = Vec::with_capacity(alloc, TRAIL_PER_EVENT * events)?;
+        Ok(Trail { log, noting: false })
+    }
+
+    /// Begins a chain, whose changes are noted or not.
+    pub fn start(&mut self, noting: bool)
+        ensures { self.new ≡ record self.old { changes = []; noting = noting } }
+    {
+        self.log.clear();
+        self.noting = noting;
+    }
+
+    /// Adds the record of a change, where changes are noted.
+    pub fn note(&mut self, undo: Undo)
+        requires { length self.old.changes < self.old.capacity }
+        ensures { self.new ≡ with_noted undo self.old }
+    {
+        if self.noting {
+            self.log.push_reserved(undo);
+        }
+    }
+
+    /// Takes the last record off.
+    fn pop(&mut self) -> Option<Undo>
+        ensures changes { IfSome result (λ undo. self.old.changes ≡ self.new.changes ++ undo ∷ []) }
+        ensures none { IfNone result (self.old.changes ≡ []) }
+        ensures noting { self.new.noting ≡ self.old.noting }
+        ensures capacity { self.new.capacity ≡ self.old.capacity }
+    {
+        self.log.pop()
+    }
+}
+
 /// Undoes the changes of the trail, the last first. No memory is taken.
-pub fn unwind<A: Allocator + Clone>(rows: &mut Rows<A>, trail: &mut Vec<Undo, A>)
-    requires { CanUnwind trail.old.items rows.old.timeouts }
-    ensures accounts { rows.new.accounts.items ≡ unwound_accounts trail.old.items rows.old.accounts.items }
-    ensures transfers { rows.new.transfers.items ≡ unwound_transfers trail.old.items rows.old.transfers.items }
-    ensures timeouts { rows.new.timeouts ≡ unwound_timeouts trail.old.items rows.old.timeouts }
+pub fn unwind<A: Allocator + Clone>(rows: &mut Rows<A>, trail: &mut Trail<A>)
+    requires { CanUnwind trail.old.changes rows.old.timeouts }
+    ensures accounts { rows.new.accounts.items ≡ unwound_accounts trail.old.changes rows.old.accounts.items }
+    ensures transfers { rows.new.transfers.items ≡ unwound_transfers trail.old.changes rows.old.transfers.items }
+    ensures timeouts { rows.new.timeouts ≡ unwound_timeouts trail.old.changes rows.old.timeouts }
     ensures accounts_room { rows.old.accounts.spare ≤ rows.new.accounts.spare }
     ensures transfers_room { rows.old.transfers.spare ≤ rows.new.transfers.spare }
     ensures failed { rows.new.failed ≡ rows.old.failed }
     ensures keeps_failed { rows.new.keeps_failed ≡ rows.old.keeps_failed }
     ensures time { rows.new.time ≡ rows.old.time }
-    ensures empty { trail.new.items ≡ [] }
-    ensures capacity { vec_capacity trail.new ≡ vec_capacity trail.old }
+    ensures capacity { trail.new.capacity ≡ trail.old.capacity }
 {
     while let Some(undo) = trail.pop() {
         match undo {

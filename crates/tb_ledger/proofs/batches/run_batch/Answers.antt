@@ -33,7 +33,6 @@ loop-rest-preserved g c =
       stamp = omega (arith, v.stamp);
       kept = r.kept;
       time = r.time ∙ v.time;
-      empty = r.empty;
       capacity = r.capacity ∙ v.capacity;
       room = omega (arith, parts, r.room, v.room);
       timeouts_room = r.timeouts_room (length later) (subst (λ k. g.E.Event.HasTimeoutRoom k c.loop-rest.rows.timeouts.spare) parts v.timeouts_room);

@@ -1,4 +1,4 @@
-use Rattle.std.proofs.Common.{◌≡◌, ◌+◌, ◌≤◌, ◌++◌, [], length, vec_len, vec_capacity}
+use Rattle.std.proofs.Common.{◌≡◌, ◌+◌, ◌≤◌, ◌++◌, length, vec_len, vec_capacity}
 use Rattle.tb_ledger.specs.Batches.{blocks, blocks_after, timed_from, results_from}
 use Rattle.tb_ledger.specs.Kept.{books_in, IsKept}
 use Rattle.tb_ledger.proofs.batches.run_batch.Given as goal
@@ -11,8 +11,7 @@ invariant-loop-rest g l = let kind = g.E.Event.kind in let start = l.initial.row
   stamp : l.stamp ≡ l.time + l.index;
   kept : IsKept l.rows;
   time : l.rows.time ≡ start.time;
-  empty : l.trail.items ≡ [];
-  capacity : vec_capacity l.trail ≡ vec_capacity l.initial.trail;
+  capacity : l.trail.capacity ≡ l.initial.trail.capacity;
   room : length l.rest ≤ g.E.Event.room l.rows.accounts.spare l.rows.transfers.spare;
   timeouts_room : g.E.Event.HasTimeoutRoom (length l.rest) l.rows.timeouts.spare;
   ids : g.E.Event.HasIdRoom (length l.rest) l.rows.keeps_failed l.rows.failed.spare;

@@ -1,28 +1,44 @@
 use Rattle.std.proofs.Common.{◌≡◌, ◌+◌, ◌-◌, ◌≤◌, ◌++◌, [], length, subst, sym, ap, ◌∙◌, arith, append-nil}
 use Rattle.tb_ledger.specs.Batches.{results_from, block_after, timed_from}
 use Rattle.tb_ledger.specs.Kept.{books_in}
+use Rattle.tb_ledger.specs.Trail.{unwound_accounts, unwound_transfers, unwound_timeouts}
 use Rattle.tb_ledger.proofs.CodeLaws.{results-none}
 use Rattle.tb_ledger.proofs.BlockLaws.{failure-later, all-later, broken-here, passed-here}
 use Rattle.tb_ledger.proofs.RowLaws.{ledger_back, books_back}
 use Rattle.tb_ledger.proofs.batches.chains.run_block.Goals as goal
 
+-- an event that is refused leaves rows and trail, so the rows that the trail leads back to are those from before the chain
+
+pub unwind-requires : goal.unwind-requires
+unwind-requires g c =
+    let stays = c.take_in_chain-code.ensures.refused c.if-code-ne0.true in
+    rw (stays.0, stays.1) ((c.loop-i.invariant.back c.loop-i-test.true).can_unwind tt)
+
 pub refuse-requires-clause-kept : goal.refuse-requires-clause-kept
 refuse-requires-clause-kept g c =
     let u = c.unwind.ensures in
     let t = c.take_in_chain-code.ensures.step in
+    let stays = c.take_in_chain-code.ensures.refused c.if-code-ne0.true in
     let v = c.loop-i.invariant in
+    let back = v.back c.loop-i-test.true in
     ledger_back _ _ _ _ _ _ _ _ _ _ _ _ c.requires.kept
-    (u.accounts ∙ t.undo_accounts ∙ v.accounts) (u.transfers ∙ t.undo_transfers ∙ v.transfers) (ap (λ x. x.items) (u.failed ∙ t.failed ∙ v.failed)) (u.keeps_failed ∙ t.keeps_failed ∙ v.keeps)
-    (ap (λ x. x.items) (u.timeouts ∙ t.undo_timeouts ∙ v.timeouts)) (u.time ∙ t.time ∙ v.time)
+    (u.accounts ∙ (λ i. unwound_accounts (stays.1 i).changes (stays.0 i).accounts.items) ∙ back.undo_accounts)
+    (u.transfers ∙ (λ i. unwound_transfers (stays.1 i).changes (stays.0 i).transfers.items) ∙ back.undo_transfers)
+    (ap (λ x. x.items) (u.failed ∙ t.failed ∙ v.failed)) (u.keeps_failed ∙ t.keeps_failed ∙ v.keeps)
+    (ap (λ x. x.items) (u.timeouts ∙ (λ i. unwound_timeouts (stays.1 i).changes (stays.0 i).timeouts) ∙ back.undo_timeouts)) (u.time ∙ t.time ∙ v.time)
 
 pub returns-then-code-ne0-clause-books : goal.returns-then-code-ne0-clause-books
 returns-then-code-ne0-clause-books g c =
     let u = c.unwind.ensures in
     let t = c.take_in_chain-code.ensures.step in
+    let stays = c.take_in_chain-code.ensures.refused c.if-code-ne0.true in
     let v = c.loop-i.invariant in
+    let leads = v.back c.loop-i-test.true in
     let kind = g.E.Event.kind in
     let back : books_in c.unwind.new.rows ≡ books_in c.args.rows.now = books_back _ _ _ _ _ _ _ _ _ _
-    (u.accounts ∙ t.undo_accounts ∙ v.accounts) (u.transfers ∙ t.undo_transfers ∙ v.transfers) (ap (λ x. x.items) (u.failed ∙ t.failed ∙ v.failed)) (u.keeps_failed ∙ t.keeps_failed ∙ v.keeps) (u.time ∙ t.time ∙ v.time) in
+    (u.accounts ∙ (λ i. unwound_accounts (stays.1 i).changes (stays.0 i).accounts.items) ∙ leads.undo_accounts)
+    (u.transfers ∙ (λ i. unwound_transfers (stays.1 i).changes (stays.0 i).transfers.items) ∙ leads.undo_transfers)
+    (ap (λ x. x.items) (u.failed ∙ t.failed ∙ v.failed)) (u.keeps_failed ∙ t.keeps_failed ∙ v.keeps) (u.time ∙ t.time ∙ v.time) in
     let broken = broken-here kind (books_in c.args.rows.now) c.args.block.now c.args.time (books_in c.loop-i.rows) c.loop-i.i c.loop-i.stamp c.take_in_chain-code.result c.index-block-i.result
     v.failure c.loop-i-test.true c.index-block-i.is c.take_in_chain-code.ensures.code c.if-code-ne0.true in
     c.refuse.ensures.books ∙ ap (λ B. kind.refused B c.index-block-i.result c.take_in_chain-code.result) back ∙ sym (ap (λ o. o.books) broken)
@@ -51,12 +67,18 @@ loop-i-preserved g c =
     record {
       failure = rw done (sym later ∙ v.failure);
       all = rw done (sym ends ∙ v.all);
-      accounts = s.undo_accounts ∙ v.accounts;
-      transfers = s.undo_transfers ∙ v.transfers;
+      noting = λ many. s.grows.noting ∙ v.noting many;
+      back = λ more.
+          let now = s.grows.leads (v.noting (omega (arith, more))) in
+          let before = v.back c.loop-i-test.true in
+          record {
+            undo_accounts = now.undo_accounts ∙ before.undo_accounts;
+            undo_transfers = now.undo_transfers ∙ before.undo_transfers;
+            undo_timeouts = now.undo_timeouts ∙ before.undo_timeouts;
+            can_unwind = λ can. now.can_unwind (before.can_unwind can);
+          };
       failed = s.failed ∙ v.failed;
       keeps = s.keeps_failed ∙ v.keeps;
-      timeouts = s.undo_timeouts ∙ v.timeouts;
-      can = s.can_unwind v.can;
       time = s.time ∙ v.time;
       kept = t.kept;
       results = v.results;
@@ -66,8 +88,8 @@ loop-i-preserved g c =
       timeouts_room = λ n all.
           let left : length block - c.loop-i.i + n ≡ 1 + (length block - (c.loop-i.i + 1) + n) = omega (arith, c.loop-i-test.true) in
           t.timeouts_room (length block - (c.loop-i.i + 1) + n) (subst (λ k. g.E.Event.HasTimeoutRoom k c.loop-i.rows.timeouts.spare) left (v.timeouts_room n all));
-      trail = omega (arith, s.length, v.trail);
-      capacity = s.capacity ∙ v.capacity;
+      trail = omega (arith, s.grows.length, v.trail);
+      capacity = s.grows.capacity ∙ v.capacity;
     }
 
 pub returns-clause-results : goal.returns-clause-results
@@ -89,10 +111,10 @@ take_in_chain-code-requires-clause-timeouts_room g c =
 pub returns-then-code-ne0-clause-timeouts_room : goal.returns-then-code-ne0-clause-timeouts_room
 returns-then-code-ne0-clause-timeouts_room g c = λ n all.
     let u = c.unwind.ensures in
-    let t = c.take_in_chain-code.ensures.step in
-    let v = c.loop-i.invariant in
+    let stays = c.take_in_chain-code.ensures.refused c.if-code-ne0.true in
+    let back = c.loop-i.invariant.back c.loop-i-test.true in
     let less : n ≤ length c.args.block.now + n = omega arith in
-    let same = c.refuse.ensures.timeouts ∙ u.timeouts ∙ t.undo_timeouts ∙ v.timeouts in
+    let same = c.refuse.ensures.timeouts ∙ u.timeouts ∙ (λ i. unwound_timeouts (stays.1 i).changes (stays.0 i).timeouts) ∙ back.undo_timeouts in
     g.met.E.Event.fewer_timeouts n (length c.args.block.now + n) c.refuse.new.rows.timeouts.spare c.refuse.new.rows.timeouts.spare less (omega arith) (subst (λ d. g.E.Event.HasTimeoutRoom (length c.args.block.now + n) d.spare) (sym same) all)
 
 pub returns-clause-timeouts_room : goal.returns-clause-timeouts_room

@@ -1,8 +1,8 @@
-use Rattle.std.proofs.Common.{◌≡◌, Some, refl, sym, ap, ◌∙◌, arith, rules}
+use Rattle.std.proofs.Common.{◌≡◌, Some, refl, sym, ap, ◌∙◌, rules}
 use Rattle.tb_records.specs.Ordered.{replaced}
 use Rattle.tb_ledger.specs.declared.tables.trail.Undo.TheVariants.{Transfer}
 use Rattle.tb_ledger.specs.Kept.{settled, transfer_row_key}
-use Rattle.tb_ledger.proofs.Trails.{undone_close, undone_timeouts, can_undone, other_accounts}
+use Rattle.tb_ledger.proofs.Trails.{grown_by, undone_close, undone_timeouts, can_undone, other_accounts}
 use Rattle.tb_ledger.proofs.Index.{undone_unlisted, can_relist}
 use Rattle.tb_ledger.proofs.changes.resolving.close_row.Goals as goal
 
@@ -24,11 +24,11 @@ returns-clause-marked g c =
     let left_is : ch.left ≡ settled c.args.state ch.row = search rules in
     let the_row : ch.row ≡ p = let e : Some ch.row ≡ Some p = sym ch.found ∙ c.requires.found in cc in
     let closed : later ≡ replaced transfer_row_key (settled c.args.state p) transfers = ch.written ∙ ap (λ row. replaced transfer_row_key row transfers) (left_is ∙ ap (settled c.args.state) the_row) in
-    record {
-      undo_accounts = other_accounts c.args.trail.now.items c.push_reserved.new.self.items (Transfer p) (λ rows. refl) c.push_reserved.ensures.items;
-      undo_transfers = undone_close c.args.trail.now.items c.push_reserved.new.self.items p (settled c.args.state p) transfers later c.push_reserved.ensures.items closed c.requires.found;
-      undo_timeouts = undone_timeouts c.args.trail.now.items c.push_reserved.new.self.items (Transfer p) ts moved c.push_reserved.ensures.items (rw taken back);
-      can_unwind = can_undone c.args.trail.now.items c.push_reserved.new.self.items (Transfer p) ts moved c.push_reserved.ensures.items (rw taken back) (rw taken can);
-      length = omega arith;
-      capacity = c.push_reserved.ensures.capacity;
-    }
+    let us = c.args.trail.now.changes in
+    let more = c.note.new.self.changes in
+    grown_by (Transfer p) c.args.trail.now c.note.new.self c.note.ensures (λ pushed. record {
+      undo_accounts = other_accounts us more (Transfer p) (λ rows. refl) pushed;
+      undo_transfers = undone_close us more p (settled c.args.state p) transfers later pushed closed c.requires.found;
+      undo_timeouts = undone_timeouts us more (Transfer p) ts moved pushed (rw taken back);
+      can_unwind = can_undone us more (Transfer p) ts moved pushed (rw taken back) (rw taken can);
+    })

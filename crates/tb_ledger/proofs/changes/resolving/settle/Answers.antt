@@ -1,10 +1,11 @@
-use Rattle.std.proofs.Common.{◌≡◌, ◌++◌, [], ◌∷◌, append_assoc, refl, sym, subst, ap, ◌∙◌, ◌==◌, find, Some, IsSome, arith}
+use Rattle.std.proofs.Common.{◌≡◌, refl, sym, subst, ap, ◌∙◌, ◌==◌, find, Some, IsSome, arith}
 use Rattle.tb_records.specs.Ordered.{put, replaced}
-use Rattle.tb_ledger.specs.declared.tables.trail.Undo.TheVariants.{Account}
 use Rattle.tb_ledger.specs.Books.{closing_debit, closing_credit}
 use Rattle.tb_ledger.specs.Exchanges.{row_at}
 use Rattle.tb_ledger.specs.Kept.{on_debits, on_credits, released_and_gained, settled, listed, IsIndex, transfer_row_key, new_transfer_row}
+use Rattle.tb_ledger.specs.Trail.{IsMarked}
 use Rattle.tb_ledger.proofs.Passing.{noted_two}
+use Rattle.tb_ledger.proofs.Trails.{grows_both}
 use Rattle.tb_ledger.proofs.Settled.{refound, same_debit, same_credit, apart, at_most, debit_enough, credit_enough, fresh_still, listed_before, not_timed, index_with_resolver, books_with_resolver, ledger_with_resolver}
 use Rattle.tb_ledger.proofs.VerdictLaws.{debit_there, credit_there, closed_by_rows}
 use Rattle.tb_ledger.proofs.changes.resolving.settle.Goals as goal
@@ -108,21 +109,25 @@ returns-in-Ok-clause-step g c =
     let d = c.in-Ok.before.debit in
     let k = c.in-Ok.before.credit in
     let has = c.in-Ok.ensures.settled in
-    let us = c.args.trail.now.items in
-    let pushed : c.push_reserved-in-Ok.new.self.items ≡ us ++ Account d ∷ Account k ∷ [] = c.push_reserved-in-Ok.ensures.items ∙ ap (λ vs. vs ++ Account k ∷ []) c.push_reserved.ensures.items ∙ append_assoc us (Account d ∷ []) (Account k ∷ []) in
     let differ = apart rows.accounts.items rows.transfers.items rows.failed.items rows.keeps_failed rows.timeouts.items rows.time c.requires.kept c.args.p.now c.args.r.now c.requires.found c.requires.resolves c.requires.is_resolver in
-    let noted = noted_two r.debit_account_id r.credit_account_id (on_debits (released_and_gained closing_debit p r)) (on_credits (released_and_gained closing_credit p r)) d k rows.accounts.items c.settle_accounts.new.accounts.items c.args.trail.now c.push_reserved-in-Ok.new.self (λ y. refl) (λ y. refl) pushed
-    (omega (arith, c.push_reserved.ensures.len, c.push_reserved-in-Ok.ensures.len)) (c.push_reserved-in-Ok.ensures.capacity ∙ c.push_reserved.ensures.capacity) differ (has.debit_there ∙ ap (λ x. Some x.debit) (sym has.leaves.0)) (has.credit_there ∙ ap (λ x. Some x.credit) (sym has.leaves.0)) has.leaves.1 in
-    let closed = c.close_row.ensures.marked in
-    let added = c.add_row.ensures.marked in
+    let noted = noted_two r.debit_account_id r.credit_account_id (on_debits (released_and_gained closing_debit p r)) (on_credits (released_and_gained closing_credit p r)) d k rows.accounts.items c.settle_accounts.new.accounts.items c.args.trail.now c.note.new.self c.note-in-Ok.new.self (λ y. refl) (λ y. refl) c.note.ensures c.note-in-Ok.ensures differ (has.debit_there ∙ ap (λ x. Some x.debit) (sym has.leaves.0)) (has.credit_there ∙ ap (λ x. Some x.credit) (sym has.leaves.0)) has.leaves.1 in
+    let marked : IsMarked 2 rows.transfers.items c.add_row.new.transfers.items rows.timeouts c.add_row.new.timeouts c.note-in-Ok.new.self c.add_row.new.trail = grows_both 1 1 2 c.note-in-Ok.new.self c.close_row.new.trail c.add_row.new.trail c.close_row.ensures.marked c.add_row.ensures.marked (omega arith) (λ us vs ws first second. record {
+      undo_accounts = λ accounts. second.undo_accounts accounts ∙ first.undo_accounts accounts;
+      undo_transfers = second.undo_transfers ∙ first.undo_transfers;
+      undo_timeouts = second.undo_timeouts ∙ first.undo_timeouts;
+      can_unwind = λ can. second.can_unwind (first.can_unwind can);
+    }) in
     record {
-      undo_accounts = added.undo_accounts c.settle_accounts.new.accounts.items ∙ closed.undo_accounts c.settle_accounts.new.accounts.items ∙ noted.undo_accounts;
-      undo_transfers = added.undo_transfers ∙ closed.undo_transfers ∙ noted.undo_transfers rows.transfers.items;
-      undo_timeouts = added.undo_timeouts ∙ closed.undo_timeouts ∙ noted.undo_timeouts rows.timeouts;
-      can_unwind = λ can. added.can_unwind (closed.can_unwind (noted.can_unwind rows.timeouts can));
       failed = refl;
       keeps_failed = refl;
       time = refl;
-      length = omega (arith, added.length, closed.length, noted.length);
-      capacity = added.capacity ∙ closed.capacity ∙ noted.capacity;
+      grows = grows_both 2 2 4 c.args.trail.now c.note-in-Ok.new.self c.add_row.new.trail noted marked (omega arith) (λ us vs ws first second. record {
+        undo_accounts = second.undo_accounts c.settle_accounts.new.accounts.items ∙ first.undo_accounts;
+        undo_transfers = second.undo_transfers ∙ first.undo_transfers rows.transfers.items;
+        undo_timeouts = second.undo_timeouts ∙ first.undo_timeouts rows.timeouts;
+        can_unwind = λ can. second.can_unwind (first.can_unwind rows.timeouts can);
+      });
     }
+
+pub returns-in-Err-clause-refused : goal.returns-in-Err-clause-refused
+returns-in-Err-clause-refused g c _ = ((λ i. record c.args.rows.now { accounts = record { items = c.in-Err.ensures.settled.leaves i; spare = c.settle_accounts.ensures.room i } }), refl)

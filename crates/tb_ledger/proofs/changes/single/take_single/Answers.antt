@@ -1,6 +1,5 @@
-use Rattle.std.proofs.Common.{◌≡◌, ◌++◌, [], ◌∷◌, true, refl, append_assoc, option_map, sym, ap, ◌∙◌, arith}
+use Rattle.std.proofs.Common.{◌≡◌, true, refl, option_map, sym, ap, ◌∙◌, arith}
 use Rattle.tb_records.specs.Ordered.{put}
-use Rattle.tb_ledger.specs.declared.tables.trail.Undo.TheVariants.{Account}
 use Rattle.tb_ledger.specs.Books.{account_now}
 use Rattle.tb_ledger.specs.Exchanges.{as_recorded}
 use Rattle.tb_ledger.specs.Kept.{books_in, row_now, transfer_row_key, times_out, listed, new_transfer_row, CanList, IsIndex}
@@ -9,6 +8,7 @@ use Rattle.tb_ledger.specs.Verdicts.{first_of, single_own_lines, transfer_verdic
 use Rattle.tb_ledger.proofs.Accepted.{new_transfer, accounts_apart}
 use Rattle.tb_ledger.proofs.Index.{not_listed_yet, index_added}
 use Rattle.tb_ledger.proofs.Passing.{noted_passed}
+use Rattle.tb_ledger.proofs.Trails.{grows_both}
 use Rattle.tb_ledger.proofs.Settled.{no_row, books_with_single, ledger_with_single}
 use Rattle.tb_ledger.proofs.VerdictLaws.{account_stands, single_verdict, verdict_by_rows, balanced_found, recorded_pair, own_refused, recorded_single}
 use Rattle.tb_ledger.proofs.changes.single.take_single.Goals as goal
@@ -117,22 +117,22 @@ returns-in-Ok-clause-step g c =
     let t = c.args.t.now in
     let x = c.in-Ok.passed in
     let ex = c.in-Ok.ensures.exchanged in
-    let us = c.args.trail.now.items in
     let apart = accounts_apart t (sym c.single_own-code.ensures ∙ c.if-code-ne0.false) in
-    let pushed : c.push_reserved-in-Ok.new.self.items ≡ us ++ Account x.debit ∷ Account x.credit ∷ [] = c.push_reserved-in-Ok.ensures.items ∙ ap (λ vs. vs ++ Account x.credit ∷ []) c.push_reserved.ensures.items ∙ append_assoc us (Account x.debit ∷ []) (Account x.credit ∷ []) in
-    let noted = noted_passed (as_recorded t x.amount c.args.time) x.debit x.credit rows.accounts.items c.exchange.new.accounts.items c.args.trail.now c.push_reserved-in-Ok.new.self pushed (omega (arith, c.push_reserved.ensures.len, c.push_reserved-in-Ok.ensures.len)) (c.push_reserved-in-Ok.ensures.capacity ∙ c.push_reserved.ensures.capacity) apart ex.1.0 ex.1.1 ex.1.3 in
-    let marked = c.add_row.ensures.marked in
+    let noted = noted_passed (as_recorded t x.amount c.args.time) x.debit x.credit rows.accounts.items c.exchange.new.accounts.items c.args.trail.now c.note.new.self c.note-in-Ok.new.self c.note.ensures c.note-in-Ok.ensures apart ex.1.0 ex.1.1 ex.1.3 in
     record {
-      undo_accounts = marked.undo_accounts c.exchange.new.accounts.items ∙ noted.undo_accounts;
-      undo_transfers = marked.undo_transfers ∙ noted.undo_transfers rows.transfers.items;
-      undo_timeouts = marked.undo_timeouts ∙ noted.undo_timeouts rows.timeouts;
-      can_unwind = λ can. marked.can_unwind (noted.can_unwind rows.timeouts can);
       failed = refl;
       keeps_failed = refl;
       time = refl;
-      length = omega (arith, marked.length, noted.length);
-      capacity = marked.capacity ∙ noted.capacity;
+      grows = grows_both 2 1 4 c.args.trail.now c.note-in-Ok.new.self c.add_row.new.trail noted c.add_row.ensures.marked (omega arith) (λ us vs ws first second. record {
+        undo_accounts = second.undo_accounts c.exchange.new.accounts.items ∙ first.undo_accounts;
+        undo_transfers = second.undo_transfers ∙ first.undo_transfers rows.transfers.items;
+        undo_timeouts = second.undo_timeouts ∙ first.undo_timeouts rows.timeouts;
+        can_unwind = λ can. second.can_unwind (first.can_unwind rows.timeouts can);
+      });
     }
+
+pub returns-in-Err-clause-refused : goal.returns-in-Err-clause-refused
+returns-in-Err-clause-refused g c _ = ((λ i. record c.args.rows.now { accounts = record { items = c.in-Err.ensures.exchanged.1 i; spare = c.exchange.ensures.room i } }), refl)
 
 pub returns-in-Err-clause-code : goal.returns-in-Err-clause-code
 returns-in-Err-clause-code g c =

@@ -8,10 +8,10 @@ pub loop-undo-preserved-in-Account : goal.loop-undo-preserved-in-Account
 loop-undo-preserved-in-Account g c =
     let rows = c.loop-undo.rows in
     let v = c.loop-undo.invariant in
-    let us = c.pop.new.self.items in
-    let more = c.loop-undo.trail.items in
+    let us = c.pop.new.self.changes in
+    let more = c.loop-undo.trail.changes in
     let u = Account c.in-Account.row in
-    let is : more ≡ us ++ u ∷ [] = c.in-Some.ensures.items ∙ ap (λ u. us ++ u ∷ []) c.in-Account.is in
+    let is : more ≡ us ++ u ∷ [] = c.in-Some.ensures.changes ∙ ap (λ u. us ++ u ∷ []) c.in-Account.is in
     record {
       accounts = ap (λ t. unwound_accounts us t.items) c.replace.ensures.table ∙ popped_accounts us more u rows.accounts.items is ∙ v.accounts;
       transfers = popped_transfers us more u rows.transfers.items is ∙ v.transfers;
@@ -29,20 +29,20 @@ pub list-requires : goal.list-requires
 list-requires g c =
     let rows = c.loop-undo.rows in
     let v = c.loop-undo.invariant in
-    let us = c.pop.new.self.items in
-    let more = c.loop-undo.trail.items in
+    let us = c.pop.new.self.changes in
+    let more = c.loop-undo.trail.changes in
     let u = Transfer c.in-Transfer.row in
-    let is : more ≡ us ++ u ∷ [] = c.in-Some.ensures.items ∙ ap (λ u. us ++ u ∷ []) c.in-Transfer.is in
+    let is : more ≡ us ++ u ∷ [] = c.in-Some.ensures.changes ∙ ap (λ u. us ++ u ∷ []) c.in-Transfer.is in
     (popped_can us more u rows.timeouts is v.can).0
 
 pub loop-undo-preserved-in-Transfer : goal.loop-undo-preserved-in-Transfer
 loop-undo-preserved-in-Transfer g c =
     let rows = c.loop-undo.rows in
     let v = c.loop-undo.invariant in
-    let us = c.pop.new.self.items in
-    let more = c.loop-undo.trail.items in
+    let us = c.pop.new.self.changes in
+    let more = c.loop-undo.trail.changes in
     let u = Transfer c.in-Transfer.row in
-    let is : more ≡ us ++ u ∷ [] = c.in-Some.ensures.items ∙ ap (λ u. us ++ u ∷ []) c.in-Transfer.is in
+    let is : more ≡ us ++ u ∷ [] = c.in-Some.ensures.changes ∙ ap (λ u. us ++ u ∷ []) c.in-Transfer.is in
     record {
       accounts = popped_accounts us more u rows.accounts.items is ∙ v.accounts;
       transfers = ap (λ t. unwound_transfers us t.items) c.replace-in-Transfer.ensures.table ∙ popped_transfers us more u rows.transfers.items is ∙ v.transfers;
@@ -60,10 +60,10 @@ pub loop-undo-preserved-in-AddedAccount : goal.loop-undo-preserved-in-AddedAccou
 loop-undo-preserved-in-AddedAccount g c =
     let rows = c.loop-undo.rows in
     let v = c.loop-undo.invariant in
-    let us = c.pop.new.self.items in
-    let more = c.loop-undo.trail.items in
+    let us = c.pop.new.self.changes in
+    let more = c.loop-undo.trail.changes in
     let u = AddedAccount c.in-AddedAccount.id in
-    let is : more ≡ us ++ u ∷ [] = c.in-Some.ensures.items ∙ ap (λ u. us ++ u ∷ []) c.in-AddedAccount.is in
+    let is : more ≡ us ++ u ∷ [] = c.in-Some.ensures.changes ∙ ap (λ u. us ++ u ∷ []) c.in-AddedAccount.is in
     record {
       accounts = ap (unwound_accounts us) c.remove.ensures.rows ∙ popped_accounts us more u rows.accounts.items is ∙ v.accounts;
       transfers = popped_transfers us more u rows.transfers.items is ∙ v.transfers;
@@ -81,20 +81,20 @@ pub unlist-requires : goal.unlist-requires
 unlist-requires g c =
     let rows = c.loop-undo.rows in
     let v = c.loop-undo.invariant in
-    let us = c.pop.new.self.items in
-    let more = c.loop-undo.trail.items in
+    let us = c.pop.new.self.changes in
+    let more = c.loop-undo.trail.changes in
     let u = AddedTransfer c.in-AddedTransfer.row in
-    let is : more ≡ us ++ u ∷ [] = c.in-Some.ensures.items ∙ ap (λ u. us ++ u ∷ []) c.in-AddedTransfer.is in
+    let is : more ≡ us ++ u ∷ [] = c.in-Some.ensures.changes ∙ ap (λ u. us ++ u ∷ []) c.in-AddedTransfer.is in
     (popped_can us more u rows.timeouts is v.can).0
 
 pub loop-undo-preserved : goal.loop-undo-preserved
 loop-undo-preserved g c =
     let rows = c.loop-undo.rows in
     let v = c.loop-undo.invariant in
-    let us = c.pop.new.self.items in
-    let more = c.loop-undo.trail.items in
+    let us = c.pop.new.self.changes in
+    let more = c.loop-undo.trail.changes in
     let u = AddedTransfer c.in-AddedTransfer.row in
-    let is : more ≡ us ++ u ∷ [] = c.in-Some.ensures.items ∙ ap (λ u. us ++ u ∷ []) c.in-AddedTransfer.is in
+    let is : more ≡ us ++ u ∷ [] = c.in-Some.ensures.changes ∙ ap (λ u. us ++ u ∷ []) c.in-AddedTransfer.is in
     record {
       accounts = popped_accounts us more u rows.accounts.items is ∙ v.accounts;
       transfers = ap (unwound_transfers us) c.remove-in-AddedTransfer.ensures.rows ∙ popped_transfers us more u rows.transfers.items is ∙ v.transfers;

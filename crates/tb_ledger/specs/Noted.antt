@@ -1,0 +1,13 @@
+-- The changes of a chain that a trail has noted.
+use Rattle.std.specs.Prelude.{ℕ, Bool, List, [], ◌∷◌, ◌++◌, if◌then◌else◌}
+use Rattle.tb_ledger.specs.declared.tables.trail.Undo.{Undo}
+
+-- the changes since a chain began, the oldest first, whether they are noted at all, and how many there is room for
+pub record Noted : Type 0 where
+  pub changes : List Undo
+  pub noting : Bool
+  pub capacity : ℕ
+
+-- with one more, where they are noted
+abbrev pub with_noted : Undo → Noted → Noted
+with_noted undo trail = if trail.noting then record trail { changes = trail.changes ++ undo ∷ [] } else trail
