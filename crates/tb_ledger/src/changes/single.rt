@@ -43,8 +43,10 @@ pub(crate) fn take_single<A: Allocator + Clone>(
     if code != 0 {
         return code;
     }
-    match exchange(&mut rows.accounts, t, time) {
-        Ok(passed) => {
+    let mut passed = None;
+    let code = exchange(&mut rows.accounts, t, time, &mut passed);
+    match &passed {
+        Some(passed) => {
             trail.note(Undo::Account(passed.debit));
             trail.note(Undo::Account(passed.credit));
             let mut recorded = *t;
@@ -55,7 +57,7 @@ pub(crate) fn take_single<A: Allocator + Clone>(
             add_row(&mut rows.transfers, &mut rows.timeouts, trail, &row);
             0
         }
-        Err(code) => code,
+        None => code,
     }
 }
 
@@ -67,36 +69,36 @@ struct Passed {
     pub amount: u128,
 }
 
-/// Judges a transfer between two accounts, and changes their rows where it passes.
+/// Judges a transfer between two accounts, and changes their rows where it passes: a code, or 0. What passed is large, so it
+/// goes into a place of its own.
 fn exchange<A: Allocator + Clone>(
     accounts: &mut Table<AccountRow, A>,
     t: &Transfer,
     time: u64,
-) -> Result<Passed, u32>
+    passed: &mut Option<Passed>,
+) -> u32
     requires { t.now.debit_account_id ≢ t.now.credit_account_id }
-    ensures exchanged { ExchangesIn t.now time accounts.old.items result accounts.new.items }
+    ensures exchanged { ExchangesIn t.now time accounts.old.items (ok_or passed.new result) accounts.new.items }
     ensures room { accounts.new.spare ≡ accounts.old.spare }
 {
-    let mut passed = None;
     let exchanged = accounts.update_two(
         t.debit_account_id,
         t.credit_account_id,
         &mut |debit: &mut AccountRow, credit: &mut AccountRow| exchange_rows(
-            debit,
-            credit,
-            t,
-            time,
-            &mut passed,
+            debit, credit, t, time, passed,
         ),
     );
     match exchanged {
-        Some(code) => passed.ok_or(code),
-        None => Err(missing(accounts, t)),
+        Some(code) => code,
+        None => {
+            *passed = None;
+            missing(accounts, t)
+        }
     }
 }
 
-/// Judges a transfer by the rows of its accounts, and changes both where it passes: a code, or 0. What passed is large, so it
-/// goes into a place of its own, and not through the search that calls this.
+/// Judges a transfer by the rows of its accounts, and changes both where it passes: a code, or 0. What passed does not go through
+/// the search that calls this.
 fn exchange_rows(
     debit: &mut AccountRow,
     credit: &mut AccountRow,
@@ -108,10 +110,12 @@ fn exchange_rows(
     ensures same_debit { debit.new.created ≡ debit.old.created }
     ensures same_credit { credit.new.created ≡ credit.old.created }
 {
-    *passed = None;
     let amount = match between(debit, credit, t, time) {
         Ok(amount) => amount,
-        Err(code) => return code,
+        Err(code) => {
+            *passed = None;
+            return code;
+        }
     };
     *passed = Some(Passed {
         debit: *debit,
