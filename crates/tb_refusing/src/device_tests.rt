@@ -105,10 +105,13 @@ fn serve<R: Source, W: Sink>(alloc: Global, form: Form, reader: &mut R, writer: 
 /// What is written where nothing fails.
 fn whole(alloc: Global, form: Form, input: &[u8]) -> Result<Vec<u8>, Fail> {
     let mut writer = Counting::new(Vec::new(alloc));
-    match serve(alloc, form, &mut Counting::new(input), &mut writer) {
-        Outcome::Done => Ok(writer.into_inner()),
-        _ => Err("a fault".into()),
+    let outcome = serve(alloc, form, &mut Counting::new(input), &mut writer);
+    let written = writer.into_inner();
+    if outcome != Outcome::Done {
+        drop(written);
+        return Err("a fault".into());
     }
+    Ok(written)
 }
 
 /// A script or a dump, and where its pairs or entries end.
@@ -167,19 +170,34 @@ fn lookup(alloc: Global) -> Result<Request, Fail> {
     Ok(Request::new(7, 1, 2, Body::LookupAccounts(Items::new(ids)))?)
 }
 
+/// Appends a request and lets it go.
+fn put(out: &mut Vec<u8>, request: Request) -> Result<(), Fail> {
+    let done = put_pair(out, &request);
+    drop(request);
+    done
+}
+
+/// Appends the three requests.
+fn put_three(alloc: Global, out: &mut Vec<u8>) -> Result<(), Fail> {
+    put(out, Request::new(7, 0, 0, Body::Register)?)?;
+    put(out, creation(alloc)?)?;
+    put(out, lookup(alloc)?)
+}
+
 /// Client 7 registers, creates accounts 1 and 2, and looks 2, 9 and 1 up.
 fn script(alloc: Global) -> Result<Input, Fail> {
     let mut bytes = Vec::new(alloc);
-    put_pair(&mut bytes, &Request::new(7, 0, 0, Body::Register)?)?;
-    put_pair(&mut bytes, &creation(alloc)?)?;
-    put_pair(&mut bytes, &lookup(alloc)?)?;
+    put_three(alloc, &mut bytes)?;
     let ends = Vec::from_slice(alloc, &[56_usize, 368, 472])?;
     Ok(Input { bytes, ends })
 }
 
 /// The dump of that script, with a mark behind its first entry.
 fn dump_of_script(alloc: Global) -> Result<Input, Fail> {
-    let bytes = whole(alloc, Form::Dump, &script(alloc)?.bytes)?;
+    let input = script(alloc)?;
+    let dumped = whole(alloc, Form::Dump, &input.bytes);
+    drop(input);
+    let bytes = dumped?;
     let ends = Vec::from_slice(alloc, &[16_usize, 80, 416, 528])?;
     Ok(Input { bytes, ends })
 }
@@ -197,11 +215,31 @@ fn written_of(alloc: Global, form: Form, input: &Input, count: usize) -> Result<
     if matches!(form, Form::Replay) && end == 0 {
         return Ok(Vec::new(alloc));
     }
-    whole(
-        alloc,
-        form,
-        input.bytes.as_slice().get(..end).ok_or("an end")?,
-    )
+    let pairs = input.bytes.as_slice().get(..end).ok_or("an end")?;
+    whole(alloc, form, pairs)
+}
+
+/// How a call ends, where a device failed or stopped, and where none did.
+fn outcome_where(failed: bool) -> Outcome {
+    if failed {
+        Outcome::Device
+    } else {
+        Outcome::Done
+    }
+}
+
+/// What was written is what the pairs give that lie in so many bytes of the input.
+fn is_written(
+    alloc: Global,
+    form: Form,
+    input: &Input,
+    count: usize,
+    written: &[u8],
+) -> Result<bool, Fail> {
+    let wanted = written_of(alloc, form, input, count)?;
+    let same = wanted.as_slice() == written;
+    drop(wanted);
+    Ok(same)
 }
 
 /// Serves the input with the read behind so many failing; says whether one failed.
@@ -216,80 +254,108 @@ fn fail_read(
     let mut reader = Counting::new(FailingReader { rest, good });
     let mut writer = Counting::new(Vec::new(alloc));
     let outcome = serve(alloc, form, &mut reader, &mut writer);
-    let failed = Source::failures(&reader);
+    let failed = Source::failures(&reader) == 1;
     let read = rest.len() - reader.into_inner().rest.len().min(rest.len());
-    assert!(rt;
-        outcome
-            == if failed == 1 {
-                Outcome::Device
-            } else {
-                Outcome::Done
-            }
-    );
-    let wanted = written_of(alloc, form, input, read)?;
-    assert!(rt;
-        writer.into_inner().as_slice() == wanted.as_slice(),
-        "behind {good} reads"
-    );
-    Ok(failed == 1)
+    let written = writer.into_inner();
+    let same = is_written(alloc, form, input, read, written.as_slice());
+    drop(written);
+    let right = same? && outcome == outcome_where(failed);
+    assert!(rt; right, "behind {good} reads");
+    Ok(failed)
 }
 
-/// Serves the input with the write behind so many failing, or taking nothing; says whether one did.
-fn stop_write(
-    rt: &impl Abort,
+/// Serves the input with the write behind so many failing, or taking nothing: how it ended, how many writes failed, and
+/// what was taken.
+fn stopped_at(
     alloc: Global,
     form: Form,
     input: &Input,
     good: u32,
     fails: bool,
-) -> Result<bool, Fail> {
+) -> (Outcome, u64, Vec<u8>) {
     let taken = Vec::new(alloc);
     let mut reader = Counting::new(input.bytes.as_slice());
     let mut writer = Counting::new(StoppingWriter { taken, good, fails });
     let outcome = serve(alloc, form, &mut reader, &mut writer);
     let failed = Sink::failures(&writer);
-    let taken = writer.into_inner().taken;
-    let wanted = whole(alloc, form, &input.bytes)?;
-    let stopped = taken.len() < wanted.len();
-    assert!(rt;
-        outcome
-            == if stopped {
-                Outcome::Device
-            } else {
-                Outcome::Done
-            }
-    );
-    assert!(rt;
-        failed == u64::from(stopped && fails),
-        "behind {good} writes"
-    );
-    assert!(rt;
-        wanted.as_slice().starts_with(taken.as_slice()),
-        "behind {good} writes"
-    );
-    Ok(stopped)
+    (outcome, failed, writer.into_inner().taken)
 }
 
-/// How often a read fails while a form serves its input.
-fn fail_reads(rt: &impl Abort, alloc: Global, form: Form) -> Result<u32, Fail> {
-    let input = input_of(alloc, form)?;
+/// Serves the input with the write behind so many failing, or taking nothing; says whether one did. What is wanted is
+/// written where none does.
+fn stop_write(
+    rt: &impl Abort,
+    alloc: Global,
+    form: Form,
+    input: &Input,
+    wanted: &[u8],
+    good: u32,
+    fails: bool,
+) -> bool {
+    let (outcome, failed, taken) = stopped_at(alloc, form, input, good, fails);
+    let stopped = taken.len() < wanted.len();
+    let begins = wanted.starts_with(taken.as_slice());
+    drop(taken);
+    let right = outcome == outcome_where(stopped) && failed == u64::from(stopped && fails);
+    assert!(rt; right && begins, "behind {good} writes");
+    stopped
+}
+
+/// How often a read of an input fails.
+fn fail_each(rt: &impl Abort, alloc: Global, form: Form, input: &Input) -> Result<u32, Fail> {
     for good in 0..100 {
-        if !fail_read(rt, alloc, form, &input, good)? {
+        if !fail_read(rt, alloc, form, input, good)? {
             return Ok(good);
         }
     }
     Err("reads without end".into())
 }
 
-/// How often a write stops while a form serves its input.
-fn stop_writes(rt: &impl Abort, alloc: Global, form: Form, fails: bool) -> Result<u32, Fail> {
+/// How often a read fails while a form serves its input.
+fn fail_reads(rt: &impl Abort, alloc: Global, form: Form) -> Result<u32, Fail> {
     let input = input_of(alloc, form)?;
+    let failed = fail_each(rt, alloc, form, &input);
+    drop(input);
+    failed
+}
+
+/// How often a write of what an input gives stops.
+fn stop_each(
+    rt: &impl Abort,
+    alloc: Global,
+    form: Form,
+    input: &Input,
+    wanted: &[u8],
+    fails: bool,
+) -> Result<u32, Fail> {
     for good in 0..100 {
-        if !stop_write(rt, alloc, form, &input, good, fails)? {
+        if !stop_write(rt, alloc, form, input, wanted, good, fails) {
             return Ok(good);
         }
     }
     Err("writes without end".into())
+}
+
+/// How often a write of what a form gives for an input stops.
+fn stop_all(
+    rt: &impl Abort,
+    alloc: Global,
+    form: Form,
+    input: &Input,
+    fails: bool,
+) -> Result<u32, Fail> {
+    let wanted = whole(alloc, form, &input.bytes)?;
+    let stopped = stop_each(rt, alloc, form, input, wanted.as_slice(), fails);
+    drop(wanted);
+    stopped
+}
+
+/// How often a write stops while a form serves its input.
+fn stop_writes(rt: &impl Abort, alloc: Global, form: Form, fails: bool) -> Result<u32, Fail> {
+    let input = input_of(alloc, form)?;
+    let stopped = stop_all(rt, alloc, form, &input, fails);
+    drop(input);
+    stopped
 }
 
 /// Each of the reads fails in turn: a moment, a header in two reads, each record in three or four.
@@ -314,41 +380,69 @@ fn each_write_stops(rt: HostRuntime) -> Result<(), Fail> {
     Ok(())
 }
 
-/// So many pairs come out of a stream before its fault, which stays.
-fn stream_until(rt: &impl Abort, alloc: Global, input: &Input, good: u32) -> Result<bool, Fail> {
-    let rest = input.bytes.as_slice();
-    let mut stream = RequestStream::new(Counting::new(FailingReader { rest, good }));
+/// How many pairs of an input end within so many bytes.
+fn pairs_within(input: &Input, read: usize) -> usize {
+    let ends = input.ends.as_slice().iter();
+    ends.filter(|end| **end <= read).count()
+}
+
+/// Takes five times what comes next of a stream: how many pairs come, and whether the end does. A fault is the
+/// device's.
+fn take_five(
+    rt: &impl Abort,
+    alloc: Global,
+    stream: &mut RequestStream<Counting<FailingReader<'_>>>,
+    good: u32,
+) -> (usize, bool) {
     let mut pairs = 0_usize;
     for _ in 0..5 {
         match stream.next_timed(alloc) {
-            Ok(Some(_)) => pairs = pairs.wrapping_add(1),
-            Ok(None) => return Ok(false),
+            Ok(Some(pair)) => {
+                drop(pair);
+                pairs = pairs.wrapping_add(1);
+            }
+            Ok(None) => return (pairs, true),
             Err(fault) => assert!(rt; fault == FrameFault::Device, "behind {good} reads"),
         }
     }
+    (pairs, false)
+}
+
+/// So many pairs come out of a stream before its fault, which stays.
+fn stream_until(rt: &impl Abort, alloc: Global, input: &Input, good: u32) -> bool {
+    let rest = input.bytes.as_slice();
+    let mut stream = RequestStream::new(Counting::new(FailingReader { rest, good }));
+    let (pairs, ended) = take_five(rt, alloc, &mut stream, good);
     let source = stream.into_source();
-    assert!(rt; Source::failures(&source) == 1, "behind {good} reads");
+    if ended {
+        return false;
+    }
+    let once = Source::failures(&source) == 1;
     let read = rest.len() - source.into_inner().rest.len().min(rest.len());
-    let whole = input
-        .ends
-        .as_slice()
-        .iter()
-        .filter(|end| **end <= read)
-        .count();
-    assert!(rt; pairs == whole, "behind {good} reads");
-    Ok(true)
+    assert!(rt;
+        once && pairs == pairs_within(input, read),
+        "behind {good} reads"
+    );
+    true
+}
+
+/// How many of a hundred streams fail, each of them a read later.
+fn stream_each(rt: &impl Abort, alloc: Global, input: &Input) -> u32 {
+    let mut failed = 0_u32;
+    for good in 0..100 {
+        if stream_until(rt, alloc, input, good) {
+            failed = failed.wrapping_add(1);
+        }
+    }
+    failed
 }
 
 /// Each read of a stream fails in turn.
 #[test]
 fn each_read_of_a_stream_fails(rt: HostRuntime) -> Result<(), Fail> {
     let input = script(rt.alloc())?;
-    let mut failed = 0_u32;
-    for good in 0..100 {
-        if stream_until(&rt, rt.alloc(), &input, good)? {
-            failed = failed.wrapping_add(1);
-        }
-    }
+    let failed = stream_each(&rt, rt.alloc(), &input);
+    drop(input);
     assert!(&rt; failed >= 19 && failed < 100, "{failed} reads failed");
     Ok(())
 }

@@ -134,40 +134,71 @@ fn transfers(alloc: Global, moment: u64, number: u32, all: &[Transfer]) -> Resul
     numbered(moment, number, Body::CreateTransfers(Items::new(all)))
 }
 
-/// The requests of the rows behind the lookup.
+/// Adds client 7's request with a number, of transfers.
+fn add(
+    alloc: Global,
+    turns: &mut Vec<Turn>,
+    moment: u64,
+    number: u32,
+    all: &[Transfer],
+) -> Result<(), Fail> {
+    turns.push(transfers(alloc, moment, number, all)?)?;
+    Ok(())
+}
+
+/// A chain that its second event breaks, and that event's id again.
+fn add_chain(alloc: Global, turns: &mut Vec<Turn>) -> Result<(), Fail> {
+    let link = TransferFlag::Linked;
+    let first = flagged(link, transfer(50, 1));
+    let broken = [first, flagged(link, from_nowhere(51)), transfer(52, 1)];
+    add(alloc, turns, EARLY, 3, &broken)?;
+    add(alloc, turns, EARLY, 4, &[transfer(51, 1), transfer(53, 5)])
+}
+
+/// Pending transfers, a post and a void, a chain that breaks behind a post, and a post that comes too late.
+fn add_pending(alloc: Global, turns: &mut Vec<Turn>) -> Result<(), Fail> {
+    let undone = flagged(TransferFlag::Linked, post(25, 22));
+    let three = [held(20, 40), held(21, 30), held(22, 20)];
+    add(alloc, turns, EARLY, 3, &three)?;
+    add(alloc, turns, EARLY, 4, &[post(23, 20), void(24, 21)])?;
+    add(alloc, turns, EARLY, 5, &[undone, from_nowhere(26)])?;
+    add(alloc, turns, LATE, 6, &[held(27, 5), post(28, 22)])
+}
+
+/// Adds the requests of the rows behind the lookup.
 fn add_transfers(alloc: Global, rows: Rows, turns: &mut Vec<Turn>) -> Result<(), Fail> {
     match rows {
-        Rows::First => turns.push(transfers(alloc, EARLY, 3, &[transfer(11, 100)])?)?,
-        Rows::Chain => {
-            let link = TransferFlag::Linked;
-            let first = flagged(link, transfer(50, 1));
-            let broken = [first, flagged(link, from_nowhere(51)), transfer(52, 1)];
-            let again = [transfer(51, 1), transfer(53, 5)];
-            turns.push(transfers(alloc, EARLY, 3, &broken)?)?;
-            turns.push(transfers(alloc, EARLY, 4, &again)?)?;
-        }
-        Rows::Pending => {
-            let three = [held(20, 40), held(21, 30), held(22, 20)];
-            let undone = flagged(TransferFlag::Linked, post(25, 22));
-            turns.push(transfers(alloc, EARLY, 3, &three)?)?;
-            turns.push(transfers(alloc, EARLY, 4, &[post(23, 20), void(24, 21)])?)?;
-            turns.push(transfers(alloc, EARLY, 5, &[undone, from_nowhere(26)])?)?;
-            turns.push(transfers(alloc, LATE, 6, &[held(27, 5), post(28, 22)])?)?;
-        }
+        Rows::First => add(alloc, turns, EARLY, 3, &[transfer(11, 100)]),
+        Rows::Chain => add_chain(alloc, turns),
+        Rows::Pending => add_pending(alloc, turns),
     }
-    Ok(())
+}
+
+/// Client 7's register.
+fn register() -> Result<Turn, Fail> {
+    let request = Request::new(7, 0, 0, Body::Register)?;
+    let moment = EARLY;
+    Ok(Turn { moment, request })
+}
+
+/// Adds the requests of the rows.
+fn add_all(alloc: Global, rows: Rows, turns: &mut Vec<Turn>) -> Result<(), Fail> {
+    turns.push(register()?)?;
+    turns.push(two_accounts(alloc)?)?;
+    turns.push(lookup(alloc)?)?;
+    add_transfers(alloc, rows, turns)
 }
 
 /// The requests of the rows.
 fn turns(alloc: Global, rows: Rows) -> Result<Vec<Turn>, Fail> {
     let mut all = Vec::new(alloc);
-    let request = Request::new(7, 0, 0, Body::Register)?;
-    let moment = EARLY;
-    all.push(Turn { moment, request })?;
-    all.push(two_accounts(alloc)?)?;
-    all.push(lookup(alloc)?)?;
-    add_transfers(alloc, rows, &mut all)?;
-    Ok(all)
+    match add_all(alloc, rows, &mut all) {
+        Ok(()) => Ok(all),
+        Err(fail) => {
+            drop(all);
+            Err(fail)
+        }
+    }
 }
 
 /// What a machine shows: its last commit number and time, the commit number of client 7's stored reply, its accounts 1 and 2,
@@ -191,24 +222,46 @@ fn look<A: Allocator + Clone>(machine: &Machine<A>) -> Result<Shown, Fail> {
     })
 }
 
-/// Applies an entry that may come next; where that is refused nothing has changed, and it is applied again. Says whether it was
-/// refused.
+/// A machine shows the same as before.
+fn expect_same<A: Allocator + Clone>(
+    rt: &impl Abort,
+    machine: &Machine<A>,
+    before: &Shown,
+) -> Result<(), Fail> {
+    let now = look(machine)?;
+    let same = now == *before;
+    drop(now);
+    assert!(rt; same, "a refused apply changed the machine");
+    Ok(())
+}
+
+/// Applies an entry that may come next, twice at the most; says whether it was refused once.
+fn apply_twice<A: Allocator + Clone>(
+    rt: &impl Abort,
+    machine: &mut Machine<A>,
+    entry: &Entry,
+    before: &Shown,
+) -> Result<bool, Fail> {
+    for refused in [false, true] {
+        if machine.fits(entry) && machine.apply(entry).is_ok() {
+            return Ok(refused);
+        }
+        expect_same(rt, machine, before)?;
+    }
+    Err("refused twice".into())
+}
+
+/// Applies an entry that may come next; where that is refused nothing has changed, and it is applied again. Says whether
+/// it was refused.
 fn apply<A: Allocator + Clone>(
     rt: &impl Abort,
     machine: &mut Machine<A>,
     entry: &Entry,
 ) -> Result<bool, Fail> {
     let before = look(machine)?;
-    for refused in [false, true] {
-        if machine.fits(entry) && machine.apply(entry).is_ok() {
-            return Ok(refused);
-        }
-        assert!(rt;
-            look(machine)? == before,
-            "a refused apply changed the machine"
-        );
-    }
-    Err("refused twice".into())
+    let applied = apply_twice(rt, machine, entry, &before);
+    drop(before);
+    applied
 }
 
 /// Enters a request at its moment; says whether that was refused once.
@@ -224,7 +277,9 @@ fn enter<A: Allocator + Clone>(
         time: machine.next_time(turn.moment, events).ok_or("a time")?,
         request: turn.request.copy(alloc)?,
     };
-    apply(rt, machine, &entry)
+    let refused = apply(rt, machine, &entry);
+    drop(entry);
+    refused
 }
 
 /// The index and code of each result that client 7's stored reply has.
@@ -285,6 +340,35 @@ fn enter_all<A: Allocator + Clone>(
     Ok(refused)
 }
 
+/// Enters the rows' requests, and compares what the last row gives.
+fn serve_by<A: Allocator + Clone>(
+    rt: &impl Abort,
+    alloc: Global,
+    machine: &mut Machine<A>,
+    rows: Rows,
+    turns: &[Turn],
+) -> Result<Vec<u64>, Fail> {
+    let refused = enter_all(rt, alloc, machine, turns)?;
+    expect_last(rt, alloc, machine, rows)?;
+    Ok(refused)
+}
+
+/// Serves the rows' requests by a machine over an allocator.
+fn serve_turns(
+    rt: &impl Abort,
+    alloc: Global,
+    heap: &Refusing<Global>,
+    profile: Profile,
+    rows: Rows,
+    turns: &[Turn],
+) -> Result<Vec<u64>, Fail> {
+    let clients_max = ClientsMax::new(2).ok_or("clients_max")?;
+    let mut machine = Machine::new_in(alloc, heap, profile, clients_max)?;
+    let refused = serve_by(rt, alloc, &mut machine, rows, turns);
+    drop(machine);
+    refused
+}
+
 /// Serves the rows over an allocator; answers the commit numbers of the entries that were refused once.
 fn serve(
     rt: &impl Abort,
@@ -293,12 +377,10 @@ fn serve(
     profile: Profile,
     rows: Rows,
 ) -> Result<Vec<u64>, Fail> {
-    let clients_max = ClientsMax::new(2).ok_or("clients_max")?;
     let turns = turns(alloc, rows)?;
-    let mut machine = Machine::new_in(alloc, heap, profile, clients_max)?;
-    let refused = enter_all(rt, alloc, &mut machine, &turns)?;
-    expect_last(rt, alloc, &machine, rows)?;
-    Ok(refused)
+    let refused = serve_turns(rt, alloc, heap, profile, rows, &turns);
+    drop(turns);
+    refused
 }
 
 /// Serves the rows with one growth refused: what was asked, and the commit numbers of the entries that were refused once.
@@ -310,8 +392,44 @@ fn serve_over(
     refused_at: u64,
 ) -> Result<(Tally, Vec<u64>), Fail> {
     let heap = Refusing::new(alloc, refused_at);
-    let refused = serve(rt, alloc, &heap, profile, rows)?;
-    Ok((heap.tally(), refused))
+    let refused = serve(rt, alloc, &heap, profile, rows);
+    let tally = heap.tally();
+    drop(heap);
+    Ok((tally, refused?))
+}
+
+/// Serves the rows with a growth refused: all blocks come back, and one entry is refused, whose commit number is added
+/// where it is not the last one.
+fn refuse(
+    rt: &impl Abort,
+    alloc: Global,
+    profile: Profile,
+    rows: Rows,
+    refused_at: u64,
+    refusing: &mut Vec<u64>,
+) -> Result<(), Fail> {
+    let (tally, refused) = serve_over(rt, alloc, profile, rows, refused_at)?;
+    let one = tally.blocks == 0 && refused.len() == 1;
+    if refusing.last() != refused.last() {
+        refusing.extend_from_slice(refused.as_slice())?;
+    }
+    assert!(rt; one, "growth {refused_at} is refused");
+    Ok(())
+}
+
+/// Serves the rows with each of so many growths refused in turn.
+fn refuse_all(
+    rt: &impl Abort,
+    alloc: Global,
+    profile: Profile,
+    rows: Rows,
+    asked: u64,
+    refusing: &mut Vec<u64>,
+) -> Result<(), Fail> {
+    for refused_at in 1..=asked {
+        refuse(rt, alloc, profile, rows, refused_at, refusing)?;
+    }
+    Ok(())
 }
 
 /// Serves the rows with no growth refused, with the first, with the second and so on: all blocks come back, and each refused
@@ -325,15 +443,9 @@ fn refuse_each(
 ) -> Result<(), Fail> {
     let (plain, refused) = serve_over(rt, alloc, profile, rows, 0)?;
     assert!(rt; plain.blocks == 0 && refused.is_empty());
+    drop(refused);
     let mut refusing: Vec<u64> = Vec::new(alloc);
-    for refused_at in 1..=plain.asked {
-        let (tally, refused) = serve_over(rt, alloc, profile, rows, refused_at)?;
-        assert!(rt; tally.blocks == 0, "growth {refused_at}");
-        assert!(rt; refused.len() == 1, "growth {refused_at} is refused");
-        if refusing.last() != refused.last() {
-            refusing.extend_from_slice(refused.as_slice())?;
-        }
-    }
+    refuse_all(rt, alloc, profile, rows, plain.asked, &mut refusing)?;
     assert!(rt; refusing.as_slice() == entries, "{} growths", plain.asked);
     Ok(())
 }
