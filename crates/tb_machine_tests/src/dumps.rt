@@ -164,7 +164,8 @@ fn has_mark(dump: &[u8], mark: Option<usize>) -> bool {
     }
 }
 
-/// Replies have the code 21 of the first transfer 77, and this code of the second one, or no result of it where that is 0.
+/// Replies have the code 21 of the first transfer 77, and this code of the second one, or no result of it where that is
+/// 0.
 fn has_codes(replies: &[u8], code: u8) -> bool {
     let first = replies.get(148..152) == Some([21, 0, 0, 0].as_slice());
     if code == 0 {

@@ -6,9 +6,13 @@ mod accounts;
 #[cfg(test)]
 mod amounts;
 #[cfg(test)]
+mod asking;
+#[cfg(test)]
 mod chains;
 #[cfg(test)]
 mod classes;
+#[cfg(test)]
+mod conversations;
 #[cfg(test)]
 mod dumps;
 #[cfg(test)]

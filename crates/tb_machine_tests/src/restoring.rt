@@ -150,8 +150,8 @@ fn expect_restored(rt: &impl Abort, alloc: Global, one: &mut Machine<Global>) ->
     done
 }
 
-/// Client 7 registers, creates accounts 1 and 2, looks accounts up, and moves 100: the machine that is restored from the
-/// four records stands as the first one does.
+/// Client 7 registers, creates accounts 1 and 2, looks accounts up, and moves 100: the machine that is restored from
+/// the four records stands as the first one does.
 #[test]
 fn four_records_restored(rt: HostRuntime) -> Result<(), Fail> {
     let mut one = machine(rt.alloc(), 2)?;
