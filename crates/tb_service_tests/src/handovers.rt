@@ -9,9 +9,9 @@ use std::marker::Brand;
 use std::process::Abort;
 use std::sync::Wait;
 use std::test::Fail;
-use tb_published::{Naming, Opening, Publisher, Seat};
+use tb_published::{Naming, Opening, Publisher, Seat, SeatFault};
 use tb_records::{Request, Status};
-use tb_service::PortCount;
+use tb_service::{Port, PortCount};
 
 /// Client 7's register, two accounts, or behind them a transfer of 10.
 fn nth_request(alloc: Global, number: u32) -> Option<Request> {
@@ -128,15 +128,33 @@ fn call_without_turns(rt: HostRuntime) -> Result<(), Fail> {
     call_once::<Brand, _>(&rt, rt.alloc(), opening()?)
 }
 
-/// A server is dropped before it has run: what its port offers comes back.
+/// Where the publisher was closed a call ends as its seat does, without a copy, and hands nothing over.
+fn finds_no_copy<J: Naming, R: Wait>(
+    rt: &R,
+    port: &mut Port,
+    seats: &mut Vec<Seat<J>>,
+    asked: &Request,
+) -> bool {
+    match seats.iter_mut().next() {
+        Some(seat) => matches!(port.call(rt, seat, asked, 1), Err(SeatFault::NoCopy))
+            && matches!(seat.answer(asked), Err(SeatFault::NoCopy))
+            && matches!(seat.status(asked), Err(SeatFault::NoCopy)),
+        None => false,
+    }
+}
+
+/// A server is dropped before it has run, and its publisher closed: what its port offers comes back.
 fn offer_to_none<J: Naming, R: Wait + Abort>(
     rt: &R,
     alloc: Global,
     publisher: Publisher<J>,
     count: PortCount,
+    seats: &mut Vec<Seat<J>>,
+    asked: &Request,
 ) -> Result<(), Fail> {
     let (server, mut port) = one_port(rt, alloc, publisher, count, rising())?;
     drop(server);
+    assert!(rt; finds_no_copy(rt, &mut port, seats, asked));
     let comes_back = match register(7) {
         Some(request) => match port.offer(rt, request) {
             Ok(()) => false,
@@ -157,8 +175,9 @@ fn drop_server<J: Naming, R: Wait + Abort>(
     requires { opening ≡ J.opening }
 {
     let count = ports(1)?;
-    let (publisher, seats) = opened::<J, R>(rt, alloc, opening)?;
-    let outcome = offer_to_none(rt, alloc, publisher, count);
+    let asked = register(7).ok_or("a request")?;
+    let (publisher, mut seats) = opened::<J, R>(rt, alloc, opening)?;
+    let outcome = offer_to_none(rt, alloc, publisher, count, &mut seats, &asked);
     drop(seats);
     outcome
 }

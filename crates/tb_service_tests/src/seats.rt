@@ -95,6 +95,15 @@ fn expect_answers<J: Naming>(
     Ok(())
 }
 
+/// A seat that has learnt nothing answers by what it then has seen: four entries, after which the request is new, or all five.
+fn is_right_by_its_number<J: Naming>(seat: &mut Seat<J>, request: &Request) -> bool {
+    match (seat.status(request), seat.seen()) {
+        (Ok(Status::NotYet), 4) => true,
+        (Ok(Status::Reply), 5) => true,
+        _ => false,
+    }
+}
+
 /// One seat has seen the first requests; one more is served, of which both learn.
 fn expect_learning<J: Naming>(
     rt: &impl Abort,
@@ -108,6 +117,7 @@ fn expect_learning<J: Naming>(
     let mut both = seats.iter_mut();
     let one = both.next().ok_or("a seat")?;
     let two = both.next().ok_or("a seat")?;
+    assert!(rt; is_right_by_its_number(two, &request));
     two.learn(&told);
     assert!(rt; two.status(&request)? == Status::Reply);
     one.learn(&told);

@@ -136,15 +136,46 @@ fn is_whole<J: Naming>(finished: &mut Finished<J>, closed: Closed) -> bool
     }
 }
 
-/// What two ports offer at once is entered once, in the order of its numbers.
+/// Entry n holds client 7's request n - 1: so no key stands twice.
+fn are_numbered<J: Naming>(publisher: &Publisher<J>) -> bool {
+    for (number, entry) in publisher.history().iter().enumerate() {
+        let request = &entry.request;
+        if request.client() != 7 || request.request() as usize != number {
+            return false;
+        }
+    }
+    true
+}
+
+/// A seat that has learnt all finds 52 entries, and what account 2 was credited with.
+fn finds_all<J: Naming>(publisher: &Publisher<J>, seat: &mut Seat<J>) -> bool {
+    seat.learn(&publisher.tell());
+    match seat.lookup_accounts(&[2]) {
+        Ok((commit, accounts)) => commit == 52
+            && accounts.first().map_or(0, |account| account.credits_posted) == 1275,
+        Err(_) => false,
+    }
+}
+
+/// The history has each of the 52 requests once, and both seats find what it makes.
+fn is_right<J: Naming>(publisher: &Publisher<J>, one: &mut Seat<J>, two: &mut Seat<J>) -> bool {
+    publisher.history().len() == 52
+        && are_numbered(publisher)
+        && finds_all(publisher, one)
+        && finds_all(publisher, two)
+}
+
+/// What two ports offer at once is entered once, in the order of its numbers; no offer is given up.
 fn run_both<J: Naming + Send + Sync, R: Threads + Wait + Abort + Sync>(
     rt: &R,
     alloc: Global,
     publisher: Publisher<J>,
     count: PortCount,
-    seat: &mut Seat<J>,
+    one: &mut Seat<J>,
+    two: &mut Seat<J>,
 ) -> Result<(), Fail> {
     let (server, first, second) = two_ports(rt, alloc, publisher, count, rising())?;
+    let seat = &mut *one;
     let (mut finished, ((first, settled), second)) = join(
         rt,
         move || -> Finished<J>
@@ -154,15 +185,11 @@ fn run_both<J: Naming + Send + Sync, R: Threads + Wait + Abort + Sync>(
             ensures { (service_by result.0.0 ≡ service first) × (service_by result.1 ≡ service second) }
         { offer_all(rt, alloc, first, second, seat) },
     );
+    let offered = second.offered();
     let whole = is_whole(&mut finished, first) && is_whole(&mut finished, second);
-    let entries = finished.publisher.history().len();
-    let credited = finished
-        .publisher
-        .machine()
-        .account(2)
-        .map_or(0, |account| account.credits_posted);
+    let right = is_right(&finished.publisher, one, two);
     drop(finished.close(rt));
-    assert!(rt; settled && whole && entries == 52 && credited == 1275);
+    assert!(rt; settled && whole && right && offered == 500);
     Ok(())
 }
 
@@ -176,9 +203,13 @@ fn repeat_in_reverse<J: Naming + Send + Sync, R: Threads + Wait + Abort + Sync>(
     let count = ports(2)?;
     let (publisher, mut seats) = opened::<J, R>(rt, alloc, opening)?;
     let held = Held::new(publisher, rt);
-    let outcome = match seats.iter_mut().next() {
-        Some(seat) => run_both(rt, alloc, held.into_publisher(), count, seat),
-        None => Err(Fail::from("a seat")),
+    let mut both = seats.iter_mut();
+    let outcome = match (both.next(), both.next()) {
+        (Some(one), Some(two)) => run_both(rt, alloc, held.into_publisher(), count, one, two),
+        _ => {
+            drop(held);
+            Err(Fail::from("two seats"))
+        }
     };
     drop(seats);
     outcome
