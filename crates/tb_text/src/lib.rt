@@ -1,4 +1,4 @@
-//! Requests and replies as text: statements in the words of TigerBeetle's clients, and JSON.
+//! Requests as text: statements in the words of TigerBeetle's clients, read, printed, and told where they go wrong.
 #![tactic(auto)]
 
 mod awaited;
