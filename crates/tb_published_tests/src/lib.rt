@@ -15,3 +15,5 @@ mod rows;
 mod showing;
 #[cfg(test)]
 mod threads;
+#[cfg(test)]
+mod times;

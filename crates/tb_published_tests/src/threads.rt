@@ -6,29 +6,78 @@ use std::alloc::Global;
 use std::marker::Brand;
 use std::process::Abort;
 use std::sync::Wait;
+use std::sync::atomic::{AtomicU64, Ordering};
 use std::test::Fail;
-use std::thread::{Threads, join};
-use tb_published::{Naming, Opening, Publisher, Seat, Taken, Told};
+use std::thread::{self, Threads, join};
+use tb_published::{Naming, Opening, Publisher, Seat, SeatFault, Taken, Told};
 use tb_records::{Body, Items, Profile, Request, Status};
 
-/// Asks a seat for a request over and over, and says whether what it has seen never fell.
-fn watch<J: Naming>(seat: &mut Seat<J>, request: &Request) -> bool {
-    let mut seen = seat.seen();
-    for _ in 0..2000 {
-        let _ = seat.status(request);
-        let now = seat.seen();
-        if now < seen {
-            return false;
-        }
-        seen = now;
+/// Whoever waits looks so often at the most.
+const LOOKS: u32 = 20_000_000;
+
+/// How many seats have seen some of the history, but not all of it.
+#[derive(Drop)]
+struct Between(AtomicU64);
+
+impl Between {
+    /// One seat more has.
+    fn tell(&self) {
+        self.0.fetch_add(1, Ordering::SeqCst);
     }
-    true
+
+    /// Waits until all four have; says whether they have.
+    fn is_told(&self) -> bool {
+        for _ in 0..LOOKS {
+            if self.0.load(Ordering::SeqCst) >= 4 {
+                return true;
+            }
+            thread::yield_now();
+        }
+        false
+    }
+}
+
+/// Asks a seat for the last request; None where the call errs, or what the seat has seen fell, or the answer is not that of
+/// so many entries. Else how many it has seen.
+fn look<J: Naming>(seat: &mut Seat<J>, last: &Request) -> Option<u64> {
+    let before = seat.seen();
+    let status: Result<Status, SeatFault> = seat.status(last);
+    let seen = seat.seen();
+    let expected = match seen {
+        0 => Status::NoSession,
+        200 => Status::Reply,
+        199 => Status::NotYet,
+        _ => Status::NewerRequest,
+    };
+    if seen < before || status != Ok(expected) {
+        return None;
+    }
+    Some(seen)
+}
+
+/// Asks a seat until it has seen all, and says whether it saw less than that on its way and no call failed.
+fn watch<J: Naming>(seat: &mut Seat<J>, last: &Request, between: &Between) -> bool {
+    let mut beside = false;
+    for _ in 0..LOOKS {
+        let Some(seen) = look(seat, last) else {
+            return false;
+        };
+        if seen == 200 {
+            return beside;
+        }
+        if seen > 0 && !beside {
+            beside = true;
+            between.tell();
+        }
+        thread::yield_now();
+    }
+    false
 }
 
 /// Asks seats, one after another.
-fn watch_all<J: Naming>(seats: &mut [Seat<J>], request: &Request) -> bool {
+fn watch_all<J: Naming>(seats: &mut [Seat<J>], last: &Request, between: &Between) -> bool {
     for seat in seats {
-        if !watch(seat, request) {
+        if !watch(seat, last, between) {
             return false;
         }
     }
@@ -39,10 +88,15 @@ fn watch_all<J: Naming>(seats: &mut [Seat<J>], request: &Request) -> bool {
 fn watch_two<J: Naming + Send + Sync, R: Threads + Sync>(
     rt: &R,
     seats: &mut [Seat<J>],
-    request: &Request,
+    last: &Request,
+    between: &Between,
 ) -> bool {
     let (one, two) = seats.split_at_mut(seats.len() / 2);
-    let (a, b) = join(rt, || watch_all(one, request), || watch_all(two, request));
+    let (a, b) = join(
+        rt,
+        || watch_all(one, last, between),
+        || watch_all(two, last, between),
+    );
     a && b
 }
 
@@ -50,13 +104,14 @@ fn watch_two<J: Naming + Send + Sync, R: Threads + Sync>(
 fn watch_four<J: Naming + Send + Sync, R: Threads + Sync>(
     rt: &R,
     seats: &mut [Seat<J>],
-    request: &Request,
+    last: &Request,
+    between: &Between,
 ) -> bool {
     let (low, high) = seats.split_at_mut(seats.len() / 2);
     let (a, b) = join(
         rt,
-        || watch_two(rt, low, request),
-        || watch_two(rt, high, request),
+        || watch_two(rt, low, last, between),
+        || watch_two(rt, high, last, between),
     );
     a && b
 }
@@ -70,9 +125,18 @@ fn nth_request(alloc: Global, number: u32) -> Option<Request> {
     Request::new(7, session, number, body).ok()
 }
 
-/// Takes client 7's register and 199 lookups, and says whether each was committed.
-fn take_many<J: Naming, R: Wait>(rt: &R, alloc: Global, publisher: &mut Publisher<J>) -> bool {
+/// Takes client 7's register and 199 lookups, and says whether each was committed. Before the last it waits until each seat has
+/// seen some.
+fn take_many<J: Naming, R: Wait>(
+    rt: &R,
+    alloc: Global,
+    publisher: &mut Publisher<J>,
+    between: &Between,
+) -> bool {
     for number in 0..200 {
+        if number == 199 && !between.is_told() {
+            return false;
+        }
         let Some(request) = nth_request(alloc, number) else {
             return false;
         };
@@ -89,12 +153,13 @@ fn watch_beside<J: Naming + Send + Sync, R: Threads + Wait + Sync>(
     alloc: Global,
     publisher: &mut Publisher<J>,
     seats: &mut [Seat<J>],
-    request: &Request,
+    last: &Request,
 ) -> bool {
+    let between = Between(AtomicU64::new(0));
     let (taken, risen) = join(
         rt,
-        || take_many(rt, alloc, publisher),
-        || watch_four(rt, seats, request),
+        || take_many(rt, alloc, publisher, &between),
+        || watch_four(rt, seats, last, &between),
     );
     taken && risen
 }
