@@ -34,6 +34,11 @@ abbrev pub IsCreateCause : Disk → Disk → OpenFault → Type 0
 IsCreateCause before after (open_faults.Refused why) = ⊥
 IsCreateCause before after (open_faults.Device fault) = IsCause before after fault ⊎ ((fault ≡ NotEmpty) × (is_blank before.seen ≡ false))
 
+-- a file that is not blank stays as it was, at each moment
+abbrev pub IsLeft : Disk → Disk → OpenFault → Type 0
+IsLeft before after (open_faults.Device NotEmpty) = (after.seen ≡ before.seen) × LeavesOnly before after (IsAsBefore before)
+IsLeft before after other = Unit {0}
+
 -- an error has a cause
 pub record HasCreateCause {T : Type 0} (result : Result T OpenFault) (before after : Disk) : Type 0 where
   pub later : before.faults ≤ after.faults

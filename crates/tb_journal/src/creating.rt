@@ -1,8 +1,8 @@
 //! A journal is created.
-ghost use Rattle.std.specs.Prelude.{◌≡◌, true, IfOk};
+ghost use Rattle.std.specs.Prelude.{◌≡◌, true, IfOk, IfErr};
 ghost use Rattle.tb_journal.specs.Device.{IsKept, LeavesOnly};
 ghost use Rattle.tb_journal.specs.Opening.{device_left, fault_left};
-ghost use Rattle.tb_journal.specs.Creating.{is_torn_from, is_blank, MayBeCreated, HasCreateCause, IsNew, IsUnborn, Begins};
+ghost use Rattle.tb_journal.specs.Creating.{is_torn_from, is_blank, MayBeCreated, IsLeft, HasCreateCause, IsNew, IsUnborn, Begins};
 
 use crate::batches::Batch;
 use crate::calls::write_kept;
@@ -25,6 +25,9 @@ pub fn create<D: Device>(alloc: Global, device: D) -> Result<Journal<D>, NotOpen
     // A crash at any moment of the call leaves the file as it was, or no record in it.
     ensures any_moment { D.tells
         → LeavesOnly (D.disk device) (D.disk (device_left result)) (MayBeCreated (D.disk device)) }
+    // A file that is not blank stays as it was.
+    ensures untouched { D.tells
+        → IfErr result (λ failed. IsLeft (D.disk device) (D.disk failed.device) failed.fault) }
     ensures cause { D.tells → HasCreateCause (fault_left result) (D.disk device) (D.disk (device_left result)) }
 {
     let mut device = device;

@@ -44,6 +44,7 @@ impl<D: Device> Journal<D> {
         ensures full { IsErrOf result Fault.Full
             → 2 ^ 62 < self.old.end + length (at_rest self.old.waiting) + 8 + length content.now }
         ensures failed { IsErrOf result Fault.Failed → ⊥ }
+        ensures not_empty { IsErrOf result Fault.NotEmpty → ⊥ }
     {
         if content.len() >= RECORD_BYTES_MAX {
             return Err(Fault::TooLong);
@@ -97,6 +98,13 @@ impl<D: Device> Journal<D> {
         ensures { result.now ≡ self.now.device }
     {
         &self.device
+    }
+
+    /// The file, given back. What waits is dropped.
+    pub fn into_device(self) -> D
+        ensures { result ≡ self.device }
+    {
+        self.device
     }
 
     /// The number of records in the file.
