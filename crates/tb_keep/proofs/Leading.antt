@@ -1,0 +1,85 @@
+-- Entries that lead from one state to another: none, and one more.
+use Rattle.std.proofs.Common.{ℕ, ◌≡◌, ◌⊎◌, ◌<◌, suc, List, [], ◌∷◌, ◌++◌, length, map, fold, Err, refl, sym, ap, ◌∙◌, subst, IsTrue, arith}
+use Rattle.tb_records.specs.declared.limits.Profile.{Profile}
+use Rattle.tb_machine.specs.declared.entries.Entry.{Entry}
+use Rattle.tb_machine.specs.Histories.{State, start as start_state, step, fits, LegalFrom}
+use Rattle.tb_machine.specs.Dumps.{dumped}
+use Rattle.tb_machine.specs.Recording.{IsRecord}
+use Rattle.tb_keep.specs.Keeping.{AreRecorded}
+use Rattle.tb_keep.specs.declared.faults.StartFault.{StartFault}
+use Rattle.tb_keep.specs.declared.faults.StartFault.TheVariants as start
+use Rattle.tb_keep.specs.Restoration.{Leads, StopsAt, RestoresAll, HeadAnswers, StopsFile}
+
+pub leads_none : (S : State) → Leads S [] S
+leads_none S = record { entries = []; legal = tt; state = refl; recorded_are = tt; spelled = refl }
+
+pub fold_snoc : (S : State) (h : List Entry) (e : Entry) → fold step S (h ++ e ∷ []) ≡ step (fold step S h) e
+fold_snoc S [] e = refl
+fold_snoc S (x ∷ xs) e = fold_snoc (step S x) xs e
+
+legal_snoc : (S : State) (h : List Entry) (e : Entry) → LegalFrom S h → IsTrue (fits (fold step S h) e) → LegalFrom S (h ++ e ∷ [])
+legal_snoc S [] e legal next = (next, tt)
+legal_snoc S (x ∷ xs) e legal next = (legal.0, legal_snoc (step S x) xs e legal.1 next)
+
+recorded_snoc : (h : List Entry) (e : Entry) → AreRecorded h → IsRecord (dumped e) e → AreRecorded (h ++ e ∷ [])
+recorded_snoc [] e are is = (is, tt)
+recorded_snoc (x ∷ xs) e are is = (are.0, recorded_snoc xs e are.1 is)
+
+dumped_snoc : (h : List Entry) (e : Entry) → map dumped h ++ dumped e ∷ [] ≡ map dumped (h ++ e ∷ [])
+dumped_snoc [] e = refl
+dumped_snoc (x ∷ xs) e = ap (λ (r : List (List ℕ)). dumped x ∷ r) (dumped_snoc xs e)
+
+pub leads_more : (S T U : State) (front : List (List ℕ)) (bytes : List ℕ) (e : Entry)
+    → Leads S front T → IsRecord bytes e → IsTrue (fits T e) → U ≡ step T e → Leads S (front ++ bytes ∷ []) U
+leads_more S T U front bytes e leads is next to = record {
+  entries = leads.entries ++ e ∷ [];
+  legal = legal_snoc S leads.entries e leads.legal (subst (λ (V : State). IsTrue (fits V e)) leads.state next);
+  state = to ∙ ap (λ (V : State). step V e) leads.state ∙ sym (fold_snoc S leads.entries e);
+  recorded_are = recorded_snoc leads.entries e leads.recorded_are (subst (λ (b : List ℕ). IsRecord b e) is.bytes_are is);
+  spelled = ap (λ (f : List (List ℕ)). f ++ bytes ∷ []) leads.spelled ∙ ap (λ (b : List ℕ). map dumped leads.entries ++ b ∷ []) is.bytes_are ∙ dumped_snoc leads.entries e;
+}
+
+-- records that are left
+
+pub fewer : (left : List (List ℕ)) (bytes : List ℕ) (rest : List (List ℕ)) → left ≡ bytes ∷ rest → length rest < length left
+fewer left bytes rest is = let more : length left ≡ suc (length rest) = ap (λ (r : List (List ℕ)). length r) is in omega (arith, more)
+
+pub leads_on : (S T U : State) (records front left rest : List (List ℕ)) (bytes : List ℕ)
+    → records ≡ front ++ left → Leads S front T → left ≡ bytes ∷ rest
+    → ((e : Entry) × IsRecord bytes e × IsTrue (fits T e) × (U ≡ step T e))
+    → (more : List (List ℕ)) × (records ≡ more ++ rest) × Leads S more U
+leads_on S T U records front left rest bytes all leads is (e, is_record, next, to) = (
+  front ++ bytes ∷ [],
+  all ∙ ap (λ (r : List (List ℕ)). front ++ r) is ∙ shifted front,
+  leads_more S T U front bytes e leads is_record next to,
+)
+  where
+    shifted : (xs : List (List ℕ)) → xs ++ bytes ∷ rest ≡ (xs ++ bytes ∷ []) ++ rest
+    shifted [] = refl
+    shifted (x ∷ xs) = ap (λ (r : List (List ℕ)). x ∷ r) (shifted xs)
+
+pub leads_all : (S T : State) (records front left : List (List ℕ)) → records ≡ front ++ left → Leads S front T → left ≡ [] → Leads S records T
+leads_all S T records front left all leads none = subst (λ (r : List (List ℕ)). Leads S r T) (sym (all ∙ ap (λ (r : List (List ℕ)). front ++ r) none ∙ whole front)) leads
+  where
+    whole : (xs : List (List ℕ)) → xs ++ [] ≡ xs
+    whole [] = refl
+    whole (x ∷ xs) = ap (λ (r : List (List ℕ)). x ∷ r) (whole xs)
+
+pub leads_to_fault : (fault : StartFault) (S T U : State) (records front left rest : List (List ℕ)) (bytes : List ℕ)
+    → records ≡ front ++ left → Leads S front T → left ≡ bytes ∷ rest
+    → ((U ≡ T) × StopsAt fault T bytes)
+    → RestoresAll (Err fault) S records U
+leads_to_fault fault S T U records front left rest bytes all leads is (same, stops) =
+    subst (λ (V : State). RestoresAll (Err fault) S records V) (sym same) (front, bytes, rest, all ∙ ap (λ (r : List (List ℕ)). front ++ r) is, leads, stops)
+
+-- a file of which a record is refused
+pub stops_file : (fault : StartFault) (profile : Profile) (clients_max : ℕ) (records : List (List ℕ)) (head : List ℕ) (rest : List (List ℕ))
+    → records ≡ head ∷ rest
+    → (HeadAnswers (Err fault) head profile clients_max ⊎ ((T : State) × RestoresAll (Err fault) (start_state profile clients_max) rest T))
+    → StopsFile fault profile clients_max records
+stops_file (start.Journal f) profile clients_max records head rest is why = (head, rest, is, why)
+stops_file start.Head profile clients_max records head rest is why = (head, rest, is, why)
+stops_file start.OtherRules profile clients_max records head rest is why = (head, rest, is, why)
+stops_file (start.Record place f) profile clients_max records head rest is why = (head, rest, is, why)
+stops_file (start.Entry f) profile clients_max records head rest is why = (head, rest, is, why)
+stops_file start.NoMemory profile clients_max records head rest is why = tt

@@ -1,0 +1,91 @@
+-- At each moment, whatever was told stands in the file: by induction over rounds.
+use Rattle.std.proofs.Common.{◌≡◌, List, [], ◌∷◌, ◌++◌, inl, inr, refl, sym, ap, ◌∙◌, subst, append_assoc, append-nil}
+use Rattle.tb_records.specs.Transport.{Sent}
+use Rattle.tb_journal.specs.Device.{Disk}
+use Rattle.tb_journal.specs.Contents.{Records, contents, recorded}
+use Rattle.tb_journal.specs.Steps.{IsBeforeOrAfter}
+use Rattle.tb_machine.specs.Histories.{State}
+use Rattle.tb_machine.specs.Scripts.{Pair, after_pair}
+use Rattle.tb_machine.proofs.Running.{sends_none, sends_then}
+use Rattle.tb_keep.specs.Rounds.{state_from, records_from, told_from, pairs_of, Standing, Rounds}
+use Rattle.tb_keep.specs.Moments.{Backs, WhileCommitting, WhileTelling}
+use Rattle.tb_keep.proofs.Pairs.{records_join, told_join}
+
+pub state_join : (S : State) (ps qs : List Pair) → state_from S (ps ++ qs) ≡ state_from (state_from S ps) qs
+state_join S [] qs = refl
+state_join S (p ∷ ps) qs = state_join (after_pair S p) ps qs
+
+module _ (tells : Type 0) {D : Type 0} (disk : D → Disk) where
+  state_behind : (done : List (List Pair)) (first before : Standing D) → Rounds tells disk done first before → before.state ≡ state_from first.state (pairs_of done)
+  state_behind [] first before kept = ap (λ (s : Standing D). s.state) kept
+  state_behind (ps ∷ done) first before kept =
+      state_behind done kept.0 before kept.2
+      ∙ ap (λ (S : State). state_from S (pairs_of done)) kept.1.state
+      ∙ sym (state_join first.state ps (pairs_of done))
+
+  -- the file has the entries of all pairs that were told
+  records_behind : tells → (done : List (List Pair)) (first before : Standing D) → Rounds tells disk done first before
+      → recorded (disk before.device).seen ≡ recorded (disk first.device).seen ++ records_from first.state (pairs_of done)
+  records_behind t [] first before kept = ap (λ (s : Standing D). recorded (disk s.device).seen) kept ∙ sym (append-nil (recorded (disk first.device).seen))
+  records_behind t (ps ∷ done) first before kept =
+      let base = recorded (disk first.device).seen in
+      records_behind t done kept.0 before kept.2
+      ∙ ap (λ records. records ++ records_from kept.0.state (pairs_of done)) ((kept.1.commits t).grown)
+      ∙ append_assoc base (records_from first.state ps) (records_from kept.0.state (pairs_of done))
+      ∙ ap (λ (S : State). base ++ (records_from first.state ps ++ records_from S (pairs_of done))) kept.1.state
+      ∙ ap (λ records. base ++ records) (sym (records_join first.state ps (pairs_of done)))
+
+  records_with : tells → (done : List (List Pair)) (ps : List Pair) (first before : Standing D) → Rounds tells disk done first before
+      → recorded (disk before.device).seen ++ records_from before.state ps ≡ recorded (disk first.device).seen ++ records_from first.state (pairs_of done ++ ps)
+  records_with t done ps first before kept =
+      let base = recorded (disk first.device).seen in
+      ap (λ records. records ++ records_from before.state ps) (records_behind t done first before kept)
+      ∙ append_assoc base (records_from first.state (pairs_of done)) (records_from before.state ps)
+      ∙ ap (λ (S : State). base ++ (records_from first.state (pairs_of done) ++ records_from S ps)) (state_behind done first before kept)
+      ∙ ap (λ records. base ++ records) (sym (records_join first.state (pairs_of done) ps))
+
+  told_with : (done : List (List Pair)) (ps : List Pair) (first before : Standing D) → Rounds tells disk done first before
+      → told_from first.state (pairs_of done ++ ps) ≡ told_from first.state (pairs_of done) ++ told_from before.state ps
+  told_with done ps first before kept =
+      told_join first.state (pairs_of done) ps
+      ∙ ap (λ (S : State). told_from first.state (pairs_of done) ++ told_from S ps) (sym (state_behind done first before kept))
+
+  pub while_committing : WhileCommitting tells disk
+  while_committing done ps first before after file behind leaves left = by (leaves.each file left)
+    where
+      by : IsBeforeOrAfter (recorded (disk before.device).seen) (records_from before.state ps) file → Backs tells disk first (pairs_of done ++ ps) file (told_from first.state (pairs_of done))
+      by (inl old) = record {
+        pairs = pairs_of done;
+        others = ps;
+        all_are = refl;
+        reads = old ∙ ap Records (records_behind behind.known done first before behind.kept);
+        untold = [];
+        told = sym (append-nil (told_from first.state (pairs_of done)));
+      }
+      by (inr new) = record {
+        pairs = pairs_of done ++ ps;
+        others = [];
+        all_are = sym (append-nil (pairs_of done ++ ps));
+        reads = new ∙ ap Records (records_with behind.known done ps first before behind.kept);
+        untold = told_from before.state ps;
+        told = told_with done ps first before behind.kept;
+      }
+
+  pub while_telling : WhileTelling tells disk
+  while_telling done ps first before after file some rest behind commits left begins = record {
+    pairs = pairs_of done ++ ps;
+    others = [];
+    all_are = sym (append-nil (pairs_of done ++ ps));
+    reads = ap contents (commits.at_rest.kept file left) ∙ commits.at_rest.reads ∙ ap Records (commits.grown ∙ records_with behind.known done ps first before behind.kept);
+    untold = rest;
+    told = told_with done ps first before behind.kept
+        ∙ ap (λ bytes. told_from first.state (pairs_of done) ++ bytes) begins
+        ∙ sym (append_assoc (told_from first.state (pairs_of done)) some rest);
+  }
+
+  pub told_behind : (done : List (List Pair)) (first before : Standing D) → Rounds tells disk done first before → Sent (told_from first.state (pairs_of done)) first.output before.output
+  told_behind [] first before kept = subst (λ (s : Standing D). Sent [] first.output s.output) (sym kept) (sends_none first.output)
+  told_behind (ps ∷ done) first before kept =
+      subst (λ bytes. Sent bytes first.output before.output)
+      (ap (λ (S : State). told_from first.state ps ++ told_from S (pairs_of done)) kept.1.state ∙ sym (told_join first.state ps (pairs_of done)))
+      (sends_then (told_from first.state ps) (told_from kept.0.state (pairs_of done)) first.output kept.0.output before.output kept.1.told (told_behind done kept.0 before kept.2))

@@ -1,0 +1,68 @@
+-- Why a file is not opened.
+use Rattle.std.proofs.Common.{◌≡◌, ◌⊎◌, inl, inr, ℕ, ◌≤◌, List, Result, Ok, Err, IfErr, sym, ap, ◌∙◌, subst}
+use Rattle.tb_records.specs.declared.limits.Profile.{Profile}
+use Rattle.tb_journal.specs.declared.faults.Fault.TheVariants as faults
+use Rattle.tb_journal.specs.declared.reading.Refusal.TheVariants as refusals
+use Rattle.tb_journal.specs.declared.opening.OpenFault.{OpenFault}
+use Rattle.tb_journal.specs.declared.opening.OpenFault.TheVariants as open_faults
+use Rattle.tb_journal.specs.Device.{Disk, LeavesOnly}
+use Rattle.tb_journal.specs.Contents.{Records, contents, recorded}
+use Rattle.tb_journal.specs.Opening.{IsAsBefore, IsOpenCause, HasOpenCause}
+use Rattle.tb_journal.proofs.Moments.{then, weaker}
+use Rattle.tb_keep.specs.declared.faults.StartFault.{StartFault}
+use Rattle.tb_keep.specs.declared.faults.StartFault.TheVariants as start
+use Rattle.tb_keep.specs.declared.opening.NotKept.{NotKept}
+use Rattle.tb_keep.specs.Keeping.{Keeping}
+use Rattle.tb_keep.specs.Restoration.{StopsFile}
+use Rattle.tb_keep.specs.Opening.{IsUntouched, IsRefused, IsStartRefused}
+use Rattle.tb_keep.specs.Headed.{IsOfDevice}
+
+-- a file that was read is not refused as one that is no journal
+pub of_device : (before after : Disk) (fault : OpenFault) → contents before.seen ≡ Records (recorded before.seen)
+    → IsOpenCause before after fault → IsOfDevice (start.Journal fault)
+of_device before after (open_faults.Refused refusals.NotAJournal) reads cause = absurd (cc)
+of_device before after (open_faults.Refused (refusals.Damaged at)) reads cause = absurd (cc)
+of_device before after (open_faults.Device faults.Memory) reads cause = tt
+of_device before after (open_faults.Device faults.Failed) reads cause = tt
+of_device before after (open_faults.Device faults.Full) reads cause = tt
+of_device before after (open_faults.Device faults.TooLong) reads cause = tt
+of_device before after (open_faults.Device faults.NotEmpty) reads (inl (inl is)) = absurd (cc)
+of_device before after (open_faults.Device faults.NotEmpty) reads (inl (inr (inl is, later))) = absurd (cc)
+of_device before after (open_faults.Device faults.NotEmpty) reads (inl (inr (inr is, later))) = absurd (cc)
+of_device before after (open_faults.Device faults.NotEmpty) reads (inr (is, long)) = absurd (cc)
+
+abbrev pub Counts : Disk → Type 0
+Counts disk = (t : ℕ) (c : List ℕ) → t ≤ disk.moment → disk.may_leave c → disk.left_since t c
+
+untouched_then : (before mid after : Disk) → Counts mid → IsUntouched before mid → IsUntouched mid after → IsUntouched before after
+untouched_then before mid after counts first second = record {
+  seen = second.seen ∙ first.seen;
+  any_moment = then before mid after (IsAsBefore before) first.any_moment (weaker mid after (IsAsBefore mid) (IsAsBefore before) back second.any_moment);
+}
+  where
+    back : (c : List ℕ) → IsAsBefore mid c → IsAsBefore before c
+    back c (inl may) = first.any_moment.each c (counts before.moment c first.any_moment.later may)
+    back c (inr is) = inr (is ∙ first.seen)
+
+refused_then : (profile : Profile) (clients_max : ℕ) (before mid after : Disk) (fault : StartFault) → Counts mid → IsUntouched before mid
+    → IsRefused profile clients_max fault mid after → IsStartRefused profile clients_max fault before after
+refused_then profile clients_max before mid after (start.Journal (open_faults.Refused why)) counts first is =
+    (sym (ap contents first.seen) ∙ is.0, untouched_then before mid after counts first is.1)
+refused_then profile clients_max before mid after (start.Journal (open_faults.Device fault)) counts first is = tt
+refused_then profile clients_max before mid after start.NoMemory counts first is = untouched_then before mid after counts first is.1
+refused_then profile clients_max before mid after start.Head counts first is =
+    (subst (λ file. StopsFile start.Head profile clients_max (recorded file)) first.seen is.0, untouched_then before mid after counts first is.1)
+refused_then profile clients_max before mid after start.OtherRules counts first is =
+    (subst (λ file. StopsFile start.OtherRules profile clients_max (recorded file)) first.seen is.0, untouched_then before mid after counts first is.1)
+refused_then profile clients_max before mid after (start.Record place fault) counts first is =
+    (subst (λ file. StopsFile (start.Record place fault) profile clients_max (recorded file)) first.seen is.0, untouched_then before mid after counts first is.1)
+refused_then profile clients_max before mid after (start.Entry fault) counts first is =
+    (subst (λ file. StopsFile (start.Entry fault) profile clients_max (recorded file)) first.seen is.0, untouched_then before mid after counts first is.1)
+
+pub refused_at_last : {D : Type 0} (disk : D → Disk) (profile : Profile) (clients_max : ℕ) (before mid : Disk) (result : Result (Keeping D) (NotKept D)) → Counts mid
+    → IsUntouched before mid
+    → IfErr result (λ failed. IsRefused profile clients_max failed.fault mid (disk failed.device))
+    → IfErr result (λ failed. IsStartRefused profile clients_max failed.fault before (disk failed.device))
+refused_at_last disk profile clients_max before mid (Ok keeper) counts first is = tt
+refused_at_last disk profile clients_max before mid (Err failed) counts first is =
+    refused_then profile clients_max before mid (disk failed.device) failed.fault counts first is

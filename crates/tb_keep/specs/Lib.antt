@@ -1,0 +1,11 @@
+-- what public contracts cite
+pub mod Faults
+pub mod Keeping
+pub mod Restoration
+pub mod Opening
+pub mod Reading
+pub mod Rounds
+pub mod Moments
+-- what private functions alone cite
+pub mod Headed
+pub mod Steps

@@ -1,0 +1,80 @@
+-- How a kept file is created and opened, and what a crash may leave of it meanwhile.
+use Rattle.std.specs.Prelude.{ℕ, true, ◌≡◌, ◌⊎◌, List, [], ◌∷◌, Result, Ok, Err}
+use Rattle.tb_records.specs.declared.limits.Profile.{Profile}
+use Rattle.tb_journal.specs.declared.faults.Fault.TheVariants.{NotEmpty}
+use Rattle.tb_journal.specs.declared.opening.OpenFault.TheVariants as open_faults
+use Rattle.tb_journal.specs.Device.{Disk, LeavesOnly}
+use Rattle.tb_journal.specs.Contents.{Contents, Records, contents, recorded}
+use Rattle.tb_journal.specs.Opening.{IsAsBefore, refused_as}
+use Rattle.tb_journal.specs.Creating.{is_blank, IsUnborn}
+use Rattle.tb_machine.specs.declared.entries.Entry.{Entry}
+use Rattle.tb_keep.specs.declared.faults.StartFault.{StartFault}
+use Rattle.tb_keep.specs.declared.faults.StartFault.TheVariants as start
+use Rattle.tb_keep.specs.declared.opening.NotKept.{NotKept}
+use Rattle.tb_keep.specs.Keeping.{History, records_of, head_record, Keeping, Keeps}
+use Rattle.tb_keep.specs.Restoration.{StopsFile}
+
+-- a history of these rules
+abbrev pub history_of : Profile → ℕ → List Entry → History
+history_of profile clients_max entries = record { profile = profile; clients_max = clients_max; entries = entries }
+
+-- the records are those of the history; a file without records has the empty one
+abbrev pub StandFor : History → List (List ℕ) → Type 0
+StandFor h records = (records ≡ records_of h) ⊎ ((records ≡ []) × (h.entries ≡ []))
+
+-- the device of a keeper, or the one that is given back
+abbrev pub device_left : {D : Type 0} → Result (Keeping D) (NotKept D) → D
+device_left (Ok keeper) = keeper.journal.device
+device_left (Err failed) = failed.device
+
+module _ {D : Type 0} (disk : D → Disk) (profile : Profile) (clients_max : ℕ) where
+  -- the keeper of the history that the file had
+  pub record IsOpened (file : List ℕ) (keeper : Keeping D) : Type 0 where
+    pub entries : List Entry
+    pub reads : contents file ≡ Records (recorded file)
+    pub found : StandFor (history_of profile clients_max entries) (recorded file)
+    pub keeps : Keeps disk (history_of profile clients_max entries) keeper
+
+  -- the keeper of a file that was opened, or of one that was blank
+  abbrev pub IsStarted : List ℕ → Keeping D → Type 0
+  IsStarted file keeper = IsOpened file keeper ⊎ ((is_blank file ≡ true) × Keeps disk (history_of profile clients_max []) keeper)
+
+-- the file is as it was, and was at each moment
+pub record IsUntouched (before after : Disk) : Type 0 where
+  pub seen : after.seen ≡ before.seen
+  pub any_moment : LeavesOnly before after (IsAsBefore before)
+
+-- where something stands in a file none is created, and the file is as it was
+abbrev pub IsCreateRefused : StartFault → Disk → Disk → Type 0
+IsCreateRefused (start.Journal (open_faults.Device NotEmpty)) before after = IsUntouched before after
+IsCreateRefused (start.Journal (open_faults.Device fault)) before after = Unit {0}
+IsCreateRefused start.NoMemory before after = IsUntouched before after
+IsCreateRefused fault before after = ⊥
+
+module _ (profile : Profile) (clients_max : ℕ) where
+  -- no record, or a head and nothing behind it
+  abbrev pub HasNoEntry : List ℕ → Type 0
+  HasNoEntry file = (contents file ≡ Records []) ⊎ (contents file ≡ Records (head_record profile clients_max ∷ []))
+
+  -- what a crash may leave while a file is opened: the file as it was, or one of the same records; one without records may have
+  -- a head then
+  abbrev pub MayBeOpened : Disk → List ℕ → Type 0
+  MayBeOpened before file = IsAsBefore before file ⊎ (contents file ≡ Records (recorded before.seen)) ⊎ ((recorded before.seen ≡ []) × HasNoEntry file)
+
+  -- and while one is created: the file as it was, or, if that was blank, one without entries
+  abbrev pub MayBeCreated : Disk → List ℕ → Type 0
+  MayBeCreated before file = IsAsBefore before file ⊎ ((is_blank before.seen ≡ true) × (IsUnborn file ⊎ HasNoEntry file))
+
+  abbrev pub MayBeStarted : Disk → List ℕ → Type 0
+  MayBeStarted before file = MayBeOpened before file ⊎ MayBeCreated before file
+
+  -- why a file is not opened: it is no journal or is damaged, or its records are those of no history of these rules. Then, and where
+  -- there is no memory to restore it, it is as it was. Behind any other fault the device failed, or was full
+  abbrev pub IsRefused : StartFault → Disk → Disk → Type 0
+  IsRefused (start.Journal (open_faults.Refused why)) before after = (contents before.seen ≡ refused_as why) × IsUntouched before after
+  IsRefused (start.Journal (open_faults.Device fault)) before after = Unit {0}
+  IsRefused fault before after = StopsFile fault profile clients_max (recorded before.seen) × IsUntouched before after
+
+  abbrev pub IsStartRefused : StartFault → Disk → Disk → Type 0
+  IsStartRefused start.NoMemory before after = IsUntouched before after
+  IsStartRefused fault before after = IsRefused fault before after

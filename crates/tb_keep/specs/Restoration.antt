@@ -1,0 +1,79 @@
+-- What the restoring of a machine from the records of a file makes.
+use Rattle.std.specs.Prelude.{ℕ, ◌≡◌, ◌⊎◌, ◌+◌, ◌<◌, ◌≤◌, IsTrue, List, [], ◌∷◌, ◌++◌, map, fold, Some, Result, Ok, Err}
+use Rattle.tb_records.specs.declared.limits.Profile.{Profile}
+use Rattle.tb_records.specs.declared.faults.FrameFault.{FrameFault}
+use Rattle.tb_records.specs.declared.faults.FrameFault.TheVariants as frame
+use Rattle.tb_machine.specs.declared.entries.Entry.{Entry}
+use Rattle.tb_machine.specs.declared.restoring.Unfit.{Unfit}
+use Rattle.tb_machine.specs.declared.restoring.Unfit.TheVariants as unfit
+use Rattle.tb_machine.specs.Histories.{State, start as start_state, step, fits, LegalFrom, after}
+use Rattle.tb_machine.specs.Dumps.{dumped}
+use Rattle.tb_machine.specs.Recording.{IsRecord, RecordAnswers}
+use Rattle.tb_machine.specs.Restoring.{cause_of}
+use Rattle.tb_keep.specs.declared.faults.StartFault.{StartFault}
+use Rattle.tb_keep.specs.declared.faults.StartFault.TheVariants as start
+use Rattle.tb_keep.specs.Keeping.{head_record, records_of, IsKeepable, AreRecorded}
+
+-- the records are those of entries that lead from one state to another
+pub record Leads (S : State) (records : List (List ℕ)) (T : State) : Type 0 where
+  pub entries : List Entry
+  pub legal : LegalFrom S entries
+  pub state : T ≡ fold step S entries
+  pub recorded_are : AreRecorded entries
+  pub spelled : records ≡ map dumped entries
+
+-- what is wrong with a record that is that of no entry: no want of memory
+abbrev pub IsNoRecord : FrameFault → List ℕ → Type 0
+IsNoRecord frame.NoMemory bytes = ⊥
+IsNoRecord fault bytes = RecordAnswers (Err fault) bytes
+
+-- the first test that an entry fails: no want of memory
+abbrev pub Fails : Unfit → State → Entry → Type 0
+Fails unfit.NoMemory S e = ⊥
+Fails cause S e = cause_of S e ≡ Some cause
+
+-- why a record is not restored behind a state
+abbrev pub StopsAt : StartFault → State → List ℕ → Type 0
+StopsAt (start.Record place fault) S bytes = (place ≡ S.commit + 1) × IsNoRecord fault bytes
+StopsAt (start.Entry fault) S bytes = (fault.place ≡ S.commit + 1) × ((e : Entry) × IsRecord bytes e × Fails fault.cause S e)
+StopsAt start.NoMemory S bytes = Unit {0}
+StopsAt fault S bytes = ⊥
+
+-- a record that was read as that of an entry
+abbrev pub ReadsRecord : Result Entry StartFault → State → List ℕ → Type 0
+ReadsRecord (Ok e) S bytes = IsRecord bytes e
+ReadsRecord (Err fault) S bytes = StopsAt fault S bytes
+
+-- one record
+abbrev pub RestoresRecord : Result (Unit {0}) StartFault → State → List ℕ → State → Type 0
+RestoresRecord (Ok done) S bytes T = (e : Entry) × IsRecord bytes e × IsTrue (fits S e) × (T ≡ step S e)
+RestoresRecord (Err fault) S bytes T = (T ≡ S) × StopsAt fault S bytes
+
+-- all records that are left, or those before the first one that is not restored
+abbrev pub RestoresAll : Result (Unit {0}) StartFault → State → List (List ℕ) → State → Type 0
+RestoresAll (Ok done) S records T = Leads S records T
+RestoresAll (Err fault) S records T =
+    (front : List (List ℕ)) × (bytes : List ℕ) × (rest : List (List ℕ))
+    × (records ≡ front ++ bytes ∷ rest) × Leads S front T × StopsAt fault T bytes
+
+-- the head of a ledger of these rules, no head, or that of one of others
+abbrev pub HeadAnswers : Result (Unit {0}) StartFault → List ℕ → Profile → ℕ → Type 0
+HeadAnswers (Ok done) bytes profile clients_max = bytes ≡ head_record profile clients_max
+HeadAnswers (Err start.Head) bytes profile clients_max = (p : Profile) (n : ℕ) → 0 < n → n ≤ 64 → bytes ≡ head_record p n → ⊥
+HeadAnswers (Err start.OtherRules) bytes profile clients_max =
+    (p : Profile) × (n : ℕ) × (bytes ≡ head_record p n) × ((p ≡ profile) × (n ≡ clients_max) → ⊥)
+HeadAnswers (Err fault) bytes profile clients_max = ⊥
+
+-- the records, if there are any, are those of a history of these rules, after which the machine stands
+pub record IsRestored (profile : Profile) (clients_max : ℕ) (records : List (List ℕ)) (S : State) : Type 0 where
+  pub entries : List Entry
+  pub keepable : IsKeepable (record { profile = profile; clients_max = clients_max; entries = entries })
+  pub state : S ≡ after profile clients_max entries
+  pub spelled : (records ≡ records_of (record { profile = profile; clients_max = clients_max; entries = entries })) ⊎ ((records ≡ []) × (entries ≡ []))
+
+-- why records are not restored: the head, or one behind it
+abbrev pub StopsFile : StartFault → Profile → ℕ → List (List ℕ) → Type 0
+StopsFile start.NoMemory profile clients_max records = Unit {0}
+StopsFile fault profile clients_max records =
+    (head : List ℕ) × (rest : List (List ℕ)) × (records ≡ head ∷ rest)
+    × (HeadAnswers (Err fault) head profile clients_max ⊎ ((T : State) × RestoresAll (Err fault) (start_state profile clients_max) rest T))

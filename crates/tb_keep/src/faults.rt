@@ -1,0 +1,130 @@
+//! Why a kept ledger does not go on.
+ghost use Rattle.std.specs.Prelude.{◌≡◌};
+ghost use Rattle.tb_keep.specs.Faults.{keep_fault_number, keep_fault_name, start_fault_number, start_fault_name};
+
+use std::fmt;
+use tb_journal::{Fault, OpenFault};
+use tb_machine::{RestoreFault, RunFault};
+use tb_records::FrameFault;
+use thiserror::Error;
+
+/// Why serving ends before the pairs do. Nothing more is answered, and the keeper is not to be used again: its machine may
+/// be ahead of the file. The file is opened anew.
+#[derive(Clone, Copy, Debug, PartialEq, Eq, Error)]
+pub enum KeepFault {
+    /// A fault that serving without a file has too.
+    Serving(RunFault),
+    /// The journal failed.
+    Journal(Fault),
+}
+
+impl KeepFault {
+    /// The fault's number: 1 to 4 for those of serving, 5 to 9 for those of the journal.
+    pub fn number(self) -> u8
+        ensures { result ≡ keep_fault_number self }
+    {
+        match self {
+            KeepFault::Serving(fault) => fault.number(),
+            KeepFault::Journal(fault) => 4 + fault.number(),
+        }
+    }
+
+    /// The fault's name, as a message shows it.
+    pub fn name(self) -> &'static str
+        ensures { result.now ≡ keep_fault_name self }
+    {
+        match self {
+            KeepFault::Serving(fault) => fault.name(),
+            KeepFault::Journal(fault) => fault.name(),
+        }
+    }
+}
+
+impl From<Fault> for KeepFault {
+    ghost use Rattle.tb_keep.specs.declared.faults.KeepFault.TheVariants.{Journal};
+
+    ghost from_gives = { λ of_journal fault. fault ≡ Journal of_journal };
+
+    fn from(fault: Fault) -> KeepFault {
+        KeepFault::Journal(fault)
+    }
+}
+
+impl From<RunFault> for KeepFault {
+    ghost use Rattle.tb_keep.specs.declared.faults.KeepFault.TheVariants.{Serving};
+
+    ghost from_gives = { λ of_serving fault. fault ≡ Serving of_serving };
+
+    fn from(fault: RunFault) -> KeepFault {
+        KeepFault::Serving(fault)
+    }
+}
+
+impl fmt::Display for KeepFault {
+    ghost use Rattle.std.specs.Prelude.{Some};
+    ghost use Rattle.tb_keep.specs.Faults.{keep_fault_name};
+
+    ghost output = { λ fault. Some (keep_fault_name fault) };
+
+    fn fmt<W: fmt::Write>(&self, f: &mut fmt::Formatter<W>) -> fmt::Result {
+        f.write_str(self.name())
+    }
+}
+
+/// Why a file is not opened as a kept ledger. The file keeps its records.
+#[derive(Clone, Copy, Debug, PartialEq, Eq, Error)]
+pub enum StartFault {
+    /// The journal is not opened or created, or its head is not committed.
+    Journal(OpenFault),
+    /// The first record is no head, or there is none.
+    Head,
+    /// The head names other rules.
+    OtherRules,
+    /// The record of this place, 1, 2, 3 and so on, is that of no entry.
+    Record { place: u64, fault: FrameFault },
+    /// The entry of this place may not come next.
+    Entry(RestoreFault),
+    /// There is no memory.
+    NoMemory,
+}
+
+impl StartFault {
+    /// The fault's number, 1 to 6.
+    pub fn number(self) -> u8
+        ensures { result ≡ start_fault_number self }
+    {
+        match self {
+            StartFault::Journal(_) => 1,
+            StartFault::Head => 2,
+            StartFault::OtherRules => 3,
+            StartFault::Record { .. } => 4,
+            StartFault::Entry(_) => 5,
+            StartFault::NoMemory => 6,
+        }
+    }
+
+    /// The fault's name, as a message shows it.
+    pub fn name(self) -> &'static str
+        ensures { result.now ≡ start_fault_name self }
+    {
+        match self {
+            StartFault::Journal(_) => "Journal",
+            StartFault::Head => "Head",
+            StartFault::OtherRules => "OtherRules",
+            StartFault::Record { .. } => "Record",
+            StartFault::Entry(_) => "Entry",
+            StartFault::NoMemory => "NoMemory",
+        }
+    }
+}
+
+impl fmt::Display for StartFault {
+    ghost use Rattle.std.specs.Prelude.{Some};
+    ghost use Rattle.tb_keep.specs.Faults.{start_fault_name};
+
+    ghost output = { λ fault. Some (start_fault_name fault) };
+
+    fn fmt<W: fmt::Write>(&self, f: &mut fmt::Formatter<W>) -> fmt::Result {
+        f.write_str(self.name())
+    }
+}

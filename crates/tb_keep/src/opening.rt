@@ -1,0 +1,213 @@
+//! A kept file is created, or opened after a crash.
+ghost use Rattle.std.specs.Prelude.{◌≡◌, true, [], IfOk, IfErr};
+ghost use Rattle.tb_journal.specs.Device.{IsKept, LeavesOnly};
+ghost use Rattle.tb_journal.specs.Contents.{Records, contents, recorded};
+ghost use Rattle.tb_journal.specs.Ready.{IsReady};
+ghost use Rattle.tb_journal.specs.Creating.{is_blank};
+ghost use Rattle.tb_keep.specs.Keeping.{Keeps};
+ghost use Rattle.tb_keep.specs.Restoration.{IsRestored};
+ghost use Rattle.tb_keep.specs.Opening.{IsOpened, IsStarted, HasNoEntry, MayBeOpened, MayBeCreated, MayBeStarted, IsRefused, IsCreateRefused, IsStartRefused, history_of, device_left};
+ghost use Rattle.tb_keep.specs.Headed.{HasHead, HasRecords, IsOfDevice, OpensOnly, journal_left};
+
+use crate::faults::StartFault;
+use crate::heads::{Rules, write_head};
+use crate::keepers::Keeper;
+use crate::restoring::restored;
+use std::alloc::Global;
+use tb_journal::{Device, Fault, Journal, NotOpened, OpenFault, Scanned, read_journal};
+use tb_machine::Machine;
+
+/// A device whose file was not opened as a kept ledger, and why.
+#[derive(Drop)]
+pub struct NotKept<D: Device> {
+    pub device: D,
+    pub fault: StartFault,
+}
+
+/// A journal that was not opened, as a ledger that was not.
+fn not_kept<D: Device>(failed: NotOpened<D>) -> NotKept<D>
+    ensures device { result.device ≡ failed.device }
+    ensures fault { result.fault ≡ StartFault.Journal failed.fault }
+{
+    NotKept {
+        device: failed.device,
+        fault: StartFault::Journal(failed.fault),
+    }
+}
+
+/// Commits the head of a file without records. On a fault the device is given back.
+fn headed<D: Device>(journal: Journal<D>, rules: Rules) -> Result<Journal<D>, NotKept<D>>
+    requires ready { D.tells → IsReady D.disk journal }
+    requires none_waits { D.tells → journal.waiting ≡ [] }
+    requires no_records { D.tells → recorded (D.disk journal.device).seen ≡ [] }
+    ensures head { D.tells → IfOk result (HasHead D.disk rules.profile rules.clients_max) }
+    ensures any_moment { D.tells
+        → LeavesOnly (D.disk journal.device) (D.disk (journal_left result)) (HasNoEntry rules.profile rules.clients_max) }
+    ensures fault { D.tells → IfErr result (λ failed. IsOfDevice failed.fault) }
+{
+    let mut journal = journal;
+    let head = write_head(rules.profile, rules.clients_max);
+    let done = match journal.append(&head) {
+        Ok(()) => journal.commit(),
+        Err(fault) => Err(fault),
+    };
+    match done {
+        Ok(()) => Ok(journal),
+        Err(fault) => Err(NotKept {
+            device: journal.into_device(),
+            fault: StartFault::Journal(OpenFault::Device(fault)),
+        }),
+    }
+}
+
+/// Creates a journal with a head in an empty file.
+fn create_headed<D: Device>(
+    global: Global,
+    device: D,
+    rules: Rules,
+) -> Result<Journal<D>, NotKept<D>>
+    ensures head { D.tells → IfOk result (HasHead D.disk rules.profile rules.clients_max) }
+    ensures blank { D.tells → IfOk result (λ _. is_blank (D.disk device).seen ≡ true) }
+    ensures any_moment { D.tells
+        → LeavesOnly (D.disk device) (D.disk (journal_left result))
+        (MayBeCreated rules.profile rules.clients_max (D.disk device)) }
+    ensures refused { D.tells
+        → IfErr result (λ failed. IsCreateRefused failed.fault (D.disk device) (D.disk failed.device)) }
+{
+    match tb_journal::create(global, device) {
+        Ok(journal) => headed(journal, rules),
+        Err(failed) => Err(not_kept(failed)),
+    }
+}
+
+/// Creates a kept ledger without entries in an empty file. Where something stands in the file the fault is NotEmpty, and the
+/// file is as it was.
+pub fn create<D: Device>(global: Global, device: D, rules: Rules) -> Result<Keeper<D>, NotKept<D>>
+    ensures kept { D.tells → IfOk result (Keeps D.disk (history_of rules.profile rules.clients_max [])) }
+    ensures blank { D.tells → IfOk result (λ _. is_blank (D.disk device).seen ≡ true) }
+    // A crash at any moment of the call leaves the file as it was, or no entry in it.
+    ensures any_moment { D.tells
+        → LeavesOnly (D.disk device) (D.disk (device_left result))
+        (MayBeCreated rules.profile rules.clients_max (D.disk device)) }
+    ensures refused { D.tells
+        → IfErr result (λ failed. IsCreateRefused failed.fault (D.disk device) (D.disk failed.device)) }
+{
+    let _clients = rules.clients_max.get();
+    let Ok(machine) = Machine::new_in(global, global, rules.profile, rules.clients_max) else {
+        return Err(NotKept {
+            device,
+            fault: StartFault::NoMemory,
+        });
+    };
+    match create_headed(global, device, rules) {
+        Ok(journal) => Ok(Keeper::new(global, journal, machine)),
+        Err(failed) => Err(failed),
+    }
+}
+
+/// The journal of a file that was read. One without records gets a head.
+fn open_headed<D: Device>(
+    global: Global,
+    device: D,
+    rules: Rules,
+    file: &Scanned,
+) -> Result<Journal<D>, NotKept<D>>
+    requires kept { D.tells → IsKept (D.disk device) }
+    requires read { D.tells → (D.disk device).seen ≡ file.now }
+    requires reads { contents file.now ≡ Records (recorded file.now) }
+    ensures opened { D.tells → IfOk result (HasRecords D.disk rules.profile rules.clients_max (recorded file.now)) }
+    ensures any_moment { D.tells
+        → LeavesOnly (D.disk device) (D.disk (journal_left result))
+        (OpensOnly rules.profile rules.clients_max (recorded file.now)) }
+    ensures fault { D.tells → IfErr result (λ failed. IsOfDevice failed.fault) }
+{
+    match Journal::open(global, device, file) {
+        Ok(journal) => {
+            if journal.count() == 0 {
+                headed(journal, rules)
+            } else {
+                Ok(journal)
+            }
+        }
+        Err(failed) => Err(not_kept(failed)),
+    }
+}
+
+/// The keeper of a file that was read, from which a machine was restored.
+fn open_restored<D: Device>(
+    global: Global,
+    device: D,
+    rules: Rules,
+    file: &Scanned,
+    machine: Machine<Global>,
+) -> Result<Keeper<D>, NotKept<D>>
+    requires kept { D.tells → IsKept (D.disk device) }
+    requires read { D.tells → (D.disk device).seen ≡ file.now }
+    requires restored { IsRestored rules.profile rules.clients_max (recorded file.now) machine }
+    ensures opened { D.tells → IfOk result (IsOpened D.disk rules.profile rules.clients_max file.now) }
+    ensures any_moment { D.tells
+        → LeavesOnly (D.disk device) (D.disk (device_left result))
+        (OpensOnly rules.profile rules.clients_max (recorded file.now)) }
+    ensures fault { D.tells → IfErr result (λ failed. IsOfDevice failed.fault) }
+{
+    let _extent = file.extent();
+    match open_headed(global, device, rules, file) {
+        Ok(journal) => Ok(Keeper::new(global, journal, machine)),
+        Err(failed) => Err(failed),
+    }
+}
+
+impl<D: Device> Keeper<D> {
+    /// Opens a kept ledger: its machine stands after the entries that the file has. A file without records gets a head. What
+    /// a crash left behind the records is cut off.
+    pub fn open(global: Global, device: D, rules: Rules) -> Result<Keeper<D>, NotKept<D>>
+        ensures opened { D.tells
+            → IfOk result (IsOpened D.disk rules.profile rules.clients_max (D.disk device).seen) }
+        // A crash at any moment of the call leaves the history that was there, so that the call may be made again.
+        ensures any_moment { D.tells
+            → LeavesOnly (D.disk device) (D.disk (device_left result))
+            (MayBeOpened rules.profile rules.clients_max (D.disk device)) }
+        // A file that is refused stays as it was.
+        ensures refused { D.tells
+            → IfErr result
+            (λ failed.
+            IsRefused rules.profile rules.clients_max failed.fault (D.disk device) (D.disk failed.device)) }
+    {
+        let mut device = device;
+        let same = rules;
+        match read_journal(global, &mut device) {
+            Ok(file) => match restored(global, same, &file) {
+                Ok(machine) => open_restored(global, device, rules, &file, machine),
+                Err(fault) => Err(NotKept { device, fault }),
+            },
+            Err(fault) => Err(NotKept {
+                device,
+                fault: StartFault::Journal(fault),
+            }),
+        }
+    }
+
+    /// Creates a kept ledger in an empty file, and opens that of any other one.
+    pub fn start(global: Global, device: D, rules: Rules) -> Result<Keeper<D>, NotKept<D>>
+        ensures started { D.tells
+            → IfOk result (IsStarted D.disk rules.profile rules.clients_max (D.disk device).seen) }
+        ensures any_moment { D.tells
+            → LeavesOnly (D.disk device) (D.disk (device_left result))
+            (MayBeStarted rules.profile rules.clients_max (D.disk device)) }
+        ensures refused { D.tells
+            → IfErr result
+            (λ failed.
+            IsStartRefused rules.profile rules.clients_max failed.fault (D.disk device) (D.disk failed.device)) }
+    {
+        let same = rules;
+        match create(global, device, same) {
+            Ok(keeper) => Ok(keeper),
+            Err(failed) => match failed.fault {
+                StartFault::Journal(OpenFault::Device(Fault::NotEmpty)) => {
+                    Keeper::open(global, failed.device, rules)
+                }
+                _ => Err(failed),
+            },
+        }
+    }
+}

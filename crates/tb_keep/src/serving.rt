@@ -1,0 +1,203 @@
+//! The serving of a kept ledger: the entries of pairs are committed, and then the replies that rest on them are told.
+ghost use Rattle.std.specs.Prelude.{◌≡◌, ◌++◌, true, false, [], ◌∷◌, IfErr, IsTrue, MatchResult, OnOk};
+ghost use Rattle.tb_journal.specs.Ready.{IsReady};
+ghost use Rattle.tb_machine.specs.Dumps.{dumped};
+ghost use Rattle.tb_machine.specs.Histories.{fits};
+ghost use Rattle.tb_machine.specs.Recording.{IsRecord};
+ghost use Rattle.tb_machine.specs.Runs.{is_new_in};
+ghost use Rattle.tb_machine.specs.Scripts.{entry_of, has_time};
+ghost use Rattle.tb_keep.specs.Keeping.{IsFresh};
+ghost use Rattle.tb_keep.specs.Rounds.{Served};
+ghost use Rattle.tb_keep.specs.Steps.{IsRefusal, Appends, Holds, KeepsPair, KeepsNext, HandsOut, Tells, MayTell, with_record};
+
+use crate::faults::KeepFault;
+use crate::keepers::Keeper;
+use crate::replies::Replies;
+use std::alloc::Global;
+use tb_journal::{Device, Journal};
+use tb_machine::{Entry, Machine, RunFault, serve_pair, write_entry};
+use tb_records::streams::read_timed_from;
+use tb_records::{Request, Sink, Source, holds_pair, put_all};
+use tb_sessions::Class;
+
+/// Where so many bytes of replies are held they are told, even if more pairs are at hand.
+pub const HELD_BYTES_MAX: usize = 1 << 20;
+
+/// The entry of a new request that comes at a moment, where there is a time for it.
+fn next_entry(machine: &Machine<Global>, moment: u64, request: Request) -> Result<Entry, KeepFault>
+    requires { is_new_in machine.now (moment, request) ≡ true }
+    ensures timed { MatchResult result
+        (λ entry.
+        (has_time machine.now (moment, request) ≡ true)
+        × (entry ≡ entry_of machine.now (moment, request))
+        × IsTrue (fits machine.now entry))
+        (λ f.
+        (f ≡ KeepFault.Serving RunFault.TimeExhausted)
+        × (has_time machine.now (moment, request) ≡ false)) }
+{
+    let events = request.body().event_count() as u64;
+    let Some(time) = machine.next_time(moment, events) else {
+        return Err(KeepFault::Serving(RunFault::TimeExhausted))
+    };
+    let commit = machine.commit() + 1;
+    Ok(Entry {
+        commit,
+        time,
+        request,
+    })
+}
+
+/// Lets the record of an entry wait for the next commit. The buffer is the caller's, so that each record needs no new one.
+fn append_entry<D: Device>(
+    journal: &mut Journal<D>,
+    buffer: &mut Vec<u8>,
+    entry: &Entry,
+) -> Result<(), KeepFault>
+    ensures waits { OnOk result (journal.new ≡ with_record journal.old (dumped entry.now)) }
+    ensures fits { OnOk result (IsRecord (dumped entry.now) entry.now) }
+    ensures stays { IfErr result (λ f. IsRefusal f × (journal.new ≡ journal.old)) }
+{
+    buffer.clear();
+    if write_entry(entry, buffer).is_err() {
+        return Err(KeepFault::Serving(RunFault::NoMemory));
+    }
+    journal.append(buffer)?;
+    Ok(())
+}
+
+/// Lets the entry of a new request wait for the next commit, and gives the request back.
+fn append_new<D: Device>(
+    keeper: &mut Keeper<D>,
+    moment: u64,
+    request: Request,
+) -> Result<Request, KeepFault>
+    requires { is_new_in keeper.old.state (moment, request) ≡ true }
+    ensures { Appends result (moment, request) keeper.old keeper.new }
+{
+    let entry = next_entry(&keeper.machine, moment, request)?;
+    append_entry(&mut keeper.journal, &mut keeper.buffer, &entry)?;
+    Ok(entry.request)
+}
+
+/// Serves a pair, and holds the reply to it. Memory takes a reply, or there is none left.
+fn hold_reply(
+    machine: &mut Machine<Global>,
+    replies: &mut Replies,
+    moment: u64,
+    request: Request,
+) -> Result<(), KeepFault>
+    ensures { Holds result (moment, request) machine.old machine.new replies.old.bytes.items
+        replies.new.bytes.items }
+{
+    match serve_pair(machine, replies, moment, request) {
+        Ok(()) => Ok(()),
+        Err(RunFault::Frame(_)) => Err(KeepFault::Serving(RunFault::NoMemory)),
+        Err(fault) => Err(KeepFault::Serving(fault)),
+    }
+}
+
+/// Serves a request that comes at a moment: the record of a new one waits for the next commit, and the reply is held.
+fn keep_pair<D: Device>(
+    keeper: &mut Keeper<D>,
+    replies: &mut Replies,
+    moment: u64,
+    request: Request,
+) -> Result<(), KeepFault>
+    ensures { KeepsPair result (moment, request) keeper.old keeper.new replies.old.bytes.items
+        replies.new.bytes.items }
+{
+    let request = match keeper.machine.class(&request) {
+        Class::New => append_new(keeper, moment, request)?,
+        _ => request,
+    };
+    hold_reply(&mut keeper.machine, replies, moment, request)
+}
+
+/// Reads and serves the next pair: false where there is none.
+fn keep_next<D: Device, R: Source>(
+    alloc: Global,
+    keeper: &mut Keeper<D>,
+    replies: &mut Replies,
+    reader: &mut R,
+) -> Result<bool, KeepFault>
+    ensures { KeepsNext result keeper.old keeper.new (R.input reader.old) (R.input reader.new)
+        replies.old.bytes.items replies.new.bytes.items }
+{
+    match read_timed_from(alloc, reader) {
+        Ok(Some((moment, request))) => {
+            keep_pair(keeper, replies, moment, request)?;
+            Ok(true)
+        }
+        Ok(None) => Ok(false),
+        Err(fault) => Err(KeepFault::Serving(RunFault::Frame(fault))),
+    }
+}
+
+/// Gives out what is held.
+fn hand_out<W: Sink>(replies: &mut Replies, writer: &mut W) -> Result<(), KeepFault>
+    ensures { HandsOut result replies.old.bytes.items replies.new.bytes.items (W.output writer.old)
+        (W.output writer.new) }
+{
+    if let Err(fault) = put_all(writer, replies.bytes()) {
+        return Err(KeepFault::Serving(RunFault::Frame(fault)));
+    }
+    replies.clear();
+    writer.pass_on();
+    Ok(())
+}
+
+/// Commits the entries that wait, and then tells the replies that rest on them.
+fn tell<D: Device, W: Sink>(
+    keeper: &mut Keeper<D>,
+    replies: &mut Replies,
+    writer: &mut W,
+) -> Result<(), KeepFault>
+    requires { D.tells → IsReady D.disk keeper.old.journal }
+    ensures { Tells D.tells D.disk result keeper.old keeper.new replies.old.bytes.items
+        replies.new.bytes.items (W.output writer.old) (W.output writer.new) }
+{
+    keeper.journal.commit()?;
+    hand_out(replies, writer)
+}
+
+/// Tells the replies where the next pair may have to be waited for, or where they are many.
+fn tell_before_waiting<D: Device, R: Source, W: Sink>(
+    keeper: &mut Keeper<D>,
+    replies: &mut Replies,
+    reader: &R,
+    writer: &mut W,
+) -> Result<(), KeepFault>
+    requires { D.tells → IsReady D.disk keeper.old.journal }
+    ensures { MayTell D.tells D.disk result keeper.old keeper.new replies.old.bytes.items
+        replies.new.bytes.items (W.output writer.old) (W.output writer.new) }
+{
+    if holds_pair(reader.at_hand()) && replies.len() < HELD_BYTES_MAX {
+        return Ok(());
+    }
+    tell(keeper, replies, writer)
+}
+
+/// Serves pairs, a moment and the frame of a request each, until they end, and answers the number of replies told. Each
+/// was told when the entries that it rests on were in the file. After a fault nothing more is told: what was read since
+/// the last commit is not answered, and the keeper is not to be used again.
+pub fn keep<D: Device, R: Source, W: Sink>(
+    alloc: Global,
+    keeper: &mut Keeper<D>,
+    reader: &mut R,
+    writer: &mut W,
+) -> Result<u64, KeepFault>
+    requires { D.tells → IsFresh D.disk keeper.old }
+    ensures served { Served D.tells D.disk result keeper.old keeper.new (R.input reader.old)
+        (R.input reader.new) (W.output writer.old) (W.output writer.new) }
+    ensures fresh { D.tells → OnOk result (IsFresh D.disk keeper.new) }
+{
+    let mut replies = Replies::new(alloc);
+    for k in 0..u64::MAX {
+        tell_before_waiting(keeper, &mut replies, reader, writer)?;
+        if !keep_next(alloc, keeper, &mut replies, reader)? {
+            tell(keeper, &mut replies, writer)?;
+            return Ok(k);
+        }
+    }
+    Err(KeepFault::Serving(RunFault::TooLong))
+}
