@@ -1,16 +1,14 @@
 -- What is read of a file and sent as a dump.
-use Rattle.std.proofs.Common.{ℕ, ◌≡◌, ◌<◌, ◌≤◌, suc, List, [], ◌∷◌, ◌++◌, length, Result, Ok, Err, MatchResult, refl, sym, ap, ◌∙◌, subst, append_assoc, append-nil}
+use Rattle.std.proofs.Common.{ℕ, ◌≡◌, List, [], ◌∷◌, ◌++◌, Result, Ok, Err, refl, sym, ap, ◌∙◌, append_assoc, append-nil}
 use Rattle.tb_records.specs.declared.faults.FrameFault.{FrameFault}
-use Rattle.tb_records.specs.declared.faults.FrameFault.TheVariants.{Device}
-use Rattle.tb_records.specs.declared.limits.Profile.{Profile}
-use Rattle.tb_records.specs.Transport.{Output, Sent, CutOff}
+use Rattle.tb_records.specs.Transport.{Output, Sent}
 use Rattle.tb_records.proofs.Sendings.{sent_rest, sent_few}
 use Rattle.tb_machine.specs.DumpRuns.{Written}
 use Rattle.tb_keep.specs.declared.faults.StartFault.{StartFault}
 use Rattle.tb_keep.specs.declared.faults.StartFault.TheVariants as start
 use Rattle.tb_keep.specs.declared.heads.Rules.{Rules}
 use Rattle.tb_keep.specs.Keeping.{head_record}
-use Rattle.tb_keep.specs.Reading.{HasNoHead, RulesIn, RulesAnswer, joined, behind_head}
+use Rattle.tb_keep.specs.Reading.{HasNoHead, RulesIn, RulesAnswer, joined}
 
 abbrev tail_of : List (List ℕ) → List ℕ → List ℕ
 tail_of [] last = last

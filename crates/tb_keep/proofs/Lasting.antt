@@ -35,15 +35,15 @@ recorded_join : (es fs : List Entry) → AreRecorded es → AreRecorded fs → A
 recorded_join [] fs all more = more
 recorded_join (e ∷ es) fs all more = (all.0, recorded_join es fs all.1 more)
 
-served_front : (S : State) (ps qs : List Pair) → AreServed S (ps ++ qs) → AreServed S ps
+pub served_front : (S : State) (ps qs : List Pair) → AreServed S (ps ++ qs) → AreServed S ps
 served_front S [] qs served = tt
 served_front S (p ∷ ps) qs served = (served.0, served_front (after_pair S p) ps qs served.1)
 
-served_join : (S : State) (ps qs : List Pair) → AreServed S ps → AreServed (state_from S ps) qs → AreServed S (ps ++ qs)
+pub served_join : (S : State) (ps qs : List Pair) → AreServed S ps → AreServed (state_from S ps) qs → AreServed S (ps ++ qs)
 served_join S [] qs served more = more
 served_join S (p ∷ ps) qs served more = (served.0, served_join (after_pair S p) ps qs served.1 more)
 
-keepable_longer : (h : History) (ps : List Pair) → IsKeepable h → AreServed (state_of h) ps → IsKeepable (longer h (entries_from (state_of h) ps))
+pub keepable_longer : (h : History) (ps : List Pair) → IsKeepable h → AreServed (state_of h) ps → IsKeepable (longer h (entries_from (state_of h) ps))
 keepable_longer h ps is served = record {
   some_client = is.some_client;
   clients = is.clients;
@@ -51,7 +51,7 @@ keepable_longer h ps is served = record {
   recorded_are = recorded_join h.entries (entries_from (state_of h) ps) is.recorded_are (recorded_pairs (state_of h) ps served);
 }
 
-records_longer : (h : History) (es : List Entry) → records_of h ++ map dumped es ≡ records_of (longer h es)
+pub records_longer : (h : History) (es : List Entry) → records_of h ++ map dumped es ≡ records_of (longer h es)
 records_longer h es = ap (λ records. head_record h.profile h.clients_max ∷ records) (sym (map-append dumped h.entries es))
 
 module _ (tells : Type 0) {D : Type 0} (disk : D → Disk) where

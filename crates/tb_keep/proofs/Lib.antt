@@ -5,3 +5,6 @@ pub mod Lasting
 pub mod Leading
 pub mod Opened
 pub mod Dumping
+pub mod Crashes
+pub mod Again
+pub mod Spelled

@@ -16,7 +16,7 @@ state_join S [] qs = refl
 state_join S (p ∷ ps) qs = state_join (after_pair S p) ps qs
 
 module _ (tells : Type 0) {D : Type 0} (disk : D → Disk) where
-  state_behind : (done : List (List Pair)) (first before : Standing D) → Rounds tells disk done first before → before.state ≡ state_from first.state (pairs_of done)
+  pub state_behind : (done : List (List Pair)) (first before : Standing D) → Rounds tells disk done first before → before.state ≡ state_from first.state (pairs_of done)
   state_behind [] first before kept = ap (λ (s : Standing D). s.state) kept
   state_behind (ps ∷ done) first before kept =
       state_behind done kept.0 before kept.2

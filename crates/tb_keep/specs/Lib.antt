@@ -6,6 +6,7 @@ pub mod Opening
 pub mod Reading
 pub mod Rounds
 pub mod Moments
+pub mod Again
 -- what private functions alone cite
 pub mod Headed
 pub mod Steps

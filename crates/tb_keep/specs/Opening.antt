@@ -4,7 +4,7 @@ use Rattle.tb_records.specs.declared.limits.Profile.{Profile}
 use Rattle.tb_journal.specs.declared.faults.Fault.TheVariants.{NotEmpty}
 use Rattle.tb_journal.specs.declared.opening.OpenFault.TheVariants as open_faults
 use Rattle.tb_journal.specs.Device.{Disk, LeavesOnly}
-use Rattle.tb_journal.specs.Contents.{Contents, Records, contents, recorded}
+use Rattle.tb_journal.specs.Contents.{Records, contents, recorded}
 use Rattle.tb_journal.specs.Opening.{IsAsBefore, refused_as}
 use Rattle.tb_journal.specs.Creating.{is_blank, IsUnborn}
 use Rattle.tb_machine.specs.declared.entries.Entry.{Entry}

@@ -10,7 +10,6 @@ use Rattle.tb_keep.specs.declared.faults.StartFault.TheVariants as start
 use Rattle.tb_keep.specs.declared.heads.Rules.{Rules}
 use Rattle.tb_keep.specs.Keeping.{History, state_of, head_record, IsLedger}
 use Rattle.tb_keep.specs.Restoration.{StopsFile}
-use Rattle.tb_keep.specs.Opening.{history_of}
 
 -- the first record is no head, or there is none
 abbrev pub HasNoHead : List (List ℕ) → Type 0

@@ -2,6 +2,8 @@
 ghost use Rattle.std.specs.Prelude.{List};
 ghost use Rattle.tb_machine.specs.Scripts.{Pair};
 ghost use Rattle.tb_records.specs.Transport.{Sent};
+ghost use Rattle.tb_keep.specs.Again.{OneHistory, OneLedger, GoesOnAfter, AnyCrash};
+ghost use Rattle.tb_keep.specs.Reading.{DumpIsOfHistory};
 ghost use Rattle.tb_keep.specs.Moments.{WhileCommitting, WhileTelling, Lasts, RoundsAreServed};
 ghost use Rattle.tb_keep.specs.Rounds.{Standing, Rounds, pairs_of, told_from};
 
@@ -20,4 +22,23 @@ pub fn told_stands<D: Device>()
 pub fn told_lasts<D: Device>()
     ensures lasts { Lasts D.tells D.disk }
     ensures served { RoundsAreServed D.tells D.disk }
+{}
+
+/// A crash at any moment of `keep` leaves a file that stands for the history from before it, with the entries of some first
+/// pairs of those that were read, and nothing else: `open` reads just that.
+pub fn any_crash<D: Device>()
+    ensures { AnyCrash D.tells D.disk }
+{}
+
+/// What is opened again after a crash: a file stands for one history, and the machine behind the entries of pairs is the one
+/// that served these pairs. So a request that is sent again gets what it would have got with no crash between.
+pub fn opened_again()
+    ensures one_history { OneHistory }
+    ensures one_ledger { OneLedger }
+    ensures goes_on { GoesOnAfter }
+{}
+
+/// What `write_dump` writes of a file spells the history that the file stands for.
+pub fn dump_spells()
+    ensures { DumpIsOfHistory }
 {}

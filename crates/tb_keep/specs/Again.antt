@@ -1,0 +1,41 @@
+-- What is opened again after a crash goes on as if there had been none.
+use Rattle.std.specs.Prelude.{ℕ, ◌≡◌, List, ◌++◌, Result}
+use Rattle.tb_records.specs.Transport.{Input, Output}
+use Rattle.tb_journal.specs.Device.{Disk}
+use Rattle.tb_machine.specs.Scripts.{Pair}
+use Rattle.tb_keep.specs.declared.faults.KeepFault.{KeepFault}
+use Rattle.tb_keep.specs.Keeping.{History, state_of, longer, Keeping, Keeps, IsLedger}
+use Rattle.tb_keep.specs.Rounds.{state_from, entries_from, told_from, pairs_of, Served}
+
+-- a file stands for one history at most
+abbrev pub OneHistory : Type 0
+OneHistory = (file : List ℕ) (h k : History) → IsLedger h file → IsLedger k file → h ≡ k
+
+-- behind the entries of pairs the machine is the one that served these pairs
+abbrev pub OneLedger : Type 0
+OneLedger = (h : History) (ps : List Pair) → state_of (longer h (entries_from (state_of h) ps)) ≡ state_from (state_of h) ps
+
+-- pairs that come after a crash are answered as they are behind the pairs from before it
+abbrev pub GoesOnAfter : Type 0
+GoesOnAfter = (h : History) (ps qs : List Pair)
+    → told_from (state_of h) (ps ++ qs) ≡ told_from (state_of h) ps ++ told_from (state_of (longer h (entries_from (state_of h) ps))) qs
+
+-- the pairs that were read, and of which none is told without its entry
+abbrev pub all_pairs : {tells : Type 0} {D : Type 0} {disk : D → Disk} {result : Result ℕ KeepFault} {before after : Keeping D} {first last : Input} {start written : Output}
+    → Served tells disk result before after first last start written → List Pair
+all_pairs served = pairs_of served.rounds ++ served.more
+
+-- the file stands for the history with the entries of some first pairs
+pub record HasFirst (h : History) (all : List Pair) (file : List ℕ) : Type 0 where
+  pub pairs : List Pair
+  pub others : List Pair
+  pub all_are : all ≡ pairs ++ others
+  pub stands : IsLedger (longer h (entries_from (state_of h) pairs)) file
+
+module _ (tells : Type 0) {D : Type 0} (disk : D → Disk) where
+  -- a crash at any moment of serving
+  abbrev pub AnyCrash : Type 0
+  AnyCrash = (h : History) (result : Result ℕ KeepFault) (before after : Keeping D) (first last : Input) (start written : Output) (file : List ℕ)
+      → tells → Keeps disk h before → (served : Served tells disk result before after first last start written)
+      → (disk after.journal.device).left_since (disk before.journal.device).moment file
+      → HasFirst h (all_pairs served) file
