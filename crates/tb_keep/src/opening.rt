@@ -4,7 +4,7 @@ ghost use Rattle.tb_journal.specs.Device.{IsKept, LeavesOnly};
 ghost use Rattle.tb_journal.specs.Contents.{Records, contents, recorded};
 ghost use Rattle.tb_journal.specs.Ready.{IsReady};
 ghost use Rattle.tb_journal.specs.Creating.{is_blank};
-ghost use Rattle.tb_keep.specs.Keeping.{Keeps};
+ghost use Rattle.tb_keep.specs.Keeping.{Keeps, IsFresh};
 ghost use Rattle.tb_keep.specs.Restoration.{IsRestored};
 ghost use Rattle.tb_keep.specs.Opening.{IsOpened, IsStarted, HasNoEntry, MayBeOpened, MayBeCreated, MayBeStarted, IsRefused, IsCreateRefused, IsStartRefused, history_of, device_left};
 ghost use Rattle.tb_keep.specs.Headed.{HasHead, HasRecords, IsOfDevice, OpensOnly, journal_left};
@@ -84,6 +84,7 @@ fn create_headed<D: Device>(
 /// file is as it was.
 pub fn create<D: Device>(global: Global, device: D, rules: Rules) -> Result<Keeper<D>, NotKept<D>>
     ensures kept { D.tells → IfOk result (Keeps D.disk (history_of rules.profile rules.clients_max [])) }
+    ensures fresh { D.tells → IfOk result (IsFresh D.disk) }
     ensures blank { D.tells → IfOk result (λ _. is_blank (D.disk device).seen ≡ true) }
     // A crash at any moment of the call leaves the file as it was, or no entry in it.
     ensures any_moment { D.tells
@@ -145,6 +146,7 @@ fn open_restored<D: Device>(
     requires read { D.tells → (D.disk device).seen ≡ file.now }
     requires restored { IsRestored rules.profile rules.clients_max (recorded file.now) machine }
     ensures opened { D.tells → IfOk result (IsOpened D.disk rules.profile rules.clients_max file.now) }
+    ensures fresh { D.tells → IfOk result (IsFresh D.disk) }
     ensures any_moment { D.tells
         → LeavesOnly (D.disk device) (D.disk (device_left result))
         (OpensOnly rules.profile rules.clients_max (recorded file.now)) }
@@ -163,6 +165,8 @@ impl<D: Device> Keeper<D> {
     pub fn open(global: Global, device: D, rules: Rules) -> Result<Keeper<D>, NotKept<D>>
         ensures opened { D.tells
             → IfOk result (IsOpened D.disk rules.profile rules.clients_max (D.disk device).seen) }
+        // So `keep` may serve.
+        ensures fresh { D.tells → IfOk result (IsFresh D.disk) }
         // A crash at any moment of the call leaves the history that was there, so that the call may be made again.
         ensures any_moment { D.tells
             → LeavesOnly (D.disk device) (D.disk (device_left result))
@@ -191,6 +195,7 @@ impl<D: Device> Keeper<D> {
     pub fn start(global: Global, device: D, rules: Rules) -> Result<Keeper<D>, NotKept<D>>
         ensures started { D.tells
             → IfOk result (IsStarted D.disk rules.profile rules.clients_max (D.disk device).seen) }
+        ensures fresh { D.tells → IfOk result (IsFresh D.disk) }
         ensures any_moment { D.tells
             → LeavesOnly (D.disk device) (D.disk (device_left result))
             (MayBeStarted rules.profile rules.clients_max (D.disk device)) }
