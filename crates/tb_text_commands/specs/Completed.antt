@@ -1,12 +1,13 @@
--- A statement that leaves out its client, its session or its request's number, and the whole statement that it stands for.
-use Rattle.std.specs.Prelude.{ℕ, Bool, ◌&&◌, ◌||◌, ◌==◌, ◌+◌, ◌^◌, nat_eq, nat_lt, option_map, List, [], ◌∷◌, ◌++◌, Option, Some, None, if◌then◌else◌, codes}
+-- A statement that leaves out its client, its session or its request's number, and the whole statement that it stands
+-- for.
+use Rattle.std.specs.Prelude.{ℕ, Bool, true, ◌≡◌, ◌&&◌, ◌==◌, ◌+◌, ◌^◌, nat_eq, nat_lt, option_map, List, [], ◌∷◌, ◌++◌, Option, Some, None, if◌then◌else◌, codes}
 use Rattle.std.specs.Option.{is_some, option_or}
 use Rattle.std.specs.Cmp.Lexicographic.{pointwise}
 use Rattle.std.specs.Fmt.{decimal}
 use Rattle.tb_records.specs.Messages.{Answer}
 use Rattle.tb_sessions.specs.Judged.{row_of}
 use Rattle.tb_sessions.specs.declared.rows.Row.{Row}
-use Rattle.tb_text_commands.specs.Heads.{given_in}
+use Rattle.tb_text_commands.specs.Heads.{begins_operation, first_word, head_of}
 use Rattle.tb_text_commands.specs.declared.heads.Given.{Given}
 use Rattle.tb_text_commands.specs.declared.completing.LeftOut.{LeftOut}
 use Rattle.tb_text_commands.specs.declared.completing.Standing.{Standing}
@@ -45,43 +46,58 @@ next_in session Unknown = 1
 
 -- where the session is left out: it is the client's, and a client that has none is registered first
 abbrev pub without_session : Given → ℕ → Standing → LeftOut
-without_session g c (Open session next) = record { registered = None; client = unless_given g.client c; session = Some session; request = unless_given g.request next }
-without_session g c (Closed session) = record { registered = Some c; client = unless_given g.client c; session = Some session; request = unless_given g.request 1 }
+without_session g c (Open session next) = record {
+  registered = None;
+  client = unless_given g.client c;
+  session = Some session;
+  request = unless_given g.request next;
+}
+without_session g c (Closed session) = record {
+  registered = Some c;
+  client = unless_given g.client c;
+  session = Some session;
+  request = unless_given g.request 1;
+}
 without_session g c Unknown = nothing
 
 abbrev pub by_session : Given → ℕ → Standing → Option ℕ → LeftOut
 by_session g c standing None = without_session g c standing
-by_session g c standing (Some session) = record { registered = None; client = unless_given g.client c; session = None; request = unless_given g.request (next_in session standing) }
+by_session g c standing (Some session) = record {
+  registered = None;
+  client = unless_given g.client c;
+  session = None;
+  request = unless_given g.request (next_in session standing);
+}
 
 -- where client and request stand, a session that is left out is 0, as ever
 abbrev pub left_out_of_batch : Given → ℕ → Standing → LeftOut
-left_out_of_batch g c standing = if is_some g.client && is_some g.request then nothing else by_session g c standing g.session
+left_out_of_batch g c standing =
+    if is_some g.client && is_some g.request then nothing
+    else by_session g c standing g.session
 
 abbrev pub left_out_of_register : Given → ℕ → LeftOut
-left_out_of_register g c = record { registered = None; client = unless_given g.client c; session = None; request = None }
+left_out_of_register g c = record {
+  registered = None;
+  client = unless_given g.client c;
+  session = None;
+  request = None;
+}
 
--- an operation on events or ids
-abbrev pub is_batch : List ℕ → Bool
-is_batch word =
-    pointwise nat_eq word (codes "create_accounts")
-    || pointwise nat_eq word (codes "create_transfers")
-    || pointwise nat_eq word (codes "lookup_accounts")
-    || pointwise nat_eq word (codes "lookup_transfers")
-
--- of a client that stands so, before an operation
+-- of a client that stands so, before what stands from the operation's word on
 abbrev pub left_out : Given → List ℕ → ℕ → Standing → LeftOut
-left_out g operation c standing =
-    if pointwise nat_eq operation (codes "register") then left_out_of_register g c
-    else if is_batch operation then left_out_of_batch g c standing
+left_out g rest c standing =
+    if pointwise nat_eq (first_word rest) (codes "register") then left_out_of_register g c
+    else if begins_operation rest then left_out_of_batch g c standing
     else nothing
 
 -- a statement means the client that it names, or the one that was named last
 abbrev pub left_out_by : Option ℕ → (ℕ → Standing) → Given → List ℕ → LeftOut
-left_out_by None standing g operation = nothing
-left_out_by (Some c) standing g operation = left_out g operation c (standing c)
+left_out_by None standing g rest = nothing
+left_out_by (Some c) standing g rest = left_out g rest c (standing c)
 
 unfoldable pub left_out_in : Option ℕ → (ℕ → Standing) → List ℕ → LeftOut
-left_out_in last standing text = left_out_by (option_or (given_in text).0.client last) standing (given_in text).0 (given_in text).1
+left_out_in last standing text =
+    left_out_by (option_or (head_of text).0.client last) standing (head_of text).0 (head_of text).1
 
 -- a line of a number, between a field's name with `=` and an ending
 abbrev pub number_line : List ℕ → List ℕ → Option ℕ → List ℕ
@@ -96,7 +112,22 @@ written x =
     ++ (number_line (codes "session=") (codes "\n") x.session
     ++ number_line (codes "request=") (codes "\n") x.request))
 
--- The whole statement: lines for what is left out, and the statement as it stands. The client named last is known, and how
--- each client stands.
+-- the whole statement: lines for what is left out, and the statement as it stands, by the client that was named last, and
+-- by how each client stands
 abbrev pub completed : Option ℕ → (ℕ → Standing) → List ℕ → List ℕ
 completed last standing text = written (left_out_in last standing text) ++ text
+
+-- what is told of a text by itself
+
+abbrev pub NamesClient : List ℕ → Type 0
+NamesClient text = is_some (head_of text).0.client ≡ true
+
+abbrev pub NamesRequest : List ℕ → Type 0
+NamesRequest text = is_some (head_of text).0.request ≡ true
+
+abbrev pub IsRegister : List ℕ → Type 0
+IsRegister text = first_word (head_of text).1 ≡ codes "register"
+
+-- nothing is filled in, whatever is known
+abbrev pub StandsForItself : List ℕ → Type 0
+StandsForItself text = (last : Option ℕ) (standing : ℕ → Standing) → completed last standing text ≡ text

@@ -1,7 +1,7 @@
--- What stands before the operation of a statement: at, client, session and request, each with its number, in any order, with
--- spaces and comments between.
+-- What stands before the operation of a statement: at, client, session and request, each with its number, in any order,
+-- with spaces and comments between.
 use Rattle.std.specs.Prelude.{ℕ, Bool, true, false, not, ◌&&◌, ◌||◌, ◌==◌, ◌+◌, ◌-◌, ◌*◌, ◌^◌, nat_le, nat_lt, nat_eq, List, [], ◌∷◌, drop, take, unwrap_or, Option, Some, None, if◌then◌else◌, codes}
-use Rattle.std.specs.Option.{option_and_then}
+use Rattle.std.specs.Option.{option_and_then, is_none}
 use Rattle.std.specs.Cmp.Lexicographic.{pointwise}
 use Rattle.tb_text_commands.specs.declared.heads.HeadField.{HeadField}
 use Rattle.tb_text_commands.specs.declared.heads.HeadField.TheVariants.{At, Client, Session, Request}
@@ -21,7 +21,8 @@ past_gap bytes = drop (gap_length false bytes) bytes
 
 -- the bytes of a word or a number
 abbrev pub is_word_byte : ℕ → Bool
-is_word_byte b = (nat_le 97 b && nat_le b 122) || (nat_le 65 b && nat_le b 90) || (nat_le 48 b && nat_le b 57) || b == 95
+is_word_byte b =
+    (nat_le 97 b && nat_le b 122) || (nat_le 65 b && nat_le b 90) || (nat_le 48 b && nat_le b 57) || b == 95
 
 -- the length of the word that bytes begin with
 abbrev pub word_length : List ℕ → ℕ
@@ -48,8 +49,11 @@ digit_of b =
     else None
 
 -- a number with one digit more, where it is below 2^128
+abbrev pub with_value : ℕ → ℕ → ℕ → Option ℕ
+with_value base n d = if nat_lt d base && nat_lt (n * base + d) (2 ^ 128) then Some (n * base + d) else None
+
 abbrev pub with_digit : ℕ → ℕ → ℕ → Option ℕ
-with_digit base n b = option_and_then (λ d. if nat_lt d base && nat_lt (n * base + d) (2 ^ 128) then Some (n * base + d) else None) (digit_of b)
+with_digit base n b = option_and_then (λ d. with_value base n d) (digit_of b)
 
 -- the number that digits spell behind those that spelled n
 abbrev pub number_from : ℕ → ℕ → List ℕ → Option ℕ
@@ -78,12 +82,16 @@ with_field g Client n = record { client = Some n; session = g.session; request =
 with_field g Session n = record { client = g.client; session = Some n; request = g.request }
 with_field g Request n = record { client = g.client; session = g.session; request = Some n }
 
+-- a field whose number stands first, among those before it, and what stands behind it
+abbrev pub number_read : Given → HeadField → List ℕ → Option (Given × List ℕ)
+number_read g f bytes = option_and_then (λ n. Some (with_field g f n, behind_word bytes)) (number_of (first_word bytes))
+
+abbrev pub equals_read : Given → HeadField → List ℕ → Option (Given × List ℕ)
+equals_read g f bytes = option_and_then (λ value. number_read g f value) (behind_equals bytes)
+
 -- the field that bytes begin with, among those before it, and what stands behind it
 abbrev pub field_read : Given → List ℕ → Option (Given × List ℕ)
-field_read g bytes =
-    option_and_then (λ f.
-    option_and_then (λ value.
-    option_and_then (λ n. Some (with_field g f n, behind_word value)) (number_of (first_word value))) (behind_equals (behind_word bytes))) (field_named (first_word bytes))
+field_read g bytes = option_and_then (λ f. equals_read g f (behind_word bytes)) (field_named (first_word bytes))
 
 -- behind one field more, where one stands
 unfoldable pub next : Given × List ℕ → Given × List ℕ
@@ -93,6 +101,9 @@ next h = unwrap_or (field_read h.0 h.1) h
 abbrev pub head_of : List ℕ → Given × List ℕ
 head_of text = next (next (next (next (record { client = None; session = None; request = None }, past_gap text))))
 
--- what stands before the operation of a statement, and the operation's word
-abbrev pub given_in : List ℕ → Given × List ℕ
-given_in text = ((head_of text).0, first_word (head_of text).1)
+-- an operation's word stands first, or one that may be meant so: no field's name, and no `=` behind it
+abbrev pub begins_operation : List ℕ → Bool
+begins_operation bytes =
+    not (word_length bytes == 0)
+    && is_none (field_named (first_word bytes))
+    && is_none (behind_equals (behind_word bytes))

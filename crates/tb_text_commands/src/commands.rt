@@ -44,13 +44,14 @@ fn perform<R: Source, W: Sink, E: Sink>(
     }
 }
 
-/// The fault of words that are none of the program's forms.
+/// The fault of words that are none of the program's forms. Where there is no memory to name one, it is told as no words
+/// are, by the page of usage, which needs none.
 fn usage_fault(alloc: Global, words: &[String]) -> Fault {
     match words {
         [] => Fault::Usage,
         words => match wrong_words(alloc, words) {
             Ok(what) => Fault::in_arguments(alloc, what.as_str()),
-            Err(_) => Fault::NoMemory,
+            Err(_) => Fault::Usage,
         },
     }
 }

@@ -1,9 +1,9 @@
 //! Statements that leave out their client, their session or their request's number, and what stands for these.
 ghost use Rattle.std.specs.Prelude.{◌≡◌, ◌++◌, List, Option, ℕ, IfOk, OnOk};
-ghost use Rattle.tb_text_commands.specs.Completed.{by_session, completed, is_batch, left_out, left_out_in, left_out_of_batch, left_out_of_register, next_in, nothing, standing_behind, number_line, unless_given, without_session, written};
+ghost use Rattle.tb_text_commands.specs.Completed.{by_session, completed, left_out, left_out_in, left_out_of_batch, left_out_of_register, next_in, nothing, standing_behind, number_line, unless_given, without_session, written};
 ghost use Rattle.tb_text_commands.specs.declared.completing.Standing.{Standing};
 
-use crate::heads::{Given, given_in};
+use crate::heads::{Given, begins_operation, first_word, head_of};
 use std::alloc::{AllocError, Global};
 
 /// How a client stands.
@@ -144,13 +144,13 @@ impl LeftOut {
         }
     }
 
-    /// Before an operation.
-    fn before(given: Given, operation: &[u8], client: u128, standing: Standing) -> LeftOut
-        ensures { result ≡ left_out given operation.now client standing }
+    /// Before what stands from the operation's word on.
+    fn before(given: Given, rest: &[u8], client: u128, standing: Standing) -> LeftOut
+        ensures { result ≡ left_out given rest.now client standing }
     {
-        if operation == b"register".as_slice() {
+        if first_word(rest) == b"register".as_slice() {
             LeftOut::of_register(given, client)
-        } else if is_batch(operation) {
+        } else if begins_operation(rest) {
             LeftOut::of_batch(given, client, standing)
         } else {
             LeftOut::nothing()
@@ -162,24 +162,12 @@ impl LeftOut {
     fn in_statement<S: Standings>(standings: &S, text: &[u8]) -> LeftOut
         ensures { result ≡ left_out_in (S.last standings.now) (S.standing standings.now) text.now }
     {
-        let (given, operation) = given_in(text);
+        let (given, rest) = head_of(text);
         match given.client.or(standings.last()) {
-            Some(client) => {
-                LeftOut::before(given, operation, client, standings.standing(client))
-            }
+            Some(client) => { LeftOut::before(given, rest, client, standings.standing(client)) }
             None => LeftOut::nothing(),
         }
     }
-}
-
-/// Says that a word is an operation on events or ids.
-fn is_batch(word: &[u8]) -> bool
-    ensures { result ≡ is_batch word.now }
-{
-    word == b"create_accounts".as_slice()
-        || word == b"create_transfers".as_slice()
-        || word == b"lookup_accounts".as_slice()
-        || word == b"lookup_transfers".as_slice()
 }
 
 /// Appends the line of a number, between a field's name with `=` and an ending.
@@ -227,4 +215,39 @@ pub fn completed<S: Standings>(
     put_left_out(alloc, &mut whole, LeftOut::in_statement(standings, text))?;
     whole.extend_from_slice(text)?;
     Ok(whole)
+}
+
+/// Says that a word is an operation on events or ids.
+fn is_batch(word: &[u8]) -> bool {
+    word == b"create_accounts".as_slice()
+        || word == b"create_transfers".as_slice()
+        || word == b"lookup_accounts".as_slice()
+        || word == b"lookup_transfers".as_slice()
+}
+
+/// A statement that leaves out a session which is not known.
+pub struct Untold<'a> {
+    pub client: u128,
+    /// The number of bytes before the operation.
+    pub place: usize,
+    pub operation: &'a [u8],
+}
+
+/// The client and the operation of a statement that leaves out a session which is not known.
+pub fn untold_in<'a, S: Standings>(standings: &S, text: &'a [u8]) -> Option<Untold<'a>> {
+    let (given, rest) = head_of(text);
+    let operation = first_word(rest);
+    let is_whole = given.client.is_some() && given.request.is_some();
+    if is_whole || given.session.is_some() || !is_batch(operation) {
+        return None;
+    }
+    let client = given.client.or(standings.last())?;
+    match standings.standing(client) {
+        Standing::Unknown => Some(Untold {
+            client,
+            place: text.len().saturating_sub(rest.len()),
+            operation,
+        }),
+        _ => None,
+    }
 }

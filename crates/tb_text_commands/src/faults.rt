@@ -87,17 +87,35 @@ fn behind_position(said: &[u8]) -> &[u8] {
     said
 }
 
-/// The lines of a text's fault that stands at a line and a column for the writer of the text.
+/// The lines behind the first, with the line end before them.
+fn further_lines(said: &[u8]) -> &[u8] {
+    for (place, byte) in said.iter().enumerate() {
+        if *byte == b'\n' {
+            return said.get(place..).unwrap_or(&[]);
+        }
+    }
+    &[]
+}
+
+/// The lines of a text's fault that stands at a line and a column for the writer of the text. What is wrong is said in
+/// these words, where there are some.
 fn text_lines(
     alloc: Global,
     text: &[u8],
     fault: TextFault,
     (line, column): (usize, usize),
+    words: Option<&[u8]>,
 ) -> Result<Vec<u8>, AllocError> {
     let said = explain_fault(alloc, text, fault, (1, 1))?;
     let position = format!(in alloc; "tbt: line {line}, column {column}: ")?;
     let mut lines = Vec::from_slice(alloc, position.as_str().as_bytes())?;
-    lines.extend_from_slice(behind_position(said.as_slice()))?;
+    match words {
+        Some(words) => {
+            lines.extend_from_slice(words)?;
+            lines.extend_from_slice(further_lines(said.as_slice()))?;
+        }
+        None => lines.extend_from_slice(behind_position(said.as_slice()))?,
+    }
     lines.extend_from_slice(b"\n")?;
     Ok(lines)
 }
@@ -112,11 +130,17 @@ fn arguments_line(alloc: Global, what: &str) -> Result<Vec<u8>, AllocError> {
 }
 
 impl Fault {
-    /// The fault of a text that stands at a line and a column for its writer.
-    pub fn in_text(alloc: Global, text: &[u8], fault: TextFault, position: (usize, usize)) -> Fault
+    /// The fault of a text that stands at a line and a column for its writer, in these words, where there are some.
+    pub fn in_text(
+        alloc: Global,
+        text: &[u8],
+        fault: TextFault,
+        position: (usize, usize),
+        words: Option<&[u8]>,
+    ) -> Fault
         ensures { IsOfInput result }
     {
-        match text_lines(alloc, text, fault, position) {
+        match text_lines(alloc, text, fault, position, words) {
             Ok(lines) => Fault::Text(lines),
             Err(_) => Fault::NoMemory,
         }

@@ -1,6 +1,6 @@
 //! What stands before the operation of a statement.
 ghost use Rattle.std.specs.Prelude.{◌≡◌, ◌≤◌, length, MatchOption, None, Some, false};
-ghost use Rattle.tb_text_commands.specs.Heads.{behind_equals, behind_word, digit_of, field_named, field_read, first_word, gap_length, given_in, is_word_byte, next, number_from, number_of, past_gap, with_digit, with_field, word_length};
+ghost use Rattle.tb_text_commands.specs.Heads.{begins_operation, behind_equals, behind_word, digit_of, field_named, field_read, first_word, gap_length, head_of, is_word_byte, next, number_from, number_of, past_gap, with_digit, with_field, word_length};
 
 /// What may stand before an operation.
 #[derive(Clone, Copy)]
@@ -68,7 +68,7 @@ fn past_gap(bytes: &[u8]) -> &[u8]
 }
 
 /// The word that the bytes begin with.
-fn first_word(bytes: &[u8]) -> &[u8]
+pub fn first_word(bytes: &[u8]) -> &[u8]
     ensures { result.now ≡ first_word bytes.now }
 {
     bytes.split_at(word_length(bytes)).0
@@ -203,9 +203,9 @@ fn next(given: Given, bytes: &[u8]) -> (Given, &[u8])
     }
 }
 
-/// What stands before the operation of a statement, and the word of the operation.
-pub fn given_in(text: &[u8]) -> (Given, &[u8])
-    ensures { (result.0, result.1.now) ≡ given_in text.now }
+/// What stands before the operation of a statement, and what stands from its word on.
+pub fn head_of(text: &[u8]) -> (Given, &[u8])
+    ensures { (result.0, result.1.now) ≡ head_of text.now }
 {
     let none = Given {
         client: None,
@@ -215,6 +215,14 @@ pub fn given_in(text: &[u8]) -> (Given, &[u8])
     let (given, rest) = next(none, past_gap(text));
     let (given, rest) = next(given, rest);
     let (given, rest) = next(given, rest);
-    let (given, rest) = next(given, rest);
-    (given, first_word(rest))
+    next(given, rest)
+}
+
+/// Says that an operation's word stands first, or one that may be meant so.
+pub fn begins_operation(bytes: &[u8]) -> bool
+    ensures { result ≡ begins_operation bytes.now }
+{
+    word_length(bytes) != 0
+        && field_named(first_word(bytes)).is_none()
+        && behind_equals(behind_word(bytes)).is_none()
 }

@@ -7,10 +7,10 @@ use crate::lines::{head_line, item_line, reply_line};
 use crate::statements::next_statement;
 use crate::told::Told;
 use std::alloc::{AllocError, Global};
-use tb_records::dumps::{read_head_from, read_item_from};
+use tb_records::dumps::{holds_item, read_head_from, read_item_from};
 use tb_records::streams::read_timed_from;
 use tb_records::{
-    DumpItem, FrameFault, Reply, Request, Sink, Source, holds_frame, put_all, read_reply,
+    DumpItem, FrameFault, Reply, Request, Sink, Source, holds_pair, put_all, read_reply,
     send_request,
 };
 use tb_text::print_request;
@@ -76,11 +76,6 @@ pub fn script<R: Source, W: Sink>(
         put_pairs(writer, pairs.as_slice())?;
     }
     Ok(())
-}
-
-/// Says that bytes begin with a whole pair of a moment and a request frame.
-fn holds_pair(bytes: &[u8]) -> bool {
-    bytes.len() >= 8 && holds_frame(&bytes[8..])
 }
 
 /// Writes the statements of a script.
@@ -158,11 +153,6 @@ pub fn replies<R: Source, W: Sink>(
         put_line(writer, reply_line(alloc, &reply))?;
     }
     Ok(())
-}
-
-/// Says that bytes begin with a whole mark or entry.
-fn holds_item(bytes: &[u8]) -> bool {
-    bytes.len() >= 16 && (bytes[..8] == [0; 8] || holds_frame(&bytes[16..]))
 }
 
 /// What stands next behind the head of a dump. What was written is passed on first, where it may have to be waited for.

@@ -2,20 +2,50 @@
 ghost use Rattle.std.specs.Prelude.{IfErr};
 ghost use Rattle.tb_text_commands.specs.Ends.{Ended, IsOfInput};
 
-use crate::completing::{Standings, completed};
+use crate::completing::{Standings, Untold, completed, untold_in};
 use crate::faults::Fault;
 use crate::intake::Intake;
-use std::alloc::Global;
+use std::alloc::{AllocError, Global};
+use std::format;
 use tb_records::{Items, Request, Sink, Source};
 use tb_text::{TextFault, read_text};
 
+/// What is said of a statement that leaves out a session which is not known.
+fn untold_words(alloc: Global, untold: &Untold<'_>) -> Result<Vec<u8>, AllocError> {
+    let client = untold.client;
+    let words = format!(in alloc; "client {client} has no session here: write session=N before ")?;
+    let mut words = Vec::from_slice(alloc, words.as_str().as_bytes())?;
+    words.extend_from_slice(untold.operation)?;
+    Ok(words)
+}
+
 /// The fault of the whole statement that a text stands for, where its writer sees it.
-fn fault_in(alloc: Global, intake: &Intake, text: &[u8], whole: &[u8], fault: TextFault) -> Fault
+fn fault_in<S: Standings>(
+    alloc: Global,
+    intake: &Intake,
+    standings: &S,
+    text: &[u8],
+    whole: &[u8],
+    fault: TextFault,
+) -> Fault
     ensures { IsOfInput result }
 {
     let added = whole.len().saturating_sub(text.len());
     let position = intake.position_at(fault.place.saturating_sub(added));
-    Fault::in_text(alloc, whole, fault, position)
+    match untold_in(standings, text) {
+        Some(untold)
+            if untold.place <= fault.place
+                && fault.place - untold.place <= untold.operation.len() =>
+        {
+            match untold_words(alloc, &untold) {
+                Ok(words) => {
+                    Fault::in_text(alloc, whole, fault, position, Some(words.as_slice()))
+                }
+                Err(_) => Fault::NoMemory,
+            }
+        }
+        _ => Fault::in_text(alloc, whole, fault, position, None),
+    }
 }
 
 /// The requests of the first bytes of the rest, which are taken; or where they go wrong.
@@ -36,7 +66,7 @@ fn take_text<S: Standings>(
         return Err(Fault::NoMemory);
     };
     let fault = match reading.fault {
-        Some(fault) => Some(fault_in(alloc, intake, text, whole.as_slice(), fault)),
+        Some(fault) => Some(fault_in(alloc, intake, standings, text, whole.as_slice(), fault)),
         None => None,
     };
     intake.take(length);

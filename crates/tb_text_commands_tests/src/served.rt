@@ -83,6 +83,140 @@ fn typed_statements(rt: HostRuntime) -> Result<(), Fail> {
     Ok(())
 }
 
+/// Statements that leave out what is known, and the whole ones that they stand for, in a conversation: a first client, the
+/// client named last, its session and its next number, a new client, a repeat, and a moment.
+const SHORT: &str = "create_accounts id=1 ledger=700 code=10, id=2 ledger=700 code=10;
+at=50 lookup_accounts id=1;
+client=0x1F # a client, its number in hexadecimal
+  create_transfers id=11 debit_account_id=1 credit_account_id=2 amount=5 ledger=700 code=10;
+session=3 request=1 create_transfers id=11 debit_account_id=1 credit_account_id=2 amount=5 ledger=700 code=10;
+client=1 lookup_accounts; lookup_accounts; register; lookup_accounts;
+";
+
+const WHOLE: &str = "client=1 register;
+client=1 session=1 request=1 create_accounts id=1 ledger=700 code=10, id=2 ledger=700 code=10;
+at=50 client=1 session=1 request=2 lookup_accounts id=1;
+client=31 register;
+client=31 session=4 request=1 create_transfers id=11 debit_account_id=1 credit_account_id=2 amount=5 ledger=700 code=10;
+client=31 session=3 request=1 create_transfers id=11 debit_account_id=1 credit_account_id=2 amount=5 ledger=700 code=10;
+client=1 session=1 request=3 lookup_accounts;
+client=1 session=1 request=4 lookup_accounts;
+client=1 register;
+client=1 session=1 request=5 lookup_accounts;
+";
+
+/// What is left out is filled in as the machine has it.
+#[test]
+fn left_out(rt: HostRuntime) -> Result<(), Fail> {
+    let whole = left_by(&rt, &["run", "2"], WHOLE.as_bytes())?;
+    assert_eq!(rt; whole.status, 0);
+    let short = left_by(&rt, &["run", "2"], SHORT.as_bytes())?;
+    assert_eq!(rt; short.line.as_slice(), b"".as_slice());
+    assert_eq!(rt; short.output.as_slice(), whole.output.as_slice());
+    assert_eq!(rt; short.status, 0);
+    Ok(())
+}
+
+/// A client that was evicted is registered again.
+#[test]
+fn left_out_behind_an_eviction(rt: HostRuntime) -> Result<(), Fail> {
+    let whole = left_by(
+        &rt,
+        &["run", "1"],
+        b"client=7 register; client=8 register; client=7 register; client=7 session=3 request=1 lookup_accounts;",
+    )?;
+    let short = left_by(
+        &rt,
+        &["run", "1"],
+        b"client=7 register; client=8 register; client=7 lookup_accounts;",
+    )?;
+    assert_eq!(rt; short.output.as_slice(), whole.output.as_slice());
+    assert_eq!(rt; short.status, 0);
+    Ok(())
+}
+
+/// Statements for `script`, and the whole ones that they stand for.
+const SCRIPTS: [(&str, &str); 4] = [
+    (
+        "client=7 register; session=1 lookup_accounts; lookup_accounts; register;",
+        "client=7 register; client=7 session=1 request=1 lookup_accounts; client=7 session=1 request=2 lookup_accounts; client=7 register;",
+    ),
+    (
+        "client=7 session=3 request=5 lookup_accounts; client=8 session=4 lookup_accounts; client=7 lookup_accounts; client=8 lookup_accounts;",
+        "client=7 session=3 request=5 lookup_accounts; client=8 session=4 request=1 lookup_accounts; client=7 session=3 request=6 lookup_accounts; client=8 session=4 request=2 lookup_accounts;",
+    ),
+    (
+        "client=7 session=3 request=5 lookup_accounts; session=4 lookup_accounts; request=9 lookup_accounts;",
+        "client=7 session=3 request=5 lookup_accounts; client=7 session=4 request=1 lookup_accounts; client=7 session=4 request=9 lookup_accounts;",
+    ),
+    (
+        "client=7 session=3 request=5 lookup_accounts; client=7 request=6 lookup_accounts;",
+        "client=7 session=3 request=5 lookup_accounts; client=7 session=0 request=6 lookup_accounts;",
+    ),
+];
+
+/// What is left out is filled in as the statements before tell it.
+#[test]
+fn left_out_of_a_script(rt: HostRuntime) -> Result<(), Fail> {
+    for (short, whole) in SCRIPTS {
+        let whole = left_by(&rt, &["script"], whole.as_bytes())?;
+        assert_eq!(rt; whole.status, 0);
+        let short = left_by(&rt, &["script"], short.as_bytes())?;
+        assert_eq!(rt; short.output.as_slice(), whole.output.as_slice());
+        assert_eq!(rt; short.status, 0);
+    }
+    Ok(())
+}
+
+/// The place of a fault is where it is in what was written, whatever was filled in; and what is not known is no guess.
+#[test]
+fn faults_of_what_is_left_out(rt: HostRuntime) -> Result<(), Fail> {
+    for (text, line) in [
+        (
+            "client=7 session=1 request=1 lookup_accounts; lookup_accounts id=1 code=2;",
+            "tbt: line 1, column 68: 'code' cannot stand here\n   lookup_accounts id=1 code=2;\n                        ^\n  expected ',' or ';'\n",
+        ),
+        (
+            "client=7 session=1 request=1 lookup_accounts;\nlookup_accounts\n  id=1 code=2;",
+            "tbt: line 3, column 8: 'code' cannot stand here\n    id=1 code=2;\n         ^\n  expected ',' or ';'\n",
+        ),
+        (
+            "client=7 session=1 request=1 lookup_accounts;\nlookup_acounts id=1;",
+            "tbt: line 2, column 10: unknown operation 'lookup_acounts'; did you mean lookup_accounts?\n  lookup_acounts id=1;\n           ^\n  expected create_accounts, create_transfers, lookup_accounts or lookup_transfers\n",
+        ),
+        (
+            "client=7 session=1 request=1 lookup_accounts;\nclint=7 lookup_accounts id=1;",
+            "tbt: line 2, column 4: unknown field 'clint'; did you mean client?\n  clint=7 lookup_accounts id=1;\n     ^\n  expected at, client, session or request\n",
+        ),
+        (
+            "lookup_accounts id=1;",
+            "tbt: line 1, column 1: a client comes first: write client=N before lookup_accounts\n  lookup_accounts id=1;\n  ^\n  expected at, client, session or request\n",
+        ),
+        (
+            "client=7 session=1 request=4294967295 lookup_accounts; lookup_accounts;",
+            "tbt: line 1, column 56: client 7 has no session here: write session=N before lookup_accounts\n   lookup_accounts;\n   ^\n  expected at, client, session or request\n",
+        ),
+    ] {
+        let left = left_by(&rt, &["script"], text.as_bytes())?;
+        assert_eq!(rt; left.line.as_slice(), line.as_bytes());
+        assert_eq!(rt; left.status, 2);
+    }
+    Ok(())
+}
+
+/// A client is not registered for a statement that is wrong.
+#[test]
+fn wrong_statement_alone(rt: HostRuntime) -> Result<(), Fail> {
+    leaves(
+        &rt,
+        &["run", "2"],
+        b"lookup_accounts code=1;",
+        2,
+        "",
+        "tbt: line 1, column 17: 'code' cannot stand here\n  lookup_accounts code=1;\n                  ^\n  expected id or ';'\n",
+    )
+}
+
 /// The page of usage, and arguments that are named.
 #[test]
 fn usage(rt: HostRuntime) -> Result<(), Fail> {

@@ -59,21 +59,22 @@ fn refuse(rt: &HostRuntime, fault: &Fault) -> u8 {
     fault.status()
 }
 
-/// The fault of an error of the system.
-fn fault_of(error: &io::Error) -> Fault {
+/// The fault of an error of the system: want of memory, or another.
+fn fault_of(error: &io::Error, other: Fault) -> Fault {
     match error.kind() {
         io::ErrorKind::OutOfMemory => Fault::NoMemory,
-        _ => Fault::Device,
+        _ => other,
     }
 }
 
 fn main(rt: HostRuntime) -> ExitCode {
-    let Ok(words) = words(&rt) else {
-        return ExitCode::from(refuse(&rt, &Fault::Usage));
+    let words = match words(&rt) {
+        Ok(words) => words,
+        Err(error) => return ExitCode::from(refuse(&rt, &fault_of(&error, Fault::Usage))),
     };
     let status = match perform(&rt, words.as_slice()) {
         Ok(status) => status,
-        Err(error) => refuse(&rt, &fault_of(&error)),
+        Err(error) => refuse(&rt, &fault_of(&error, Fault::Device)),
     };
     ExitCode::from(status)
 }
