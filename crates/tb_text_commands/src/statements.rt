@@ -35,8 +35,7 @@ fn fault_in<S: Standings>(
     match untold_in(standings, text) {
         Some(untold)
             if untold.place <= fault.place
-                && fault.place - untold.place <= untold.operation.len() =>
-        {
+                && fault.place - untold.place <= untold.operation.len() => {
             match untold_words(alloc, &untold) {
                 Ok(words) => {
                     Fault::in_text(alloc, whole, fault, position, Some(words.as_slice()))
