@@ -226,15 +226,17 @@ fn is_batch(word: &[u8]) -> bool {
 }
 
 /// A statement that leaves out a session which is not known.
-pub struct Untold<'a> {
+#[derive(Clone, Copy)]
+pub struct Untold {
     pub client: u128,
     /// The number of bytes before the operation.
     pub place: usize,
-    pub operation: &'a [u8],
+    /// The number of bytes of the operation.
+    pub length: usize,
 }
 
 /// The client and the operation of a statement that leaves out a session which is not known.
-pub fn untold_in<'a, S: Standings>(standings: &S, text: &'a [u8]) -> Option<Untold<'a>> {
+pub fn untold_in<S: Standings>(standings: &S, text: &[u8]) -> Option<Untold> {
     let (given, rest) = head_of(text);
     let operation = first_word(rest);
     let is_whole = given.client.is_some() && given.request.is_some();
@@ -246,7 +248,7 @@ pub fn untold_in<'a, S: Standings>(standings: &S, text: &'a [u8]) -> Option<Unto
         Standing::Unknown => Some(Untold {
             client,
             place: text.len().saturating_sub(rest.len()),
-            operation,
+            length: operation.len(),
         }),
         _ => None,
     }

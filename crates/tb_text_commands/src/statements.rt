@@ -11,12 +11,30 @@ use tb_records::{Items, Request, Sink, Source};
 use tb_text::{TextFault, read_text};
 
 /// What is said of a statement that leaves out a session which is not known.
-fn untold_words(alloc: Global, untold: &Untold<'_>) -> Result<Vec<u8>, AllocError> {
+fn untold_words(alloc: Global, text: &[u8], untold: Untold) -> Result<Vec<u8>, AllocError> {
     let client = untold.client;
     let words = format!(in alloc; "client {client} has no session here: write session=N before ")?;
     let mut words = Vec::from_slice(alloc, words.as_str().as_bytes())?;
-    words.extend_from_slice(untold.operation)?;
+    let behind = text.get(untold.place..).unwrap_or_default();
+    words.extend_from_slice(behind.get(..untold.length).unwrap_or_default())?;
     Ok(words)
+}
+
+/// What is said of a fault at a place, where it is that of an operation whose session is left out and not known.
+fn untold_at<S: Standings>(
+    alloc: Global,
+    standings: &S,
+    text: &[u8],
+    place: usize,
+) -> Result<Option<Vec<u8>>, AllocError> {
+    let Some(untold) = untold_in(standings, text) else {
+        return Ok(None);
+    };
+    if place < untold.place || place - untold.place > untold.length {
+        return Ok(None);
+    }
+    let words = untold_words(alloc, text, untold)?;
+    Ok(Some(words))
 }
 
 /// The fault of the whole statement that a text stands for, where its writer sees it.
@@ -32,18 +50,10 @@ fn fault_in<S: Standings>(
 {
     let added = whole.len().saturating_sub(text.len());
     let position = intake.position_at(fault.place.saturating_sub(added));
-    match untold_in(standings, text) {
-        Some(untold)
-            if untold.place <= fault.place
-                && fault.place - untold.place <= untold.operation.len() => {
-            match untold_words(alloc, &untold) {
-                Ok(words) => {
-                    Fault::in_text(alloc, whole, fault, position, Some(words.as_slice()))
-                }
-                Err(_) => Fault::NoMemory,
-            }
-        }
-        _ => Fault::in_text(alloc, whole, fault, position, None),
+    match untold_at(alloc, standings, text, fault.place) {
+        Ok(Some(words)) => Fault::in_text(alloc, whole, fault, position, Some(words.as_slice())),
+        Ok(None) => Fault::in_text(alloc, whole, fault, position, None),
+        Err(_) => Fault::NoMemory,
     }
 }
 
