@@ -182,7 +182,7 @@ fn faults_of_what_is_left_out(rt: HostRuntime) -> Result<(), Fail> {
         ),
         (
             "client=7 session=1 request=1 lookup_accounts;\nlookup_acounts id=1;",
-            "tbt: line 2, column 10: unknown operation 'lookup_acounts'; did you mean lookup_accounts?\n  lookup_acounts id=1;\n           ^\n  expected create_accounts, create_transfers, lookup_accounts or lookup_transfers\n",
+            "tbt: line 2, column 10: unknown operation 'lookup_acounts'; did you mean lookup_accounts?\n  lookup_acounts id=1;\n           ^\n  expected at, create_accounts, create_transfers, lookup_accounts or lookup_transfers\n",
         ),
         (
             "client=7 session=1 request=1 lookup_accounts;\nclint=7 lookup_accounts id=1;",
