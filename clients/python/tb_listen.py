@@ -2,15 +2,20 @@
 """Sockets before a ledger server that speaks over pipes: many clients, one ledger.
 
     tb_listen.py [OPTIONS] -- COMMAND [WORD ..]
-    tb_listen.py --unix ledger.sock -- crates/tbs/out/tbs run 64
+    tb_listen.py --unix ledger.sock -- crates/tbd/out/tbd run ledger.journal 64
 
-It runs the command, which reads pairs of a moment and a request, and writes replies in their order, as `tbs run` does. On a socket
-it takes requests without a moment, one after another on each connection, gives each its moment, and brings each reply to the
-connection that asked. docs/CLIENTS.md says how to use it; `tb_client.Socket` is the client's side.
+It runs the command, which reads pairs of a moment and a request, and writes replies in their order, as `tbd run` and `tbs run` do.
+On a socket it takes requests without a moment, one after another on each connection, gives each its moment, and brings each reply to
+the connection that asked. docs/CLIENTS.md says how to use it; `tb_client.Socket` is the client's side.
+
+A command that ends in the words `run FILE CLIENTS_MAX [PROFILE]`, as that of `tbd`, keeps its ledger in FILE (a name of digits alone is
+given with its folder, as ./64). Where a signal ended it, it is started again. Before it is started for the first time, the same
+command with `check FILE` in their place tells the ledger's last time, which must not lie ahead of the clock.
 
 What a client may do wrong ends its own connection alone. Before it is closed it is told why, by a line of fewer bytes than a frame
-has: `tb_listen: ` and a name. Status 0: ended by SIGTERM or SIGINT, with all that was taken answered. Status 1: it cannot listen, or
-the command failed. Status 2: wrong arguments, or a fault that the command named (its own line and status are handed on).
+has: `tb_listen: ` and a name. Status 0: ended by SIGTERM or SIGINT, with all that was taken answered. Status 1: it cannot listen, the
+ledger lies ahead of the clock, or the command failed. Status 2: wrong arguments. A fault that the command named is handed on, with its
+own line and status.
 """
 from __future__ import annotations
 
@@ -18,28 +23,38 @@ import argparse
 import asyncio
 import collections
 import contextlib
+import errno
+import fcntl
 import os
+import re
+import resource
 import signal
 import socket
 import stat
 import struct
 import sys
 import time
-from typing import Deque, Optional, Sequence, Set, Tuple
+from typing import Any, Awaitable, Callable, Deque, Iterator, Optional, Sequence, Set, Tuple, TypeVar
 
-HEADER = 48
-ITEMS_MAX = 8190
-ITEM_SIZES = {129: 128, 130: 128, 131: 16, 132: 16}
-REGISTER = 2
-BODY_MAX = ITEMS_MAX * 128
+from tb_client.frames import HEADER, reply_fault, reply_length, request_fault
+
+T = TypeVar("T")
+
+BODY_MAX = ITEMS_MAX * RECORD
 SECOND = 10**9
+READ_AHEAD = 1 << 16  # bytes that are read of a connection beyond the request that is waited for
+BACKLOG = 1024  # connections that wait to be taken
 LAST_READ = 1.0  # seconds for which a client that is told why may still send, so that it reads why and is not cut off before
 PAUSES = (0.1, 0.5, 2.0, 5.0)  # seconds before the command is started again; the last one from then on
 STEADY = 60.0  # seconds after which a command that ends is one that was well until then
+LAG = 60  # seconds by which the clock may run away from the moments before that is said
+LINES = 4096  # bytes of what the command said last that are kept
+EMPTY = 10  # bytes below which a journal's file has no entry
 
 
 def say(text: str) -> None:
-    print(f"tb_listen: {text}", file=sys.stderr, flush=True)
+    with contextlib.suppress(OSError):
+        print(f"tb_listen: {text}", file=sys.stderr, flush=True)
 
 
 class Told(Exception):
@@ -54,153 +69,100 @@ class Ended(Exception):
         self.status = status
 
 
-def fault_of(header: bytes) -> Optional[str]:
-    """The first fault of a request's header, by its name in docs/FORMATS.md. The server would end at it, for all."""
-    client_low, client_high, session, number, operation, zeros, length, rest = struct.unpack("<QQQIB3sI12s", header)
-    if not (client_low or client_high):
-        return "ClientZero"
-    if operation != REGISTER and operation not in ITEM_SIZES:
-        return "UnknownOperation"
-    if any(zeros) or any(rest):
-        return "Reserved"
-    if operation == REGISTER:
-        return "RegisterNumbers" if session or number else "BadLength" if length else None
-    if not number:
-        return "RequestZero"
-    count, left = divmod(length, ITEM_SIZES[operation])
-    return "BadLength" if left else "TooMany" if count > ITEMS_MAX else None
+async def in_time(awaited: Awaitable[T], seconds: float, name: str) -> T:
+    """What is awaited. Raises `Told` with this name where it does not come in time."""
+    try:
+        return await asyncio.wait_for(awaited, seconds)
+    except asyncio.TimeoutError:
+        raise Told(name) from None
 
 
-def length_of(header: bytes) -> int:
-    """The length of the body behind a header, of a request or a reply."""
-    length: int = struct.unpack_from("<I", header, 32)[0]
-    return length
+# Moments
 
 
-def asker(header: bytes) -> bytes:
-    """What a reply repeats of its request: client, request and operation."""
-    return header[:16] + header[24:29]
+def running_ns() -> int:
+    """A clock that nobody sets: it counts while the computer sleeps too, where the system has such a clock."""
+    return time.clock_gettime_ns(getattr(time, "CLOCK_BOOTTIME", time.CLOCK_MONOTONIC))
 
 
 class Moments:
-    """The moments of requests, in nanoseconds since 1970. They never fall. From one to the next is at most the time that went by and
-    a thousandth of it, measured by a clock that nobody sets: so a clock that is set far ahead does not take the ledger along."""
+    """The moments of requests, in nanoseconds since 1970. They begin with the clock, or with `last` where that is later. They never
+    fall, and grow by no more than the time that goes by and a thousandth of it, measured by a clock that nobody sets: so a clock that is
+    set far ahead does not take the ledger along."""
 
-    def __init__(self) -> None:
-        self.last, self.at = time.time_ns(), self._running()
-
-    @staticmethod
-    def _running() -> int:
-        return time.clock_gettime_ns(getattr(time, "CLOCK_BOOTTIME", time.CLOCK_MONOTONIC))
+    def __init__(self, last: int = 0, clock: Callable[[], int] = time.time_ns, running: Callable[[], int] = running_ns) -> None:
+        self.clock, self.running = clock, running
+        self.last, self.at = max(last, clock()), running()
+        self.is_said = False
 
     def next(self) -> int:
-        running = self._running()
-        gone = running - self.at
-        self.last, self.at = max(self.last, min(time.time_ns(), self.last + gone + gone // 1000)), running
+        clock, running = self.clock(), self.running()
+        if clock > self.last:
+            gone = max(running - self.at, 0)
+            self.last, self.at = min(clock, self.last + gone + gone // 1000), running
+        lag = (clock - self.last) // SECOND
+        if lag >= LAG and not self.is_said:
+            say(f"the clock is {lag} s ahead of where it should be, and requests get moments without that: if it is right now, start tb_listen again")
+        self.is_said = lag >= LAG
         return self.last
 
 
-class Program:
-    """The command as a process. Pairs go to it in one order, and its replies come back in that order."""
-
-    def __init__(self, command: Sequence[str], again: bool) -> None:
-        self.command, self.again = command, again
-        self.moments = Moments()
-        self.waiting: Deque[Tuple[bytes, "asyncio.Future[bytes]"]] = collections.deque()
-        self.sending, self.ready = asyncio.Lock(), asyncio.Event()
-        self.is_closing = self.is_over = False
-
-    async def run(self) -> None:
-        """Runs the command until the listener closes it. Raises `Ended` where it ends for another reason."""
-        try:
-            await self._run_again_and_again()
-        finally:
-            self.is_over = True
-            self.ready.set()
-
-    async def _run_again_and_again(self) -> None:
-        for turn in range(sys.maxsize):
-            began = time.monotonic()
-            status, line = await self._run_once()
-            if self.is_closing and status == 0:
-                return
-            if not self.again or line or status >= 0:
-                raise Ended(line or f"{self.command[0]} ended {_end_of(status)}", max(status, 0) or 1)
-            pause = PAUSES[0 if time.monotonic() - began > STEADY else min(turn, len(PAUSES) - 1)]
-            say(f"{self.command[0]} ended {_end_of(status)}, and is started again in {pause:g} s")
-            await asyncio.sleep(pause)
-            if self.is_closing:
-                return
-
-    async def _run_once(self) -> Tuple[int, str]:
-        """Runs the command once. Answers its status and its last line on standard error."""
-        pipe = asyncio.subprocess.PIPE
-        try:
-            process = await asyncio.create_subprocess_exec(*self.command, stdin=pipe, stdout=pipe, stderr=pipe, start_new_session=True)
-        except OSError as error:
-            raise Ended(f"{self.command[0]} does not start: {error.strerror}", 1) from None
-        assert process.stdin and process.stdout and process.stderr
-        self.process, self.stdin, self.stdout = process, process.stdin, process.stdout
-        told = asyncio.ensure_future(process.stderr.read())
-        self.ready.set()
-        try:
-            await self._read_replies()
-        finally:
-            self.ready.clear()
-            while self.waiting:
-                _drop(self.waiting.popleft()[1])
-            self.stdin.close()
-            lines = (await told).decode(errors="replace").strip().splitlines()
-            status = await process.wait()
-            with contextlib.suppress(asyncio.TimeoutError):  # so that no pipe of it is open when the listener ends
-                await asyncio.wait_for(self.stdout.read(), 1.0)
-                await asyncio.sleep(0.01)
-        return status, lines[-1] if lines else ""
-
-    async def _read_replies(self) -> None:
-        """Brings each reply to who asked for it, until there are no more."""
-        while True:
-            try:
-                header = await self.stdout.readexactly(HEADER)
-                if not self.waiting or self.waiting[0][0] != asker(header) or length_of(header) > BODY_MAX:
-                    self.kill()
-                    raise Ended(f"{self.command[0]} wrote a reply that nobody asked for", 1)
-                body = await self.stdout.readexactly(length_of(header))
-            except asyncio.IncompleteReadError:
-                return
-            reply = self.waiting.popleft()[1]
-            if not reply.done():
-                reply.set_result(header + body)
-
-    async def ask(self, frame: bytes) -> bytes:
-        """The reply to a request. Raises `Told` where the program ended before it came."""
-        async with self.sending:
-            await self.ready.wait()
-            if self.is_over:
-                raise Told("ProgramEnded")
-            reply: "asyncio.Future[bytes]" = asyncio.get_running_loop().create_future()
-            self.waiting.append((asker(frame), reply))
-            self.stdin.write(struct.pack("<Q", self.moments.next()) + frame)
-            with contextlib.suppress(ConnectionError):  # its end is seen where replies are read
-                await self.stdin.drain()
-        return await reply
-
-    def close(self) -> None:
-        """Ends the script. The program then answers what it has, and ends."""
-        self.is_closing = True
-        if self.ready.is_set() and not self.is_over:
-            self.stdin.close()
-
-    def kill(self) -> None:
-        """Ends the program, and what it started, at once."""
-        if self.ready.is_set() and not self.is_over:
-            with contextlib.suppress(ProcessLookupError):
-                os.killpg(self.process.pid, signal.SIGKILL)
+# The command
 
 
-def _drop(reply: "asyncio.Future[bytes]") -> None:
-    if not reply.done():
-        reply.set_exception(Told("ProgramEnded"))
+def journal_at(words: Sequence[str]) -> Optional[int]:
+    """Which word of a command is the file that it keeps its ledger in: FILE of `run FILE CLIENTS_MAX [PROFILE]` at its end. None where
+    there is no such word, as in `tbs run CLIENTS_MAX [PROFILE]`."""
+    for at in (len(words) - 2, len(words) - 3):
+        if at > 1 and words[at - 1] == "run" and not _is_number(words[at]) and all(map(_is_number, words[at + 1 :])):
+            return at
+    return None
+
+
+def _is_number(word: str) -> bool:
+    return word.isascii() and word.isdigit()
+
+
+async def last_time(words: Sequence[str], at: int) -> int:
+    """The last time of a ledger, in nanoseconds, as `check FILE` tells it. 0 where no entry is there."""
+    try:
+        if os.stat(words[at]).st_size < EMPTY:
+            return 0
+    except OSError:
+        return 0  # `run` makes the file, or tells why it cannot
+    process = await _started([*words[: at - 1], "check", words[at]], asyncio.subprocess.DEVNULL)
+    try:
+        output, told = await process.communicate()
+    except asyncio.CancelledError:
+        _kill(process)
+        await process.wait()
+        raise
+    status = await process.wait()
+    if status:
+        raise Ended(_last_line(told) or f"{words[0]} ended {_end_of(status)}", max(status, 0) or 1)
+    found = re.search(rb"^last time ([0-9]{1,20})$", output, re.M)
+    if found is None:
+        raise Ended(f"{words[0]} check {words[at]} tells no last time", 1)
+    return int(found[1])
+
+
+async def _started(words: Sequence[str], stdin: int) -> asyncio.subprocess.Process:
+    pipe = asyncio.subprocess.PIPE
+    try:
+        return await asyncio.create_subprocess_exec(*words, stdin=stdin, stdout=pipe, stderr=pipe, start_new_session=True)
+    except OSError as error:
+        raise Ended(f"{words[0]} does not start: {error.strerror}", 1) from None
+
+
+def _kill(process: asyncio.subprocess.Process) -> None:
+    """Ends a process, and what it started, at once."""
+    with contextlib.suppress(ProcessLookupError):
+        os.killpg(process.pid, signal.SIGKILL)
+
+
+def _last_line(told: bytes) -> str:
+    lines = told.decode(errors="replace").strip().splitlines()
+    return lines[-1] if lines else ""
 
 
 def _end_of(status: int) -> str:
@@ -211,81 +173,213 @@ def _end_of(status: int) -> str:
     return f"by signal {-status}"
 
 
+def asker(header: bytes) -> bytes:
+    """What a reply repeats of its request: client, request and operation."""
+    return header[:16] + header[24:29]
+
+
+class Command:
+    """The command as a process. Pairs go to it in one order, and its replies come back in that order."""
+
+    def __init__(self, words: Sequence[str], moments: Moments) -> None:
+        self.words, self.moments = words, moments
+        self.keeps = journal_at(words) is not None
+        self.process: Optional[asyncio.subprocess.Process] = None  # while pairs may be written to it
+        self.waiting: Deque[Tuple[bytes, asyncio.Future[bytes]]] = collections.deque()
+        self.sending, self.ready, self.stopping = asyncio.Lock(), asyncio.Event(), asyncio.Event()
+        self.is_closed = self.is_over = False
+
+    async def run(self) -> None:
+        """Runs the command until its input is closed, and again where a signal ended it and it keeps its ledger. Raises `Ended` where it
+        ends for another reason."""
+        try:
+            quick = 0
+            while True:
+                began = time.monotonic()
+                status, line = await self._run_once()
+                if self.is_closed and status == 0:
+                    return
+                if status >= 0 or not self.keeps or self.stopping.is_set():
+                    raise Ended(line if line and status >= 0 else f"{self.words[0]} ended {_end_of(status)}", max(status, 0) or 1)
+                quick = 0 if time.monotonic() - began > STEADY else quick
+                await self._pause(status, PAUSES[min(quick, len(PAUSES) - 1)])
+                quick += 1
+        finally:
+            self.is_over = True
+            self.ready.set()
+
+    async def _pause(self, status: int, seconds: float) -> None:
+        """Waits before the command is started again. Raises `Ended` where the listener is to end meanwhile."""
+        say(f"{self.words[0]} ended {_end_of(status)}, and is started again in {seconds:g} s")
+        with contextlib.suppress(asyncio.TimeoutError):
+            await asyncio.wait_for(self.stopping.wait(), seconds)
+            raise Ended(f"{self.words[0]} ended {_end_of(status)}, and is not started again", 1)
+
+    async def _run_once(self) -> Tuple[int, str]:
+        """Runs the command once. Answers its status and its last line on standard error."""
+        process = await _started(self.words, asyncio.subprocess.PIPE)
+        assert process.stdin and process.stdout and process.stderr
+        telling = asyncio.ensure_future(_tail(process.stderr))
+        if self.is_closed:
+            process.stdin.close()
+        self.process = process
+        self.ready.set()
+        try:
+            await self._read_replies(process, process.stdout)
+        finally:
+            self.process = None
+            self.ready.clear()
+            while self.waiting:
+                _drop(self.waiting.popleft()[1])
+            process.stdin.close()
+            status = await process.wait()
+            with contextlib.suppress(asyncio.TimeoutError):  # what it started itself may hold its pipes open
+                await asyncio.wait_for(telling, 1.0)
+                await asyncio.wait_for(_drain(process.stdout), 1.0)
+                await asyncio.sleep(0.01)  # so that no pipe of it is open when the listener ends
+        return status, _last_line(telling.result() if telling.done() and not telling.cancelled() else b"")
+
+    async def _read_replies(self, process: asyncio.subprocess.Process, stdout: asyncio.StreamReader) -> None:
+        """Brings each reply to who asked for it, until there are no more."""
+        while True:
+            try:
+                header = await stdout.readexactly(HEADER)
+                length = reply_length(header) - HEADER
+                if not self.waiting or self.waiting[0][0] != asker(header) or length > BODY_MAX:
+                    _kill(process)
+                    raise Ended(f"{self.words[0]} wrote a reply that nobody asked for", 1)
+                body = await stdout.readexactly(length)
+            except asyncio.IncompleteReadError:
+                return
+            reply = self.waiting.popleft()[1]
+            if not reply.done():
+                reply.set_result(header + body)
+
+    async def ask(self, frame: bytes) -> bytes:
+        """The reply to a request. Raises `Told` where the command ended before it came."""
+        async with self.sending:
+            while self.process is None:
+                if self.is_over:
+                    raise Told("ProgramEnded")
+                await self.ready.wait()
+            stdin = self.process.stdin
+            assert stdin is not None
+            reply: asyncio.Future[bytes] = asyncio.get_running_loop().create_future()
+            self.waiting.append((asker(frame), reply))
+            stdin.write(struct.pack("<Q", self.moments.next()) + frame)
+            with contextlib.suppress(OSError):  # its end is seen where replies are read
+                await stdin.drain()
+        return await reply
+
+    def close(self) -> None:
+        """Ends the script. The command then answers what it has, and ends."""
+        self.is_closed = True
+        self.stopping.set()
+        if self.process is not None and self.process.stdin is not None:
+            self.process.stdin.close()
+
+    def kill(self) -> None:
+        if self.process is not None:
+            _kill(self.process)
+
+
+async def _tail(stream: asyncio.StreamReader) -> bytes:
+    """The last bytes of a stream, once it has ended."""
+    kept = b""
+    while True:
+        more = await stream.read(LINES)
+        if not more:
+            return kept
+        kept = (kept + more)[-LINES:]
+
+
+async def _drain(stream: asyncio.StreamReader) -> None:
+    while await stream.read(1 << 16):
+        pass
+
+
+def _drop(reply: asyncio.Future[bytes]) -> None:
+    if not reply.done():
+        reply.set_exception(Told("ProgramEnded"))
+
+
+# Connections
+
+
 class Listener:
     """Takes connections, and serves each: a request, its reply, the next request."""
 
-    def __init__(self, program: Program, given: argparse.Namespace) -> None:
-        self.program, self.given = program, given
-        self.tasks: Set["asyncio.Task[None]"] = set()
-        self.at_rest: Set["asyncio.Task[None]"] = set()  # those that wait for a request
+    def __init__(self, command: Command, given: argparse.Namespace) -> None:
+        self.command, self.given = command, given
+        self.open: Set[asyncio.Task[None]] = set()
+        self.served: Set[asyncio.Task[None]] = set()  # those that are not told why they are closed
+        self.at_rest: Set[asyncio.Task[None]] = set()  # those that wait for a request
         self.leaving = 0  # connections that were told why, and may still send
-        self.is_stopping = False
+        self.why = ""  # why no more requests are taken
 
     async def take(self, reader: asyncio.StreamReader, writer: asyncio.StreamWriter) -> None:
         """Serves a connection until it ends."""
         task = asyncio.current_task()
         assert task is not None
-        if len(self.tasks) >= self.given.connections:
-            await self._close(reader, writer, "Busy")
-            return
-        self.tasks.add(task)
-        why = ""
+        self.open.add(task)
         try:
-            await self._serve(task, reader, writer)
-        except Told as told:
-            why = str(told)
-        except asyncio.CancelledError:
-            why = "Stopping"
-        except asyncio.IncompleteReadError as end:
-            why = "Short" if end.partial else ""
-        except ConnectionError:
-            pass
+            writer.transport.set_write_buffer_limits(0)  # so that a reply has left this process before the next request is read
+            why = await self._serve(task, reader, writer) if len(self.served) < self.given.connections else "Busy"
+            await self._close(reader, writer, why)
         finally:
-            self.tasks.discard(task)
-        await self._close(reader, writer, why)
+            self.open.discard(task)
 
-    async def _serve(self, task: "asyncio.Task[None]", reader: asyncio.StreamReader, writer: asyncio.StreamWriter) -> None:
-        while not self.is_stopping:
-            self.at_rest.add(task)
-            try:
-                frame = await asyncio.wait_for(self._request(reader), self.given.idle)
-            except asyncio.TimeoutError:
-                raise Told("Idle") from None
-            finally:
-                self.at_rest.discard(task)
-            writer.write(await self.program.ask(frame))
-            try:
-                await asyncio.wait_for(writer.drain(), self.given.slow)
-            except asyncio.TimeoutError:
-                raise Told("Slow") from None
-        raise Told("Stopping")
-
-    async def _request(self, reader: asyncio.StreamReader) -> bytes:
-        header = await reader.readexactly(HEADER)
-        fault = fault_of(header)
-        if fault:
-            raise Told(fault)
+    async def _serve(self, task: asyncio.Task[None], reader: asyncio.StreamReader, writer: asyncio.StreamWriter) -> str:
+        """Answers requests until the connection is to be closed, and then why that is."""
+        self.served.add(task)
         try:
-            return header + await reader.readexactly(length_of(header))
-        except asyncio.IncompleteReadError:
+            while not self.why:
+                writer.write(await self.command.ask(await self._request(task, reader)))
+                if writer.transport.get_write_buffer_size():
+                    await in_time(writer.drain(), self.given.slow, "Slow")
+            return self.why
+        except Told as told:
+            return str(told)
+        except asyncio.CancelledError:
+            return self.why
+        except asyncio.IncompleteReadError as end:
+            return "Short" if end.partial else ""
+        except OSError:
+            return ""
+        finally:
+            self.served.discard(task)
+
+    async def _request(self, task: asyncio.Task[None], reader: asyncio.StreamReader) -> bytes:
+        """The next request, whose frame was tested before it is waited for whole."""
+        self.at_rest.add(task)
+        try:
+            header = await in_time(reader.readexactly(HEADER), self.given.idle, "Idle")
+            fault = request_fault(header)
+            if fault:
+                raise Told(fault)
+            length = reply_length(header) - HEADER
+            return header + await in_time(reader.readexactly(length), self.given.slow, "Slow") if length else header
+        except asyncio.IncompleteReadError as end:
+            if end.expected == HEADER:
+                raise
             raise Told("Short") from None
+        finally:
+            self.at_rest.discard(task)
 
     async def _close(self, reader: asyncio.StreamReader, writer: asyncio.StreamWriter, why: str) -> None:
         """Tells why, where there is something to tell, and closes the connection."""
         if why not in ("", "Short", "Stopping", "ProgramEnded"):  # who is gone amid a frame is no fault to be told here
             say(f"a connection is closed: {why}")
-        if why == "Slow":
-            writer.transport.abort()
-            return
-        with contextlib.suppress(ConnectionError, asyncio.TimeoutError, asyncio.CancelledError):  # nothing is left to be done
+        with contextlib.suppress(OSError, asyncio.TimeoutError, asyncio.CancelledError):  # nothing is left to be done
             try:
-                if why:
+                if why and not writer.transport.get_write_buffer_size():  # behind a part of a reply nothing can be told
                     writer.write(f"tb_listen: {why}\n".encode("ascii"))
                     writer.write_eof()
                     await self._read_on(reader)
+                    writer.close()
+                    await asyncio.wait_for(writer.wait_closed(), LAST_READ)
             finally:
-                writer.close()
-            await asyncio.wait_for(writer.wait_closed(), 1.0)
+                writer.transport.abort()
 
     async def _read_on(self, reader: asyncio.StreamReader) -> None:
         """Reads what still comes, and does nothing with it. A connection that is closed before it is read cuts its client off, and
@@ -298,85 +392,182 @@ class Listener:
         finally:
             self.leaving -= 1
 
-    async def stop(self) -> None:
+    async def stop(self, why: str) -> None:
         """Takes no more requests, and waits until those that were taken are answered."""
-        self.is_stopping = True
+        self.why = why
         for task in list(self.at_rest):
             task.cancel()
-        if self.tasks:
-            await asyncio.wait(list(self.tasks), timeout=self.given.slow)
+        await self._gone(self.given.slow)
+
+    async def _gone(self, seconds: float) -> None:
+        """Waits until no connection is open."""
+        if self.open:
+            await asyncio.wait(list(self.open), timeout=seconds)
+
+    async def leave(self) -> None:
+        """Waits until those that lost their command are told so."""
+        await self._gone(3 * LAST_READ)
 
 
-async def _drain(reader: asyncio.StreamReader) -> None:
-    while await reader.read(1 << 16):
-        pass
+# Sockets
+
+
+@contextlib.contextmanager
+def folder_of(path: str) -> Iterator[None]:
+    """Holds the folder of a path, so that listeners look for a socket there, make it and remove it one after another."""
+    folder = os.open(os.path.dirname(path) or ".", os.O_RDONLY | os.O_DIRECTORY)
+    try:
+        with contextlib.suppress(OSError):  # a file system without such locks
+            fcntl.flock(folder, fcntl.LOCK_EX)
+        yield
+    finally:
+        os.close(folder)
 
 
 def unix_socket(path: str) -> socket.socket:
     """A socket at this path, which its owner alone may use. One that nobody listens on any more gives way."""
     it = socket.socket(socket.AF_UNIX, socket.SOCK_STREAM)
-    with contextlib.suppress(FileNotFoundError):
-        if stat.S_ISSOCK(os.stat(path).st_mode):
-            if it.connect_ex(path) == 0:
-                raise Ended(f"{path} is in use", 1)
-            it.close()
-            it = socket.socket(socket.AF_UNIX, socket.SOCK_STREAM)
-            os.unlink(path)
     before = os.umask(0o177)
     try:
-        it.bind(path)
+        with folder_of(path):
+            if _is_left(path):
+                os.unlink(path)
+            it.bind(path)
+            it.listen(BACKLOG)  # before another listener may look whether anyone listens here
+    except BaseException:
+        it.close()
+        raise
     finally:
         os.umask(before)
     return it
 
 
+def _is_left(path: str) -> bool:
+    """Whether a socket is at this path on which nobody listens any more."""
+    with contextlib.suppress(FileNotFoundError):
+        if stat.S_ISSOCK(os.stat(path).st_mode):
+            with socket.socket(socket.AF_UNIX, socket.SOCK_STREAM) as other:
+                other.setblocking(False)
+                code = other.connect_ex(path)
+            if code in (0, errno.EAGAIN):
+                raise Ended(f"{path} is in use", 1)
+            return code == errno.ECONNREFUSED
+    return False
+
+
 def tcp_socket(host: str, port: int) -> socket.socket:
-    family, kind, _, _, address = socket.getaddrinfo(host, port, type=socket.SOCK_STREAM, flags=socket.AI_PASSIVE)[0]
-    it = socket.socket(family, kind)
-    it.setsockopt(socket.SOL_SOCKET, socket.SO_REUSEADDR, 1)
-    it.bind(address)
-    return it
+    """A socket at the first address of this host that can be had."""
+    fault = OSError(errno.EADDRNOTAVAIL, os.strerror(errno.EADDRNOTAVAIL))
+    for family, kind, _, _, address in socket.getaddrinfo(host, port, type=socket.SOCK_STREAM):
+        try:
+            it = socket.socket(family, kind)
+        except OSError as error:
+            fault = error
+            continue
+        try:
+            it.setsockopt(socket.SOL_SOCKET, socket.SO_REUSEADDR, 1)
+            it.bind(address)
+            return it
+        except OSError as error:
+            it.close()
+            fault = error
+    raise fault
 
 
-def bound(given: argparse.Namespace) -> socket.socket:
+@contextlib.contextmanager
+def bound(given: argparse.Namespace) -> Iterator[socket.socket]:
+    """The socket that is listened on, and removed at the end."""
     try:
-        return unix_socket(given.unix) if given.unix else tcp_socket(*given.tcp)
-    except OSError as error:
-        place = given.unix or "{}:{}".format(*given.tcp)
-        raise Ended(f"{place}: {error.strerror}", 1) from None
+        place = unix_socket(given.unix) if given.unix else tcp_socket(*given.tcp)
+    except (OSError, UnicodeError) as error:
+        raise Ended(f"{given.unix or shown(*given.tcp)}: {getattr(error, 'strerror', None) or error}", 1) from None
+    mine = os.stat(given.unix) if given.unix else None
+    try:
+        yield place
+    finally:
+        with contextlib.suppress(OSError):
+            if mine is not None:
+                with folder_of(given.unix):
+                    if os.path.samestat(mine, os.lstat(given.unix)):  # else another one is there by now
+                        os.unlink(given.unix)
+        place.close()
+
+
+def shown(host: str, port: int, *_: object) -> str:
+    return f"[{host}]:{port}" if ":" in host else f"{host}:{port}"
+
+
+# The listener
+
+
+def make_room(connections: int) -> None:
+    """Lets this process have as many open files as its connections may take: those that are served, and those that are told why."""
+    wanted = 2 * connections + 64
+    soft, hard = resource.getrlimit(resource.RLIMIT_NOFILE)
+    if soft == resource.RLIM_INFINITY or soft >= wanted:
+        return
+    if hard != resource.RLIM_INFINITY and hard < wanted:
+        raise Ended(f"--connections {connections} takes {wanted} open files, and {hard} are allowed (ulimit -n)", 1)
+    resource.setrlimit(resource.RLIMIT_NOFILE, (wanted, hard))
+
+
+async def begin(given: argparse.Namespace) -> Moments:
+    """Moments that go on where the ledger is. Raises `Ended` where it lies ahead of the clock, and more than was allowed."""
+    at = journal_at(given.command)
+    last = 0 if at is None else await last_time(given.command, at)
+    ahead = (last - time.time_ns()) / SECOND
+    if ahead > given.ahead:
+        raise Ended(f"the ledger's last time is {ahead:.3f} s ahead of this computer's clock: set the clock right, or allow it by --ahead SECONDS", 1)
+    return Moments(last)
 
 
 async def listen(given: argparse.Namespace) -> None:
     """Listens before the command, until a signal comes or the command ends."""
-    place = bound(given)
-    try:
-        await _listen_on(place, given)
-    finally:
-        place.close()
-        if given.unix:
-            os.unlink(given.unix)
-
-
-async def _listen_on(place: socket.socket, given: argparse.Namespace) -> None:
-    program = Program(given.command, given.again)
-    listener = Listener(program, given)
-    stopped = asyncio.Event()
+    loop, stopped = asyncio.get_running_loop(), asyncio.Event()
+    loop.set_exception_handler(lambda _, context: say("{}: {!r}".format(context["message"], context.get("exception"))))
     for number in (signal.SIGTERM, signal.SIGINT):
-        asyncio.get_running_loop().add_signal_handler(number, stopped.set)
-    running, stopping = asyncio.ensure_future(program.run()), asyncio.ensure_future(stopped.wait())
-    serve = asyncio.start_unix_server if given.unix else asyncio.start_server
-    server = await serve(listener.take, sock=place, limit=1 << 20)  # type: ignore[operator]
-    say("listens on {}".format(given.unix or "{}:{}".format(*place.getsockname()[:2])))
-    await asyncio.wait([running, stopping], return_when=asyncio.FIRST_COMPLETED)
-    stopping.cancel()
-    server.close()
-    await listener.stop()
-    program.close()
+        loop.add_signal_handler(number, stopped.set)
+    beginning, stopping = asyncio.ensure_future(begin(given)), asyncio.ensure_future(stopped.wait())
+    await _first(beginning, stopping)
+    if not beginning.done():
+        beginning.cancel()
+        with contextlib.suppress(asyncio.CancelledError):
+            await beginning
+        return
     try:
-        await asyncio.wait_for(running, given.slow)
-    except asyncio.TimeoutError:
-        program.kill()
-        raise Ended(f"{given.command[0]} did not end, and was killed", 1) from None
+        moments = beginning.result()
+        with bound(given) as place:
+            await _listen_on(place, Command(given.command, moments), given, stopping)
+    finally:
+        stopping.cancel()
+
+
+async def _first(*futures: asyncio.Future[Any]) -> None:
+    await asyncio.wait(futures, return_when=asyncio.FIRST_COMPLETED)
+
+
+async def _listen_on(place: socket.socket, command: Command, given: argparse.Namespace, stopping: asyncio.Future[Any]) -> None:
+    listener = Listener(command, given)
+    running = asyncio.ensure_future(command.run())
+    if given.unix:
+        server = await asyncio.start_unix_server(listener.take, sock=place, limit=READ_AHEAD, backlog=BACKLOG)
+    else:
+        server = await asyncio.start_server(listener.take, sock=place, limit=READ_AHEAD, backlog=BACKLOG)
+    say(f"listens on {given.unix or shown(*place.getsockname())}")
+    await _first(running, stopping)
+    server.close()
+    command.stopping.set()
+    await listener.stop("ProgramEnded" if running.done() else "Stopping")
+    command.close()
+    await asyncio.wait([running], timeout=given.slow)
+    is_killed = not running.done()
+    if is_killed:
+        command.kill()
+        await asyncio.wait([running])
+    await listener.leave()
+    if is_killed:
+        raise Ended(f"{given.command[0]} did not end, and was killed", 1)
+    running.result()
 
 
 def words(given: Sequence[str]) -> argparse.Namespace:
@@ -384,44 +575,50 @@ def words(given: Sequence[str]) -> argparse.Namespace:
     parser = argparse.ArgumentParser(description=__doc__, formatter_class=argparse.RawDescriptionHelpFormatter)
     place = parser.add_mutually_exclusive_group()
     place.add_argument("--unix", metavar="PATH", help="listen on a Unix socket, which its owner alone may use")
-    tcp = "listen on TCP (127.0.0.1:3001 where nothing is given; port 0 is any that is free)"
+    tcp = "listen on TCP (127.0.0.1:3001 where nothing is given; port 0 is any that is free; [::1]:3001 for IPv6)"
     place.add_argument("--tcp", metavar="HOST:PORT", type=_address, default=("127.0.0.1", 3001), help=tcp)
     parser.add_argument("--connections", metavar="N", type=_count, default=256, help="connections at a time (256); one more is told Busy")
-    parser.add_argument("--idle", metavar="SECONDS", type=_seconds, default=300.0, help="how long a connection may take to send a request (300)")
-    slow = "how long a client may take to read a reply, and the command to end (30)"
+    parser.add_argument("--idle", metavar="SECONDS", type=_seconds, default=300.0, help="how long a connection may take until a request begins (300)")
+    slow = "how long a request may take to come, a client to read a reply, and the command to end (30)"
     parser.add_argument("--slow", metavar="SECONDS", type=_seconds, default=30.0, help=slow)
-    again = "start the command again where a signal ended it; only for a command that keeps its ledger in a file"
-    parser.add_argument("--again", action="store_true", help=again)
+    ahead = "how far the ledger's last time may lie ahead of the clock when the command is started first (0)"
+    parser.add_argument("--ahead", metavar="SECONDS", type=_ahead, default=0.0, help=ahead)
     parser.add_argument("command", metavar="COMMAND", nargs="+", help="the server and its words, behind --")
     return parser.parse_args(given)
 
 
 def _address(text: str) -> Tuple[str, int]:
     host, colon, port = text.rpartition(":")
-    if not (colon and host and port.isascii() and port.isdigit() and int(port) < 1 << 16):
+    is_bracketed = len(host) > 2 and host[0] == "[" and host[-1] == "]"
+    if not (colon and host and (is_bracketed or ":" not in host) and _is_number(port) and int(port) < 1 << 16):
         raise argparse.ArgumentTypeError(f"{text} is no HOST:PORT")
-    return host.strip("[]"), int(port)
+    return host[1:-1] if is_bracketed else host, int(port)
 
 
 def _count(text: str) -> int:
-    if not (text.isascii() and text.isdigit() and 0 < int(text) < 1 << 16):
+    if not (_is_number(text) and 0 < int(text) < 1 << 16):
         raise argparse.ArgumentTypeError(f"{text} is no number from 1 to 65535")
     return int(text)
 
 
-def _seconds(text: str) -> float:
+def _seconds(text: str, least: float = 0.001, greatest: int = 10**6) -> float:
     try:
         value = float(text)
     except ValueError:
-        value = 0.0
-    if not 0.001 <= value <= 10**6:
-        raise argparse.ArgumentTypeError(f"{text} is no number of seconds from 0.001 to 1000000")
+        value = -1.0
+    if not least <= value <= greatest:
+        raise argparse.ArgumentTypeError(f"{text} is no number of seconds from {least:g} to {greatest}")
     return value
+
+
+def _ahead(text: str) -> float:
+    return _seconds(text, 0, 10**10)
 
 
 def main() -> int:
     given = words(sys.argv[1:])
     try:
+        make_room(given.connections)
         asyncio.run(listen(given))
     except Ended as ended:
         say(str(ended))

@@ -2,6 +2,7 @@
 """tb_listen.py and tb_client.Socket: many clients over sockets, what each may do wrong, ends, kills and clocks."""
 import contextlib
 import os
+import re
 import signal
 import socket
 import stat
@@ -9,7 +10,6 @@ import struct
 import subprocess
 import sys
 import tempfile
-import textwrap
 import threading
 import time
 import unittest
@@ -23,51 +23,31 @@ from test_tb_client import PROGRAM, account, has_program, transfer, wrong_replie
 
 HERE = os.path.dirname(os.path.abspath(__file__))
 
-# A server that keeps what it was sent in a file, for as long as nothing better is at hand: it begins by sending all of it again.
-KEEPER = """
-import os, subprocess, sys, threading
-path, *command = sys.argv[1:]
-kept = open(path, "ab+")
-kept.seek(0)
-before = kept.read()
-below = subprocess.Popen(command, stdin=subprocess.PIPE, stdout=subprocess.PIPE)
-below.stdin.write(before)
-below.stdin.flush()
-left = 0
-at = 0
-while at < len(before):
-    at += 8 + 48 + int.from_bytes(before[at + 40 : at + 44], "little")
-    header = below.stdout.read(48)
-    below.stdout.read(int.from_bytes(header[32:36], "little"))
-def out():
-    while True:
-        data = os.read(below.stdout.fileno(), 1 << 16)
-        if not data:
-            os._exit(below.wait())
-        os.write(1, data)
-threading.Thread(target=out, daemon=True).start()
-while True:
-    data = os.read(0, 1 << 16)
-    if not data:
-        below.stdin.close()
-        threading.Event().wait()
-    kept.write(data)
-    kept.flush()
-    below.stdin.write(data)
-    below.stdin.flush()
-"""
+TBD = os.environ.get("TBD", os.path.join(HERE, "..", "..", "crates", "tbd", "out", "tbd"))
+KEEPER = [TBD] if os.access(TBD, os.X_OK) else [sys.executable, "-SE", os.path.join(HERE, "stand_in_tbd.py")]
+
+
+def children(process):
+    """The processes that a process started, by their ids."""
+    with contextlib.suppress(OSError), open(f"/proc/{process}/task/{process}/children") as file:
+        return [int(it) for it in file.read().split()]
+    return []
 
 
 class Running:
-    """A listener as a process."""
+    """A listener as a process, before a server that keeps its ledger in a file where no other command is given."""
 
-    def __init__(self, *options, command=None):
-        self.folder = tempfile.TemporaryDirectory()
-        self.path = os.path.join(self.folder.name, "ledger.sock")
-        place = [] if "--tcp" in options else ["--unix", self.path]
-        words = [sys.executable, "-B", os.path.join(HERE, "tb_listen.py"), *place, *options, "--", *(command or [PROGRAM, "run", "64", "1"])]
-        self.process = subprocess.Popen(words, stderr=subprocess.PIPE, text=True)
+    def __init__(self, *options, command=None, folder=None, fail=""):
+        self.own = None if folder else tempfile.TemporaryDirectory()
+        self.folder = folder or self.own.name
+        self.path, self.file = os.path.join(self.folder, "ledger.sock"), os.path.join(self.folder, "ledger.journal")
+        place = [] if "--tcp" in options or "--unix" in options else ["--unix", self.path]
+        self.command = command or [*KEEPER, "run", self.file, "64"]
+        words = [sys.executable, "-B", os.path.join(HERE, "tb_listen.py"), *place, *options, "--", *self.command]
+        self.process = subprocess.Popen(words, stderr=subprocess.PIPE, text=True, env={**os.environ, "FAIL": fail})
         self.said = [self.process.stderr.readline()]
+        found = re.fullmatch(r"tb_listen: listens on (.*):([0-9]+)\n", self.said[0])
+        self.address = (found[1].strip("[]"), int(found[2])) if found else self.path
 
     def __enter__(self):
         return self
@@ -76,7 +56,8 @@ class Running:
         if self.process.poll() is None:
             self.end()
         self.process.stderr.close()
-        self.folder.cleanup()
+        if self.own:
+            self.own.cleanup()
 
     def end(self, number=signal.SIGTERM):
         self.process.send_signal(number)
@@ -88,7 +69,26 @@ class Running:
         self.said += self.process.stderr.read().splitlines(keepends=True)
         return status
 
+    def server(self):
+        """The id of the server's process, once it runs."""
+        for _ in range(200):
+            found = children(self.process.pid)
+            if found:
+                return found[0]
+            time.sleep(0.02)
+        raise AssertionError("no server runs")
+
+    def kill_server(self):
+        os.kill(self.server(), signal.SIGKILL)
+
+    def tells(self):
+        """Its next line."""
+        self.said.append(self.process.stderr.readline())
+        return self.said[-1]
+
     def call(self):
+        if isinstance(self.address, tuple):
+            return socket.create_connection(self.address, 10)
         it = socket.socket(socket.AF_UNIX, socket.SOCK_STREAM)
         it.settimeout(10)
         it.connect(self.path)
@@ -111,11 +111,17 @@ def register(client):
     return tb.request_frame(client, 0, 0, tb.Operation.register)
 
 
+def has_ipv6():
+    with contextlib.suppress(OSError), socket.socket(socket.AF_INET6, socket.SOCK_STREAM) as it:
+        it.bind(("::1", 0))
+        return True
+    return False
+
+
 def header(client=1, session=1, number=1, operation=130, zeros=b"\0" * 3, length=0, rest=b"\0" * 12):
     return client.to_bytes(16, "little") + struct.pack("<QIB3sI12s", session, number, operation, zeros, length, rest)
 
 
-@has_program
 class OverSockets(unittest.TestCase):
     def test_money_moves_once_for_many_clients(self):
         with Running() as listener:
@@ -134,11 +140,20 @@ class OverSockets(unittest.TestCase):
             self.assertEqual(listener.said, [f"tb_listen: listens on {listener.path}\n"])
 
     def test_tcp(self):
-        with Running("--tcp", "127.0.0.1:0") as listener:
-            port = int(listener.said[0].rpartition(":")[2])
-            with Session.register(Socket(("127.0.0.1", port))) as session:
-                self.assertEqual(session.session, 1)
-            self.assertEqual(listener.end(signal.SIGINT), 0)
+        for given, wanted in (("127.0.0.1:0", "127.0.0.1"), ("[::1]:0", "::1"), ("localhost:0", None)):
+            if wanted == "::1" and not has_ipv6():
+                continue
+            with Running("--tcp", given) as listener:
+                self.assertIn(listener.address[0], (wanted,) if wanted else ("127.0.0.1", "::1"))
+                self.assertGreater(listener.address[1], 0, "port 0 is one that is free")
+                with Session.register(Socket(listener.address)) as session:
+                    self.assertEqual(session.session, 1)
+                self.assertEqual(listener.end(signal.SIGINT), 0)
+            with self.assertRaises(tb.CannotConnect) as fault:
+                Socket(listener.address, timeout=0.01).exchange(0, register(1))
+            if wanted:
+                host = f"[{wanted}]" if ":" in wanted else wanted
+                self.assertEqual(str(fault.exception), f"{host}:{listener.address[1]}: Connection refused")
 
     def test_batches_of_all_sizes_in_any_pieces(self):
         with Running() as listener, listener.call() as it:
@@ -175,22 +190,17 @@ class OverSockets(unittest.TestCase):
             self.assertEqual(listener.said[1:], [f"tb_listen: a connection is closed: {name}\n" for name in cases])
 
     def test_a_register_with_a_body_is_a_bad_length(self):
-        self.assertEqual(tb_listen.fault_of(header(session=0, number=0, operation=2, length=16)), "BadLength")
-        self.assertIsNone(tb_listen.fault_of(header(session=0, number=0, operation=2)))
-        self.assertIsNone(tb_listen.fault_of(header(operation=131, length=8190 * 16)))
-        self.assertEqual(tb_listen.fault_of(header(operation=132, length=8191 * 16)), "TooMany")
-        self.assertEqual(tb_listen.fault_of(header(rest=b"\0" * 11 + b"\1")), "Reserved")
+        self.assertEqual(tb.request_fault(header(session=0, number=0, operation=2, length=16)), "BadLength")
+        self.assertIsNone(tb.request_fault(header(session=0, number=0, operation=2)))
+        self.assertIsNone(tb.request_fault(header(operation=131, length=8190 * 16)))
+        self.assertEqual(tb.request_fault(header(operation=132, length=8191 * 16)), "TooMany")
+        self.assertEqual(tb.request_fault(header(rest=b"\0" * 11 + b"\1")), "Reserved")
 
     def test_what_is_told_reaches_who_sends_more(self):
         """A client that still sends is told why its connection is closed, and not that it broke."""
         for options in ((), ("--tcp", "127.0.0.1:0")):
             with Running("--connections", "2", *options) as listener:
-                port = int(listener.said[0].rpartition(":")[2]) if options else 0
-                address = ("127.0.0.1", port) if options else listener.path
-
-                def call():
-                    return socket.create_connection(address, 10) if options else listener.call()
-
+                address, call = listener.address, listener.call
                 for name, frame in (("TooMany", header(length=8191 * 128) + bytes(8191 * 128)), ("BadLength", header(length=127) + bytes(4 << 20))):
                     it = call()
                     it.sendall(frame)
@@ -258,29 +268,18 @@ class OverSockets(unittest.TestCase):
             self.assertEqual(listener.ended(), 0)
             self.assertFalse(os.path.exists(listener.path))
 
-    def test_a_killed_server_ends_it(self):
-        with Running() as listener, Session.register(Socket(listener.path, timeout=1.0), attempts=1) as session:
-            subprocess.run(["pkill", "-KILL", "-P", str(listener.process.pid)], check=True)
+    @has_program
+    def test_a_killed_server_that_keeps_nothing_ends_it(self):
+        with Running(command=[PROGRAM, "run", "64", "1"]) as listener, Session.register(Socket(listener.path, timeout=1.0), attempts=1) as session:
+            listener.kill_server()
             with self.assertRaises((tb.ReplyLost, tb.CannotConnect)):
                 session.lookup_accounts([1])
             self.assertEqual(listener.ended(), 1)
             self.assertEqual(listener.said[-1], f"tb_listen: {PROGRAM} ended by SIGKILL\n")
 
-    def test_a_killed_server_that_keeps_its_ledger_goes_on(self):
-        with tempfile.TemporaryDirectory() as folder:
-            command = [sys.executable, "-c", KEEPER, os.path.join(folder, "kept"), PROGRAM, "run", "64"]
-            with Running("--again", command=command) as listener, Session.register(Socket(listener.path)) as session:
-                tb.require_ok(session.create_accounts([account(1), account(2)]))
-                for count in range(1, 4):
-                    session.prepare(tb.Operation.create_transfers, [transfer(count, 1, 2, 10)])
-                    tb.require_ok(session.retry())
-                    subprocess.run(["pkill", "-KILL", "-P", str(listener.process.pid)], check=True)
-                    self.assertEqual(session.lookup_accounts([2])[0].credits_posted, 10 * count)
-                self.assertEqual(listener.end(), 0)
-
     def test_a_named_fault_is_handed_on(self):
         for status, line in ((1, "tbs: NoMemory"), (2, "tbs: TimeExhausted")):
-            with Running("--again", command=["sh", "-c", f"head -c 56 > /dev/null; echo {line} >&2; exit {status}"]) as listener:
+            with Running(command=["sh", "-c", f"head -c 56 > /dev/null; echo {line} >&2; exit {status}"]) as listener:
                 with listener.call() as it:
                     it.sendall(header())
                     self.assertEqual(told(it), b"tb_listen: ProgramEnded\n")

@@ -40,7 +40,7 @@ from .errors import (
     ScriptFull,
     SessionTooLow,
 )
-from .frames import HEADER, ITEMS_MAX, NUMBER_MAX, Reply, Request, reply_length, request_frame
+from .frames import HEADER, ITEMS_MAX, NUMBER_MAX, Reply, Request, reply_length, request_fault, request_frame
 from .ids import id
 from .names import AccountFlags, CreateAccountResult, CreateTransferResult, Operation, Status, TransferFlags
 from .program import Program
@@ -57,5 +57,5 @@ __all__ = [
     "Direct", "EventResult", "EventsFailed", "Evicted", "Faulty", "HEADER", "ITEMS_MAX", "InDoubt", "Invalid", "InvalidType", "InvalidValue", "MAX", "NUMBER_MAX",
     "NewerRequest", "NewerSession", "NoMemory", "NoSession", "NotSent", "NotYet", "NothingInDoubt", "Older", "Operation", "Program", "ProgramEnded", "REFUSALS",
     "Refused", "Reply", "ReplyLost", "Request", "Saved", "ScriptFull", "Session", "SessionTooLow", "Socket", "Status", "Transfer", "TransferFlags", "Transport", "amount_max",
-    "id", "reply_length", "request_frame", "require_ok",
+    "id", "reply_length", "request_fault", "request_frame", "require_ok",
 ]

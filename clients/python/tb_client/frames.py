@@ -154,6 +154,23 @@ def header_of(frame: bytes) -> Request:
     return Request(client, session, number, operation, ())
 
 
+def request_fault(data: bytes, at: int = 0) -> Optional[str]:
+    """What is wrong with the header of a request at this place, by the tests of docs/FORMATS.md in their order. A server that reads
+    pairs ends at such a frame, for all."""
+    session, number, operation, length = REQUEST.unpack_from(data, at + 16)
+    is_register, size = operation == Operation.register, ITEM_SIZES.get(operation, 1)
+    tests = (
+        ("ClientZero", not any(data[at : at + 16])),
+        ("UnknownOperation", not is_register and operation not in ITEM_SIZES),
+        ("Reserved", any(data[at + 29 : at + 32]) or any(data[at + 36 : at + HEADER])),
+        ("RegisterNumbers", is_register and (session or number)),
+        ("RequestZero", not is_register and not number),
+        ("BadLength", length if is_register else length % size),
+        ("TooMany", length // size > ITEMS_MAX),
+    )
+    return next((name for name, holds in tests if holds), None)
+
+
 # Replies
 
 

@@ -3,6 +3,7 @@ from __future__ import annotations
 
 import contextlib
 import os
+import select
 import socket
 import threading
 import time
@@ -23,9 +24,9 @@ TOLD = b"tb_listen: "  # begins what a server says before it closes a connection
 class Socket(Closing):
     """A connection to a server at a Unix socket's path, or at a host and a port.
 
-    The server gives the moments: the one that `exchange` is given is not sent. A connection that broke, or on which no reply came in
-    time, is closed, and the next exchange makes a new one; where that can't be made within `timeout` seconds nothing is sent, and it
-    is `CannotConnect`. Threads may share a Socket: an exchange is one thread's from its first byte to its last."""
+    The server gives the moments: the one that `exchange` is given is not sent. A connection that broke, that the server closed, or on
+    which no reply came in time, is closed, and the next exchange makes a new one; where that can't be made within `timeout` seconds
+    nothing is sent, and it is `CannotConnect`. Threads may share a Socket: an exchange is one thread's from its first byte to its last."""
 
     def __init__(self, address: Address, timeout: float = 5.0) -> None:
         self.address = _address_of(address)
@@ -57,8 +58,10 @@ class Socket(Closing):
                 raise
 
     def _connected(self, deadline: float) -> socket.socket:
-        """The connection, made anew where there is none."""
+        """The connection, made anew where there is none, or where the server closed it since."""
         pause = FIRST_PAUSE
+        if self._socket is not None and _is_left(self._socket):
+            self._hang_up()
         while self._socket is None:
             try:
                 self._socket = _call(self.address, max(deadline - time.monotonic(), 0.001))
@@ -121,6 +124,13 @@ class Socket(Closing):
             self._hang_up()
 
 
+def _is_left(it: socket.socket) -> bool:
+    """Whether the server closed a connection, or told why it will: it says nothing else before it is asked."""
+    ready = select.poll()
+    ready.register(it, select.POLLIN)
+    return bool(ready.poll(0))
+
+
 def _closed(said: bytes) -> ReplyLost:
     """What to raise where the server closed the connection after these bytes: with the name that it told, where it told one."""
     why = bytes(said[len(TOLD) :]).decode("ascii", "replace").strip() if said.startswith(TOLD) else ""
@@ -161,4 +171,7 @@ def _hint(address: Union[str, Tuple[str, int]]) -> str:
 
 
 def _shown(address: Union[str, Tuple[str, int]]) -> str:
-    return address if isinstance(address, str) else "{}:{}".format(*address)
+    if isinstance(address, str):
+        return address
+    host, port = address
+    return f"[{host}]:{port}" if ":" in host else f"{host}:{port}"

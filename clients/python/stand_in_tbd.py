@@ -1,0 +1,203 @@
+#!/usr/bin/env python3
+"""A stand-in for `tbd`, for the tests of the listener where that program is not built.
+
+    stand_in_tbd.py run FILE CLIENTS_MAX [PROFILE]
+    stand_in_tbd.py dump FILE
+    stand_in_tbd.py check FILE
+
+It has tbd's command line, lines and exit statuses. Its ledger knows few rules, and its file has a dump's bytes and no checksums:
+nothing of money is to be kept in it. FAIL=NAME:STATUS:N ends `run` with that fault at the Nth pair.
+"""
+import fcntl
+import os
+import struct
+import sys
+
+HEAD = struct.Struct("<8sII")
+ENTRY = struct.Struct("<QQ")
+REGISTER, ACCOUNTS, TRANSFERS, LOOKUP_ACCOUNTS = 2, 129, 130, 131
+EXISTS = {ACCOUNTS: 21, TRANSFERS: 46}
+DEBIT_ACCOUNT_NOT_FOUND, CREDIT_ACCOUNT_NOT_FOUND = 21, 22
+
+
+class Fault(Exception):
+    def __init__(self, line, status):
+        super().__init__(line)
+        self.line, self.status = line, status
+
+
+class Ledger:
+    """Sessions as docs/RULES.md has them, accounts, and transfers that are refused where they exist or an account does not."""
+
+    def __init__(self, clients_max):
+        self.clients_max = clients_max
+        self.commit = self.time = 0
+        self.sessions, self.accounts, self.transfers = {}, {}, {}
+
+    def status(self, frame):
+        """None where the request is new, 0 where it is a repeat, or the status of its refusal."""
+        session, number, operation = struct.unpack_from("<QIB", frame, 16)
+        row = self.sessions.get(frame[:16])
+        if operation == REGISTER:
+            return None if row is None else 0 if row[1] == 0 else 4
+        if row is None:
+            return 1
+        if session != row[0]:
+            return 2 if session < row[0] else 3
+        if number == row[1]:
+            return 0 if row[2] == frame else 5
+        return 4 if number < row[1] else None if number == row[1] + 1 else 6
+
+    def next_time(self, moment, frame):
+        return max(moment, self.time + max(1, (len(frame) - 48) // 128 if frame[28] in EXISTS else 1))
+
+    def enter(self, time, frame):
+        """Executes a new request. Answers its reply."""
+        session, number, operation = struct.unpack_from("<QIB", frame, 16)
+        self.commit, self.time = self.commit + 1, time
+        if operation == REGISTER:
+            session = self.commit
+            if len(self.sessions) == self.clients_max:
+                del self.sessions[min(self.sessions, key=lambda it: self.sessions[it][4])]
+        items = [frame[at : at + (128 if operation in EXISTS else 16)] for at in range(48, len(frame), 128 if operation in EXISTS else 16)]
+        body = self.create(operation, items) if operation in EXISTS else self.look_up(operation, items)
+        reply = frame[:16] + struct.pack("<QIBB2xIQ4x", session, number, operation, 0, len(body), self.commit) + body
+        self.sessions[frame[:16]] = session, number, frame, reply, self.commit
+        return reply
+
+    def create(self, operation, items):
+        rows, results = self.accounts if operation == ACCOUNTS else self.transfers, b""
+        for index, it in enumerate(items):
+            debit, credit = self.accounts.get(it[16:32]), self.accounts.get(it[32:48])
+            result = EXISTS[operation] if it[:16] in rows else 0
+            if operation == TRANSFERS and not result:
+                result = DEBIT_ACCOUNT_NOT_FOUND if debit is None else CREDIT_ACCOUNT_NOT_FOUND if credit is None else 0
+            if result:
+                results += struct.pack("<II", index, result)
+                continue
+            rows[it[:16]] = bytearray(it[:120] + struct.pack("<Q", self.time - len(items) + index + 1))
+            if operation == TRANSFERS:
+                for row, at in ((debit, 32), (credit, 64)):
+                    row[at : at + 16] = (int.from_bytes(row[at : at + 16], "little") + int.from_bytes(it[48:64], "little")).to_bytes(16, "little")
+        return results
+
+    def look_up(self, operation, items):
+        rows = self.accounts if operation == LOOKUP_ACCOUNTS else self.transfers
+        return b"".join(bytes(rows[it]) for it in items if it in rows)
+
+
+def opened(path, flags):
+    try:
+        it = os.open(path, flags, 0o666)
+    except OSError as error:
+        raise Fault(f"Device: {error.strerror}", 1) from None
+    try:
+        fcntl.flock(it, fcntl.LOCK_EX | fcntl.LOCK_NB)
+    except OSError:
+        raise Fault("Locked", 4) from None
+    with open(path, "rb") as file:
+        return it, file.read()
+
+
+def read(data):
+    """What a file stands for: its profile, its ledger, and where its last whole entry ends."""
+    magic, profile, clients_max = HEAD.unpack_from(data)
+    if magic != b"TBSDUMP1":
+        raise Fault("NotAJournal", 5)
+    ledger, at = Ledger(clients_max), HEAD.size
+    while len(data) - at >= 64:
+        (commit, time), frame = ENTRY.unpack_from(data, at), data[at + 16 : at + 64 + int.from_bytes(data[at + 48 : at + 52], "little")]
+        if len(frame) < 48 + int.from_bytes(frame[32:36], "little"):
+            break
+        if commit != ledger.commit + 1 or ledger.status(frame) is not None:
+            raise Fault(f"Damaged: record {ledger.commit + 1}, at byte {at}", 6)
+        ledger.enter(time, frame)
+        at += 16 + len(frame)
+    return profile, ledger, at
+
+
+def write(file, data):
+    while data:
+        data = data[os.write(file, data) :]
+
+
+def begin(path, clients_max, profile):
+    """The file, with its torn end cut off, and its ledger."""
+    file, data = opened(path, os.O_RDWR | os.O_CREAT | os.O_APPEND)
+    if len(data) < HEAD.size:
+        os.ftruncate(file, 0)
+        write(file, HEAD.pack(b"TBSDUMP1", profile, clients_max))
+        data = HEAD.pack(b"TBSDUMP1", profile, clients_max)
+    kept, ledger, end = read(data)
+    if (kept, ledger.clients_max) != (profile, clients_max):
+        raise Fault("OtherRules", 7)
+    os.ftruncate(file, end)
+    os.fsync(file)
+    return file, ledger
+
+
+def pairs():
+    """The moments and frames of standard input, each with whether the next one is at hand."""
+    data = b""
+    while True:
+        while len(data) >= 56 and len(data) >= (size := 56 + int.from_bytes(data[40:44], "little")):
+            pair, data = data[:size], data[size:]
+            yield int.from_bytes(pair[:8], "little"), pair[8:], len(data) >= 56 and len(data) >= 56 + int.from_bytes(data[40:44], "little")
+        more = os.read(0, 1 << 20)
+        if not more:
+            if data:
+                raise Fault("Short", 2)
+            return
+        data += more
+
+
+def serve(file, ledger, fail):
+    """Entries go to the file first, then their replies out."""
+    entries = replies = b""
+    for count, (moment, frame, is_more) in enumerate(pairs(), 1):
+        if fail and count == int(fail[2]):
+            raise Fault(fail[0], int(fail[1]))
+        if not any(frame[:16]):
+            raise Fault("ClientZero", 2)
+        status = ledger.status(frame)
+        if status is None:
+            time = ledger.next_time(moment, frame)
+            replies += ledger.enter(time, frame)
+            entries += ENTRY.pack(ledger.commit, time) + frame
+        elif status == 0:
+            replies += ledger.sessions[frame[:16]][3]
+        else:
+            session, number, operation = struct.unpack_from("<QIB", frame, 16)
+            replies += frame[:16] + struct.pack("<QIBB2xIQ4x", session, number, operation, status, 0, 0)
+        if not is_more:
+            if entries:
+                write(file, entries)
+                os.fdatasync(file)
+            write(1, replies)
+            entries = replies = b""
+
+
+def main(words):
+    if len(words) in (3, 4) and words[0] == "run" and all(it.isdigit() for it in words[2:]) and 1 <= int(words[2]) <= 64:
+        fail = os.environ.get("FAIL")
+        serve(*begin(words[1], int(words[2]), int(words[3]) if len(words) == 4 else 1), fail and fail.split(":"))
+    elif len(words) == 2 and words[0] in ("dump", "check"):
+        _, data = opened(words[1], os.O_RDWR)
+        if len(data) < HEAD.size:
+            raise Fault("NotAJournal", 5)
+        profile, ledger, end = read(data)
+        lines = f"records {1 + ledger.commit}\nentries {ledger.commit}\nprofile {profile}\nclients_max {ledger.clients_max}\nlast time {ledger.time}\ntorn bytes {len(data) - end}\n"
+        write(1, data[:end] if words[0] == "dump" else lines.encode())
+    else:
+        raise Fault("Usage", 2)
+
+
+if __name__ == "__main__":
+    try:
+        main(sys.argv[1:])
+    except Fault as fault:
+        write(2, f"tbd: {fault.line}\n".encode())
+        sys.exit(fault.status)
+    except OSError:
+        write(2, b"tbd: Device\n")
+        sys.exit(1)
