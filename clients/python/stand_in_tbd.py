@@ -6,10 +6,18 @@
     stand_in_tbd.py check FILE
 
 It has tbd's command line, lines and exit statuses. Its ledger knows few rules, and its file has a dump's bytes and no checksums:
-nothing of money is to be kept in it. FAIL=NAME:STATUS:N ends `run` with that fault at the Nth pair.
+nothing of money is to be kept in it. FAIL makes `run` end at its Nth pair: FAIL=NAME:STATUS:N with that fault, and
+FAIL=SIGNAL:PLACE:N by that signal (as SIGKILL:read:3) at one of these places:
+
+    read   the pair was read, and nothing was done with it
+    half   one byte of its entry is missing in the file
+    kept   its entry is in the file, and nothing of its reply was written
+    part   one byte of its reply is missing
+    told   its reply was written
 """
 import fcntl
 import os
+import signal
 import struct
 import sys
 
@@ -18,6 +26,7 @@ ENTRY = struct.Struct("<QQ")
 REGISTER, ACCOUNTS, TRANSFERS, LOOKUP_ACCOUNTS = 2, 129, 130, 131
 EXISTS = {ACCOUNTS: 21, TRANSFERS: 46}
 DEBIT_ACCOUNT_NOT_FOUND, CREDIT_ACCOUNT_NOT_FOUND = 21, 22
+LAST_TIME = 2**63 - 1
 
 
 class Fault(Exception):
@@ -49,7 +58,10 @@ class Ledger:
         return 4 if number < row[1] else None if number == row[1] + 1 else 6
 
     def next_time(self, moment, frame):
-        return max(moment, self.time + max(1, (len(frame) - 48) // 128 if frame[28] in EXISTS else 1))
+        time = max(moment, self.time + max(1, (len(frame) - 48) // 128 if frame[28] in EXISTS else 1))
+        if time > LAST_TIME:
+            raise Fault("TimeExhausted", 2)
+        return time
 
     def enter(self, time, frame):
         """Executes a new request. Answers its reply."""
@@ -59,7 +71,8 @@ class Ledger:
             session = self.commit
             if len(self.sessions) == self.clients_max:
                 del self.sessions[min(self.sessions, key=lambda it: self.sessions[it][4])]
-        items = [frame[at : at + (128 if operation in EXISTS else 16)] for at in range(48, len(frame), 128 if operation in EXISTS else 16)]
+        size = 128 if operation in EXISTS else 16
+        items = [frame[at : at + size] for at in range(48, len(frame), size)]
         body = self.create(operation, items) if operation in EXISTS else self.look_up(operation, items)
         reply = frame[:16] + struct.pack("<QIBB2xIQ4x", session, number, operation, 0, len(body), self.commit) + body
         self.sessions[frame[:16]] = session, number, frame, reply, self.commit
@@ -84,6 +97,22 @@ class Ledger:
     def look_up(self, operation, items):
         rows = self.accounts if operation == LOOKUP_ACCOUNTS else self.transfers
         return b"".join(bytes(rows[it]) for it in items if it in rows)
+
+
+class Ending:
+    """The end that FAIL asks for, where it does."""
+
+    def __init__(self, text):
+        self.name, self.place, number = text.split(":") if text else ("", "", 0)
+        self.number = int(number)
+
+    def is_at(self, count, place):
+        return count == self.number and place == ("read" if self.place.isdigit() else self.place)
+
+    def take(self):
+        if self.place.isdigit():
+            raise Fault(self.name, int(self.place))
+        os.kill(os.getpid(), signal.Signals[self.name])
 
 
 def opened(path, flags):
@@ -125,6 +154,8 @@ def begin(path, clients_max, profile):
     """The file, with its torn end cut off, and its ledger."""
     file, data = opened(path, os.O_RDWR | os.O_CREAT | os.O_APPEND)
     if len(data) < HEAD.size:
+        if data != HEAD.pack(b"TBSDUMP1", profile, clients_max)[: len(data)]:
+            raise Fault("NotAJournal", 5)
         os.ftruncate(file, 0)
         write(file, HEAD.pack(b"TBSDUMP1", profile, clients_max))
         data = HEAD.pack(b"TBSDUMP1", profile, clients_max)
@@ -151,12 +182,12 @@ def pairs():
         data += more
 
 
-def serve(file, ledger, fail):
+def serve(file, ledger, ending):
     """Entries go to the file first, then their replies out."""
     entries = replies = b""
     for count, (moment, frame, is_more) in enumerate(pairs(), 1):
-        if fail and count == int(fail[2]):
-            raise Fault(fail[0], int(fail[1]))
+        if ending.is_at(count, "read"):
+            ending.take()
         if not any(frame[:16]):
             raise Fault("ClientZero", 2)
         status = ledger.status(frame)
@@ -169,18 +200,28 @@ def serve(file, ledger, fail):
         else:
             session, number, operation = struct.unpack_from("<QIB", frame, 16)
             replies += frame[:16] + struct.pack("<QIBB2xIQ4x", session, number, operation, status, 0, 0)
-        if not is_more:
-            if entries:
-                write(file, entries)
-                os.fdatasync(file)
-            write(1, replies)
+        if not is_more or count == ending.number:
+            commit(file, entries, replies, lambda place, count=count: ending.is_at(count, place) and ending.take())
             entries = replies = b""
+
+
+def commit(file, entries, replies, ends_at):
+    """Writes entries to the file, syncs them, and writes their replies. `ends_at` ends the process where it is to end at a place."""
+    write(file, entries[:-1])
+    ends_at("half")
+    write(file, entries[-1:])
+    os.fdatasync(file)
+    ends_at("kept")
+    write(1, replies[:-1])
+    ends_at("part")
+    write(1, replies[-1:])
+    ends_at("told")
 
 
 def main(words):
     if len(words) in (3, 4) and words[0] == "run" and all(it.isdigit() for it in words[2:]) and 1 <= int(words[2]) <= 64:
-        fail = os.environ.get("FAIL")
-        serve(*begin(words[1], int(words[2]), int(words[3]) if len(words) == 4 else 1), fail and fail.split(":"))
+        file, ledger = begin(words[1], int(words[2]), int(words[3]) if len(words) == 4 else 1)
+        serve(file, ledger, Ending(os.environ.get("FAIL")))
     elif len(words) == 2 and words[0] in ("dump", "check"):
         _, data = opened(words[1], os.O_RDWR)
         if len(data) < HEAD.size:

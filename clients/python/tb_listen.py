@@ -10,7 +10,8 @@ the connection that asked. docs/CLIENTS.md says how to use it; `tb_client.Socket
 
 A command that ends in the words `run FILE CLIENTS_MAX [PROFILE]`, as that of `tbd`, keeps its ledger in FILE (a name of digits alone is
 given with its folder, as ./64). Where a signal ended it, it is started again. Before it is started for the first time, the same
-command with `check FILE` in their place tells the ledger's last time, which must not lie ahead of the clock.
+command with `check FILE` in their place tells the ledger's last time, which must not lie ahead of the clock. Any other command is
+taken for one that keeps its ledger in memory: it is never started again.
 
 What a client may do wrong ends its own connection alone. Before it is closed it is told why, by a line of fewer bytes than a frame
 has: `tb_listen: ` and a name. Status 0: ended by SIGTERM or SIGINT, with all that was taken answered. Status 1: it cannot listen, the
@@ -34,16 +35,17 @@ import stat
 import struct
 import sys
 import time
-from typing import Any, Awaitable, Callable, Deque, Iterator, Optional, Sequence, Set, Tuple, TypeVar
+from typing import Any, Awaitable, Callable, Deque, Iterator, List, Optional, Sequence, Set, Tuple, TypeVar
 
 from tb_client.frames import HEADER, reply_fault, reply_length, request_fault
 
 T = TypeVar("T")
 
-BODY_MAX = ITEMS_MAX * RECORD
 SECOND = 10**9
 READ_AHEAD = 1 << 16  # bytes that are read of a connection beyond the request that is waited for
 BACKLOG = 1024  # connections that wait to be taken
+LAST_WORDS = 1.0  # seconds for which what a command wrote may still come when it has ended
+WATCH = 0.1  # seconds after which a command is looked at again, to see whether it has ended
 LAST_READ = 1.0  # seconds for which a client that is told why may still send, so that it reads why and is not cut off before
 PAUSES = (0.1, 0.5, 2.0, 5.0)  # seconds before the command is started again; the last one from then on
 STEADY = 60.0  # seconds after which a command that ends is one that was well until then
@@ -165,12 +167,25 @@ def _last_line(told: bytes) -> str:
     return lines[-1] if lines else ""
 
 
+def _signal_of(status: int) -> int:
+    """The signal that ended a process, or what it started for that: a shell tells it by 128 and its number. 0 where none did."""
+    return -status if status < 0 else status - 128 if 128 < status < 128 + signal.NSIG else 0
+
+
 def _end_of(status: int) -> str:
-    if status >= 0:
+    number = _signal_of(status)
+    if not number:
         return f"with status {status}"
     with contextlib.suppress(ValueError):
-        return f"by {signal.Signals(-status).name}"
-    return f"by signal {-status}"
+        return f"by {signal.Signals(number).name}"
+    return f"by signal {number}"
+
+
+async def _exited(process: asyncio.subprocess.Process) -> int:
+    """The status of a process, once it has ended. What it started may hold its pipes open beyond that, and `wait` would wait for these."""
+    while process.returncode is None:
+        await asyncio.sleep(WATCH)
+    return process.returncode
 
 
 def asker(header: bytes) -> bytes:
@@ -181,8 +196,8 @@ def asker(header: bytes) -> bytes:
 class Command:
     """The command as a process. Pairs go to it in one order, and its replies come back in that order."""
 
-    def __init__(self, words: Sequence[str], moments: Moments) -> None:
-        self.words, self.moments = words, moments
+    def __init__(self, words: Sequence[str], moments: Moments, patience: float) -> None:
+        self.words, self.moments, self.patience = words, moments, patience
         self.keeps = journal_at(words) is not None
         self.process: Optional[asyncio.subprocess.Process] = None  # while pairs may be written to it
         self.waiting: Deque[Tuple[bytes, asyncio.Future[bytes]]] = collections.deque()
@@ -199,61 +214,78 @@ class Command:
                 status, line = await self._run_once()
                 if self.is_closed and status == 0:
                     return
-                if status >= 0 or not self.keeps or self.stopping.is_set():
-                    raise Ended(line if line and status >= 0 else f"{self.words[0]} ended {_end_of(status)}", max(status, 0) or 1)
+                number = _signal_of(status)
+                if line and not number:
+                    raise Ended(line, status or 1)
+                ended = f"{self.words[0]} ended {_end_of(status)}{line and f' ({line})'}"
+                if not number or not self.keeps or self.stopping.is_set():
+                    raise Ended(ended, 1 if number else status or 1)
                 quick = 0 if time.monotonic() - began > STEADY else quick
-                await self._pause(status, PAUSES[min(quick, len(PAUSES) - 1)])
+                await self._pause(ended, PAUSES[min(quick, len(PAUSES) - 1)])
                 quick += 1
         finally:
             self.is_over = True
             self.ready.set()
 
-    async def _pause(self, status: int, seconds: float) -> None:
+    async def _pause(self, ended: str, seconds: float) -> None:
         """Waits before the command is started again. Raises `Ended` where the listener is to end meanwhile."""
-        say(f"{self.words[0]} ended {_end_of(status)}, and is started again in {seconds:g} s")
+        say(f"{ended}, and is started again in {seconds:g} s")
         with contextlib.suppress(asyncio.TimeoutError):
             await asyncio.wait_for(self.stopping.wait(), seconds)
-            raise Ended(f"{self.words[0]} ended {_end_of(status)}, and is not started again", 1)
+            raise Ended(f"{ended}, and is not started again", 1)
 
     async def _run_once(self) -> Tuple[int, str]:
         """Runs the command once. Answers its status and its last line on standard error."""
         process = await _started(self.words, asyncio.subprocess.PIPE)
         assert process.stdin and process.stdout and process.stderr
         telling = asyncio.ensure_future(_tail(process.stderr))
+        reading = asyncio.ensure_future(self._read_replies(process, process.stdout))
+        watching = asyncio.ensure_future(_exited(process))
         if self.is_closed:
             process.stdin.close()
         self.process = process
         self.ready.set()
         try:
-            await self._read_replies(process, process.stdout)
+            await _first(reading, watching)
+            await asyncio.wait([reading], timeout=LAST_WORDS)  # what it wrote before it ended is read to its end
         finally:
             self.process = None
             self.ready.clear()
             while self.waiting:
                 _drop(self.waiting.popleft()[1])
             process.stdin.close()
-            status = await process.wait()
-            with contextlib.suppress(asyncio.TimeoutError):  # what it started itself may hold its pipes open
-                await asyncio.wait_for(telling, 1.0)
-                await asyncio.wait_for(_drain(process.stdout), 1.0)
-                await asyncio.sleep(0.01)  # so that no pipe of it is open when the listener ends
-        return status, _last_line(telling.result() if telling.done() and not telling.cancelled() else b"")
+            await self._wait_for_end(process, watching, [reading, telling])
+            with contextlib.suppress(asyncio.TimeoutError):  # so that no pipe of it is open when the listener ends
+                await asyncio.wait_for(_drain(process.stdout), LAST_WORDS)
+                await asyncio.sleep(0.01)
+        reading.result()
+        return watching.result(), _last_line(telling.result())
+
+    async def _wait_for_end(self, process: asyncio.subprocess.Process, watching: asyncio.Future[int], pipes: List[asyncio.Task[Any]]) -> None:
+        """Waits until a process that gets no more requests has ended, and what it started. Ends them where they do not."""
+        await asyncio.wait([watching], timeout=self.patience)
+        if watching.done():
+            await asyncio.wait(pipes, timeout=LAST_WORDS)
+        if not all(it.done() for it in pipes):
+            _kill(process)  # with what it started, which may have the ledger's file open
+            await asyncio.wait(pipes, timeout=LAST_WORDS)
+        for it in pipes:
+            it.cancel()
+        await asyncio.wait([watching, *pipes])
 
     async def _read_replies(self, process: asyncio.subprocess.Process, stdout: asyncio.StreamReader) -> None:
         """Brings each reply to who asked for it, until there are no more."""
-        while True:
-            try:
+        with contextlib.suppress(asyncio.IncompleteReadError, asyncio.CancelledError):
+            while True:
                 header = await stdout.readexactly(HEADER)
-                length = reply_length(header) - HEADER
-                if not self.waiting or self.waiting[0][0] != asker(header) or length > BODY_MAX:
-                    _kill(process)
-                    raise Ended(f"{self.words[0]} wrote a reply that nobody asked for", 1)
-                body = await stdout.readexactly(length)
-            except asyncio.IncompleteReadError:
-                return
-            reply = self.waiting.popleft()[1]
-            if not reply.done():
-                reply.set_result(header + body)
+                if not self.waiting or self.waiting[0][0] != asker(header) or reply_fault(header):
+                    break
+                body = await stdout.readexactly(reply_length(header) - HEADER)
+                reply = self.waiting.popleft()[1]
+                if not reply.done():
+                    reply.set_result(header + body)
+            _kill(process)
+            raise Ended(f"{self.words[0]} wrote what is no reply to a request that it was given", 1)
 
     async def ask(self, frame: bytes) -> bytes:
         """The reply to a request. Raises `Told` where the command ended before it came."""
@@ -284,13 +316,12 @@ class Command:
 
 
 async def _tail(stream: asyncio.StreamReader) -> bytes:
-    """The last bytes of a stream, once it has ended."""
+    """The last bytes of a stream, once it has ended or is waited for no longer."""
     kept = b""
-    while True:
-        more = await stream.read(LINES)
-        if not more:
-            return kept
-        kept = (kept + more)[-LINES:]
+    with contextlib.suppress(asyncio.CancelledError):
+        while more := await stream.read(LINES):
+            kept = (kept + more)[-LINES:]
+    return kept
 
 
 async def _drain(stream: asyncio.StreamReader) -> None:
@@ -467,6 +498,7 @@ def tcp_socket(host: str, port: int) -> socket.socket:
         try:
             it.setsockopt(socket.SOL_SOCKET, socket.SO_REUSEADDR, 1)
             it.bind(address)
+            it.listen(BACKLOG)
             return it
         except OSError as error:
             it.close()
@@ -537,7 +569,7 @@ async def listen(given: argparse.Namespace) -> None:
     try:
         moments = beginning.result()
         with bound(given) as place:
-            await _listen_on(place, Command(given.command, moments), given, stopping)
+            await _listen_on(place, Command(given.command, moments, given.slow), given, stopping)
     finally:
         stopping.cancel()
 
@@ -565,16 +597,18 @@ async def _listen_on(place: socket.socket, command: Command, given: argparse.Nam
         command.kill()
         await asyncio.wait([running])
     await listener.leave()
+    fault = running.exception()
     if is_killed:
         raise Ended(f"{given.command[0]} did not end, and was killed", 1)
-    running.result()
+    if fault:
+        raise fault
 
 
 def words(given: Sequence[str]) -> argparse.Namespace:
     """The words of the command line. A wrong one is told, and ends the program with status 2."""
     parser = argparse.ArgumentParser(description=__doc__, formatter_class=argparse.RawDescriptionHelpFormatter)
     place = parser.add_mutually_exclusive_group()
-    place.add_argument("--unix", metavar="PATH", help="listen on a Unix socket, which its owner alone may use")
+    place.add_argument("--unix", metavar="PATH", type=_path, help="listen on a Unix socket, which its owner alone may use")
     tcp = "listen on TCP (127.0.0.1:3001 where nothing is given; port 0 is any that is free; [::1]:3001 for IPv6)"
     place.add_argument("--tcp", metavar="HOST:PORT", type=_address, default=("127.0.0.1", 3001), help=tcp)
     parser.add_argument("--connections", metavar="N", type=_count, default=256, help="connections at a time (256); one more is told Busy")
@@ -585,6 +619,12 @@ def words(given: Sequence[str]) -> argparse.Namespace:
     parser.add_argument("--ahead", metavar="SECONDS", type=_ahead, default=0.0, help=ahead)
     parser.add_argument("command", metavar="COMMAND", nargs="+", help="the server and its words, behind --")
     return parser.parse_args(given)
+
+
+def _path(text: str) -> str:
+    if not text:
+        raise argparse.ArgumentTypeError("an empty word is no path")
+    return text
 
 
 def _address(text: str) -> Tuple[str, int]:

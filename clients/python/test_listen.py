@@ -1,7 +1,10 @@
 #!/usr/bin/env python3
 """tb_listen.py and tb_client.Socket: many clients over sockets, what each may do wrong, ends, kills and clocks."""
 import contextlib
+import dataclasses
+import io
 import os
+import random
 import re
 import signal
 import socket
@@ -13,7 +16,6 @@ import tempfile
 import threading
 import time
 import unittest
-import unittest.mock
 
 import tb_client as tb
 import tb_listen
@@ -24,7 +26,8 @@ from test_tb_client import PROGRAM, account, has_program, transfer, wrong_replie
 HERE = os.path.dirname(os.path.abspath(__file__))
 
 TBD = os.environ.get("TBD", os.path.join(HERE, "..", "..", "crates", "tbd", "out", "tbd"))
-KEEPER = [TBD] if os.access(TBD, os.X_OK) else [sys.executable, "-SE", os.path.join(HERE, "stand_in_tbd.py")]
+STAND_IN = [sys.executable, "-SE", os.path.join(HERE, "stand_in_tbd.py")]
+KEEPER = [TBD] if os.access(TBD, os.X_OK) else STAND_IN
 
 
 def children(process):
@@ -32,6 +35,13 @@ def children(process):
     with contextlib.suppress(OSError), open(f"/proc/{process}/task/{process}/children") as file:
         return [int(it) for it in file.read().split()]
     return []
+
+
+def is_gone(process):
+    """Whether a process has ended, though nobody may have asked for its status."""
+    with contextlib.suppress(OSError), open(f"/proc/{process}/stat") as file:
+        return file.read().rpartition(")")[2].split()[0] == "Z"
+    return True
 
 
 class Running:
@@ -42,7 +52,9 @@ class Running:
         self.folder = folder or self.own.name
         self.path, self.file = os.path.join(self.folder, "ledger.sock"), os.path.join(self.folder, "ledger.journal")
         place = [] if "--tcp" in options or "--unix" in options else ["--unix", self.path]
-        self.command = command or [*KEEPER, "run", self.file, "64"]
+        self.command = command or KEEPER
+        if "run" not in self.command:
+            self.command = [*self.command, "run", self.file, "64"]
         words = [sys.executable, "-B", os.path.join(HERE, "tb_listen.py"), *place, *options, "--", *self.command]
         self.process = subprocess.Popen(words, stderr=subprocess.PIPE, text=True, env={**os.environ, "FAIL": fail})
         self.said = [self.process.stderr.readline()]
@@ -105,6 +117,11 @@ def told(it):
                 break
             data += more
     return data
+
+
+def octal(data):
+    """Bytes as `printf` of a shell takes them."""
+    return "".join(f"\\{byte:03o}" for byte in data)
 
 
 def register(client):
@@ -177,8 +194,9 @@ class OverSockets(unittest.TestCase):
             "BadLength": header(length=127),
             "TooMany": header(length=8191 * 128),
         }
+        others = {"UnknownOperation": b"GET / HTTP/1.1\r\nHost: localhost:3001\r\nAccept: */*\r\n\r\n", "ClientZero": bytes(1 << 20), "Reserved": header(rest=b"\0" * 11 + b"\1")}
         with Running() as listener, Session.register(Socket(listener.path)) as session:
-            for name, frame in cases.items():
+            for name, frame in [*cases.items(), *others.items()]:
                 it = listener.call()
                 it.sendall(frame)
                 self.assertEqual(told(it), f"tb_listen: {name}\n".encode(), name)
@@ -187,14 +205,7 @@ class OverSockets(unittest.TestCase):
                 it.sendall(header(length=128))  # and is gone before its body
             self.assertEqual(session.lookup_accounts([1]), [])
             listener.end()
-            self.assertEqual(listener.said[1:], [f"tb_listen: a connection is closed: {name}\n" for name in cases])
-
-    def test_a_register_with_a_body_is_a_bad_length(self):
-        self.assertEqual(tb.request_fault(header(session=0, number=0, operation=2, length=16)), "BadLength")
-        self.assertIsNone(tb.request_fault(header(session=0, number=0, operation=2)))
-        self.assertIsNone(tb.request_fault(header(operation=131, length=8190 * 16)))
-        self.assertEqual(tb.request_fault(header(operation=132, length=8191 * 16)), "TooMany")
-        self.assertEqual(tb.request_fault(header(rest=b"\0" * 11 + b"\1")), "Reserved")
+            self.assertEqual(listener.said[1:], [f"tb_listen: a connection is closed: {name}\n" for name in [*cases, *others]])
 
     def test_what_is_told_reaches_who_sends_more(self):
         """A client that still sends is told why its connection is closed, and not that it broke."""
@@ -223,17 +234,55 @@ class OverSockets(unittest.TestCase):
                 self.assertEqual(listener.end(), 0)
                 self.assertEqual([it for it in listener.said[1:] if "Busy" not in it], [f"tb_listen: a connection is closed: {name}\n" for name in ("TooMany", "BadLength")])
 
-    def test_limits(self):
-        with Running("--connections", "2", "--idle", "0.5") as listener:
-            with listener.call(), listener.call():
-                time.sleep(0.1)
-                self.assertEqual(told(listener.call()), b"tb_listen: Busy\n")
-            time.sleep(0.2)
-            begun = listener.call()
-            begun.sendall(register(1)[:47])
-            self.assertEqual(told(begun), b"tb_listen: Idle\n")
-            with Session.register(Socket(listener.path)):
-                pass
+    def test_the_limit_on_connections(self):
+        with Running("--connections", "2") as listener:
+            with listener.call() as first, listener.call() as second:
+                for number, it in ((1, first), (2, second)):
+                    it.sendall(register(number))
+                    self.assertEqual(len(it.recv(48, socket.MSG_WAITALL)), 48)
+                for _ in range(3):
+                    self.assertEqual(told(listener.call()), b"tb_listen: Busy\n")
+                first.sendall(tb.request_frame(1, 1, 1, tb.Operation.lookup_accounts))
+                self.assertEqual(len(first.recv(48, socket.MSG_WAITALL)), 48, "those that were there go on")
+            with Session.register(Socket(listener.path)) as session:
+                self.assertEqual(session.session, 4, "and one that was closed leaves its place")
+
+    def test_many_more_than_the_limit(self):
+        with Running("--connections", "4") as listener:
+            served = [listener.call() for _ in range(4)]
+            time.sleep(0.1)
+            more = [listener.call() for _ in range(100)]
+            self.assertEqual({told(it) for it in more}, {b"tb_listen: Busy\n"})
+            for number, it in enumerate(served, 1):
+                with it:
+                    it.sendall(register(number))
+                    self.assertEqual(tb.Reply.from_bytes(it.recv(48, socket.MSG_WAITALL)).session, number)
+
+    def test_the_limit_on_idle_time(self):
+        with Running("--idle", "0.5") as listener:
+            for begun in (b"", register(1)[:1], register(1)[:47]):
+                with listener.call() as it:
+                    it.sendall(begun)
+                    began = time.monotonic()
+                    self.assertEqual(told(it), b"tb_listen: Idle\n")
+                    self.assertTrue(0.3 < time.monotonic() - began < 5)
+            with Session.register(Socket(listener.path), attempts=1) as session:
+                for _ in range(3):
+                    time.sleep(0.3)
+                    session.lookup_accounts([1])
+                time.sleep(1.0)
+                self.assertEqual(session.lookup_accounts([1]), [], "a Socket calls anew where it was closed meanwhile")
+
+    def test_the_limit_on_a_slow_request(self):
+        with Running("--slow", "0.5") as listener:
+            for begun in (header(length=128), header(length=128) + bytes(127), header(length=8190 * 128) + bytes(1 << 19)):
+                it = listener.call()
+                it.sendall(begun)
+                self.assertEqual(told(it), b"tb_listen: Slow\n")
+            with Session.register(Socket(listener.path)) as session:
+                self.assertEqual(session.session, 1)
+            listener.end()
+            self.assertEqual(listener.said[1:], ["tb_listen: a connection is closed: Slow\n"] * 3)
 
     def test_who_does_not_read_is_cut_off(self):
         ids = b"".join(struct.pack("<QQ", it, 0) for it in range(1, 8191))
@@ -268,8 +317,99 @@ class OverSockets(unittest.TestCase):
             self.assertEqual(listener.ended(), 0)
             self.assertFalse(os.path.exists(listener.path))
 
+
+class Ends(unittest.TestCase):
+    """Servers that end, at each place and for each reason."""
+
+    def sell(self, listener, count, begin=None):
+        """Moves 10 so many times, by the way that survives crashes of either side. Answers what was moved."""
+        kept = os.path.join(listener.folder, "session.json")
+        with Session.register(Socket(listener.address), 1) as session:
+            tb.require_ok(session.create_accounts([account(1), account(2)]))
+            for number in range(1, count + 1):
+                session.prepare(tb.Operation.create_transfers, [transfer(number, 1, 2, 10)])
+                session.save(kept)
+                if begin:
+                    begin(number)
+                session = Session.load(session.transport, kept)  # as after a crash
+                tb.require_ok(session.retry())
+                session.save(kept)
+            return session.lookup_accounts([2])[0].credits_posted
+
+    def test_between_requests(self):
+        for number in (signal.SIGKILL, signal.SIGABRT, signal.SIGTERM):
+            with Running() as listener:
+                self.assertEqual(self.sell(listener, 4, lambda at: at % 2 or os.kill(listener.server(), number)), 40)
+                self.assertEqual(listener.end(), 0)
+                ended = f"tb_listen: {KEEPER[0]} ended by {number.name}, and is started again in"
+                self.assertEqual(listener.said[1:], [f"{ended} 0.1 s\n", f"{ended} 0.5 s\n"])
+
+    def test_during_a_request(self):
+        for place in ("read", "half", "kept", "part", "told"):
+            with Running(command=STAND_IN, fail=f"SIGKILL:{place}:4") as listener:
+                self.assertEqual(self.sell(listener, 4), 40, place)
+                self.assertEqual(listener.end(), 0)
+                self.assertIn(len(listener.said), (2, 3) if place == "told" else (3,), place)  # what was told may have reached the client
+
+    def test_with_many_requests_in_flight(self):
+        with Running() as listener:
+            with Session.register(Socket(listener.path)) as session:
+                tb.require_ok(session.create_accounts([account(1), account(2)]))
+            done = threading.Event()
+
+            def work(number):
+                if number == 0:
+                    for pause in (0.2, 0.4, 0.9):
+                        time.sleep(pause)
+                        listener.kill_server()
+                    done.set()
+                    return
+                with Session.register(Socket(listener.path)) as session:
+                    while not done.is_set():
+                        tb.require_ok(session.create_transfers([transfer(tb.id(), 1, 2, 1)]))
+                        moved[number] += 1
+
+            moved = [0] * 9
+            in_threads(9, work)
+            with Session.register(Socket(listener.path)) as session:
+                self.assertEqual(session.lookup_accounts([2])[0].credits_posted, sum(moved))
+            self.assertEqual((listener.end(), len(listener.said)), (0, 4))
+
+    def test_who_waits_is_told(self):
+        with Running(command=STAND_IN, fail="SIGKILL:read:1") as listener, listener.call() as it:
+            it.sendall(register(1))
+            self.assertEqual(told(it), b"tb_listen: ProgramEnded\n")
+
+    def test_what_it_said_before_a_signal_is_shown(self):
+        ended = f"tb_listen: sh ended by SIGABRT (memory allocation of 64 bytes failed), and is started again in 0.1 s\n"
+        with Running(command=["sh", "-c", "echo memory allocation of 64 bytes failed >&2; kill -ABRT $$"]) as listener:
+            self.assertEqual(listener.tells(), ended)
+
+    def test_a_signal_that_a_shell_tells(self):
+        """A program that starts tbd, and waits for it, ends with 128 and the signal's number."""
+        with tempfile.TemporaryDirectory() as folder:
+            path = os.path.join(folder, "starts")
+            with open(path, "w") as file:
+                file.write('#!/bin/sh\n"$@"\nexit $?\n')
+            os.chmod(path, 0o700)
+            with Running(command=[path, *KEEPER]) as listener:
+                kill = lambda at: at == 2 and [os.kill(it, signal.SIGKILL) for it in children(listener.server())]
+                self.assertEqual(self.sell(listener, 3, kill), 30)
+                self.assertEqual(listener.end(), 0)
+                self.assertEqual(len(listener.said), 2)
+                self.assertIn(f"{path} ended by SIGKILL", listener.said[1])
+
+    def test_a_start_that_is_ended_with_the_listener(self):
+        with Running(command=["sh", "-c", "kill -KILL $$"]) as listener:
+            for pause in ("0.1", "0.5", "2"):
+                self.assertEqual(listener.tells(), f"tb_listen: sh ended by SIGKILL, and is started again in {pause} s\n")
+            began = time.monotonic()
+            self.assertEqual(listener.end(), 1)
+            self.assertLess(time.monotonic() - began, 1.5)
+            self.assertEqual(listener.said[-1], "tb_listen: sh ended by SIGKILL, and is not started again\n")
+
     @has_program
-    def test_a_killed_server_that_keeps_nothing_ends_it(self):
+    def test_a_server_that_keeps_nothing(self):
         with Running(command=[PROGRAM, "run", "64", "1"]) as listener, Session.register(Socket(listener.path, timeout=1.0), attempts=1) as session:
             listener.kill_server()
             with self.assertRaises((tb.ReplyLost, tb.CannotConnect)):
@@ -277,40 +417,264 @@ class OverSockets(unittest.TestCase):
             self.assertEqual(listener.ended(), 1)
             self.assertEqual(listener.said[-1], f"tb_listen: {PROGRAM} ended by SIGKILL\n")
 
-    def test_a_named_fault_is_handed_on(self):
+    def test_each_named_fault(self):
+        for status, line in ((1, "Device"), (1, "NoMemory"), (2, "TimeExhausted"), (8, "Full")):
+            with Running(command=STAND_IN, fail=f"{line}:{status}:2") as listener:
+                with listener.call() as it, listener.call() as other:
+                    it.sendall(register(1))
+                    self.assertEqual(len(it.recv(48, socket.MSG_WAITALL)), 48)
+                    it.sendall(tb.request_frame(1, 1, 1, tb.Operation.lookup_accounts))
+                    self.assertEqual(told(it), b"tb_listen: ProgramEnded\n")
+                    self.assertEqual(told(other), b"tb_listen: ProgramEnded\n", "so is who waits for nothing")
+                self.assertEqual(listener.ended(), status)
+                self.assertEqual(listener.said[1:], [f"tb_listen: tbd: {line}\n"], "and it is not started again")
+                self.assertFalse(os.path.exists(listener.path))
+
+    def test_each_fault_of_a_start(self):
+        with tempfile.TemporaryDirectory() as folder:
+            path, other = os.path.join(folder, "ledger.journal"), os.path.join(folder, "notes.txt")
+            with Running(command=[*KEEPER, "run", path, "64"]) as listener, Session.register(Socket(listener.path)):
+                for command in ([*KEEPER, "run", path, "64"], [*KEEPER, "run", path, "63"]):
+                    with Running(command=command) as second:
+                        self.assertEqual((second.ended(), second.said), (4, ["tb_listen: tbd: Locked\n"]))
+            with open(other, "w") as file:
+                file.write("what I have to do today\n")
+            with open(path, "rb") as file:
+                kept = file.read()
+            for words, status, line in (
+                ([other, "64"], 5, "NotAJournal"), ([path, "63"], 7, "OtherRules"), ([path, "64", "2"], 7, "OtherRules"), ([path, "65"], 2, "Usage"), ([path, "0"], 2, "Usage"),
+                ([os.path.join(folder, "none", "ledger.journal"), "64"], 1, "Device: No such file or directory"), ([folder, "64"], 1, "Device: Is a directory"),
+            ):
+                with Running(command=[*KEEPER, "run", *words]) as listener:
+                    self.assertEqual((listener.ended(), listener.said[-1]), (status, f"tb_listen: tbd: {line}\n"), words)
+                    self.assertFalse(os.path.exists(listener.path))
+            with open(path, "rb") as file:
+                self.assertEqual(file.read(), kept)
+
+    def test_a_file_that_is_damaged(self):
+        with Running(command=STAND_IN) as listener:
+            self.sell(listener, 1)
+            listener.end()
+            with open(listener.file, "r+b") as file:
+                file.seek(16)
+                file.write(b"\5")
+            with Running(command=STAND_IN, folder=listener.folder) as again:
+                self.assertEqual((again.ended(), again.said), (6, ["tb_listen: tbd: Damaged: record 1, at byte 16\n"]))
+
+    def test_a_named_fault_of_a_server_that_keeps_nothing(self):
         for status, line in ((1, "tbs: NoMemory"), (2, "tbs: TimeExhausted")):
-            with Running(command=["sh", "-c", f"head -c 56 > /dev/null; echo {line} >&2; exit {status}"]) as listener:
+            with Running(command=["sh", "-c", f"head -c 56 > /dev/null; echo {line} >&2; exit {status}", "run"]) as listener:
                 with listener.call() as it:
                     it.sendall(header())
                     self.assertEqual(told(it), b"tb_listen: ProgramEnded\n")
                 self.assertEqual(listener.ended(), status)
                 self.assertEqual(listener.said[-1], f"tb_listen: {line}\n")
 
+    def test_an_end_without_a_name(self):
+        for status in (0, 3, 101):
+            with Running(command=["sh", "-c", f"exit {status}"]) as listener:
+                self.assertEqual((listener.ended(), listener.said[-1]), (status or 1, f"tb_listen: sh ended with status {status}\n"))
+
     def test_a_server_that_ends_amid_a_reply(self):
         whole = tb.Reply(1, 1, 0, 2, 0, 1, b"").to_bytes()
         answered = tb.Reply(1, 1, 1, 131, 0, 2, bytes(128)).to_bytes()
         for request, reply, cut in ((register(1), whole, 1), (register(1), whole, 47), (header(operation=131), answered, 48), (header(operation=131), answered, 175)):
-            octal = "".join(f"\\{byte:03o}" for byte in reply[:cut])
-            with Running(command=["sh", "-c", f"head -c 56 > /dev/null; printf '{octal}'; echo tbs: Device >&2; exit 1"]) as listener:
+            with Running(command=["sh", "-c", f"head -c 56 > /dev/null; printf '{octal(reply[:cut])}'; echo tbs: Device >&2; exit 1", "run"]) as listener:
                 with listener.call() as it:
                     it.sendall(request)
                     self.assertEqual(told(it), b"tb_listen: ProgramEnded\n", "nothing of a cut reply is handed on")
                 self.assertEqual(listener.ended(), 1)
                 self.assertEqual(listener.said[1:], ["tb_listen: tbs: Device\n"])
 
-    def test_a_reply_without_end_is_none(self):
-        octal = "".join(f"\\{byte:03o}" for byte in tb.Reply(1, 1, 0, 2, 0, 1, b"").to_bytes()[:32] + b"\xff" * 4 + bytes(12))
-        with Running(command=["sh", "-c", f"head -c 56 > /dev/null; printf '{octal}'; sleep 10"]) as listener:
-            with listener.call() as it:
-                it.sendall(register(1))
-                self.assertEqual(told(it), b"tb_listen: ProgramEnded\n")
-            self.assertEqual(listener.ended(), 1)
-            self.assertEqual(listener.said[1:], ["tb_listen: sh wrote a reply that nobody asked for\n"])
+    def test_what_is_no_reply(self):
+        good = tb.Reply(1, 1, 0, 2, 0, 1, b"")
+        for wrong in (
+            dataclasses.replace(good, client=2).to_bytes(), dataclasses.replace(good, number=1, operation=131, commit=2).to_bytes(),
+            dataclasses.replace(good, session=0).to_bytes(), good.to_bytes()[:32] + b"\xff" * 4 + bytes(12), b"x" * 48, bytes(48),
+        ):
+            with Running(command=["sh", "-c", f"head -c 56 > /dev/null; printf '{octal(wrong)}'; sleep 10", "run"]) as listener:
+                with listener.call() as it:
+                    it.sendall(register(1))
+                    self.assertEqual(told(it), b"tb_listen: ProgramEnded\n")
+                self.assertEqual(listener.ended(), 1)
+                self.assertEqual(listener.said[1:], ["tb_listen: sh wrote what is no reply to a request that it was given\n"])
 
     def test_replies_that_nobody_asked_for(self):
-        with Running(command=["sh", "-c", "head -c 48 /dev/zero; sleep 10"]) as listener:
-            self.assertEqual(listener.ended(), 1)
-            self.assertEqual(listener.said[-1], "tb_listen: sh wrote a reply that nobody asked for\n")
+        for script in ("head -c 48 /dev/zero; sleep 10", "exec cat /dev/zero", "yes; sleep 10"):
+            with Running(command=["sh", "-c", script, "run"]) as listener:
+                began = time.monotonic()
+                self.assertEqual(listener.ended(), 1)
+                self.assertLess(time.monotonic() - began, 5)
+                self.assertEqual(listener.said[-1], "tb_listen: sh wrote what is no reply to a request that it was given\n")
+
+    def test_a_server_that_writes_no_more_and_does_not_end(self):
+        with Running("--slow", "0.5", command=["sh", "-c", "exec >&-; sleep 20", "run"]) as listener:
+            self.assertEqual((listener.ended(), listener.said[-1]), (1, "tb_listen: sh ended by SIGKILL\n"))
+
+    def test_what_a_server_started_holds_its_pipes(self):
+        with tempfile.TemporaryDirectory() as folder:
+            with Running(command=["sh", "-c", 'sleep 20 & echo $! > "$0"; exec >&-; kill -KILL $$', os.path.join(folder, "it"), "run"]) as listener:
+                self.assertEqual((listener.ended(), listener.said[-1]), (1, "tb_listen: sh ended by SIGKILL\n"))
+            with open(os.path.join(folder, "it")) as file:
+                self.assertTrue(is_gone(int(file.read())))
+
+    def test_a_server_that_does_not_end_with_its_input(self):
+        with Running("--slow", "0.5", command=["sh", "-c", "sleep 20", "run"]) as listener:
+            began = time.monotonic()
+            self.assertEqual(listener.end(), 1)
+            self.assertLess(time.monotonic() - began, 5)
+            self.assertEqual(listener.said[-1], "tb_listen: sh did not end, and was killed\n")
+
+    def test_a_listener_that_is_killed(self):
+        """Its server ends with its input, the socket is left, and the next listener goes on where they were."""
+        kept, moved = None, 0
+        with tempfile.TemporaryDirectory() as folder:
+            for turn in range(3):
+                with self.once_more(folder) as listener:
+                    with Socket(listener.path) as transport:
+                        if kept is None:
+                            session = Session.register(transport)
+                            tb.require_ok(session.create_accounts([account(1), account(2)]))
+                        else:
+                            session = Session.resumed(transport, kept)
+                            tb.require_ok(session.retry())
+                        self.assertEqual(session.lookup_accounts([2])[0].credits_posted, moved)
+                        session.prepare(tb.Operation.create_transfers, [transfer(tb.id(), 1, 2, 10)])
+                        kept, moved = session.saved, moved + 10
+                        if turn:
+                            tb.require_ok(session.retry())  # its reply comes, and is forgotten in the crash
+                    listener.process.kill()
+                    listener.ended()
+                    self.assertTrue(os.path.exists(listener.path))
+
+    def once_more(self, folder):
+        """A listener. The server of one that was killed just now may still have the file."""
+        for _ in range(100):
+            listener = Running(folder=folder)
+            if "Locked" not in listener.said[0] and "in use" not in listener.said[0]:
+                return listener
+            listener.ended()
+            listener.process.stderr.close()
+            time.sleep(0.02)
+        raise AssertionError(listener.said)
+
+
+class Ahead(unittest.TestCase):
+    """A ledger whose last time lies ahead of the clock."""
+
+    def kept(self, folder, seconds):
+        """A file with an entry at this many seconds from now."""
+        path = os.path.join(folder, "ledger.journal")
+        moment = time.time_ns() + int(seconds * 10**9)
+        ran = subprocess.run([*KEEPER, "run", path, "64"], input=struct.pack("<Q", moment) + register(9), capture_output=True, timeout=20)
+        self.assertEqual((ran.returncode, len(ran.stdout)), (0, 48))
+        return path
+
+    def test_it_is_refused(self):
+        with tempfile.TemporaryDirectory() as folder:
+            self.kept(folder, 100)
+            for options in ((), ("--ahead", "0"), ("--ahead", "50")):
+                with Running(*options, folder=folder) as listener:
+                    self.assertEqual(listener.ended(), 1)
+                    text = r"tb_listen: the ledger's last time is 9[0-9]\.[0-9]{3} s ahead of this computer's clock: set the clock right, or allow it by --ahead SECONDS\n"
+                    self.assertRegex(listener.said[0], f"^{text}$")
+                    self.assertFalse(os.path.exists(listener.path))
+
+    def test_it_is_allowed(self):
+        with tempfile.TemporaryDirectory() as folder:
+            self.kept(folder, 100)
+            with Running("--ahead", "100", folder=folder) as listener, Session.register(Socket(listener.path)) as session:
+                tb.require_ok(session.create_accounts([account(1)]))
+                ahead = session.lookup_accounts([1])[0].timestamp - time.time_ns()
+                self.assertTrue(80 * 10**9 < ahead < 100 * 10**9 + 10**6, "its time goes on from there, and does not jump")
+                self.assertEqual(listener.end(), 0)
+
+    def test_one_that_lies_behind(self):
+        with tempfile.TemporaryDirectory() as folder:
+            self.kept(folder, -1000)
+            with Running(folder=folder) as listener, Session.register(Socket(listener.path)) as session:
+                tb.require_ok(session.create_accounts([account(1)]))
+                self.assertLess(abs(session.lookup_accounts([1])[0].timestamp - time.time_ns()), 10 * 10**9)
+                self.assertEqual(listener.end(), 0)
+
+    def test_a_file_that_is_not_there_or_empty(self):
+        with tempfile.TemporaryDirectory() as folder:
+            for _ in range(2):
+                with Running(folder=folder) as listener:
+                    self.assertEqual((listener.end(), len(listener.said)), (0, 1))
+                open(os.path.join(folder, "ledger.journal"), "w").close()
+
+    def ended(self, script):
+        with tempfile.TemporaryDirectory() as folder:
+            path = self.kept(folder, -1)
+            with Running(command=["sh", "-c", script, "run", path, "64"]) as listener:
+                return listener.ended(), listener.said[-1].replace(path, "FILE")
+
+    def test_a_check_that_tells_no_time(self):
+        none = "tb_listen: sh check FILE tells no last time\n"
+        for script in ("true", "echo last time", "echo last time 1x", "echo last time -1", "echo last time 123456789012345678901"):
+            self.assertEqual(self.ended(script), (1, none), script)
+        self.assertEqual(self.ended("echo tbd: Usage >&2; exit 2"), (2, "tb_listen: tbd: Usage\n"))
+        self.assertEqual(self.ended("exit 3"), (3, "tb_listen: sh ended with status 3\n"))
+        self.assertEqual(self.ended("kill -KILL $$"), (1, "tb_listen: sh ended by SIGKILL\n"))
+
+    def test_an_end_while_it_is_checked(self):
+        with tempfile.TemporaryDirectory() as folder:
+            path = self.kept(folder, -1)
+            command = [sys.executable, "-B", os.path.join(HERE, "tb_listen.py"), "--unix", os.path.join(folder, "it"), "--", "sh", "-c", "sleep 20", "run", path, "64"]
+            it = subprocess.Popen(command, stderr=subprocess.PIPE)
+            while not children(it.pid):
+                time.sleep(0.02)
+            it.terminate()
+            self.assertEqual((it.communicate(timeout=5), it.returncode), ((None, b""), 0))
+
+
+class Frames(unittest.TestCase):
+    """Which frames are handed on: those at which the server would not end."""
+
+    def test_each_operation(self):
+        for operation in range(256):
+            wanted = None if 129 <= operation <= 132 else "RegisterNumbers" if operation == 2 else "UnknownOperation"
+            self.assertEqual(tb.request_fault(header(operation=operation)), wanted, operation)
+        self.assertIsNone(tb.request_fault(header(session=0, number=0, operation=2)))
+
+    def test_each_reserved_byte(self):
+        for at in (29, 30, 31, *range(36, 48)):
+            for frame in (header(), header(session=0, number=0, operation=2)):
+                self.assertEqual(tb.request_fault(frame[:at] + b"\1" + frame[at + 1 :]), "Reserved", at)
+
+    def test_each_part_of_a_number(self):
+        for at in range(16):
+            self.assertIsNone(tb.request_fault(header(client=1 << 8 * at)))
+        for at in range(8):
+            self.assertEqual(tb.request_fault(header(session=1 << 8 * at, number=0, operation=2)), "RegisterNumbers")
+            self.assertIsNone(tb.request_fault(header(session=1 << 8 * at)))
+        for at in range(4):
+            self.assertEqual(tb.request_fault(header(session=0, number=1 << 8 * at, operation=2)), "RegisterNumbers")
+            self.assertIsNone(tb.request_fault(header(number=1 << 8 * at)))
+        self.assertIsNone(tb.request_fault(header(session=0)), "a session that is none is refused, and is no fault")
+        for operation in range(129, 133):
+            self.assertEqual(tb.request_fault(header(number=0, operation=operation)), "RequestZero")
+
+    def test_each_length(self):
+        for operation, size in ((129, 128), (130, 128), (131, 16), (132, 16)):
+            for length, wanted in (
+                (0, None), (1, "BadLength"), (size - 1, "BadLength"), (size, None), (size + 1, "BadLength"), (8190 * size - 1, "BadLength"), (8190 * size, None),
+                (8190 * size + 1, "BadLength"), (8191 * size, "TooMany"), (2**32 - size, "TooMany"), (2**32 - 1, "BadLength"),
+            ):
+                self.assertEqual(tb.request_fault(header(operation=operation, length=length)), wanted, (operation, length))
+        for length in (1, 16, 128, 2**32 - 1):
+            self.assertEqual(tb.request_fault(header(session=0, number=0, operation=2, length=length)), "BadLength", length)
+
+    def test_the_first_fault_is_told(self):
+        zeros = bytes(48)
+        self.assertEqual(tb.request_fault(zeros), "ClientZero")
+        self.assertEqual(tb.request_fault(b"GET / HTTP/1.1\r\nHost: localhost:3001\r\nAccept: */*"[:48]), "UnknownOperation")
+        self.assertEqual(tb.request_fault(header(operation=0, zeros=b"abc")), "UnknownOperation")
+        self.assertEqual(tb.request_fault(header(operation=2, zeros=b"abc", length=1)), "Reserved")
+        self.assertEqual(tb.request_fault(header(operation=2, length=1)), "RegisterNumbers")
+        self.assertEqual(tb.request_fault(header(number=0, length=1)), "RequestZero")
+        self.assertEqual(tb.request_fault(b"before" + header(client=0), 6), "ClientZero")
 
 
 class Words(unittest.TestCase):
@@ -364,19 +728,57 @@ class Words(unittest.TestCase):
 
 
 class Clocks(unittest.TestCase):
-    def moments(self, clocks):
+    def moments(self, clocks, last=0):
         """The moments that are given while the two clocks, in seconds, stand so."""
         wall, running = (iter(it) for it in zip(*clocks))
-        with unittest.mock.patch("time.time_ns", lambda: int(next(wall) * 10**9)):
-            with unittest.mock.patch.object(tb_listen.Moments, "_running", staticmethod(lambda: int(next(running) * 10**9))):
-                moments = tb_listen.Moments()
-                return [moments.next() / 10**9 for _ in clocks[1:]]
+        moments = tb_listen.Moments(int(last * 10**9), lambda: int(next(wall) * 10**9), lambda: int(next(running) * 10**9))
+        told = io.StringIO()
+        with contextlib.redirect_stderr(told):
+            given = [moments.next() / 10**9 for _ in clocks[1:]]
+        self.said = told.getvalue().splitlines()
+        return given
 
-    def test_moments_never_fall_and_never_jump(self):
+    def test_they_are_the_clock(self):
         self.assertEqual(self.moments([(100, 5), (101, 6), (102, 7)]), [101, 102])
-        self.assertEqual(self.moments([(100, 5), (50, 6), (101, 7)]), [100, 101])          # the clock is set back
-        self.assertEqual(self.moments([(100, 5), (9000, 15), (9001, 16)]), [110.01, 111.011])  # and far ahead
         self.assertEqual(self.moments([(100, 5), (100, 5), (100, 5)]), [100, 100])
+        self.assertEqual(self.moments([(100, 5), (3700, 3605)]), [3700], "an hour without a request is no jump")
+        self.assertEqual(self.said, [])
+
+    def test_a_clock_that_is_set_back(self):
+        self.assertEqual(self.moments([(100, 5), (50, 6), (101, 56.5)]), [100, 101])
+        self.assertEqual(self.moments([(100, 5), (50, 6), (5000, 7)]), [100, 102.002], "and then far ahead: as far as the time that went by")
+        self.assertEqual(self.moments([(100, 5), (50, 6), (51, 7), (52, 8)]), [100] * 3)
+
+    def test_a_clock_that_is_set_far_ahead(self):
+        self.assertEqual(self.moments([(100, 5), (9000, 15), (9001, 16)]), [110.01, 111.011])
+        text = "tb_listen: the clock is 8889 s ahead of where it should be, and requests get moments without that: if it is right now, start tb_listen again"
+        self.assertEqual(self.said, [text], "it is said once")
+        self.assertEqual(self.moments([(100, 5), (9000, 6), (102, 7), (9000, 8)]), [101.001, 102, 103.001], "and back again")
+        self.assertEqual(len(self.said), 2, "and said again when it happens again")
+
+    def test_a_clock_that_runs_a_little_fast(self):
+        clocks = [(100 + at * 1.0005, 5 + at) for at in range(20)]
+        self.assertEqual(self.moments(clocks), [int(it * 10**9) / 10**9 for it, _ in clocks[1:]])
+        self.assertEqual(self.said, [])
+
+    def test_a_clock_that_nobody_sets_goes_back(self):
+        """No system has one. The moments stay where they are."""
+        self.assertEqual(self.moments([(100, 5), (101, 4), (102, 3)]), [100, 100])
+
+    def test_a_ledger_that_lies_ahead(self):
+        self.assertEqual(self.moments([(100, 5), (101, 6), (106, 11), (111, 16)], last=105), [105, 106, 111])
+
+    def test_a_thousand_moments_never_fall(self):
+        random.seed(1)
+        wall, running, clocks = 10**6, 5, []
+        for _ in range(1000):
+            step = random.choice((0, 0.001, 1, 100))
+            running, wall = running + step, wall + step + random.choice((0, 0, 0, -1000, 1000, 0.3, -0.3))
+            clocks.append((wall, running))
+        given = self.moments(clocks)
+        self.assertEqual(given, sorted(given))
+        for (_, first), (_, second), before, after in zip(clocks[1:], clocks[2:], given, given[1:]):
+            self.assertLessEqual(after - given[0], 1.001 * (second - clocks[0][1]) + 1e-3)
 
 
 class Sockets(unittest.TestCase):
