@@ -463,6 +463,8 @@ def unix_socket(path: str) -> socket.socket:
         with folder_of(path):
             if _is_left(path):
                 os.unlink(path)
+            elif os.path.lexists(path):
+                raise Ended(f"{path} is there already, and is no socket", 1)
             it.bind(path)
             it.listen(BACKLOG)  # before another listener may look whether anyone listens here
     except BaseException:
@@ -511,8 +513,10 @@ def bound(given: argparse.Namespace) -> Iterator[socket.socket]:
     """The socket that is listened on, and removed at the end."""
     try:
         place = unix_socket(given.unix) if given.unix else tcp_socket(*given.tcp)
-    except (OSError, UnicodeError) as error:
-        raise Ended(f"{given.unix or shown(*given.tcp)}: {getattr(error, 'strerror', None) or error}", 1) from None
+    except UnicodeError:
+        raise Ended(f"{given.unix or shown(*given.tcp)}: is no name of a place", 1) from None
+    except OSError as error:
+        raise Ended(f"{given.unix or shown(*given.tcp)}: {error.strerror or error}", 1) from None
     mine = os.stat(given.unix) if given.unix else None
     try:
         yield place
@@ -606,7 +610,8 @@ async def _listen_on(place: socket.socket, command: Command, given: argparse.Nam
 
 def words(given: Sequence[str]) -> argparse.Namespace:
     """The words of the command line. A wrong one is told, and ends the program with status 2."""
-    parser = argparse.ArgumentParser(description=__doc__, formatter_class=argparse.RawDescriptionHelpFormatter)
+    usage = "%(prog)s [OPTIONS] -- COMMAND [WORD ..]"
+    parser = argparse.ArgumentParser(usage=usage, description=__doc__, formatter_class=argparse.RawDescriptionHelpFormatter, allow_abbrev=False)
     place = parser.add_mutually_exclusive_group()
     place.add_argument("--unix", metavar="PATH", type=_path, help="listen on a Unix socket, which its owner alone may use")
     tcp = "listen on TCP (127.0.0.1:3001 where nothing is given; port 0 is any that is free; [::1]:3001 for IPv6)"
@@ -618,7 +623,10 @@ def words(given: Sequence[str]) -> argparse.Namespace:
     ahead = "how far the ledger's last time may lie ahead of the clock when the command is started first (0)"
     parser.add_argument("--ahead", metavar="SECONDS", type=_ahead, default=0.0, help=ahead)
     parser.add_argument("command", metavar="COMMAND", nargs="+", help="the server and its words, behind --")
-    return parser.parse_args(given)
+    found = parser.parse_args(given)
+    if not found.command[0]:
+        parser.error("an empty word is no COMMAND")
+    return found
 
 
 def _path(text: str) -> str:
@@ -629,15 +637,16 @@ def _path(text: str) -> str:
 
 def _address(text: str) -> Tuple[str, int]:
     host, colon, port = text.rpartition(":")
-    is_bracketed = len(host) > 2 and host[0] == "[" and host[-1] == "]"
-    if not (colon and host and (is_bracketed or ":" not in host) and _is_number(port) and int(port) < 1 << 16):
-        raise argparse.ArgumentTypeError(f"{text} is no HOST:PORT")
-    return host[1:-1] if is_bracketed else host, int(port)
+    is_bracketed = host[:1] == "[" and host[-1:] == "]"
+    name = host[1:-1] if is_bracketed else host
+    if not name or set("[]") & set(name) or ":" in name and not is_bracketed or not (colon and _is_number(port) and int(port) < 1 << 16):
+        raise argparse.ArgumentTypeError(f"{text!r} is no HOST:PORT")
+    return name, int(port)
 
 
 def _count(text: str) -> int:
     if not (_is_number(text) and 0 < int(text) < 1 << 16):
-        raise argparse.ArgumentTypeError(f"{text} is no number from 1 to 65535")
+        raise argparse.ArgumentTypeError(f"{text!r} is no number from 1 to 65535")
     return int(text)
 
 
@@ -647,7 +656,7 @@ def _seconds(text: str, least: float = 0.001, greatest: int = 10**6) -> float:
     except ValueError:
         value = -1.0
     if not least <= value <= greatest:
-        raise argparse.ArgumentTypeError(f"{text} is no number of seconds from {least:g} to {greatest}")
+        raise argparse.ArgumentTypeError(f"{text!r} is no number of seconds from {least:g} to {greatest}")
     return value
 
 

@@ -685,14 +685,47 @@ class Words(unittest.TestCase):
     def test_wrong_words(self):
         for given, said in (
             ((), "the following arguments are required: COMMAND"),
-            (("--tcp", "3001", "--", "true"), "argument --tcp: 3001 is no HOST:PORT"),
-            (("--tcp", "localhost:65536", "--", "true"), "argument --tcp: localhost:65536 is no HOST:PORT"),
-            (("--connections", "0", "--", "true"), "argument --connections: 0 is no number from 1 to 65535"),
-            (("--idle", "nan", "--", "true"), "argument --idle: nan is no number of seconds from 0.001 to 1000000"),
-            (("--slow", "-1", "--", "true"), "argument --slow: -1 is no number of seconds from 0.001 to 1000000"),
+            (("--",), "the following arguments are required: COMMAND"),
+            (("--", ""), "an empty word is no COMMAND"),
+            (("--unix", "", "--", "true"), "argument --unix: an empty word is no path"),
             (("--unix", "a", "--tcp", "b:1", "--", "true"), "argument --tcp: not allowed with argument --unix"),
+            (("--again", "--", "true"), "unrecognized arguments: --again"),
+            (("--idl=5", "--", "true"), "unrecognized arguments: --idl=5"),
         ):
             self.assertEqual(self.ended(*given), (2, f"tb_listen.py: error: {said}"))
+
+    def test_each_wrong_value(self):
+        cases = {
+            "--tcp": (
+                ("", "3001", ":3001", "localhost", "localhost:", "localhost:x", "localhost:-1", "localhost:65536", "localhost:1.5", "::1:3001", "[]:3001", "[::1:3001", "::1]:3001", "a[b]:1", "a:\u0663"),
+                "is no HOST:PORT",
+            ),
+            "--connections": (("", "0", "-1", "1.5", "65536", "ten", "\u0663", "0x10"), "is no number from 1 to 65535"),
+            "--idle": (("", "0", "-1", "0.0001", "1000001", "nan", "inf", "x"), "is no number of seconds from 0.001 to 1000000"),
+            "--slow": (("", "0", "-1", "0.0001", "1000001", "nan", "inf", "x"), "is no number of seconds from 0.001 to 1000000"),
+            "--ahead": (("", "-1", "-0.001", "10000000001", "nan", "inf", "x"), "is no number of seconds from 0 to 10000000000"),
+        }
+        for option, (values, said) in cases.items():
+            for value in values:
+                told = io.StringIO()
+                with contextlib.redirect_stderr(told), self.assertRaises(SystemExit) as end:
+                    tb_listen.words([f"{option}={value}", "--", "true"])
+                self.assertEqual((end.exception.code, told.getvalue().splitlines()[-1].partition(": error: ")[2]), (2, f"argument {option}: {value!r} {said}"))
+
+    def test_each_right_value(self):
+        given = tb_listen.words(["--", "true", "--idle", "x"])
+        found = given.unix, given.tcp, given.connections, given.idle, given.slow, given.ahead, given.command
+        self.assertEqual(found, (None, ("127.0.0.1", 3001), 256, 300.0, 30.0, 0.0, ["true", "--idle", "x"]))
+        given = tb_listen.words(["--tcp", "[::1]:0", "--connections", "65535", "--idle", "1e6", "--slow", "0.001", "--ahead", "1e10", "true"])
+        found = given.tcp, given.connections, given.idle, given.slow, given.ahead
+        self.assertEqual(found, (("::1", 0), 65535, 1e6, 0.001, 1e10))
+
+    def test_which_word_is_the_file(self):
+        for words, at in (
+            ("tbd run ledger 64", 2), ("tbd run ledger 64 2", 2), ("sh -c x tbd run ledger 64", 5), ("tbd run run 64", 2), ("tbd run ./64 64", 2), ("tbd run ledger 64 x", None),
+            ("tbs run 64", None), ("tbs run 64 1", None), ("tbd check ledger", None), ("tbd run ledger", None), ("run ledger 64", None), ("tbd run 64 64 1 1", None),
+        ):
+            self.assertEqual(tb_listen.journal_at(words.split()), at, words)
 
     def test_where_it_cannot_listen(self):
         with tempfile.TemporaryDirectory() as folder:
@@ -701,15 +734,35 @@ class Words(unittest.TestCase):
             path = os.path.join(folder, "notes.txt")
             with open(path, "w") as file:
                 file.write("mine")
-            self.assertEqual(self.ended("--unix", path, "--", "true"), (1, f"tb_listen: {path}: Address already in use"))
+            self.assertEqual(self.ended("--unix", path, "--", "true"), (1, f"tb_listen: {path} is there already, and is no socket"))
             with open(path) as file:
                 self.assertEqual(file.read(), "mine")
+            self.assertEqual(self.ended("--unix", folder, "--", "true"), (1, f"tb_listen: {folder} is there already, and is no socket"))
+            os.symlink("nothing", os.path.join(folder, "link"))
+            self.assertEqual(self.ended("--unix", f"{folder}/link", "--", "true"), (1, f"tb_listen: {folder}/link is there already, and is no socket"))
+            path = os.path.join(folder, "x" * 120)
+            self.assertEqual(self.ended("--unix", path, "--", "true"), (1, f"tb_listen: {path}: AF_UNIX path too long"))
+            for place in ("no.such.host.invalid:3001", "a b:1"):
+                status, said = self.ended("--tcp", place, "--", "true")
+                self.assertEqual((status, said.startswith(f"tb_listen: {place}: ")), (1, True), said)
+            place = "x" * 300 + ":1"
+            self.assertEqual(self.ended("--tcp", place, "--", "true"), (1, f"tb_listen: {place}: is no name of a place"))
+            with socket.socket(socket.AF_INET, socket.SOCK_STREAM) as other:
+                other.bind(("127.0.0.1", 0))
+                other.listen()
+                place = "127.0.0.1:{}".format(other.getsockname()[1])
+                self.assertEqual(self.ended("--tcp", place, "--", "true"), (1, f"tb_listen: {place}: Address already in use"))
             with socket.socket(socket.AF_UNIX, socket.SOCK_STREAM) as other:
                 path = os.path.join(folder, "used.sock")
                 other.bind(path)
                 other.listen()
                 self.assertEqual(self.ended("--unix", path, "--", "true"), (1, f"tb_listen: {path} is in use"))
                 self.assertTrue(os.path.exists(path))
+
+    def test_more_connections_than_files_may_be_open(self):
+        words = ["sh", "-c", 'ulimit -n 100; exec "$@"', "sh", sys.executable, "-B", os.path.join(HERE, "tb_listen.py"), "--connections", "100", "--", "true"]
+        ran = subprocess.run(words, capture_output=True, text=True, timeout=20)
+        self.assertEqual((ran.returncode, ran.stderr), (1, "tb_listen: --connections 100 takes 264 open files, and 100 are allowed (ulimit -n)\n"))
 
     def test_a_command_that_does_not_start(self):
         with tempfile.TemporaryDirectory() as folder:
