@@ -4,10 +4,12 @@
     (cd crates/tbs && rt run -- run 2) < examples/first.script > /dev/null
     checks/clients.py
 
-Prints a line for each case, and 'N passed, M failed'. Where mypy is there, types are checked too. PROGRAM names another tbs.
+Prints a line for each case, and 'N passed, M failed'. Where mypy is there, types are checked too. PROGRAM names another tbs, TBD another tbd. Where no
+tbd is built, clients/python/stand_in_tbd.py stands in for it.
 """
 import os
 import re
+import shlex
 import shutil
 import struct
 import subprocess
@@ -19,12 +21,21 @@ TOP = os.path.dirname(os.path.dirname(os.path.abspath(__file__)))
 CLIENT = f"{TOP}/clients/python"
 EMBED = f"{TOP}/embed/python"
 PROGRAM = os.path.abspath(os.environ.get("PROGRAM", f"{TOP}/crates/tbs/out/tbs"))
+TBD = os.path.abspath(os.environ.get("TBD", f"{TOP}/crates/tbd/out/tbd"))
+KEEPER = shlex.join([TBD] if os.access(TBD, os.X_OK) else [sys.executable, "-SE", f"{CLIENT}/stand_in_tbd.py"])
 EXAMPLE = """accounts 1 and 2 are created
 a transfer of 100 was sent, and no reply came
 after a crash the same bytes are sent again: credits_posted 100
 after an eviction the same records are created again: credits_posted 110
 after a restart: credits_posted 110
 """
+KILLS = """  the server is killed: the listener starts it again
+  a client is killed: it goes on from what it saved
+  the listener is killed: its server ends with it, and both are started again
+  4 clients made 60 transfers each: credits_posted 240
+  the listener is asked to end, and ends with status 0
+"""
+OVER_SOCKETS = f"on a Unix socket:\n{KILLS}on a port:\n{KILLS}"
 
 passed = failed = 0
 
@@ -58,7 +69,7 @@ def types():
         print("passed over: mypy is not there")
         return
     with tempfile.TemporaryDirectory() as kept:
-        words = ["mypy", "--strict", "--cache-dir", kept, "tb_client", "tb_listen.py", "example.py", f"{EMBED}/tb_embed.py"]
+        words = ["mypy", "--strict", "--cache-dir", kept, "tb_client", "tb_listen.py", "example.py", "example_sockets.py", f"{EMBED}/tb_embed.py"]
         ran = subprocess.run(words, cwd=CLIENT, capture_output=True, text=True, timeout=300, env={**os.environ, "MYPYPATH": CLIENT})
     case("types, by mypy --strict", ran.returncode == 0, ran.stdout.strip()[-2000:])
 
@@ -99,7 +110,8 @@ transport.close()
 
 def sockets(shown):
     """The page's listener and its client, over a Unix socket."""
-    command = re.search(r"```sh\n(clients/python/tb_listen.py .*?)\n```", page())[1].replace("crates/tbs/out/tbs", PROGRAM).split()
+    command = re.search(r"```sh\n(clients/python/tb_listen.py .*?)\n```", page())[1].replace("crates/tbd/out/tbd", KEEPER)
+    command = shlex.split(command)
     with tempfile.TemporaryDirectory() as folder:
         listener = subprocess.Popen([sys.executable, "-B", f"{TOP}/{command[0]}", *command[1:]], cwd=folder, stderr=subprocess.PIPE, text=True)
         try:
@@ -131,6 +143,17 @@ def statuses():
             rows[name] = (int(status), ["run", "dump", "replay", "storm"] if of == "all" else of.split(", "))
     case("one row for each fault", not twice, " ".join(twice))
     return rows
+
+
+def told():
+    """The page's table of what a closed connection is told has the faults of docs/FORMATS.md, and the names that the listener has itself."""
+    rows = page().split("### What a closed connection is told")[1].split("\n### ")[0]
+    shown = {name for names in re.findall(r"^\| ([A-Z][A-Za-z, ]+) \|", rows, re.M) for name in names.split(", ")} - {"Name"}
+    with open(f"{CLIENT}/tb_client/frames.py", encoding="utf-8") as frames, open(f"{CLIENT}/tb_listen.py", encoding="utf-8") as listener:
+        tests = frames.read().split("def request_fault")[1].split("\ndef ")[0]
+        code = listener.read()
+    wanted = set(re.findall(r'\("(\w+)", ', tests)) | set(re.findall(r'(?:Told\(|given\.(?:idle|slow), |stop\(|return |else )"([A-Z]\w+)"', code))
+    case("a row for each name that a closed connection is told", shown == wanted, " ".join(sorted(shown ^ wanted)))
 
 
 def names():
@@ -179,9 +202,12 @@ def main():
     tests("the tests of the embedded server's module", EMBED)
     output = script("the example of the client in Python", CLIENT, "example.py", PROGRAM)
     case("what the example says", output == EXAMPLE, "" if output == EXAMPLE else output)
+    output = script("the example over sockets", CLIENT, "example_sockets.py", KEEPER)
+    case("what that says", output == OVER_SOCKETS, "" if output == OVER_SOCKETS else output)
     types()
     blocks()
     readme()
+    told()
     exits()
     print(f"{passed} passed, {failed} failed")
     return 1 if failed else 0

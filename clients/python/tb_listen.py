@@ -255,9 +255,7 @@ class Command:
                 _drop(self.waiting.popleft()[1])
             process.stdin.close()
             await self._wait_for_end(process, watching, [reading, telling])
-            with contextlib.suppress(asyncio.TimeoutError):  # so that no pipe of it is open when the listener ends
-                await asyncio.wait_for(_drain(process.stdout), LAST_WORDS)
-                await asyncio.sleep(0.01)
+            await _close_pipes(process.stdin, process.stdout)
         reading.result()
         return watching.result(), _last_line(telling.result())
 
@@ -327,6 +325,14 @@ async def _tail(stream: asyncio.StreamReader) -> bytes:
 async def _drain(stream: asyncio.StreamReader) -> None:
     while await stream.read(1 << 16):
         pass
+
+
+async def _close_pipes(stdin: asyncio.StreamWriter, stdout: asyncio.StreamReader) -> None:
+    """Waits for the ends of pipes, so that none is open when the listener ends."""
+    for end in (stdin.wait_closed(), _drain(stdout)):
+        with contextlib.suppress(asyncio.TimeoutError, OSError):  # that a pipe broke was seen where replies are read
+            await asyncio.wait_for(end, LAST_WORDS)
+    await asyncio.sleep(0.01)
 
 
 def _drop(reply: asyncio.Future[bytes]) -> None:
