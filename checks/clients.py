@@ -112,6 +112,7 @@ def sockets(shown):
     """The page's listener and its client, over a Unix socket."""
     command = re.search(r"```sh\n(clients/python/tb_listen.py .*?)\n```", page())[1].replace("crates/tbd/out/tbd", KEEPER)
     command = shlex.split(command)
+    case("the page's listener may be run", os.access(f"{TOP}/{command[0]}", os.X_OK))
     with tempfile.TemporaryDirectory() as folder:
         listener = subprocess.Popen([sys.executable, "-B", f"{TOP}/{command[0]}", *command[1:]], cwd=folder, stderr=subprocess.PIPE, text=True)
         try:
