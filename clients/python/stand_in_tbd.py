@@ -130,9 +130,9 @@ def opened(path, flags):
 
 def read(data):
     """What a file stands for: its profile, its ledger, and where its last whole entry ends."""
-    magic, profile, clients_max = HEAD.unpack_from(data)
-    if magic != b"TBSDUMP1":
+    if len(data) < HEAD.size or not data.startswith(b"TBSDUMP1"):
         raise Fault("NotAJournal", 5)
+    _, profile, clients_max = HEAD.unpack_from(data)
     ledger, at = Ledger(clients_max), HEAD.size
     while len(data) - at >= 64:
         (commit, time), frame = ENTRY.unpack_from(data, at), data[at + 16 : at + 64 + int.from_bytes(data[at + 48 : at + 52], "little")]
@@ -218,17 +218,24 @@ def commit(file, entries, replies, ends_at):
     ends_at("told")
 
 
+def tell(word, data):
+    """The dump of a file, or what it stands for. One whose head was torn when it was made stands for nothing."""
+    if len(data) < HEAD.size and data.startswith(b"TBSDUMP1"):
+        write(1, b"" if word == "dump" else f"records 0\nentries 0\nlast time 0\ntorn bytes {len(data)}\n".encode())
+        return
+    profile, ledger, end = read(data)
+    lines = ("records", 1 + ledger.commit), ("entries", ledger.commit), ("profile", profile), ("clients_max", ledger.clients_max), ("last time", ledger.time)
+    told = "".join(f"{name} {number}\n" for name, number in (*lines, ("torn bytes", len(data) - end)))
+    write(1, data[:end] if word == "dump" else told.encode())
+
+
 def main(words):
     if len(words) in (3, 4) and words[0] == "run" and all(it.isdigit() for it in words[2:]) and 1 <= int(words[2]) <= 64:
         file, ledger = begin(words[1], int(words[2]), int(words[3]) if len(words) == 4 else 1)
         serve(file, ledger, Ending(os.environ.get("FAIL")))
     elif len(words) == 2 and words[0] in ("dump", "check"):
         _, data = opened(words[1], os.O_RDWR)
-        if len(data) < HEAD.size:
-            raise Fault("NotAJournal", 5)
-        profile, ledger, end = read(data)
-        lines = f"records {1 + ledger.commit}\nentries {ledger.commit}\nprofile {profile}\nclients_max {ledger.clients_max}\nlast time {ledger.time}\ntorn bytes {len(data) - end}\n"
-        write(1, data[:end] if words[0] == "dump" else lines.encode())
+        tell(words[0], data)
     else:
         raise Fault("Usage", 2)
 

@@ -604,6 +604,19 @@ class Ahead(unittest.TestCase):
                     self.assertEqual((listener.end(), len(listener.said)), (0, 1))
                 open(os.path.join(folder, "ledger.journal"), "w").close()
 
+    def test_a_file_that_was_torn_when_it_was_made(self):
+        with tempfile.TemporaryDirectory() as folder:
+            with Running(command=STAND_IN, folder=folder) as listener:
+                listener.end()
+            with open(listener.file, "rb") as file:
+                whole = file.read()
+            for count in range(len(whole) + 1):
+                with open(listener.file, "wb") as file:
+                    file.write(whole[:count])
+                if count in (0, 1, 8, 9, 10, 15, 16):
+                    with Running(command=STAND_IN, folder=folder) as again, Session.register(Socket(again.path)) as session:
+                        self.assertEqual((session.session, again.end()), (1, 0), count)
+
     def ended(self, script):
         with tempfile.TemporaryDirectory() as folder:
             path = self.kept(folder, -1)
