@@ -1,0 +1,22 @@
+//! The page of usage.
+
+/// The line of the program's version.
+pub const VERSION: &str = "tbd 0.1.0\n";
+
+/// How the program is used.
+pub const USAGE: &str = "Usage: tbd FORM
+
+Keeps a ledger in a file: what was answered is in the file, whenever the program or the machine ends.
+
+  run FILE CLIENTS_MAX [PROFILE]  serves standard input to standard output as tbs run does; each
+                                  reply goes out when its entry is on the disk. Makes FILE if it
+                                  is not there; goes on with the history that it has if it is
+  dump FILE                       writes the history of FILE, as tbs dump does
+  check FILE                      reads all of FILE and tells what is in it, or the damage
+  --help, -h, --version
+
+CLIENTS_MAX is 1 to 64, PROFILE 1 or 2; a file keeps those that it was made with. No two
+programs have one file open. The exit status is 0 where all is done; else a line of standard
+error names the fault: 1 Device or NoMemory, 2 Usage or a request that is none, 4 Locked,
+5 NotAJournal, 6 Damaged, 7 OtherRules, 8 Full.
+";

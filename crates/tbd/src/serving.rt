@@ -1,0 +1,43 @@
+//! The serving of a ledger over a file.
+use crate::faults::{Fault, kept_fault, started_fault};
+use crate::files::{made, no_memory};
+use std::alloc::Global;
+use std::io::BufReader;
+use tb_journal::Device;
+use tb_keep::{Keeper, Rules, keep};
+use tb_records::{Buffered, Counting, Sink, Source};
+
+/// The bytes of input that are held at a time.
+const BUFFER: usize = 65536;
+
+/// Opens a ledger over a device, or creates one, and serves pairs until they end: each reply is told when the entry that it
+/// rests on is in the file.
+fn serve<D: Device + Drop, R: Source, W: Sink>(
+    alloc: Global,
+    device: D,
+    rules: Rules,
+    reader: &mut R,
+    writer: &mut W,
+) -> Result<u64, Fault> {
+    match Keeper::start(alloc, device, rules) {
+        Ok(keeper) => {
+            let mut keeper = keeper;
+            match keep(alloc, &mut keeper, reader, writer) {
+                Ok(told) => Ok(told),
+                Err(fault) => Err(kept_fault(fault)),
+            }
+        }
+        Err(failed) => Err(started_fault(failed.fault)),
+    }
+}
+
+/// Serves standard input to standard output over the file at a path, which is made where there is none. What is at hand is
+/// read at once, and its replies are written at once.
+pub fn run(rt: &HostRuntime, path: &str, rules: Rules) -> Result<(), Fault> {
+    let device = made(rt, path)?;
+    let input = no_memory(BufReader::with_capacity(rt.alloc(), BUFFER, rt.stdin()))?;
+    let mut reader = Buffered::new(input);
+    let mut writer = Counting::new(rt.stdout());
+    let _told = serve(rt.alloc(), device, rules, &mut reader, &mut writer)?;
+    Ok(())
+}
