@@ -1,0 +1,125 @@
+//! What is served over a file: the replies, and the calls on the file.
+ghost use Rattle.std.specs.Prelude.{IfOk};
+ghost use Rattle.tb_journal.specs.Memory.{memory_disk};
+ghost use Rattle.tb_keep.specs.Keeping.{IsFresh};
+
+use crate::scripts::{LOOK_UP, TRANSFER, file_of, put_pair, replies, rules, script, serve};
+use std::alloc::Global;
+use std::io::BufReader;
+use std::process::Abort;
+use std::test::Fail;
+use tb_journal::Memory;
+use tb_keep::{HELD_BYTES_MAX, KeepFault, Keeper, create, keep};
+use tb_machine::RunFault;
+use tb_records::{Buffered, Counting, FrameFault};
+
+/// A ledger that was created in an empty file.
+fn created(rt: &impl Abort, alloc: Global) -> Result<Keeper<Memory>, Fail>
+    ensures { IfOk result (IsFresh memory_disk) }
+{
+    let file = file_of(alloc, &[])?;
+    Ok(create(alloc, file, rules(rt)).ok().expect(rt, "a ledger"))
+}
+
+/// Serves the script, and compares the replies with those of a server without a file.
+fn expect_replies(rt: &impl Abort, alloc: Global, keeper: &mut Keeper<Memory>, script: &[u8])
+    requires { IsFresh memory_disk keeper.old }
+{
+    let want = replies(rt, alloc, script);
+    let (well, told) = serve(alloc, keeper, script);
+    assert!(rt; well);
+    assert!(rt; told.as_slice() == want.as_slice());
+}
+
+/// Opens a copy of the file, sends the last two requests again, and compares their replies.
+fn expect_again(rt: &impl Abort, alloc: Global, bytes: &[u8], told: &[u8]) -> Result<(), Fail> {
+    let mut again = Keeper::open(alloc, file_of(alloc, bytes)?, rules(rt))
+        .ok()
+        .expect(rt, "a ledger");
+    let mut last = Vec::new(alloc);
+    put_pair(&mut last, &LOOK_UP)?;
+    let (well, replies) = serve(alloc, &mut again, &last);
+    assert!(rt; well);
+    assert!(rt; told.ends_with(&replies));
+    assert!(rt; again.journal().device().bytes() == bytes);
+    drop(again);
+    Ok(())
+}
+
+#[test]
+fn replies_are_those_of_run(rt: HostRuntime) -> Result<(), Fail> {
+    let alloc = rt.alloc();
+    let mut keeper = created(&rt, alloc)?;
+    let script = script(alloc, 6)?;
+    expect_replies(&rt, alloc, &mut keeper, &script);
+    // The head, and the entries of four new requests.
+    assert!(rt; keeper.journal().count() == 5);
+    assert!(rt; keeper.machine().commit() == 4);
+    drop(keeper);
+    Ok(())
+}
+
+#[test]
+fn a_repeat_after_an_opening_gets_its_first_reply(rt: HostRuntime) -> Result<(), Fail> {
+    let alloc = rt.alloc();
+    let mut keeper = created(&rt, alloc)?;
+    let script = script(alloc, 6)?;
+    let (well, told) = serve(alloc, &mut keeper, &script);
+    assert!(rt; well);
+    expect_again(&rt, alloc, keeper.journal().device().bytes(), &told)?;
+    drop(keeper);
+    Ok(())
+}
+
+/// The moments of the file that serving takes, by a reader that has all at hand or one pair at a time.
+fn moments_taken(rt: &impl Abort, alloc: Global, at_hand: bool) -> Result<usize, Fail> {
+    let mut keeper = created(rt, alloc)?;
+    let before = keeper.journal().device().moments();
+    let script = script(alloc, 6)?;
+    let mut writer = Counting::new(Vec::new(alloc));
+    let result = if at_hand {
+        let mut reader = Buffered::new(BufReader::with_capacity(alloc, 4096, script.as_slice())?);
+        keep(alloc, &mut keeper, &mut reader, &mut writer)
+    } else {
+        let mut reader = Counting::new(script.as_slice());
+        keep(alloc, &mut keeper, &mut reader, &mut writer)
+    };
+    assert!(rt; result == Ok(6));
+    let moments = keeper.journal().device().moments();
+    drop(keeper);
+    assert!(rt; before <= moments);
+    Ok(moments - before)
+}
+
+#[test]
+fn pairs_at_hand_share_a_commit(rt: HostRuntime) -> Result<(), Fail> {
+    let alloc = rt.alloc();
+    // A commit is two writes, each with a sync: one for all entries, or one for each of the four.
+    assert!(rt; moments_taken(&rt, alloc, true)? == 4);
+    assert!(rt; moments_taken(&rt, alloc, false)? == 16);
+    assert!(rt; HELD_BYTES_MAX == 1048576);
+    Ok(())
+}
+
+/// What serving answers to a script whose last frame is cut short.
+fn cut_short(rt: &impl Abort, alloc: Global) -> Result<(), Fail> {
+    let mut keeper = created(rt, alloc)?;
+    let mut bytes = script(alloc, 2)?;
+    put_pair(&mut bytes, &TRANSFER)?;
+    let whole = bytes.len();
+    bytes.truncate(whole.saturating_sub(1));
+    let mut reader = Counting::new(bytes.as_slice());
+    let mut writer = Counting::new(Vec::new(alloc));
+    let result = keep(alloc, &mut keeper, &mut reader, &mut writer);
+    let told = writer.into_inner();
+    drop(keeper);
+    assert!(rt; result == Err(KeepFault::Serving(RunFault::Frame(FrameFault::Short))));
+    // The replies to the register and the accounts, 48 bytes each.
+    assert!(rt; told.len() == 96);
+    Ok(())
+}
+
+#[test]
+fn a_frame_cut_short_ends_serving(rt: HostRuntime) -> Result<(), Fail> {
+    cut_short(&rt, rt.alloc())
+}
