@@ -1,0 +1,366 @@
+#!/usr/bin/env python3
+"""Kills the built tbd amid its work, damages its files and lets its calls fail: nothing acknowledged is lost, and nothing happens twice.
+
+    checks/keep.py [--tbd PROGRAM] [--kills N] [--flips N] [--seed N]
+
+Clients retry as docs/CLIENTS.md says: each sends one request at a time, and the same bytes again until it has the reply. Calls of the
+program fail or lie by checks/keep/shim.c, which wants gcc. Ends in 'N passed, M failed'.
+"""
+import argparse
+import os
+import random
+import struct
+import subprocess
+import sys
+import tempfile
+import threading
+import time
+
+ROOT = os.path.dirname(os.path.dirname(os.path.abspath(__file__)))
+sys.path.insert(0, os.path.join(ROOT, "clients", "python"))
+
+from tb_client import HEADER, Account, Operation, Reply, Status, Transfer, reply_length, request_frame  # noqa: E402
+
+CLIENTS = 24
+CASH, SALES = 1, 2
+EIO, ENOSPC = 5, 28
+passed, failed = 0, 0
+
+
+def case(name, well, said=""):
+    """Counts a case, and tells one that failed."""
+    global passed, failed
+    passed, failed = passed + bool(well), failed + (not well)
+    if not well:
+        print(f"FAILED {name} {said}", flush=True)
+
+
+# A server, and the clients before it
+
+
+class Client:
+    """A client that sends one request at a time."""
+
+    def __init__(self, number):
+        self.number = number
+        self.session = 0
+        self.request = 0
+        self.made = 0
+        self.frame = None  # what was sent and not answered
+        self.first = None  # the last request, and the first reply to it
+
+    def next_frame(self):
+        """The request that is in doubt, or a new one."""
+        if self.frame is None:
+            if not self.session:
+                self.frame = request_frame(self.number, 0, 0, Operation.register)
+            else:
+                self.request += 1
+                transfer = Transfer(self.number << 32 | self.request, CASH, SALES, 1, ledger=700, code=10)
+                self.frame = request_frame(self.number, self.session, self.request, Operation.create_transfers, transfer.to_bytes())
+        return self.frame
+
+    def take(self, reply):
+        """Takes the reply to the request in doubt. What is wrong with it, or None."""
+        answer = Reply.from_bytes(reply)
+        if answer.status != Status.Reply or answer.client != self.number:
+            return f"client {self.number}: {answer}"
+        if not self.session:
+            self.session = answer.session
+        elif answer.items:
+            return f"client {self.number}, request {self.request}: {answer.items}"
+        else:
+            self.made += 1
+        self.first, self.frame = (self.frame, reply), None
+        return None
+
+
+class Ledger:
+    """A file, the clients that use it, and what is known of both."""
+
+    def __init__(self, tbd, folder, name="ledger"):
+        self.tbd = tbd
+        self.file = os.path.join(folder, f"{name}.tbk")
+        self.clients = [Client(1000 + n) for n in range(CLIENTS)]
+        self.moment = 1
+        self.wrong = []
+        self.answered = 0
+        self.opener = Client(7)
+
+    def start(self, fault=None, log=None, shim=None):
+        """The program over the file."""
+        env = dict(os.environ)
+        if shim:
+            env.update(LD_PRELOAD=shim, KEEP_FILE=self.file, KEEP_FAULT=fault or "")
+            if log:
+                env["KEEP_LOG"] = log
+        return subprocess.Popen([self.tbd, "run", self.file, "64"], stdin=subprocess.PIPE, stdout=subprocess.PIPE, stderr=subprocess.PIPE, env=env)
+
+    def pair(self, frame):
+        self.moment += 1
+        return struct.pack("<Q", self.moment) + frame
+
+    def send(self, process, frames):
+        """Sends frames; a program that has ended takes none."""
+        try:
+            process.stdin.write(b"".join(self.pair(frame) for frame in frames))
+            process.stdin.flush()
+        except (BrokenPipeError, ValueError):
+            pass
+
+    @staticmethod
+    def reply(process):
+        """The next whole reply, or None at the end."""
+        header = process.stdout.read(HEADER)
+        if len(header) < HEADER:
+            return None
+        body = process.stdout.read(reply_length(header) - HEADER)
+        return header + body if len(header + body) == reply_length(header) else None
+
+    def round(self, process, clients, kill_after=None):
+        """Each of the clients sends, and takes its reply. False where the program ended."""
+        timer = threading.Timer(kill_after, process.kill) if kill_after is not None else None
+        self.send(process, [it.next_frame() for it in clients])
+        if timer:
+            timer.start()
+        for it in clients:
+            reply = self.reply(process)
+            if reply is None:
+                break
+            self.answered += 1
+            wrong = it.take(reply)
+            if wrong:
+                self.wrong.append(wrong)
+        else:
+            if timer:
+                timer.join()
+            return timer is None
+        if timer:
+            timer.join()
+        return False
+
+    def again(self, process, it):
+        """A client sends its last request again: the reply is the first one."""
+        if it.first and it.frame is None:
+            self.send(process, [it.first[0]])
+            reply = self.reply(process)
+            if reply is not None and reply != it.first[1]:
+                self.wrong.append(f"client {it.number}: another reply to a repeat")
+
+    def open_accounts(self):
+        """Two accounts, made by a client of their own."""
+        process = self.start()
+        self.opener.frame = request_frame(7, 0, 0, Operation.register)
+        self.round(process, [self.opener])
+        body = Account(CASH, ledger=700, code=10).to_bytes() + Account(SALES, ledger=700, code=10).to_bytes()
+        self.send(process, [request_frame(7, self.opener.session, 1, Operation.create_accounts, body)])
+        case("accounts are made", not Reply.from_bytes(self.reply(process)).items)
+        process.stdin.close()
+        case("status 0 at the end", process.wait() == 0)
+
+    def settle(self, name):
+        """All that is in doubt is sent again, and the sums are those of the transfers that were acknowledged."""
+        process = self.start()
+        clients = [it for it in self.clients if it.frame is not None]
+        self.round(process, clients)
+        for it in self.clients:
+            self.again(process, it)
+        self.opener.request = 2
+        self.send(process, [request_frame(7, self.opener.session, 2, Operation.lookup_accounts, struct.pack("<QQ", SALES, 0))])
+        sales = Reply.from_bytes(self.reply(process)).items[0]
+        process.stdin.close()
+        status = process.wait()
+        made = sum(it.made for it in self.clients)
+        entries = 3 + sum(it.request + bool(it.session) for it in self.clients)
+        told = check(self.tbd, self.file)
+        well = status == 0 and not self.wrong and sales.credits_posted == made and told.get("entries") == entries
+        case(name, well, f"status {status}, {made} acknowledged, {sales.credits_posted} posted, {entries} entries, {told}, {self.wrong[:3]}")
+
+
+def check(tbd, file):
+    """What `tbd check` tells, and its status."""
+    ran = subprocess.run([tbd, "check", file], capture_output=True, text=True)
+    told = {line.rpartition(" ")[0]: int(line.rpartition(" ")[2]) for line in ran.stdout.splitlines()}
+    return {"status": ran.returncode, "said": ran.stderr.strip(), **told}
+
+
+# Cases
+
+
+def kills(tbd, folder, count, rng):
+    """The program is killed amid rounds, at random moments."""
+    ledger = Ledger(tbd, folder, "kills")
+    ledger.open_accounts()
+    began = time.monotonic()
+    for number in range(count):
+        process = ledger.start()
+        for _ in range(rng.randrange(3)):
+            ledger.round(process, rng.sample(ledger.clients, rng.randint(1, CLIENTS)))
+        ledger.again(process, rng.choice(ledger.clients))
+        ledger.round(process, rng.sample(ledger.clients, CLIENTS), kill_after=rng.uniform(0, 0.003))
+        process.kill()
+        process.wait()
+        for stream in (process.stdin, process.stdout, process.stderr):
+            try:
+                stream.close()
+            except BrokenPipeError:
+                pass
+        if (number + 1) % 100 == 0:
+            print(f"{number + 1} kills, {ledger.answered} requests answered, {time.monotonic() - began:.0f} s", flush=True)
+    ledger.settle(f"{count} kills: nothing acknowledged is lost, nothing is twice")
+
+
+def faulty(tbd, folder, shim, fault, status, name):
+    """A life with a fault, and then one without."""
+    ledger = Ledger(tbd, folder, name.replace(" ", "_"))
+    ledger.open_accounts()
+    process = ledger.start(fault, shim=shim)
+    for _ in range(40):
+        if not ledger.round(process, ledger.clients):
+            break
+    try:
+        process.stdin.close()
+    except BrokenPipeError:
+        pass
+    ended = process.wait()
+    case(f"{name}: status", ended == status, f"{ended} for {status}: {process.stderr.read().decode()}")
+    ledger.settle(f"{name}: nothing is lost, nothing is twice")
+    os.unlink(ledger.file)
+
+
+def faults(tbd, folder, shim):
+    """Calls on the file that fail once, or take a part."""
+    for number in range(1, 51):
+        # The first sync is that of the opening.
+        faulty(tbd, folder, shim, f"sync {number} {EIO}", 1, f"sync {number} fails")
+    for number in range(1, 9):
+        faulty(tbd, folder, shim, f"write {number} {EIO}", 1, f"write {number} fails")
+        # The first call is the cut of the opening.
+        for part in (0, 1, 7, 100) if number > 1 else ():
+            faulty(tbd, folder, shim, f"torn {number} {part} {EIO}", 1, f"write {number} is cut after {part} bytes")
+            faulty(tbd, folder, shim, f"die {number} {part}", -9, f"killed in write {number} after {part} bytes")
+            faulty(tbd, folder, shim, f"short {number} {part}", 0, f"write {number} takes {part} bytes first")
+    for limit in (2000, 5000, 5001, 20000):
+        faulty(tbd, folder, shim, f"full {limit}", 8, f"the disk is full at {limit} bytes")
+
+
+def told_early(log):
+    """How often a reply was told before the commit that it rests on was on the disk. Each telling has one: a gate that is opened, and synced."""
+    with open(log, "rb") as file:
+        data = file.read()
+    at, waits, opened, committed, early, told = 0, False, 0, 0, 0, 0
+    while at < len(data):
+        letter, length = data[at : at + 1], struct.unpack_from("<Q", data, at + 9)[0]
+        at += 17
+        if letter == b"W":
+            waits, opened = True, opened + (data[at : at + length] == b"\xff")
+        elif letter == b"T":
+            waits = True
+        elif letter == b"S":
+            waits, committed = False, opened
+        else:
+            told += 1
+            early += waits or committed < told
+        at += length if letter in (b"W", b"O") else 0
+    return early, told
+
+
+def order(tbd, folder, shim, fault, name):
+    """Serves some rounds, and reads the calls as they came."""
+    ledger = Ledger(tbd, folder, name)
+    ledger.open_accounts()
+    log = os.path.join(folder, f"{name}.log")
+    process = ledger.start(fault, log=log, shim=shim)
+    for _ in range(20):
+        ledger.round(process, ledger.clients)
+    process.stdin.close()
+    process.wait()
+    return told_early(log)
+
+
+def orders(tbd, folder, shim):
+    early, told = order(tbd, folder, shim, None, "order")
+    case("each reply comes behind the sync of its entry", early == 0 and told >= 20, f"{early} of {told}")
+    for fault in ("nosync", "early 1"):
+        early, told = order(tbd, folder, shim, fault, fault.replace(" ", "_"))
+        case(f"a control that must be caught: {fault}", early > 0, f"{early} of {told}")
+
+
+def sample(tbd, folder):
+    """A file of some rounds, and where its gates are."""
+    ledger = Ledger(tbd, folder, "sample")
+    ledger.open_accounts()
+    process = ledger.start()
+    for _ in range(3):
+        ledger.round(process, ledger.clients)
+    process.stdin.close()
+    process.wait()
+    with open(ledger.file, "rb") as file:
+        data = file.read()
+    gates, at = [], 8
+    while data[at]:
+        gates.append(at)
+        at += 8 + int.from_bytes(data[at + 1 : at + 4], "little")
+    return data, gates + [at], check(tbd, ledger.file)["entries"]
+
+
+def tried(tbd, path, data):
+    with open(path, "wb") as file:
+        file.write(data)
+    told = check(tbd, path)
+    with open(path, "rb") as file:
+        told["same"] = file.read() == data
+    return told
+
+
+def cuts(tbd, folder, data, gates, entries):
+    """The file cut at each of its last 1,000 bytes."""
+    path, wrong = os.path.join(folder, "cut.tbk"), []
+    for length in range(len(data) - 1000, len(data)):
+        told = tried(tbd, path, data[:length])
+        # A gate at the end, or none, ends the records; any other cut leaves a block that is not whole.
+        whole = length in gates or length - 1 in gates
+        if not told["same"] or told["status"] != (0 if whole else 6) or whole and told["entries"] != sum(gate < length for gate in gates[:-1]) - 1 - (length - 1 in gates[:-1]):
+            wrong.append((length, told))
+    case("cut at each of the last 1,000 bytes", not wrong, wrong[:2])
+
+
+def flips(tbd, folder, data, gates, entries, count, rng):
+    """Bits that are turned, each told as damage but for those of gates, which any bytes but 0 leave open."""
+    path, wrong, damaged = os.path.join(folder, "flip.tbk"), [], 0
+    for _ in range(count):
+        at, bit = rng.randrange(len(data)), rng.randrange(8)
+        told = tried(tbd, path, data[:at] + bytes([data[at] ^ 1 << bit]) + data[at + 1 :])
+        if at in gates:
+            well = told["status"] == 0 and told["entries"] == entries
+        else:
+            well = told["status"] == (5 if at < 8 else 6)
+            damaged += 1
+        if not well or not told["same"]:
+            wrong.append((at, bit, told))
+    case(f"{count} bits turned, {damaged} of them outside gates", not wrong, wrong[:2])
+
+
+def main():
+    parser = argparse.ArgumentParser(description=__doc__, formatter_class=argparse.RawDescriptionHelpFormatter)
+    parser.add_argument("--tbd", default=os.path.join(ROOT, "crates", "tbd", "out", "tbd"))
+    parser.add_argument("--kills", type=int, default=1000)
+    parser.add_argument("--flips", type=int, default=10000)
+    parser.add_argument("--seed", type=int, default=1)
+    asked = parser.parse_args()
+    rng = random.Random(asked.seed)
+    with tempfile.TemporaryDirectory() as folder:
+        shim = os.path.join(folder, "shim.so")
+        subprocess.run(["gcc", "-O1", "-Wall", "-Wextra", "-shared", "-fPIC", "-o", shim, os.path.join(ROOT, "checks", "keep", "shim.c")], check=True)
+        orders(asked.tbd, folder, shim)
+        data, gates, entries = sample(asked.tbd, folder)
+        cuts(asked.tbd, folder, data, gates, entries)
+        flips(asked.tbd, folder, data, gates, entries, asked.flips, rng)
+        faults(asked.tbd, folder, shim)
+        kills(asked.tbd, folder, asked.kills, rng)
+    print(f"{passed} passed, {failed} failed")
+    sys.exit(failed > 0)
+
+
+if __name__ == "__main__":
+    main()

@@ -1,0 +1,159 @@
+/* Stands between a program and the system: writes down what the program does to one file and to its output, and lets one call
+   fail, or lie. checks/keep.py loads it by LD_PRELOAD.
+
+   KEEP_FILE  the file. Where it is not set, nothing is done.
+   KEEP_LOG   where the calls are written down: a letter, two numbers of 8 bytes, and the bytes of a write. W at, length; T length, 0;
+              S 0, 0 after a sync that was done; O 0, length before a write to standard output.
+   KEEP_FAULT one of
+              write N E      the Nth write or cut of the file fails with errno E, and does nothing
+              torn N K E     the Nth write takes K bytes, and the write behind it fails with E
+              short N K      the Nth write takes K bytes, and all else goes on
+              die N K        the Nth write takes K bytes, and the process is killed
+              sync N E       the Nth sync fails with E, and does nothing
+              full L         no write makes the file longer than L bytes: what does not fit fails with ENOSPC
+              nosync         syncs answer, and do nothing
+              early MS       writes and syncs of the file answer at once, and are done MS milliseconds after the next write to standard output
+*/
+#define _GNU_SOURCE
+#include <errno.h>
+#include <fcntl.h>
+#include <signal.h>
+#include <stdint.h>
+#include <stdio.h>
+#include <stdlib.h>
+#include <string.h>
+#include <sys/stat.h>
+#include <sys/syscall.h>
+#include <sys/types.h>
+#include <sys/uio.h>
+#include <time.h>
+#include <unistd.h>
+
+static long calls, syncs, first, second, third;
+static char fault[16];
+static int failing, log_fd = -1, ready;
+
+/* writes that `early` holds back */
+struct held { int fd; int is_cut; off_t at; size_t len; char *bytes; struct held *next; };
+static struct held *held_first, **held_last = &held_first;
+
+static int is(const char *name) { return strcmp(fault, name) == 0; }
+
+static void begin(void) {
+    if (ready) return;
+    ready = 1;
+    const char *text = getenv("KEEP_FAULT"), *log = getenv("KEEP_LOG");
+    if (text) sscanf(text, "%15s %ld %ld %ld", fault, &first, &second, &third);
+    if (log) log_fd = syscall(SYS_openat, AT_FDCWD, log, O_WRONLY | O_CREAT | O_APPEND | O_CLOEXEC, 0600);
+}
+
+static int is_file(int fd) {
+    const char *path = getenv("KEEP_FILE");
+    struct stat a, b;
+    begin();
+    return path && fd > 2 && fstat(fd, &a) == 0 && stat(path, &b) == 0 && a.st_ino == b.st_ino && a.st_dev == b.st_dev;
+}
+
+static void note(char letter, uint64_t at, uint64_t len, const void *bytes) {
+    char head[17];
+    struct iovec parts[2] = {{head, sizeof head}, {(void *)bytes, bytes ? len : 0}};
+    begin();
+    if (log_fd < 0) return;
+    head[0] = letter;
+    memcpy(head + 1, &at, 8);
+    memcpy(head + 9, &len, 8);
+    if (syscall(SYS_writev, log_fd, parts, 2) < 0) abort();
+}
+
+static int fail(long why) { errno = why; return -1; }
+
+static ssize_t put(int fd, const void *bytes, size_t len, off_t at) {
+    note('W', at, len, bytes);
+    return syscall(SYS_pwrite64, fd, bytes, len, at);
+}
+
+static void hold(int fd, int is_cut, const void *bytes, size_t len, off_t at) {
+    struct held *it = malloc(sizeof *it);
+    if (!it || !(it->bytes = malloc(len + 1))) abort();
+    if (len) memcpy(it->bytes, bytes, len);
+    it->fd = fd; it->is_cut = is_cut; it->len = len; it->at = at; it->next = 0;
+    *held_last = it;
+    held_last = &it->next;
+}
+
+static void let_go(void) {
+    if (!held_first) return;
+    struct timespec pause = {first / 1000, first % 1000 * 1000000};
+    nanosleep(&pause, 0);
+    for (struct held *it = held_first; it; it = it->next) {
+        if (it->is_cut) { note('T', it->at, 0, 0); if (syscall(SYS_ftruncate, it->fd, it->at) < 0) abort(); }
+        else if (put(it->fd, it->bytes, it->len, it->at) < 0) abort();
+        syscall(SYS_fdatasync, it->fd);
+        note('S', 0, 0, 0);
+    }
+    held_first = 0;
+    held_last = &held_first;
+}
+
+static ssize_t write_file(int fd, const void *bytes, size_t len, off_t at) {
+    long n = ++calls;
+    if (failing) return fail(third);
+    if (is("write") && n == first) return fail(second);
+    if (is("full") && at + (off_t)len > first) {
+        if (at >= first) return fail(ENOSPC);
+        return put(fd, bytes, first - at, at);
+    }
+    if (is("early")) { hold(fd, 0, bytes, len, at); return len; }
+    if (n != first || !(is("torn") || is("short") || is("die"))) return put(fd, bytes, len, at);
+    if (second < (long)len) len = second;
+    if (is("torn")) failing = 1;
+    ssize_t done = len ? put(fd, bytes, len, at) : 0;
+    if (is("die")) kill(getpid(), SIGKILL);
+    if (!len) return is("torn") ? fail(third) : put(fd, bytes, 1, at);
+    return done;
+}
+
+static int cut_file(int fd, off_t len) {
+    long n = ++calls;
+    if (failing) return fail(third);
+    if (is("write") && n == first) return fail(second);
+    if (is("early")) { hold(fd, 1, 0, 0, len); return 0; }
+    note('T', len, 0, 0);
+    return syscall(SYS_ftruncate, fd, len);
+}
+
+static int sync_file(int fd, long call) {
+    begin();
+    if (fd <= 2 || !getenv("KEEP_FILE")) return syscall(call, fd);
+    long n = ++syncs;
+    if (is("sync") && n == first) return fail(second);
+    if (is("nosync") || (is("early") && held_first)) return 0;
+    int answer = syscall(call, fd);
+    if (answer == 0 && is_file(fd)) note('S', 0, 0, 0);
+    return answer;
+}
+
+ssize_t pwrite64(int fd, const void *bytes, size_t len, off_t at) { return is_file(fd) ? write_file(fd, bytes, len, at) : syscall(SYS_pwrite64, fd, bytes, len, at); }
+ssize_t pwrite(int fd, const void *bytes, size_t len, off_t at) { return pwrite64(fd, bytes, len, at); }
+int ftruncate64(int fd, off_t len) { return is_file(fd) ? cut_file(fd, len) : syscall(SYS_ftruncate, fd, len); }
+int ftruncate(int fd, off_t len) { return ftruncate64(fd, len); }
+int fsync(int fd) { return sync_file(fd, SYS_fsync); }
+int fdatasync(int fd) { return sync_file(fd, SYS_fdatasync); }
+
+ssize_t write(int fd, const void *bytes, size_t len) {
+    if (fd == 1) { note('O', 0, len, bytes); ssize_t done = syscall(SYS_write, fd, bytes, len); let_go(); return done; }
+    if (is_file(fd)) return write_file(fd, bytes, len, lseek(fd, 0, SEEK_CUR));
+    return syscall(SYS_write, fd, bytes, len);
+}
+
+ssize_t writev(int fd, const struct iovec *parts, int count) {
+    ssize_t sum = 0;
+    if (fd != 1) return syscall(SYS_writev, fd, parts, count);
+    for (int i = 0; i < count; i++) {
+        ssize_t done = write(fd, parts[i].iov_base, parts[i].iov_len);
+        if (done < 0) return sum ? sum : -1;
+        sum += done;
+        if ((size_t)done < parts[i].iov_len) break;
+    }
+    return sum;
+}
