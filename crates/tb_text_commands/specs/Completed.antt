@@ -112,8 +112,8 @@ written x =
     ++ (number_line (codes "session=") (codes "\n") x.session
     ++ number_line (codes "request=") (codes "\n") x.request))
 
--- the whole statement: lines for what is left out, and the statement as it stands, by the client that was named last, and
--- by how each client stands
+-- the whole statement: lines for what is left out, and the statement as it stands, by the client that was named last,
+-- and by how each client stands
 abbrev pub completed : Option ℕ → (ℕ → Standing) → List ℕ → List ℕ
 completed last standing text = written (left_out_in last standing text) ++ text
 

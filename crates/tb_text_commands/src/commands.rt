@@ -44,8 +44,8 @@ fn perform<R: Source, W: Sink, E: Sink>(
     }
 }
 
-/// The fault of words that are none of the program's forms. Where there is no memory to name one, it is told as no words
-/// are, by the page of usage, which needs none.
+/// The fault of words that are none of the program's forms. Where there is no memory to name one, it is told as no
+/// words are, by the page of usage, which needs none.
 fn usage_fault(alloc: Global, words: &[String]) -> Fault {
     match words {
         [] => Fault::Usage,

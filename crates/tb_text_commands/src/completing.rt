@@ -164,7 +164,7 @@ impl LeftOut {
     {
         let (given, rest) = head_of(text);
         match given.client.or(standings.last()) {
-            Some(client) => { LeftOut::before(given, rest, client, standings.standing(client)) }
+            Some(client) => LeftOut::before(given, rest, client, standings.standing(client)),
             None => LeftOut::nothing(),
         }
     }

@@ -17,31 +17,37 @@ pub fn whole_register_stays()
 
 /// A lookup alone, of client 7, which has session 3 and made two requests there.
 pub fn lookup_alone()
-    ensures { completed (Some 7) (λ c. Open 3 3) (codes "lookup_accounts id=1;") ≡ codes "client=7\nsession=3\nrequest=3\nlookup_accounts id=1;" }
+    ensures { completed (Some 7) (λ c. Open 3 3) (codes "lookup_accounts id=1;")
+        ≡ codes "client=7\nsession=3\nrequest=3\nlookup_accounts id=1;" }
 {}
 
 /// A client that has no session is registered first.
 pub fn registered_first()
-    ensures { completed None (λ c. Closed 4) (codes "client=0x1F lookup_accounts id=1;") ≡ codes "client=31 register;\nsession=4\nrequest=1\nclient=0x1F lookup_accounts id=1;" }
+    ensures { completed None (λ c. Closed 4) (codes "client=0x1F lookup_accounts id=1;")
+        ≡ codes "client=31 register;\nsession=4\nrequest=1\nclient=0x1F lookup_accounts id=1;" }
 {}
 
 /// A register of the client that was named last.
 pub fn register_alone()
-    ensures { completed (Some 7) (λ c. Unknown) (codes "at=5 register;") ≡ codes "client=7\nat=5 register;" }
+    ensures { completed (Some 7) (λ c. Unknown) (codes "at=5 register;")
+        ≡ codes "client=7\nat=5 register;" }
 {}
 
 /// The next request in a session that is named, behind a comment.
 pub fn next_request()
-    ensures { completed (Some 7) (λ c. Open 3 9) (codes "# request=4\n session=3 lookup_accounts;") ≡ codes "client=7\nrequest=9\n# request=4\n session=3 lookup_accounts;" }
+    ensures { completed (Some 7) (λ c. Open 3 9) (codes "# request=4\n session=3 lookup_accounts;")
+        ≡ codes "client=7\nrequest=9\n# request=4\n session=3 lookup_accounts;" }
 {}
 
 /// An operation that is misspelled is completed too, so that its fault tells what could stand there.
 pub fn misspelled()
-    ensures { completed (Some 7) (λ c. Open 3 3) (codes "lookup_acounts id=1;") ≡ codes "client=7\nsession=3\nrequest=3\nlookup_acounts id=1;" }
+    ensures { completed (Some 7) (λ c. Open 3 3) (codes "lookup_acounts id=1;")
+        ≡ codes "client=7\nsession=3\nrequest=3\nlookup_acounts id=1;" }
 {}
 
 /// Before a field that is misspelled nothing is put, nor where a statement ends before its operation.
 pub fn no_operation()
-    ensures field { completed (Some 7) (λ c. Open 3 3) (codes "at=5 clint=7 register;") ≡ codes "at=5 clint=7 register;" }
+    ensures field { completed (Some 7) (λ c. Open 3 3) (codes "at=5 clint=7 register;")
+        ≡ codes "at=5 clint=7 register;" }
     ensures end { completed (Some 7) (λ c. Open 3 3) (codes " # all\n") ≡ codes " # all\n" }
 {}
