@@ -1,0 +1,407 @@
+#!/usr/bin/env python3
+"""Files that a loss of power may leave of the built tbd's work, by the calls that it made, and a disk that is full.
+
+    checks/crashes.py [--tbd PROGRAM] [--rounds N] [--images N] [--seed N]
+
+checks/keep/shim.c, which wants gcc, writes down each write, cut and sync of the file and each write of replies. From them the files are made that the
+disk may have at each moment: what was synced, and of what was written since then any bytes and any length. Each has to be a beginning of the
+history with all that was acknowledged until then, and each tenth is opened by the program. A disk that drops syncs and a program that answers first
+have to be caught. A small file system is filled where this user may mount one. Ends in 'N passed, M failed'.
+"""
+import argparse
+import functools
+import os
+import random
+import shutil
+import struct
+import subprocess
+import sys
+import tempfile
+
+ROOT = os.path.dirname(os.path.dirname(os.path.abspath(__file__)))
+sys.path.insert(0, os.path.join(ROOT, "clients", "python"))
+
+from tb_client import HEADER, Account, Operation, Reply, Status, Transfer, reply_length, request_frame  # noqa: E402
+
+CLIENTS = 24
+CASH, SALES = 1, 2
+MAGIC, FIRST = b"TBJRNL01", b"TBJRNL01\0"
+passed = failed = 0
+
+
+def case(name, wrong):
+    """Counts a case: what is wrong is listed."""
+    global passed, failed
+    passed, failed = passed + (not wrong), failed + bool(wrong)
+    print(f"FAILED: {name}: {len(wrong)} wrong, as {wrong[0]}" if wrong else f"ok: {name}", flush=True)
+
+
+# The file
+
+
+def _table():
+    for byte in range(256):
+        for _ in range(8):
+            byte = byte >> 1 ^ (0x82F63B78 if byte & 1 else 0)
+        yield byte
+
+
+TABLE = list(_table())
+
+
+@functools.lru_cache(maxsize=1 << 16)
+def checksum(data):
+    """CRC-32C."""
+    rest = 0xFFFFFFFF
+    for byte in data:
+        rest = TABLE[(rest ^ byte) & 255] ^ rest >> 8
+    return rest ^ 0xFFFFFFFF
+
+
+def records_of(data):
+    """The records of a file, or why it has none: docs/KEEP.md says how it is read."""
+    if not data.startswith(MAGIC):
+        return "NotAJournal"
+    at, records = len(MAGIC), []
+    while at + 1 < len(data) and data[at]:
+        length = int.from_bytes(data[at + 1 : at + 4], "little")
+        end = at + 8 + length
+        if end > len(data) or checksum(data[at + 1 : at + 4] + data[at + 8 : end]) != int.from_bytes(data[at + 4 : at + 8], "little"):
+            return f"Damaged at {at}"
+        records.append(data[at + 8 : end])
+        at = end
+    return records
+
+
+# A run
+
+
+class Run:
+    """A file, the clients that use it, all that they sent, and the first reply to each request."""
+
+    def __init__(self, tbd, folder, name, rng):
+        self.tbd, self.rng, self.moment = tbd, rng, 0
+        self.file, self.log = os.path.join(folder, f"{name}.tbk"), os.path.join(folder, f"{name}.log")
+        self.sent, self.first, self.sessions, self.done, self.wrong = {}, {}, {}, {}, []
+
+    def start(self, shim=None, fault=""):
+        env = dict(os.environ)
+        if shim:
+            env.update(LD_PRELOAD=shim, KEEP_FILE=self.file, KEEP_LOG=self.log, KEEP_FAULT=fault)
+        words = [self.tbd, "run", self.file, "64"]
+        return subprocess.Popen(words, stdin=subprocess.PIPE, stdout=subprocess.PIPE, stderr=subprocess.PIPE, env=env)
+
+    def frame(self, client):
+        """The request that a client has no reply to: its register, or the one behind its last."""
+        number = self.done.get(client, -1) + 1
+        if (client, number) not in self.sent:
+            if number == 0:
+                made = request_frame(client, 0, 0, Operation.register)
+            elif client == CLIENTS and number == 1:
+                body = b"".join(Account(id, ledger=700, code=10).to_bytes() for id in (CASH, SALES))
+                made = request_frame(client, self.sessions[client], 1, Operation.create_accounts, body)
+            else:
+                body = Transfer(client << 32 | number, CASH, SALES, self.rng.randint(1, 9), ledger=700, code=10).to_bytes()
+                made = request_frame(client, self.sessions[client], number, Operation.create_transfers, body)
+            self.sent[client, number] = made
+        return self.sent[client, number]
+
+    def ask(self, process, frames):
+        """Sends frames, and takes the replies that come."""
+        pairs = []
+        for frame in frames:
+            self.moment += 1
+            pairs.append(struct.pack("<Q", self.moment) + frame)
+        try:
+            process.stdin.write(b"".join(pairs))
+            process.stdin.flush()
+        except BrokenPipeError:
+            return []
+        replies = []
+        for _ in frames:
+            header = process.stdout.read(HEADER)
+            body = process.stdout.read(reply_length(header) - HEADER) if len(header) == HEADER else b""
+            if len(header) < HEADER or len(header + body) < reply_length(header):
+                break
+            replies.append(header + body)
+        return replies
+
+    def take(self, reply):
+        """Takes the first reply to a request, or the same again."""
+        it = Reply.from_bytes(reply)
+        if it.status != Status.Reply or it.items:
+            self.wrong.append(f"refused: {it}")
+        elif self.first.setdefault((it.client, it.number), reply) != reply:
+            self.wrong.append(f"another reply: {it}")
+        else:
+            self.sessions.setdefault(it.client, it.session)
+            self.done[it.client] = max(self.done.get(it.client, -1), it.number)
+
+    def round(self, process, clients):
+        """A request of each of the clients. False where the program ended."""
+        replies = self.ask(process, [self.frame(client) for client in clients])
+        for reply in replies:
+            self.take(reply)
+        return len(replies) == len(clients)
+
+    def open(self, process):
+        """The first client makes the accounts."""
+        self.round(process, [CLIENTS])
+        self.round(process, [CLIENTS])
+
+    def some(self):
+        return self.rng.sample(range(1, CLIENTS + 1), self.rng.randint(1, CLIENTS))
+
+
+def ended(process):
+    """Ends the input of a program, and answers its status."""
+    try:
+        process.stdin.close()
+    except BrokenPipeError:
+        pass
+    process.stdout.read()
+    process.stdout.close()
+    process.stderr.close()
+    return process.wait()
+
+
+def lives(run, shim, rounds, fault=""):
+    """Serves rounds in several lives, of which some are ended by a kill amid a write."""
+    process = run.start(shim, fault)
+    run.open(process)
+    for number in range(rounds):
+        if not run.round(process, run.some()) or number % 7 == 6:
+            ended(process)
+            kill = f"die {run.rng.randint(1, 9)} {run.rng.choice([0, 1, 9, 100, 400])}"
+            process = run.start(shim, fault or run.rng.choice(["", kill]))
+    ended(process)
+
+
+# What the disk may have
+
+
+def changed(image, write):
+    """A file after a write or a cut."""
+    letter, at, data = write
+    return image[:at] + data + image[at + len(data) :] if letter == b"W" else image[:at]
+
+
+def torn(image, write, rng):
+    """A file that a write or a cut leaves which a loss of power cuts short: any bytes in its range, any length between."""
+    after = changed(image, write)
+    if write[0] == b"T":
+        return image[: rng.randint(len(after), max(len(image), len(after)))]
+    _, at, data = write
+    kind = rng.randrange(5)
+    cut = rng.randint(0, len(data))
+    if kind == 0:
+        middle = data[:cut] + after[at + cut : at + len(data)] if at + len(data) <= len(image) else data[:cut]
+    elif kind == 1:
+        middle = bytes(cut) + data[cut:]
+    elif kind == 2:
+        middle = bytes(rng.randrange(256) for _ in range(cut))
+    elif kind == 3:
+        middle = bytes(byte if rng.randrange(2) else 0 for byte in data)
+    else:
+        middle = data
+    whole = image[:at] + middle + image[at + len(middle) :]
+    return whole[: rng.randint(min(len(image), len(whole)), len(whole))]
+
+
+def events(log):
+    """The calls: writes and cuts of the file, syncs, and replies that were written."""
+    with open(log, "rb") as file:
+        data = file.read()
+    at = 0
+    while at < len(data):
+        letter, place, length = data[at : at + 1], *struct.unpack_from("<QQ", data, at + 1)
+        at += 17
+        if letter in (b"W", b"O"):
+            yield letter, place, data[at : at + length]
+            at += length
+        else:
+            yield letter, place, b""
+
+
+def replies_in(data):
+    at = 0
+    while at + HEADER <= len(data):
+        end = at + reply_length(data, at)
+        yield data[at:end]
+        at = end
+
+
+class Images:
+    """The files that a loss of power may leave, each judged."""
+
+    def __init__(self, run, folder, count, rng):
+        with open(run.file, "rb") as file:
+            self.last = records_of(file.read())
+        self.run, self.count, self.rng = run, count, rng
+        self.path = os.path.join(folder, "image.tbk")
+        self.commit, self.done, self.wrong, self.judged, self.opened = 0, {}, [], 0, 0
+
+    def judge(self, image):
+        """A file has the entries of all replies that were written so far, and is a beginning of the history."""
+        self.judged += 1
+        records = records_of(image)
+        if isinstance(records, str):
+            if self.commit or records != "NotAJournal" or len(image) > len(FIRST):
+                self.wrong.append(f"{records}, after {self.commit} entries were acknowledged")
+        elif records != self.last[: len(records)]:
+            self.wrong.append("records that are not those of the history")
+        elif len(records) <= self.commit and self.commit:
+            self.wrong.append(f"{len(records)} records, after {self.commit} entries were acknowledged")
+        elif self.judged % 10 == 0 and records:
+            self.open(image, len(records) - 1)
+
+    def open(self, image, entries):
+        """The program tells so many entries, and serves on: each client's last request gets its first reply again, one in doubt is done."""
+        self.opened += 1
+        with open(self.path, "wb") as file:
+            file.write(image)
+        told = subprocess.run([self.run.tbd, "check", self.path], capture_output=True, text=True)
+        if told.returncode or f"entries {entries}\n" not in told.stdout:
+            self.wrong.append(f"check of {entries} entries: {told.returncode}, {told.stdout!r}, {told.stderr!r}")
+        again = Run(self.run.tbd, os.path.dirname(self.path), "image", self.rng)
+        process = again.start()
+        in_file = {(record[16:32], record[40:44]) for record in self.last[1 : entries + 1]}
+        for client, number in self.done.items():
+            behind = self.run.sent.get((client, number + 1))
+            done = behind is None or (behind[:16], behind[24:28]) not in in_file
+            reply = again.ask(process, [self.run.sent[client, number]]) if done else []
+            if done and reply != [self.run.first[client, number]]:
+                self.wrong.append(f"client {client}: another reply to request {number}")
+            if behind and [Reply.from_bytes(it).status for it in again.ask(process, [behind])] != [Status.Reply]:
+                self.wrong.append(f"client {client}: request {number + 1} in doubt is not done")
+        if ended(process):
+            self.wrong.append("a start over a file that a loss of power left ends by a fault")
+
+    def follow(self):
+        """Goes over the calls, and judges what may be left at each."""
+        synced, since = b"", []
+        for letter, place, data in events(self.run.log):
+            if letter == b"S":
+                synced, since = functools.reduce(changed, since, synced), []
+            elif letter == b"O":
+                for reply in replies_in(data):
+                    it = Reply.from_bytes(reply)
+                    self.commit = max(self.commit, it.commit)
+                    self.done[it.client] = max(self.done.get(it.client, -1), it.number)
+            else:
+                since.append((letter, place, data))
+            self.judge(synced)
+            for _ in range(self.count if since else 0):
+                before = self.rng.randrange(len(since))
+                self.judge(torn(functools.reduce(changed, since[:before], synced), since[before], self.rng))
+        return self
+
+
+# Cases
+
+
+def losses(tbd, folder, shim, rounds, count, rng):
+    """A run in several lives: all moments of it, and its dump."""
+    run = Run(tbd, folder, "losses", rng)
+    lives(run, shim, rounds)
+    case(f"{len(run.first)} requests in lives that kills end: each has one reply", run.wrong)
+    images = Images(run, folder, count, rng).follow()
+    case(f"{images.judged} files that a loss of power may leave, {images.opened} of them opened", images.wrong)
+    dumped(run)
+
+
+def dumped(run):
+    """The dump has each acknowledged request once, at the commit that its reply told, and its replay gives each reply."""
+    got = subprocess.run([run.tbd, "dump", run.file], capture_output=True)
+    with open(run.file, "rb") as file:
+        records = records_of(file.read())
+    wrong = [] if got.returncode == 0 and got.stdout[16:] == b"".join(records[1:]) else [f"dump: {got.returncode}, {len(got.stdout)} bytes"]
+    for (client, number), reply in run.first.items():
+        record = records[Reply.from_bytes(reply).commit]
+        if record[16:] != run.sent[client, number]:
+            wrong.append(f"client {client}, request {number} is not at its commit")
+    if len({record[16:] for record in records[1:]}) != len(records) - 1:
+        wrong.append("a request is in the history twice")
+    case(f"a dump of {len(records) - 1} entries has each acknowledged request at its commit", wrong)
+    tbs = os.path.join(ROOT, "crates", "tbs", "out", "tbs")
+    if not os.access(tbs, os.X_OK):
+        print("passed over: the replay of the dump, tbs is not built")
+        return
+    replies = list(replies_in(subprocess.run([tbs, "replay"], input=got.stdout, capture_output=True).stdout))
+    wrong = [key for key, reply in run.first.items() if reply not in replies[Reply.from_bytes(reply).commit - 1 :][:1]]
+    case(f"tbs replay gives the {len(run.first)} replies that were told", wrong)
+
+
+def controls(tbd, folder, shim, rng):
+    """A disk that drops syncs, and a program that answers before it commits, are caught."""
+    for fault in ("nosync", "early 1"):
+        run = Run(tbd, folder, fault[:5], rng)
+        lives(run, shim, 5, fault)
+        wrong = Images(run, folder, 1, rng).follow().wrong
+        case(f"caught over the calls: {fault}", [] if wrong else ["nothing was found"])
+    run = Run(tbd, folder, "killed", rng)
+    process = run.start()
+    run.open(process)
+    ended(process)
+    for _ in range(5):
+        process = run.start(shim, "early 200")
+        run.round(process, run.some())
+        process.kill()
+        ended(process)
+    process = run.start()
+    for client, number in sorted(run.done.items()):
+        for reply in run.ask(process, [run.sent[client, number]]):
+            run.take(reply)
+    ended(process)
+    case("caught by kills: early", [] if run.wrong else ["nothing was found"])
+
+
+def full(tbd, folder, rng):
+    """A file system of 64 KiB is filled. With more room all that was acknowledged is there."""
+    room = os.path.join(folder, "room")
+    os.mkdir(room)
+    if os.geteuid() or subprocess.run(["mount", "-t", "tmpfs", "-o", "size=64k", "none", room], capture_output=True).returncode:
+        print("passed over: a full file system, this user may mount none")
+        return
+    try:
+        run = Run(tbd, room, "full", rng)
+        process = run.start()
+        run.open(process)
+        for _ in range(1000):
+            if not run.round(process, run.some()):
+                break
+        told = process.stderr.read()
+        case("a full file system ends in Full and status 8", [] if (ended(process), told) == (8, b"tbd: Full\n") else [told])
+        run.file = shutil.copy(run.file, os.path.join(folder, "more.tbk"))
+    finally:
+        subprocess.run(["umount", room], check=True)
+    process = run.start()
+    for client in range(1, CLIENTS + 1):
+        run.round(process, [client])
+    if ended(process):
+        run.wrong.append("a start with more room ends by a fault")
+    case(f"with more room {len(run.first)} requests have one reply each", run.wrong)
+    dumped(run)
+
+
+def main():
+    parser = argparse.ArgumentParser(description=__doc__, formatter_class=argparse.RawDescriptionHelpFormatter)
+    parser.add_argument("--tbd", default=os.path.join(ROOT, "crates", "tbd", "out", "tbd"))
+    parser.add_argument("--rounds", type=int, default=120)
+    parser.add_argument("--images", type=int, default=20, help="files that are made at each write")
+    parser.add_argument("--seed", type=int, default=1)
+    given = parser.parse_args()
+    rng = random.Random(given.seed)
+    with tempfile.TemporaryDirectory() as folder:
+        shim = os.path.join(folder, "shim.so")
+        source = os.path.join(ROOT, "checks", "keep", "shim.c")
+        subprocess.run(["gcc", "-O1", "-Wall", "-Wextra", "-shared", "-fPIC", "-o", shim, source], check=True)
+        losses(given.tbd, folder, shim, given.rounds, given.images, rng)
+        controls(given.tbd, folder, shim, rng)
+        full(given.tbd, folder, rng)
+    print(f"{passed} passed, {failed} failed")
+    return 1 if failed else 0
+
+
+if __name__ == "__main__":
+    sys.exit(main())
