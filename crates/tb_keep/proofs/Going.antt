@@ -1,5 +1,6 @@
 -- Serving in rounds: those so far, and what comes next.
 use Rattle.std.proofs.Common.{◌≡◌, ℕ, ◌+◌, ◌-◌, ◌^◌, true, false, List, [], ◌∷◌, ◌++◌, length, None, Result, Ok, Err, inl, inr, refl, sym, ap, ◌∙◌, subst, append_assoc, length-append}
+use Rattle.tb_records.specs.declared.faults.FrameFault.{FrameFault}
 use Rattle.tb_records.specs.Transport.{Input, Output, Sent, CutOff}
 use Rattle.tb_journal.specs.Device.{Disk, LeavesOnly}
 use Rattle.tb_journal.specs.Contents.{recorded}
@@ -14,7 +15,7 @@ use Rattle.tb_keep.specs.declared.faults.KeepFault.{KeepFault}
 use Rattle.tb_keep.specs.declared.faults.KeepFault.TheVariants as keep
 use Rattle.tb_keep.specs.Keeping.{Keeping, IsFresh}
 use Rattle.tb_keep.specs.Rounds.{state_from, records_from, told_from, IsServed, AreServed, pairs_of, Commits, Standing, Round, Rounds, Pauses, Served, Stops, EndsBy}
-use Rattle.tb_keep.specs.Steps.{KeepsPair, Next, Ceases, KeepsNext, IsCommitted, Tells, MayTell}
+use Rattle.tb_keep.specs.Steps.{KeepsPair, Next, Ceases, KeepsNext, IsCommitted, Tells, MayTell, EndsNext}
 use Rattle.tb_keep.proofs.Pairs.{state_snoc, records_join, told_join, served_snoc, pairs_snoc}
 
 -- a pair that was read, and a fault in serving it
@@ -211,7 +212,7 @@ module _ (tells : Type 0) {D : Type 0} (disk : D → Disk) where
       → Going k before keeper first input start written held → Ceases (Ok None) keeper again input last held same → Tells tells disk (Err f) again after same left written next
       → Served tells disk (Err f) before after first last start next
   served_end f k before keeper again after first input last start written next held same left g c t =
-      served_silent f k before keeper after first input last start written next held left g (inr c.read)
+      served_silent f k before keeper after first input last start written next held left g (inr (inl c.read))
       (subst (λ (x : Keeping D). Tells tells disk (Err f) x after held left written next) c.same
       (subst (λ bytes. Tells tells disk (Err f) again after bytes left written next) c.holds t))
 
@@ -247,6 +248,46 @@ module _ (tells : Type 0) {D : Type 0} (disk : D → Disk) where
       ended (keep.Serving run.TimeExhausted) n = record { same = n.turn.2 ∙ g.device; silent = g.output }
       ended (keep.Serving run.TooLong) n = absurd n.turn
       ended (keep.Journal fault) n = inl (record { same = n.turn.1 ∙ g.device; silent = g.output })
+
+  -- the replies held were told, and then a frame was none
+  served_no_frame : (fault : FrameFault) (k : ℕ) (before keeper again after : Keeping D) (first input last : Input) (start written next : Output) (held same left : List ℕ)
+      → Going k before keeper first input start written held → Ceases (Err fault) keeper again input last held same → Tells tells disk (Ok tt) again after same left written next
+      → Served tells disk (Err (keep.Serving (run.Frame fault))) before after first last start next
+  unfolding going_told
+  served_no_frame fault k before keeper again after first input last start written next held same left g c t =
+      let told = going_told k before keeper after first input start written next held left g
+      (subst (λ (x : Keeping D). Tells tells disk (Ok tt) x after held left written next) c.same
+      (subst (λ bytes. Tells tells disk (Ok tt) again after bytes left written next) c.holds t)) in
+      record {
+        rounds = told.rounds;
+        more = [];
+        standing = told.standing;
+        input = input;
+        kept = told.kept;
+        served = tt;
+        read = told.read;
+        stops = inl c.read;
+        ended = inl (record { same = refl; silent = refl });
+      }
+
+  -- a fault in reading or serving a pair, behind which what is held may be told
+  pub served_ends : (f : KeepFault) (k : ℕ) (before keeper after : Keeping D) (first input last : Input) (start written next : Output) (held left : List ℕ)
+      → Going k before keeper first input start written held → EndsNext tells disk f keeper after input last held left written next
+      → Served tells disk (Err f) before after first last start next
+  served_ends f k before keeper after first input last start written next held left g (inl (n, silent)) =
+      subst (λ (o : Output). Served tells disk (Err f) before after first last start o) (sym silent) (served_into f k before keeper after first input last start written held left g n)
+  served_ends f k before keeper after first input last start written next held left g (inr (fault, mid, same, c, inl (is, t))) =
+      subst (λ (e : KeepFault). Served tells disk (Err e) before after first last start next) (sym is)
+      (served_no_frame fault k before keeper mid after first input last start written next held same left g c t)
+  served_ends f k before keeper after first input last start written next held left g (inr (fault, mid, same, c, inr t)) =
+      served_silent f k before keeper after first input last start written next held left g (inr (inr (fault, c.read)))
+      (subst (λ (x : Keeping D). Tells tells disk (Err f) x after held left written next) c.same
+      (subst (λ bytes. Tells tells disk (Err f) mid after bytes left written next) c.holds t))
+
+  -- nothing was written meanwhile
+  pub going_silent : (k : ℕ) (before keeper : Keeping D) (first input : Input) (start written next : Output) (held : List ℕ)
+      → next ≡ written → Going k before keeper first input start written held → Going k before keeper first input start next held
+  going_silent k before keeper first input start written next held same g = subst (λ (o : Output). Going k before keeper first input start o held) (sym same) g
 
   pub served_too_long : (k : ℕ) (before keeper : Keeping D) (first input : Input) (start written : Output) (held : List ℕ)
       → k ≡ 2 ^ 64 - 1 → Going k before keeper first input start written held → Served tells disk (Err (keep.Serving run.TooLong)) before keeper first input start written

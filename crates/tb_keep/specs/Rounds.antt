@@ -77,9 +77,9 @@ abbrev pub pairs_of : List (List Pair) → List Pair
 pairs_of [] = []
 pairs_of (ps ∷ rounds) = ps ++ pairs_of rounds
 
--- nothing more was read, or the end
+-- nothing more was read, or the end, or no frame
 abbrev pub Pauses : Input → Input → Type 0
-Pauses middle after = (after ≡ middle) ⊎ IsRead (Ok None) middle after
+Pauses middle after = (after ≡ middle) ⊎ (IsRead (Ok None) middle after ⊎ ((fault : FrameFault) × IsRead (Err fault) middle after))
 
 -- what was read behind the pairs that were served: nothing to the end, a fault, one more pair, or nothing
 abbrev pub Stops : Result ℕ KeepFault → State → ℕ → Input → Input → Type 0

@@ -109,3 +109,14 @@ module _ (tells : Type 0) {D : Type 0} (disk : D → Disk) where
   abbrev pub MayTell : Result (Unit {0}) KeepFault → Keeping D → Keeping D → List ℕ → List ℕ → Output → Output → Type 0
   MayTell result before after held left start written =
       ((result ≡ Ok tt) × (after ≡ before) × (left ≡ held) × (written ≡ start)) ⊎ Tells result before after held left start written
+
+  -- a fault: where a frame is none, what is held is told first, and that may fail
+  abbrev pub EndsNext : KeepFault → Keeping D → Keeping D → Input → Input → List ℕ → List ℕ → Output → Output → Type 0
+  EndsNext f before after first last held left start written =
+      (KeepsNext (Err f) before after first last held left × (written ≡ start))
+      ⊎ ((fault : FrameFault) × (mid : Keeping D) × (same : List ℕ) × Ceases (Err fault) before mid first last held same
+      × (((f ≡ keep.Serving (run.Frame fault)) × Tells (Ok tt) mid after same left start written) ⊎ Tells (Err f) mid after same left start written))
+
+  abbrev pub TellsAtEnd : Result Bool KeepFault → Keeping D → Keeping D → Input → Input → List ℕ → List ℕ → Output → Output → Type 0
+  TellsAtEnd (Ok more) before after first last held left start written = KeepsNext (Ok more) before after first last held left × (written ≡ start)
+  TellsAtEnd (Err f) before after first last held left start written = EndsNext f before after first last held left start written

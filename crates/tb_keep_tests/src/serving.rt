@@ -123,3 +123,31 @@ fn cut_short(rt: &impl Abort, alloc: Global) -> Result<(), Fail> {
 fn a_frame_cut_short_ends_serving(rt: HostRuntime) -> Result<(), Fail> {
     cut_short(&rt, rt.alloc())
 }
+
+/// What serving answers to a script whose last frame has a byte that has to be 0, where all of it is at hand.
+fn wrong_frame(rt: &impl Abort, alloc: Global) -> Result<(), Fail> {
+    let mut keeper = created(rt, alloc)?;
+    let mut bytes = script(alloc, 2)?;
+    let whole = bytes.len();
+    put_pair(&mut bytes, &TRANSFER)?;
+    // A reserved byte of the header, behind the moment.
+    if let Some(byte) = bytes.get_mut(whole.saturating_add(37)) {
+        *byte = 1;
+    }
+    let mut reader = Buffered::new(BufReader::with_capacity(alloc, 4096, bytes.as_slice())?);
+    let mut writer = Counting::new(Vec::new(alloc));
+    let result = keep(alloc, &mut keeper, &mut reader, &mut writer);
+    let told = writer.into_inner();
+    let entries = keeper.journal().count();
+    drop(keeper);
+    assert!(rt; result == Err(KeepFault::Serving(RunFault::Frame(FrameFault::Reserved))));
+    // The replies to the register and the accounts, 48 bytes each, and their records behind the head.
+    assert!(rt; told.len() == 96);
+    assert!(rt; entries == 3);
+    Ok(())
+}
+
+#[test]
+fn a_wrong_frame_ends_serving_behind_those_before_it(rt: HostRuntime) -> Result<(), Fail> {
+    wrong_frame(&rt, rt.alloc())
+}
