@@ -19,21 +19,12 @@ import tempfile
 HERE = os.path.dirname(os.path.abspath(__file__))
 sys.path.insert(0, os.path.join(HERE, "..", "clients", "python"))
 
+from compare import run  # noqa: E402
 from tb_client import reply_length  # noqa: E402
 
 TBS = os.environ.get("PROGRAM", os.path.join(HERE, "..", "crates", "tbs", "out", "tbs"))
 TBD = os.environ.get("TBD", os.path.join(HERE, "..", "crates", "tbd", "out", "tbd"))
 WORKLOADS = ["rising", "chains", "expiring", "single", "lookups", "mixed"]
-
-
-def run(words, script, replies):
-    """Processor seconds of a program."""
-    with open(script, "rb") as source, open(replies, "wb") as sink:
-        child = subprocess.Popen(words, stdin=source, stdout=sink)
-        _, status, usage = os.wait4(child.pid, 0)
-    if status != 0:
-        sys.exit(f"{words[0]} ended with {status} on {script}")
-    return usage.ru_utime + usage.ru_stime
 
 
 def replies_in(path):
@@ -65,9 +56,9 @@ def compare(name, count, turns, folder):
     for _ in range(turns):
         if os.path.exists(file):
             os.remove(file)
-        plain.append(run([TBS, "run", "64"], script, script + ".tbs"))
-        kept.append(run([TBD, "run", file, "64"], script, script + ".tbd"))
-        starts.append(run([TBD, "run", file, "64"], os.devnull, os.devnull))
+        plain.append(run([TBS, "run", "64"], script, script + ".tbs")[0])
+        kept.append(run([TBD, "run", file, "64"], script, script + ".tbd")[0])
+        starts.append(run([TBD, "run", file, "64"], os.devnull, os.devnull)[0])
     with open(script + ".tbs", "rb") as a, open(script + ".tbd", "rb") as b:
         same = a.read() == b.read()
     os.remove(file)

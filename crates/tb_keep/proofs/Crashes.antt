@@ -78,7 +78,7 @@ module _ (tells : Type 0) {D : Type 0} (disk : D → Disk) (only : (d : D) → O
       by (Ok k) e = quits e.2
       by (Err (keep.Journal fault)) (inl same) = quits same
       by (Err (keep.Journal fault)) (inr fails) = batch (fails.any_moment t)
-      by (Err (keep.Serving (run.Frame fault))) (inl same) = quits same
+      by (Err (keep.Serving (run.Frame fault))) (inl (none, same)) = quits same
       by (Err (keep.Serving (run.Frame fault))) (inr (is, broken)) = batch ((broken.commits t).any_moment)
       by (Err (keep.Serving run.NoMemory)) same = quits same
       by (Err (keep.Serving run.TimeExhausted)) same = quits same

@@ -14,17 +14,9 @@ use Rattle.tb_machine.proofs.Running.{reads_none, reads_snoc}
 use Rattle.tb_keep.specs.declared.faults.KeepFault.{KeepFault}
 use Rattle.tb_keep.specs.declared.faults.KeepFault.TheVariants as keep
 use Rattle.tb_keep.specs.Keeping.{Keeping, IsFresh}
-use Rattle.tb_keep.specs.Rounds.{state_from, records_from, told_from, IsServed, AreServed, pairs_of, Commits, Standing, Round, Rounds, Pauses, Served, Stops, EndsBy}
-use Rattle.tb_keep.specs.Steps.{KeepsPair, Next, Ceases, KeepsNext, IsCommitted, Tells, MayTell, EndsNext}
+use Rattle.tb_keep.specs.Rounds.{state_from, records_from, told_from, IsServed, AreServed, pairs_of, Commits, Standing, Round, Rounds, Pauses, Served, Stops, EndsBy, IsRead}
+use Rattle.tb_keep.specs.Steps.{Next, Ceases, IsCommitted, Tells, MayTell, EndsNext}
 use Rattle.tb_keep.proofs.Pairs.{state_snoc, records_join, told_join, served_snoc, pairs_snoc}
-
--- a pair that was read, and a fault in serving it
-pub next_fault : {D : Type 0} (f : KeepFault) (p : Pair) (before after : Keeping D) (first last : Input) (held grown : List ℕ) → Reads (p ∷ []) first last → KeepsPair (Err f) p before after held grown → KeepsNext (Err f) before after first last held grown
-next_fault (keep.Serving (run.Frame fault)) p before after first last held grown read turn = absurd turn
-next_fault (keep.Serving run.NoMemory) p before after first last held grown read turn = record { pair = p; read = read; turn = turn }
-next_fault (keep.Serving run.TimeExhausted) p before after first last held grown read turn = record { pair = p; read = read; turn = turn }
-next_fault (keep.Serving run.TooLong) p before after first last held grown read turn = record { pair = p; read = read; turn = turn }
-next_fault (keep.Journal fault) p before after first last held grown read turn = record { pair = p; read = read; turn = turn }
 
 abbrev is_ok : {T F : Type 0} → Result T F → Type 0
 is_ok (Ok x) = Unit {0}
@@ -216,9 +208,9 @@ module _ (tells : Type 0) {D : Type 0} (disk : D → Disk) where
       (subst (λ (x : Keeping D). Tells tells disk (Err f) x after held left written next) c.same
       (subst (λ bytes. Tells tells disk (Err f) again after bytes left written next) c.holds t))
 
-  -- a fault in reading or serving a pair
+  -- a fault in serving a pair
   pub served_into : (f : KeepFault) (k : ℕ) (before keeper after : Keeping D) (first input last : Input) (start written : Output) (held grown : List ℕ)
-      → Going k before keeper first input start written held → KeepsNext (Err f) keeper after input last held grown
+      → Going k before keeper first input start written held → Next (Err f) keeper after input last held grown
       → Served tells disk (Err f) before after first last start written
   served_into f k before keeper after first input last start written held grown g n = record {
     rounds = g.rounds;
@@ -235,29 +227,27 @@ module _ (tells : Type 0) {D : Type 0} (disk : D → Disk) where
       new_there : (p : Pair) → is_new_in keeper.state p ≡ true → is_new_in (state_from g.standing.state g.more) p ≡ true
       new_there p is = subst (λ (U : State). is_new_in U p ≡ true) g.state is
 
-      stops : (f : KeepFault) → KeepsNext (Err f) keeper after input last held grown → Stops (Err f) (state_from g.standing.state g.more) (length (pairs_of g.rounds ++ g.more)) input last
-      stops (keep.Serving (run.Frame fault)) n = inl n.read
+      stops : (f : KeepFault) → Next (Err f) keeper after input last held grown → Stops (Err f) (state_from g.standing.state g.more) (length (pairs_of g.rounds ++ g.more)) input last
+      stops (keep.Serving (run.Frame fault)) n = absurd n.turn
       stops (keep.Serving run.NoMemory) n = (n.pair, n.read)
       stops (keep.Serving run.TimeExhausted) n = (n.pair, n.read, new_there n.pair n.turn.0, subst (λ (U : State). has_time U n.pair ≡ false) g.state n.turn.1)
       stops (keep.Serving run.TooLong) n = absurd n.turn
       stops (keep.Journal fault) n = inl (n.pair, n.read, new_there n.pair n.turn.0)
 
-      ended : (f : KeepFault) → KeepsNext (Err f) keeper after input last held grown → EndsBy tells disk (Err f) g.more g.standing after written
-      ended (keep.Serving (run.Frame fault)) n = inl (record { same = ap (λ (x : Keeping D). x.journal.device) n.same ∙ g.device; silent = g.output })
+      ended : (f : KeepFault) → Next (Err f) keeper after input last held grown → EndsBy tells disk (Err f) g.more g.standing after written
+      ended (keep.Serving (run.Frame fault)) n = absurd n.turn
       ended (keep.Serving run.NoMemory) n = record { same = n.turn ∙ g.device; silent = g.output }
       ended (keep.Serving run.TimeExhausted) n = record { same = n.turn.2 ∙ g.device; silent = g.output }
       ended (keep.Serving run.TooLong) n = absurd n.turn
       ended (keep.Journal fault) n = inl (record { same = n.turn.1 ∙ g.device; silent = g.output })
 
   -- the replies held were told, and then a frame was none
-  served_no_frame : (fault : FrameFault) (k : ℕ) (before keeper again after : Keeping D) (first input last : Input) (start written next : Output) (held same left : List ℕ)
-      → Going k before keeper first input start written held → Ceases (Err fault) keeper again input last held same → Tells tells disk (Ok tt) again after same left written next
+  served_no_frame : (fault : FrameFault) (k : ℕ) (before keeper after : Keeping D) (first input last : Input) (start written next : Output) (held left : List ℕ)
+      → Going k before keeper first input start written held → IsRead (Err fault) input last → Tells tells disk (Ok tt) keeper after held left written next
       → Served tells disk (Err (keep.Serving (run.Frame fault))) before after first last start next
   unfolding going_told
-  served_no_frame fault k before keeper again after first input last start written next held same left g c t =
-      let told = going_told k before keeper after first input start written next held left g
-      (subst (λ (x : Keeping D). Tells tells disk (Ok tt) x after held left written next) c.same
-      (subst (λ bytes. Tells tells disk (Ok tt) again after bytes left written next) c.holds t)) in
+  served_no_frame fault k before keeper after first input last start written next held left g read t =
+      let told = going_told k before keeper after first input start written next held left g t in
       record {
         rounds = told.rounds;
         more = [];
@@ -266,23 +256,21 @@ module _ (tells : Type 0) {D : Type 0} (disk : D → Disk) where
         kept = told.kept;
         served = tt;
         read = told.read;
-        stops = inl c.read;
-        ended = inl (record { same = refl; silent = refl });
+        stops = inl read;
+        ended = inl (refl, record { same = refl; silent = refl });
       }
 
-  -- a fault in reading or serving a pair, behind which what is held may be told
+  -- a fault in reading or serving a pair
   pub served_ends : (f : KeepFault) (k : ℕ) (before keeper after : Keeping D) (first input last : Input) (start written next : Output) (held left : List ℕ)
       → Going k before keeper first input start written held → EndsNext tells disk f keeper after input last held left written next
       → Served tells disk (Err f) before after first last start next
   served_ends f k before keeper after first input last start written next held left g (inl (n, silent)) =
       subst (λ (o : Output). Served tells disk (Err f) before after first last start o) (sym silent) (served_into f k before keeper after first input last start written held left g n)
-  served_ends f k before keeper after first input last start written next held left g (inr (fault, mid, same, c, inl (is, t))) =
+  served_ends f k before keeper after first input last start written next held left g (inr (fault, read, inl (is, t))) =
       subst (λ (e : KeepFault). Served tells disk (Err e) before after first last start next) (sym is)
-      (served_no_frame fault k before keeper mid after first input last start written next held same left g c t)
-  served_ends f k before keeper after first input last start written next held left g (inr (fault, mid, same, c, inr t)) =
-      served_silent f k before keeper after first input last start written next held left g (inr (inr (fault, c.read)))
-      (subst (λ (x : Keeping D). Tells tells disk (Err f) x after held left written next) c.same
-      (subst (λ bytes. Tells tells disk (Err f) mid after bytes left written next) c.holds t))
+      (served_no_frame fault k before keeper after first input last start written next held left g read t)
+  served_ends f k before keeper after first input last start written next held left g (inr (fault, read, inr t)) =
+      served_silent f k before keeper after first input last start written next held left g (inr (inr (fault, read))) t
 
   -- nothing was written meanwhile
   pub going_silent : (k : ℕ) (before keeper : Keeping D) (first input : Input) (start written next : Output) (held : List ℕ)

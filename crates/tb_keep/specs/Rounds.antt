@@ -118,11 +118,11 @@ module _ (tells : Type 0) {D : Type 0} (disk : D → Disk) where
     pub commits : tells → Commits (records_from middle.state ps) (disk middle.device) (disk device)
     pub cut : CutOff (told_from middle.state ps) middle.output output
 
-  -- how serving ends behind rounds and further pairs
+  -- how serving ends behind rounds and further pairs: where a frame is none there are no further ones, unless the writer failed
   abbrev pub EndsBy : Result ℕ KeepFault → List Pair → Standing D → Keeping D → Output → Type 0
   EndsBy (Ok k) ps middle keeper output = (ps ≡ []) × (keeper.state ≡ middle.state) × Quits middle keeper.journal.device output
   EndsBy (Err (keep.Journal fault)) ps middle keeper output = Quits middle keeper.journal.device output ⊎ Fails ps middle keeper.journal.device output
-  EndsBy (Err (keep.Serving (run.Frame fault))) ps middle keeper output = Quits middle keeper.journal.device output ⊎ ((fault ≡ Device) × BreaksOff ps middle keeper.journal.device output)
+  EndsBy (Err (keep.Serving (run.Frame fault))) ps middle keeper output = ((ps ≡ []) × Quits middle keeper.journal.device output) ⊎ ((fault ≡ Device) × BreaksOff ps middle keeper.journal.device output)
   EndsBy (Err fault) ps middle keeper output = Quits middle keeper.journal.device output
 
   -- pairs were read and served in rounds, and further ones were read and not told

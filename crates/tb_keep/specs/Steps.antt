@@ -78,11 +78,10 @@ pub record Ceases {D : Type 0} (answer : Result (Option (ℕ × Message)) FrameF
   pub same : after ≡ before
   pub holds : grown ≡ held
 
-abbrev pub KeepsNext : {D : Type 0} → Result Bool KeepFault → Keeping D → Keeping D → Input → Input → List ℕ → List ℕ → Type 0
-KeepsNext (Ok true) before after first last held grown = Next (Ok tt) before after first last held grown
-KeepsNext (Ok false) before after first last held grown = Ceases (Ok None) before after first last held grown
-KeepsNext (Err (keep.Serving (run.Frame fault))) before after first last held grown = Ceases (Err fault) before after first last held grown
-KeepsNext (Err fault) before after first last held grown = Next (Err fault) before after first last held grown
+-- whether there was one
+abbrev pub GoesOn : {D : Type 0} → Bool → Keeping D → Keeping D → Input → Input → List ℕ → List ℕ → Type 0
+GoesOn true before after first last held grown = Next (Ok tt) before after first last held grown
+GoesOn false before after first last held grown = Ceases (Ok None) before after first last held grown
 
 -- the bytes were told and nothing is held any more, or the device failed and left a beginning of them
 abbrev pub HandsOut : Result (Unit {0}) KeepFault → List ℕ → List ℕ → Output → Output → Type 0
@@ -110,13 +109,13 @@ module _ (tells : Type 0) {D : Type 0} (disk : D → Disk) where
   MayTell result before after held left start written =
       ((result ≡ Ok tt) × (after ≡ before) × (left ≡ held) × (written ≡ start)) ⊎ Tells result before after held left start written
 
-  -- a fault: where a frame is none, what is held is told first, and that may fail
+  -- a fault in serving a pair; or a frame is none, and what is held is told first, which may fail
   abbrev pub EndsNext : KeepFault → Keeping D → Keeping D → Input → Input → List ℕ → List ℕ → Output → Output → Type 0
   EndsNext f before after first last held left start written =
-      (KeepsNext (Err f) before after first last held left × (written ≡ start))
-      ⊎ ((fault : FrameFault) × (mid : Keeping D) × (same : List ℕ) × Ceases (Err fault) before mid first last held same
-      × (((f ≡ keep.Serving (run.Frame fault)) × Tells (Ok tt) mid after same left start written) ⊎ Tells (Err f) mid after same left start written))
+      (Next (Err f) before after first last held left × (written ≡ start))
+      ⊎ ((fault : FrameFault) × IsRead (Err fault) first last
+      × (((f ≡ keep.Serving (run.Frame fault)) × Tells (Ok tt) before after held left start written) ⊎ Tells (Err f) before after held left start written))
 
-  abbrev pub TellsAtEnd : Result Bool KeepFault → Keeping D → Keeping D → Input → Input → List ℕ → List ℕ → Output → Output → Type 0
-  TellsAtEnd (Ok more) before after first last held left start written = KeepsNext (Ok more) before after first last held left × (written ≡ start)
-  TellsAtEnd (Err f) before after first last held left start written = EndsNext f before after first last held left start written
+  abbrev pub KeepsNext : Result Bool KeepFault → Keeping D → Keeping D → Input → Input → List ℕ → List ℕ → Output → Output → Type 0
+  KeepsNext (Ok more) before after first last held left start written = GoesOn more before after first last held left × (written ≡ start)
+  KeepsNext (Err f) before after first last held left start written = EndsNext f before after first last held left start written

@@ -8,7 +8,7 @@ ghost use Rattle.tb_machine.specs.Runs.{is_new_in};
 ghost use Rattle.tb_machine.specs.Scripts.{entry_of, has_time};
 ghost use Rattle.tb_keep.specs.Keeping.{IsFresh};
 ghost use Rattle.tb_keep.specs.Rounds.{Served};
-ghost use Rattle.tb_keep.specs.Steps.{IsRefusal, Appends, Holds, KeepsPair, KeepsNext, HandsOut, Tells, MayTell, TellsAtEnd, with_record};
+ghost use Rattle.tb_keep.specs.Steps.{IsRefusal, Appends, Holds, KeepsPair, KeepsNext, HandsOut, Tells, MayTell, with_record};
 
 use crate::faults::KeepFault;
 use crate::keepers::Keeper;
@@ -113,26 +113,6 @@ fn keep_pair<D: Device>(
     hold_reply(&mut keeper.machine, replies, moment, request)
 }
 
-/// Reads and serves the next pair: false where there is none.
-fn keep_next<D: Device, R: Source>(
-    alloc: Global,
-    keeper: &mut Keeper<D>,
-    replies: &mut Replies,
-    reader: &mut R,
-) -> Result<bool, KeepFault>
-    ensures { KeepsNext result keeper.old keeper.new (R.input reader.old) (R.input reader.new)
-        replies.old.bytes.items replies.new.bytes.items }
-{
-    match read_timed_from(alloc, reader) {
-        Ok(Some((moment, request))) => {
-            keep_pair(keeper, replies, moment, request)?;
-            Ok(true)
-        }
-        Ok(None) => Ok(false),
-        Err(fault) => Err(KeepFault::Serving(RunFault::Frame(fault))),
-    }
-}
-
 /// Gives out what is held.
 fn hand_out<W: Sink>(replies: &mut Replies, writer: &mut W) -> Result<(), KeepFault>
     ensures { HandsOut result replies.old.bytes.items replies.new.bytes.items (W.output writer.old)
@@ -177,9 +157,9 @@ fn tell_before_waiting<D: Device, R: Source, W: Sink>(
     tell(keeper, replies, writer)
 }
 
-/// Reads and serves the next pair: false where there is none. Where a frame is none, what is held is told before the fault is
-/// answered.
-fn keep_next_or_tell<D: Device, R: Source, W: Sink>(
+/// Reads and serves the next pair: false where there is none. Where a frame is none, what is held is told before the
+/// fault is answered.
+fn keep_next<D: Device, R: Source, W: Sink>(
     alloc: Global,
     keeper: &mut Keeper<D>,
     replies: &mut Replies,
@@ -187,22 +167,26 @@ fn keep_next_or_tell<D: Device, R: Source, W: Sink>(
     writer: &mut W,
 ) -> Result<bool, KeepFault>
     requires { D.tells → IsReady D.disk keeper.old.journal }
-    ensures { TellsAtEnd D.tells D.disk result keeper.old keeper.new (R.input reader.old) (R.input reader.new)
+    ensures { KeepsNext D.tells D.disk result keeper.old keeper.new (R.input reader.old) (R.input reader.new)
         replies.old.bytes.items replies.new.bytes.items (W.output writer.old) (W.output writer.new) }
 {
-    match keep_next(alloc, keeper, replies, reader) {
-        Err(KeepFault::Serving(RunFault::Frame(fault))) => {
+    match read_timed_from(alloc, reader) {
+        Ok(Some((moment, request))) => {
+            keep_pair(keeper, replies, moment, request)?;
+            Ok(true)
+        }
+        Ok(None) => Ok(false),
+        Err(fault) => {
             tell(keeper, replies, writer)?;
             Err(KeepFault::Serving(RunFault::Frame(fault)))
         }
-        other => other,
     }
 }
 
 /// Serves pairs, a moment and the frame of a request each, until they end, and answers the number of replies told. Each
 /// was told when the entries that it rests on were in the file. Where a frame is none, all before it is answered.
-/// After any other fault nothing more is told: what was read since the last commit is not answered. The keeper is not to be used
-/// again.
+/// After any other fault nothing more is told: what was read since the last commit is not answered. The keeper is not to be
+/// used again.
 pub fn keep<D: Device, R: Source, W: Sink>(
     alloc: Global,
     keeper: &mut Keeper<D>,
@@ -217,7 +201,7 @@ pub fn keep<D: Device, R: Source, W: Sink>(
     let mut replies = Replies::new(alloc);
     for k in 0..u64::MAX {
         tell_before_waiting(keeper, &mut replies, reader, writer)?;
-        if !keep_next_or_tell(alloc, keeper, &mut replies, reader, writer)? {
+        if !keep_next(alloc, keeper, &mut replies, reader, writer)? {
             tell(keeper, &mut replies, writer)?;
             return Ok(k);
         }
