@@ -1,6 +1,9 @@
 //! Requests, printed as statements.
-ghost use Rattle.std.specs.Prelude.{◌≡◌, ◌++◌, ◌∷◌, [], List, ℕ, OnOk, IfOk, length};
+ghost use Rattle.std.specs.Prelude.{◌≡◌, ◌<◌, ◌^◌, ◌++◌, ◌∷◌, [], All, List, ℕ, OnOk, IfOk, length};
 ghost use Rattle.std.specs.Fmt.{decimal};
+ghost use Rattle.tb_records.specs.Frames.{BodyFits, IsId};
+ghost use Rattle.tb_records.specs.Inputs.{IsTimed};
+ghost use Rattle.tb_records.specs.RecordBytes.{IsAccount, IsTransfer};
 ghost use Rattle.tb_text.specs.Printed.{entry_text, further_text, entries_text, header_entries, account_entries, transfer_entries, account_text, transfer_text, id_text, more_text, items_text, body_text, statement_text, printed};
 ghost use Rattle.tb_text.specs.Words.{operation_name};
 
@@ -58,7 +61,10 @@ fn put_entries(
 
 /// The fields before the operation of a request, behind the moment.
 fn header_entries(request: &Request) -> [(Field, u128); 3]
-    ensures { result ≡ header_entries request.now }
+    ensures entries { result ≡ header_entries request.now }
+    ensures fits { (request.now.client < 2 ^ 128)
+        × (request.now.session < 2 ^ 64)
+        × (request.now.request < 2 ^ 32) }
 {
     [
         (Field::Client, request.client()),
@@ -72,14 +78,19 @@ trait Event {
     // How it is printed.
     ghost text: { Self → List ℕ };
 
+    // Its numbers fit their fields.
+    ghost Fits: { Self → Type 0 };
+
     /// Appends its fields.
     fn put(&self, alloc: Global, out: &mut Vec<u8>) -> Result<(), AllocError>
-        ensures { OnOk result (out.new.items ≡ out.old.items ++ text self.now) };
+        ensures put { OnOk result (out.new.items ≡ out.old.items ++ text self.now) }
+        ensures fits { Fits self.now };
 }
 
 /// The fields of an account behind its id.
-fn account_entries(a: &Account) -> [(Field, u128); 12]
-    ensures { result ≡ account_entries a.now }
+fn account_entries(a: Account) -> [(Field, u128); 12]
+    ensures entries { result ≡ account_entries a }
+    ensures fits { IsAccount a }
 {
     [
         (Field::DebitsPending, a.debits_pending),
@@ -98,8 +109,9 @@ fn account_entries(a: &Account) -> [(Field, u128); 12]
 }
 
 /// The fields of a transfer behind its id.
-fn transfer_entries(t: &Transfer) -> [(Field, u128); 12]
-    ensures { result ≡ transfer_entries t.now }
+fn transfer_entries(t: Transfer) -> [(Field, u128); 12]
+    ensures entries { result ≡ transfer_entries t }
+    ensures fits { IsTransfer t }
 {
     [
         (Field::DebitAccountId, t.debit_account_id),
@@ -120,23 +132,29 @@ fn transfer_entries(t: &Transfer) -> [(Field, u128); 12]
 impl Event for Account {
     ghost text = { account_text };
 
+    ghost Fits = { IsAccount };
+
     #[tactic(auto, unfolding(crate::specs::Printed::account_text))]
     fn put(&self, alloc: Global, out: &mut Vec<u8>) -> Result<(), AllocError> {
-        put_entries(alloc, out, Field::Id, self.id, &account_entries(self))
+        put_entries(alloc, out, Field::Id, self.id, &account_entries(*self))
     }
 }
 
 impl Event for Transfer {
     ghost text = { transfer_text };
 
+    ghost Fits = { IsTransfer };
+
     #[tactic(auto, unfolding(crate::specs::Printed::transfer_text))]
     fn put(&self, alloc: Global, out: &mut Vec<u8>) -> Result<(), AllocError> {
-        put_entries(alloc, out, Field::Id, self.id, &transfer_entries(self))
+        put_entries(alloc, out, Field::Id, self.id, &transfer_entries(*self))
     }
 }
 
 impl Event for u128 {
     ghost text = { id_text };
+
+    ghost Fits = { IsId };
 
     #[tactic(auto, unfolding(crate::specs::Printed::id_text))]
     fn put(&self, alloc: Global, out: &mut Vec<u8>) -> Result<(), AllocError> {
@@ -146,7 +164,8 @@ impl Event for u128 {
 
 /// Appends events that stand behind others.
 fn put_more<T: Event>(alloc: Global, out: &mut Vec<u8>, events: &[T]) -> Result<(), AllocError>
-    ensures { OnOk result (out.new.items ≡ out.old.items ++ more_text T.text events.now) }
+    ensures put { OnOk result (out.new.items ≡ out.old.items ++ more_text T.text events.now) }
+    ensures fits { OnOk result (All T.Fits events.now) }
 {
     for event in events {
         out.extend_from_slice(b", ")?;
@@ -157,7 +176,8 @@ fn put_more<T: Event>(alloc: Global, out: &mut Vec<u8>, events: &[T]) -> Result<
 
 /// Appends the events of an operation.
 fn put_events<T: Event>(alloc: Global, out: &mut Vec<u8>, events: &[T]) -> Result<(), AllocError>
-    ensures { OnOk result (out.new.items ≡ out.old.items ++ items_text T.text events.now) }
+    ensures put { OnOk result (out.new.items ≡ out.old.items ++ items_text T.text events.now) }
+    ensures fits { OnOk result (All T.Fits events.now) }
 {
     match events {
         [] => Ok(()),
@@ -176,9 +196,10 @@ fn put_operation<T: Event>(
     operation: Operation,
     events: &[T],
 ) -> Result<(), AllocError>
-    ensures { OnOk result
+    ensures put { OnOk result
         (out.new.items
         ≡ out.old.items ++ (operation_name operation ++ items_text T.text events.now)) }
+    ensures fits { OnOk result (All T.Fits events.now) }
 {
     out.extend_from_slice(operation.name().as_bytes())?;
     put_events(alloc, out, events)
@@ -187,7 +208,8 @@ fn put_operation<T: Event>(
 /// Appends an operation and its events.
 #[tactic(auto, unfolding(crate::specs::Printed::body_text))]
 fn put_body(alloc: Global, out: &mut Vec<u8>, body: &Body) -> Result<(), AllocError>
-    ensures { OnOk result (out.new.items ≡ out.old.items ++ body_text body.now) }
+    ensures put { OnOk result (out.new.items ≡ out.old.items ++ body_text body.now) }
+    ensures fits { OnOk result (BodyFits body.now) }
 {
     match body {
         Body::Register => out.extend_from_slice(b"register"),
@@ -206,8 +228,8 @@ fn put_body(alloc: Global, out: &mut Vec<u8>, body: &Body) -> Result<(), AllocEr
     }
 }
 
-/// Appends the statement of a request at its moment, a line. After an AllocError a beginning of it may have been
-/// appended.
+/// Appends the statement of a request at its moment, a line. The clause `fits` is what `printed_is_read` asks for, so
+/// the line is read back. After an AllocError a beginning of it may have been appended.
 #[tactic(auto, unfolding(crate::specs::Printed::statement_text))]
 pub fn print_request(
     alloc: Global,
@@ -215,7 +237,8 @@ pub fn print_request(
     moment: u64,
     request: &Request,
 ) -> Result<(), AllocError>
-    ensures { OnOk result (out.new.items ≡ out.old.items ++ statement_text (moment, request.now)) }
+    ensures put { OnOk result (out.new.items ≡ out.old.items ++ statement_text (moment, request.now)) }
+    ensures fits { OnOk result (IsTimed (moment, request.now)) }
 {
     put_entries(
         alloc,
@@ -229,10 +252,12 @@ pub fn print_request(
     out.extend_from_slice(b";\n")
 }
 
-/// The one text of requests at their moments: a statement a line, the fields in the order of the records, those that are 0
-/// left out but for the moment and the ids, numbers decimal. AllocError where there is no memory for it.
+/// The one text of requests at their moments: a statement a line, the fields in the order of the records, those that
+/// are 0 left out but for the moment and the ids, numbers decimal. The clause `fits` is what `printed_is_read` asks for,
+/// so the text is read back as these requests. AllocError where there is no memory for it.
 pub fn print_requests(alloc: Global, pairs: &[(u64, Request)]) -> Result<Vec<u8>, AllocError>
-    ensures { IfOk result (λ text. text.items ≡ printed pairs.now) }
+    ensures text { IfOk result (λ text. text.items ≡ printed pairs.now) }
+    ensures fits { OnOk result (All IsTimed pairs.now) }
 {
     let mut out = Vec::new(alloc);
     for (moment, request) in pairs {

@@ -5,7 +5,7 @@ use Rattle.tb_text.specs.Scan.{Entry}
 use Rattle.tb_text.specs.Printed.{entries_text, account_text}
 use Rattle.tb_text.proofs.printing.AccountEvent.put.Goals as goal
 
-pub returns : goal.returns
+pub returns-clause-put : goal.returns-clause-put
 unfolding account_text
-returns c =
-    subst (λ (es : List Entry). OnOk c.put_entries.result (c.put_entries.new.out.items ≡ c.args.out.now.items ++ entries_text (Id, c.args.self.now.id) es)) c.account_entries.ensures c.put_entries.ensures
+returns-clause-put c =
+    subst (λ (es : List Entry). OnOk c.put_entries.result (c.put_entries.new.out.items ≡ c.args.out.now.items ++ entries_text (Id, c.args.self.now.id) es)) c.account_entries.ensures.entries c.put_entries.ensures
