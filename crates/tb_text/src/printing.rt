@@ -253,8 +253,8 @@ pub fn print_request(
 }
 
 /// The one text of requests at their moments: a statement a line, the fields in the order of the records, those that
-/// are 0 left out but for the moment and the ids, numbers decimal. The clause `fits` is what `printed_is_read` asks for,
-/// so the text is read back as these requests. AllocError where there is no memory for it.
+/// are 0 left out but for the moment and the ids, numbers decimal. The clause `fits` is what `printed_is_read` asks
+/// for, so the text is read back as these requests. AllocError where there is no memory for it.
 pub fn print_requests(alloc: Global, pairs: &[(u64, Request)]) -> Result<Vec<u8>, AllocError>
     ensures text { IfOk result (λ text. text.items ≡ printed pairs.now) }
     ensures fits { OnOk result (All IsTimed pairs.now) }
