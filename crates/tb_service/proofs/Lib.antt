@@ -5,3 +5,4 @@ pub mod Turns
 pub mod Serving
 pub mod Audit
 pub mod Owners
+pub mod Told

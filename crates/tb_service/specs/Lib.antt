@@ -9,6 +9,7 @@ pub mod Clerks
 pub mod Finished
 pub mod Servers
 pub mod OfferedLaws
+pub mod ToldLaws
 -- what private functions alone cite
 pub mod Rule
 pub mod Desks

@@ -1,5 +1,6 @@
 //! A storm: the server's thread, the clients' threads, and the lines that tell of them.
 ghost use Rattle.std.specs.Prelude.{◌≡◌, ◌<◌, ◌≤◌, Result, map, fold};
+ghost use Rattle.tb_records.specs.Transport.{risen};
 ghost use Rattle.tb_commands.specs.Statuses.{Told};
 ghost use Rattle.tb_storm.specs.declared.totals.Totals.{Totals};
 ghost use Rattle.tb_storm.specs.declared.faults.StormFault.{StormFault};
@@ -25,7 +26,7 @@ use tb_service::{Finished, Moments, Open, Port, PortCount, Server, service};
 struct Ticks(u64);
 
 impl Moments for Ticks {
-    ghost tells = { λ before moment after. moment ≡ after.0 };
+    ghost tells = { λ before moment after. (after.0 ≡ risen before.0) × (moment ≡ after.0) };
 
     fn now(&mut self) -> u64 {
         self.0 = self.0.saturating_add(1);
