@@ -1,5 +1,6 @@
 //! A run: one server thread, and a thread for each client.
 ghost use Rattle.std.specs.Prelude.{◌≡◌, All, None, Some, IfSome};
+ghost use Rattle.tb_records.specs.Transport.{risen};
 ghost use Rattle.tb_service.specs.Ports.{AreNumbered, service};
 ghost use Rattle.tb_service.specs.Servers.{service_on};
 ghost use Rattle.tb_service.specs.Finished.{service_at};
@@ -32,7 +33,7 @@ pub struct Scale {
 pub struct Ticks(u64);
 
 impl Moments for Ticks {
-    ghost tells = { λ before moment after. moment ≡ after.0 };
+    ghost tells = { λ before moment after. (after.0 ≡ risen before.0) × (moment ≡ after.0) };
 
     fn now(&mut self) -> u64 {
         self.0 = self.0.saturating_add(1);
