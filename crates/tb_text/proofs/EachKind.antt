@@ -1,5 +1,5 @@
 -- Accounts, transfers and ids are read as what they are.
-use Rattle.std.proofs.Common.{◌≡◌, ℕ, ◌+◌, ◌-◌, ◌^◌, ◌<◌, ◌≤◌, Bool, true, false, ◌&&◌, ◌==◌, List, [], ◌∷◌, ◌++◌, length, Option, Some, refl, sym, ap, ◌∙◌, arith, lit≤}
+use Rattle.std.proofs.Common.{◌≡◌, ℕ, ◌+◌, ◌^◌, ◌<◌, Bool, true, false, ◌&&◌, ◌==◌, List, [], ◌∷◌, ◌++◌, length, Option, Some, refl, sym, ap, ◌∙◌, arith}
 use Rattle.std.specs.Prelude.{nat_lt}
 use Rattle.std.proofs.lemmas.Bool.Decides.{nat_tests}
 use Rattle.tb_records.specs.declared.records.Account.{Account}
@@ -9,166 +9,27 @@ use Rattle.tb_records.specs.Messages.{Message}
 use Rattle.tb_records.specs.Frames.{IsId}
 use Rattle.tb_text.specs.declared.words.Field.{Field}
 use Rattle.tb_text.specs.declared.words.Field.TheVariants as field
-use Rattle.tb_text.specs.declared.words.Operation.TheVariants.{CreateAccounts, CreateTransfers, LookupAccounts, LookupTransfers}
+use Rattle.tb_text.specs.declared.words.Operation.{Operation}
+use Rattle.tb_text.specs.declared.words.Operation.TheVariants.{Register, CreateAccounts, CreateTransfers, LookupAccounts, LookupTransfers}
 use Rattle.tb_text.specs.declared.places.Place.{Place}
 use Rattle.tb_text.specs.declared.places.Place.TheVariants.{Opened, Parted}
 use Rattle.tb_text.specs.Scan.{Entry, Scan, run, awaits_field, may_have, finished}
 use Rattle.tb_text.specs.Printed.{entries_text, entry_text, account_entries, transfer_entries, account_text, transfer_text, id_text}
-use Rattle.tb_text.proofs.Tokens.{IsBetween, at_gap, if_true}
-use Rattle.tb_text.proofs.Entries.{told, InOrder, IsEnd, entries_through, none_or}
-use Rattle.tb_text.proofs.Items.{at, all_at, mid, IsKind, account_back, transfer_back}
-
-pub record Small (limit n : ℕ) : Type 0 where
-  pub most : n ≤ limit
-  pub short : n < 10 ^ 64
-
-pub small_128 : (n : ℕ) → n < 2 ^ 128 → Small (2 ^ 128 - 1) n
-small_128 n h = record { most = omega arith; short = omega arith }
-
-pub small_64 : (n : ℕ) → n < 2 ^ 64 → Small (2 ^ 64 - 1) n
-small_64 n h = record { most = omega arith; short = omega arith }
-
-pub small_32 : (n : ℕ) → n < 2 ^ 32 → Small (2 ^ 32 - 1) n
-small_32 n h = record { most = omega arith; short = omega arith }
-
-pub small_16 : (n : ℕ) → n < 2 ^ 16 → Small (2 ^ 16 - 1) n
-small_16 n h = record { most = omega arith; short = omega arith }
-
-accounts_in_order : (a : Account) → IsAccount a → InOrder (Some CreateAccounts) 5 (account_entries a)
-accounts_in_order a h =
-    let b = small_128 a.debits_pending h.debits_pending in
-    let c = small_128 a.debits_posted h.debits_posted in
-    let d = small_128 a.credits_pending h.credits_pending in
-    let e = small_128 a.credits_posted h.credits_posted in
-    let f = small_128 a.user_data_128 h.user_data_128 in
-    let g = small_64 a.user_data_64 h.user_data_64 in
-    let i = small_32 a.user_data_32 h.user_data_32 in
-    let j = small_32 a.reserved h.reserved in
-    let k = small_32 a.ledger h.ledger in
-    let l = small_16 a.code h.code in
-    let m = small_16 a.flags h.flags in
-    let n = small_64 a.timestamp h.timestamp in (
-      lit≤ tt,
-      refl,
-      b.most,
-      b.short,
-      (
-        lit≤ tt,
-        refl,
-        c.most,
-        c.short,
-        (
-          lit≤ tt,
-          refl,
-          d.most,
-          d.short,
-          (
-            lit≤ tt,
-            refl,
-            e.most,
-            e.short,
-            (
-              lit≤ tt,
-              refl,
-              f.most,
-              f.short,
-              (
-                lit≤ tt,
-                refl,
-                g.most,
-                g.short,
-                (
-                  lit≤ tt,
-                  refl,
-                  i.most,
-                  i.short,
-                  (
-                    lit≤ tt,
-                    refl,
-                    j.most,
-                    j.short,
-                    (lit≤ tt, refl, k.most, k.short, (lit≤ tt, refl, l.most, l.short, (lit≤ tt, refl, m.most, m.short, (lit≤ tt, refl, n.most, n.short, tt)))),
-                  ),
-                ),
-              ),
-            ),
-          ),
-        ),
-      ),
-    )
-
-transfers_in_order : (t : Transfer) → IsTransfer t → InOrder (Some CreateTransfers) 5 (transfer_entries t)
-transfers_in_order t h =
-    let b = small_128 t.debit_account_id h.debit_account_id in
-    let c = small_128 t.credit_account_id h.credit_account_id in
-    let d = small_128 t.amount h.amount in
-    let e = small_128 t.pending_id h.pending_id in
-    let f = small_128 t.user_data_128 h.user_data_128 in
-    let g = small_64 t.user_data_64 h.user_data_64 in
-    let i = small_32 t.user_data_32 h.user_data_32 in
-    let j = small_32 t.timeout h.timeout in
-    let k = small_32 t.ledger h.ledger in
-    let l = small_16 t.code h.code in
-    let m = small_16 t.flags h.flags in
-    let n = small_64 t.timestamp h.timestamp in (
-      lit≤ tt,
-      refl,
-      b.most,
-      b.short,
-      (
-        lit≤ tt,
-        refl,
-        c.most,
-        c.short,
-        (
-          lit≤ tt,
-          refl,
-          d.most,
-          d.short,
-          (
-            lit≤ tt,
-            refl,
-            e.most,
-            e.short,
-            (
-              lit≤ tt,
-              refl,
-              f.most,
-              f.short,
-              (
-                lit≤ tt,
-                refl,
-                g.most,
-                g.short,
-                (
-                  lit≤ tt,
-                  refl,
-                  i.most,
-                  i.short,
-                  (
-                    lit≤ tt,
-                    refl,
-                    j.most,
-                    j.short,
-                    (lit≤ tt, refl, k.most, k.short, (lit≤ tt, refl, l.most, l.short, (lit≤ tt, refl, m.most, m.short, (lit≤ tt, refl, n.most, n.short, tt)))),
-                  ),
-                ),
-              ),
-            ),
-          ),
-        ),
-      ),
-    )
+use Rattle.tb_text.proofs.Tokens.{IsBetween, IsEnd, at_gap, if_true}
+use Rattle.tb_text.proofs.Flags.{at, SameBits}
+use Rattle.tb_text.proofs.Entries.{told, InOrder, all_at, entries_through, none_or}
+use Rattle.tb_text.proofs.Orders.{small_128, accounts_in_order, transfers_in_order}
+use Rattle.tb_text.proofs.Items.{mid, IsKind, account_back, transfer_back}
 
 -- an id and further fields, behind a mark or an operation
-event_through : (s : Scan) (id : ℕ) (es : List Entry) (tail : List ℕ) → IsEnd tail → IsBetween s → awaits_field s.place ≡ true → s.given ≡ [] → may_have s.operation field.Id ≡ true → id < 2 ^ 128
-    → InOrder s.operation 5 es → (h : Field) × (run s (entries_text (field.Id, id) es ++ tail) ≡ run (at s h ((field.Id, id) ∷ told es)) tail)
-event_through s id es tail e b a n m fits o =
+event_through : (q : Operation) (s : Scan) (id : ℕ) (es : List Entry) (tail : List ℕ) → IsEnd tail → IsBetween s → SameBits s.operation q → awaits_field s.place ≡ true → s.given ≡ [] → may_have s.operation field.Id ≡ true → id < 2 ^ 128
+    → InOrder s.operation 5 es → (h : Field) × (run s (entries_text q (field.Id, id) es ++ tail) ≡ run (at s h ((field.Id, id) ∷ told q es)) tail)
+event_through q s id es tail e b bits a n m fits o =
     let small = small_128 id fits in
-    let all = all_at es s field.Id (s.given ++ (field.Id, id) ∷ []) in (
+    let all = all_at q es s field.Id (s.given ++ (field.Id, id) ∷ []) in (
       all.0,
-      entries_through (field.Id, id) es s tail e b a n m small.most small.short (positive id) o
-          ∙ (ap (λ (t : Scan). run t tail) all.1 ∙ ap (λ (g : List Entry). run (at s all.0 ((g ++ (field.Id, id) ∷ []) ++ told es)) tail) n),
+      entries_through q (field.Id, id) es s tail e b bits a n m small.most small.short (positive id) o
+          ∙ (ap (λ (t : Scan). run t tail) all.1 ∙ ap (λ (g : List Entry). run (at s all.0 ((g ++ (field.Id, id) ∷ []) ++ told q es)) tail) n),
     )
   where
     positive : (k : ℕ) → (k == 0 && false) ≡ false
@@ -197,8 +58,8 @@ unfolding account_text
 accounts_kind pairs header = record {
   item = λ xs place awaits x h tail end.
       let s = accounts_state pairs header xs place in
-      let through = event_through s x.id (account_entries x) tail end (record { lexeme = refl; spelled = refl }) awaits refl refl h.id (accounts_in_order x h) in
-      let g = (field.Id, x.id) ∷ told (account_entries x) in (
+      let through = event_through CreateAccounts s x.id (account_entries x) tail end (record { lexeme = refl; spelled = refl }) (λ f. refl) awaits refl refl h.id (accounts_in_order x h) in
+      let g = (field.Id, x.id) ∷ told CreateAccounts (account_entries x) in (
         at s through.0 g,
         through.1,
         record {
@@ -222,8 +83,8 @@ unfolding transfer_text
 transfers_kind pairs header = record {
   item = λ xs place awaits x h tail end.
       let s = transfers_state pairs header xs place in
-      let through = event_through s x.id (transfer_entries x) tail end (record { lexeme = refl; spelled = refl }) awaits refl refl h.id (transfers_in_order x h) in
-      let g = (field.Id, x.id) ∷ told (transfer_entries x) in (
+      let through = event_through CreateTransfers s x.id (transfer_entries x) tail end (record { lexeme = refl; spelled = refl }) (λ f. refl) awaits refl refl h.id (transfers_in_order x h) in
+      let g = (field.Id, x.id) ∷ told CreateTransfers (transfer_entries x) in (
         at s through.0 g,
         through.1,
         record {
@@ -247,10 +108,10 @@ unfolding id_text
 sought_accounts_kind pairs header = record {
   item = λ xs place awaits x h tail end.
       let s = sought_accounts_state pairs header xs place in
-      let through = event_through s x [] tail end (record { lexeme = refl; spelled = refl }) awaits refl refl h tt in
-      let g = (field.Id, x) ∷ told [] in (
+      let through = event_through Register s x [] tail end (record { lexeme = refl; spelled = refl }) (λ f. refl) awaits refl refl h tt in
+      let g = (field.Id, x) ∷ told Register [] in (
         at s through.0 g,
-        ap (λ (t : List ℕ). run s (t ++ tail)) (sym (no_further (entry_text (field.Id, x)))) ∙ through.1,
+        ap (λ (t : List ℕ). run s (t ++ tail)) (sym (no_further (entry_text Register (field.Id, x)))) ∙ through.1,
         record {
           parts = λ few. at_gap (at s through.0 g) 44 refl ∙ (if_true (nat_lt (0 + 0 + length xs + 1) 8190) _ _ (room (0 + 0 + length xs) (omega arith)) ∙ ap (λ (y : ℕ). Some (sought_accounts_state pairs header (xs ++ y ∷ []) Parted)) (none_or x));
           ends = at_gap (at s through.0 g) 59 refl ∙ ap (λ (y : ℕ). sought_accounts_ended pairs header (xs ++ y ∷ [])) (none_or x);
@@ -272,10 +133,10 @@ unfolding id_text
 sought_transfers_kind pairs header = record {
   item = λ xs place awaits x h tail end.
       let s = sought_transfers_state pairs header xs place in
-      let through = event_through s x [] tail end (record { lexeme = refl; spelled = refl }) awaits refl refl h tt in
-      let g = (field.Id, x) ∷ told [] in (
+      let through = event_through Register s x [] tail end (record { lexeme = refl; spelled = refl }) (λ f. refl) awaits refl refl h tt in
+      let g = (field.Id, x) ∷ told Register [] in (
         at s through.0 g,
-        ap (λ (t : List ℕ). run s (t ++ tail)) (sym (no_further (entry_text (field.Id, x)))) ∙ through.1,
+        ap (λ (t : List ℕ). run s (t ++ tail)) (sym (no_further (entry_text Register (field.Id, x)))) ∙ through.1,
         record {
           parts = λ few. at_gap (at s through.0 g) 44 refl ∙ (if_true (nat_lt (0 + 0 + length xs + 1) 8190) _ _ (room (0 + 0 + length xs) (omega arith)) ∙ ap (λ (y : ℕ). Some (sought_transfers_state pairs header (xs ++ y ∷ []) Parted)) (none_or x));
           ends = at_gap (at s through.0 g) 59 refl ∙ ap (λ (y : ℕ). sought_transfers_ended pairs header (xs ++ y ∷ [])) (none_or x);

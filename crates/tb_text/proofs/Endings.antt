@@ -14,11 +14,11 @@ use Rattle.tb_text.specs.declared.places.Lexeme.{Lexeme}
 use Rattle.tb_text.specs.declared.places.Lexeme.TheVariants.{Gap, Comment, Spelled, Zero, Prefix, Decimal, Hexadecimal}
 use Rattle.tb_text.specs.declared.places.Place.{Place}
 use Rattle.tb_text.specs.declared.places.Place.TheVariants.{Head, Named, Wanted, Given, Opened, Parted}
-use Rattle.tb_text.specs.Words.{word_text, field_max, has_field}
+use Rattle.tb_text.specs.Words.{field_name, word_text, field_max, has_field}
 use Rattle.tb_text.specs.Scan.{Entry, Scan, behind, step, step_at, run, gap, is_at_rest, rests, is_given, value_of, account_of, transfer_of, wanted, awaits_field, awaits_operation, may_have, may_stand, suits, is_positive, entered, moved, within, spelling, opened, taken}
 use Rattle.tb_text.specs.Scan.{item_count, with_account, with_transfer, with_id, pushed, finished, when_lawful, request_of, closed_at, valued_at, appended, decimal_grown, hexadecimal_grown, number_left}
 use Rattle.tb_text.specs.Steps.{Begins}
-use Rattle.tb_text.specs.Printed.{entry_text}
+use Rattle.std.specs.Fmt.{decimal}
 use Rattle.tb_text.proofs.EachWord.{all_word_bytes, word_bytes}
 use Rattle.tb_text.proofs.Runs.{run_behind}
 use Rattle.tb_text.proofs.Tokens.{IsBetween, one_step, at_gap, space, and_both, and_left, and_right, word_on, word_through, taken_between}
@@ -132,8 +132,8 @@ header_field s f g e p new h =
 
 entry_leads : (s : Scan) (f : Field) → IsBetween s → may_stand s (word.Field f) ≡ true → 1 ≤ field_max f → CanEnd (entered s f 1) → CanEnd s
 entry_leads s f between may most e =
-    leads s (entered s f 1) (entry_text (f, 1) ++ 32 ∷ [])
-    (λ rest. ap (run s) (append_assoc (entry_text (f, 1)) (32 ∷ []) rest) ∙ (entry_through s f 1 32 rest between may (lit< tt) most refl refl ∙ space (entered s f 1) rest refl)) e
+    leads s (entered s f 1) ((field_name f ++ 61 ∷ decimal 1) ++ 32 ∷ [])
+    (λ rest. ap (run s) (append_assoc (field_name f ++ 61 ∷ decimal 1) (32 ∷ []) rest) ∙ (entry_through s f 1 32 rest between may (lit< tt) most refl refl ∙ space (entered s f 1) rest refl)) e
 
 -- the numbers with a client, or a request's number, that was left out
 numbers_with : (f : Field) (given header : List Entry) (count : ℕ) → (1 == 0 && is_positive f) ≡ false → 1 ≤ field_max f → HeaderNumbers given → is_given f given ≡ false → HeaderNumbers (given ++ (f, 1) ∷ [])

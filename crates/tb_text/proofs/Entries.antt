@@ -1,26 +1,42 @@
 -- Entries that are printed one behind the other are read as what they are, and give each field its number.
-use Rattle.std.proofs.Common.{◌≡◌, ℕ, zero, suc, ◌+◌, ◌^◌, ◌<◌, ◌≤◌, Bool, true, false, cond, ◌&&◌, ◌||◌, ◌==◌, not, List, [], ◌∷◌, ◌++◌, Option, refl, sym, ap, subst, ◌∙◌, append_assoc, arith, lit<, ◌*◌}
+use Rattle.std.proofs.Common.{◌≡◌, ℕ, ◌+◌, ◌/◌, ◌%◌, ◌^◌, ◌<◌, ◌≤◌, Bool, true, false, cond, ◌&&◌, ◌||◌, ◌==◌, not, List, [], ◌∷◌, ◌++◌, Option, refl, sym, ap, subst, ◌∙◌, append_assoc, arith, lit<, ◌*◌}
 use Rattle.std.proofs.lemmas.Nat.{or_shifted, or_comm}
 use Rattle.std.specs.Prelude.{bit_or}
+use Rattle.std.specs.Fmt.{decimal}
 use Rattle.std.proofs.lemmas.Bool.Decides.{nat_tests}
 use Rattle.tb_text.specs.declared.words.Field.{Field}
+use Rattle.tb_text.specs.declared.words.Field.TheVariants as field
 use Rattle.tb_text.specs.declared.words.Word.TheVariants as word
 use Rattle.tb_text.specs.declared.words.Operation.{Operation}
-use Rattle.tb_text.specs.Words.{field_max, field_index, same_field}
-use Rattle.tb_text.specs.Scan.{Entry, Scan, run, is_word_byte, may_stand, awaits_field, may_have, is_given, entered, is_positive, value_from}
-use Rattle.tb_text.specs.Printed.{entry_text, further_text, entries_text}
-use Rattle.tb_text.proofs.Tokens.{IsBetween, space}
-use Rattle.tb_text.proofs.Numbers.{entry_through, not_zero}
+use Rattle.tb_text.specs.declared.words.Flag.{Flag}
+use Rattle.tb_text.specs.Words.{field_max, field_index, field_name, same_field, flag_bit, flags_of}
+use Rattle.tb_text.specs.Scan.{Entry, Scan, run, may_stand, awaits_field, may_have, is_given, entered, is_positive, value_from}
+use Rattle.tb_text.specs.Printed.{entry_text, further_text, entries_text, flags_text, unnamed}
+use Rattle.tb_text.proofs.Tokens.{IsBetween, IsEnd, space}
+use Rattle.tb_text.proofs.Numbers.{entry_through}
+use Rattle.tb_text.proofs.Flags.{at, flag_entries, SameBits, flags_through, flags_make}
 
--- the entries that are printed
-abbrev pub told : List Entry → List Entry
-told [] = []
-told (e ∷ es) = cond (e.1 == 0) (told es) (e ∷ told es)
+-- the entries that a printed one is read as
+abbrev pub entries_of : Operation → Entry → List Entry
+entries_of o e = cond (same_field e.0 field.Flags) (flag_entries o (flags_of o) 61 (unnamed o e.1) e.1) (e ∷ [])
+
+-- the entries that are read
+abbrev pub told : Operation → List Entry → List Entry
+told o [] = []
+told o (e ∷ es) = cond (e.1 == 0) (told o es) (entries_of o e ++ told o es)
+
+-- with a printed entry more
+abbrev pub entered_one : Operation → Scan → Entry → Scan
+entered_one o s e = at s e.0 (s.given ++ entries_of o e)
 
 -- behind entries, those that are 0 left out
-abbrev pub entered_all : Scan → List Entry → Scan
-entered_all s [] = s
-entered_all s (e ∷ es) = cond (e.1 == 0) (entered_all s es) (entered_all (entered s e.0 e.1) es)
+abbrev pub entered_all : Operation → Scan → List Entry → Scan
+entered_all o s [] = s
+entered_all o s (e ∷ es) = cond (e.1 == 0) (entered_all o s es) (entered_all o (entered_one o s e) es)
+
+append_nil : {X : Type 0} (xs : List X) → xs ++ [] ≡ xs
+append_nil [] = refl
+append_nil {X} (x ∷ xs) = ap (λ (ys : List X). x ∷ ys) (append_nil xs)
 
 -- each is a field of the operation whose number fits, in the order of the fields from a place on
 abbrev pub InOrder : Option Operation → ℕ → List Entry → Type 0
@@ -36,9 +52,35 @@ before_later : (j k : ℕ) (es : List Entry) → j ≤ k → Before j es → Bef
 before_later j k [] le h = tt
 before_later j k (e ∷ es) le h = (omega (arith, h.0), before_later j k es le h.1)
 
-before_with : (k : ℕ) (es : List Entry) (e : Entry) → Before k es → field_index e.0 < k → Before k (es ++ e ∷ [])
-before_with k [] e h lt = (lt, tt)
-before_with k (x ∷ es) e h lt = (h.0, before_with k es e h.1 lt)
+before_both : (k : ℕ) (es ds : List Entry) → Before k es → Before k ds → Before k (es ++ ds)
+before_both k [] ds h g = g
+before_both k (e ∷ es) ds h g = (h.0, before_both k es ds h.1 g)
+
+flags_before : (o : Operation) (fs : List Flag) (k mark rest n : ℕ) → field_index field.Flags < k → Before k (flag_entries o fs mark rest n)
+flags_before o [] k mark rest n lt = by (mark == 124 && rest == 0)
+  where
+    by : (b : Bool) → Before k (cond b [] ((field.Flags, rest) ∷ []))
+    by true = tt
+    by false = (lt, tt)
+flags_before o (f ∷ fs) k mark rest n lt = by (n % 2 == 0) (flags_before o fs k mark rest (n / 2) lt) (flags_before o fs k 124 rest (n / 2) lt)
+  where
+    by : (b : Bool) → Before k (flag_entries o fs mark rest (n / 2)) → Before k (flag_entries o fs 124 rest (n / 2)) → Before k (cond b (flag_entries o fs mark rest (n / 2)) ((field.Flags, flag_bit o f) ∷ flag_entries o fs 124 rest (n / 2)))
+    by true skipped later = skipped
+    by false skipped later = (lt, later)
+
+same_index : (f g : Field) → same_field f g ≡ true → field_index f ≡ field_index g
+same_index f g h = grind (arith, nat_tests)
+
+-- each entry that a printed one is read as has its field
+before_one : (o : Operation) (k : ℕ) (e : Entry) → field_index e.0 < k → Before k (entries_of o e)
+before_one o k e lt = by (same_field e.0 field.Flags) refl
+  where
+    by : (b : Bool) → same_field e.0 field.Flags ≡ b → Before k (cond b (flag_entries o (flags_of o) 61 (unnamed o e.1) e.1) (e ∷ []))
+    by true is = flags_before o (flags_of o) k 61 (unnamed o e.1) e.1 (subst (λ (i : ℕ). i < k) (same_index e.0 field.Flags is) lt)
+    by false is = (lt, tt)
+
+before_with : (o : Operation) (k : ℕ) (es : List Entry) (e : Entry) → Before k es → field_index e.0 < k → Before k (es ++ entries_of o e)
+before_with o k es e h lt = before_both k es (entries_of o e) h (before_one o k e lt)
 
 other : (m n : ℕ) → n < m → (m == n) ≡ false
 other m n h = grind (arith, nat_tests)
@@ -55,53 +97,98 @@ stands s f k a m le h =
 positive : (f : Field) (n : ℕ) → (n == 0) ≡ false → (n == 0 && is_positive f) ≡ false
 positive f n h = ap (λ (b : Bool). b && is_positive f) h
 
--- what stands behind a number ends it
-pub record IsEnd (text : List ℕ) : Type 0 where
-  pub byte : ℕ
-  pub rest : List ℕ
-  pub text_is : text ≡ byte ∷ rest
-  pub ends : is_word_byte byte ≡ false
-
-further_ends : (es : List Entry) (text : List ℕ) → IsEnd text → IsEnd (further_text es ++ text)
-further_ends [] text h = h
-further_ends (e ∷ es) text h = by (e.1 == 0) (further_ends es text h)
+further_ends : (o : Operation) (es : List Entry) (text : List ℕ) → IsEnd text → IsEnd (further_text o es ++ text)
+further_ends o [] text h = h
+further_ends o (e ∷ es) text h = by (e.1 == 0) (further_ends o es text h)
   where
-    by : (b : Bool) → IsEnd (further_text es ++ text) → IsEnd ((cond b [] (32 ∷ entry_text e) ++ further_text es) ++ text)
+    by : (b : Bool) → IsEnd (further_text o es ++ text) → IsEnd ((cond b [] (32 ∷ entry_text o e) ++ further_text o es) ++ text)
     by true later = later
-    by false later = record { byte = 32; rest = (entry_text e ++ further_text es) ++ text; text_is = refl; ends = refl }
+    by false later = record { byte = 32; rest = (entry_text o e ++ further_text o es) ++ text; text_is = refl; ends = refl }
 
-entry_before : (s : Scan) (f : Field) (n : ℕ) (text : List ℕ) → IsEnd text → IsBetween s → may_stand s (word.Field f) ≡ true → n < 10 ^ 64 → n ≤ field_max f → (n == 0 && is_positive f) ≡ false
-    → run s (entry_text (f, n) ++ text) ≡ run (entered s f n) text
-entry_before s f n text h between m small le p =
-    ap (λ (t : List ℕ). run s (entry_text (f, n) ++ t)) h.text_is
+number_before : (s : Scan) (f : Field) (n : ℕ) (text : List ℕ) → IsEnd text → IsBetween s → may_stand s (word.Field f) ≡ true → n < 10 ^ 64 → n ≤ field_max f → (n == 0 && is_positive f) ≡ false
+    → run s ((field_name f ++ 61 ∷ decimal n) ++ text) ≡ run (entered s f n) text
+number_before s f n text h between m small le p =
+    ap (λ (t : List ℕ). run s ((field_name f ++ 61 ∷ decimal n) ++ t)) h.text_is
     ∙ (entry_through s f n h.byte h.rest between m small le p h.ends ∙ ap (run (entered s f n)) (sym h.text_is))
 
-pub further_through : (es : List Entry) (s : Scan) (k : ℕ) (text : List ℕ) → IsEnd text → IsBetween s → awaits_field s.place ≡ true → InOrder s.operation k es → Before k s.given
-    → run s (further_text es ++ text) ≡ run (entered_all s es) text
-further_through [] s k text h between a o g = refl
-further_through (e ∷ es) s k text h between a o g =
-    by (e.1 == 0) refl
-    (further_through es s (field_index e.0 + 1) text h between a o.4 (before_later k (field_index e.0 + 1) s.given (omega (arith, o.0)) g))
-    (further_through es (entered s e.0 e.1) (field_index e.0 + 1) text h (record { lexeme = refl; spelled = refl }) refl o.4
-    (before_with (field_index e.0 + 1) s.given e (before_later k (field_index e.0 + 1) s.given (omega (arith, o.0)) g) (omega arith)))
+-- no other field has the place of the flags
+pub only_flags : (f : Field) → same_field f field.Flags ≡ true → f ≡ field.Flags
+only_flags field.At h = absurd cc
+only_flags field.Client h = absurd cc
+only_flags field.Session h = absurd cc
+only_flags field.Request h = absurd cc
+only_flags field.Id h = absurd cc
+only_flags field.DebitsPending h = absurd cc
+only_flags field.DebitsPosted h = absurd cc
+only_flags field.CreditsPending h = absurd cc
+only_flags field.CreditsPosted h = absurd cc
+only_flags field.DebitAccountId h = absurd cc
+only_flags field.CreditAccountId h = absurd cc
+only_flags field.Amount h = absurd cc
+only_flags field.PendingId h = absurd cc
+only_flags field.UserData128 h = absurd cc
+only_flags field.UserData64 h = absurd cc
+only_flags field.UserData32 h = absurd cc
+only_flags field.Reserved h = absurd cc
+only_flags field.Timeout h = absurd cc
+only_flags field.Ledger h = absurd cc
+only_flags field.Code h = absurd cc
+only_flags field.Flags h = refl
+only_flags field.Timestamp h = absurd cc
+
+flags_before_text : (s : Scan) (o : Operation) (f : Field) (n : ℕ) (text : List ℕ) → f ≡ field.Flags → IsEnd text → IsBetween s → SameBits s.operation o → may_stand s (word.Field f) ≡ true → n ≤ field_max f
+    → run s ((field_name f ++ flags_text (flags_of o) 61 (unnamed o n) n) ++ text) ≡ run (at s f (s.given ++ flag_entries o (flags_of o) 61 (unnamed o n) n)) text
+flags_before_text s o f n text same h between bits m le =
+    subst (λ (g : Field). may_stand s (word.Field g) ≡ true → n ≤ field_max g
+    → run s ((field_name g ++ flags_text (flags_of o) 61 (unnamed o n) n) ++ text) ≡ run (at s g (s.given ++ flag_entries o (flags_of o) 61 (unnamed o n) n)) text)
+    (sym same) (λ may most. flags_through s o n text between may bits (omega (arith, most)) h) m le
+
+entry_before : (s : Scan) (o : Operation) (e : Entry) (text : List ℕ) → IsEnd text → IsBetween s → SameBits s.operation o → may_stand s (word.Field e.0) ≡ true → e.1 < 10 ^ 64 → e.1 ≤ field_max e.0
+    → (e.1 == 0 && is_positive e.0) ≡ false → run s (entry_text o e ++ text) ≡ run (entered_one o s e) text
+entry_before s o e text h between bits m small le p = by (same_field e.0 field.Flags) refl
   where
-    by : (b : Bool) → (e.1 == 0) ≡ b → run s (further_text es ++ text) ≡ run (entered_all s es) text → run (entered s e.0 e.1) (further_text es ++ text) ≡ run (entered_all (entered s e.0 e.1) es) text
-        → run s ((cond b [] (32 ∷ entry_text e) ++ further_text es) ++ text) ≡ run (cond b (entered_all s es) (entered_all (entered s e.0 e.1) es)) text
+    by : (b : Bool) → same_field e.0 field.Flags ≡ b
+        → run s ((field_name e.0 ++ cond b (flags_text (flags_of o) 61 (unnamed o e.1) e.1) (61 ∷ decimal e.1)) ++ text)
+        ≡ run (at s e.0 (s.given ++ cond b (flag_entries o (flags_of o) 61 (unnamed o e.1) e.1) (e ∷ []))) text
+    by true is = flags_before_text s o e.0 e.1 text (only_flags e.0 is) h between bits m le
+    by false is = number_before s e.0 e.1 text h between m small le p
+
+pub further_through : (q : Operation) (es : List Entry) (s : Scan) (k : ℕ) (text : List ℕ) → IsEnd text → IsBetween s → SameBits s.operation q → awaits_field s.place ≡ true → InOrder s.operation k es → Before k s.given
+    → run s (further_text q es ++ text) ≡ run (entered_all q s es) text
+further_through q [] s k text h between bits a o g = refl
+further_through q (e ∷ es) s k text h between bits a o g =
+    by (e.1 == 0) refl
+    (further_through q es s (field_index e.0 + 1) text h between bits a o.4 (before_later k (field_index e.0 + 1) s.given (omega (arith, o.0)) g))
+    (further_through q es (entered_one q s e) (field_index e.0 + 1) text h (record { lexeme = refl; spelled = refl }) bits refl o.4
+    (before_with q (field_index e.0 + 1) s.given e (before_later k (field_index e.0 + 1) s.given (omega (arith, o.0)) g) (omega arith)))
+  where
+    by : (b : Bool) → (e.1 == 0) ≡ b → run s (further_text q es ++ text) ≡ run (entered_all q s es) text → run (entered_one q s e) (further_text q es ++ text) ≡ run (entered_all q (entered_one q s e) es) text
+        → run s ((cond b [] (32 ∷ entry_text q e) ++ further_text q es) ++ text) ≡ run (cond b (entered_all q s es) (entered_all q (entered_one q s e) es)) text
     by true is zero_later later = zero_later
     by false is zero_later later =
-        ap (run s) (append_assoc (32 ∷ entry_text e) (further_text es) text)
-        ∙ (space s (entry_text e ++ (further_text es ++ text)) between.lexeme
-        ∙ (entry_before s e.0 e.1 (further_text es ++ text) (further_ends es text h) between (stands s e.0 k a o.1 o.0 g) o.3 o.2 (positive e.0 e.1 is) ∙ later))
+        ap (run s) (append_assoc (32 ∷ entry_text q e) (further_text q es) text)
+        ∙ (space s (entry_text q e ++ (further_text q es ++ text)) between.lexeme
+        ∙ (entry_before s q e (further_text q es ++ text) (further_ends q es text h) between bits (stands s e.0 k a o.1 o.0 g) o.3 o.2 (positive e.0 e.1 is) ∙ later))
 
-pub entries_through : (first : Entry) (es : List Entry) (s : Scan) (text : List ℕ) → IsEnd text → IsBetween s → awaits_field s.place ≡ true → s.given ≡ [] → may_have s.operation first.0 ≡ true
-    → first.1 ≤ field_max first.0 → first.1 < 10 ^ 64 → (first.1 == 0 && is_positive first.0) ≡ false → InOrder s.operation (field_index first.0 + 1) es
-    → run s (entries_text first es ++ text) ≡ run (entered_all (entered s first.0 first.1) es) text
-entries_through first es s text h between a none m le small p o =
-    ap (run s) (append_assoc (entry_text first) (further_text es) text)
-    ∙ (entry_before s first.0 first.1 (further_text es ++ text) (further_ends es text h) between
+pub entries_through : (q : Operation) (first : Entry) (es : List Entry) (s : Scan) (text : List ℕ) → IsEnd text → IsBetween s → SameBits s.operation q → awaits_field s.place ≡ true → s.given ≡ []
+    → may_have s.operation first.0 ≡ true → first.1 ≤ field_max first.0 → first.1 < 10 ^ 64 → (first.1 == 0 && is_positive first.0) ≡ false → InOrder s.operation (field_index first.0 + 1) es
+    → run s (entries_text q first es ++ text) ≡ run (entered_all q (entered_one q s first) es) text
+entries_through q first es s text h between bits a none m le small p o =
+    ap (run s) (append_assoc (entry_text q first) (further_text q es) text)
+    ∙ (entry_before s q first (further_text q es ++ text) (further_ends q es text h) between bits
     (stands s first.0 0 a m (omega arith) (subst (Before 0) (sym none) tt)) small le p
-    ∙ further_through es (entered s first.0 first.1) (field_index first.0 + 1) text h (record { lexeme = refl; spelled = refl }) refl o
-    (subst (λ (g : List Entry). Before (field_index first.0 + 1) (g ++ first ∷ [])) (sym none) (omega arith, tt)))
+    ∙ further_through q es (entered_one q s first) (field_index first.0 + 1) text h (record { lexeme = refl; spelled = refl }) bits refl o
+    (before_with q (field_index first.0 + 1) s.given first (subst (Before (field_index first.0 + 1)) (sym none) tt) (omega arith)))
+
+-- all in all, the last field given and all entries
+pub all_at : (q : Operation) (es : List Entry) (s : Scan) (f : Field) (g : List Entry) → (h : Field) × (entered_all q (at s f g) es ≡ at s h (g ++ told q es))
+all_at q [] s f g = (f, ap (at s f) (sym (append_nil g)))
+all_at q (e ∷ es) s f g = by (e.1 == 0) (all_at q es s f g) (all_at q es s e.0 (g ++ entries_of q e))
+  where
+    by : (b : Bool) → (h : Field) × (entered_all q (at s f g) es ≡ at s h (g ++ told q es)) → (h : Field) × (entered_all q (at s e.0 (g ++ entries_of q e)) es ≡ at s h ((g ++ entries_of q e) ++ told q es))
+        → (h : Field) × (cond b (entered_all q (at s f g) es) (entered_all q (entered_one q (at s f g) e) es) ≡ at s h (g ++ cond b (told q es) (entries_of q e ++ told q es)))
+    by true same later = same
+    by false same later = (later.0, later.1 ∙ ap (at s later.0) (append_assoc g (entries_of q e) (told q es)))
 
 -- numbers
 
@@ -118,16 +205,93 @@ pub value_append : (f : Field) (n : ℕ) (es ds : List Entry) → value_from n f
 value_append f n [] ds = refl
 value_append f n (e ∷ es) ds = value_append f (cond (same_field f e.0) (bit_or n e.1) n) es ds
 
--- entries that are 0 add nothing
-pub value_told : (f : Field) (n : ℕ) (es : List Entry) → value_from n f (told es) ≡ value_from n f es
-value_told f n [] = refl
-value_told f n (e ∷ es) = by (e.1) (value_told f n es) (value_told f (cond (same_field f e.0) (bit_or n e.1) n) es)
+-- flags add nothing to another field
+flags_elsewhere : (o : Operation) (fs : List Flag) (f : Field) (v mark rest n : ℕ) → same_field f field.Flags ≡ false → value_from v f (flag_entries o fs mark rest n) ≡ v
+flags_elsewhere o [] f v mark rest n is = by (mark == 124 && rest == 0)
   where
-    by : (m : ℕ) → value_from n f (told es) ≡ value_from n f es → value_from (cond (same_field f e.0) (bit_or n m) n) f (told es) ≡ value_from (cond (same_field f e.0) (bit_or n m) n) f es
-        → value_from n f (cond (m == 0) (told es) ((e.0, m) ∷ told es)) ≡ value_from (cond (same_field f e.0) (bit_or n m) n) f es
-    by zero same later = same ∙ ap (λ (k : ℕ). value_from k f es) (sym (nothing (same_field f e.0)))
-      where
-        nothing : (b : Bool) → cond b (bit_or n 0) n ≡ n
-        nothing true = or_none n
-        nothing false = refl
-    by (suc k) same later = ap (λ (b : Bool). value_from n f (cond b (told es) ((e.0, suc k) ∷ told es))) (not_zero (suc k) (omega arith)) ∙ later
+    by : (b : Bool) → value_from v f (cond b [] ((field.Flags, rest) ∷ [])) ≡ v
+    by true = refl
+    by false = ap (λ (c : Bool). cond c (bit_or v rest) v) is
+flags_elsewhere o (g ∷ fs) f v mark rest n is = by (n % 2 == 0) (flags_elsewhere o fs f v mark rest (n / 2) is) (flags_elsewhere o fs f v 124 rest (n / 2) is)
+  where
+    by : (b : Bool) → value_from v f (flag_entries o fs mark rest (n / 2)) ≡ v → value_from v f (flag_entries o fs 124 rest (n / 2)) ≡ v
+        → value_from v f (cond b (flag_entries o fs mark rest (n / 2)) ((field.Flags, flag_bit o g) ∷ flag_entries o fs 124 rest (n / 2))) ≡ v
+    by true skipped later = skipped
+    by false skipped later = ap (λ (c : Bool). value_from (cond c (bit_or v (flag_bit o g)) v) f (flag_entries o fs 124 rest (n / 2))) is ∙ later
+
+-- a number behind others has what stands before it, or nothing, by the entries that it is read as
+abbrev Adds : Operation → Field → ℕ → Entry → Type 0
+Adds o f v e = value_from v f (entries_of o e) ≡ cond (same_field f e.0) (bit_or v e.1) v
+
+adds_elsewhere : (o : Operation) (f : Field) (v : ℕ) (e : Entry) → same_field f field.Flags ≡ false → Adds o f v e
+adds_elsewhere o f v e is = by (same_field e.0 field.Flags) refl
+  where
+    by : (b : Bool) → same_field e.0 field.Flags ≡ b
+        → value_from v f (cond b (flag_entries o (flags_of o) 61 (unnamed o e.1) e.1) (e ∷ [])) ≡ cond (same_field f e.0) (bit_or v e.1) v
+    by true flags =
+        let apart : same_field f e.0 ≡ false = ap (λ (i : ℕ). field_index f == i) (same_index e.0 field.Flags flags) ∙ is in
+        flags_elsewhere o (flags_of o) f v 61 (unnamed o e.1) e.1 is ∙ sym (ap (λ (c : Bool). cond c (bit_or v e.1) v) apart)
+    by false flags = refl
+
+adds_first : (o : Operation) (e : Entry) → Adds o field.Flags 0 e
+adds_first o e = by (same_field e.0 field.Flags) refl
+  where
+    by : (b : Bool) → same_field e.0 field.Flags ≡ b
+        → value_from 0 field.Flags (cond b (flag_entries o (flags_of o) 61 (unnamed o e.1) e.1) (e ∷ [])) ≡ cond (same_field field.Flags e.0) (bit_or 0 e.1) 0
+    by true flags =
+        let same : same_field field.Flags e.0 ≡ true = ap (λ (i : ℕ). field_index field.Flags == i) (same_index e.0 field.Flags flags) in
+        flags_make o e.1 ∙ (sym (none_or e.1) ∙ sym (ap (λ (c : Bool). cond c (bit_or 0 e.1) 0) same))
+    by false flags = refl
+
+-- entries that are 0 add nothing, and the others what they are
+told_one : (o : Operation) (f : Field) (v : ℕ) (e : Entry) (es : List Entry) → Adds o f v e → value_from v f (told o es) ≡ value_from v f es
+    → value_from (cond (same_field f e.0) (bit_or v e.1) v) f (told o es) ≡ value_from (cond (same_field f e.0) (bit_or v e.1) v) f es
+    → value_from v f (told o (e ∷ es)) ≡ value_from v f (e ∷ es)
+told_one o f v e es adds same later = by (e.1 == 0) refl
+  where
+    nothing : (b : Bool) → e.1 ≡ 0 → cond b (bit_or v e.1) v ≡ v
+    nothing true none = ap (bit_or v) none ∙ or_none v
+    nothing false none = refl
+
+    is_zero : (n : ℕ) → (n == 0) ≡ true → n ≡ 0
+    is_zero n h = grind (arith, nat_tests)
+
+    by : (b : Bool) → (e.1 == 0) ≡ b → value_from v f (cond b (told o es) (entries_of o e ++ told o es)) ≡ value_from (cond (same_field f e.0) (bit_or v e.1) v) f es
+    by true is = same ∙ ap (λ (k : ℕ). value_from k f es) (sym (nothing (same_field f e.0) (is_zero e.1 is)))
+    by false is = value_append f v (entries_of o e) (told o es) ∙ (ap (λ (k : ℕ). value_from k f (told o es)) adds ∙ later)
+
+-- the number of another field than the flags
+pub value_told : (o : Operation) (f : Field) (v : ℕ) (es : List Entry) → same_field f field.Flags ≡ false → value_from v f (told o es) ≡ value_from v f es
+value_told o f v [] is = refl
+value_told o f v (e ∷ es) is =
+    told_one o f v e es (adds_elsewhere o f v e is) (value_told o f v es is) (value_told o f (cond (same_field f e.0) (bit_or v e.1) v) es is)
+
+-- the flags stand once
+pub flags_told : (o : Operation) (q : Option Operation) (k v : ℕ) (es : List Entry) → InOrder q k es → (k ≤ field_index field.Flags → v ≡ 0) → value_from v field.Flags (told o es) ≡ value_from v field.Flags es
+flags_told o q k v [] order first = refl
+flags_told o q k v (e ∷ es) order first =
+    by (same_field field.Flags e.0) refl (flags_told o q (field_index e.0 + 1) v es order.4 (λ le. first (omega (arith, order.0, le))))
+    (λ above. flags_told o q (field_index e.0 + 1) (cond (same_field field.Flags e.0) (bit_or v e.1) v) es order.4 above)
+  where
+    Same : ℕ → Type 0
+    Same m = value_from m field.Flags (told o es) ≡ value_from m field.Flags es
+
+    swapped : (m n : ℕ) → (m == n) ≡ false → (n == m) ≡ false
+    swapped m n h = grind (arith, nat_tests)
+
+    other_adds : same_field field.Flags e.0 ≡ false → Adds o field.Flags v e
+    other_adds is =
+        let apart : same_field e.0 field.Flags ≡ false = swapped (field_index field.Flags) (field_index e.0) is in
+        ap (λ (c : Bool). value_from v field.Flags (cond c (flag_entries o (flags_of o) 61 (unnamed o e.1) e.1) (e ∷ []))) apart
+
+    by : (b : Bool) → same_field field.Flags e.0 ≡ b → Same v
+        → ((field_index e.0 + 1 ≤ field_index field.Flags → cond (same_field field.Flags e.0) (bit_or v e.1) v ≡ 0) → Same (cond (same_field field.Flags e.0) (bit_or v e.1) v))
+        → value_from v field.Flags (told o (e ∷ es)) ≡ value_from v field.Flags (e ∷ es)
+    by true is elsewhere later =
+        let index : field_index field.Flags ≡ field_index e.0 = same_index field.Flags e.0 is in
+        let none : v ≡ 0 = first (omega (arith, order.0, index)) in
+        told_one o field.Flags v e es (subst (λ (m : ℕ). Adds o field.Flags m e) (sym none) (adds_first o e)) elsewhere
+        (later (λ le. absurd (omega (arith, le, index))))
+    by false is elsewhere later =
+        let same : cond (same_field field.Flags e.0) (bit_or v e.1) v ≡ v = ap (λ (c : Bool). cond c (bit_or v e.1) v) is in
+        told_one o field.Flags v e es (other_adds is) elsewhere (subst Same (sym same) elsewhere)

@@ -1,5 +1,5 @@
 -- Events that are printed one behind the other are read as what they are.
-use Rattle.std.proofs.Common.{◌≡◌, ℕ, ◌+◌, ◌%◌, ◌^◌, ◌<◌, ◌≤◌, Bool, true, false, cond, ◌==◌, List, [], ◌∷◌, ◌++◌, length, Option, Some, refl, sym, ap, ◌∙◌, append_assoc, arith, length-append}
+use Rattle.std.proofs.Common.{◌≡◌, ℕ, ◌+◌, ◌%◌, ◌^◌, ◌<◌, ◌≤◌, Bool, true, false, List, [], ◌∷◌, ◌++◌, length, Option, Some, refl, sym, ap, subst, ◌∙◌, append_assoc, arith, length-append}
 use Rattle.std.specs.Prelude.{nat_lt}
 use Rattle.std.specs.List.{AllByRecursion}
 use Rattle.std.specs.Option.{option_and_then}
@@ -11,41 +11,16 @@ use Rattle.tb_records.specs.Messages.{Message}
 use Rattle.tb_text.specs.declared.words.Field.{Field}
 use Rattle.tb_text.specs.declared.words.Field.TheVariants as field
 use Rattle.tb_text.specs.declared.words.Operation.{Operation}
+use Rattle.tb_text.specs.declared.words.Operation.TheVariants.{CreateAccounts, CreateTransfers}
+use Rattle.tb_text.specs.Words.{same_field}
 use Rattle.tb_text.specs.declared.places.Lexeme.TheVariants.{Gap}
 use Rattle.tb_text.specs.declared.places.Place.{Place}
-use Rattle.tb_text.specs.declared.places.Place.TheVariants.{Given, Opened, Parted}
-use Rattle.tb_text.specs.Scan.{Entry, Scan, step, run, awaits_field, entered, value_of, account_of, transfer_of}
+use Rattle.tb_text.specs.declared.places.Place.TheVariants.{Opened, Parted}
+use Rattle.tb_text.specs.Scan.{Entry, Scan, step, run, awaits_field, value_of, account_of, transfer_of}
 use Rattle.tb_text.specs.Printed.{account_entries, transfer_entries, more_text, items_text}
-use Rattle.tb_text.proofs.Tokens.{one_step, space}
-use Rattle.tb_text.proofs.Entries.{told, entered_all, IsEnd, value_told, none_or}
-
--- a field was given, as the last of these
-abbrev pub at : Scan → Field → List Entry → Scan
-at s f given = record {
-  pairs = s.pairs;
-  lexeme = Gap;
-  spelled = [];
-  place = Given f;
-  operation = s.operation;
-  header = s.header;
-  given = given;
-  accounts = s.accounts;
-  transfers = s.transfers;
-  ids = s.ids;
-}
-
-append_nil : {X : Type 0} (xs : List X) → xs ++ [] ≡ xs
-append_nil [] = refl
-append_nil {X} (x ∷ xs) = ap (λ (ys : List X). x ∷ ys) (append_nil xs)
-
-pub all_at : (es : List Entry) (s : Scan) (f : Field) (g : List Entry) → (h : Field) × (entered_all (at s f g) es ≡ at s h (g ++ told es))
-all_at [] s f g = (f, ap (at s f) (sym (append_nil g)))
-all_at (e ∷ es) s f g = by (e.1 == 0) (all_at es s f g) (all_at es s e.0 (g ++ e ∷ []))
-  where
-    by : (b : Bool) → (h : Field) × (entered_all (at s f g) es ≡ at s h (g ++ told es)) → (h : Field) × (entered_all (at s e.0 (g ++ e ∷ [])) es ≡ at s h ((g ++ e ∷ []) ++ told es))
-        → (h : Field) × (cond b (entered_all (at s f g) es) (entered_all (entered (at s f g) e.0 e.1) es) ≡ at s h (g ++ cond b (told es) (e ∷ told es)))
-    by true same later = same
-    by false same later = (later.0, later.1 ∙ ap (at s later.0) (append_assoc g (e ∷ []) (told es)))
+use Rattle.tb_text.proofs.Tokens.{IsEnd, one_step, space}
+use Rattle.tb_text.proofs.Entries.{told, InOrder, only_flags, value_told, flags_told, none_or}
+use Rattle.tb_text.proofs.Orders.{accounts_in_order, transfers_in_order}
 
 -- within a statement
 abbrev pub mid : List (ℕ × Message) → List Entry → Operation → Place → List Account → List Transfer → List ℕ → List Entry → Scan
@@ -111,20 +86,32 @@ low_32 n h = omega arith
 low_16 : (n : ℕ) → n < 2 ^ 16 → n % 2 ^ 16 ≡ n
 low_16 n h = omega arith
 
+-- a number of an event is read as it was, be it that of the flags
+event_value : (o : Operation) (q : Option Operation) (id : ℕ) (es : List Entry) (f : Field) → InOrder q 5 es → value_of f ((field.Id, id) ∷ told o es) ≡ value_of f ((field.Id, id) ∷ es)
+event_value o q id es f order = by (same_field f field.Flags) refl
+  where
+    by : (b : Bool) → same_field f field.Flags ≡ b → value_of f ((field.Id, id) ∷ told o es) ≡ value_of f ((field.Id, id) ∷ es)
+    by true is =
+        let flags : f ≡ field.Flags = only_flags f is in
+        subst (λ (g : Field). value_of g ((field.Id, id) ∷ told o es) ≡ value_of g ((field.Id, id) ∷ es)) (sym flags) (flags_told o q 5 0 es order (λ le. refl))
+    by false is = value_told o f (value_of f ((field.Id, id) ∷ [])) es is
+
 -- accounts
 
-account_value : (a : Account) (f : Field) → value_of f ((field.Id, a.id) ∷ told (account_entries a)) ≡ value_of f ((field.Id, a.id) ∷ account_entries a)
-account_value a f = value_told f (value_of f ((field.Id, a.id) ∷ [])) (account_entries a)
+account_value : (a : Account) (f : Field) → IsAccount a → value_of f ((field.Id, a.id) ∷ told CreateAccounts (account_entries a)) ≡ value_of f ((field.Id, a.id) ∷ account_entries a)
+account_value a f h = event_value CreateAccounts (Some CreateAccounts) a.id (account_entries a) f (accounts_in_order a h)
 
-pub account_back : (a : Account) → IsAccount a → account_of ((field.Id, a.id) ∷ told (account_entries a)) ≡ a
+pub account_back : (a : Account) → IsAccount a → account_of ((field.Id, a.id) ∷ told CreateAccounts (account_entries a)) ≡ a
 unfolding account_of
 account_back a h =
-    simp (account_value a, none_or, low a.user_data_64 h.user_data_64, low_32 a.user_data_32 h.user_data_32, low_32 a.reserved h.reserved, low_32 a.ledger h.ledger, low_16 a.code h.code, low_16 a.flags h.flags, low a.timestamp h.timestamp)
+    let value : (f : Field) → value_of f ((field.Id, a.id) ∷ told CreateAccounts (account_entries a)) ≡ value_of f ((field.Id, a.id) ∷ account_entries a) = λ f. account_value a f h in
+    simp (value, none_or, low a.user_data_64 h.user_data_64, low_32 a.user_data_32 h.user_data_32, low_32 a.reserved h.reserved, low_32 a.ledger h.ledger, low_16 a.code h.code, low_16 a.flags h.flags, low a.timestamp h.timestamp)
 
-transfer_value : (t : Transfer) (f : Field) → value_of f ((field.Id, t.id) ∷ told (transfer_entries t)) ≡ value_of f ((field.Id, t.id) ∷ transfer_entries t)
-transfer_value t f = value_told f (value_of f ((field.Id, t.id) ∷ [])) (transfer_entries t)
+transfer_value : (t : Transfer) (f : Field) → IsTransfer t → value_of f ((field.Id, t.id) ∷ told CreateTransfers (transfer_entries t)) ≡ value_of f ((field.Id, t.id) ∷ transfer_entries t)
+transfer_value t f h = event_value CreateTransfers (Some CreateTransfers) t.id (transfer_entries t) f (transfers_in_order t h)
 
-pub transfer_back : (t : Transfer) → IsTransfer t → transfer_of ((field.Id, t.id) ∷ told (transfer_entries t)) ≡ t
+pub transfer_back : (t : Transfer) → IsTransfer t → transfer_of ((field.Id, t.id) ∷ told CreateTransfers (transfer_entries t)) ≡ t
 unfolding transfer_of
 transfer_back t h =
-    simp (transfer_value t, none_or, low t.user_data_64 h.user_data_64, low_32 t.user_data_32 h.user_data_32, low_32 t.timeout h.timeout, low_32 t.ledger h.ledger, low_16 t.code h.code, low_16 t.flags h.flags, low t.timestamp h.timestamp)
+    let value : (f : Field) → value_of f ((field.Id, t.id) ∷ told CreateTransfers (transfer_entries t)) ≡ value_of f ((field.Id, t.id) ∷ transfer_entries t) = λ f. transfer_value t f h in
+    simp (value, none_or, low t.user_data_64 h.user_data_64, low_32 t.user_data_32 h.user_data_32, low_32 t.timeout h.timeout, low_32 t.ledger h.ledger, low_16 t.code h.code, low_16 t.flags h.flags, low t.timestamp h.timestamp)

@@ -2,7 +2,9 @@ pub mod EachWord
 pub mod Runs
 pub mod Tokens
 pub mod Numbers
+pub mod Flags
 pub mod Entries
+pub mod Orders
 pub mod Items
 pub mod EachKind
 pub mod Statements

@@ -1,4 +1,4 @@
--- A number in decimal digits is read as itself, and an entry as itself.
+-- A number in decimal digits is read as itself, and a field with its number as itself.
 use Rattle.std.proofs.Common.{◌≡◌, ℕ, zero, suc, ◌+◌, ◌*◌, ◌-◌, ◌/◌, ◌%◌, ◌^◌, ◌<◌, ◌≤◌, Bool, true, false, cond, ◌&&◌, ◌==◌, List, [], ◌∷◌, ◌++◌, Some, None, refl, sym, ap, ◌∙◌, append_assoc, arith}
 use Rattle.std.specs.Prelude.{nat_le}
 use Rattle.std.specs.Option.{option_and_then}
@@ -12,7 +12,6 @@ use Rattle.tb_text.specs.declared.places.Lexeme.TheVariants.{Zero, Decimal}
 use Rattle.tb_text.specs.declared.places.Place.TheVariants.{Wanted, Named}
 use Rattle.tb_text.specs.Words.{field_max, field_name}
 use Rattle.tb_text.specs.Scan.{Scan, step, run, gap, is_space, is_digit, is_word_byte, may_stand, within, moved, entered, is_positive, wanted, appended, decimal_grown, number_ended, number_left}
-use Rattle.tb_text.specs.Printed.{entry_text}
 use Rattle.tb_text.proofs.Tokens.{IsBetween, one_step, same_step, at_gap, word_through, if_false}
 
 -- as much as is read where the digits of n have been
@@ -115,7 +114,7 @@ number_through s f n d rest between w small le p h =
     ∙ same_step (digits_read s n) (entered s f n) d rest (number_whole s f n d w p h ∙ sym (at_gap (entered s f n) d refl))
 
 pub entry_through : (s : Scan) (f : Field) (n d : ℕ) (rest : List ℕ) → IsBetween s → may_stand s (word.Field f) ≡ true → n < 10 ^ 64 → n ≤ field_max f → (n == 0 && is_positive f) ≡ false → is_word_byte d ≡ false
-    → run s (entry_text (f, n) ++ d ∷ rest) ≡ run (entered s f n) (d ∷ rest)
+    → run s ((field_name f ++ 61 ∷ decimal n) ++ d ∷ rest) ≡ run (entered s f n) (d ∷ rest)
 entry_through s f n d rest between may small le p h =
     ap (run s) (append_assoc (field_name f) (61 ∷ decimal n) (d ∷ rest))
     ∙ (word_through s (word.Field f) 61 (decimal n ++ d ∷ rest) between may refl

@@ -17,34 +17,36 @@ use Rattle.tb_text.specs.declared.words.Word.TheVariants as word
 use Rattle.tb_text.specs.declared.words.Operation.{Operation}
 use Rattle.tb_text.specs.declared.words.Operation.TheVariants.{Register, CreateAccounts, CreateTransfers, LookupAccounts, LookupTransfers}
 use Rattle.tb_text.specs.declared.places.Place.TheVariants.{Opened}
-use Rattle.tb_text.specs.Words.{word_text}
+use Rattle.tb_text.specs.Words.{word_text, same_field}
 use Rattle.tb_text.specs.Scan.{Entry, Scan, behind, run, value_of, suits, when_lawful}
 use Rattle.std.proofs.lemmas.Bool.Decides.{nat_tests}
 use Rattle.tb_text.specs.Steps.{Means}
 use Rattle.tb_text.specs.Printed.{entries_text, header_entries, items_text, account_text, transfer_text, id_text, body_text, statement_text, printed}
-use Rattle.tb_text.proofs.Tokens.{one_step, at_gap, space, line_end, word_through}
-use Rattle.tb_text.proofs.Entries.{told, InOrder, IsEnd, entries_through, value_told, none_or}
-use Rattle.tb_text.proofs.Items.{at, all_at, mid, items_through, low, low_32}
-use Rattle.tb_text.proofs.EachKind.{small_128, small_64, small_32, accounts_state, accounts_ended, accounts_kind, transfers_state, transfers_ended, transfers_kind, sought_accounts_state, sought_accounts_ended, sought_accounts_kind, sought_transfers_state, sought_transfers_ended, sought_transfers_kind}
+use Rattle.tb_text.proofs.Tokens.{IsEnd, one_step, at_gap, space, line_end, word_through}
+use Rattle.tb_text.proofs.Flags.{at}
+use Rattle.tb_text.proofs.Entries.{told, InOrder, all_at, entries_through, value_told, none_or}
+use Rattle.tb_text.proofs.Orders.{small_64, small_32, small_128}
+use Rattle.tb_text.proofs.Items.{mid, items_through, low, low_32}
+use Rattle.tb_text.proofs.EachKind.{accounts_state, accounts_ended, accounts_kind, transfers_state, transfers_ended, transfers_kind, sought_accounts_state, sought_accounts_ended, sought_accounts_kind, sought_transfers_state, sought_transfers_ended, sought_transfers_kind}
 
 -- the entries of a header
 abbrev header_of : ℕ → Message → List Entry
-header_of moment r = (field.At, moment) ∷ told (header_entries r)
+header_of moment r = (field.At, moment) ∷ told Register (header_entries r)
 
-header_value : (moment : ℕ) (r : Message) (f : Field) → value_of f (header_of moment r) ≡ value_of f ((field.At, moment) ∷ header_entries r)
-header_value moment r f = value_told f (value_of f ((field.At, moment) ∷ [])) (header_entries r)
+header_value : (moment : ℕ) (r : Message) (f : Field) → same_field f field.Flags ≡ false → value_of f (header_of moment r) ≡ value_of f ((field.At, moment) ∷ header_entries r)
+header_value moment r f is = value_told Register f (value_of f ((field.At, moment) ∷ [])) (header_entries r) is
 
 client_back : (moment : ℕ) (r : Message) → value_of field.Client (header_of moment r) ≡ r.client
-client_back moment r = header_value moment r field.Client ∙ none_or r.client
+client_back moment r = header_value moment r field.Client refl ∙ none_or r.client
 
 session_back : (moment : ℕ) (r : Message) → value_of field.Session (header_of moment r) ≡ r.session
-session_back moment r = header_value moment r field.Session ∙ none_or r.session
+session_back moment r = header_value moment r field.Session refl ∙ none_or r.session
 
 number_back : (moment : ℕ) (r : Message) → value_of field.Request (header_of moment r) ≡ r.request
-number_back moment r = header_value moment r field.Request ∙ none_or r.request
+number_back moment r = header_value moment r field.Request refl ∙ none_or r.request
 
 moment_back : (moment : ℕ) (r : Message) → value_of field.At (header_of moment r) ≡ moment
-moment_back moment r = header_value moment r field.At ∙ none_or moment
+moment_back moment r = header_value moment r field.At refl ∙ none_or moment
 
 -- where the first of two tests holds there is a fault
 first_test : (b : Bool) (f : FrameFault) (rest : Option FrameFault) → cond b (Some f) rest ≡ None → (b ≡ false) × (rest ≡ None)
@@ -95,12 +97,12 @@ header_in_order r h =
 
 -- a header, up to what follows it
 header_through : (pairs : List (ℕ × Message)) (moment : ℕ) (r : Message) (tail : List ℕ) → IsTimed (moment, r) → IsEnd tail
-    → (f : Field) × (run (behind pairs) (entries_text (field.At, moment) (header_entries r) ++ tail) ≡ run (at (behind pairs) f (header_of moment r)) tail)
+    → (f : Field) × (run (behind pairs) (entries_text Register (field.At, moment) (header_entries r) ++ tail) ≡ run (at (behind pairs) f (header_of moment r)) tail)
 header_through pairs moment r tail h e =
     let small = small_64 moment h.0 in
-    let all = all_at (header_entries r) (behind pairs) field.At ((field.At, moment) ∷ []) in (
+    let all = all_at Register (header_entries r) (behind pairs) field.At ((field.At, moment) ∷ []) in (
       all.0,
-      entries_through (field.At, moment) (header_entries r) (behind pairs) tail e (record { lexeme = refl; spelled = refl }) refl refl refl small.most small.short (positive (moment == 0)) (header_in_order r h.1)
+      entries_through Register (field.At, moment) (header_entries r) (behind pairs) tail e (record { lexeme = refl; spelled = refl }) (λ f. refl) refl refl refl small.most small.short (positive (moment == 0)) (header_in_order r h.1)
           ∙ ap (λ (t : Scan). run t tail) all.1,
     )
   where
@@ -193,7 +195,7 @@ unfolding statement_text
 statement_through pairs pair tail h =
     let moment = pair.0 in
     let r = pair.1 in
-    let header = entries_text (field.At, moment) (header_entries r) in
+    let header = entries_text Register (field.At, moment) (header_entries r) in
     let after = (32 ∷ body_text r.body) ++ 59 ∷ 10 ∷ tail in
     let regrouped : statement_text pair ++ tail ≡ header ++ after =
     append_assoc (header ++ 32 ∷ body_text r.body) (codes ";\n") tail ∙ append_assoc header (32 ∷ body_text r.body) (59 ∷ 10 ∷ tail) in

@@ -19,6 +19,13 @@ pub record IsBetween (s : Scan) : Type 0 where
   pub lexeme : s.lexeme ≡ Gap
   pub spelled : s.spelled ≡ []
 
+-- what stands behind a word or a number ends it
+pub record IsEnd (text : List ℕ) : Type 0 where
+  pub byte : ℕ
+  pub rest : List ℕ
+  pub text_is : text ≡ byte ∷ rest
+  pub ends : is_word_byte byte ≡ false
+
 pub one_step : (s t : Scan) (b : ℕ) (bs : List ℕ) → step s b ≡ Some t → run s (b ∷ bs) ≡ run t bs
 one_step s t b bs h = ap (option_and_then (λ u. run u bs)) h
 

@@ -1,6 +1,6 @@
 -- The one text of requests: a statement a line, the fields in the order of the records, those that are 0 left out but for
--- an event's id and the moment, numbers decimal.
-use Rattle.std.specs.Prelude.{ℕ, ◌==◌, List, [], ◌∷◌, ◌++◌, flat_map, if◌then◌else◌, codes}
+-- an event's id and the moment, flags by name, numbers decimal.
+use Rattle.std.specs.Prelude.{ℕ, ◌==◌, ◌&&◌, ◌*◌, ◌/◌, ◌%◌, ◌^◌, List, [], ◌∷◌, ◌++◌, length, flat_map, if◌then◌else◌, codes}
 use Rattle.std.specs.Fmt.{decimal}
 use Rattle.tb_records.specs.Messages.{Message}
 use Rattle.tb_records.specs.declared.bodies.Body.{Body}
@@ -8,20 +8,40 @@ use Rattle.tb_records.specs.declared.bodies.Body.TheVariants as body
 use Rattle.tb_records.specs.declared.records.Account.{Account}
 use Rattle.tb_records.specs.declared.records.Transfer.{Transfer}
 use Rattle.tb_text.specs.declared.words.Field.TheVariants as field
-use Rattle.tb_text.specs.Words.{field_name}
+use Rattle.tb_text.specs.declared.words.Flag.{Flag}
+use Rattle.tb_text.specs.declared.words.Operation.{Operation}
+use Rattle.tb_text.specs.declared.words.Operation.TheVariants.{Register, CreateAccounts, CreateTransfers}
+use Rattle.tb_text.specs.Words.{field_name, same_field, flags_of, flag_name}
 use Rattle.tb_text.specs.Scan.{Entry}
 
--- a name, `=` and a number
-abbrev pub entry_text : Entry → List ℕ
-entry_text e = field_name e.0 ++ 61 ∷ decimal e.1
+-- what is left of a number of flags without those bits that have a name
+abbrev pub unnamed : Operation → ℕ → ℕ
+unnamed o n = n / 2 ^ length (flags_of o) * 2 ^ length (flags_of o)
+
+-- The names of the flags that a number has, from its lowest bit on, and what has no name as a number: `=` or `|` before the
+-- first, `|` before each further one.
+abbrev pub flags_text : List Flag → ℕ → ℕ → ℕ → List ℕ
+flags_text [] mark rest n = if mark == 124 && rest == 0 then [] else mark ∷ decimal rest
+flags_text (f ∷ fs) mark rest n =
+    if n % 2 == 0 then flags_text fs mark rest (n / 2)
+    else mark ∷ flag_name f ++ flags_text fs 124 rest (n / 2)
+
+-- what stands behind a field's name: `=` and the flags of the operation's events, or a number
+abbrev pub value_text : Operation → Entry → List ℕ
+value_text o e =
+    if same_field e.0 field.Flags then flags_text (flags_of o) 61 (unnamed o e.1) e.1
+    else 61 ∷ decimal e.1
+
+abbrev pub entry_text : Operation → Entry → List ℕ
+entry_text o e = field_name e.0 ++ value_text o e
 
 -- entries behind others: those that are 0 are left out
-abbrev pub further_text : List Entry → List ℕ
-further_text [] = []
-further_text (e ∷ es) = (if e.1 == 0 then [] else 32 ∷ entry_text e) ++ further_text es
+abbrev pub further_text : Operation → List Entry → List ℕ
+further_text o [] = []
+further_text o (e ∷ es) = (if e.1 == 0 then [] else 32 ∷ entry_text o e) ++ further_text o es
 
-abbrev pub entries_text : Entry → List Entry → List ℕ
-entries_text first others = entry_text first ++ further_text others
+abbrev pub entries_text : Operation → Entry → List Entry → List ℕ
+entries_text o first others = entry_text o first ++ further_text o others
 
 abbrev pub header_entries : Message → List Entry
 header_entries r = (field.Client, r.client) ∷ (field.Session, r.session) ∷ (field.Request, r.request) ∷ []
@@ -59,13 +79,14 @@ transfer_entries t =
     ∷ []
 
 unfoldable pub account_text : Account → List ℕ
-account_text a = entries_text (field.Id, a.id) (account_entries a)
+account_text a = entries_text CreateAccounts (field.Id, a.id) (account_entries a)
 
 unfoldable pub transfer_text : Transfer → List ℕ
-transfer_text t = entries_text (field.Id, t.id) (transfer_entries t)
+transfer_text t = entries_text CreateTransfers (field.Id, t.id) (transfer_entries t)
 
+-- an id alone has no flags, nor has what stands before an operation: both are written as for a register
 unfoldable pub id_text : ℕ → List ℕ
-id_text id = entry_text (field.Id, id)
+id_text id = entry_text Register (field.Id, id)
 
 -- events behind others
 abbrev pub more_text : {X : Type 0} → (X → List ℕ) → List X → List ℕ
@@ -84,7 +105,7 @@ body_text (body.LookupAccounts ids) = codes "lookup_accounts" ++ items_text id_t
 body_text (body.LookupTransfers ids) = codes "lookup_transfers" ++ items_text id_text ids
 
 unfoldable pub statement_text : ℕ × Message → List ℕ
-statement_text pair = entries_text (field.At, pair.0) (header_entries pair.1) ++ 32 ∷ body_text pair.1.body ++ codes ";\n"
+statement_text pair = entries_text Register (field.At, pair.0) (header_entries pair.1) ++ 32 ∷ body_text pair.1.body ++ codes ";\n"
 
 abbrev pub printed : List (ℕ × Message) → List ℕ
 printed pairs = flat_map statement_text pairs

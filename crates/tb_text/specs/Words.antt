@@ -194,6 +194,29 @@ flag_bit CreateAccounts f = account_bit f
 flag_bit CreateTransfers f = transfer_bit f
 flag_bit o f = 0
 
+-- the flags of an operation's events, in the order of their bits
+abbrev pub flags_of : Operation → List Flag
+flags_of CreateAccounts =
+    flag.Linked
+    ∷ flag.DebitsMustNotExceedCredits
+    ∷ flag.CreditsMustNotExceedDebits
+    ∷ flag.History
+    ∷ flag.Imported
+    ∷ flag.Closed
+    ∷ []
+flags_of CreateTransfers =
+    flag.Linked
+    ∷ flag.Pending
+    ∷ flag.PostPendingTransfer
+    ∷ flag.VoidPendingTransfer
+    ∷ flag.BalancingDebit
+    ∷ flag.BalancingCredit
+    ∷ flag.ClosingDebit
+    ∷ flag.ClosingCredit
+    ∷ flag.Imported
+    ∷ []
+flags_of o = []
+
 -- how a word is written
 abbrev pub word_text : Word → List ℕ
 word_text (word.Field f) = field_name f

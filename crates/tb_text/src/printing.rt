@@ -4,10 +4,10 @@ ghost use Rattle.std.specs.Fmt.{decimal};
 ghost use Rattle.tb_records.specs.Frames.{BodyFits, IsId};
 ghost use Rattle.tb_records.specs.Inputs.{IsTimed};
 ghost use Rattle.tb_records.specs.RecordBytes.{IsAccount, IsTransfer};
-ghost use Rattle.tb_text.specs.Printed.{entry_text, further_text, entries_text, header_entries, account_entries, transfer_entries, account_text, transfer_text, id_text, more_text, items_text, body_text, statement_text, printed};
-ghost use Rattle.tb_text.specs.Words.{operation_name};
+ghost use Rattle.tb_text.specs.Printed.{entry_text, flags_text, value_text, unnamed, further_text, entries_text, header_entries, account_entries, transfer_entries, account_text, transfer_text, id_text, more_text, items_text, body_text, statement_text, printed};
+ghost use Rattle.tb_text.specs.Words.{flag_name, flags_of, operation_name};
 
-use crate::words::{Field, Operation};
+use crate::words::{Field, Flag, Operation};
 use std::alloc::{AllocError, Global};
 use tb_records::{Account, Body, Request, Transfer};
 
@@ -19,27 +19,99 @@ fn put_number(alloc: Global, out: &mut Vec<u8>, n: u128) -> Result<(), AllocErro
     out.extend_from_slice(digits.as_str().as_bytes())
 }
 
-/// Appends a field's name, `=` and its number.
-fn put_entry(alloc: Global, out: &mut Vec<u8>, field: Field, number: u128) -> Result<(), AllocError>
-    ensures { OnOk result (out.new.items ≡ out.old.items ++ entry_text (field, number)) }
+/// What is left of a number of flags without those bits that have a name.
+fn unnamed(operation: Operation, number: u128) -> u128
+    ensures { result ≡ unnamed operation number }
 {
-    out.extend_from_slice(field.name().as_bytes())?;
+    match operation {
+        Operation::CreateAccounts => number / 64 * 64,
+        Operation::CreateTransfers => number / 512 * 512,
+        Operation::Register => number,
+        Operation::LookupAccounts => number,
+        Operation::LookupTransfers => number,
+    }
+}
+
+/// Appends a mark and the name of a flag.
+fn put_flag(out: &mut Vec<u8>, mark: u8, flag: Flag) -> Result<(), AllocError>
+    ensures { OnOk result (out.new.items ≡ out.old.items ++ (mark ∷ flag_name flag)) }
+{
+    out.push(mark)?;
+    out.extend_from_slice(flag.name().as_bytes())
+}
+
+/// Appends `=` and the names of a number's flags with `|` between them, and what has no name as a number.
+fn put_flags(
+    alloc: Global,
+    out: &mut Vec<u8>,
+    operation: Operation,
+    number: u128,
+) -> Result<(), AllocError>
+    ensures { OnOk result
+        (out.new.items
+        ≡ out.old.items ++ flags_text (flags_of operation) 61 (unnamed operation number) number) }
+{
+    let mut mark = b'=';
+    let mut bits = number;
+    for flag in operation.flags() {
+        if bits % 2 != 0 {
+            put_flag(out, mark, *flag)?;
+            mark = b'|';
+        }
+        bits = bits / 2;
+    }
+    let rest = unnamed(operation, number);
+    if mark == b'|' && rest == 0 {
+        return Ok(());
+    }
+    out.push(mark)?;
+    put_number(alloc, out, rest)
+}
+
+/// Appends what stands behind a field's name: `=` and the flags of the operation's events, or a number.
+fn put_value(
+    alloc: Global,
+    out: &mut Vec<u8>,
+    operation: Operation,
+    field: Field,
+    number: u128,
+) -> Result<(), AllocError>
+    ensures { OnOk result (out.new.items ≡ out.old.items ++ value_text operation (field, number)) }
+{
+    if field.index() == Field::Flags.index() {
+        return put_flags(alloc, out, operation, number);
+    }
     out.extend_from_slice(b"=")?;
     put_number(alloc, out, number)
+}
+
+/// Appends a field's name and its value.
+fn put_entry(
+    alloc: Global,
+    out: &mut Vec<u8>,
+    operation: Operation,
+    field: Field,
+    number: u128,
+) -> Result<(), AllocError>
+    ensures { OnOk result (out.new.items ≡ out.old.items ++ entry_text operation (field, number)) }
+{
+    out.extend_from_slice(field.name().as_bytes())?;
+    put_value(alloc, out, operation, field, number)
 }
 
 /// Appends fields that stand behind others, those that are 0 left out.
 fn put_further(
     alloc: Global,
     out: &mut Vec<u8>,
+    operation: Operation,
     entries: &[(Field, u128)],
 ) -> Result<(), AllocError>
-    ensures { OnOk result (out.new.items ≡ out.old.items ++ further_text entries.now) }
+    ensures { OnOk result (out.new.items ≡ out.old.items ++ further_text operation entries.now) }
 {
     for (field, number) in entries {
         if *number != 0 {
             out.extend_from_slice(b" ")?;
-            put_entry(alloc, out, *field, *number)?;
+            put_entry(alloc, out, operation, *field, *number)?;
         }
     }
     Ok(())
@@ -49,14 +121,16 @@ fn put_further(
 fn put_entries(
     alloc: Global,
     out: &mut Vec<u8>,
+    operation: Operation,
     field: Field,
     number: u128,
     others: &[(Field, u128)],
 ) -> Result<(), AllocError>
-    ensures { OnOk result (out.new.items ≡ out.old.items ++ entries_text (field, number) others.now) }
+    ensures { OnOk result
+        (out.new.items ≡ out.old.items ++ entries_text operation (field, number) others.now) }
 {
-    put_entry(alloc, out, field, number)?;
-    put_further(alloc, out, others)
+    put_entry(alloc, out, operation, field, number)?;
+    put_further(alloc, out, operation, others)
 }
 
 /// The fields before the operation of a request, behind the moment.
@@ -136,7 +210,14 @@ impl Event for Account {
 
     #[tactic(auto, unfolding(crate::specs::Printed::account_text))]
     fn put(&self, alloc: Global, out: &mut Vec<u8>) -> Result<(), AllocError> {
-        put_entries(alloc, out, Field::Id, self.id, &account_entries(*self))
+        put_entries(
+            alloc,
+            out,
+            Operation::CreateAccounts,
+            Field::Id,
+            self.id,
+            &account_entries(*self),
+        )
     }
 }
 
@@ -147,7 +228,14 @@ impl Event for Transfer {
 
     #[tactic(auto, unfolding(crate::specs::Printed::transfer_text))]
     fn put(&self, alloc: Global, out: &mut Vec<u8>) -> Result<(), AllocError> {
-        put_entries(alloc, out, Field::Id, self.id, &transfer_entries(*self))
+        put_entries(
+            alloc,
+            out,
+            Operation::CreateTransfers,
+            Field::Id,
+            self.id,
+            &transfer_entries(*self),
+        )
     }
 }
 
@@ -158,7 +246,7 @@ impl Event for u128 {
 
     #[tactic(auto, unfolding(crate::specs::Printed::id_text))]
     fn put(&self, alloc: Global, out: &mut Vec<u8>) -> Result<(), AllocError> {
-        put_entry(alloc, out, Field::Id, *self)
+        put_entry(alloc, out, Operation::Register, Field::Id, *self)
     }
 }
 
@@ -243,6 +331,7 @@ pub fn print_request(
     put_entries(
         alloc,
         out,
+        Operation::Register,
         Field::At,
         moment as u128,
         &header_entries(request),
@@ -253,8 +342,8 @@ pub fn print_request(
 }
 
 /// The one text of requests at their moments: a statement a line, the fields in the order of the records, those that
-/// are 0 left out but for the moment and the ids, numbers decimal. The clause `fits` is what `printed_is_read` asks
-/// for, so the text is read back as these requests. AllocError where there is no memory for it.
+/// are 0 left out but for the moment and the ids, flags by name, numbers decimal. The clause `fits` is what
+/// `printed_is_read` asks for, so the text is read back as these requests. AllocError where there is no memory for it.
 pub fn print_requests(alloc: Global, pairs: &[(u64, Request)]) -> Result<Vec<u8>, AllocError>
     ensures text { IfOk result (λ text. text.items ≡ printed pairs.now) }
     ensures fits { OnOk result (All IsTimed pairs.now) }

@@ -1,6 +1,6 @@
 //! The words of statements: fields, operations and flags, by the names that TigerBeetle's clients use.
 ghost use Rattle.std.specs.Prelude.{◌≡◌, IfSome, Some};
-ghost use Rattle.tb_text.specs.Words.{field_name, field_index, field_max, has_account_field, has_transfer_field, is_header_field, has_field, operation_name, flag_name, account_bit, transfer_bit, flag_bit, word_text, all_words};
+ghost use Rattle.tb_text.specs.Words.{field_name, field_index, field_max, has_account_field, has_transfer_field, is_header_field, has_field, operation_name, flag_name, flags_of, account_bit, transfer_bit, flag_bit, word_text, all_words};
 
 /// A field of a statement: of what stands before the operation, or of an event.
 #[derive(Clone, Copy, Debug, PartialEq, Eq)]
@@ -114,6 +114,29 @@ const WORDS: [Word; 41] = [
     Word::Flag(Flag::ClosingDebit),
     Word::Flag(Flag::ClosingCredit),
     Word::AmountMax,
+];
+
+/// The flags of an account, in the order of their bits.
+const ACCOUNT_FLAGS: [Flag; 6] = [
+    Flag::Linked,
+    Flag::DebitsMustNotExceedCredits,
+    Flag::CreditsMustNotExceedDebits,
+    Flag::History,
+    Flag::Imported,
+    Flag::Closed,
+];
+
+/// The flags of a transfer, in the order of their bits.
+const TRANSFER_FLAGS: [Flag; 9] = [
+    Flag::Linked,
+    Flag::Pending,
+    Flag::PostPendingTransfer,
+    Flag::VoidPendingTransfer,
+    Flag::BalancingDebit,
+    Flag::BalancingCredit,
+    Flag::ClosingDebit,
+    Flag::ClosingCredit,
+    Flag::Imported,
 ];
 
 impl Field {
@@ -309,6 +332,19 @@ impl Operation {
             Operation::CreateTransfers => "create_transfers",
             Operation::LookupAccounts => "lookup_accounts",
             Operation::LookupTransfers => "lookup_transfers",
+        }
+    }
+
+    /// The flags of the operation's events, in the order of their bits.
+    pub fn flags(self) -> &'static [Flag]
+        ensures { result.now ≡ flags_of self }
+    {
+        match self {
+            Operation::CreateAccounts => &ACCOUNT_FLAGS,
+            Operation::CreateTransfers => &TRANSFER_FLAGS,
+            Operation::Register => &[],
+            Operation::LookupAccounts => &[],
+            Operation::LookupTransfers => &[],
         }
     }
 

@@ -14,12 +14,12 @@ const HISTORY: [(u64, u64, &str); 5] = [
     (
         3,
         6,
-        "at=6 client=7 session=1 request=2 create_transfers id=11 debit_account_id=1 credit_account_id=2 amount=100 timeout=5 ledger=700 code=10 flags=2, id=12 debit_account_id=1 credit_account_id=2 amount=30 timeout=1 ledger=700 code=10 flags=2, id=13 debit_account_id=1 credit_account_id=9 amount=30 ledger=700 code=10;\n",
+        "at=6 client=7 session=1 request=2 create_transfers id=11 debit_account_id=1 credit_account_id=2 amount=100 timeout=5 ledger=700 code=10 flags=pending, id=12 debit_account_id=1 credit_account_id=2 amount=30 timeout=1 ledger=700 code=10 flags=pending, id=13 debit_account_id=1 credit_account_id=9 amount=30 ledger=700 code=10;\n",
     ),
     (
         4,
         7,
-        "at=7 client=7 session=1 request=3 create_transfers id=14 amount=40 pending_id=11 flags=4;\n",
+        "at=7 client=7 session=1 request=3 create_transfers id=14 amount=40 pending_id=11 flags=post_pending_transfer;\n",
     ),
     (
         5,

@@ -41,6 +41,48 @@ fn each_transfer_field(rt: HostRuntime) -> Result<(), Fail> {
     Ok(())
 }
 
+/// Statements of flags, and what is printed of them: the names of the flags from the lowest bit on, and what has no
+/// name as a number.
+const FLAGS: [(&str, &str); 6] = [
+    (
+        "create_accounts id=5 flags=63;\n",
+        "create_accounts id=5 flags=linked|debits_must_not_exceed_credits|credits_must_not_exceed_debits|history|imported|closed;\n",
+    ),
+    (
+        "create_transfers id=5 flags=511;\n",
+        "create_transfers id=5 flags=linked|pending|post_pending_transfer|void_pending_transfer|balancing_debit|balancing_credit|closing_debit|closing_credit|imported;\n",
+    ),
+    (
+        "create_accounts id=5 flags=65535;\n",
+        "create_accounts id=5 flags=linked|debits_must_not_exceed_credits|credits_must_not_exceed_debits|history|imported|closed|65472;\n",
+    ),
+    (
+        "create_transfers id=5 flags=0x201;\n",
+        "create_transfers id=5 flags=linked|512;\n",
+    ),
+    (
+        "create_accounts id=5 flags=64, id=6 flags=0, id=7 flags=closed|history;\n",
+        "create_accounts id=5 flags=64, id=6, id=7 flags=history|closed;\n",
+    ),
+    (
+        "create_transfers id=5 flags=256 timestamp=9;\n",
+        "create_transfers id=5 flags=imported timestamp=9;\n",
+    ),
+];
+
+#[test]
+fn flags_by_name(rt: HostRuntime) -> Result<(), Fail> {
+    for (text, printed) in FLAGS {
+        let text = format!(in rt.alloc(); "at=1 client=2 session=3 request=4 {text}")?;
+        let printed = format!(in rt.alloc(); "at=1 client=2 session=3 request=4 {printed}")?;
+        assert_eq!(rt;
+            printed_again(rt.alloc(), text.as_str().as_bytes())?.as_slice(),
+            printed.as_str().as_bytes()
+        );
+    }
+    Ok(())
+}
+
 #[test]
 fn each_operation(rt: HostRuntime) -> Result<(), Fail> {
     let text =
