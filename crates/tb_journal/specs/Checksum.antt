@@ -1,5 +1,5 @@
 -- CRC-32C, bit by bit.
-use Rattle.std.specs.Prelude.{◌≡◌, ℕ, ◌/◌, ◌%◌, List, [], ◌∷◌, bit_xor, if◌then◌else◌, ◌==◌, codes, refl}
+use Rattle.std.specs.Prelude.{◌≡◌, ℕ, zero, suc, ◌/◌, ◌%◌, List, [], ◌∷◌, bit_xor, if◌then◌else◌, ◌==◌, codes, replicate, refl}
 
 -- one bit on, by the polynomial of Castagnoli with its bits turned round
 unfoldable pub bit_on : ℕ → ℕ
@@ -16,10 +16,23 @@ remainder (byte ∷ bytes) c = remainder bytes (byte_on (bit_xor c byte))
 abbrev pub checksum : List ℕ → ℕ
 checksum bytes = bit_xor (remainder bytes 0xFFFFFFFF) 0xFFFFFFFF
 
--- the checksum of nothing, and the vector that tables of checksums give
+-- what so many bytes of zeros make of a remainder: for private functions alone
+abbrev pub zeros_on : ℕ → ℕ → ℕ
+zeros_on zero c = c
+zeros_on (suc k) c = zeros_on k (byte_on c)
+
+-- the checksum of nothing, the vector that tables of checksums give, and those of RFC 3720: 32 zeros, and 32 bytes of ones
 pub checksum_of_nothing : checksum [] ≡ 0
 checksum_of_nothing = refl
 
 pub checksum_of_digits : checksum (codes "123456789") ≡ 0xE3069283
 unfolding bit_on byte_on
 checksum_of_digits = refl
+
+pub checksum_of_zeros : checksum (replicate 32 0) ≡ 0x8A9136AA
+unfolding bit_on byte_on
+checksum_of_zeros = refl
+
+pub checksum_of_ones : checksum (replicate 32 255) ≡ 0x62A8AB43
+unfolding bit_on byte_on
+checksum_of_ones = refl

@@ -1,6 +1,13 @@
-use Rattle.std.proofs.Common.{◌≡◌, drop}
+use Rattle.std.proofs.Common.{◌≡◌, length}
 use Rattle.tb_journal.specs.Checksum.{remainder}
+use Rattle.tb_journal.proofs.Remainders.{AreBytes}
 use Rattle.tb_journal.proofs.checksums.remainder_after.Given as goal
 
-abbrev pub invariant-loop-byte : goal.invariant-loop-byte
-invariant-loop-byte l = remainder (drop l.byte-index l.bytes) l.sum ≡ remainder l.bytes l.fn.start
+abbrev pub decreases-loop-rest : goal.decreases-loop-rest
+decreases-loop-rest l = length l.rest
+
+abbrev pub invariant-loop-rest : goal.invariant-loop-rest
+invariant-loop-rest l = record {
+  sum : remainder l.rest l.sum ≡ remainder l.fn.bytes l.fn.start;
+  bytes : AreBytes l.rest;
+}
