@@ -15,7 +15,7 @@ use Rattle.tb_keep.specs.Rounds.{state_from, entries_from, told_from}
 use Rattle.tb_keep.specs.Again.{OneHistory, OneLedger, GoesOnAfter}
 use Rattle.tb_keep.proofs.Pairs.{told_join}
 
-one_head : (p q : Profile) (m n : ℕ) → head_record p m ≡ head_record q n → (p ≡ q) × (m ≡ n)
+pub one_head : (p q : Profile) (m n : ℕ) → head_record p m ≡ head_record q n → (p ≡ q) × (m ≡ n)
 one_head One One m n is = (refl, cc (is))
 one_head One Two m n is = absurd (cc)
 one_head Two One m n is = absurd (cc)

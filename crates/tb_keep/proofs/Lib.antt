@@ -8,3 +8,4 @@ pub mod Dumping
 pub mod Crashes
 pub mod Again
 pub mod Spelled
+pub mod Unrefused

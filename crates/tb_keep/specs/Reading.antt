@@ -11,6 +11,9 @@ use Rattle.tb_keep.specs.declared.heads.Rules.{Rules}
 use Rattle.tb_keep.specs.Keeping.{History, state_of, head_record, IsLedger}
 use Rattle.tb_keep.specs.Restoration.{StopsFile}
 
+abbrev pub rules_of : Profile → ℕ → Rules
+rules_of profile clients_max = record { profile = profile; clients_max = clients_max }
+
 -- the first record is no head, or there is none
 abbrev pub HasNoHead : List (List ℕ) → Type 0
 HasNoHead records = (profile : Profile) (clients_max : ℕ) (rest : List (List ℕ)) → 0 < clients_max → clients_max ≤ 64 → records ≡ head_record profile clients_max ∷ rest → ⊥

@@ -12,7 +12,7 @@ use Rattle.tb_machine.specs.Recording.{IsRecord, RecordAnswers}
 use Rattle.tb_machine.specs.Restoring.{cause_of}
 use Rattle.tb_keep.specs.declared.faults.StartFault.{StartFault}
 use Rattle.tb_keep.specs.declared.faults.StartFault.TheVariants as start
-use Rattle.tb_keep.specs.Keeping.{head_record, records_of, IsKeepable, AreRecorded}
+use Rattle.tb_keep.specs.Keeping.{History, head_record, records_of, IsKeepable, AreRecorded}
 
 -- the records are those of entries that lead from one state to another
 pub record Leads (S : State) (records : List (List ℕ)) (T : State) : Type 0 where
@@ -25,7 +25,7 @@ pub record Leads (S : State) (records : List (List ℕ)) (T : State) : Type 0 wh
 -- what is wrong with a record that is that of no entry: no want of memory
 abbrev pub IsNoRecord : FrameFault → List ℕ → Type 0
 IsNoRecord frame.NoMemory bytes = ⊥
-IsNoRecord fault bytes = RecordAnswers (Err fault) bytes
+IsNoRecord fault bytes = RecordAnswers (Err fault) bytes × ((e : Entry) → IsRecord bytes e → ⊥)
 
 -- the first test that an entry fails: no want of memory
 abbrev pub Fails : Unfit → State → Entry → Type 0
@@ -77,3 +77,7 @@ StopsFile start.NoMemory profile clients_max records = Unit {0}
 StopsFile fault profile clients_max records =
     (head : List ℕ) × (rest : List (List ℕ)) × (records ≡ head ∷ rest)
     × (HeadAnswers (Err fault) head profile clients_max ⊎ ((T : State) × RestoresAll (Err fault) (start_state profile clients_max) rest T))
+
+-- the records of a history that may be kept are refused for want of memory alone
+abbrev pub OnlyMemory : Type 0
+OnlyMemory = (fault : StartFault) (h : History) → IsKeepable h → StopsFile fault h.profile h.clients_max (records_of h) → fault ≡ start.NoMemory

@@ -4,6 +4,7 @@ ghost use Rattle.tb_machine.specs.Scripts.{Pair};
 ghost use Rattle.tb_records.specs.Transport.{Sent};
 ghost use Rattle.tb_keep.specs.Again.{OneHistory, OneLedger, GoesOnAfter, AnyCrash};
 ghost use Rattle.tb_keep.specs.Reading.{DumpIsOfHistory};
+ghost use Rattle.tb_keep.specs.Restoration.{OnlyMemory};
 ghost use Rattle.tb_keep.specs.Moments.{WhileCommitting, WhileTelling, Lasts, RoundsAreServed};
 ghost use Rattle.tb_keep.specs.Rounds.{Standing, Rounds, pairs_of, told_from};
 
@@ -36,6 +37,12 @@ pub fn opened_again()
     ensures one_history { OneHistory }
     ensures one_ledger { OneLedger }
     ensures goes_on { GoesOnAfter }
+{}
+
+/// A file that stands for a history is refused for want of memory alone, where the device does not fail: where a head or a
+/// record is refused, the records are those of no history of these rules.
+pub fn only_memory()
+    ensures { OnlyMemory }
 {}
 
 /// What `write_dump` writes of a file spells the history that the file stands for.

@@ -10,6 +10,7 @@ mod opening;
 mod replies;
 mod restoring;
 mod serving;
+pub mod worked_rows;
 
 pub use dumps::{read_history, read_rules, write_dump};
 pub use faults::{KeepFault, StartFault};

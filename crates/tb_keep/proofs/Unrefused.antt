@@ -1,0 +1,114 @@
+-- The records of a history that may be kept are not refused.
+use Rattle.std.proofs.Common.{ℕ, ◌≡◌, ◌⊎◌, ◌+◌, inl, inr, Bool, true, false, cond, not, ◌==◌, ◌&&◌, fold, List, [], ◌∷◌, ◌++◌, map, Some, None, Err, refl, sym, ap, ◌∙◌, subst}
+use Rattle.std.specs.Prelude.{nat_le}
+use Rattle.tb_records.specs.declared.faults.FrameFault.{FrameFault}
+use Rattle.tb_records.specs.declared.faults.FrameFault.TheVariants as frame
+use Rattle.tb_ledger.specs.Verdicts.{max_time}
+use Rattle.tb_sessions.specs.Judged.{class_of}
+use Rattle.tb_machine.specs.declared.entries.Entry.{Entry}
+use Rattle.tb_machine.specs.declared.restoring.Unfit.{Unfit}
+use Rattle.tb_machine.specs.declared.restoring.Unfit.TheVariants as unfit
+use Rattle.tb_machine.specs.Histories.{State, start as start_state, step, fits, LegalFrom, least_time, is_lawful, is_new}
+use Rattle.tb_machine.specs.Dumps.{dumped}
+use Rattle.tb_machine.specs.Recording.{IsRecord}
+use Rattle.tb_machine.specs.Restoring.{cause_of}
+use Rattle.tb_machine.proofs.JournalRecords.{one_record}
+use Rattle.tb_keep.specs.declared.faults.StartFault.{StartFault}
+use Rattle.tb_keep.specs.declared.faults.StartFault.TheVariants as start
+use Rattle.tb_keep.specs.Keeping.{History, head_record, records_of, IsKeepable, AreRecorded}
+use Rattle.tb_keep.specs.Restoration.{IsNoRecord, Fails, StopsAt, RestoresAll, HeadAnswers, OnlyMemory}
+use Rattle.tb_keep.proofs.Again.{one_head}
+
+-- an entry that may come next fails no test
+no_cause : (a b c d e : Bool) → ((((a && b) && c) && d) && e) ≡ true → cond (not a) (Some unfit.Commit) (cond (not (b && c)) (Some unfit.Time) (cond (not e) (Some unfit.NotNew) None)) ≡ None
+no_cause true true true true true is = refl
+no_cause true true true true false is = absurd (cc)
+no_cause true true true false e is = absurd (cc)
+no_cause true true false d e is = absurd (cc)
+no_cause true false c d e is = absurd (cc)
+no_cause false b c d e is = absurd (cc)
+
+fits_none : (S : State) (e : Entry) → fits S e ≡ true → cause_of S e ≡ None
+fits_none S e is = no_cause (e.commit == S.commit + 1) (nat_le (least_time S e.request) e.time) (nat_le e.time max_time) (is_lawful e.request) (is_new (class_of S.rows e.request)) is
+
+fails_not : (cause : Unfit) (S : State) (e : Entry) → cause_of S e ≡ None → Fails cause S e → ⊥
+fails_not unfit.Commit S e none is = let clash : None ≡ Some unfit.Commit = sym none ∙ is in absurd (cc)
+fails_not unfit.Time S e none is = let clash : None ≡ Some unfit.Time = sym none ∙ is in absurd (cc)
+fails_not unfit.NotNew S e none is = let clash : None ≡ Some unfit.NotNew = sym none ∙ is in absurd (cc)
+fails_not unfit.NoMemory S e none is = is
+
+no_record : (fault : FrameFault) (bytes : List ℕ) (e : Entry) → IsRecord bytes e → IsNoRecord fault bytes → ⊥
+no_record frame.NoMemory bytes e is none = none
+no_record frame.Short bytes e is none = none.1 e is
+no_record frame.ClientZero bytes e is none = none.1 e is
+no_record frame.UnknownOperation bytes e is none = none.1 e is
+no_record frame.Reserved bytes e is none = none.1 e is
+no_record frame.BadLength bytes e is none = none.1 e is
+no_record frame.TooMany bytes e is none = none.1 e is
+no_record frame.RegisterNumbers bytes e is none = none.1 e is
+no_record frame.RequestZero bytes e is none = none.1 e is
+no_record frame.Device bytes e is none = none.1 e is
+no_record frame.ReplyNumbers bytes e is none = none.1 e is
+
+stops_not : (fault : StartFault) (S : State) (e : Entry) → IsRecord (dumped e) e → fits S e ≡ true → StopsAt fault S (dumped e) → fault ≡ start.NoMemory
+stops_not (start.Record place f) S e is next stops = absurd (no_record f (dumped e) e is stops.1)
+stops_not (start.Entry f) S e is next stops =
+    let other = stops.1.0 in
+    let same : e ≡ other = one_record (dumped e) e other is stops.1.1 in
+    absurd (fails_not f.cause S other (subst (λ (x : Entry). cause_of S x ≡ None) same (fits_none S e next)) stops.1.2)
+stops_not start.NoMemory S e is next stops = refl
+stops_not start.Head S e is next stops = absurd stops
+stops_not start.OtherRules S e is next stops = absurd stops
+stops_not (start.Journal f) S e is next stops = absurd stops
+
+-- the entries before the record that is refused, one by one
+along : (fault : StartFault) (S T : State) (front : List (List ℕ)) (bytes : List ℕ) (rest : List (List ℕ)) (es before : List Entry)
+    → LegalFrom S es → AreRecorded es → map dumped es ≡ front ++ bytes ∷ rest → AreRecorded before → front ≡ map dumped before → T ≡ fold step S before → StopsAt fault T bytes
+    → fault ≡ start.NoMemory
+along fault S T front bytes rest [] [] legal are is also spelled at stops =
+    let clash : [] ≡ bytes ∷ rest = is ∙ ap (λ (f : List (List ℕ)). f ++ bytes ∷ rest) spelled in
+    absurd (cc)
+along fault S T front bytes rest (x ∷ xs) [] legal are is also spelled at stops =
+    let all : dumped x ∷ map dumped xs ≡ bytes ∷ rest = is ∙ ap (λ (f : List (List ℕ)). f ++ bytes ∷ rest) spelled in
+    let head : dumped x ≡ bytes = cc (all) in
+    stops_not fault S x are.0 legal.0 (subst (λ (y : List ℕ). StopsAt fault S y) (sym head) (subst (λ (U : State). StopsAt fault U bytes) at stops))
+along fault S T front bytes rest [] (b ∷ before) legal are is also spelled at stops =
+    let clash : [] ≡ (dumped b ∷ map dumped before) ++ bytes ∷ rest = is ∙ ap (λ (f : List (List ℕ)). f ++ bytes ∷ rest) spelled in
+    absurd (cc)
+along fault S T front bytes rest (x ∷ xs) (b ∷ before) legal are is also spelled at stops =
+    let all : dumped x ∷ map dumped xs ≡ dumped b ∷ (map dumped before ++ bytes ∷ rest) = is ∙ ap (λ (f : List (List ℕ)). f ++ bytes ∷ rest) spelled in
+    let head : dumped x ≡ dumped b = cc (all) in
+    let tail : map dumped xs ≡ map dumped before ++ bytes ∷ rest = cc (all) in
+    let same : x ≡ b = one_record (dumped x) x b are.0 (subst (λ (y : List ℕ). IsRecord y b) (sym head) also.0) in
+    along fault (step S x) T (map dumped before) bytes rest xs before legal.1 are.1 tail also.1 refl (at ∙ ap (λ (y : Entry). fold step (step S y) before) (sym same)) stops
+
+restored_not : (fault : StartFault) (S T : State) (es : List Entry) → LegalFrom S es → AreRecorded es → RestoresAll (Err fault) S (map dumped es) T → fault ≡ start.NoMemory
+restored_not fault S T es legal are (front, bytes, rest, is, leads, stops) =
+    along fault S T front bytes rest es leads.entries legal are is leads.recorded_are leads.spelled leads.state stops
+
+head_not : (fault : StartFault) (h : History) → IsKeepable h → HeadAnswers (Err fault) (head_record h.profile h.clients_max) h.profile h.clients_max → fault ≡ start.NoMemory
+head_not start.Head h keepable none = absurd (none h.profile h.clients_max keepable.some_client keepable.clients refl)
+head_not start.OtherRules h keepable (p, n, is, differ) =
+    let same = one_head h.profile p h.clients_max n is in
+    absurd (differ (sym same.0, sym same.1))
+head_not (start.Journal f) h keepable none = absurd none
+head_not (start.Record place f) h keepable none = absurd none
+head_not (start.Entry f) h keepable none = absurd none
+head_not start.NoMemory h keepable none = refl
+
+stopped_not : (fault : StartFault) (h : History) (head : List ℕ) (rest : List (List ℕ)) → IsKeepable h → records_of h ≡ head ∷ rest
+    → (HeadAnswers (Err fault) head h.profile h.clients_max ⊎ ((T : State) × RestoresAll (Err fault) (start_state h.profile h.clients_max) rest T)) → fault ≡ start.NoMemory
+stopped_not fault h head rest keepable is (inl why) =
+    let first : head ≡ head_record h.profile h.clients_max = sym (cc (is)) in
+    head_not fault h keepable (subst (λ (b : List ℕ). HeadAnswers (Err fault) b h.profile h.clients_max) first why)
+stopped_not fault h head rest keepable is (inr (T, why)) =
+    let others : rest ≡ map dumped h.entries = sym (cc (is)) in
+    restored_not fault (start_state h.profile h.clients_max) T h.entries keepable.legal keepable.recorded_are (subst (λ (r : List (List ℕ)). RestoresAll (Err fault) (start_state h.profile h.clients_max) r T) others why)
+
+pub only_memory : OnlyMemory
+only_memory (start.Journal f) h keepable (head, rest, is, why) = stopped_not (start.Journal f) h head rest keepable is why
+only_memory start.Head h keepable (head, rest, is, why) = stopped_not start.Head h head rest keepable is why
+only_memory start.OtherRules h keepable (head, rest, is, why) = stopped_not start.OtherRules h head rest keepable is why
+only_memory (start.Record place f) h keepable (head, rest, is, why) = stopped_not (start.Record place f) h head rest keepable is why
+only_memory (start.Entry f) h keepable (head, rest, is, why) = stopped_not (start.Entry f) h head rest keepable is why
+only_memory start.NoMemory h keepable stops = refl

@@ -1,0 +1,7 @@
+use Rattle.std.proofs.Common.{inr, refl}
+use Rattle.tb_journal.specs.Checksum.{bit_on, byte_on}
+use Rattle.tb_keep.proofs.worked_rows.head_alone.Goals as goal
+
+pub returns-clause-no_entry : goal.returns-clause-no_entry
+unfolding byte_on bit_on
+returns-clause-no_entry c = inr refl

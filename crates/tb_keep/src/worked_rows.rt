@@ -1,0 +1,50 @@
+//! Worked rows: what small files stand for, by the definitions. A call does nothing; its promise is the row.
+ghost use Rattle.std.specs.Prelude.{◌≡◌, ◌∷◌, ◌++◌, [], Err, Ok, codes};
+ghost use Rattle.tb_journal.specs.Contents.{Records, contents, journal_of};
+ghost use Rattle.tb_keep.specs.declared.faults.StartFault.TheVariants as start;
+ghost use Rattle.tb_keep.specs.Keeping.{head_record};
+ghost use Rattle.tb_keep.specs.Opening.{HasNoEntry, StandFor, history_of};
+ghost use Rattle.tb_keep.specs.Reading.{HasRules, RulesAnswer, dump_of, rules_of};
+ghost use Rattle.tb_keep.specs.Restoration.{IsRestored, StopsAt, StopsFile};
+ghost use Rattle.tb_machine.specs.Histories.{start as start_state};
+ghost use Rattle.tb_records.specs.declared.faults.FrameFault.TheVariants as frame;
+ghost use Rattle.tb_records.specs.declared.limits.Profile.TheVariants.{One, Two};
+
+/// A file of a head alone stands for a ledger of its rules without entries.
+pub fn head_alone()
+    ensures rules { RulesAnswer (Ok (rules_of Two 8)) (head_record Two 8 ∷ []) }
+    ensures restored { IsRestored Two 8 (head_record Two 8 ∷ []) (start_state Two 8) }
+    ensures no_entry { HasNoEntry Two 8 (journal_of (head_record Two 8 ∷ [])) }
+{}
+
+/// Its dump has 16 bytes.
+pub fn dump_of_a_head()
+    ensures { dump_of (rules_of Two 8) (journal_of (head_record Two 8 ∷ []))
+        ≡ codes "TBSDUMP1" ++ 2 ∷ 0 ∷ 0 ∷ 0 ∷ 8 ∷ 0 ∷ 0 ∷ 0 ∷ [] }
+{}
+
+/// A file without records, as one that was cut short at its creation, stands for a ledger of any rules without entries, and is
+/// read as having no head.
+pub fn no_record()
+    ensures stands { StandFor (history_of Two 8 []) [] }
+    ensures restored { IsRestored Two 8 [] (start_state Two 8) }
+    ensures rules { RulesAnswer (Err start.Head) [] }
+    ensures no_entry { HasNoEntry Two 8 (journal_of []) }
+{}
+
+/// A head of another profile, and one of another number of clients.
+pub fn other_rules()
+    ensures profile { StopsFile start.OtherRules Two 8 (head_record One 8 ∷ []) }
+    ensures clients { StopsFile start.OtherRules Two 8 (head_record Two 9 ∷ []) }
+{}
+
+/// Three bytes are no head, nor is one of no clients.
+pub fn no_head()
+    ensures bytes { StopsFile start.Head Two 8 ((1 ∷ 2 ∷ 3 ∷ []) ∷ []) }
+    ensures clients { StopsFile start.Head Two 8 (head_record Two 0 ∷ []) }
+{}
+
+/// Two bytes behind the head are no record of an entry: the first one is told.
+pub fn short_record()
+    ensures { StopsAt (start.Record 1 frame.Short) (start_state Two 8) (1 ∷ 2 ∷ []) }
+{}
