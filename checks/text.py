@@ -17,6 +17,7 @@ import struct
 import subprocess
 import sys
 import termios
+import time
 
 TOP = os.path.dirname(os.path.dirname(os.path.abspath(__file__)))
 TBT = f"{TOP}/crates/tbt/out/tbt"
@@ -152,12 +153,19 @@ def changed(seed, text):
     return seed.choice([text[:at] + byte + text[at:], text[:at] + text[at + 1 :], text[:at] + byte + text[at + 1 :]])
 
 
+def leaves_out(text, place):
+    """Says that the statement around a place names no client, or no request: then it is filled in, and the place is that of the whole one."""
+    statement = text[text.rfind(b";", 0, place) + 1 :]
+    head = re.split(rb"\b(?:create|lookup)_", statement)[0]
+    return b"client=" not in head or b"register" not in head and b"request=" not in head
+
+
 wrong = []
 while len(wrong) < 60:
     text = run(TBT, ["requests"], b"".join(random_pair(seed) for _ in range(3)))[1]
     text = changed(seed, text)
     place = place_told(text)
-    if place is not None:
+    if place is not None and not leaves_out(text, place):
         wrong.append((text, place))
 check("what stands before a wrong place goes on", [it for it in wrong if place_told(it[0][: it[1]]) not in (None, it[1])], [])
 check("with the byte there nothing goes on", [it for it in wrong if it[1] < len(it[0]) and place_told(it[0][: it[1] + 1]) != it[1]], [])
@@ -202,10 +210,24 @@ for clients, profile in [("1", "1"), ("2", "1"), ("3", "2"), ("64", "2")]:
 
 # what a statement leaves out
 
+MOMENT = re.compile(rb"\b[0-9]{19}\b")
+
+
+def without_moments(shown):
+    """What is shown, with `now` for each moment by the clock."""
+    return MOMENT.sub(b"now", shown)
+
+
+def without_clock(ran):
+    """The same of a status, an output and a line."""
+    status, out, line = ran
+    return status, without_moments(out), line
+
+
 ALONE = b"create_accounts id=1 ledger=700 code=10, id=2 ledger=700 code=10;\nlookup_accounts id=1;"
 WHOLE = b"client=1 register;\nclient=1 session=1 request=1 " + ALONE.replace(b"lookup", b"client=1 session=1 request=2 lookup")
-check("a statement alone", run(TBT, ["run", "2"], ALONE), run(TBT, ["run", "2"], WHOLE))
-check("as a script", run(TBT, ["run", "2"], ALONE)[1], piped("2", "1", WHOLE))
+check("a statement alone", without_clock(run(TBT, ["run", "2"], ALONE)), without_clock(run(TBT, ["run", "2"], WHOLE)))
+check("as a script", run(TBT, ["run", "2"], b"at=0 " + ALONE.replace(b"lookup", b"at=0 lookup"))[1], piped("2", "1", WHOLE))
 for name, short, whole in [
     ("the client named last", b"client=7 register; session=1 request=1 lookup_accounts; register;", b"client=7 register; client=7 session=1 request=1 lookup_accounts; client=7 register;"),
     ("its session and its next number", b"client=7 session=3 request=5 lookup_accounts; lookup_accounts id=1;", b"client=7 session=3 request=5 lookup_accounts; client=7 session=3 request=6 lookup_accounts id=1;"),
@@ -328,7 +350,12 @@ def conversation(words, lines):
 with open(f"{TOP}/checks/terminal.txt", "rb") as stored:
     wanted = stored.read()
 typed_lines = [it[2:] for it in wanted.split(b"\n") if it.startswith(b"> ")]
-check("a conversation on a terminal", conversation(["run", "2"], typed_lines), (wanted, 2))
+began = time.time_ns()
+shown, status = conversation(["run", "2"], typed_lines)
+ended = time.time_ns()
+check("a conversation on a terminal", (without_moments(shown), status), (without_moments(wanted), 2))
+moments = [int(it) for it in MOMENT.findall(shown)]
+check("its moments are the clock's", (len(moments), all(began <= it <= ended for it in moments)), (len(MOMENT.findall(wanted)), True))
 
 # dumps: their pairs, their audit, and what is wrong
 

@@ -1,7 +1,7 @@
--- A statement that leaves out its client, its session or its request's number, and the whole statement that it stands
--- for.
-use Rattle.std.specs.Prelude.{ℕ, Bool, true, ◌≡◌, ◌&&◌, ◌==◌, ◌+◌, ◌^◌, nat_eq, nat_lt, option_map, List, [], ◌∷◌, ◌++◌, Option, Some, None, if◌then◌else◌, codes}
-use Rattle.std.specs.Option.{is_some, option_or}
+-- A statement that leaves out its moment, its client, its session or its request's number, and the whole statement that
+-- it stands for.
+use Rattle.std.specs.Prelude.{ℕ, true, ◌≡◌, ◌&&◌, ◌==◌, ◌+◌, ◌^◌, nat_eq, nat_lt, option_map, List, [], ◌++◌, Option, Some, None, if◌then◌else◌, codes}
+use Rattle.std.specs.Option.{is_some, option_and_then, option_or}
 use Rattle.std.specs.Cmp.Lexicographic.{pointwise}
 use Rattle.std.specs.Fmt.{decimal}
 use Rattle.tb_records.specs.Messages.{Answer}
@@ -31,7 +31,7 @@ standing_in rows commit client = standing_by commit (option_map (λ row. row.rep
 -- what is left out
 
 abbrev pub nothing : LeftOut
-nothing = record { registered = None; client = None; session = None; request = None }
+nothing = record { began = None; registered = None; moment = None; client = None; session = None; request = None }
 
 -- what stands for a number that is left out
 abbrev pub unless_given : Option ℕ → ℕ → Option ℕ
@@ -47,13 +47,17 @@ next_in session Unknown = 1
 -- where the session is left out: it is the client's, and a client that has none is registered first
 abbrev pub without_session : Given → ℕ → Standing → LeftOut
 without_session g c (Open session next) = record {
+  began = None;
   registered = None;
+  moment = None;
   client = unless_given g.client c;
   session = Some session;
   request = unless_given g.request next;
 }
 without_session g c (Closed session) = record {
+  began = None;
   registered = Some c;
+  moment = None;
   client = unless_given g.client c;
   session = Some session;
   request = unless_given g.request 1;
@@ -63,7 +67,9 @@ without_session g c Unknown = nothing
 abbrev pub by_session : Given → ℕ → Standing → Option ℕ → LeftOut
 by_session g c standing None = without_session g c standing
 by_session g c standing (Some session) = record {
+  began = None;
   registered = None;
+  moment = None;
   client = unless_given g.client c;
   session = None;
   request = unless_given g.request (next_in session standing);
@@ -77,27 +83,41 @@ left_out_of_batch g c standing =
 
 abbrev pub left_out_of_register : Given → ℕ → LeftOut
 left_out_of_register g c = record {
+  began = None;
   registered = None;
+  moment = None;
   client = unless_given g.client c;
   session = None;
   request = None;
 }
 
+-- The moment is the clock's, where there is a clock and the statement has none; a client that is registered first is
+-- registered at the statement's moment.
+abbrev pub at_moment : Option ℕ → Given → LeftOut → LeftOut
+at_moment clock g x = record {
+  began = option_and_then (λ c. option_or g.moment clock) x.registered;
+  registered = x.registered;
+  moment = if is_some g.moment then None else clock;
+  client = x.client;
+  session = x.session;
+  request = x.request;
+}
+
 -- of a client that stands so, before what stands from the operation's word on
-abbrev pub left_out : Given → List ℕ → ℕ → Standing → LeftOut
-left_out g rest c standing =
-    if pointwise nat_eq (first_word rest) (codes "register") then left_out_of_register g c
-    else if begins_operation rest then left_out_of_batch g c standing
+abbrev pub left_out : Option ℕ → Given → List ℕ → ℕ → Standing → LeftOut
+left_out clock g rest c standing =
+    if pointwise nat_eq (first_word rest) (codes "register") then at_moment clock g (left_out_of_register g c)
+    else if begins_operation rest then at_moment clock g (left_out_of_batch g c standing)
     else nothing
 
 -- a statement means the client that it names, or the one that was named last
-abbrev pub left_out_by : Option ℕ → (ℕ → Standing) → Given → List ℕ → LeftOut
-left_out_by None standing g rest = nothing
-left_out_by (Some c) standing g rest = left_out g rest c (standing c)
+abbrev pub left_out_by : Option ℕ → Option ℕ → (ℕ → Standing) → Given → List ℕ → LeftOut
+left_out_by clock None standing g rest = nothing
+left_out_by clock (Some c) standing g rest = left_out clock g rest c (standing c)
 
-unfoldable pub left_out_in : Option ℕ → (ℕ → Standing) → List ℕ → LeftOut
-left_out_in last standing text =
-    left_out_by (option_or (head_of text).0.client last) standing (head_of text).0 (head_of text).1
+unfoldable pub left_out_in : Option ℕ → Option ℕ → (ℕ → Standing) → List ℕ → LeftOut
+left_out_in clock last standing text =
+    left_out_by clock (option_or (head_of text).0.client last) standing (head_of text).0 (head_of text).1
 
 -- a line of a number, between a field's name with `=` and an ending
 abbrev pub number_line : List ℕ → List ℕ → Option ℕ → List ℕ
@@ -107,17 +127,22 @@ number_line name ending (Some n) = name ++ (decimal n ++ ending)
 -- a line for each, a whole statement where a client is registered
 unfoldable pub written : LeftOut → List ℕ
 written x =
-    number_line (codes "client=") (codes " register;\n") x.registered
+    number_line (codes "at=") (codes " ") x.began
+    ++ (number_line (codes "client=") (codes " register;\n") x.registered
+    ++ (number_line (codes "at=") (codes "\n") x.moment
     ++ (number_line (codes "client=") (codes "\n") x.client
     ++ (number_line (codes "session=") (codes "\n") x.session
-    ++ number_line (codes "request=") (codes "\n") x.request))
+    ++ number_line (codes "request=") (codes "\n") x.request))))
 
--- the whole statement: lines for what is left out, and the statement as it stands, by the client that was named last,
--- and by how each client stands
-abbrev pub completed : Option ℕ → (ℕ → Standing) → List ℕ → List ℕ
-completed last standing text = written (left_out_in last standing text) ++ text
+-- the whole statement: lines for what is left out, and the statement as it stands, by the clock, by the client that was
+-- named last, and by how each client stands
+abbrev pub completed : Option ℕ → Option ℕ → (ℕ → Standing) → List ℕ → List ℕ
+completed clock last standing text = written (left_out_in clock last standing text) ++ text
 
 -- what is told of a text by itself
+
+abbrev pub NamesMoment : List ℕ → Type 0
+NamesMoment text = is_some (head_of text).0.moment ≡ true
 
 abbrev pub NamesClient : List ℕ → Type 0
 NamesClient text = is_some (head_of text).0.client ≡ true
@@ -128,6 +153,6 @@ NamesRequest text = is_some (head_of text).0.request ≡ true
 abbrev pub IsRegister : List ℕ → Type 0
 IsRegister text = first_word (head_of text).1 ≡ codes "register"
 
--- nothing is filled in, whatever is known
-abbrev pub StandsForItself : List ℕ → Type 0
-StandsForItself text = (last : Option ℕ) (standing : ℕ → Standing) → completed last standing text ≡ text
+-- by this clock nothing is filled in, whatever is known of clients
+abbrev pub StandsForItself : Option ℕ → List ℕ → Type 0
+StandsForItself clock text = (last : Option ℕ) (standing : ℕ → Standing) → completed clock last standing text ≡ text

@@ -1,6 +1,6 @@
 -- What stands before the operation of a statement: at, client, session and request, each with its number, in any order,
 -- with spaces and comments between.
-use Rattle.std.specs.Prelude.{ℕ, Bool, true, false, not, ◌&&◌, ◌||◌, ◌==◌, ◌+◌, ◌-◌, ◌*◌, ◌^◌, nat_le, nat_lt, nat_eq, List, [], ◌∷◌, drop, take, unwrap_or, Option, Some, None, if◌then◌else◌, codes}
+use Rattle.std.specs.Prelude.{ℕ, Bool, true, false, not, ◌&&◌, ◌||◌, ◌==◌, ◌+◌, ◌-◌, ◌*◌, ◌^◌, nat_le, nat_lt, nat_eq, List, [], ◌∷◌, length, drop, take, unwrap_or, Option, Some, None, if◌then◌else◌, codes}
 use Rattle.std.specs.Option.{option_and_then, is_none}
 use Rattle.std.specs.Cmp.Lexicographic.{pointwise}
 use Rattle.tb_text_commands.specs.declared.heads.HeadField.{HeadField}
@@ -77,10 +77,10 @@ field_named word =
     else None
 
 abbrev pub with_field : Given → HeadField → ℕ → Given
-with_field g At n = g
-with_field g Client n = record { client = Some n; session = g.session; request = g.request }
-with_field g Session n = record { client = g.client; session = Some n; request = g.request }
-with_field g Request n = record { client = g.client; session = g.session; request = Some n }
+with_field g At n = record { moment = Some n; client = g.client; session = g.session; request = g.request }
+with_field g Client n = record { moment = g.moment; client = Some n; session = g.session; request = g.request }
+with_field g Session n = record { moment = g.moment; client = g.client; session = Some n; request = g.request }
+with_field g Request n = record { moment = g.moment; client = g.client; session = g.session; request = Some n }
 
 -- a field whose number stands first, among those before it, and what stands behind it
 abbrev pub number_read : Given → HeadField → List ℕ → Option (Given × List ℕ)
@@ -97,13 +97,26 @@ field_read g bytes = option_and_then (λ f. equals_read g f (behind_word bytes))
 unfoldable pub next : Given × List ℕ → Given × List ℕ
 next h = unwrap_or (field_read h.0 h.1) h
 
+abbrev pub none_given : Given
+none_given = record { moment = None; client = None; session = None; request = None }
+
 -- behind the fields of a statement: there are four
 abbrev pub head_of : List ℕ → Given × List ℕ
-head_of text = next (next (next (next (record { client = None; session = None; request = None }, past_gap text))))
+head_of text = next (next (next (next (none_given, past_gap text))))
 
--- an operation's word stands first, or one that may be meant so: no field's name, and no `=` behind it
+-- an operation on events or ids
+abbrev pub is_batch : List ℕ → Bool
+is_batch word =
+    pointwise nat_eq word (codes "create_accounts")
+    || pointwise nat_eq word (codes "create_transfers")
+    || pointwise nat_eq word (codes "lookup_accounts")
+    || pointwise nat_eq word (codes "lookup_transfers")
+
+-- an operation's word stands first, or one that may be meant so: no field's name, no `=` behind it, and not cut off, as a
+-- word at the end of the bytes may be
 abbrev pub begins_operation : List ℕ → Bool
 begins_operation bytes =
     not (word_length bytes == 0)
     && is_none (field_named (first_word bytes))
     && is_none (behind_equals (behind_word bytes))
+    && (nat_lt (word_length bytes) (length bytes) || is_batch (first_word bytes))

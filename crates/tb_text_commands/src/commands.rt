@@ -12,11 +12,13 @@ use crate::help::{USAGE, VERSION};
 use crate::running::run;
 use crate::scripts::{dump, pairs, put, replies, requests, script};
 use std::alloc::Global;
+use std::time::Clock;
 use tb_records::{Sink, Source};
 
 /// Does what the order asks for.
-fn perform<R: Source, W: Sink, E: Sink>(
+fn perform<C: Clock, R: Source, W: Sink, E: Sink>(
     alloc: Global,
+    clock: &C,
     order: Order,
     talks: bool,
     reader: &mut R,
@@ -37,7 +39,16 @@ fn perform<R: Source, W: Sink, E: Sink>(
         Order::Audit(account) => audit(alloc, account, reader, writer),
         Order::Explain => explain(alloc, reader, writer),
         Order::Run(clients_max, profile) => {
-            run(alloc, clients_max, profile, talks, reader, writer, faults)
+            run(
+                alloc,
+                clock,
+                clients_max,
+                profile,
+                talks,
+                reader,
+                writer,
+                faults,
+            )
         }
         Order::Help => put(writer, USAGE.as_bytes()),
         Order::Version => put(writer, VERSION.as_bytes()),
@@ -58,9 +69,11 @@ fn usage_fault(alloc: Global, words: &[String]) -> Fault {
 
 /// Does what the words ask for, and answers the exit status: 0 done, 1 a device or memory failed, 2 the input or the
 /// arguments are wrong. With a status other than 0 one line goes to `faults`, with 0 nothing. Arguments that are none of
-/// the program's forms are found before any input is read.
-pub fn command<R: Source, W: Sink, E: Sink>(
+/// the program's forms are found before any input is read. The clock is that of statements of `run` that leave out their
+/// moment.
+pub fn command<C: Clock, R: Source, W: Sink, E: Sink>(
     alloc: Global,
+    clock: &C,
     words: &[String],
     talks: bool,
     reader: &mut R,
@@ -79,7 +92,7 @@ pub fn command<R: Source, W: Sink, E: Sink>(
         usage_fault(alloc, words).tell(faults);
         return 2;
     };
-    match perform(alloc, order, talks, reader, writer, faults) {
+    match perform(alloc, clock, order, talks, reader, writer, faults) {
         Ok(()) => 0,
         Err(fault) => {
             fault.tell(faults);

@@ -1,9 +1,10 @@
-//! Statements that leave out their client, their session or their request's number, and what stands for these.
+//! Statements that leave out their moment, their client, their session or their request's number, and what stands for
+//! these.
 ghost use Rattle.std.specs.Prelude.{◌≡◌, ◌++◌, List, Option, ℕ, IfOk, OnOk};
-ghost use Rattle.tb_text_commands.specs.Completed.{by_session, completed, left_out, left_out_in, left_out_of_batch, left_out_of_register, next_in, nothing, standing_behind, number_line, unless_given, without_session, written};
+ghost use Rattle.tb_text_commands.specs.Completed.{at_moment, by_session, completed, left_out, left_out_in, left_out_of_batch, left_out_of_register, next_in, nothing, standing_behind, number_line, unless_given, without_session, written};
 ghost use Rattle.tb_text_commands.specs.declared.completing.Standing.{Standing};
 
-use crate::heads::{Given, begins_operation, first_word, head_of};
+use crate::heads::{Given, begins_operation, first_word, head_of, is_batch};
 use std::alloc::{AllocError, Global};
 
 /// How a client stands.
@@ -44,12 +45,17 @@ pub trait Standings {
     /// How a client stands.
     fn standing(&self, client: u128) -> Standing
         ensures { result ≡ standing self.now client };
+
+    /// The moment that the clock shows, where there is one: nanoseconds since 1970.
+    fn moment(&self) -> Option<u64>;
 }
 
-/// What stands for what a statement leaves out: a client that is registered first, and numbers.
+/// What stands for what a statement leaves out: a client that is registered first, at a moment, and numbers.
 #[derive(Clone, Copy)]
 pub struct LeftOut {
+    pub began: Option<u128>,
     pub registered: Option<u128>,
+    pub moment: Option<u128>,
     pub client: Option<u128>,
     pub session: Option<u128>,
     pub request: Option<u128>,
@@ -81,7 +87,9 @@ impl LeftOut {
         ensures { result ≡ nothing }
     {
         LeftOut {
+            began: None,
             registered: None,
+            moment: None,
             client: None,
             session: None,
             request: None,
@@ -104,16 +112,17 @@ impl LeftOut {
     {
         match standing {
             Standing::Open(session, next) => LeftOut {
-                registered: None,
                 client: unless_given(given.client, client),
                 session: Some(session as u128),
                 request: unless_given(given.request, next as u128),
+                ..LeftOut::nothing()
             },
             Standing::Closed(session) => LeftOut {
                 registered: Some(client),
                 client: unless_given(given.client, client),
                 session: Some(session as u128),
                 request: unless_given(given.request, 1),
+                ..LeftOut::nothing()
             },
             Standing::Unknown => LeftOut::nothing(),
         }
@@ -144,14 +153,37 @@ impl LeftOut {
         }
     }
 
+    /// With the moment: the clock's where none is given, and that of the register put before.
+    fn at_moment(self, clock: Option<u128>, given: Given) -> LeftOut
+        ensures { result ≡ at_moment clock given self }
+    {
+        LeftOut {
+            began: match self.registered {
+                Some(_) => given.moment.or(clock),
+                None => None,
+            },
+            moment: match given.moment {
+                Some(_) => None,
+                None => clock,
+            },
+            ..self
+        }
+    }
+
     /// Before what stands from the operation's word on.
-    fn before(given: Given, rest: &[u8], client: u128, standing: Standing) -> LeftOut
-        ensures { result ≡ left_out given rest.now client standing }
+    fn before(
+        clock: Option<u128>,
+        given: Given,
+        rest: &[u8],
+        client: u128,
+        standing: Standing,
+    ) -> LeftOut
+        ensures { result ≡ left_out clock given rest.now client standing }
     {
         if first_word(rest) == b"register".as_slice() {
-            LeftOut::of_register(given, client)
+            LeftOut::of_register(given, client).at_moment(clock, given)
         } else if begins_operation(rest) {
-            LeftOut::of_batch(given, client, standing)
+            LeftOut::of_batch(given, client, standing).at_moment(clock, given)
         } else {
             LeftOut::nothing()
         }
@@ -159,12 +191,15 @@ impl LeftOut {
 
     /// What stands for what a statement leaves out.
     #[tactic(auto, unfolding(crate::specs::Completed::left_out_in))]
-    fn in_statement<S: Standings>(standings: &S, text: &[u8]) -> LeftOut
-        ensures { result ≡ left_out_in (S.last standings.now) (S.standing standings.now) text.now }
+    fn in_statement<S: Standings>(clock: Option<u128>, standings: &S, text: &[u8]) -> LeftOut
+        ensures { result
+            ≡ left_out_in clock (S.last standings.now) (S.standing standings.now) text.now }
     {
         let (given, rest) = head_of(text);
         match given.client.or(standings.last()) {
-            Some(client) => LeftOut::before(given, rest, client, standings.standing(client)),
+            Some(client) => {
+                LeftOut::before(clock, given, rest, client, standings.standing(client))
+            }
             None => LeftOut::nothing(),
         }
     }
@@ -195,7 +230,9 @@ fn put_line(
 fn put_left_out(alloc: Global, out: &mut Vec<u8>, left_out: LeftOut) -> Result<(), AllocError>
     ensures { OnOk result (out.new.items ≡ out.old.items ++ written left_out) }
 {
+    put_line(alloc, out, b"at=", b" ", left_out.began)?;
     put_line(alloc, out, b"client=", b" register;\n", left_out.registered)?;
+    put_line(alloc, out, b"at=", b"\n", left_out.moment)?;
     put_line(alloc, out, b"client=", b"\n", left_out.client)?;
     put_line(alloc, out, b"session=", b"\n", left_out.session)?;
     put_line(alloc, out, b"request=", b"\n", left_out.request)
@@ -204,25 +241,23 @@ fn put_left_out(alloc: Global, out: &mut Vec<u8>, left_out: LeftOut) -> Result<(
 /// The whole statement that a statement stands for: lines for what it leaves out, and itself.
 pub fn completed<S: Standings>(
     alloc: Global,
+    clock: Option<u128>,
     standings: &S,
     text: &[u8],
 ) -> Result<Vec<u8>, AllocError>
     ensures { IfOk result
         (λ whole.
-        whole.items ≡ completed (S.last standings.now) (S.standing standings.now) text.now) }
+        whole.items
+        ≡ completed clock (S.last standings.now) (S.standing standings.now) text.now) }
 {
     let mut whole = Vec::new(alloc);
-    put_left_out(alloc, &mut whole, LeftOut::in_statement(standings, text))?;
+    put_left_out(
+        alloc,
+        &mut whole,
+        LeftOut::in_statement(clock, standings, text),
+    )?;
     whole.extend_from_slice(text)?;
     Ok(whole)
-}
-
-/// Says that a word is an operation on events or ids.
-fn is_batch(word: &[u8]) -> bool {
-    word == b"create_accounts".as_slice()
-        || word == b"create_transfers".as_slice()
-        || word == b"lookup_accounts".as_slice()
-        || word == b"lookup_transfers".as_slice()
 }
 
 /// A statement that leaves out a session which is not known.

@@ -1,53 +1,74 @@
 //! What holds of every statement that is completed, and rows of it.
-ghost use Rattle.std.specs.Prelude.{◌≡◌, List, ℕ, Some, None, codes};
-ghost use Rattle.tb_text_commands.specs.Completed.{completed, IsRegister, NamesClient, NamesRequest, StandsForItself};
+ghost use Rattle.std.specs.Prelude.{◌≡◌, List, Option, ℕ, Some, None, codes};
+ghost use Rattle.tb_text_commands.specs.Completed.{completed, IsRegister, NamesClient, NamesMoment, NamesRequest, StandsForItself};
 ghost use Rattle.tb_text_commands.specs.declared.completing.Standing.TheVariants.{Open, Closed, Unknown};
 
-/// Nothing is put before a statement in which client and request stand: what had a meaning keeps it.
+/// Nothing is put before a statement in which client and request stand, but for the clock's moment: where there is no
+/// clock, as in `script`, or a moment stands too, what had a meaning keeps it.
 #[tactic(auto, unfolding(crate::specs::Completed::left_out_in, crate::specs::Completed::written))]
 pub fn whole_statement_stays()
-    ensures { (text : List ℕ) → NamesClient text → NamesRequest text → StandsForItself text }
+    ensures script { (text : List ℕ) → NamesClient text → NamesRequest text
+        → StandsForItself None text }
+    ensures run { (text : List ℕ) (clock : Option ℕ) → NamesMoment text → NamesClient text
+        → NamesRequest text → StandsForItself clock text }
 {}
 
-/// Nothing is put before a register in which a client stands.
+/// Nothing is put before a register in which a client stands, but for the clock's moment.
 #[tactic(auto, unfolding(crate::specs::Completed::left_out_in, crate::specs::Completed::written))]
 pub fn whole_register_stays()
-    ensures { (text : List ℕ) → NamesClient text → IsRegister text → StandsForItself text }
+    ensures script { (text : List ℕ) → NamesClient text → IsRegister text
+        → StandsForItself None text }
+    ensures run { (text : List ℕ) (clock : Option ℕ) → NamesMoment text → NamesClient text
+        → IsRegister text → StandsForItself clock text }
 {}
 
 /// A lookup alone, of client 7, which has session 3 and made two requests there.
 pub fn lookup_alone()
-    ensures { completed (Some 7) (λ c. Open 3 3) (codes "lookup_accounts id=1;")
+    ensures { completed None (Some 7) (λ c. Open 3 3) (codes "lookup_accounts id=1;")
         ≡ codes "client=7\nsession=3\nrequest=3\nlookup_accounts id=1;" }
 {}
 
 /// A client that has no session is registered first.
 pub fn registered_first()
-    ensures { completed None (λ c. Closed 4) (codes "client=0x1F lookup_accounts id=1;")
+    ensures { completed None None (λ c. Closed 4) (codes "client=0x1F lookup_accounts id=1;")
         ≡ codes "client=31 register;\nsession=4\nrequest=1\nclient=0x1F lookup_accounts id=1;" }
+{}
+
+/// A lookup at the clock's moment.
+pub fn by_the_clock()
+    ensures { completed (Some 50) (Some 7) (λ c. Open 3 3) (codes "request=4 lookup_accounts id=1;")
+        ≡ codes "at=50\nclient=7\nsession=3\nrequest=4 lookup_accounts id=1;" }
+{}
+
+/// A client is registered at the moment of the statement, not at the clock's.
+pub fn registered_at()
+    ensures { completed (Some 50) None (λ c. Closed 4) (codes "at=9 client=8 lookup_accounts;")
+        ≡ codes "at=9 client=8 register;\nsession=4\nrequest=1\nat=9 client=8 lookup_accounts;" }
 {}
 
 /// A register of the client that was named last.
 pub fn register_alone()
-    ensures { completed (Some 7) (λ c. Unknown) (codes "at=5 register;")
+    ensures { completed None (Some 7) (λ c. Unknown) (codes "at=5 register;")
         ≡ codes "client=7\nat=5 register;" }
 {}
 
 /// The next request in a session that is named, behind a comment.
 pub fn next_request()
-    ensures { completed (Some 7) (λ c. Open 3 9) (codes "# request=4\n session=3 lookup_accounts;")
+    ensures { completed None (Some 7) (λ c. Open 3 9) (codes "# request=4\n session=3 lookup_accounts;")
         ≡ codes "client=7\nrequest=9\n# request=4\n session=3 lookup_accounts;" }
 {}
 
 /// An operation that is misspelled is completed too, so that its fault tells what could stand there.
 pub fn misspelled()
-    ensures { completed (Some 7) (λ c. Open 3 3) (codes "lookup_acounts id=1;")
+    ensures { completed None (Some 7) (λ c. Open 3 3) (codes "lookup_acounts id=1;")
         ≡ codes "client=7\nsession=3\nrequest=3\nlookup_acounts id=1;" }
 {}
 
-/// Before a field that is misspelled nothing is put, nor where a statement ends before its operation.
+/// Before a field that is misspelled nothing is put, nor where a statement ends before its operation, or within a word
+/// that is none yet.
 pub fn no_operation()
-    ensures field { completed (Some 7) (λ c. Open 3 3) (codes "at=5 clint=7 register;")
+    ensures field { completed None (Some 7) (λ c. Open 3 3) (codes "at=5 clint=7 register;")
         ≡ codes "at=5 clint=7 register;" }
-    ensures end { completed (Some 7) (λ c. Open 3 3) (codes " # all\n") ≡ codes " # all\n" }
+    ensures cut { completed None (Some 7) (λ c. Open 3 3) (codes "client=7 req") ≡ codes "client=7 req" }
+    ensures end { completed None (Some 7) (λ c. Open 3 3) (codes " # all\n") ≡ codes " # all\n" }
 {}

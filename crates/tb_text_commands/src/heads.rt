@@ -1,6 +1,6 @@
 //! What stands before the operation of a statement.
 ghost use Rattle.std.specs.Prelude.{◌≡◌, ◌≤◌, length, MatchOption, None, Some, false};
-ghost use Rattle.tb_text_commands.specs.Heads.{begins_operation, behind_equals, behind_word, digit_of, field_named, field_read, first_word, gap_length, head_of, is_word_byte, next, number_from, number_of, past_gap, with_digit, with_field, word_length};
+ghost use Rattle.tb_text_commands.specs.Heads.{begins_operation, behind_equals, behind_word, digit_of, field_named, field_read, first_word, gap_length, head_of, is_batch, is_word_byte, next, none_given, number_from, number_of, past_gap, with_digit, with_field, word_length};
 
 /// What may stand before an operation.
 #[derive(Clone, Copy)]
@@ -11,9 +11,10 @@ pub enum HeadField {
     Request,
 }
 
-/// The numbers that stand before an operation, but for the moment.
+/// The numbers that stand before an operation.
 #[derive(Clone, Copy)]
 pub struct Given {
+    pub moment: Option<u128>,
     pub client: Option<u128>,
     pub session: Option<u128>,
     pub request: Option<u128>,
@@ -159,12 +160,27 @@ fn field_named(word: &[u8]) -> Option<HeadField>
 }
 
 impl Given {
+    /// Nothing stands there.
+    fn none() -> Given
+        ensures { result ≡ none_given }
+    {
+        Given {
+            moment: None,
+            client: None,
+            session: None,
+            request: None,
+        }
+    }
+
     /// With one number more.
     fn with_field(self, field: HeadField, number: u128) -> Given
         ensures { result ≡ with_field self field number }
     {
         match field {
-            HeadField::At => self,
+            HeadField::At => Given {
+                moment: Some(number),
+                ..self
+            },
             HeadField::Client => Given {
                 client: Some(number),
                 ..self
@@ -207,22 +223,29 @@ fn next(given: Given, bytes: &[u8]) -> (Given, &[u8])
 pub fn head_of(text: &[u8]) -> (Given, &[u8])
     ensures { (result.0, result.1.now) ≡ head_of text.now }
 {
-    let none = Given {
-        client: None,
-        session: None,
-        request: None,
-    };
-    let (given, rest) = next(none, past_gap(text));
+    let (given, rest) = next(Given::none(), past_gap(text));
     let (given, rest) = next(given, rest);
     let (given, rest) = next(given, rest);
     next(given, rest)
 }
 
-/// Says that an operation's word stands first, or one that may be meant so.
+/// Says that a word is an operation on events or ids.
+pub fn is_batch(word: &[u8]) -> bool
+    ensures { result ≡ is_batch word.now }
+{
+    word == b"create_accounts".as_slice()
+        || word == b"create_transfers".as_slice()
+        || word == b"lookup_accounts".as_slice()
+        || word == b"lookup_transfers".as_slice()
+}
+
+/// Says that an operation's word stands first, or one that may be meant so and is not cut off.
 pub fn begins_operation(bytes: &[u8]) -> bool
     ensures { result ≡ begins_operation bytes.now }
 {
+    let word = first_word(bytes);
     word_length(bytes) != 0
-        && field_named(first_word(bytes)).is_none()
+        && field_named(word).is_none()
         && behind_equals(behind_word(bytes)).is_none()
+        && (word_length(bytes) < bytes.len() || is_batch(word))
 }

@@ -11,6 +11,7 @@ use crate::lines::reply_line;
 use crate::scripts::put_line;
 use crate::statements::next_statement;
 use std::alloc::{AllocError, Global};
+use std::time::Clock;
 use tb_machine::{Entry, Machine, status_of};
 use tb_records::{ClientsMax, Profile, Reply, Request, Sink, Source};
 use tb_sessions::Class;
@@ -18,14 +19,15 @@ use tb_sessions::Class;
 /// The client of statements before which none was named.
 const FIRST_CLIENT: u128 = 1;
 
-/// A machine, and the client that was named last.
+/// A machine, the client that was named last, and a clock.
 #[derive(Drop)]
-struct Server {
+struct Server<'a, C: Clock> {
     machine: Machine<Global>,
     last: u128,
+    clock: &'a C,
 }
 
-impl Standings for Server {
+impl<C: Clock> Standings for Server<'_, C> {
     ghost last = { λ server. Some server.last };
 
     ghost standing = { λ server client. standing_in server.machine.rows server.machine.commit client };
@@ -38,6 +40,14 @@ impl Standings for Server {
         match self.machine.reply_of(client) {
             Some(reply) => Standing::behind(reply.session(), reply.request()),
             None => Standing::Closed(self.machine.commit() + 1),
+        }
+    }
+
+    /// None where the clock cannot be read, or shows a moment that no field holds.
+    fn moment(&self) -> Option<u64> {
+        match self.clock.since_1970() {
+            Ok(time) => u64::try_from(time.as_nanos()).ok(),
+            Err(_) => None,
         }
     }
 }
@@ -93,9 +103,9 @@ fn serve(
 }
 
 /// Serves requests, and writes the lines of their replies.
-fn serve_pairs<W: Sink>(
+fn serve_pairs<C: Clock, W: Sink>(
     alloc: Global,
-    server: &mut Server,
+    server: &mut Server<'_, C>,
     pairs: Vec<(u64, Request)>,
     writer: &mut W,
 ) -> Result<(), Fault>
@@ -110,9 +120,9 @@ fn serve_pairs<W: Sink>(
 }
 
 /// Serves the next statement: false where there is none.
-fn serve_next<R: Source, W: Sink>(
+fn serve_next<C: Clock, R: Source, W: Sink>(
     alloc: Global,
-    server: &mut Server,
+    server: &mut Server<'_, C>,
     intake: &mut Intake,
     reader: &mut R,
     writer: &mut W,
@@ -136,9 +146,9 @@ fn is_passing(fault: &Fault) -> bool
 }
 
 /// Serves statements to their end. Where it `talks`, a wrong statement is told at once, and the next one is read.
-fn converse<R: Source, W: Sink, E: Sink>(
+fn converse<C: Clock, R: Source, W: Sink, E: Sink>(
     alloc: Global,
-    server: &mut Server,
+    server: &mut Server<'_, C>,
     talks: bool,
     reader: &mut R,
     writer: &mut W,
@@ -166,9 +176,10 @@ fn converse<R: Source, W: Sink, E: Sink>(
     if told { Err(Fault::WasTold) } else { Ok(()) }
 }
 
-/// Serves statements by a machine of its own.
-pub fn run<R: Source, W: Sink, E: Sink>(
+/// Serves statements by a machine of its own. One that leaves out its moment comes when the clock says.
+pub fn run<C: Clock, R: Source, W: Sink, E: Sink>(
     alloc: Global,
+    clock: &C,
     clients_max: ClientsMax,
     profile: Profile,
     talks: bool,
@@ -187,6 +198,7 @@ pub fn run<R: Source, W: Sink, E: Sink>(
     let mut server = Server {
         machine,
         last: FIRST_CLIENT,
+        clock,
     };
     let done = converse(alloc, &mut server, talks, reader, writer, faults);
     drop(server);

@@ -68,7 +68,8 @@ fn take_text<S: Standings>(
 {
     let rest = intake.rest();
     let text = rest.get(..length).unwrap_or(rest);
-    let Ok(whole) = completed(alloc, standings, text) else {
+    let clock = standings.moment().map(|moment| moment as u128);
+    let Ok(whole) = completed(alloc, clock, standings, text) else {
         return Err(Fault::NoMemory);
     };
     let Ok(reading) = read_text(alloc, whole.as_slice()) else {
@@ -85,7 +86,7 @@ fn take_text<S: Standings>(
     }
 }
 
-/// Says that the lines of the rest begin no statement, whatever follows.
+/// Says that the lines of the rest begin no statement, whatever follows. That needs no clock: any moment fits.
 fn goes_wrong<S: Standings>(alloc: Global, intake: &Intake, standings: &S) -> Result<bool, Fault>
     ensures { IfErr result IsOfInput }
 {
@@ -93,7 +94,7 @@ fn goes_wrong<S: Standings>(alloc: Global, intake: &Intake, standings: &S) -> Re
     if !matches!(rest, [.., b'\n']) {
         return Ok(false);
     }
-    let Ok(whole) = completed(alloc, standings, rest) else {
+    let Ok(whole) = completed(alloc, None, standings, rest) else {
         return Err(Fault::NoMemory);
     };
     match read_text(alloc, whole.as_slice()) {

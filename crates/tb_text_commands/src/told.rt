@@ -34,6 +34,11 @@ impl Standings for Told {
             None => Standing::Unknown,
         }
     }
+
+    /// A text has no clock.
+    fn moment(&self) -> Option<u64> {
+        None
+    }
 }
 
 impl Told {

@@ -1,5 +1,5 @@
 //! Readers and writers that fail, and how often the line of faults is written.
-use crate::forms::words_of;
+use crate::forms::{first_moment, words_of};
 use std::io::{self, Error, ErrorKind, Read, Write};
 use std::test::Fail;
 use tb_records::{Counting, Sink, Source};
@@ -62,6 +62,7 @@ fn failing_reader(rt: HostRuntime) -> Result<(), Fail> {
         let mut faults = Counting::new(Vec::new(rt.alloc()));
         let status = command(
             rt.alloc(),
+            &first_moment(),
             words.as_slice(),
             false,
             &mut reader,
@@ -86,6 +87,7 @@ fn failing_writer(rt: HostRuntime) -> Result<(), Fail> {
             let mut faults = Counting::new(Closed { asked: 0 });
             let status = command(
                 rt.alloc(),
+                &first_moment(),
                 words.as_slice(),
                 false,
                 &mut reader,

@@ -1,6 +1,8 @@
 //! A form of the program over bytes in memory, and what it left.
+use std::io::{self, Error, ErrorKind};
 use std::process::Abort;
 use std::test::Fail;
+use std::time::{Clock, Duration};
 use tb_records::Counting;
 use tb_text_commands::command;
 
@@ -21,9 +23,34 @@ pub fn words_of(rt: &impl AllocGlobal, words: &[&str]) -> Result<Vec<String>, Fa
     Ok(owned)
 }
 
-/// Gives words and the input to the program; where it `talks`, as if statements were typed.
+/// A clock that stands at a moment, or that cannot be read.
+#[derive(Clone, Copy)]
+pub struct Stopped {
+    pub moment: Option<u64>,
+}
+
+impl Clock for Stopped {
+    fn monotonic(&self) -> io::Result<Duration> {
+        self.since_1970()
+    }
+
+    fn since_1970(&self) -> io::Result<Duration> {
+        match self.moment {
+            Some(moment) => Ok(Duration::from_nanos(moment)),
+            None => Err(Error::from(ErrorKind::Other)),
+        }
+    }
+}
+
+/// The clock of 1970.
+pub fn first_moment() -> Stopped {
+    Stopped { moment: Some(0) }
+}
+
+/// Gives words and the input to the program by a clock; where it `talks`, as if statements were typed.
 pub fn left_where(
     rt: &impl AllocGlobal,
+    clock: &Stopped,
     words: &[&str],
     talks: bool,
     input: &[u8],
@@ -34,6 +61,7 @@ pub fn left_where(
     let mut faults = Counting::new(Vec::new(rt.alloc()));
     let status = command(
         rt.alloc(),
+        clock,
         words.as_slice(),
         talks,
         &mut reader,
@@ -49,7 +77,7 @@ pub fn left_where(
 
 /// Gives words and the input to the program.
 pub fn left_by(rt: &impl AllocGlobal, words: &[&str], input: &[u8]) -> Result<Left, Fail> {
-    left_where(rt, words, false, input)
+    left_where(rt, &first_moment(), words, false, input)
 }
 
 /// Says that words and an input leave this status, output and line of faults.

@@ -1,5 +1,5 @@
 //! Statements, their scripts, and the replies to them.
-use crate::forms::{leaves, left_by, left_where};
+use crate::forms::{Stopped, first_moment, leaves, left_by, left_where};
 use std::test::Fail;
 
 /// A conversation: a register, a batch whose last account is there already, its repeat, a number that is too high.
@@ -72,7 +72,7 @@ fn wrong_statement(rt: HostRuntime) -> Result<(), Fail> {
 fn typed_statements(rt: HostRuntime) -> Result<(), Fail> {
     let text =
         b"at=10 client=7 register;\nat=10 client=0 register;\nat=18446744073709551615 client=9 register;\nat=10 client=8 register;\n";
-    let left = left_where(&rt, &["run", "2"], true, text)?;
+    let left = left_where(&rt, &first_moment(), &["run", "2"], true, text)?;
     let wanted =
         "{\"client\":\"7\",\"session\":\"1\",\"request\":0,\"operation\":\"register\",\"status\":\"reply\",\"commit\":\"1\",\"results\":[]}\n{\"client\":\"8\",\"session\":\"2\",\"request\":0,\"operation\":\"register\",\"status\":\"reply\",\"commit\":\"2\",\"results\":[]}\n";
     assert_eq!(rt; left.output.as_slice(), wanted.as_bytes());
@@ -114,6 +114,58 @@ fn left_out(rt: HostRuntime) -> Result<(), Fail> {
     assert_eq!(rt; short.line.as_slice(), b"".as_slice());
     assert_eq!(rt; short.output.as_slice(), whole.output.as_slice());
     assert_eq!(rt; short.status, 0);
+    Ok(())
+}
+
+/// Accounts 1 and 2 of client 7, before which it is registered, and what is kept of them.
+const BY_THE_CLOCK: &str =
+    "client=7 create_accounts id=1 ledger=700 code=10, id=2 ledger=700 code=10;
+lookup_accounts id=2;
+";
+
+/// The same at these moments: the account 2 has the timestamp of its entry, two behind that of the register.
+fn kept_at(rt: &impl AllocGlobal, timestamp: u64) -> Result<String, Fail> {
+    let kept = format!(in rt.alloc();
+        "{{\"client\":\"7\",\"session\":\"1\",\"request\":2,\"operation\":\"lookup_accounts\",\"status\":\"reply\",\"commit\":\"3\",\"results\":[{{\"id\":\"2\",\"debits_pending\":\"0\",\"debits_posted\":\"0\",\"credits_pending\":\"0\",\"credits_posted\":\"0\",\"user_data_128\":\"0\",\"user_data_64\":\"0\",\"user_data_32\":0,\"reserved\":0,\"ledger\":700,\"code\":10,\"flags\":[],\"timestamp\":\"{timestamp}\"}}]}}\n"
+    )?;
+    Ok(kept)
+}
+
+/// A moment that is left out is the clock's. Where a clock cannot be read, it is 0.
+#[test]
+fn left_out_moments(rt: HostRuntime) -> Result<(), Fail> {
+    for (moment, timestamp) in [
+        (Some(1_000_000_000), 1_000_000_002),
+        (Some(0), 3),
+        (None, 3),
+    ] {
+        let clock = Stopped { moment };
+        let left = left_where(&rt, &clock, &["run", "2"], false, BY_THE_CLOCK.as_bytes())?;
+        assert_eq!(rt; left.line.as_slice(), b"".as_slice());
+        assert!(rt;
+            left.output
+                .as_slice()
+                .ends_with(kept_at(&rt, timestamp)?.as_str().as_bytes())
+        );
+    }
+    Ok(())
+}
+
+/// Where a moment is written, it is that of the client's register too, whatever the clock shows.
+#[test]
+fn written_moments(rt: HostRuntime) -> Result<(), Fail> {
+    let clock = Stopped {
+        moment: Some(1_000_000_000),
+    };
+    let text =
+        b"at=5 client=7 create_accounts id=1 ledger=700 code=10, id=2 ledger=700 code=10; at=6 lookup_accounts id=2;";
+    let left = left_where(&rt, &clock, &["run", "2"], false, text)?;
+    assert_eq!(rt; left.line.as_slice(), b"".as_slice());
+    assert!(rt;
+        left.output
+            .as_slice()
+            .ends_with(kept_at(&rt, 7)?.as_str().as_bytes())
+    );
     Ok(())
 }
 
@@ -191,6 +243,10 @@ fn faults_of_what_is_left_out(rt: HostRuntime) -> Result<(), Fail> {
         (
             "lookup_accounts id=1;",
             "tbt: line 1, column 1: a client comes first: write client=N before lookup_accounts\n  lookup_accounts id=1;\n  ^\n  expected at, client, session or request\n",
+        ),
+        (
+            "client=7 session=1 request=1 lookup_accounts;\nclient=7 session=1 req",
+            "tbt: line 2, column 23: unknown word 'req'\n  client=7 session=1 req\n                        ^\n  expected at or request\n",
         ),
         (
             "client=7 session=1 request=4294967295 lookup_accounts; lookup_accounts;",

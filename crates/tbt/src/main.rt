@@ -30,6 +30,7 @@ fn perform(rt: &HostRuntime, words: &[String]) -> io::Result<u8> {
         let mut faults = Counting::new(rt.stderr());
         let status = command(
             rt.alloc(),
+            rt,
             words,
             true,
             &mut reader,
@@ -42,6 +43,7 @@ fn perform(rt: &HostRuntime, words: &[String]) -> io::Result<u8> {
     let mut line = Counting::new(Vec::new(rt.alloc()));
     let status = command(
         rt.alloc(),
+        rt,
         words,
         false,
         &mut reader,

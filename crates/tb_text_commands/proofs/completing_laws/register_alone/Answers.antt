@@ -1,4 +1,4 @@
-use Rattle.std.proofs.Common.{◌≡◌, refl}
+use Rattle.std.proofs.Common.{refl}
 use Rattle.std.specs.Fmt.{digits}
 use Rattle.tb_text_commands.specs.Completed.{left_out_in, written}
 use Rattle.tb_text_commands.specs.Heads.{next}
