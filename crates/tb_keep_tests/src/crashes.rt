@@ -1,9 +1,10 @@
 //! Crashes at each moment of serving, and files that fail at each of their calls: what was told is in the file.
-ghost use Rattle.std.specs.Prelude.{IfOk};
 ghost use Rattle.tb_journal.specs.Memory.{memory_disk};
 ghost use Rattle.tb_keep.specs.Keeping.{IsFresh};
 
-use crate::scripts::{file_of, replies, rules, script, script_from, serve};
+use crate::scripts::{
+    bytes_of, created_in, file_of, ledger, replies, rules, script, script_from, serve,
+};
 use std::alloc::Global;
 use std::process::Abort;
 use std::test::Fail;
@@ -17,15 +18,18 @@ const TORN: [&[u8]; 4] = [&[], &[0; 40], &[255; 40], &[255]];
 const AGAIN: [usize; 5] = [0, 0, 1, 2, 5];
 
 /// The ledger of a file that a crash left.
-fn started(rt: &impl Abort, alloc: Global, left: &[u8]) -> Result<Keeper<Memory>, Fail>
-    ensures { IfOk result (IsFresh memory_disk) }
+fn started(rt: &impl Abort, alloc: Global, file: Memory) -> Keeper<Memory>
+    ensures { IsFresh memory_disk result }
 {
-    let file = file_of(alloc, left)?;
-    Ok(
-        Keeper::start(alloc, file, rules(rt))
-            .ok()
-            .expect(rt, "a ledger"),
-    )
+    ledger(rt, Keeper::start(alloc, file, rules(rt)))
+}
+
+/// The number of its entries.
+fn entries_in(rt: &impl Abort, alloc: Global, left: &[u8]) -> Result<u64, Fail> {
+    let keeper = started(rt, alloc, file_of(alloc, left)?);
+    let entries = keeper.machine().commit();
+    drop(keeper);
+    Ok(entries)
 }
 
 /// Opens a file that has so many entries at least, and so many at most, and sends again what may be in doubt: the replies
@@ -37,18 +41,19 @@ fn expect_goes_on(
     told: &[u8],
     entries: (u64, u64),
 ) -> Result<(), Fail> {
-    let mut keeper = started(rt, alloc, left)?;
-    let commit = keeper.machine().commit();
+    let commit = entries_in(rt, alloc, left)?;
     assert!(rt;
         entries.0 <= commit && commit <= entries.1,
         "{commit} entries"
     );
     let from = AGAIN.get(commit as usize).expect(rt, "at most 4 entries");
-    let (well, replies) = serve(alloc, &mut keeper, &script_from(alloc, *from)?);
-    assert!(rt; well);
-    assert!(rt; told.ends_with(&replies));
-    assert!(rt; keeper.machine().commit() == 4);
+    let again = script_from(alloc, *from)?;
+    let mut keeper = started(rt, alloc, file_of(alloc, left)?);
+    let (well, replies) = serve(alloc, &mut keeper, &again);
+    let last = keeper.machine().commit();
     drop(keeper);
+    assert!(rt; well && last == 4);
+    assert!(rt; told.ends_with(&replies));
     Ok(())
 }
 
@@ -91,14 +96,13 @@ fn expect_crashes(
 #[test]
 fn a_crash_at_each_moment(rt: HostRuntime) -> Result<(), Fail> {
     let alloc = rt.alloc();
-    let mut keeper = create(alloc, file_of(alloc, &[])?, rules(&rt))
-        .ok()
-        .expect(&rt, "a ledger");
-    let (well, told) = serve(alloc, &mut keeper, &script(alloc, 6)?);
-    assert!(&rt; well);
-    expect_crashes(&rt, alloc, &keeper, &told)?;
+    let script = script(alloc, 6)?;
+    let mut keeper = created_in(&rt, alloc, file_of(alloc, &[])?);
+    let (well, told) = serve(alloc, &mut keeper, &script);
+    let done = expect_crashes(&rt, alloc, &keeper, &told);
     drop(keeper);
-    Ok(())
+    assert!(&rt; well);
+    done
 }
 
 /// The entries that so many bytes of replies rest on.
@@ -115,20 +119,20 @@ fn entries_told(rt: &impl Abort, alloc: Global, length: usize) -> Result<u64, Fa
 
 /// Serves the script over a new file whose call of a number fails; gives the file as it reads, and the replies.
 fn served_failing(rt: &impl Abort, alloc: Global, number: u64) -> Result<(Vec<u8>, Vec<u8>), Fail> {
+    let script = script(alloc, 6)?;
     let mut file = file_of(alloc, &[])?;
     file.fail_at(number);
     match create(alloc, file, rules(rt)) {
         Ok(keeper) => {
             let mut keeper = keeper;
-            let (_, told) = serve(alloc, &mut keeper, &script(alloc, 6)?);
-            let left = Vec::from_slice(alloc, keeper.journal().device().bytes())?;
-            drop(keeper);
-            Ok((left, told))
+            let (_, told) = serve(alloc, &mut keeper, &script);
+            Ok((bytes_of(alloc, keeper)?, told))
         }
-        Err(failed) => Ok((
-            Vec::from_slice(alloc, failed.device.bytes())?,
-            Vec::new(alloc),
-        )),
+        Err(failed) => {
+            let left = Vec::from_slice(alloc, failed.device.bytes());
+            drop(failed);
+            Ok((left?, Vec::new(alloc)))
+        }
     }
 }
 

@@ -1,22 +1,20 @@
 //! The history of a kept file, read without a write.
-use crate::scripts::{file_of, rules, script, serve};
+use crate::scripts::{bytes_of, created_in, file_of, rules, script, serve};
 use std::alloc::Global;
 use std::process::Abort;
 use std::test::Fail;
 use tb_journal::Scanned;
-use tb_keep::{StartFault, create, read_history, read_rules, write_dump};
+use tb_keep::{StartFault, read_history, read_rules, write_dump};
 use tb_machine::dump;
 use tb_records::{Counting, Profile};
 
 /// The file of the script, read.
 fn kept(rt: &impl Abort, alloc: Global) -> Result<Scanned, Fail> {
-    let mut keeper = create(alloc, file_of(alloc, &[])?, rules(rt))
-        .ok()
-        .expect(rt, "a ledger");
-    let (well, _) = serve(alloc, &mut keeper, &script(alloc, 6)?);
+    let script = script(alloc, 6)?;
+    let mut keeper = created_in(rt, alloc, file_of(alloc, &[])?);
+    let (well, _) = serve(alloc, &mut keeper, &script);
     assert!(rt; well);
-    let bytes = Vec::from_slice(alloc, keeper.journal().device().bytes())?;
-    drop(keeper);
+    let bytes = bytes_of(alloc, keeper)?;
     Ok(Scanned::new(bytes).ok().expect(rt, "a journal"))
 }
 

@@ -1,12 +1,13 @@
 //! Scripts by the bytes that the formats give, and what serves them.
+ghost use Rattle.std.specs.Prelude.{IfOk};
 ghost use Rattle.tb_journal.specs.Memory.{memory_disk};
 ghost use Rattle.tb_keep.specs.Keeping.{IsFresh};
 
-use std::alloc::Global;
+use std::alloc::{AllocError, Global};
 use std::process::Abort;
 use std::test::Fail;
 use tb_journal::Memory;
-use tb_keep::{Keeper, Rules, keep};
+use tb_keep::{Keeper, NotKept, Rules, create, keep};
 use tb_machine::run;
 use tb_records::{ClientsMax, Counting, Profile};
 
@@ -121,6 +122,35 @@ pub fn rules(rt: &impl Abort) -> Rules {
 /// A file in memory with these bytes.
 pub fn file_of(alloc: Global, bytes: &[u8]) -> Result<Memory, Fail> {
     Ok(Memory::new(alloc, Vec::from_slice(alloc, bytes)?)?)
+}
+
+/// The ledger that a call gives.
+pub fn ledger(rt: &impl Abort, given: Result<Keeper<Memory>, NotKept<Memory>>) -> Keeper<Memory>
+    requires { IfOk given (IsFresh memory_disk) }
+    ensures { IsFresh memory_disk result }
+{
+    let keeper = match given {
+        Ok(keeper) => Some(keeper),
+        Err(failed) => {
+            drop(failed);
+            None
+        }
+    };
+    keeper.expect(rt, "a ledger")
+}
+
+/// A ledger that is created in a file.
+pub fn created_in(rt: &impl Abort, alloc: Global, file: Memory) -> Keeper<Memory>
+    ensures { IsFresh memory_disk result }
+{
+    ledger(rt, create(alloc, file, rules(rt)))
+}
+
+/// The bytes of a keeper's file. The keeper is let go.
+pub fn bytes_of(alloc: Global, keeper: Keeper<Memory>) -> Result<Vec<u8>, AllocError> {
+    let bytes = Vec::from_slice(alloc, keeper.journal().device().bytes());
+    drop(keeper);
+    bytes
 }
 
 /// What serving over a keeper answers, and the replies.

@@ -1,25 +1,19 @@
 //! What is served over a file: the replies, and the calls on the file.
-ghost use Rattle.std.specs.Prelude.{IfOk};
 ghost use Rattle.tb_journal.specs.Memory.{memory_disk};
 ghost use Rattle.tb_keep.specs.Keeping.{IsFresh};
 
-use crate::scripts::{LOOK_UP, TRANSFER, file_of, put_pair, replies, rules, script, serve};
+use crate::scripts::{
+    LOOK_UP, TRANSFER, bytes_of, created_in, file_of, ledger, put_pair, replies, rules, script,
+    serve,
+};
 use std::alloc::Global;
 use std::io::BufReader;
 use std::process::Abort;
 use std::test::Fail;
 use tb_journal::Memory;
-use tb_keep::{HELD_BYTES_MAX, KeepFault, Keeper, create, keep};
+use tb_keep::{HELD_BYTES_MAX, KeepFault, Keeper, keep};
 use tb_machine::RunFault;
-use tb_records::{Buffered, Counting, FrameFault};
-
-/// A ledger that was created in an empty file.
-fn created(rt: &impl Abort, alloc: Global) -> Result<Keeper<Memory>, Fail>
-    ensures { IfOk result (IsFresh memory_disk) }
-{
-    let file = file_of(alloc, &[])?;
-    Ok(create(alloc, file, rules(rt)).ok().expect(rt, "a ledger"))
-}
+use tb_records::{Buffered, Counting, FrameFault, Source};
 
 /// Serves the script, and compares the replies with those of a server without a file.
 fn expect_replies(rt: &impl Abort, alloc: Global, keeper: &mut Keeper<Memory>, script: &[u8])
@@ -33,62 +27,85 @@ fn expect_replies(rt: &impl Abort, alloc: Global, keeper: &mut Keeper<Memory>, s
 
 /// Opens a copy of the file, sends the last two requests again, and compares their replies.
 fn expect_again(rt: &impl Abort, alloc: Global, bytes: &[u8], told: &[u8]) -> Result<(), Fail> {
-    let mut again = Keeper::open(alloc, file_of(alloc, bytes)?, rules(rt))
-        .ok()
-        .expect(rt, "a ledger");
     let mut last = Vec::new(alloc);
     put_pair(&mut last, &LOOK_UP)?;
+    let mut again = ledger(rt, Keeper::open(alloc, file_of(alloc, bytes)?, rules(rt)));
     let (well, replies) = serve(alloc, &mut again, &last);
-    assert!(rt; well);
-    assert!(rt; told.ends_with(&replies));
-    assert!(rt; again.journal().device().bytes() == bytes);
+    let is_same = again.journal().device().bytes() == bytes;
     drop(again);
+    assert!(rt; well && is_same);
+    assert!(rt; told.ends_with(&replies));
     Ok(())
 }
 
 #[test]
 fn replies_are_those_of_run(rt: HostRuntime) -> Result<(), Fail> {
     let alloc = rt.alloc();
-    let mut keeper = created(&rt, alloc)?;
     let script = script(alloc, 6)?;
+    let mut keeper = created_in(&rt, alloc, file_of(alloc, &[])?);
     expect_replies(&rt, alloc, &mut keeper, &script);
-    // The head, and the entries of four new requests.
-    assert!(rt; keeper.journal().count() == 5);
-    assert!(rt; keeper.machine().commit() == 4);
+    let (records, entries) = (keeper.journal().count(), keeper.machine().commit());
     drop(keeper);
+    // The head, and the entries of four new requests.
+    assert!(rt; records == 5);
+    assert!(rt; entries == 4);
     Ok(())
 }
 
 #[test]
 fn a_repeat_after_an_opening_gets_its_first_reply(rt: HostRuntime) -> Result<(), Fail> {
     let alloc = rt.alloc();
-    let mut keeper = created(&rt, alloc)?;
     let script = script(alloc, 6)?;
+    let mut keeper = created_in(&rt, alloc, file_of(alloc, &[])?);
     let (well, told) = serve(alloc, &mut keeper, &script);
     assert!(rt; well);
-    expect_again(&rt, alloc, keeper.journal().device().bytes(), &told)?;
+    let bytes = bytes_of(alloc, keeper)?;
+    expect_again(&rt, alloc, &bytes, &told)
+}
+
+/// What serving left.
+#[derive(Drop)]
+struct Outcome {
+    result: Result<u64, KeepFault>,
+    replies: Vec<u8>,
+    /// The moments of the file that it took.
+    moments: usize,
+    /// The records of the file.
+    records: usize,
+}
+
+/// What serving by a reader leaves. The keeper is let go.
+fn served<R: Source>(alloc: Global, keeper: Keeper<Memory>, reader: &mut R) -> Outcome
+    requires { IsFresh memory_disk keeper }
+{
+    let mut keeper = keeper;
+    let before = keeper.journal().device().moments();
+    let mut writer = Counting::new(Vec::new(alloc));
+    let result = keep(alloc, &mut keeper, reader, &mut writer);
+    let moments = keeper.journal().device().moments().saturating_sub(before);
+    let records = keeper.journal().count();
     drop(keeper);
-    Ok(())
+    Outcome {
+        result,
+        replies: writer.into_inner(),
+        moments,
+        records,
+    }
 }
 
 /// The moments of the file that serving takes, by a reader that has all at hand or one pair at a time.
 fn moments_taken(rt: &impl Abort, alloc: Global, at_hand: bool) -> Result<usize, Fail> {
-    let mut keeper = created(rt, alloc)?;
-    let before = keeper.journal().device().moments();
     let script = script(alloc, 6)?;
-    let mut writer = Counting::new(Vec::new(alloc));
-    let result = if at_hand {
-        let mut reader = Buffered::new(BufReader::with_capacity(alloc, 4096, script.as_slice())?);
-        keep(alloc, &mut keeper, &mut reader, &mut writer)
+    let mut buffered = Buffered::new(BufReader::with_capacity(alloc, 4096, script.as_slice())?);
+    let mut counting = Counting::new(script.as_slice());
+    let keeper = created_in(rt, alloc, file_of(alloc, &[])?);
+    let served = if at_hand {
+        served(alloc, keeper, &mut buffered)
     } else {
-        let mut reader = Counting::new(script.as_slice());
-        keep(alloc, &mut keeper, &mut reader, &mut writer)
+        served(alloc, keeper, &mut counting)
     };
-    assert!(rt; result == Ok(6));
-    let moments = keeper.journal().device().moments();
-    drop(keeper);
-    assert!(rt; before <= moments);
-    Ok(moments - before)
+    assert!(rt; served.result == Ok(6));
+    Ok(served.moments)
 }
 
 #[test]
@@ -103,19 +120,16 @@ fn pairs_at_hand_share_a_commit(rt: HostRuntime) -> Result<(), Fail> {
 
 /// What serving answers to a script whose last frame is cut short.
 fn cut_short(rt: &impl Abort, alloc: Global) -> Result<(), Fail> {
-    let mut keeper = created(rt, alloc)?;
     let mut bytes = script(alloc, 2)?;
     put_pair(&mut bytes, &TRANSFER)?;
     let whole = bytes.len();
     bytes.truncate(whole.saturating_sub(1));
     let mut reader = Counting::new(bytes.as_slice());
-    let mut writer = Counting::new(Vec::new(alloc));
-    let result = keep(alloc, &mut keeper, &mut reader, &mut writer);
-    let told = writer.into_inner();
-    drop(keeper);
-    assert!(rt; result == Err(KeepFault::Serving(RunFault::Frame(FrameFault::Short))));
+    let keeper = created_in(rt, alloc, file_of(alloc, &[])?);
+    let served = served(alloc, keeper, &mut reader);
+    assert!(rt; served.result == Err(KeepFault::Serving(RunFault::Frame(FrameFault::Short))));
     // The replies to the register and the accounts, 48 bytes each.
-    assert!(rt; told.len() == 96);
+    assert!(rt; served.replies.len() == 96);
     Ok(())
 }
 
@@ -126,7 +140,6 @@ fn a_frame_cut_short_ends_serving(rt: HostRuntime) -> Result<(), Fail> {
 
 /// What serving answers to a script whose last frame has a byte that has to be 0, where all of it is at hand.
 fn wrong_frame(rt: &impl Abort, alloc: Global) -> Result<(), Fail> {
-    let mut keeper = created(rt, alloc)?;
     let mut bytes = script(alloc, 2)?;
     let whole = bytes.len();
     put_pair(&mut bytes, &TRANSFER)?;
@@ -135,15 +148,13 @@ fn wrong_frame(rt: &impl Abort, alloc: Global) -> Result<(), Fail> {
         *byte = 1;
     }
     let mut reader = Buffered::new(BufReader::with_capacity(alloc, 4096, bytes.as_slice())?);
-    let mut writer = Counting::new(Vec::new(alloc));
-    let result = keep(alloc, &mut keeper, &mut reader, &mut writer);
-    let told = writer.into_inner();
-    let entries = keeper.journal().count();
-    drop(keeper);
-    assert!(rt; result == Err(KeepFault::Serving(RunFault::Frame(FrameFault::Reserved))));
-    // The replies to the register and the accounts, 48 bytes each, and their records behind the head.
-    assert!(rt; told.len() == 96);
-    assert!(rt; entries == 3);
+    let keeper = created_in(rt, alloc, file_of(alloc, &[])?);
+    let served = served(alloc, keeper, &mut reader);
+    assert!(rt; served.result == Err(KeepFault::Serving(RunFault::Frame(FrameFault::Reserved))));
+    // The replies to the register and the accounts, 48 bytes each, and their records behind the head, by one commit.
+    assert!(rt; served.replies.len() == 96);
+    assert!(rt; served.records == 3);
+    assert!(rt; served.moments == 4);
     Ok(())
 }
 
