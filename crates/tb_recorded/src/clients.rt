@@ -264,19 +264,35 @@ impl<J: Naming, S: Serving> Client<J, S> {
         self.poll(request)
     }
 
+    /// Looks accounts up through the seat, by the lookup of a number.
+    fn look_accounts_up(&mut self, lookup: u64) -> Result<Record, Fault> {
+        let ids = account_ids(self.alloc, lookup)?;
+        let found = self.seat.lookup_accounts(ids.as_slice());
+        drop(ids);
+        let (commit, accounts) = found?;
+        let answer = Answer::Accounts(lookup, accounts);
+        Ok(Record { answer, commit })
+    }
+
+    /// Looks transfers up through the seat, by the lookup of a number.
+    fn look_transfers_up(&mut self, lookup: u64) -> Result<Record, Fault> {
+        let ids = transfer_ids(self.alloc, lookup)?;
+        let found = self.seat.lookup_transfers(ids.as_slice());
+        drop(ids);
+        let (commit, transfers) = found?;
+        let answer = Answer::Transfers(lookup, transfers);
+        Ok(Record { answer, commit })
+    }
+
     /// Looks records up through the seat.
     fn look_up(&mut self) -> Result<(), Fault> {
         let lookup = self.chances.draw();
-        let (commit, answer) = if self.chances.below(2) == 0 {
-            let ids = account_ids(self.alloc, lookup)?;
-            let (commit, accounts) = self.seat.lookup_accounts(ids.as_slice())?;
-            (commit, Answer::Accounts(lookup, accounts))
+        let record = if self.chances.below(2) == 0 {
+            self.look_accounts_up(lookup)?
         } else {
-            let ids = transfer_ids(self.alloc, lookup)?;
-            let (commit, transfers) = self.seat.lookup_transfers(ids.as_slice())?;
-            (commit, Answer::Transfers(lookup, transfers))
+            self.look_transfers_up(lookup)?
         };
-        self.log.records.push(Record { answer, commit })?;
+        self.log.records.push(record)?;
         Ok(())
     }
 

@@ -63,8 +63,21 @@ fn rules_of(scale: Scale) -> Result<Rules, Error> {
     })
 }
 
-/// Tells what the audit counted.
-fn tell<R: Print + Eprint>(rt: &R, scale: Scale, tally: Tally) -> Result<(), Error> {
+/// Tells a name and its number on standard output.
+fn tell_one<R: Print>(rt: &R, name: &str, number: u64) -> Result<(), Error> {
+    println!(rt; "{name} {number}")?;
+    Ok(())
+}
+
+/// Tells three names, each with its number, on standard error.
+fn tell_three<R: Eprint>(rt: &R, rows: [(&str, u64); 3]) -> Result<(), Error> {
+    let [(a, one), (b, two), (c, three)] = rows;
+    eprintln!(rt; "{a} {one}, {b} {two}, {c} {three}")?;
+    Ok(())
+}
+
+/// Tells the answers by status.
+fn tell_statuses<R: Eprint>(rt: &R, tally: Tally) -> Result<(), Error> {
     let [
         reply,
         no_session,
@@ -75,21 +88,37 @@ fn tell<R: Print + Eprint>(rt: &R, scale: Scale, tally: Tally) -> Result<(), Err
         newer,
         not_yet,
     ] = tally.statuses;
-    println!(rt; "clients {}", scale.clients)?;
-    println!(rt; "seed {}", scale.seed)?;
-    println!(rt; "answers {}", tally.answers)?;
+    let known = [
+        ("Reply", reply),
+        ("NotYet", not_yet),
+        ("lookups", tally.lookups),
+    ];
+    let sessions = [
+        ("NoSession", no_session),
+        ("SessionTooLow", too_low),
+        ("NewerSession", newer_session),
+    ];
+    let numbers = [
+        ("Older", older),
+        ("Collision", collision),
+        ("NewerRequest", newer),
+    ];
+    tell_three(rt, known)?;
+    tell_three(rt, sessions)?;
+    tell_three(rt, numbers)
+}
+
+/// Tells what the audit counted.
+fn tell<R: Print + Eprint>(rt: &R, scale: Scale, tally: Tally) -> Result<(), Error> {
+    tell_one(rt, "clients", u64::from(scale.clients))?;
+    tell_one(rt, "seed", scale.seed)?;
+    tell_one(rt, "answers", tally.answers)?;
     println!(rt; "{} wrong", tally.wrong)?;
     eprintln!(rt;
         "commits {}, requests handed over {}",
         tally.commits, tally.offered
     )?;
-    eprintln!(rt;
-        "Reply {reply}, NotYet {not_yet}, lookups {}",
-        tally.lookups
-    )?;
-    eprintln!(rt; "NoSession {no_session}, SessionTooLow {too_low}, NewerSession {newer_session}")?;
-    eprintln!(rt; "Older {older}, Collision {collision}, NewerRequest {newer}")?;
-    Ok(())
+    tell_statuses(rt, tally)
 }
 
 fn main(rt: HostRuntime) -> Result<(), Error> {

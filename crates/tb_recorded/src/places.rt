@@ -13,6 +13,11 @@ pub struct Line {
     misplaced: u64,
 }
 
+/// Says that each place is above the one before.
+fn do_rise(places: &[u64]) -> bool {
+    places.windows(2).all(|pair| pair[0] < pair[1])
+}
+
 impl Line {
     /// A line with no place.
     pub fn new(alloc: Global) -> Line {
@@ -48,11 +53,7 @@ impl Line {
 
     /// One port's requests, in order, at its places, which are to be as many and to rise.
     pub fn add(&mut self, places: &[u64], offered: &[Asked]) -> Result<(), AllocError> {
-        let rise = places
-            .iter()
-            .zip(places.iter().skip(1))
-            .all(|(one, next)| one < next);
-        if !rise || places.len() != offered.len() {
+        if !do_rise(places) || places.len() != offered.len() {
             self.misplaced = self.misplaced.saturating_add(1);
         }
         for (place, asked) in places.iter().zip(offered) {
