@@ -137,10 +137,10 @@ only_flags field.Flags h = refl
 only_flags field.Timestamp h = absurd cc
 
 flags_before_text : (s : Scan) (o : Operation) (f : Field) (n : ℕ) (text : List ℕ) → f ≡ field.Flags → IsEnd text → IsBetween s → SameBits s.operation o → may_stand s (word.Field f) ≡ true → n ≤ field_max f
-    → run s ((field_name f ++ flags_text (flags_of o) 61 (unnamed o n) n) ++ text) ≡ run (at s f (s.given ++ flag_entries o (flags_of o) 61 (unnamed o n) n)) text
+    → run s ((field_name f ++ flags_text o n) ++ text) ≡ run (at s f (s.given ++ flag_entries o (flags_of o) 61 (unnamed o n) n)) text
 flags_before_text s o f n text same h between bits m le =
     subst (λ (g : Field). may_stand s (word.Field g) ≡ true → n ≤ field_max g
-    → run s ((field_name g ++ flags_text (flags_of o) 61 (unnamed o n) n) ++ text) ≡ run (at s g (s.given ++ flag_entries o (flags_of o) 61 (unnamed o n) n)) text)
+    → run s ((field_name g ++ flags_text o n) ++ text) ≡ run (at s g (s.given ++ flag_entries o (flags_of o) 61 (unnamed o n) n)) text)
     (sym same) (λ may most. flags_through s o n text between may bits (omega (arith, most)) h) m le
 
 entry_before : (s : Scan) (o : Operation) (e : Entry) (text : List ℕ) → IsEnd text → IsBetween s → SameBits s.operation o → may_stand s (word.Field e.0) ≡ true → e.1 < 10 ^ 64 → e.1 ≤ field_max e.0
@@ -148,7 +148,7 @@ entry_before : (s : Scan) (o : Operation) (e : Entry) (text : List ℕ) → IsEn
 entry_before s o e text h between bits m small le p = by (same_field e.0 field.Flags) refl
   where
     by : (b : Bool) → same_field e.0 field.Flags ≡ b
-        → run s ((field_name e.0 ++ cond b (flags_text (flags_of o) 61 (unnamed o e.1) e.1) (61 ∷ decimal e.1)) ++ text)
+        → run s ((field_name e.0 ++ cond b (flags_text o e.1) (61 ∷ decimal e.1)) ++ text)
         ≡ run (at s e.0 (s.given ++ cond b (flag_entries o (flags_of o) 61 (unnamed o e.1) e.1) (e ∷ []))) text
     by true is = flags_before_text s o e.0 e.1 text (only_flags e.0 is) h between bits m le
     by false is = number_before s e.0 e.1 text h between m small le p

@@ -1,10 +1,11 @@
 -- Flags that are printed by name are read as what they are, and make their number.
-use Rattle.std.proofs.Common.{◌≡◌, ℕ, suc, ◌+◌, ◌*◌, ◌/◌, ◌%◌, ◌^◌, ◌<◌, Bool, true, false, cond, not, ◌&&◌, ◌==◌, List, [], ◌∷◌, ◌++◌, length, drop, get_or, ◌≢◌, Option, Some, refl, sym, ap, subst, ◌∙◌, append_assoc, arith, lit<, pow-suc}
+use Rattle.std.proofs.Common.{◌≡◌, ℕ, suc, ◌+◌, ◌*◌, ◌/◌, ◌%◌, ◌^◌, ◌<◌, Bool, true, false, cond, not, ◌&&◌, ◌==◌, List, [], ◌∷◌, ◌++◌, length, drop, get_or, ◌≢◌, Option, Some, refl, sym, ap, subst, ◌∙◌, append_assoc, arith, lit<, map, filter, flat_map, pow-suc}
 use Rattle.std.specs.Prelude.{bit_or}
 use Rattle.std.specs.Fmt.{decimal}
 use Rattle.std.proofs.lemmas.Bool.Decides.{nat_tests}
 use Rattle.std.proofs.lemmas.List.{at_drop_more}
 use Rattle.std.proofs.lemmas.Nat.{or_shifted, or_comm}
+use Rattle.std.proofs.Math.Nat.{div-div-eq-div-mul}
 use Rattle.tb_text.specs.declared.words.Field.{Field}
 use Rattle.tb_text.specs.declared.words.Field.TheVariants as field
 use Rattle.tb_text.specs.declared.words.Flag.{Flag}
@@ -17,9 +18,14 @@ use Rattle.tb_text.specs.declared.places.Place.{Place}
 use Rattle.tb_text.specs.declared.places.Place.TheVariants.{Given, Named, Wanted}
 use Rattle.tb_text.specs.Words.{field_name, flag_bit, flag_name, flags_of}
 use Rattle.tb_text.specs.Scan.{Entry, Scan, bit_of, may_stand, run, step, value_from}
-use Rattle.tb_text.specs.Printed.{flags_text, unnamed}
+use Rattle.tb_text.specs.Printed.{barred, flags_text, has_flag, unnamed, with_unnamed}
 use Rattle.tb_text.proofs.Tokens.{IsBetween, IsEnd, at_gap, one_step, word_through}
 use Rattle.tb_text.proofs.Numbers.{number_through}
+
+-- the flags as they are printed one by one: behind a mark each, what has no name behind them
+abbrev pub flags_from : List Flag → ℕ → ℕ → ℕ → List ℕ
+flags_from [] mark rest n = cond (mark == 124 && rest == 0) [] (mark ∷ decimal rest)
+flags_from (f ∷ fs) mark rest n = cond (n % 2 == 0) (flags_from fs mark rest (n / 2)) (mark ∷ flag_name f ++ flags_from fs 124 rest (n / 2))
 
 -- the statement, at a place and with these entries of its event
 abbrev pub placed : Scan → Place → List Entry → Scan
@@ -97,7 +103,7 @@ one_number s start mark n g tail few ready e =
     ∙ ap (run (at s field.Flags (g ++ (field.Flags, n) ∷ []))) (sym e.text_is)))
 
 -- behind a flag there is an end, be it a mark
-more_end : (fs : List Flag) (rest n : ℕ) (text : List ℕ) → IsEnd text → IsEnd (flags_text fs 124 rest n ++ text)
+more_end : (fs : List Flag) (rest n : ℕ) (text : List ℕ) → IsEnd text → IsEnd (flags_from fs 124 rest n ++ text)
 more_end [] rest n text e = by (rest == 0)
   where
     by : (b : Bool) → IsEnd (cond b [] (124 ∷ decimal rest) ++ text)
@@ -105,22 +111,22 @@ more_end [] rest n text e = by (rest == 0)
     by false = record { byte = 124; rest = decimal rest ++ text; text_is = refl; ends = refl }
 more_end (f ∷ fs) rest n text e = by (n % 2 == 0) (more_end fs rest (n / 2) text e)
   where
-    by : (b : Bool) → IsEnd (flags_text fs 124 rest (n / 2) ++ text) → IsEnd (cond b (flags_text fs 124 rest (n / 2)) (124 ∷ flag_name f ++ flags_text fs 124 rest (n / 2)) ++ text)
+    by : (b : Bool) → IsEnd (flags_from fs 124 rest (n / 2) ++ text) → IsEnd (cond b (flags_from fs 124 rest (n / 2)) (124 ∷ flag_name f ++ flags_from fs 124 rest (n / 2)) ++ text)
     by true later = later
-    by false later = record { byte = 124; rest = (flag_name f ++ flags_text fs 124 rest (n / 2)) ++ text; text_is = refl; ends = refl }
+    by false later = record { byte = 124; rest = (flag_name f ++ flags_from fs 124 rest (n / 2)) ++ text; text_is = refl; ends = refl }
 
 -- behind the field's name stands `=`
-first_end : (fs : List Flag) (rest n : ℕ) (text : List ℕ) → IsEnd (flags_text fs 61 rest n ++ text)
+first_end : (fs : List Flag) (rest n : ℕ) (text : List ℕ) → IsEnd (flags_from fs 61 rest n ++ text)
 first_end [] rest n text = record { byte = 61; rest = decimal rest ++ text; text_is = refl; ends = refl }
 first_end (f ∷ fs) rest n text = by (n % 2 == 0) (first_end fs rest (n / 2) text)
   where
-    by : (b : Bool) → IsEnd (flags_text fs 61 rest (n / 2) ++ text) → IsEnd (cond b (flags_text fs 61 rest (n / 2)) (61 ∷ flag_name f ++ flags_text fs 124 rest (n / 2)) ++ text)
+    by : (b : Bool) → IsEnd (flags_from fs 61 rest (n / 2) ++ text) → IsEnd (cond b (flags_from fs 61 rest (n / 2)) (61 ∷ flag_name f ++ flags_from fs 124 rest (n / 2)) ++ text)
     by true later = later
-    by false later = record { byte = 61; rest = (flag_name f ++ flags_text fs 124 rest (n / 2)) ++ text; text_is = refl; ends = refl }
+    by false later = record { byte = 61; rest = (flag_name f ++ flags_from fs 124 rest (n / 2)) ++ text; text_is = refl; ends = refl }
 
 -- flags behind others
 more_through : (fs : List Flag) (s : Scan) (o : Operation) (rest n : ℕ) (g : List Entry) (text : List ℕ) → SameBits s.operation o → HasFlags o fs → rest < 2 ^ 16 → IsEnd text
-    → run (at s field.Flags g) (flags_text fs 124 rest n ++ text) ≡ run (at s field.Flags (g ++ flag_entries o fs 124 rest n)) text
+    → run (at s field.Flags g) (flags_from fs 124 rest n ++ text) ≡ run (at s field.Flags (g ++ flag_entries o fs 124 rest n)) text
 more_through [] s o rest n g text bits flags few e = by (rest == 0)
   where
     by : (b : Bool) → run (at s field.Flags g) (cond b [] (124 ∷ decimal rest) ++ text) ≡ run (at s field.Flags (g ++ cond b [] ((field.Flags, rest) ∷ []))) text
@@ -129,34 +135,34 @@ more_through [] s o rest n g text bits flags few e = by (rest == 0)
 more_through (f ∷ fs) s o rest n g text bits flags few e =
     by (n % 2 == 0) (more_through fs s o rest (n / 2) g text bits flags.1 few e) (more_through fs s o rest (n / 2) (g ++ (field.Flags, flag_bit o f) ∷ []) text bits flags.1 few e)
   where
-    by : (b : Bool) → run (at s field.Flags g) (flags_text fs 124 rest (n / 2) ++ text) ≡ run (at s field.Flags (g ++ flag_entries o fs 124 rest (n / 2))) text
-        → run (at s field.Flags (g ++ (field.Flags, flag_bit o f) ∷ [])) (flags_text fs 124 rest (n / 2) ++ text)
+    by : (b : Bool) → run (at s field.Flags g) (flags_from fs 124 rest (n / 2) ++ text) ≡ run (at s field.Flags (g ++ flag_entries o fs 124 rest (n / 2))) text
+        → run (at s field.Flags (g ++ (field.Flags, flag_bit o f) ∷ [])) (flags_from fs 124 rest (n / 2) ++ text)
         ≡ run (at s field.Flags ((g ++ (field.Flags, flag_bit o f) ∷ []) ++ flag_entries o fs 124 rest (n / 2))) text
-        → run (at s field.Flags g) (cond b (flags_text fs 124 rest (n / 2)) (124 ∷ flag_name f ++ flags_text fs 124 rest (n / 2)) ++ text)
+        → run (at s field.Flags g) (cond b (flags_from fs 124 rest (n / 2)) (124 ∷ flag_name f ++ flags_from fs 124 rest (n / 2)) ++ text)
         ≡ run (at s field.Flags (g ++ cond b (flag_entries o fs 124 rest (n / 2)) ((field.Flags, flag_bit o f) ∷ flag_entries o fs 124 rest (n / 2)))) text
     by true skipped later = skipped
     by false skipped later =
-        ap (λ (t : List ℕ). run (at s field.Flags g) (124 ∷ t)) (append_assoc (flag_name f) (flags_text fs 124 rest (n / 2)) text)
-        ∙ (one_flag s (at s field.Flags g) o 124 g f (flags_text fs 124 rest (n / 2) ++ text) bits flags.0 (at_gap (at s field.Flags g) 124 refl) (more_end fs rest (n / 2) text e)
+        ap (λ (t : List ℕ). run (at s field.Flags g) (124 ∷ t)) (append_assoc (flag_name f) (flags_from fs 124 rest (n / 2)) text)
+        ∙ (one_flag s (at s field.Flags g) o 124 g f (flags_from fs 124 rest (n / 2) ++ text) bits flags.0 (at_gap (at s field.Flags g) 124 refl) (more_end fs rest (n / 2) text e)
         ∙ (later ∙ ap (λ (h : List Entry). run (at s field.Flags h) text) (append_assoc g ((field.Flags, flag_bit o f) ∷ []) (flag_entries o fs 124 rest (n / 2)))))
 
 -- flags behind the field's name
 first_through : (fs : List Flag) (s : Scan) (o : Operation) (rest n : ℕ) (g : List Entry) (text : List ℕ) → SameBits s.operation o → HasFlags o fs → rest < 2 ^ 16 → IsEnd text
-    → run (placed s (Named field.Flags) g) (flags_text fs 61 rest n ++ text) ≡ run (at s field.Flags (g ++ flag_entries o fs 61 rest n)) text
+    → run (placed s (Named field.Flags) g) (flags_from fs 61 rest n ++ text) ≡ run (at s field.Flags (g ++ flag_entries o fs 61 rest n)) text
 first_through [] s o rest n g text bits flags few e =
     one_number s (placed s (Named field.Flags) g) 61 rest g text few (at_gap (placed s (Named field.Flags) g) 61 refl) e
 first_through (f ∷ fs) s o rest n g text bits flags few e =
     by (n % 2 == 0) (first_through fs s o rest (n / 2) g text bits flags.1 few e) (more_through fs s o rest (n / 2) (g ++ (field.Flags, flag_bit o f) ∷ []) text bits flags.1 few e)
   where
-    by : (b : Bool) → run (placed s (Named field.Flags) g) (flags_text fs 61 rest (n / 2) ++ text) ≡ run (at s field.Flags (g ++ flag_entries o fs 61 rest (n / 2))) text
-        → run (at s field.Flags (g ++ (field.Flags, flag_bit o f) ∷ [])) (flags_text fs 124 rest (n / 2) ++ text)
+    by : (b : Bool) → run (placed s (Named field.Flags) g) (flags_from fs 61 rest (n / 2) ++ text) ≡ run (at s field.Flags (g ++ flag_entries o fs 61 rest (n / 2))) text
+        → run (at s field.Flags (g ++ (field.Flags, flag_bit o f) ∷ [])) (flags_from fs 124 rest (n / 2) ++ text)
         ≡ run (at s field.Flags ((g ++ (field.Flags, flag_bit o f) ∷ []) ++ flag_entries o fs 124 rest (n / 2))) text
-        → run (placed s (Named field.Flags) g) (cond b (flags_text fs 61 rest (n / 2)) (61 ∷ flag_name f ++ flags_text fs 124 rest (n / 2)) ++ text)
+        → run (placed s (Named field.Flags) g) (cond b (flags_from fs 61 rest (n / 2)) (61 ∷ flag_name f ++ flags_from fs 124 rest (n / 2)) ++ text)
         ≡ run (at s field.Flags (g ++ cond b (flag_entries o fs 61 rest (n / 2)) ((field.Flags, flag_bit o f) ∷ flag_entries o fs 124 rest (n / 2)))) text
     by true skipped later = skipped
     by false skipped later =
-        ap (λ (t : List ℕ). run (placed s (Named field.Flags) g) (61 ∷ t)) (append_assoc (flag_name f) (flags_text fs 124 rest (n / 2)) text)
-        ∙ (one_flag s (placed s (Named field.Flags) g) o 61 g f (flags_text fs 124 rest (n / 2) ++ text) bits flags.0 (at_gap (placed s (Named field.Flags) g) 61 refl) (more_end fs rest (n / 2) text e)
+        ap (λ (t : List ℕ). run (placed s (Named field.Flags) g) (61 ∷ t)) (append_assoc (flag_name f) (flags_from fs 124 rest (n / 2)) text)
+        ∙ (one_flag s (placed s (Named field.Flags) g) o 61 g f (flags_from fs 124 rest (n / 2) ++ text) bits flags.0 (at_gap (placed s (Named field.Flags) g) 61 refl) (more_end fs rest (n / 2) text e)
         ∙ (later ∙ ap (λ (h : List Entry). run (at s field.Flags h) text) (append_assoc g ((field.Flags, flag_bit o f) ∷ []) (flag_entries o fs 124 rest (n / 2)))))
 
 unnamed_most : (o : Operation) (n : ℕ) → n < 2 ^ 16 → unnamed o n < 2 ^ 16
@@ -167,11 +173,11 @@ unnamed_most LookupAccounts n h = omega arith
 unnamed_most LookupTransfers n h = omega arith
 
 -- the field, and the flags
-pub flags_through : (s : Scan) (o : Operation) (n : ℕ) (text : List ℕ) → IsBetween s → may_stand s (word.Field field.Flags) ≡ true → SameBits s.operation o → n < 2 ^ 16 → IsEnd text
-    → run s ((field_name field.Flags ++ flags_text (flags_of o) 61 (unnamed o n) n) ++ text) ≡ run (at s field.Flags (s.given ++ flag_entries o (flags_of o) 61 (unnamed o n) n)) text
-flags_through s o n text b may bits few e =
+flags_from_through : (s : Scan) (o : Operation) (n : ℕ) (text : List ℕ) → IsBetween s → may_stand s (word.Field field.Flags) ≡ true → SameBits s.operation o → n < 2 ^ 16 → IsEnd text
+    → run s ((field_name field.Flags ++ flags_from (flags_of o) 61 (unnamed o n) n) ++ text) ≡ run (at s field.Flags (s.given ++ flag_entries o (flags_of o) 61 (unnamed o n) n)) text
+flags_from_through s o n text b may bits few e =
     let next = first_end (flags_of o) (unnamed o n) n text in
-    ap (run s) (append_assoc (field_name field.Flags) (flags_text (flags_of o) 61 (unnamed o n) n) text)
+    ap (run s) (append_assoc (field_name field.Flags) (flags_from (flags_of o) 61 (unnamed o n) n) text)
     ∙ (ap (λ (t : List ℕ). run s (field_name field.Flags ++ t)) next.text_is
     ∙ (word_through s (word.Field field.Flags) next.byte next.rest b may next.ends
     ∙ (ap (run (placed s (Named field.Flags) s.given)) (sym next.text_is)
@@ -190,6 +196,58 @@ has_bits CreateAccounts = (refl, (refl, (refl, (refl, (refl, (refl, tt))))))
 has_bits CreateTransfers = (refl, (refl, (refl, (refl, (refl, (refl, (refl, (refl, (refl, tt)))))))))
 has_bits LookupAccounts = tt
 has_bits LookupTransfers = tt
+
+-- the names of flags are what is printed flag by flag
+
+halved : (n k : ℕ) → n / 2 ^ k / 2 ≡ n / 2 ^ (k + 1)
+halved n k =
+    let next : k + 1 ≡ suc k = omega arith in
+    let twice : 2 ^ (k + 1) ≡ 2 ^ k * 2 = ap (λ (m : ℕ). 2 ^ m) next ∙ pow-suc 2 k in
+    div-div-eq-div-mul n (2 ^ k) 2 ∙ ap (λ (p : ℕ). n / p) (sym twice)
+
+-- behind other names
+names_behind : (fs : List Flag) (o : Operation) (k n rest : ℕ) → HasBits o k fs
+    → flags_from fs 124 rest (n / 2 ^ k) ≡ flat_map (λ (t : List ℕ). 124 ∷ t) (map flag_name (filter (has_flag o n) fs) ++ cond (rest == 0) [] (decimal rest ∷ []))
+names_behind [] o k n rest bits = by (rest == 0)
+  where
+    by : (b : Bool) → cond b [] (124 ∷ decimal rest) ≡ flat_map (λ (t : List ℕ). 124 ∷ t) (cond b [] (decimal rest ∷ []))
+    by true = refl
+    by false = ap (λ (ds : List ℕ). 124 ∷ ds) (sym (append_nil (decimal rest)))
+names_behind (f ∷ fs) o k n rest bits =
+    by (n / 2 ^ k % 2 == 0) (ap (λ (m : ℕ). flags_from fs 124 rest m) (halved n k) ∙ names_behind fs o (k + 1) n rest bits.1)
+    ∙ ap (λ (bit : ℕ). flat_map (λ (t : List ℕ). 124 ∷ t) (map flag_name (cond (not (n / bit % 2 == 0)) (f ∷ filter (has_flag o n) fs) (filter (has_flag o n) fs)) ++ cond (rest == 0) [] (decimal rest ∷ []))) (sym bits.0)
+  where
+    by : (b : Bool) → flags_from fs 124 rest (n / 2 ^ k / 2) ≡ flat_map (λ (t : List ℕ). 124 ∷ t) (map flag_name (filter (has_flag o n) fs) ++ cond (rest == 0) [] (decimal rest ∷ []))
+        → cond b (flags_from fs 124 rest (n / 2 ^ k / 2)) (124 ∷ flag_name f ++ flags_from fs 124 rest (n / 2 ^ k / 2))
+        ≡ flat_map (λ (t : List ℕ). 124 ∷ t) (map flag_name (cond (not b) (f ∷ filter (has_flag o n) fs) (filter (has_flag o n) fs)) ++ cond (rest == 0) [] (decimal rest ∷ []))
+    by true later = later
+    by false later = ap (λ (t : List ℕ). 124 ∷ flag_name f ++ t) later
+
+-- behind `=`
+names_first : (fs : List Flag) (o : Operation) (k n rest : ℕ) → HasBits o k fs → flags_from fs 61 rest (n / 2 ^ k) ≡ 61 ∷ barred (with_unnamed (map flag_name (filter (has_flag o n) fs)) rest)
+names_first [] o k n rest bits = ap (λ (ds : List ℕ). 61 ∷ ds) (sym (append_nil (decimal rest)))
+names_first (f ∷ fs) o k n rest bits =
+    by (n / 2 ^ k % 2 == 0) (ap (λ (m : ℕ). flags_from fs 61 rest m) (halved n k) ∙ names_first fs o (k + 1) n rest bits.1)
+    (ap (λ (m : ℕ). flags_from fs 124 rest m) (halved n k) ∙ names_behind fs o (k + 1) n rest bits.1)
+    ∙ ap (λ (bit : ℕ). 61 ∷ barred (with_unnamed (map flag_name (cond (not (n / bit % 2 == 0)) (f ∷ filter (has_flag o n) fs) (filter (has_flag o n) fs))) rest)) (sym bits.0)
+  where
+    by : (b : Bool) → flags_from fs 61 rest (n / 2 ^ k / 2) ≡ 61 ∷ barred (with_unnamed (map flag_name (filter (has_flag o n) fs)) rest)
+        → flags_from fs 124 rest (n / 2 ^ k / 2) ≡ flat_map (λ (t : List ℕ). 124 ∷ t) (map flag_name (filter (has_flag o n) fs) ++ cond (rest == 0) [] (decimal rest ∷ []))
+        → cond b (flags_from fs 61 rest (n / 2 ^ k / 2)) (61 ∷ flag_name f ++ flags_from fs 124 rest (n / 2 ^ k / 2))
+        ≡ 61 ∷ barred (with_unnamed (map flag_name (cond (not b) (f ∷ filter (has_flag o n) fs) (filter (has_flag o n) fs))) rest)
+    by true skipped later = skipped
+    by false skipped later = ap (λ (t : List ℕ). 61 ∷ flag_name f ++ t) later
+
+pub flags_printed : (o : Operation) (n : ℕ) → flags_text o n ≡ flags_from (flags_of o) 61 (unnamed o n) n
+unfolding flags_text
+flags_printed o n =
+    let one : n / 2 ^ 0 ≡ n = omega arith in
+    sym (names_first (flags_of o) o 0 n (unnamed o n) (has_bits o)) ∙ ap (λ (m : ℕ). flags_from (flags_of o) 61 (unnamed o n) m) one
+
+pub flags_through : (s : Scan) (o : Operation) (n : ℕ) (text : List ℕ) → IsBetween s → may_stand s (word.Field field.Flags) ≡ true → SameBits s.operation o → n < 2 ^ 16 → IsEnd text
+    → run s ((field_name field.Flags ++ flags_text o n) ++ text) ≡ run (at s field.Flags (s.given ++ flag_entries o (flags_of o) 61 (unnamed o n) n)) text
+flags_through s o n text b may bits few e =
+    ap (λ (t : List ℕ). run s ((field_name field.Flags ++ t) ++ text)) (flags_printed o n) ∙ flags_from_through s o n text b may bits few e
 
 -- what is left behind these flags
 abbrev IsLeft : List Flag → ℕ → ℕ → ℕ → Type 0
@@ -265,18 +323,18 @@ flags_make o n =
 
 -- printing, flag by flag
 
-pub flag_skipped : (fs : List Flag) (i mark rest n : ℕ) → i < length fs → n % 2 ≡ 0 → flags_text (drop i fs) mark rest n ≡ flags_text (drop (i + 1) fs) mark rest (n / 2)
+pub flag_skipped : (fs : List Flag) (i mark rest n : ℕ) → i < length fs → n % 2 ≡ 0 → flags_from (drop i fs) mark rest n ≡ flags_from (drop (i + 1) fs) mark rest (n / 2)
 flag_skipped fs i mark rest n below even =
     let zero : (n % 2 == 0) ≡ true = ap (λ (r : ℕ). r == 0) even in
-    at_drop_more (λ (gs : List Flag). flags_text gs mark rest n) fs i flag.Linked below
-    ∙ ap (λ (b : Bool). cond b (flags_text (drop (i + 1) fs) mark rest (n / 2)) (mark ∷ flag_name (get_or fs i flag.Linked) ++ flags_text (drop (i + 1) fs) 124 rest (n / 2))) zero
+    at_drop_more (λ (gs : List Flag). flags_from gs mark rest n) fs i flag.Linked below
+    ∙ ap (λ (b : Bool). cond b (flags_from (drop (i + 1) fs) mark rest (n / 2)) (mark ∷ flag_name (get_or fs i flag.Linked) ++ flags_from (drop (i + 1) fs) 124 rest (n / 2))) zero
 
 pub flag_printed : (fs : List Flag) (i mark rest n : ℕ) (d : Flag) → i < length fs → n % 2 ≢ 0
-    → flags_text (drop i fs) mark rest n ≡ (mark ∷ flag_name (get_or fs i d)) ++ flags_text (drop (i + 1) fs) 124 rest (n / 2)
+    → flags_from (drop i fs) mark rest n ≡ (mark ∷ flag_name (get_or fs i d)) ++ flags_from (drop (i + 1) fs) 124 rest (n / 2)
 flag_printed fs i mark rest n d below odd =
     let other : (n % 2 == 0) ≡ false = apart (n % 2) odd in
-    at_drop_more (λ (gs : List Flag). flags_text gs mark rest n) fs i d below
-    ∙ ap (λ (b : Bool). cond b (flags_text (drop (i + 1) fs) mark rest (n / 2)) (mark ∷ flag_name (get_or fs i d) ++ flags_text (drop (i + 1) fs) 124 rest (n / 2))) other
+    at_drop_more (λ (gs : List Flag). flags_from gs mark rest n) fs i d below
+    ∙ ap (λ (b : Bool). cond b (flags_from (drop (i + 1) fs) mark rest (n / 2)) (mark ∷ flag_name (get_or fs i d) ++ flags_from (drop (i + 1) fs) 124 rest (n / 2))) other
   where
     apart : (r : ℕ) → r ≢ 0 → (r == 0) ≡ false
     apart r h = grind (arith, nat_tests)

@@ -1,6 +1,6 @@
 -- The one text of requests: a statement a line, the fields in the order of the records, those that are 0 left out but for
 -- an event's id and the moment, flags by name, numbers decimal.
-use Rattle.std.specs.Prelude.{ℕ, ◌==◌, ◌&&◌, ◌*◌, ◌/◌, ◌%◌, ◌^◌, List, [], ◌∷◌, ◌++◌, length, flat_map, if◌then◌else◌, codes}
+use Rattle.std.specs.Prelude.{ℕ, Bool, not, ◌==◌, ◌*◌, ◌/◌, ◌%◌, ◌^◌, List, [], ◌∷◌, ◌++◌, length, map, filter, flat_map, if◌then◌else◌, codes}
 use Rattle.std.specs.Fmt.{decimal}
 use Rattle.tb_records.specs.Messages.{Message}
 use Rattle.tb_records.specs.declared.bodies.Body.{Body}
@@ -11,25 +11,39 @@ use Rattle.tb_text.specs.declared.words.Field.TheVariants as field
 use Rattle.tb_text.specs.declared.words.Flag.{Flag}
 use Rattle.tb_text.specs.declared.words.Operation.{Operation}
 use Rattle.tb_text.specs.declared.words.Operation.TheVariants.{Register, CreateAccounts, CreateTransfers}
-use Rattle.tb_text.specs.Words.{field_name, same_field, flags_of, flag_name}
+use Rattle.tb_text.specs.Words.{field_name, same_field, flags_of, flag_bit, flag_name}
 use Rattle.tb_text.specs.Scan.{Entry}
 
 -- what is left of a number of flags without those bits that have a name
 abbrev pub unnamed : Operation → ℕ → ℕ
 unnamed o n = n / 2 ^ length (flags_of o) * 2 ^ length (flags_of o)
 
--- The names of the flags that a number has, from its lowest bit on, and what has no name as a number: `=` or `|` before the
--- first, `|` before each further one.
-abbrev pub flags_text : List Flag → ℕ → ℕ → ℕ → List ℕ
-flags_text [] mark rest n = if mark == 124 && rest == 0 then [] else mark ∷ decimal rest
-flags_text (f ∷ fs) mark rest n =
-    if n % 2 == 0 then flags_text fs mark rest (n / 2)
-    else mark ∷ flag_name f ++ flags_text fs 124 rest (n / 2)
+-- the number has the flag's bit
+abbrev pub has_flag : Operation → ℕ → Flag → Bool
+has_flag o n f = not (n / flag_bit o f % 2 == 0)
+
+-- the names of the flags that a number has, in the order of their bits
+abbrev pub flag_names : Operation → ℕ → List (List ℕ)
+flag_names o n = map flag_name (filter (has_flag o n) (flags_of o))
+
+-- behind them what has no name, as one number: where there is some, and where there are no names
+abbrev pub with_unnamed : List (List ℕ) → ℕ → List (List ℕ)
+with_unnamed [] rest = decimal rest ∷ []
+with_unnamed (name ∷ names) rest = name ∷ names ++ (if rest == 0 then [] else decimal rest ∷ [])
+
+-- texts with `|` between them
+abbrev pub barred : List (List ℕ) → List ℕ
+barred [] = []
+barred (text ∷ texts) = text ++ flat_map (λ next. 124 ∷ next) texts
+
+-- the flags of an operation's events: `=`, and the names with what has none
+unfoldable pub flags_text : Operation → ℕ → List ℕ
+flags_text o n = 61 ∷ barred (with_unnamed (flag_names o n) (unnamed o n))
 
 -- what stands behind a field's name: `=` and the flags of the operation's events, or a number
 abbrev pub value_text : Operation → Entry → List ℕ
 value_text o e =
-    if same_field e.0 field.Flags then flags_text (flags_of o) 61 (unnamed o e.1) e.1
+    if same_field e.0 field.Flags then flags_text o e.1
     else 61 ∷ decimal e.1
 
 abbrev pub entry_text : Operation → Entry → List ℕ

@@ -5,7 +5,7 @@ ghost use Rattle.tb_records.specs.Frames.{BodyFits, IsId};
 ghost use Rattle.tb_records.specs.Inputs.{IsTimed};
 ghost use Rattle.tb_records.specs.RecordBytes.{IsAccount, IsTransfer};
 ghost use Rattle.tb_text.specs.Printed.{entry_text, flags_text, value_text, unnamed, further_text, entries_text, header_entries, account_entries, transfer_entries, account_text, transfer_text, id_text, more_text, items_text, body_text, statement_text, printed};
-ghost use Rattle.tb_text.specs.Words.{flag_name, flags_of, operation_name};
+ghost use Rattle.tb_text.specs.Words.{flag_name, operation_name};
 
 use crate::words::{Field, Flag, Operation};
 use std::alloc::{AllocError, Global};
@@ -47,9 +47,7 @@ fn put_flags(
     operation: Operation,
     number: u128,
 ) -> Result<(), AllocError>
-    ensures { OnOk result
-        (out.new.items
-        ≡ out.old.items ++ flags_text (flags_of operation) 61 (unnamed operation number) number) }
+    ensures { OnOk result (out.new.items ≡ out.old.items ++ flags_text operation number) }
 {
     let mut mark = b'=';
     let mut bits = number;

@@ -1,8 +1,9 @@
 //! What holds of every text of statements.
-ghost use Rattle.std.specs.Prelude.{◌≡◌, ◌<◌, ◌+◌, ◌++◌, All, List, Option, ℕ, length, take};
+ghost use Rattle.std.specs.Prelude.{◌≡◌, ◌<◌, ◌+◌, ◌++◌, All, List, Option, ℕ, codes, length, take};
 ghost use Rattle.tb_records.specs.Inputs.{IsTimed};
 ghost use Rattle.tb_records.specs.Messages.{Message};
-ghost use Rattle.tb_text.specs.Printed.{printed};
+ghost use Rattle.tb_text.specs.declared.words.Operation.TheVariants.{CreateAccounts, CreateTransfers};
+ghost use Rattle.tb_text.specs.Printed.{flags_text, printed};
 ghost use Rattle.tb_text.specs.Steps.{BeginsUpTo, Means, Reads, StandFirst, Stops};
 
 /// What is printed of requests and their moments is a text that means them.
@@ -45,4 +46,14 @@ pub fn no_meaning()
     ensures { (text : List ℕ) (pairs others : List (ℕ × Message)) (place : ℕ) → Stops text pairs place
         → Means text others
         → ⊥ }
+{}
+
+/// Flags as they are printed: by name in the order of their bits, what has no name behind them as one number, and a
+/// number alone where there is no name.
+#[tactic(auto, unfolding(crate::specs::Printed::flags_text))]
+pub fn worked_flags()
+    ensures named { flags_text CreateTransfers 259 ≡ codes "=linked|pending|imported" }
+    ensures beside { flags_text CreateAccounts 72 ≡ codes "=history|64" }
+    ensures unnamed { flags_text CreateAccounts 192 ≡ codes "=192" }
+    ensures zero { flags_text CreateTransfers 0 ≡ codes "=0" }
 {}
