@@ -7,10 +7,11 @@ use Rattle.tb_records.specs.declared.records.Account.{Account}
 use Rattle.tb_records.specs.declared.records.Transfer.{Transfer}
 use Rattle.tb_records.specs.Ordered.{Each}
 use Rattle.tb_records.proofs.ByKey.{found_key}
-use Rattle.tb_ledger.specs.declared.tables.rows.State.{State}
-use Rattle.tb_ledger.specs.declared.tables.rows.State.TheVariants.{Open, Posted, Voided, Expired}
+use Rattle.tb_ledger.specs.declared.tables.transfers.State.{State}
+use Rattle.tb_ledger.specs.declared.tables.transfers.State.TheVariants.{Open, Posted, Voided, Expired}
 use Rattle.tb_ledger.specs.Books.{Books, has, closed, debits_limited, credits_limited, pending, resolves, is_open, is_posted, is_voided, is_expired, state_of, stands_closed, account_at, account_now, as_it_stands, transfer_at, debits_pending, debits_posted, credits_pending, credits_posted}
 use Rattle.tb_ledger.specs.Verdicts.{Line, first_of, first_code, is_not, int_max, max_time, account_own_lines, account_exists_lines, account_new_lines, account_verdict, transfer_own_lines, transfer_exists_lines, failed_lines, transfer_verdict, filled, filled_amount, filled_from, given_or, differs, id_code, resolve_own_lines, named_lines, closed_lines, closed_at, named_code, resolve_code, single_own_lines, pair_lines, pair_code, amount_lines, single_code, balanced_amount, balanced_between}
+use Rattle.tb_ledger.specs.Kept.{blank}
 use Rattle.tb_ledger.proofs.FoundPairs.{FoundPair}
 use Rattle.tb_ledger.specs.Found.{FoundPending}
 
@@ -67,6 +68,19 @@ new_account B a ok = by (account_at B a.id) (none_fails (first_of (account_own_l
     by : (o : Option Account) → first_of (account_exists_lines (option_map (as_it_stands B) o) a) ≡ 0 → o ≡ None
     by None is = refl
     by (Some e) is = let lines = fail (account_exists_lines (Some (as_it_stands B e)) a) refl is in let there : true ≡ false = lines.1.1.1.1.1.1.0 in absurd (cc)
+
+-- an accepted account has no sums yet, and nothing is reserved
+pub plain_account : (B : Books) (a : Account) → account_verdict B a ≡ 0 → a ≡ blank a
+plain_account B a ok =
+    let groups = none_fails (first_of (account_own_lines a) ∷ first_of (account_exists_lines (account_now B a.id) a) ∷ first_of (account_new_lines a) ∷ []) ok in
+    let own = fail (account_own_lines a) refl groups.0 in
+    let new = fail (account_new_lines a) refl groups.1.1.0 in
+    let reserved = same_numbers a.reserved 0 own.1.0 in
+    let debits_pending = same_numbers a.debits_pending 0 new.1.0 in
+    let debits_posted = same_numbers a.debits_posted 0 new.1.1.0 in
+    let credits_pending = same_numbers a.credits_pending 0 new.1.1.1.0 in
+    let credits_posted = same_numbers a.credits_posted 0 new.1.1.1.1.0 in
+    λ i. record a { debits_pending = debits_pending i; debits_posted = debits_posted i; credits_pending = credits_pending i; credits_posted = credits_posted i; reserved = reserved i }
 
 -- a transfer's groups, where it is accepted: what either kind is asked first, and what its own kind is
 id_passes : (B : Books) (t : Transfer) (time : ℕ) → transfer_verdict B t time ≡ 0 → id_code B t ≡ 0

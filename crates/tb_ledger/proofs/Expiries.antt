@@ -3,10 +3,10 @@ use Rattle.std.proofs.Common.{◌≡◌, ◌≢◌, ℕ, ◌≤◌, Bool, true, 
 use Rattle.tb_records.specs.declared.records.Transfer.{Transfer}
 use Rattle.tb_records.specs.Ordered.{replaced, changed, Each, Rising}
 use Rattle.tb_records.proofs.ByKey.{each-map, each-both, each-find, each-replaced_all, find-map, map-replaced, map-changed, rising-changed}
-use Rattle.tb_ledger.specs.declared.tables.rows.State.{State}
-use Rattle.tb_ledger.specs.declared.tables.rows.State.TheVariants.{Posted, Voided, Expired}
-use Rattle.tb_ledger.specs.declared.tables.rows.AccountRow.{AccountRow}
-use Rattle.tb_ledger.specs.declared.tables.rows.TransferRow.{TransferRow}
+use Rattle.tb_ledger.specs.declared.tables.transfers.State.{State}
+use Rattle.tb_ledger.specs.declared.tables.transfers.State.TheVariants.{Posted, Voided, Expired}
+use Rattle.tb_ledger.specs.declared.tables.accounts.AccountRow.{AccountRow}
+use Rattle.tb_ledger.specs.declared.tables.transfers.TransferRow.{TransferRow}
 use Rattle.tb_ledger.specs.declared.tables.timeouts.Timeout.{Timeout}
 use Rattle.tb_ledger.specs.Books.{Books, posts, pending, resolves, is_open, is_due, state_by, closing_debit, closing_credit, debit, credit}
 use Rattle.tb_ledger.specs.Sound.{ledger_at, Sound}

@@ -3,8 +3,8 @@ use Rattle.std.proofs.Common.{◌≡◌, ◌≢◌, ℕ, ◌+◌, ◌-◌, ◌<�
 use Rattle.std.proofs.lemmas.Bool.Decides.{nat_tests}
 use Rattle.tb_records.specs.Ordered.{put, replaced, taken_out, Each, Rising}
 use Rattle.tb_records.proofs.ByKey.{each-map, each-both, each-find, each-put, each-replaced, each-all, none-found, find-put_here, find-put_other, find-replaced_other, taken_out-put, rising-taken_out, each-taken_out}
-use Rattle.tb_ledger.specs.declared.tables.rows.State.{State}
-use Rattle.tb_ledger.specs.declared.tables.rows.TransferRow.{TransferRow}
+use Rattle.tb_ledger.specs.declared.tables.transfers.State.{State}
+use Rattle.tb_ledger.specs.declared.tables.transfers.TransferRow.{TransferRow}
 use Rattle.tb_ledger.specs.declared.tables.timeouts.Timeout.{Timeout}
 use Rattle.tb_ledger.specs.Books.{pending, is_open, expires_at}
 use Rattle.tb_ledger.specs.Verdicts.{int_max}

@@ -5,10 +5,10 @@ use Rattle.tb_records.specs.declared.records.Transfer.{Transfer}
 use Rattle.std.proofs.lemmas.List.Sums.{sum_by-cons}
 use Rattle.tb_records.specs.Ordered.{put, replaced, Each}
 use Rattle.tb_records.proofs.ByKey.{sum_by-put, sum_by-replaced}
-use Rattle.tb_ledger.specs.declared.tables.rows.State.{State}
-use Rattle.tb_ledger.specs.declared.tables.rows.State.TheVariants.{Open}
-use Rattle.tb_ledger.specs.declared.tables.rows.Side.{Side}
-use Rattle.tb_ledger.specs.declared.tables.rows.TransferRow.{TransferRow}
+use Rattle.tb_ledger.specs.declared.tables.transfers.State.{State}
+use Rattle.tb_ledger.specs.declared.tables.transfers.State.TheVariants.{Open}
+use Rattle.tb_ledger.specs.declared.tables.accounts.Side.{Side}
+use Rattle.tb_ledger.specs.declared.tables.transfers.TransferRow.{TransferRow}
 use Rattle.tb_ledger.specs.Books.{pending, voids, moves, is_open}
 use Rattle.tb_ledger.specs.Kept.{transfer_row_key, row_holds, bit, pending_share, posted_share, closing_share, HasSide, gained, released, settled, Takes, new_side}
 

@@ -2,8 +2,8 @@
 use Rattle.std.proofs.Common.{◌≡◌, ℕ, ◌==◌, Bool, List, find, Option, Some, None, option_map, refl, sym, ap, ◌∙◌}
 use Rattle.tb_records.specs.declared.records.Account.{Account}
 use Rattle.tb_records.proofs.ByKey.{find-map, each-find}
-use Rattle.tb_ledger.specs.declared.tables.rows.AccountRow.{AccountRow}
-use Rattle.tb_ledger.specs.declared.tables.rows.TransferRow.{TransferRow}
+use Rattle.tb_ledger.specs.declared.tables.accounts.AccountRow.{AccountRow}
+use Rattle.tb_ledger.specs.declared.tables.transfers.TransferRow.{TransferRow}
 use Rattle.tb_ledger.specs.declared.tables.timeouts.Timeout.{Timeout}
 use Rattle.tb_ledger.specs.Books.{Books, account_now, as_it_stands, transfer_at}
 use Rattle.tb_ledger.specs.Kept.{books_of, row_now, HasSums, IsLedger}

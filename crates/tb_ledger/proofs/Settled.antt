@@ -5,10 +5,10 @@ use Rattle.tb_records.specs.declared.records.Account.{Account}
 use Rattle.tb_records.specs.declared.records.Transfer.{Transfer}
 use Rattle.tb_records.specs.Ordered.{put, replaced, changed, Each, Rising}
 use Rattle.tb_records.proofs.ByKey.{found_key, changed_found, find-changed, find-map, each-back, each-map, each-put, each-find, map-put, map-changed, map-replaced}
-use Rattle.tb_ledger.specs.declared.tables.rows.AccountRow.{AccountRow}
-use Rattle.tb_ledger.specs.declared.tables.rows.TransferRow.{TransferRow}
+use Rattle.tb_ledger.specs.declared.tables.accounts.AccountRow.{AccountRow}
+use Rattle.tb_ledger.specs.declared.tables.transfers.TransferRow.{TransferRow}
 use Rattle.tb_ledger.specs.declared.tables.timeouts.Timeout.{Timeout}
-use Rattle.tb_ledger.specs.declared.tables.rows.State.TheVariants.{Posted, Voided}
+use Rattle.tb_ledger.specs.declared.tables.transfers.State.TheVariants.{Posted, Voided}
 use Rattle.tb_ledger.specs.Books.{Books, posts, resolves, holds, is_open, account_at, transfer_at, closing_debit, closing_credit, debit, credit}
 use Rattle.tb_ledger.specs.Verdicts.{int_max}
 use Rattle.tb_ledger.specs.Timeouts.{AreTimeouts}

@@ -7,7 +7,7 @@ use Rattle.tb_records.specs.declared.records.Account.{Account}
 use Rattle.tb_records.specs.declared.records.Transfer.{Transfer}
 use Rattle.tb_records.specs.Ordered.{put, Each}
 use Rattle.tb_records.proofs.ByKey.{sum_by-put, find-put_other, find-put_none, found_key, each-put, each-map, each-find}
-use Rattle.tb_ledger.specs.declared.tables.rows.State.TheVariants.{Posted, Voided}
+use Rattle.tb_ledger.specs.declared.tables.transfers.State.TheVariants.{Posted, Voided}
 use Rattle.tb_ledger.specs.Books.{Books, pending, posts, voids, resolves, resolver, expires_at, is_due, state_by, state_of, is_open, holds, moves, account_at, transfer_at, pending_on, posted_on}
 use Rattle.tb_ledger.specs.Verdicts.{int_max}
 use Rattle.tb_ledger.specs.Sound.{account_key, transfer_key, ledger_at, SideKept}

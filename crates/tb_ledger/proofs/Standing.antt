@@ -5,8 +5,8 @@ use Rattle.std.proofs.lemmas.List.Sums.{sum_by-cons}
 use Rattle.tb_records.specs.declared.records.Transfer.{Transfer}
 use Rattle.tb_records.specs.Ordered.{Each}
 use Rattle.tb_records.proofs.ByKey.{sum_by-same, sum_by-through, find-map, found_key, each-map, each-find}
-use Rattle.tb_ledger.specs.declared.tables.rows.AccountRow.{AccountRow}
-use Rattle.tb_ledger.specs.declared.tables.rows.TransferRow.{TransferRow}
+use Rattle.tb_ledger.specs.declared.tables.accounts.AccountRow.{AccountRow}
+use Rattle.tb_ledger.specs.declared.tables.transfers.TransferRow.{TransferRow}
 use Rattle.tb_ledger.specs.Books.{Books, closed, pending, moves, is_open, holds, state_of, closing_debit, closing_credit, stands_closed, as_it_stands, account_at, account_now, debit, credit, pending_on, posted_on}
 use Rattle.tb_ledger.specs.Kept.{account_row_key, books_of, row_closed, row_now, row_holds, bit, pending_share, posted_share, closing_share, HasSums, HasState, Takes}
 use Rattle.tb_ledger.proofs.FoundPairs.{FoundPair}

@@ -2,8 +2,8 @@
 use Rattle.std.proofs.Common.{◌≡◌, ◌==◌, ◌+◌, ◌≤◌, Bool, true, false, ℕ, List, length, length-append, append_assoc, [], ◌∷◌, ◌++◌, find, Some, None, refl, sym, subst, ap, ◌∙◌, if◌then◌else◌, arith}
 use Rattle.tb_records.specs.Ordered.{put, replaced, taken_out}
 use Rattle.tb_records.proofs.ByKey.{replaced-replaced, taken_out-put}
-use Rattle.tb_ledger.specs.declared.tables.rows.AccountRow.{AccountRow}
-use Rattle.tb_ledger.specs.declared.tables.rows.TransferRow.{TransferRow}
+use Rattle.tb_ledger.specs.declared.tables.accounts.AccountRow.{AccountRow}
+use Rattle.tb_ledger.specs.declared.tables.transfers.TransferRow.{TransferRow}
 use Rattle.tb_ledger.specs.declared.tables.timeouts.Timeout.{Timeout}
 use Rattle.tb_ledger.specs.declared.tables.trail.Undo.{Undo}
 use Rattle.tb_ledger.specs.declared.tables.trail.Undo.TheVariants.{Transfer, AddedAccount, AddedTransfer}

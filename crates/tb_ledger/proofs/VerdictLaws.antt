@@ -10,11 +10,11 @@ use Rattle.tb_ledger.specs.Verdicts.{recorded_transfer, Line, closed_lines, clos
 use Rattle.tb_ledger.specs.declared.tables.rows.Rows.{Rows}
 use Rattle.tb_ledger.specs.Kept.{books_in, IsKept, row_now, row_closed, HasSums, HasState}
 use Rattle.tb_records.proofs.ByKey.{find-map, each-find}
-use Rattle.tb_ledger.specs.declared.tables.rows.AccountRow.{AccountRow}
+use Rattle.tb_ledger.specs.declared.tables.accounts.AccountRow.{AccountRow}
 use Rattle.tb_ledger.proofs.Standing.{row_stands}
 use Rattle.std.proofs.lemmas.Nat.{and_or_self}
-use Rattle.tb_ledger.specs.declared.tables.rows.State.{State}
-use Rattle.tb_ledger.specs.declared.tables.rows.TransferRow.{TransferRow}
+use Rattle.tb_ledger.specs.declared.tables.transfers.State.{State}
+use Rattle.tb_ledger.specs.declared.tables.transfers.TransferRow.{TransferRow}
 use Rattle.tb_ledger.proofs.Accepted.{fail, found_from, found_pair, found_pending, found_stamped}
 use Rattle.tb_records.specs.Ordered.{Each}
 use Rattle.tb_ledger.specs.Sound.{ledger_at}

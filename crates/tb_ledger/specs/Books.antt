@@ -6,8 +6,8 @@ use Rattle.tb_records.specs.declared.records.Account.{Account}
 use Rattle.tb_records.specs.declared.records.Transfer.{Transfer}
 use Rattle.tb_records.specs.declared.limits.Profile.{Profile}
 use Rattle.tb_records.specs.declared.limits.Profile.TheVariants.{One, Two}
-use Rattle.tb_ledger.specs.declared.tables.rows.State.{State}
-use Rattle.tb_ledger.specs.declared.tables.rows.State.TheVariants.{Open, Posted, Voided, Expired}
+use Rattle.tb_ledger.specs.declared.tables.transfers.State.{State}
+use Rattle.tb_ledger.specs.declared.tables.transfers.State.TheVariants.{Open, Posted, Voided, Expired}
 
 pub record Books : Type 0 where
   pub accounts : List Account  -- as created, by rising id

@@ -2,7 +2,7 @@
 use Rattle.std.specs.Prelude.{ℕ, ◌≡◌, ◌==◌, List, find, Option, Some, Result, MatchResult}
 use Rattle.std.specs.Option.{option_map}
 use Rattle.tb_records.specs.declared.records.Transfer.{Transfer}
-use Rattle.tb_ledger.specs.declared.tables.rows.AccountRow.{AccountRow}
+use Rattle.tb_ledger.specs.declared.tables.accounts.AccountRow.{AccountRow}
 use Rattle.tb_ledger.specs.declared.changes.single.Passed.{Passed}
 use Rattle.tb_ledger.specs.Books.{closing_debit, closing_credit}
 use Rattle.tb_ledger.specs.Found.{Judges}

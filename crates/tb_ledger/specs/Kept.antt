@@ -3,11 +3,11 @@ use Rattle.std.specs.Prelude.{ℕ, Bool, true, false, not, ◌≡◌, ◌<◌, �
 use Rattle.tb_records.specs.declared.records.Account.{Account}
 use Rattle.tb_records.specs.declared.records.Transfer.{Transfer}
 use Rattle.tb_records.specs.Ordered.{Each, changed}
-use Rattle.tb_ledger.specs.declared.tables.rows.State.{State}
-use Rattle.tb_ledger.specs.declared.tables.rows.State.TheVariants.{Open, Posted, Voided}
-use Rattle.tb_ledger.specs.declared.tables.rows.Side.{Side}
-use Rattle.tb_ledger.specs.declared.tables.rows.AccountRow.{AccountRow}
-use Rattle.tb_ledger.specs.declared.tables.rows.TransferRow.{TransferRow}
+use Rattle.tb_ledger.specs.declared.tables.transfers.State.{State}
+use Rattle.tb_ledger.specs.declared.tables.transfers.State.TheVariants.{Open, Posted, Voided}
+use Rattle.tb_ledger.specs.declared.tables.accounts.Side.{Side}
+use Rattle.tb_ledger.specs.declared.tables.accounts.AccountRow.{AccountRow}
+use Rattle.tb_ledger.specs.declared.tables.transfers.TransferRow.{TransferRow}
 use Rattle.tb_ledger.specs.declared.tables.rows.Rows.{Rows}
 use Rattle.tb_ledger.specs.declared.tables.timeouts.Timeout.{Timeout}
 use Rattle.tb_ledger.specs.Books.{Books, closed, debit, credit, share, pending, posts, moves, resolves, is_open, is_due, state_of, expires_at, closing_debit, closing_credit}
@@ -191,6 +191,10 @@ state_given_by r = if posts r then Posted else Voided
 -- a side can take t: there is room, and where t closes it, nothing holds it closed
 abbrev pub Takes : (Transfer → Bool) → Transfer → Side → Type 0
 Takes closes t s = (s.pending + s.posted + t.amount ≤ int_max) × ((pending t && closes t) ≡ true → s.held_closed ≡ false)
+
+-- an account without sums and without what is reserved, as each one is created
+abbrev pub blank : Account → Account
+blank a = record a { debits_pending = 0; debits_posted = 0; credits_pending = 0; credits_posted = 0; reserved = 0 }
 
 -- the row of a new account
 abbrev pub new_side : Side

@@ -9,6 +9,7 @@ pub mod Meanings
 pub mod Tables
 pub mod WorkedRows
 -- what only the contracts of private functions cite
+pub mod KeptRows
 pub mod Kept
 pub mod Timeouts
 pub mod Found

@@ -3,8 +3,8 @@ use Rattle.std.specs.Prelude.{ℕ, ◌==◌, List, find, Option}
 use Rattle.std.specs.Option.{option_map}
 use Rattle.tb_records.specs.declared.records.Account.{Account}
 use Rattle.tb_records.specs.declared.records.Transfer.{Transfer}
-use Rattle.tb_ledger.specs.declared.tables.rows.AccountRow.{AccountRow}
-use Rattle.tb_ledger.specs.declared.tables.rows.TransferRow.{TransferRow}
+use Rattle.tb_ledger.specs.declared.tables.accounts.AccountRow.{AccountRow}
+use Rattle.tb_ledger.specs.declared.tables.transfers.TransferRow.{TransferRow}
 use Rattle.tb_ledger.specs.Kept.{row_now}
 
 -- the account of an id as it stands

@@ -1,8 +1,8 @@
 -- A post or void, by the rows of the accounts of its pending transfer.
 use Rattle.std.specs.Prelude.{ℕ, ◌≡◌, ◌+◌, ◌≤◌, List, Some, Result, MatchResult}
 use Rattle.tb_records.specs.declared.records.Transfer.{Transfer}
-use Rattle.tb_ledger.specs.declared.tables.rows.Side.{Side}
-use Rattle.tb_ledger.specs.declared.tables.rows.AccountRow.{AccountRow}
+use Rattle.tb_ledger.specs.declared.tables.accounts.Side.{Side}
+use Rattle.tb_ledger.specs.declared.tables.accounts.AccountRow.{AccountRow}
 use Rattle.tb_ledger.specs.declared.changes.resolving.Parties.{Parties}
 use Rattle.tb_ledger.specs.Books.{Books, closing_debit, closing_credit}
 use Rattle.tb_ledger.specs.Exchanges.{row_at}

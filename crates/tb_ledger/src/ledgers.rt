@@ -12,7 +12,6 @@ use crate::batches::run_batch;
 use crate::changes::expiry::expire;
 use crate::lookups;
 use crate::tables::rows::Rows;
-use crate::tables::standing::as_it_stands;
 use crate::tables::trail::Trail;
 use std::alloc::{AllocError, Allocator, Global};
 use std::marker::Model;
@@ -138,7 +137,7 @@ impl<A: Allocator + Clone> Ledger<A> {
         ensures { result ≡ account_now self.now id }
     {
         match self.rows.accounts.get(id) {
-            Some(row) => Some(as_it_stands(row)),
+            Some(row) => Some(row.as_it_stands()),
             None => None,
         }
     }
@@ -151,7 +150,7 @@ impl<A: Allocator + Clone> Ledger<A> {
     {
         let (row, visits) = self.rows.accounts.probe(id);
         match row {
-            Some(row) => (Some(as_it_stands(row)), visits),
+            Some(row) => (Some(row.as_it_stands()), visits),
             None => (None, visits),
         }
     }
@@ -161,7 +160,7 @@ impl<A: Allocator + Clone> Ledger<A> {
         ensures { result ≡ transfer_at self.now id }
     {
         match self.rows.transfers.get(id) {
-            Some(row) => Some(row.recorded),
+            Some(row) => Some(row.recorded()),
             None => None,
         }
     }

@@ -5,9 +5,9 @@ ghost use Rattle.std.specs.Option.{option_copied, option_map};
 ghost use Rattle.tb_ledger.specs.Kept.{row_now};
 ghost use Rattle.tb_ledger.specs.Lookups.{account_in, transfer_in};
 
+use crate::tables::accounts::AccountRow;
 use crate::tables::map::Table;
-use crate::tables::rows::{AccountRow, TransferRow};
-use crate::tables::standing::as_it_stands;
+use crate::tables::transfers::TransferRow;
 use std::alloc::Allocator;
 use tb_records::{Account, Transfer};
 
@@ -21,7 +21,7 @@ fn push_accounts(rows: &[Option<&AccountRow>], out: &mut Vec<Account>)
 {
     for row in rows {
         if let Some(row) = row {
-            out.push_reserved(as_it_stands(row));
+            out.push_reserved(row.as_it_stands());
         }
     }
 }
@@ -58,7 +58,7 @@ fn fill_each_of_accounts<A: Allocator + Clone>(
 {
     for id in ids {
         if let Some(row) = table.get(*id) {
-            out.push_reserved(as_it_stands(row));
+            out.push_reserved(row.as_it_stands());
         }
     }
 }
@@ -87,7 +87,7 @@ fn push_transfers(rows: &[Option<&TransferRow>], out: &mut Vec<Transfer>)
 {
     for row in rows {
         if let Some(row) = row {
-            out.push_reserved(row.recorded);
+            out.push_reserved(row.recorded());
         }
     }
 }
@@ -124,7 +124,7 @@ fn fill_each_of_transfers<A: Allocator + Clone>(
 {
     for id in ids {
         if let Some(row) = table.get(*id) {
-            out.push_reserved(row.recorded);
+            out.push_reserved(row.recorded());
         }
     }
 }

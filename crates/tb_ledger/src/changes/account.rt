@@ -2,13 +2,14 @@
 ghost use Rattle.std.specs.Prelude.{◌≡◌, ◌≢◌, ◌+◌, ◌<◌, ◌≤◌, ◌==◌, length, ◌-◌, find, None};
 ghost use Rattle.tb_ledger.specs.Batches.{account_events};
 ghost use Rattle.tb_ledger.specs.Books.{account_at};
-ghost use Rattle.tb_ledger.specs.Kept.{books_in, IsKept, account_row_key, new_row};
+ghost use Rattle.tb_ledger.specs.Kept.{books_in, IsKept, account_row_key, blank, new_row};
 ghost use Rattle.tb_ledger.specs.Trail.{Stays, IsStep, IsNoted};
 ghost use Rattle.tb_records.specs.Ordered.{put};
 ghost use Rattle.tb_ledger.specs.Sound.{Sound, account_key};
 
+use crate::tables::accounts::AccountRow;
 use crate::tables::map::Table;
-use crate::tables::rows::{AccountRow, Rows, Side};
+use crate::tables::rows::Rows;
 use crate::tables::trail::{TRAIL_PER_EVENT, Trail, Undo};
 use crate::verdicts::account::account_code;
 use std::alloc::Allocator;
@@ -47,6 +48,7 @@ fn record_account<A: Allocator + Clone>(rows: &mut Rows<A>, trail: &mut Trail<A>
     requires room { 0 < rows.old.accounts.spare }
     requires trail_room { length trail.old.changes + TRAIL_PER_EVENT ≤ trail.old.capacity }
     requires fresh { account_at (books_in rows.old) a.now.id ≡ None }
+    requires plain { a.now ≡ blank a.now }
     requires sound { Sound
         (record (books_in rows.old)
         { accounts = put account_key a.now (books_in rows.old).accounts }) }
@@ -70,6 +72,7 @@ fn add_account_row<A: Allocator + Clone>(
 )
     requires room { 0 < accounts.old.spare }
     requires trail_room { length trail.old.changes < trail.old.capacity }
+    requires plain { a.now ≡ blank a.now }
     requires fresh { find (λ row. row.created.id == a.now.id) accounts.old.items ≡ None }
     ensures accounts { accounts.new
         ≡ record {
@@ -78,15 +81,6 @@ fn add_account_row<A: Allocator + Clone>(
         } }
     ensures noted { IsNoted 1 accounts.old.items accounts.new.items trail.old trail.new }
 {
-    let empty = Side {
-        pending: 0,
-        posted: 0,
-        held_closed: false,
-    };
     trail.note(Undo::AddedAccount(a.id));
-    accounts.insert_reserved(AccountRow {
-        created: *a,
-        debits: empty,
-        credits: empty,
-    });
+    accounts.insert_reserved(AccountRow::new(a));
 }

@@ -3,12 +3,14 @@ ghost use Rattle.std.specs.Prelude.{◌≡◌, ◌≢◌, ◌≤◌, ◌==◌, f
 ghost use Rattle.tb_records.specs.Ordered.{replaced, Rising};
 ghost use Rattle.tb_ledger.specs.Books.{closing_debit, closing_credit};
 ghost use Rattle.tb_ledger.specs.Kept.{books_in, IsKept, AreKept, IsIndex, IsTimeout, transfer_row_key, on_debits, on_credits, released, settled, accounts_released};
-ghost use Rattle.tb_ledger.specs.declared.tables.rows.State.TheVariants.{Expired};
+ghost use Rattle.tb_ledger.specs.declared.tables.transfers.State.TheVariants.{Expired};
 
 use crate::changes::sides::release_side;
+use crate::tables::accounts::AccountRow;
 use crate::tables::map::Table;
-use crate::tables::rows::{AccountRow, Rows, State, TransferRow};
+use crate::tables::rows::Rows;
 use crate::tables::timeouts::Timeout;
+use crate::tables::transfers::{State, TransferRow};
 use std::alloc::Allocator;
 use tb_records::{Transfer, TransferFlag};
 
@@ -17,8 +19,8 @@ fn release_rows(debit: &mut AccountRow, credit: &mut AccountRow, p: &Transfer)
     ensures debit { debit.new ≡ on_debits (released closing_debit p.now) debit.old }
     ensures credit { credit.new ≡ on_credits (released closing_credit p.now) credit.old }
 {
-    debit.debits = release_side(debit.debits, p, p.has(TransferFlag::ClosingDebit));
-    credit.credits = release_side(credit.credits, p, p.has(TransferFlag::ClosingCredit));
+    debit.set_debits(release_side(debit.debits(), p, p.has(TransferFlag::ClosingDebit)));
+    credit.set_credits(release_side(credit.credits(), p, p.has(TransferFlag::ClosingCredit)));
 }
 
 /// Takes what a pending transfer holds from both of its accounts, where their rows stand.
@@ -46,7 +48,7 @@ fn expire_row(row: &mut TransferRow, before: &mut Option<TransferRow>)
     ensures row { row.new ≡ settled Expired row.old }
 {
     *before = Some(*row);
-    row.state = State::Expired;
+    row.set_state(State::Expired);
 }
 
 /// Marks the transfer that a timeout names as expired, where its row stands, and answers the row from before.
@@ -92,7 +94,7 @@ fn release_due<A: Allocator + Clone>(rows: &mut Rows<A>, time: u64)
     rows.timeouts.ordered();
     while let Some(due) = rows.timeouts.pop_due(time) {
         let p = mark_expired(&mut rows.transfers, due);
-        release(&mut rows.accounts, &p.recorded);
+        release(&mut rows.accounts, &p.recorded());
     }
 }
 

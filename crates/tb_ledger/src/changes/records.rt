@@ -1,5 +1,5 @@
 //! The row of a transfer that is recorded.
-ghost use Rattle.std.specs.Prelude.{◌≡◌, ◌-◌, ◌<◌, ◌≤◌, ◌==◌, true, find, None, length};
+ghost use Rattle.std.specs.Prelude.{◌≡◌, ◌-◌, ◌^◌, ◌<◌, ◌≤◌, ◌==◌, true, find, None, length};
 ghost use Rattle.tb_records.specs.Ordered.{put, Rising};
 ghost use Rattle.tb_ledger.specs.Verdicts.{int_max};
 ghost use Rattle.tb_ledger.specs.Kept.{transfer_row_key, times_out, listed, CanList, new_transfer_row};
@@ -7,21 +7,19 @@ ghost use Rattle.tb_ledger.specs.Trail.{IsMarked};
 
 use crate::tables::index::list;
 use crate::tables::map::Table;
-use crate::tables::rows::{State, TransferRow};
 use crate::tables::timeouts::Timeouts;
 use crate::tables::trail::{Trail, Undo};
+use crate::tables::transfers::TransferRow;
 use std::alloc::Allocator;
 use tb_records::Transfer;
 
 /// The row of a transfer that is new: a pending one is open.
 pub(crate) fn row_of(recorded: Transfer) -> TransferRow
+    requires plain { recorded.flags < 2 ^ 8 }
     ensures row { result ≡ new_transfer_row recorded }
     ensures fits { recorded.id ≤ int_max }
 {
-    TransferRow {
-        recorded,
-        state: State::Open,
-    }
+    TransferRow::new(&recorded)
 }
 
 /// Adds the row of a transfer, and its timeout where it has one.

@@ -1,5 +1,5 @@
 //! A post or void: the pending transfer that it names is closed, and the sums of both accounts settled.
-ghost use Rattle.std.specs.Prelude.{◌≡◌, ◌≢◌, ◌+◌, ◌<◌, ◌≤◌, ◌==◌, true, length, find, Some, None, IsSome};
+ghost use Rattle.std.specs.Prelude.{◌≡◌, ◌≢◌, ◌+◌, ◌^◌, ◌<◌, ◌≤◌, ◌==◌, true, length, find, Some, None, IsSome};
 ghost use Rattle.std.specs.Option.{ok_or};
 ghost use Rattle.tb_ledger.specs.Batches.{transfer_events};
 ghost use Rattle.tb_ledger.specs.Books.{resolves, transfer_at};
@@ -15,11 +15,13 @@ ghost use Rattle.tb_ledger.specs.Found.{FoundPending};
 
 use crate::changes::records::{add_row, row_of};
 use crate::changes::sides::settle_side;
+use crate::tables::accounts::AccountRow;
 use crate::tables::index::unlist;
-use crate::tables::map::Table;
-use crate::tables::rows::{AccountRow, Rows, State, TransferRow};
+use crate::tables::map::{Keyed, Table};
+use crate::tables::rows::Rows;
 use crate::tables::timeouts::Timeouts;
 use crate::tables::trail::{TRAIL_PER_EVENT, Trail, Undo};
+use crate::tables::transfers::{State, TransferRow};
 use crate::verdicts::resolving::{Resolution, closed_code, judge_resolving};
 use std::alloc::Allocator;
 use tb_records::{Transfer, TransferFlag};
@@ -36,6 +38,7 @@ pub(crate) fn take_resolving<A: Allocator + Clone>(
     requires trail_room { length trail.old.changes + TRAIL_PER_EVENT ≤ trail.old.capacity }
     requires free { id_code (books_in rows.old) t.now ≡ 0 }
     requires resolving { resolves t.now ≡ true }
+    requires plain { t.now.flags < 2 ^ 8 }
     ensures code { result ≡ transfer_events.verdict (books_in rows.old) t.now time }
     ensures done { result ≡ 0 → books_in rows.new ≡ transfer_events.recorded (books_in rows.old) t.now time }
     ensures kept { IsKept rows.new }
@@ -71,6 +74,7 @@ fn settle<A: Allocator + Clone>(
     requires trail_room { length trail.old.changes + TRAIL_PER_EVENT ≤ trail.old.capacity }
     requires fresh { transfer_at (books_in rows.old) r.now.id ≡ None }
     requires found { find (λ row. row.recorded.id == r.now.pending_id) rows.old.transfers.items ≡ Some p.now }
+    requires plain { r.now.flags < 2 ^ 8 }
     requires is_resolver { resolves r.now ≡ true }
     requires resolves { FoundPending (books_in rows.old) r.now }
     ensures code { result ≡ closed_code (books_in rows.old) r.now p.now.recorded }
@@ -84,7 +88,7 @@ fn settle<A: Allocator + Clone>(
     ensures transfers_room { rows.old.transfers.spare ≤ rows.new.transfers.spare + 1 }
     ensures timeouts_room { rows.old.timeouts.spare ≤ rows.new.timeouts.spare + 1 }
 {
-    match settle_accounts(&mut rows.accounts, &p.recorded, r) {
+    match settle_accounts(&mut rows.accounts, &p.recorded(), r) {
         Ok(before) => {
             trail.note(Undo::Account(before.debit));
             trail.note(Undo::Account(before.credit));
@@ -161,20 +165,20 @@ fn settle_rows(
         debit: *debit,
         credit: *credit,
     });
-    debit.debits = settle_side(
-        debit.debits,
+    debit.set_debits(settle_side(
+        debit.debits(),
         p,
         r,
         p.has(TransferFlag::ClosingDebit),
         r.has(TransferFlag::ClosingDebit),
-    );
-    credit.credits = settle_side(
-        credit.credits,
+    ));
+    credit.set_credits(settle_side(
+        credit.credits(),
         p,
         r,
         p.has(TransferFlag::ClosingCredit),
         r.has(TransferFlag::ClosingCredit),
-    );
+    ));
     0
 }
 
@@ -201,9 +205,9 @@ fn close_row<A: Allocator + Clone>(
     transfers.ordered();
     trail.note(Undo::Transfer(*p));
     let closed = transfers.update(
-        p.recorded.id,
+        p.key(),
         &mut |row: &mut TransferRow| {
-            row.state = state;
+            row.set_state(state);
         },
     );
     match closed {

@@ -5,7 +5,7 @@ ghost use Rattle.tb_ledger.specs.Verdicts.{int_max};
 ghost use Rattle.tb_ledger.specs.Kept.{gained, released};
 ghost use Rattle.tb_ledger.specs.Settlings.{CanSettle};
 
-use crate::tables::rows::Side;
+use crate::tables::accounts::Side;
 use tb_records::Transfer;
 
 /// What a transfer holds until it is resolved or expires.

@@ -1,5 +1,5 @@
 //! A transfer between two accounts: both rows are found by one walk, judged, and changed where they stand.
-ghost use Rattle.std.specs.Prelude.{◌≡◌, ◌+◌, ◌<◌, ◌≤◌, false, length, ◌≢◌, if◌then◌else◌};
+ghost use Rattle.std.specs.Prelude.{◌≡◌, ◌+◌, ◌^◌, ◌<◌, ◌≤◌, false, length, ◌≢◌, if◌then◌else◌};
 ghost use Rattle.std.specs.Option.{is_some, ok_or};
 ghost use Rattle.tb_ledger.specs.Batches.{transfer_events};
 ghost use Rattle.tb_ledger.specs.Books.{resolves};
@@ -10,8 +10,9 @@ ghost use Rattle.tb_ledger.specs.Exchanges.{Exchanges, ExchangesIn, row_at};
 
 use crate::changes::records::{add_row, row_of};
 use crate::changes::sides::gain_side;
+use crate::tables::accounts::AccountRow;
 use crate::tables::map::Table;
-use crate::tables::rows::{AccountRow, Rows};
+use crate::tables::rows::Rows;
 use crate::tables::trail::{TRAIL_PER_EVENT, Trail, Undo};
 use crate::verdicts::single::{between, single_own};
 use std::alloc::Allocator;
@@ -31,6 +32,7 @@ pub(crate) fn take_single<A: Allocator + Clone>(
     requires stamped { rows.old.time < time + 1000000000 }
     requires free { id_code (books_in rows.old) t.now ≡ 0 }
     requires single { resolves t.now ≡ false }
+    requires plain { t.now.flags < 2 ^ 8 }
     ensures code { result ≡ transfer_events.verdict (books_in rows.old) t.now time }
     ensures done { result ≡ 0 → books_in rows.new ≡ transfer_events.recorded (books_in rows.old) t.now time }
     ensures kept { IsKept rows.new }
@@ -125,12 +127,12 @@ fn exchange_rows(
     let mut recorded = *t;
     recorded.amount = amount;
     recorded.timestamp = time;
-    debit.debits = gain_side(debit.debits, &recorded, t.has(TransferFlag::ClosingDebit));
-    credit.credits = gain_side(
-        credit.credits,
+    debit.set_debits(gain_side(debit.debits(), &recorded, t.has(TransferFlag::ClosingDebit)));
+    credit.set_credits(gain_side(
+        credit.credits(),
         &recorded,
         t.has(TransferFlag::ClosingCredit),
-    );
+    ));
     0
 }
 

@@ -5,8 +5,8 @@ ghost use Rattle.tb_ledger.specs.Kept.{times_out, timeout_of, listed, unlisted, 
 ghost use Rattle.tb_ledger.specs.Timeouts.{AreTimeouts};
 ghost use Rattle.tb_ledger.specs.Verdicts.{max_time};
 
-use crate::tables::rows::{State, TransferRow};
 use crate::tables::timeouts::{Timeout, Timeouts};
+use crate::tables::transfers::{State, TransferRow};
 use std::alloc::Allocator;
 use tb_records::NANOSECONDS_PER_SECOND;
 
@@ -14,17 +14,19 @@ use tb_records::NANOSECONDS_PER_SECOND;
 fn times_out(row: &TransferRow) -> bool
     ensures { result ≡ times_out row.now }
 {
-    row.recorded.is_pending() && matches!(row.state, State::Open) && row.recorded.timeout != 0
+    let t = row.recorded();
+    t.is_pending() && matches!(row.state(), State::Open) && t.timeout != 0
 }
 
 fn timeout_of(row: &TransferRow) -> Timeout
     requires { expires_at row.now.recorded ≤ max_time }
     ensures { result ≡ timeout_of row.now }
 {
-    let after = u64::from(row.recorded.timeout) * NANOSECONDS_PER_SECOND;
+    let t = row.recorded();
+    let after = u64::from(t.timeout) * NANOSECONDS_PER_SECOND;
     Timeout {
-        at: row.recorded.timestamp + after,
-        id: row.recorded.id,
+        at: t.timestamp + after,
+        id: t.id,
     }
 }
 

@@ -12,7 +12,7 @@ use std::alloc::{AllocError, Allocator};
 use std::marker::Model;
 
 /// A row that names itself by a key.
-pub trait Keyed: Copy {
+pub trait Keyed: Copy + Default {
     ghost key: { Self → ℕ };
 
     fn key(&self) -> u128

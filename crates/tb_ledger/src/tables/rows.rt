@@ -1,65 +1,15 @@
-//! What the ledger keeps of an account and of a transfer, and its tables of them.
+//! The tables of a ledger: what it keeps of its accounts and transfers.
 ghost use Rattle.std.specs.Prelude.{◌≡◌, ◌^◌, ◌-◌, [], false};
 ghost use Rattle.tb_ledger.specs.Books.{empty_books};
 ghost use Rattle.tb_ledger.specs.Kept.{books_in, IsKept};
 ghost use Rattle.tb_ledger.specs.Sound.{IdsRise};
 
-use crate::tables::map::{Keyed, Table};
+use crate::tables::accounts::AccountRow;
+use crate::tables::map::Table;
 use crate::tables::timeouts::Timeouts;
+use crate::tables::transfers::TransferRow;
 use std::alloc::Allocator;
-use tb_records::{Account, Profile, Transfer};
-
-/// Where a pending transfer stands.
-#[derive(Clone, Copy, Debug, PartialEq, Eq)]
-pub enum State {
-    /// It holds its amount on both accounts.
-    Open,
-    /// A post resolved it.
-    Posted,
-    /// A void resolved it.
-    Voided,
-    /// Its timeout ended it.
-    Expired,
-}
-
-/// One side of an account: its two sums, and whether a pending transfer holds it closed.
-#[derive(Clone, Copy, Debug, PartialEq, Eq)]
-pub struct Side {
-    pub pending: u128,
-    pub posted: u128,
-    pub held_closed: bool,
-}
-
-/// An account as it was created, and its sums as they stand.
-#[derive(Clone, Copy, Debug, PartialEq, Eq)]
-pub struct AccountRow {
-    pub created: Account,
-    pub debits: Side,
-    pub credits: Side,
-}
-
-/// A transfer as it was recorded, and the state of a pending one.
-#[derive(Clone, Copy, Debug, PartialEq, Eq)]
-pub struct TransferRow {
-    pub recorded: Transfer,
-    pub state: State,
-}
-
-impl Keyed for AccountRow {
-    ghost key = { λ a. a.created.id };
-
-    fn key(&self) -> u128 {
-        self.created.id
-    }
-}
-
-impl Keyed for TransferRow {
-    ghost key = { λ t. t.recorded.id };
-
-    fn key(&self) -> u128 {
-        self.recorded.id
-    }
-}
+use tb_records::Profile;
 
 /// The tables of a ledger.
 #[derive(Drop)]

@@ -3,8 +3,11 @@ ghost use Rattle.std.specs.Prelude.{◌≡◌, ◌*◌, ◌+◌, ◌<◌, ◌≤
 ghost use Rattle.tb_ledger.specs.Trail.{unwound_accounts, unwound_transfers, unwound_timeouts, CanUnwind};
 ghost use Rattle.tb_ledger.specs.Noted.{with_noted};
 
+use crate::tables::accounts::AccountRow;
 use crate::tables::index::{list, unlist};
-use crate::tables::rows::{AccountRow, Rows, TransferRow};
+use crate::tables::map::Keyed;
+use crate::tables::rows::Rows;
+use crate::tables::transfers::TransferRow;
 use std::alloc::{AllocError, Allocator};
 use std::marker::Model;
 
@@ -103,7 +106,7 @@ pub fn unwind<A: Allocator + Clone>(rows: &mut Rows<A>, trail: &mut Trail<A>)
             }
             Undo::AddedAccount(id) => rows.accounts.remove(id),
             Undo::AddedTransfer(row) => {
-                rows.transfers.remove(row.recorded.id);
+                rows.transfers.remove(row.key());
                 unlist(&mut rows.timeouts, &row);
             }
         }

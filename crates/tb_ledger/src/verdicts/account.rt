@@ -3,8 +3,8 @@ ghost use Rattle.std.specs.Prelude.{◌≡◌, Some};
 ghost use Rattle.tb_ledger.specs.Kept.{books_in, IsKept, row_now};
 ghost use Rattle.tb_ledger.specs.Verdicts.{account_verdict, first_of, account_exists_lines, account_own_lines, account_new_lines};
 
-use crate::tables::rows::{AccountRow, Rows};
-use crate::tables::standing::flags_now;
+use crate::tables::accounts::AccountRow;
+use crate::tables::rows::Rows;
 use crate::verdicts::lines::first_line;
 use std::alloc::Allocator;
 use tb_records::{Account, AccountFlag, CreateAccountResult};
@@ -50,11 +50,11 @@ fn account_own(a: &Account) -> u32
 fn account_there(a: &Account, e: &AccountRow) -> u32
     ensures { result ≡ first_of (account_exists_lines (Some (row_now e.now)) a.now) }
 {
-    let there = &e.created;
+    let there = e.as_it_stands();
     first_line(&[
         (
             CreateAccountResult::ExistsWithDifferentFlags as u32,
-            a.flags != flags_now(e),
+            a.flags != there.flags,
         ),
         (
             CreateAccountResult::ExistsWithDifferentUserData128 as u32,

@@ -6,8 +6,9 @@ ghost use Rattle.tb_ledger.specs.Kept.{books_in, row_closed, IsKept};
 ghost use Rattle.tb_ledger.specs.Settlings.{closed_code};
 ghost use Rattle.tb_ledger.specs.Verdicts.{closed_lines, filled, first_of, resolve_code, resolve_own_lines, differs, named_lines};
 
-use crate::tables::rows::{AccountRow, Rows, State, TransferRow};
-use crate::tables::standing::closed;
+use crate::tables::accounts::AccountRow;
+use crate::tables::rows::Rows;
+use crate::tables::transfers::{State, TransferRow};
 use crate::verdicts::blanks::{filled, filled_with};
 use crate::verdicts::lines::first_line;
 use std::alloc::Allocator;
@@ -46,13 +47,14 @@ pub(crate) fn judge_resolving<'a, A: Allocator + Clone>(
     }
     match rows.transfers.get(t.pending_id) {
         Some(p) => {
-            let code = resolve_named(t, &p.recorded, p.state);
+            let pending = p.recorded();
+            let code = resolve_named(t, &pending, p.state());
             if code != 0 {
                 return Err(code);
             }
             Ok(Resolution {
                 pending: p,
-                record: filled(t, &p.recorded),
+                record: filled(t, &pending),
             })
         }
         None => Err(CreateTransferResult::PendingTransferNotFound as u32),
@@ -147,10 +149,10 @@ pub(crate) fn closed_code(t: &Transfer, debit: &AccountRow, credit: &AccountRow)
     if !t.is_post() {
         return 0;
     }
-    if closed(debit) {
+    if debit.is_closed() {
         return CreateTransferResult::DebitAccountAlreadyClosed as u32;
     }
-    if closed(credit) {
+    if credit.is_closed() {
         return CreateTransferResult::CreditAccountAlreadyClosed as u32;
     }
     0

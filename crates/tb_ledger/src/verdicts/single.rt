@@ -1,11 +1,10 @@
 //! The verdict on a transfer between two accounts: its own lines, the pair of accounts, the amount.
-ghost use Rattle.std.specs.Prelude.{◌≡◌, ◌+◌, ◌*◌, nat_lt, Some, IfOk};
+ghost use Rattle.std.specs.Prelude.{◌≡◌, ◌+◌, ◌*◌, ◌-◌, nat_lt, Some, IfOk};
 ghost use Rattle.tb_ledger.specs.Found.{Judges};
 ghost use Rattle.tb_ledger.specs.Kept.{row_now};
 ghost use Rattle.tb_ledger.specs.Verdicts.{first_of, int_max, max_time, balanced_amount, amount_lines, pair_code, pair_lines, single_own_lines};
 
-use crate::tables::rows::AccountRow;
-use crate::tables::standing::flags_now;
+use crate::tables::accounts::{AccountRow, Side};
 use tb_records::{
     AccountFlag, CreateTransferResult, LAST_MOMENT, NANOSECONDS_PER_SECOND, Transfer, TransferFlag,
 };
@@ -69,16 +68,16 @@ pub(crate) fn between(d: &AccountRow, c: &AccountRow, t: &Transfer, time: u64) -
 fn pair(d: &AccountRow, c: &AccountRow, t: &Transfer) -> u32
     ensures { result ≡ first_of (pair_lines (row_now d.now) (row_now c.now) t.now) }
 {
-    if d.created.ledger != c.created.ledger {
+    if d.ledger() != c.ledger() {
         return CreateTransferResult::AccountsMustHaveTheSameLedger as u32;
     }
-    if t.ledger != d.created.ledger {
+    if t.ledger != d.ledger() {
         return CreateTransferResult::TransferMustHaveTheSameLedgerAsAccounts as u32;
     }
-    if AccountFlag::Closed.is_in(flags_now(d)) {
+    if AccountFlag::Closed.is_in(d.flags_now()) {
         return CreateTransferResult::DebitAccountAlreadyClosed as u32;
     }
-    if AccountFlag::Closed.is_in(flags_now(c)) {
+    if AccountFlag::Closed.is_in(c.flags_now()) {
         return CreateTransferResult::CreditAccountAlreadyClosed as u32;
     }
     0
@@ -90,22 +89,22 @@ fn balanced(d: &AccountRow, c: &AccountRow, t: &Transfer) -> u128
 {
     let mut amount = t.amount;
     if t.has(TransferFlag::BalancingDebit) {
-        amount = amount.min(
-            d.credits
-                .posted
-                .saturating_sub(d.debits.posted)
-                .saturating_sub(d.debits.pending),
-        );
+        amount = amount.min(room(d.debits(), d.credits()));
     }
     if t.has(TransferFlag::BalancingCredit) {
-        amount = amount.min(
-            c.debits
-                .posted
-                .saturating_sub(c.credits.posted)
-                .saturating_sub(c.credits.pending),
-        );
+        amount = amount.min(room(c.credits(), c.debits()));
     }
     amount
+}
+
+/// What a side can still take before its sums exceed what is posted on the other.
+fn room(side: Side, other: Side) -> u128
+    ensures { result ≡ other.posted - (side.posted + side.pending) }
+{
+    other
+        .posted
+        .saturating_sub(side.posted)
+        .saturating_sub(side.pending)
 }
 
 /// Whether the amount, balanced, fits both accounts and the timeout the clock: a code, or 0.
@@ -113,34 +112,36 @@ fn amounts(d: &AccountRow, c: &AccountRow, t: &Transfer, amount: u128, time: u64
     ensures { result ≡ first_of (amount_lines (row_now d.now) (row_now c.now) t.now amount time) }
 {
     let pending = t.is_pending();
-    if pending && above(d.debits.pending, amount) {
+    let debits = d.debits();
+    let credits = c.credits();
+    if pending && above(debits.pending, amount) {
         return CreateTransferResult::OverflowsDebitsPending as u32;
     }
-    if pending && above(c.credits.pending, amount) {
+    if pending && above(credits.pending, amount) {
         return CreateTransferResult::OverflowsCreditsPending as u32;
     }
-    if above(d.debits.posted, amount) {
+    if above(debits.posted, amount) {
         return CreateTransferResult::OverflowsDebitsPosted as u32;
     }
-    if above(c.credits.posted, amount) {
+    if above(credits.posted, amount) {
         return CreateTransferResult::OverflowsCreditsPosted as u32;
     }
-    if sum_above(d.debits.pending, d.debits.posted, amount) {
+    if sum_above(debits.pending, debits.posted, amount) {
         return CreateTransferResult::OverflowsDebits as u32;
     }
-    if sum_above(c.credits.pending, c.credits.posted, amount) {
+    if sum_above(credits.pending, credits.posted, amount) {
         return CreateTransferResult::OverflowsCredits as u32;
     }
     if overdue(time, t.timeout) {
         return CreateTransferResult::OverflowsTimeout as u32;
     }
-    if AccountFlag::DebitsMustNotExceedCredits.is_in(flags_now(d))
-        && sum_exceeds(d.debits.pending, d.debits.posted, amount, d.credits.posted)
+    if AccountFlag::DebitsMustNotExceedCredits.is_in(d.flags_now())
+        && sum_exceeds(debits.pending, debits.posted, amount, d.credits().posted)
     {
         return CreateTransferResult::ExceedsCredits as u32;
     }
-    if AccountFlag::CreditsMustNotExceedDebits.is_in(flags_now(c))
-        && sum_exceeds(c.credits.pending, c.credits.posted, amount, c.debits.posted)
+    if AccountFlag::CreditsMustNotExceedDebits.is_in(c.flags_now())
+        && sum_exceeds(credits.pending, credits.posted, amount, c.debits().posted)
     {
         return CreateTransferResult::ExceedsDebits as u32;
     }

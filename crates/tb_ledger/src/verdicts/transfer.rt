@@ -1,5 +1,5 @@
 //! What is wrong with a transfer of either kind, or with its id. No account is looked up for it.
-ghost use Rattle.std.specs.Prelude.{◌≡◌, ◌==◌, false, Some, nat_lt, if◌then◌else◌};
+ghost use Rattle.std.specs.Prelude.{◌≡◌, ◌^◌, ◌<◌, ◌==◌, false, Some, nat_lt, if◌then◌else◌};
 ghost use Rattle.std.specs.List.{list_any};
 ghost use Rattle.std.specs.Option.{option_map_or};
 ghost use Rattle.tb_ledger.specs.Books.{resolves, balancing};
@@ -19,23 +19,26 @@ pub(crate) fn resolving(t: &Transfer) -> bool
     t.is_resolving()
 }
 
-/// What is wrong with a transfer of either kind, or with its id: a code, or 0.
+/// What is wrong with a transfer of either kind, or with its id: a code, or 0. One that passes has known flags alone, which are
+/// all in the low byte.
 pub(crate) fn id_code<A: Allocator + Clone>(rows: &Rows<A>, t: &Transfer) -> u32
-    ensures { result ≡ id_code (books_in rows.now) t.now }
+    ensures code { result ≡ id_code (books_in rows.now) t.now }
+    ensures plain { result ≡ 0 → t.now.flags < 2 ^ 8 }
 {
     let code = transfer_own(t);
     if code != 0 {
         return code;
     }
     match rows.transfers.get(t.id) {
-        Some(e) => repeated(rows, t, &e.recorded),
+        Some(e) => repeated(rows, t, &e.recorded()),
         None => failed_code(rows, t),
     }
 }
 
 /// What of a transfer is wrong whatever its kind, or 0.
 fn transfer_own(t: &Transfer) -> u32
-    ensures { result ≡ first_of (transfer_own_lines t.now) }
+    ensures code { result ≡ first_of (transfer_own_lines t.now) }
+    ensures plain { result ≡ 0 → t.now.flags < 2 ^ 8 }
 {
     if t.timestamp != 0 {
         return CreateTransferResult::TimestampMustBeZero as u32;
@@ -58,7 +61,7 @@ fn repeated<A: Allocator + Clone>(rows: &Rows<A>, t: &Transfer, e: &Transfer) ->
 {
     if resolving(t) {
         match rows.transfers.get(t.pending_id) {
-            Some(p) => transfer_there(&filled(t, &p.recorded), e),
+            Some(p) => transfer_there(&filled(t, &p.recorded()), e),
             None => transfer_there(t, e),
         }
     } else {

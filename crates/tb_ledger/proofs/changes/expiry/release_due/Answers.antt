@@ -1,6 +1,6 @@
 use Rattle.std.proofs.Common.{◌≡◌, ◌<◌, ◌==◌, not, map, length, sym, ap, subst, refl, ◌∙◌, arith}
-use Rattle.tb_ledger.specs.declared.tables.rows.State.TheVariants.{Expired}
-use Rattle.tb_ledger.specs.Kept.{books_in, transfer_row_key, row_holds, unlisted, IsTimeout}
+use Rattle.tb_ledger.specs.declared.tables.transfers.State.TheVariants.{Expired}
+use Rattle.tb_ledger.specs.Kept.{accounts_released, books_in, transfer_row_key, row_holds, unlisted, IsTimeout}
 use Rattle.tb_ledger.specs.Timeouts.{timeout_key, TakesDue}
 use Rattle.tb_ledger.proofs.Parts.{both_hold}
 use Rattle.tb_ledger.proofs.Settled.{rising_rows, refound}
@@ -35,17 +35,17 @@ mark_expired-p-requires g c =
 pub release-requires-clause-apart : goal.release-requires-clause-apart
 release-requires-clause-apart g c =
     let rows = c.loop-due.rows in
-    accounts_apart (books_in c.args.rows.now) c.requires.kept.sound rows.accounts.items rows.transfers.items c.in-Some.due.id c.mark_expired-p.result c.loop-due.invariant.accounts c.loop-due.invariant.transfers c.mark_expired-p.ensures.found
+    rw c.recorded.ensures (accounts_apart (books_in c.args.rows.now) c.requires.kept.sound rows.accounts.items rows.transfers.items c.in-Some.due.id c.mark_expired-p.result c.loop-due.invariant.accounts c.loop-due.invariant.transfers c.mark_expired-p.ensures.found)
 
 pub release-requires-clause-debit : goal.release-requires-clause-debit
 release-requires-clause-debit g c =
     let rows = c.loop-due.rows in
-    debit_party (books_in c.args.rows.now) c.requires.kept.sound rows.accounts.items rows.transfers.items c.in-Some.due.id c.mark_expired-p.result c.loop-due.invariant.accounts c.loop-due.invariant.transfers c.mark_expired-p.ensures.found
+    rw c.recorded.ensures (debit_party (books_in c.args.rows.now) c.requires.kept.sound rows.accounts.items rows.transfers.items c.in-Some.due.id c.mark_expired-p.result c.loop-due.invariant.accounts c.loop-due.invariant.transfers c.mark_expired-p.ensures.found)
 
 pub release-requires-clause-credit : goal.release-requires-clause-credit
 release-requires-clause-credit g c =
     let rows = c.loop-due.rows in
-    credit_party (books_in c.args.rows.now) c.requires.kept.sound rows.accounts.items rows.transfers.items c.in-Some.due.id c.mark_expired-p.result c.loop-due.invariant.accounts c.loop-due.invariant.transfers c.mark_expired-p.ensures.found
+    rw c.recorded.ensures (credit_party (books_in c.args.rows.now) c.requires.kept.sound rows.accounts.items rows.transfers.items c.in-Some.due.id c.mark_expired-p.result c.loop-due.invariant.accounts c.loop-due.invariant.transfers c.mark_expired-p.ensures.found)
 
 pub loop-due-smaller : goal.loop-due-smaller
 loop-due-smaller g c =
@@ -68,7 +68,7 @@ loop-due-preserved g c =
     let later = c.release.new.accounts in
     let left = c.mark_expired-p.new.transfers in
     let marked = ap (λ v. v.items) c.mark_expired-p.ensures.transfers in
-    let changed = ap (λ v. v.items) c.release.ensures in
+    let changed : later.items ≡ accounts_released p.recorded rows.accounts.items = ap (λ v. v.items) c.release.ensures ∙ ap (λ q. accounts_released q rows.accounts.items) c.recorded.ensures in
     let taken = c.in-Some.ensures.2 in
     let unlisted_is : c.pop_due.new.self ≡ unlisted p rows.timeouts = taken ∙ sym (unlisted_due p due rows.timeouts of.0 of.1) in
     record {

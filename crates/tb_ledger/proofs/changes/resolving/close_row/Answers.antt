@@ -1,13 +1,26 @@
-use Rattle.std.proofs.Common.{◌≡◌, Some, refl, sym, ap, ◌∙◌, rules}
+use Rattle.std.proofs.Common.{◌≡◌, ◌==◌, find, Some, refl, sym, subst, ap, ◌∙◌, rules}
 use Rattle.tb_records.specs.Ordered.{replaced}
 use Rattle.tb_ledger.specs.declared.tables.trail.Undo.TheVariants.{Transfer}
 use Rattle.tb_ledger.specs.Kept.{settled, transfer_row_key}
 use Rattle.tb_ledger.proofs.Trails.{grown_by, undone_close, undone_timeouts, can_undone, other_accounts}
+use Rattle.tb_ledger.proofs.Settled.{stored}
 use Rattle.tb_ledger.proofs.Index.{undone_unlisted, can_relist}
 use Rattle.tb_ledger.proofs.changes.resolving.close_row.Goals as goal
 
 pub unlist-requires : goal.unlist-requires
 unlist-requires g c is = (c.requires.is_listed is).in_range
+
+pub returns-clause-transfers : goal.returns-clause-transfers
+returns-clause-transfers g c =
+    let p = c.args.p.now in
+    let transfers = c.args.transfers.now.items in
+    let ch = c.in-Some.ensures.changed in
+    let called = ch.called in
+    let found : find (λ row. row.recorded.id == p.recorded.id) transfers ≡ Some ch.row = subst (λ id. find (λ row. row.recorded.id == id) transfers ≡ Some ch.row) c.key.ensures ch.found in
+    let left_is : ch.left ≡ settled c.args.state ch.row = search rules in
+    let the_row : ch.row ≡ p = let e : Some ch.row ≡ Some p = sym found ∙ c.requires.found in cc in
+    let closed = ch.written ∙ ap (λ row. replaced transfer_row_key row transfers) (left_is ∙ ap (settled c.args.state) the_row) in
+    stored c.update-closed.new.self (replaced transfer_row_key (settled c.args.state p) transfers) c.args.transfers.now.spare closed c.update-closed.ensures.room
 
 pub returns-clause-marked : goal.returns-clause-marked
 returns-clause-marked g c =
@@ -21,8 +34,9 @@ returns-clause-marked g c =
     let later = c.update-closed.new.self.items in
     let ch = c.in-Some.ensures.changed in
     let called = ch.called in
+    let found : find (λ row. row.recorded.id == p.recorded.id) transfers ≡ Some ch.row = subst (λ id. find (λ row. row.recorded.id == id) transfers ≡ Some ch.row) c.key.ensures ch.found in
     let left_is : ch.left ≡ settled c.args.state ch.row = search rules in
-    let the_row : ch.row ≡ p = let e : Some ch.row ≡ Some p = sym ch.found ∙ c.requires.found in cc in
+    let the_row : ch.row ≡ p = let e : Some ch.row ≡ Some p = sym found ∙ c.requires.found in cc in
     let closed : later ≡ replaced transfer_row_key (settled c.args.state p) transfers = ch.written ∙ ap (λ row. replaced transfer_row_key row transfers) (left_is ∙ ap (settled c.args.state) the_row) in
     let us = c.args.trail.now.changes in
     let more = c.note.new.self.changes in

@@ -2,7 +2,7 @@ use Rattle.std.proofs.Common.{◌≡◌, refl, sym, subst, ap, ◌∙◌, ◌==�
 use Rattle.tb_records.specs.Ordered.{put, replaced}
 use Rattle.tb_ledger.specs.Books.{closing_debit, closing_credit}
 use Rattle.tb_ledger.specs.Exchanges.{row_at}
-use Rattle.tb_ledger.specs.Kept.{on_debits, on_credits, released_and_gained, settled, listed, IsIndex, transfer_row_key, new_transfer_row}
+use Rattle.tb_ledger.specs.Kept.{on_debits, on_credits, released_and_gained, accounts_released_and_gained, settled, listed, IsIndex, transfer_row_key, new_transfer_row}
 use Rattle.tb_ledger.specs.Trail.{IsMarked}
 use Rattle.tb_ledger.proofs.Passing.{noted_two}
 use Rattle.tb_ledger.proofs.Trails.{grows_both}
@@ -29,13 +29,13 @@ pub settle_accounts-requires-clause-can_debit : goal.settle_accounts-requires-cl
 settle_accounts-requires-clause-can_debit g c a there =
     let rows = c.args.rows.now in
     let its = debit_enough rows.accounts.items rows.transfers.items rows.failed.items rows.keeps_failed rows.timeouts.items rows.time c.requires.kept c.args.p.now c.args.r.now c.requires.found c.requires.resolves c.requires.is_resolver a there in
-    record { enough = its.0; fit = its.1; at_most = at_most rows.accounts.items rows.transfers.items rows.failed.items rows.keeps_failed rows.timeouts.items rows.time c.requires.kept c.args.p.now c.args.r.now c.requires.found c.requires.resolves c.requires.is_resolver }
+    rw c.recorded.ensures (record { enough = its.0; fit = its.1; at_most = at_most rows.accounts.items rows.transfers.items rows.failed.items rows.keeps_failed rows.timeouts.items rows.time c.requires.kept c.args.p.now c.args.r.now c.requires.found c.requires.resolves c.requires.is_resolver })
 
 pub settle_accounts-requires-clause-can_credit : goal.settle_accounts-requires-clause-can_credit
 settle_accounts-requires-clause-can_credit g c a there =
     let rows = c.args.rows.now in
     let its = credit_enough rows.accounts.items rows.transfers.items rows.failed.items rows.keeps_failed rows.timeouts.items rows.time c.requires.kept c.args.p.now c.args.r.now c.requires.found c.requires.resolves c.requires.is_resolver a there in
-    record { enough = its.0; fit = its.1; at_most = at_most rows.accounts.items rows.transfers.items rows.failed.items rows.keeps_failed rows.timeouts.items rows.time c.requires.kept c.args.p.now c.args.r.now c.requires.found c.requires.resolves c.requires.is_resolver }
+    rw c.recorded.ensures (record { enough = its.0; fit = its.1; at_most = at_most rows.accounts.items rows.transfers.items rows.failed.items rows.keeps_failed rows.timeouts.items rows.time c.requires.kept c.args.p.now c.args.r.now c.requires.found c.requires.resolves c.requires.is_resolver })
 
 pub close_row-requires-clause-found : goal.close_row-requires-clause-found
 close_row-requires-clause-found g c = refound transfer_row_key c.args.r.now.pending_id c.args.p.now c.args.rows.now.transfers.items c.requires.found
@@ -84,7 +84,7 @@ returns-in-Ok-clause-kept g c =
     let rows = c.args.rows.now in
     let p = c.args.p.now in
     let r = c.args.r.now in
-    let moved_on = c.in-Ok.ensures.settled.leaves.1 in
+    let moved_on : c.settle_accounts.new.accounts.items ≡ accounts_released_and_gained p.recorded r rows.accounts.items = c.in-Ok.ensures.settled.leaves.1 ∙ ap (λ q. accounts_released_and_gained q r rows.accounts.items) c.recorded.ensures in
     let closed = ap (λ v. v.items) c.close_row.ensures.transfers ∙ ap (λ s. replaced transfer_row_key (settled s p) rows.transfers.items) c.state_given-state.ensures in
     let added = ap (λ v. v.items) c.add_row.ensures.transfers ∙ ap (λ row. put transfer_row_key row c.close_row.new.transfers.items) c.row_of-row.ensures.row ∙ ap (put transfer_row_key (new_transfer_row r)) closed in
     let moved = c.add_row.ensures.timeouts ∙ ap (λ row. listed row c.close_row.new.timeouts) c.row_of-row.ensures.row ∙ ap (listed (new_transfer_row r)) c.close_row.ensures.timeouts in
@@ -96,7 +96,7 @@ returns-in-Ok-clause-books g c _ =
     let rows = c.args.rows.now in
     let p = c.args.p.now in
     let r = c.args.r.now in
-    let moved_on = c.in-Ok.ensures.settled.leaves.1 in
+    let moved_on : c.settle_accounts.new.accounts.items ≡ accounts_released_and_gained p.recorded r rows.accounts.items = c.in-Ok.ensures.settled.leaves.1 ∙ ap (λ q. accounts_released_and_gained q r rows.accounts.items) c.recorded.ensures in
     let closed = ap (λ v. v.items) c.close_row.ensures.transfers ∙ ap (λ s. replaced transfer_row_key (settled s p) rows.transfers.items) c.state_given-state.ensures in
     let added = ap (λ v. v.items) c.add_row.ensures.transfers ∙ ap (λ row. put transfer_row_key row c.close_row.new.transfers.items) c.row_of-row.ensures.row ∙ ap (put transfer_row_key (new_transfer_row r)) closed in
     books_with_resolver rows.accounts.items rows.transfers.items rows.failed.items rows.keeps_failed rows.timeouts.items rows.time c.requires.kept p r c.requires.found c.requires.resolves c.requires.is_resolver c.settle_accounts.new.accounts.items c.add_row.new.transfers.items moved_on added
@@ -109,8 +109,9 @@ returns-in-Ok-clause-step g c =
     let d = c.in-Ok.before.debit in
     let k = c.in-Ok.before.credit in
     let has = c.in-Ok.ensures.settled in
+    let moved_on : c.settle_accounts.new.accounts.items ≡ accounts_released_and_gained p r rows.accounts.items = has.leaves.1 ∙ ap (λ q. accounts_released_and_gained q r rows.accounts.items) c.recorded.ensures in
     let differ = apart rows.accounts.items rows.transfers.items rows.failed.items rows.keeps_failed rows.timeouts.items rows.time c.requires.kept c.args.p.now c.args.r.now c.requires.found c.requires.resolves c.requires.is_resolver in
-    let noted = noted_two r.debit_account_id r.credit_account_id (on_debits (released_and_gained closing_debit p r)) (on_credits (released_and_gained closing_credit p r)) d k rows.accounts.items c.settle_accounts.new.accounts.items c.args.trail.now c.note.new.self c.note-in-Ok.new.self (λ y. refl) (λ y. refl) c.note.ensures c.note-in-Ok.ensures differ (has.debit_there ∙ ap (λ x. Some x.debit) (sym has.leaves.0)) (has.credit_there ∙ ap (λ x. Some x.credit) (sym has.leaves.0)) has.leaves.1 in
+    let noted = noted_two r.debit_account_id r.credit_account_id (on_debits (released_and_gained closing_debit p r)) (on_credits (released_and_gained closing_credit p r)) d k rows.accounts.items c.settle_accounts.new.accounts.items c.args.trail.now c.note.new.self c.note-in-Ok.new.self (λ y. refl) (λ y. refl) c.note.ensures c.note-in-Ok.ensures differ (has.debit_there ∙ ap (λ x. Some x.debit) (sym has.leaves.0)) (has.credit_there ∙ ap (λ x. Some x.credit) (sym has.leaves.0)) moved_on in
     let marked : IsMarked 2 rows.transfers.items c.add_row.new.transfers.items rows.timeouts c.add_row.new.timeouts c.note-in-Ok.new.self c.add_row.new.trail = grows_both 1 1 2 c.note-in-Ok.new.self c.close_row.new.trail c.add_row.new.trail c.close_row.ensures.marked c.add_row.ensures.marked (omega arith) (λ us vs ws first second. record {
       undo_accounts = λ accounts. second.undo_accounts accounts ∙ first.undo_accounts accounts;
       undo_transfers = second.undo_transfers ∙ first.undo_transfers;

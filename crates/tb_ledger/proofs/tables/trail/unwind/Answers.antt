@@ -1,4 +1,6 @@
 use Rattle.std.proofs.Common.{◌≡◌, [], ◌∷◌, ◌++◌, subst, sym, ap, ◌∙◌, arith}
+use Rattle.tb_records.specs.Ordered.{taken_out}
+use Rattle.tb_ledger.specs.Kept.{transfer_row_key}
 use Rattle.tb_ledger.specs.declared.tables.trail.Undo.TheVariants.{Account, Transfer, AddedAccount, AddedTransfer}
 use Rattle.tb_ledger.specs.Trail.{unwound_accounts, unwound_transfers, unwound_timeouts, CanUnwind}
 use Rattle.tb_ledger.proofs.Trails.{popped_accounts, popped_transfers, popped_timeouts, popped_can}
@@ -97,7 +99,7 @@ loop-undo-preserved g c =
     let is : more ≡ us ++ u ∷ [] = c.in-Some.ensures.changes ∙ ap (λ u. us ++ u ∷ []) c.in-AddedTransfer.is in
     record {
       accounts = popped_accounts us more u rows.accounts.items is ∙ v.accounts;
-      transfers = ap (unwound_transfers us) c.remove-in-AddedTransfer.ensures.rows ∙ popped_transfers us more u rows.transfers.items is ∙ v.transfers;
+      transfers = ap (unwound_transfers us) (c.remove-in-AddedTransfer.ensures.rows ∙ ap (λ id. taken_out transfer_row_key id rows.transfers.items) c.key.ensures) ∙ popped_transfers us more u rows.transfers.items is ∙ v.transfers;
       accounts_room = v.accounts_room;
       transfers_room = omega (arith, v.transfers_room, c.remove-in-AddedTransfer.ensures.room);
       failed = v.failed;
