@@ -81,7 +81,7 @@ module _ (tells : Type 0) {D : Type 0} (disk : D → Disk) (only : (d : D) → O
       by (Err (keep.Serving (run.Frame fault))) (inl (none, same)) = quits same
       by (Err (keep.Serving (run.Frame fault))) (inr (is, broken)) = batch ((broken.commits t).any_moment)
       by (Err (keep.Serving run.NoMemory)) same = quits same
-      by (Err (keep.Serving run.TimeExhausted)) same = quits same
+      by (Err (keep.Serving run.TimeExhausted)) (none, same) = quits same
       by (Err (keep.Serving run.TooLong)) same = quits same
 
   all_leave : tells → (done : List (List Pair)) (more : List Pair) (first standing : Standing D) (result : Result ℕ KeepFault) (after : Keeping D) (written : Output)

@@ -1,6 +1,5 @@
 -- Serving in rounds: those so far, and what comes next.
-use Rattle.std.proofs.Common.{◌≡◌, ℕ, ◌+◌, ◌-◌, ◌^◌, true, false, List, [], ◌∷◌, ◌++◌, length, None, Result, Ok, Err, inl, inr, refl, sym, ap, ◌∙◌, subst, append_assoc, length-append}
-use Rattle.tb_records.specs.declared.faults.FrameFault.{FrameFault}
+use Rattle.std.proofs.Common.{◌≡◌, ℕ, ◌+◌, ◌-◌, ◌^◌, true, List, [], ◌∷◌, ◌++◌, length, None, Result, Ok, Err, inl, inr, refl, sym, ap, ◌∙◌, subst, append_assoc, length-append}
 use Rattle.tb_records.specs.Transport.{Input, Output, Sent, CutOff}
 use Rattle.tb_journal.specs.Device.{Disk, LeavesOnly}
 use Rattle.tb_journal.specs.Contents.{recorded}
@@ -8,14 +7,14 @@ use Rattle.tb_journal.specs.Steps.{IsBeforeOrAfter}
 use Rattle.tb_journal.specs.Ready.{Kept, IsReady}
 use Rattle.tb_machine.specs.declared.serving.RunFault.TheVariants as run
 use Rattle.tb_machine.specs.Histories.{State}
-use Rattle.tb_machine.specs.Scripts.{Pair, has_time, after_pair}
+use Rattle.tb_machine.specs.Scripts.{Pair, after_pair}
 use Rattle.tb_machine.specs.Runs.{Reads, is_new_in}
 use Rattle.tb_machine.proofs.Running.{reads_none, reads_snoc}
 use Rattle.tb_keep.specs.declared.faults.KeepFault.{KeepFault}
 use Rattle.tb_keep.specs.declared.faults.KeepFault.TheVariants as keep
 use Rattle.tb_keep.specs.Keeping.{Keeping, IsFresh}
-use Rattle.tb_keep.specs.Rounds.{state_from, records_from, told_from, IsServed, AreServed, pairs_of, Commits, Standing, Round, Rounds, Pauses, Served, Stops, EndsBy, IsRead}
-use Rattle.tb_keep.specs.Steps.{Next, Ceases, IsCommitted, Tells, MayTell, EndsNext}
+use Rattle.tb_keep.specs.Rounds.{state_from, records_from, told_from, IsServed, AreServed, pairs_of, Commits, Standing, Round, Rounds, IsStop, Pauses, Served, Stops, EndsBy}
+use Rattle.tb_keep.specs.Steps.{IsRefusal, Next, Ceases, IsCommitted, Tells, MayTell, EndsNext}
 use Rattle.tb_keep.proofs.Pairs.{state_snoc, records_join, told_join, served_snoc, pairs_snoc}
 
 abbrev is_ok : {T F : Type 0} → Result T F → Type 0
@@ -154,7 +153,7 @@ module _ (tells : Type 0) {D : Type 0} (disk : D → Disk) where
 
   -- a fault in telling, with nothing more read, or the end
   pub served_silent : (f : KeepFault) (k : ℕ) (before keeper after : Keeping D) (first input last : Input) (start written next : Output) (held left : List ℕ)
-      → Going k before keeper first input start written held → Pauses input last → Tells tells disk (Err f) keeper after held left written next
+      → (g : Going k before keeper first input start written held) → Pauses (state_from g.standing.state g.more) input last → Tells tells disk (Err f) keeper after held left written next
       → Served tells disk (Err f) before after first last start next
   served_silent f k before keeper after first input last start written next held left g pauses t = record {
     rounds = g.rounds;
@@ -208,11 +207,11 @@ module _ (tells : Type 0) {D : Type 0} (disk : D → Disk) where
       (subst (λ (x : Keeping D). Tells tells disk (Err f) x after held left written next) c.same
       (subst (λ bytes. Tells tells disk (Err f) again after bytes left written next) c.holds t))
 
-  -- a fault in serving a pair
-  pub served_into : (f : KeepFault) (k : ℕ) (before keeper after : Keeping D) (first input last : Input) (start written : Output) (held grown : List ℕ)
-      → Going k before keeper first input start written held → Next (Err f) keeper after input last held grown
+  -- a fault in serving a pair, behind which nothing is told
+  served_into : (f : KeepFault) (k : ℕ) (before keeper after : Keeping D) (first input last : Input) (start written : Output) (held grown : List ℕ)
+      → Going k before keeper first input start written held → IsRefusal f → Next (Err f) keeper after input last held grown
       → Served tells disk (Err f) before after first last start written
-  served_into f k before keeper after first input last start written held grown g n = record {
+  served_into f k before keeper after first input last start written held grown g is n = record {
     rounds = g.rounds;
     more = g.more;
     standing = g.standing;
@@ -220,33 +219,30 @@ module _ (tells : Type 0) {D : Type 0} (disk : D → Disk) where
     kept = g.kept;
     served = g.served;
     read = g.read;
-    stops = stops f n;
-    ended = ended f n;
+    stops = stops f is n;
+    ended = ended f is n;
   }
     where
-      new_there : (p : Pair) → is_new_in keeper.state p ≡ true → is_new_in (state_from g.standing.state g.more) p ≡ true
-      new_there p is = subst (λ (U : State). is_new_in U p ≡ true) g.state is
+      stops : (f : KeepFault) → IsRefusal f → Next (Err f) keeper after input last held grown → Stops (Err f) (state_from g.standing.state g.more) (length (pairs_of g.rounds ++ g.more)) input last
+      stops (keep.Serving (run.Frame fault)) is n = absurd is
+      stops (keep.Serving run.NoMemory) is n = (n.pair, n.read)
+      stops (keep.Serving run.TimeExhausted) is n = absurd is
+      stops (keep.Serving run.TooLong) is n = absurd is
+      stops (keep.Journal fault) is n = inl (n.pair, n.read, subst (λ (U : State). is_new_in U n.pair ≡ true) g.state n.turn.0)
 
-      stops : (f : KeepFault) → Next (Err f) keeper after input last held grown → Stops (Err f) (state_from g.standing.state g.more) (length (pairs_of g.rounds ++ g.more)) input last
-      stops (keep.Serving (run.Frame fault)) n = absurd n.turn
-      stops (keep.Serving run.NoMemory) n = (n.pair, n.read)
-      stops (keep.Serving run.TimeExhausted) n = (n.pair, n.read, new_there n.pair n.turn.0, subst (λ (U : State). has_time U n.pair ≡ false) g.state n.turn.1)
-      stops (keep.Serving run.TooLong) n = absurd n.turn
-      stops (keep.Journal fault) n = inl (n.pair, n.read, new_there n.pair n.turn.0)
+      ended : (f : KeepFault) → IsRefusal f → Next (Err f) keeper after input last held grown → EndsBy tells disk (Err f) g.more g.standing after written
+      ended (keep.Serving (run.Frame fault)) is n = absurd is
+      ended (keep.Serving run.NoMemory) is n = record { same = n.turn ∙ g.device; silent = g.output }
+      ended (keep.Serving run.TimeExhausted) is n = absurd is
+      ended (keep.Serving run.TooLong) is n = absurd is
+      ended (keep.Journal fault) is n = inl (record { same = n.turn.1 ∙ g.device; silent = g.output })
 
-      ended : (f : KeepFault) → Next (Err f) keeper after input last held grown → EndsBy tells disk (Err f) g.more g.standing after written
-      ended (keep.Serving (run.Frame fault)) n = absurd n.turn
-      ended (keep.Serving run.NoMemory) n = record { same = n.turn ∙ g.device; silent = g.output }
-      ended (keep.Serving run.TimeExhausted) n = record { same = n.turn.2 ∙ g.device; silent = g.output }
-      ended (keep.Serving run.TooLong) n = absurd n.turn
-      ended (keep.Journal fault) n = inl (record { same = n.turn.1 ∙ g.device; silent = g.output })
-
-  -- the replies held were told, and then a frame was none
-  served_no_frame : (fault : FrameFault) (k : ℕ) (before keeper after : Keeping D) (first input last : Input) (start written next : Output) (held left : List ℕ)
-      → Going k before keeper first input start written held → IsRead (Err fault) input last → Tells tells disk (Ok tt) keeper after held left written next
-      → Served tells disk (Err (keep.Serving (run.Frame fault))) before after first last start next
+  -- the replies held were told before what ends serving
+  served_stopped : (stop : KeepFault) (k : ℕ) (before keeper after : Keeping D) (first input last : Input) (start written next : Output) (held left : List ℕ)
+      → Going k before keeper first input start written held → IsStop stop keeper.state input last → Tells tells disk (Ok tt) keeper after held left written next
+      → Served tells disk (Err stop) before after first last start next
   unfolding going_told
-  served_no_frame fault k before keeper after first input last start written next held left g read t =
+  served_stopped stop k before keeper after first input last start written next held left g is t =
       let told = going_told k before keeper after first input start written next held left g t in
       record {
         rounds = told.rounds;
@@ -256,21 +252,36 @@ module _ (tells : Type 0) {D : Type 0} (disk : D → Disk) where
         kept = told.kept;
         served = tt;
         read = told.read;
-        stops = inl read;
-        ended = inl (refl, record { same = refl; silent = refl });
+        stops = stops stop is;
+        ended = ended stop is;
       }
+    where
+      stops : (f : KeepFault) → IsStop f keeper.state input last → Stops (Err f) after.state (length (pairs_of (g.rounds ++ g.more ∷ []) ++ [])) input last
+      stops (keep.Serving (run.Frame fault)) is = inl is
+      stops (keep.Serving run.TimeExhausted) is = subst (λ (U : State). IsStop (keep.Serving run.TimeExhausted) U input last) (sym t.0.state) is
+      stops (keep.Serving run.NoMemory) is = absurd is
+      stops (keep.Serving run.TooLong) is = absurd is
+      stops (keep.Journal fault) is = absurd is
+
+      ended : (f : KeepFault) → IsStop f keeper.state input last → EndsBy tells disk (Err f) [] (record { state = after.state; device = after.journal.device; output = next }) after next
+      ended (keep.Serving (run.Frame fault)) is = inl (refl, record { same = refl; silent = refl })
+      ended (keep.Serving run.TimeExhausted) is = (refl, record { same = refl; silent = refl })
+      ended (keep.Serving run.NoMemory) is = absurd is
+      ended (keep.Serving run.TooLong) is = absurd is
+      ended (keep.Journal fault) is = absurd is
 
   -- a fault in reading or serving a pair
   pub served_ends : (f : KeepFault) (k : ℕ) (before keeper after : Keeping D) (first input last : Input) (start written next : Output) (held left : List ℕ)
       → Going k before keeper first input start written held → EndsNext tells disk f keeper after input last held left written next
       → Served tells disk (Err f) before after first last start next
-  served_ends f k before keeper after first input last start written next held left g (inl (n, silent)) =
-      subst (λ (o : Output). Served tells disk (Err f) before after first last start o) (sym silent) (served_into f k before keeper after first input last start written held left g n)
-  served_ends f k before keeper after first input last start written next held left g (inr (fault, read, inl (is, t))) =
-      subst (λ (e : KeepFault). Served tells disk (Err e) before after first last start next) (sym is)
-      (served_no_frame fault k before keeper after first input last start written next held left g read t)
-  served_ends f k before keeper after first input last start written next held left g (inr (fault, read, inr t)) =
-      served_silent f k before keeper after first input last start written next held left g (inr (inr (fault, read))) t
+  served_ends f k before keeper after first input last start written next held left g (inl (is, n, silent)) =
+      subst (λ (o : Output). Served tells disk (Err f) before after first last start o) (sym silent) (served_into f k before keeper after first input last start written held left g is n)
+  served_ends f k before keeper after first input last start written next held left g (inr (stop, is, inl (same, t))) =
+      subst (λ (e : KeepFault). Served tells disk (Err e) before after first last start next) (sym same)
+      (served_stopped stop k before keeper after first input last start written next held left g is t)
+  served_ends f k before keeper after first input last start written next held left g (inr (stop, is, inr t)) =
+      served_silent f k before keeper after first input last start written next held left g
+      (inr (inr (stop, subst (λ (U : State). IsStop stop U input last) g.state is))) t
 
   -- nothing was written meanwhile
   pub going_silent : (k : ℕ) (before keeper : Keeping D) (first input : Input) (start written next : Output) (held : List ℕ)

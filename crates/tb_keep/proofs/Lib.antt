@@ -8,4 +8,5 @@ pub mod Dumping
 pub mod Crashes
 pub mod Again
 pub mod Spelled
+pub mod Stopping
 pub mod Unrefused

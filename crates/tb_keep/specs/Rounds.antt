@@ -77,18 +77,28 @@ abbrev pub pairs_of : List (List Pair) → List Pair
 pairs_of [] = []
 pairs_of (ps ∷ rounds) = ps ++ pairs_of rounds
 
--- nothing more was read, or the end, or no frame
-abbrev pub Pauses : Input → Input → Type 0
-Pauses middle after = (after ≡ middle) ⊎ (IsRead (Ok None) middle after ⊎ ((fault : FrameFault) × IsRead (Err fault) middle after))
+-- a pair is new, and the end of time leaves no time for it
+abbrev pub IsUntimely : State → Pair → Type 0
+IsUntimely S p = (is_new_in S p ≡ true) × (has_time S p ≡ false)
+
+-- what ends serving behind all that came before it: no frame was read, or a pair for which there is no time
+abbrev pub IsStop : KeepFault → State → Input → Input → Type 0
+IsStop (keep.Serving (run.Frame fault)) S middle after = IsRead (Err fault) middle after
+IsStop (keep.Serving run.TimeExhausted) S middle after = (p : Pair) × Reads (p ∷ []) middle after × IsUntimely S p
+IsStop fault S middle after = ⊥
+
+-- nothing more was read, or the end, or what ends serving
+abbrev pub Pauses : State → Input → Input → Type 0
+Pauses S middle after = (after ≡ middle) ⊎ (IsRead (Ok None) middle after ⊎ ((fault : KeepFault) × IsStop fault S middle after))
 
 -- what was read behind the pairs that were served: nothing to the end, a fault, one more pair, or nothing
 abbrev pub Stops : Result ℕ KeepFault → State → ℕ → Input → Input → Type 0
 Stops (Ok k) S count middle after = (k ≡ count) × IsRead (Ok None) middle after
-Stops (Err (keep.Serving (run.Frame fault))) S count middle after = IsRead (Err fault) middle after ⊎ Pauses middle after
+Stops (Err (keep.Serving (run.Frame fault))) S count middle after = IsRead (Err fault) middle after ⊎ Pauses S middle after
 Stops (Err (keep.Serving run.NoMemory)) S count middle after = (p : Pair) × Reads (p ∷ []) middle after
-Stops (Err (keep.Serving run.TimeExhausted)) S count middle after = (p : Pair) × Reads (p ∷ []) middle after × (is_new_in S p ≡ true) × (has_time S p ≡ false)
+Stops (Err (keep.Serving run.TimeExhausted)) S count middle after = IsStop (keep.Serving run.TimeExhausted) S middle after
 Stops (Err (keep.Serving run.TooLong)) S count middle after = (count ≡ 2 ^ 64 - 1) × (after ≡ middle)
-Stops (Err (keep.Journal fault)) S count middle after = ((p : Pair) × Reads (p ∷ []) middle after × (is_new_in S p ≡ true)) ⊎ Pauses middle after
+Stops (Err (keep.Journal fault)) S count middle after = ((p : Pair) × Reads (p ∷ []) middle after × (is_new_in S p ≡ true)) ⊎ Pauses S middle after
 
 module _ (tells : Type 0) {D : Type 0} (disk : D → Disk) where
   -- one round: while the file grows nothing is told, and while the replies are told, and held back no more, the file stays
@@ -118,11 +128,13 @@ module _ (tells : Type 0) {D : Type 0} (disk : D → Disk) where
     pub commits : tells → Commits (records_from middle.state ps) (disk middle.device) (disk device)
     pub cut : CutOff (told_from middle.state ps) middle.output output
 
-  -- how serving ends behind rounds and further pairs: where a frame is none there are no further ones, unless the writer failed
+  -- how serving ends behind rounds and further pairs: where a frame is none there are no further ones, unless the writer failed,
+  -- and where no time is left there are none
   abbrev pub EndsBy : Result ℕ KeepFault → List Pair → Standing D → Keeping D → Output → Type 0
   EndsBy (Ok k) ps middle keeper output = (ps ≡ []) × (keeper.state ≡ middle.state) × Quits middle keeper.journal.device output
   EndsBy (Err (keep.Journal fault)) ps middle keeper output = Quits middle keeper.journal.device output ⊎ Fails ps middle keeper.journal.device output
   EndsBy (Err (keep.Serving (run.Frame fault))) ps middle keeper output = ((ps ≡ []) × Quits middle keeper.journal.device output) ⊎ ((fault ≡ Device) × BreaksOff ps middle keeper.journal.device output)
+  EndsBy (Err (keep.Serving run.TimeExhausted)) ps middle keeper output = (ps ≡ []) × Quits middle keeper.journal.device output
   EndsBy (Err fault) ps middle keeper output = Quits middle keeper.journal.device output
 
   -- pairs were read and served in rounds, and further ones were read and not told

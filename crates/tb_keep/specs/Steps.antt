@@ -18,7 +18,7 @@ use Rattle.tb_machine.specs.Recording.{IsRecord}
 use Rattle.tb_keep.specs.declared.faults.KeepFault.{KeepFault}
 use Rattle.tb_keep.specs.declared.faults.KeepFault.TheVariants as keep
 use Rattle.tb_keep.specs.Keeping.{Keeping}
-use Rattle.tb_keep.specs.Rounds.{IsServed, Commits, IsRead, records_from, told_from}
+use Rattle.tb_keep.specs.Rounds.{IsServed, IsUntimely, Commits, IsRead, IsStop, records_from, told_from}
 
 -- a fault of a record that is made to wait: there is no memory for it, or the journal refuses it
 abbrev pub IsRefusal : KeepFault → Type 0
@@ -41,14 +41,14 @@ pub record Waits {D : Type 0} (p : Pair) (before after : Keeping D) : Type 0 whe
 -- the request comes back, or a fault came, and all is as it was
 abbrev pub Appends : {D : Type 0} → Result Message KeepFault → Pair → Keeping D → Keeping D → Type 0
 Appends (Ok request) p before after = (request ≡ p.1) × Waits p before after
-Appends (Err (keep.Serving run.TimeExhausted)) p before after = (has_time before.state p ≡ false) × (after.journal ≡ before.journal)
+Appends (Err (keep.Serving run.TimeExhausted)) p before after = (has_time before.state p ≡ false) × (after ≡ before)
 Appends (Err fault) p before after = IsRefusal fault × (after.journal ≡ before.journal)
 
 -- the reply to a pair is held behind the others, or there is no memory
 abbrev pub Holds : Result (Unit {0}) KeepFault → Pair → State → State → List ℕ → List ℕ → Type 0
 Holds (Ok done) p S T held grown = IsTimely S p × (T ≡ after_pair S p) × (grown ≡ held ++ answer_bytes S p) × IsReply (answer_to (after_pair S p) p.1)
 Holds (Err (keep.Serving run.NoMemory)) p S T held grown = Unit {0}
-Holds (Err (keep.Serving run.TimeExhausted)) p S T held grown = (is_new_in S p ≡ true) × (has_time S p ≡ false)
+Holds (Err (keep.Serving run.TimeExhausted)) p S T held grown = IsUntimely S p
 Holds (Err fault) p S T held grown = ⊥
 
 -- a pair was served: its record waits, and its reply is held
@@ -58,11 +58,16 @@ pub record HoldsPair {D : Type 0} (p : Pair) (before after : Keeping D) (held gr
   pub waits : after.journal ≡ record before.journal { waiting = before.journal.waiting ++ records_from before.state (p ∷ []) }
   pub holds : grown ≡ held ++ told_from before.state (p ∷ [])
 
--- or a fault came, and the file stays
+-- a pair had no time
+abbrev pub is_end_of_time : KeepFault → Bool
+is_end_of_time (keep.Serving run.TimeExhausted) = true
+is_end_of_time fault = false
+
+-- or a fault came, and the file stays; where a pair had no time all stays
 abbrev pub KeepsPair : {D : Type 0} → Result (Unit {0}) KeepFault → Pair → Keeping D → Keeping D → List ℕ → List ℕ → Type 0
 KeepsPair (Ok done) p before after held grown = HoldsPair p before after held grown
 KeepsPair (Err (keep.Journal fault)) p before after held grown = (is_new_in before.state p ≡ true) × (after.journal.device ≡ before.journal.device)
-KeepsPair (Err (keep.Serving run.TimeExhausted)) p before after held grown = (is_new_in before.state p ≡ true) × (has_time before.state p ≡ false) × (after.journal.device ≡ before.journal.device)
+KeepsPair (Err (keep.Serving run.TimeExhausted)) p before after held grown = IsUntimely before.state p × (after ≡ before) × (grown ≡ held)
 KeepsPair (Err (keep.Serving run.NoMemory)) p before after held grown = after.journal.device ≡ before.journal.device
 KeepsPair (Err fault) p before after held grown = ⊥
 
@@ -109,12 +114,16 @@ module _ (tells : Type 0) {D : Type 0} (disk : D → Disk) where
   MayTell result before after held left start written =
       ((result ≡ Ok tt) × (after ≡ before) × (left ≡ held) × (written ≡ start)) ⊎ Tells result before after held left start written
 
-  -- a fault in serving a pair; or a frame is none, and what is held is told first, which may fail
+  -- what is held is told before a fault ends serving; which may fail, and then that fault ends it
+  abbrev pub EndsTold : KeepFault → KeepFault → Keeping D → Keeping D → List ℕ → List ℕ → Output → Output → Type 0
+  EndsTold stop f before after held left start written =
+      ((f ≡ stop) × Tells (Ok tt) before after held left start written) ⊎ Tells (Err f) before after held left start written
+
+  -- a fault in serving a pair, behind which nothing is told; or a stop, before which what is held is told
   abbrev pub EndsNext : KeepFault → Keeping D → Keeping D → Input → Input → List ℕ → List ℕ → Output → Output → Type 0
   EndsNext f before after first last held left start written =
-      (Next (Err f) before after first last held left × (written ≡ start))
-      ⊎ ((fault : FrameFault) × IsRead (Err fault) first last
-      × (((f ≡ keep.Serving (run.Frame fault)) × Tells (Ok tt) before after held left start written) ⊎ Tells (Err f) before after held left start written))
+      (IsRefusal f × Next (Err f) before after first last held left × (written ≡ start))
+      ⊎ ((stop : KeepFault) × IsStop stop before.state first last × EndsTold stop f before after held left start written)
 
   abbrev pub KeepsNext : Result Bool KeepFault → Keeping D → Keeping D → Input → Input → List ℕ → List ℕ → Output → Output → Type 0
   KeepsNext (Ok more) before after first last held left start written = GoesOn more before after first last held left × (written ≡ start)

@@ -8,7 +8,7 @@ ghost use Rattle.tb_machine.specs.Runs.{is_new_in};
 ghost use Rattle.tb_machine.specs.Scripts.{entry_of, has_time};
 ghost use Rattle.tb_keep.specs.Keeping.{IsFresh};
 ghost use Rattle.tb_keep.specs.Rounds.{Served};
-ghost use Rattle.tb_keep.specs.Steps.{IsRefusal, Appends, Holds, KeepsPair, KeepsNext, HandsOut, Tells, MayTell, with_record};
+ghost use Rattle.tb_keep.specs.Steps.{IsRefusal, Appends, Holds, KeepsPair, KeepsNext, HandsOut, Tells, MayTell, EndsTold, is_end_of_time, with_record};
 
 use crate::faults::KeepFault;
 use crate::keepers::Keeper;
@@ -157,8 +157,32 @@ fn tell_before_waiting<D: Device, R: Source, W: Sink>(
     tell(keeper, replies, writer)
 }
 
-/// Reads and serves the next pair: false where there is none. Where a frame is none, what is held is told before the
-/// fault is answered.
+/// Says whether the end of time leaves no time for a pair.
+fn is_end_of_time(fault: KeepFault) -> bool
+    ensures { result ≡ is_end_of_time fault }
+{
+    matches!(fault, KeepFault::Serving(RunFault::TimeExhausted))
+}
+
+/// Tells what is held before a fault ends serving, and answers the fault that ends it.
+fn tell_and_stop<D: Device, W: Sink>(
+    keeper: &mut Keeper<D>,
+    replies: &mut Replies,
+    writer: &mut W,
+    stop: KeepFault,
+) -> KeepFault
+    requires { D.tells → IsReady D.disk keeper.old.journal }
+    ensures { EndsTold D.tells D.disk stop result keeper.old keeper.new replies.old.bytes.items
+        replies.new.bytes.items (W.output writer.old) (W.output writer.new) }
+{
+    match tell(keeper, replies, writer) {
+        Ok(()) => stop,
+        Err(fault) => fault,
+    }
+}
+
+/// Reads and serves the next pair: false where there is none. Where a frame is none, or there is no time for a pair, what is
+/// held is told before the fault is answered.
 fn keep_next<D: Device, R: Source, W: Sink>(
     alloc: Global,
     keeper: &mut Keeper<D>,
@@ -171,22 +195,27 @@ fn keep_next<D: Device, R: Source, W: Sink>(
         replies.old.bytes.items replies.new.bytes.items (W.output writer.old) (W.output writer.new) }
 {
     match read_timed_from(alloc, reader) {
-        Ok(Some((moment, request))) => {
-            keep_pair(keeper, replies, moment, request)?;
-            Ok(true)
-        }
+        Ok(Some((moment, request))) => match keep_pair(keeper, replies, moment, request) {
+            Ok(()) => Ok(true),
+            Err(fault) => {
+                if is_end_of_time(fault) {
+                    return Err(tell_and_stop(keeper, replies, writer, fault));
+                }
+                Err(fault)
+            }
+        },
         Ok(None) => Ok(false),
         Err(fault) => {
-            tell(keeper, replies, writer)?;
-            Err(KeepFault::Serving(RunFault::Frame(fault)))
+            let stop = KeepFault::Serving(RunFault::Frame(fault));
+            Err(tell_and_stop(keeper, replies, writer, stop))
         }
     }
 }
 
 /// Serves pairs, a moment and the frame of a request each, until they end, and answers the number of replies told. Each
-/// was told when the entries that it rests on were in the file. Where a frame is none, all before it is answered.
-/// After any other fault nothing more is told: what was read since the last commit is not answered. The keeper is not to be
-/// used again.
+/// was told when the entries that it rests on were in the file. Where a frame is none, or the end of time leaves no time for
+/// a request, all before it is answered. After any other fault nothing more is told: what was read since the last commit is
+/// not answered. The keeper is not to be used again.
 pub fn keep<D: Device, R: Source, W: Sink>(
     alloc: Global,
     keeper: &mut Keeper<D>,

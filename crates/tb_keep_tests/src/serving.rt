@@ -138,19 +138,24 @@ fn a_frame_cut_short_ends_serving(rt: HostRuntime) -> Result<(), Fail> {
     cut_short(&rt, rt.alloc())
 }
 
-/// What serving answers to a script whose last frame has a byte that has to be 0, where all of it is at hand.
-fn wrong_frame(rt: &impl Abort, alloc: Global) -> Result<(), Fail> {
+/// Serves a script whose last pair has a byte changed, where all of it is at hand: that pair ends serving, and those before
+/// it are committed and told.
+fn ends_behind_two(
+    rt: &impl Abort,
+    alloc: Global,
+    changed: (usize, u8),
+    fault: RunFault,
+) -> Result<(), Fail> {
     let mut bytes = script(alloc, 2)?;
     let whole = bytes.len();
     put_pair(&mut bytes, &TRANSFER)?;
-    // A reserved byte of the header, behind the moment.
-    if let Some(byte) = bytes.get_mut(whole.saturating_add(37)) {
-        *byte = 1;
+    if let Some(byte) = bytes.get_mut(whole.saturating_add(changed.0)) {
+        *byte = changed.1;
     }
     let mut reader = Buffered::new(BufReader::with_capacity(alloc, 4096, bytes.as_slice())?);
     let keeper = created_in(rt, alloc, file_of(alloc, &[])?);
     let served = served(alloc, keeper, &mut reader);
-    assert!(rt; served.result == Err(KeepFault::Serving(RunFault::Frame(FrameFault::Reserved))));
+    assert!(rt; served.result == Err(KeepFault::Serving(fault)));
     // The replies to the register and the accounts, 48 bytes each, and their records behind the head, by one commit.
     assert!(rt; served.replies.len() == 96);
     assert!(rt; served.records == 3);
@@ -160,5 +165,17 @@ fn wrong_frame(rt: &impl Abort, alloc: Global) -> Result<(), Fail> {
 
 #[test]
 fn a_wrong_frame_ends_serving_behind_those_before_it(rt: HostRuntime) -> Result<(), Fail> {
-    wrong_frame(&rt, rt.alloc())
+    // A reserved byte of the header, behind the moment.
+    ends_behind_two(
+        &rt,
+        rt.alloc(),
+        (37, 1),
+        RunFault::Frame(FrameFault::Reserved),
+    )
+}
+
+#[test]
+fn the_end_of_time_ends_serving_behind_those_before_it(rt: HostRuntime) -> Result<(), Fail> {
+    // The highest byte of the moment, which is 2^63 and 10 then.
+    ends_behind_two(&rt, rt.alloc(), (7, 128), RunFault::TimeExhausted)
 }

@@ -1,11 +1,10 @@
 //! Files that are opened, and read without a write.
 use crate::faults::{Fault, opened_fault, started_fault};
-use crate::summaries::summary_of;
+use crate::summaries::{Summary, summary_of};
 use std::alloc::Global;
 use std::io::{self, BufWriter, Write};
 use tb_journal::{FileFault, Real, Scanned, read_journal};
 use tb_keep::{Rules, read_history, write_dump};
-use tb_machine::Machine;
 use tb_records::Counting;
 
 /// The bytes of output that are held at a time.
@@ -41,28 +40,31 @@ fn read_file(rt: &HostRuntime, path: &str) -> Result<Scanned, Fault> {
         Ok(real) => real,
         Err(fault) => return Err(file_fault(&fault)),
     };
-    match read_journal(rt.alloc(), &mut real) {
+    let read = read_journal(rt.alloc(), &mut real);
+    drop(real);
+    match read {
         Ok(file) => Ok(file),
         Err(fault) => Err(opened_fault(fault)),
     }
 }
 
-/// The rules of a file, and the machine that its entries lead to: all of them are those of one history.
-fn history_of(alloc: Global, file: &Scanned) -> Result<(Rules, Machine<Global>), Fault> {
+/// The rules of a file whose entries are all those of one history.
+fn rules_of(alloc: Global, file: &Scanned) -> Result<Rules, Fault> {
     match read_history(alloc, file) {
-        Ok(history) => Ok(history),
+        Ok((rules, machine)) => {
+            drop(machine);
+            Ok(rules)
+        }
         Err(fault) => Err(started_fault(fault)),
     }
 }
 
-/// Writes the history of the file at a path to standard output, as a dump. Of a file that is refused nothing is written.
-pub fn dump(rt: &HostRuntime, path: &str) -> Result<(), Fault> {
-    let file = read_file(rt, path)?;
-    let (rules, machine) = history_of(rt.alloc(), &file)?;
-    drop(machine);
+/// Writes the history of a file to standard output, as a dump.
+fn dump_file(rt: &HostRuntime, file: &Scanned) -> Result<(), Fault> {
+    let rules = rules_of(rt.alloc(), file)?;
     let output = no_memory(BufWriter::with_capacity(rt.alloc(), BUFFER, rt.stdout()))?;
     let mut writer = Counting::new(output);
-    let written = write_dump(&file, rules, &mut writer);
+    let written = write_dump(file, rules, &mut writer);
     let flushed = writer.into_inner().flush();
     match (written, flushed) {
         (Ok(()), Ok(())) => Ok(()),
@@ -70,12 +72,32 @@ pub fn dump(rt: &HostRuntime, path: &str) -> Result<(), Fault> {
     }
 }
 
+/// Writes the history of the file at a path to standard output, as a dump. Of a file that is refused nothing is written.
+pub fn dump(rt: &HostRuntime, path: &str) -> Result<(), Fault> {
+    let file = read_file(rt, path)?;
+    let dumped = dump_file(rt, &file);
+    drop(file);
+    dumped
+}
+
+/// What is in a file whose entries are all those of one history.
+fn summarized(alloc: Global, file: &Scanned) -> Result<Summary, Fault> {
+    match read_history(alloc, file) {
+        Ok((rules, machine)) => {
+            let summary = summary_of(file, rules, &machine);
+            drop(machine);
+            Ok(summary)
+        }
+        Err(fault) => Err(started_fault(fault)),
+    }
+}
+
 /// Tells what is in the file at a path on standard output.
 pub fn check(rt: &HostRuntime, path: &str) -> Result<(), Fault> {
     let file = read_file(rt, path)?;
-    let (rules, machine) = history_of(rt.alloc(), &file)?;
-    let summary = summary_of(&file, rules, &machine);
-    drop(machine);
+    let summary = summarized(rt.alloc(), &file);
+    drop(file);
+    let summary = summary?;
     match print!(rt; "{summary}") {
         Ok(()) => Ok(()),
         Err(_) => Err(Fault::Device),

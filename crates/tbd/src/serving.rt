@@ -22,12 +22,18 @@ fn serve<D: Device + Drop, R: Source, W: Sink>(
     match Keeper::start(alloc, device, rules) {
         Ok(keeper) => {
             let mut keeper = keeper;
-            match keep(alloc, &mut keeper, reader, writer) {
+            let served = keep(alloc, &mut keeper, reader, writer);
+            drop(keeper);
+            match served {
                 Ok(told) => Ok(told),
                 Err(fault) => Err(kept_fault(fault)),
             }
         }
-        Err(failed) => Err(started_fault(failed.fault)),
+        Err(failed) => {
+            let fault = failed.fault;
+            drop(failed);
+            Err(started_fault(fault))
+        }
     }
 }
 
