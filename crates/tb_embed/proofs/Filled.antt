@@ -43,7 +43,7 @@ module _ (lent name named empty at stalled stalls : ℕ) (was is kept held : Boo
   given_done n e turn =
       let found = begun (Ok tt) turn in
       let grown = named_same named name (take at room) (answer_bytes S p) found.2.grown in
-      subst (λ (k : ℕ). Fills (Ok k) S T p bytes) (sym e) (subst (Fills (Ok at) S T p) (bytes_are grown.0) (found.0, found.1, within, grown.1))
+      subst (λ (k : ℕ). Fills (Ok k) S T p bytes) (sym e) (subst (Fills (Ok at) S T p) (bytes_are grown.0) (found.0, found.1, within, record { bytes_are = grown.1; is = found.3 }))
 
   broken : (f : RunFault) → Begun (Err f) → Fills (Err f) S T p bytes
   broken (fault.Frame f) found =

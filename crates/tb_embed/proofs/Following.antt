@@ -3,7 +3,7 @@ use Rattle.std.proofs.Common.{◌≡◌, ℕ, ◌≤◌, ◌<◌, true, false, L
 use Rattle.tb_records.specs.declared.limits.Profile.{Profile}
 use Rattle.tb_records.specs.Messages.{Message}
 use Rattle.tb_records.specs.Frames.{Spells}
-use Rattle.tb_records.specs.ReplyFrames.{reply_bytes}
+use Rattle.tb_records.specs.ReplyFrames.{reply_bytes, IsReply, SpellsReply}
 use Rattle.tb_records.proofs.Spellings.{spelled_once}
 use Rattle.tb_machine.specs.declared.entries.Entry.{Entry}
 use Rattle.tb_machine.specs.Histories.{State, after, answer_to}
@@ -13,7 +13,7 @@ use Rattle.tb_machine.specs.ScriptLaws.{AreLawful}
 use Rattle.tb_machine.proofs.Accepted.{accepted_is_legal}
 use Rattle.tb_machine.proofs.Running.{after_with_pair}
 use Rattle.tb_embed.specs.declared.outcomes.Outcome.{Outcome}
-use Rattle.tb_embed.specs.declared.outcomes.Outcome.TheVariants.{Done, Closed, Usage, NoMemory, Malformed, TimeExhausted, Absent, TooSmall}
+use Rattle.tb_embed.specs.declared.outcomes.Outcome.TheVariants.{Done, Closed, Usage, NoMemory, Unread, Malformed, TimeExhausted, Absent, TooSmall}
 use Rattle.tb_embed.specs.Calls.{Serves}
 use Rattle.tb_embed.specs.CallRuns.{Call, Follow, answered, AreAsked, CallsMakeHistory, OneStatus}
 use Rattle.tb_embed.specs.Outcomes.{status_of}
@@ -26,10 +26,6 @@ module _ (profile : Profile) (clients_max : ℕ) where
     lawful : AreLawful pairs
     asked : AreAsked (answered cs) pairs (replies_from profile clients_max h pairs)
     stands : T ≡ after profile clients_max (accepted profile clients_max h pairs)
-
-  -- the reply to one more pair
-  reply_of : (h : List Entry) (p : Pair) → answer_bytes (after profile clients_max h) p ≡ reply_bytes (answer_to (after profile clients_max (with_pair profile clients_max h p)) p.1)
-  reply_of h p = ap (λ (S : State). reply_bytes (answer_to S p.1)) (sym (after_with_pair profile clients_max h p))
 
   goes : (h : List Entry) (cs : List Call) (S T : State) → S ≡ after profile clients_max h → Follow S cs T → Goes h cs T
   goes h [] S T is follow = record { pairs = []; lawful = tt; asked = tt; stands = follow ∙ is }
@@ -46,7 +42,7 @@ module _ (profile : Profile) (clients_max : ℕ) where
           record {
             pairs = p ∷ more.pairs;
             lawful = (ap is_none spells.is.lawful, more.lawful);
-            asked = (record { moment = refl; spelled = spells; told = right.3 ∙ ap (λ (S : State). answer_bytes S p) is ∙ reply_of h p }, more.asked);
+            asked = (record { moment = refl; spelled = spells; told = subst (λ (V : State). SpellsReply (take n room) (answer_to V p.1)) (sym right.1 ∙ there) right.3 }, more.asked);
             stands = more.stands;
           }
       by (TooSmall n) moment bytes room U (r, spells, right) rest =
@@ -57,12 +53,13 @@ module _ (profile : Profile) (clients_max : ℕ) where
           record {
             pairs = p ∷ more.pairs;
             lawful = (ap is_none spells.is.lawful, more.lawful);
-            asked = (record { moment = refl; spelled = spells; told = right.3 ∙ ap length (ap (λ (S : State). answer_bytes S p) is ∙ reply_of h p) }, more.asked);
+            asked = (record { moment = refl; spelled = spells; told = subst (λ (V : State). (n ≡ length (reply_bytes (answer_to V p.1))) × IsReply (answer_to V p.1)) (sym right.1 ∙ there) (right.3, right.4) }, more.asked);
             stands = more.stands;
           }
       by Malformed moment bytes room U right rest = let more = rest h U (right.1 ∙ is) in record { pairs = more.pairs; lawful = more.lawful; asked = more.asked; stands = more.stands }
-      by NoMemory moment bytes room U right rest = let more = rest h U (right.1 ∙ is) in record { pairs = more.pairs; lawful = more.lawful; asked = more.asked; stands = more.stands }
+      by Unread moment bytes room U right rest = let more = rest h U (right.1 ∙ is) in record { pairs = more.pairs; lawful = more.lawful; asked = more.asked; stands = more.stands }
       by TimeExhausted moment bytes room U (r, spells, right) rest = let more = rest h U (right.2 ∙ is) in record { pairs = more.pairs; lawful = more.lawful; asked = more.asked; stands = more.stands }
+      by NoMemory moment bytes room U (r, spells, right) rest = let more = rest h U (right.2 ∙ is) in record { pairs = more.pairs; lawful = more.lawful; asked = more.asked; stands = more.stands }
       by Closed moment bytes room U (r, spells, right) rest = absurd right
       by Usage moment bytes room U (r, spells, right) rest = absurd right
       by Absent moment bytes room U (r, spells, right) rest = absurd right
@@ -103,28 +100,32 @@ one_status S T U moment bytes room other a b mine yours same a_memory b_memory =
     late r s first second timely new none =
         no_time S (moment, s) (subst (λ (x : Message). is_new_in S (moment, x) ≡ true → has_time S (moment, x) ≡ true) (one_request bytes r s first second) timely) new none
 
-    by : (a b : Outcome) → Serves a (Some S) (Some T) moment bytes room → Serves b (Some S) (Some U) moment bytes other → (a ≡ NoMemory → ⊥) → (b ≡ NoMemory → ⊥) → status_of a ≡ status_of b
+    by : (a b : Outcome) → Serves a (Some S) (Some T) moment bytes room → Serves b (Some S) (Some U) moment bytes other → (status_of a ≡ 3 → ⊥) → (status_of b ≡ 3 → ⊥) → status_of a ≡ status_of b
     by NoMemory b mine yours c d = absurd (c refl)
+    by Unread b mine yours c d = absurd (c refl)
     by Closed b (r, spells, right) yours c d = absurd right
     by Usage b (r, spells, right) yours c d = absurd right
     by Absent b (r, spells, right) yours c d = absurd right
     by (Done n) NoMemory mine yours c d = absurd (d refl)
+    by (Done n) Unread mine yours c d = absurd (d refl)
     by (Done n) Closed mine (r, spells, right) c d = absurd right
     by (Done n) Usage mine (r, spells, right) c d = absurd right
     by (Done n) Absent mine (r, spells, right) c d = absurd right
     by (Done n) (Done k) mine yours c d = refl
-    by (Done n) (TooSmall k) (r, first, x) (s, second, y) c d = absurd (too_small r s n k room other same first second x.2 x.3 y.2 y.3)
+    by (Done n) (TooSmall k) (r, first, x) (s, second, y) c d = absurd (too_small r s n k room other same first second x.2 x.3.bytes_are y.2 y.3)
     by (Done n) Malformed (r, first, x) (bad, _) c d = absurd (whole_frame bytes r first bad)
     by (Done n) TimeExhausted (r, first, x) (s, second, y) c d = absurd (late r s first second x.0 y.0 y.1)
     by (TooSmall n) NoMemory mine yours c d = absurd (d refl)
+    by (TooSmall n) Unread mine yours c d = absurd (d refl)
     by (TooSmall n) Closed mine (r, spells, right) c d = absurd right
     by (TooSmall n) Usage mine (r, spells, right) c d = absurd right
     by (TooSmall n) Absent mine (r, spells, right) c d = absurd right
-    by (TooSmall n) (Done k) (r, first, x) (s, second, y) c d = absurd (too_small s r k n other room (sym same) second first y.2 y.3 x.2 x.3)
+    by (TooSmall n) (Done k) (r, first, x) (s, second, y) c d = absurd (too_small s r k n other room (sym same) second first y.2 y.3.bytes_are x.2 x.3)
     by (TooSmall n) (TooSmall k) mine yours c d = refl
     by (TooSmall n) Malformed (r, first, x) (bad, _) c d = absurd (whole_frame bytes r first bad)
     by (TooSmall n) TimeExhausted (r, first, x) (s, second, y) c d = absurd (late r s first second x.0 y.0 y.1)
     by Malformed NoMemory mine yours c d = absurd (d refl)
+    by Malformed Unread mine yours c d = absurd (d refl)
     by Malformed Closed mine (r, spells, right) c d = absurd right
     by Malformed Usage mine (r, spells, right) c d = absurd right
     by Malformed Absent mine (r, spells, right) c d = absurd right
@@ -133,6 +134,7 @@ one_status S T U moment bytes room other a b mine yours same a_memory b_memory =
     by Malformed Malformed mine yours c d = refl
     by Malformed TimeExhausted (bad, _) (s, second, y) c d = absurd (whole_frame bytes s second bad)
     by TimeExhausted NoMemory mine yours c d = absurd (d refl)
+    by TimeExhausted Unread mine yours c d = absurd (d refl)
     by TimeExhausted Closed mine (r, spells, right) c d = absurd right
     by TimeExhausted Usage mine (r, spells, right) c d = absurd right
     by TimeExhausted Absent mine (r, spells, right) c d = absurd right

@@ -6,7 +6,7 @@ use Rattle.tb_records.specs.Frames.{Spells, request_bytes, request_fault}
 use Rattle.tb_records.proofs.Spellings.{spelled_sound, found_only}
 use Rattle.tb_machine.specs.Histories.{State}
 use Rattle.tb_embed.specs.declared.outcomes.Outcome.{Outcome}
-use Rattle.tb_embed.specs.declared.outcomes.Outcome.TheVariants.{Done, Closed, Usage, NoMemory, Malformed, TimeExhausted, Absent, TooSmall}
+use Rattle.tb_embed.specs.declared.outcomes.Outcome.TheVariants.{Done, Closed, Usage, NoMemory, Unread, Malformed, TimeExhausted, Absent, TooSmall}
 use Rattle.tb_embed.specs.Calls.{IsMalformed, Answers, AnswersFrame}
 
 spelled_fault : (bytes : List ℕ) (r : Message) → Spells bytes r → request_fault bytes ≡ None
@@ -23,7 +23,8 @@ pub frame_answered : (outcome : Outcome) (S T : State) (moment : ℕ) (bytes roo
 frame_answered (Done n) S T moment bytes room r spells right = (r, spells, right)
 frame_answered Closed S T moment bytes room r spells right = absurd right
 frame_answered Usage S T moment bytes room r spells right = absurd right
-frame_answered NoMemory S T moment bytes room r spells right = (spelled_fault bytes r spells, right.2)
+frame_answered NoMemory S T moment bytes room r spells right = (r, spells, right)
+frame_answered Unread S T moment bytes room r spells right = absurd right
 frame_answered Malformed S T moment bytes room r spells right = absurd right
 frame_answered TimeExhausted S T moment bytes room r spells right = (r, spells, right)
 frame_answered Absent S T moment bytes room r spells right = absurd right

@@ -1,23 +1,28 @@
--- How long the frame of a reply is, and of the one that a request gets.
-use Rattle.std.proofs.Common.{true≢false, ◌≡◌, ℕ, ◌+◌, ◌*◌, true, false, length, Option, Some, None, refl, sym, ap, ◌∙◌, subst, length-append}
+-- How long the frame of a reply is, and of the one that a request gets, and that its numbers fit.
+use Rattle.std.proofs.Common.{true≢false, ◌≡◌, ◌≢◌, ℕ, ◌+◌, ◌*◌, ◌^◌, ◌<◌, ◌&&◌, Bool, true, false, cond, not, List, [], ◌∷◌, length, Option, Some, None, refl, sym, ap, ◌∙◌, subst, arith, eqb, ltb, length-append}
 use Rattle.tb_records.specs.declared.bodies.ReplyBody.{ReplyBody}
 use Rattle.tb_records.specs.declared.bodies.ReplyBody.TheVariants.{Empty, Results, Accounts, Transfers}
 use Rattle.tb_records.specs.declared.replies.Status.{Status}
-use Rattle.tb_records.specs.Messages.{Message, Answer, IsLawful, status_code}
+use Rattle.tb_records.specs.declared.replies.Status.TheVariants as status
+use Rattle.tb_records.specs.declared.bodies.Body.{Body}
+use Rattle.tb_records.specs.declared.bodies.Body.TheVariants as body
+use Rattle.tb_records.specs.declared.faults.FrameFault.TheVariants as fault
+use Rattle.tb_records.specs.Messages.{Message, Answer, IsLawful, IsRight, status_code, is_register, item_count, items_max, first_fault, asked}
 use Rattle.tb_records.specs.RecordBytes.{account_bytes, transfer_bytes, result_bytes}
-use Rattle.tb_records.specs.ReplyFrames.{header_of_reply, reply_body_bytes, reply_bytes}
+use Rattle.tb_records.specs.ReplyFrames.{header_of_reply, reply_body_bytes, reply_bytes, IsReply}
 use Rattle.tb_records.specs.Sizes.{length-account, length-transfer, length-result}
 use Rattle.tb_records.proofs.ItemBytes.{length_items}
 use Rattle.tb_records.proofs.ReplyPlaces.{length-reply_header}
 use Rattle.tb_sessions.specs.declared.rows.Row.{Row}
 use Rattle.tb_sessions.specs.declared.classes.Class.{Class}
 use Rattle.tb_sessions.specs.declared.classes.Class.TheVariants.{New, Repeat, NoSession, SessionTooLow, NewerSession, Older, Collision, NewerRequest}
-use Rattle.tb_sessions.specs.Judged.{row_of, class_of}
-use Rattle.tb_machine.specs.Histories.{State, is_new, status_of, refusal, answer_by, answer_to}
+use Rattle.tb_sessions.specs.Judged.{row_of, class_by, class_of}
+use Rattle.tb_machine.specs.Histories.{State, is_new, step, status_of, refusal, answer_by, answer_to}
 use Rattle.tb_machine.specs.Scripts.{Pair, entry_of, after_pair}
 use Rattle.tb_machine.specs.Runs.{is_new_in, IsTimely, answer_bytes}
 use Rattle.tb_machine.proofs.Turns.{row_after, answer_after, after_new, after_known}
-use Rattle.tb_embed.specs.Filling.{length_by}
+use Rattle.std.specs.Option.{option_map}
+use Rattle.tb_embed.specs.Filling.{length_by, FitsBy}
 
 length_frame : (r : Answer) → length (reply_bytes r) ≡ 48 + length (reply_body_bytes r.body)
 length_frame r =
@@ -84,3 +89,107 @@ module _ (S : State) (p : Pair) (lawful : IsLawful p.1) (timely : IsTimely S p) 
   answered_length T c client e own is =
       ap (λ (k : ℕ). length_by c (row_of T.rows k)) own
       ∙ subst (λ (U : State). length_by c (row_of U.rows p.1.client) ≡ length (answer_bytes S p)) (sym is) (by_class c e)
+
+-- a request's numbers fit the fields of a frame
+pub record HasFields (r : Message) : Type 0 where
+  pub client : r.client < 2 ^ 128
+  pub session : r.session < 2 ^ 64
+  pub request : r.request < 2 ^ 32
+
+pub fields_of : (r : Message) (client session request : ℕ) → client ≡ r.client → session ≡ r.session → request ≡ r.request → client < 2 ^ 128 → session < 2 ^ 64 → request < 2 ^ 32 → HasFields r
+fields_of r client session request e f g a b c = record { client = subst (λ (k : ℕ). k < 2 ^ 128) e a; session = subst (λ (k : ℕ). k < 2 ^ 64) f b; request = subst (λ (k : ℕ). k < 2 ^ 32) g c }
+
+-- what a lawful request's numbers tell
+lawful_lines : (client register session number many : Bool)
+    → first_fault ((client, fault.ClientZero) ∷ (register && not (session && number), fault.RegisterNumbers) ∷ (not register && number, fault.RequestZero) ∷ (many, fault.TooMany) ∷ []) ≡ None
+    → (client ≡ false) × (register ≡ true → session ≡ true) × (register ≡ true → number ≡ true) × (register ≡ false → number ≡ false)
+lawful_lines true register session number many e = absurd cc
+lawful_lines false true true true many e = (refl, λ _. refl, λ _. refl, λ is. absurd cc)
+lawful_lines false true true false many e = absurd cc
+lawful_lines false true false number many e = absurd cc
+lawful_lines false false session true many e = absurd cc
+lawful_lines false false session false many e = (refl, λ is. absurd cc, λ is. absurd cc, λ _. refl)
+
+-- a refusal names the request's numbers, and is right, as its status is not that of a reply
+refusal_right : (s : Status) (r : Message) → eqb (status_code s) 0 ≡ false → IsLawful r → IsRight (refusal s r)
+refusal_right s r other lawful =
+    let line = lawful_lines (eqb r.client 0) (is_register r.body) (eqb r.session 0) (eqb r.request 0) (ltb items_max (item_count r.body)) lawful in
+    by r.body line.0 line.1 line.2 line.3
+  where
+    by : (b : Body) → eqb r.client 0 ≡ false → (is_register b ≡ true → eqb r.session 0 ≡ true) → (is_register b ≡ true → eqb r.request 0 ≡ true) → (is_register b ≡ false → eqb r.request 0 ≡ false)
+        → IsRight (refusal s (asked r.client r.session r.request b))
+    by body.Register client session number numbered = rw (other, client, session refl, number refl) refl
+    by (body.CreateAccounts events) client session number numbered = rw (other, client, numbered refl) refl
+    by (body.CreateTransfers events) client session number numbered = rw (other, client, numbered refl) refl
+    by (body.LookupAccounts ids) client session number numbered = rw (other, client, numbered refl) refl
+    by (body.LookupTransfers ids) client session number numbered = rw (other, client, numbered refl) refl
+
+refusal_fits : (s : Status) (r : Message) → eqb (status_code s) 0 ≡ false → IsLawful r → HasFields r → IsReply (refusal s r)
+refusal_fits s r other lawful fields = record { client = fields.client; session = fields.session; request = fields.request; commit = omega arith; body = tt; right = refusal_right s r other lawful }
+
+-- a client without a row has no repeat
+no_repeat : (r : Message) → Repeat ≡ class_by None r → ⊥
+no_repeat r e = by (is_register r.body) e
+  where
+    by : (b : Bool) → Repeat ≡ cond b New NoSession → ⊥
+    by true e = cc
+    by false e = cc
+
+known_fits : (c : Class) (o : Option Row) (r : Message) → is_new c ≡ false → c ≡ class_by o r → IsLawful r → HasFields r → FitsBy c o → IsReply (answer_by c o r)
+known_fits New o r known is lawful fields fits = absurd (true≢false known)
+known_fits Repeat (Some row) r known is lawful fields fits = fits
+known_fits Repeat None r known is lawful fields fits = absurd (no_repeat r is)
+known_fits NoSession o r known is lawful fields fits = refusal_fits status.NoSession r refl lawful fields
+known_fits SessionTooLow o r known is lawful fields fits = refusal_fits status.SessionTooLow r refl lawful fields
+known_fits NewerSession o r known is lawful fields fits = refusal_fits status.NewerSession r refl lawful fields
+known_fits Older o r known is lawful fields fits = refusal_fits status.Older r refl lawful fields
+known_fits Collision o r known is lawful fields fits = refusal_fits status.Collision r refl lawful fields
+known_fits NewerRequest o r known is lawful fields fits = refusal_fits status.NewerRequest r refl lawful fields
+
+module _ (S : State) (p : Pair) (lawful : IsLawful p.1) (timely : IsTimely S p) (fields : HasFields p.1) where
+  new_fits : is_new_in S p ≡ true → FitsBy New (row_of (after_pair S p).rows p.1.client) → IsReply (answer_to (after_pair S p) p.1)
+  new_fits new fits =
+      let e = entry_of S p in
+      let T = step S e in
+      let there = after_new S p new (timely new) in
+      let stored = subst (FitsBy New) (row_after S e) (subst (λ (U : State). FitsBy New (row_of U.rows p.1.client)) there fits) in
+      subst (λ (U : State). IsReply (answer_to U p.1)) (sym there) (subst IsReply (sym (answer_after S e lawful)) stored)
+
+  old_fits : (c : Class) → c ≡ class_of S.rows p.1 → is_new c ≡ false → FitsBy c (row_of (after_pair S p).rows p.1.client) → IsReply (answer_to (after_pair S p) p.1)
+  old_fits c is known fits =
+      let there : after_pair S p ≡ S = after_known S p (sym (ap is_new is) ∙ known) in
+      let here = subst (λ (U : State). FitsBy c (row_of U.rows p.1.client)) there fits in
+      let one = known_fits c (row_of S.rows p.1.client) p.1 known is lawful fields here in
+      subst (λ (U : State). IsReply (answer_to U p.1)) (sym there) (subst (λ (d : Class). IsReply (answer_by d (row_of S.rows p.1.client) p.1)) is one)
+
+  fits_by_class : (c : Class) → c ≡ class_of S.rows p.1 → FitsBy c (row_of (after_pair S p).rows p.1.client) → IsReply (answer_to (after_pair S p) p.1)
+  fits_by_class New is fits = new_fits (ap is_new (sym is)) fits
+  fits_by_class Repeat is fits = old_fits Repeat is refl fits
+  fits_by_class NoSession is fits = old_fits NoSession is refl fits
+  fits_by_class SessionTooLow is fits = old_fits SessionTooLow is refl fits
+  fits_by_class NewerSession is fits = old_fits NewerSession is refl fits
+  fits_by_class Older is fits = old_fits Older is refl fits
+  fits_by_class Collision is fits = old_fits Collision is refl fits
+  fits_by_class NewerRequest is fits = old_fits NewerRequest is refl fits
+
+  -- the numbers of the reply to a request that was served fit, as its class and its client's row tell
+  pub answered_fits : (T : State) (c : Class) (client : ℕ) → c ≡ class_of S.rows p.1 → client ≡ p.1.client → T ≡ after_pair S p → FitsBy c (row_of T.rows client) → IsReply (answer_to (after_pair S p) p.1)
+  answered_fits T c client is own there fits = fits_by_class c is (subst (λ (k : ℕ). FitsBy c (row_of (after_pair S p).rows k)) own (subst (λ (U : State). FitsBy c (row_of U.rows client)) there fits))
+
+-- the numbers of a client's stored reply fit
+pub stored_fits : (c : Class) (o : Option Row) (a : Answer) → option_map (λ (row : Row). row.reply) o ≡ Some a → IsReply a → FitsBy c o
+stored_fits c None a is fits = absurd cc
+stored_fits c (Some row) a is fits = by c
+  where
+    same : a ≡ row.reply
+    same = cc
+
+    by : (c : Class) → FitsBy c (Some row)
+    by New = subst IsReply same fits
+    by Repeat = subst IsReply same fits
+    by NoSession = tt
+    by SessionTooLow = tt
+    by NewerSession = tt
+    by Older = tt
+    by Collision = tt
+    by NewerRequest = tt

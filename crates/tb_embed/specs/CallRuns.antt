@@ -3,12 +3,12 @@ use Rattle.std.specs.Prelude.{ℕ, Bool, true, false, ◌≡◌, List, [], ◌�
 use Rattle.tb_records.specs.declared.limits.Profile.{Profile}
 use Rattle.tb_records.specs.Messages.{Answer}
 use Rattle.tb_records.specs.Frames.{Spells}
-use Rattle.tb_records.specs.ReplyFrames.{reply_bytes}
+use Rattle.tb_records.specs.ReplyFrames.{reply_bytes, IsReply, SpellsReply}
 use Rattle.tb_machine.specs.Histories.{State, start, IsLegal, after}
 use Rattle.tb_machine.specs.Scripts.{Pair, accepted, replies_to}
 use Rattle.tb_machine.specs.ScriptLaws.{AreLawful}
 use Rattle.tb_embed.specs.declared.outcomes.Outcome.{Outcome}
-use Rattle.tb_embed.specs.declared.outcomes.Outcome.TheVariants.{Done, NoMemory, TooSmall}
+use Rattle.tb_embed.specs.declared.outcomes.Outcome.TheVariants.{Done, TooSmall}
 use Rattle.tb_embed.specs.Calls.{Serves}
 use Rattle.tb_embed.specs.Outcomes.{status_of}
 
@@ -33,10 +33,10 @@ is_answered outcome = false
 abbrev pub answered : List Call → List Call
 answered cs = filter (λ c. is_answered c.outcome) cs
 
--- what was told of the reply: its bytes in the room, or how many they are
+-- what was told of the reply: its bytes in the room, or how many they are; they are read as that reply and no other
 abbrev pub TellsReply : Outcome → List ℕ → Answer → Type 0
-TellsReply (Done n) room a = take n room ≡ reply_bytes a
-TellsReply (TooSmall n) room a = n ≡ length (reply_bytes a)
+TellsReply (Done n) room a = SpellsReply (take n room) a
+TellsReply (TooSmall n) room a = (n ≡ length (reply_bytes a)) × IsReply a
 TellsReply outcome room a = ⊥
 
 -- the call asked with this request at this moment, and got this reply
@@ -66,4 +66,4 @@ CallsMakeHistory = (profile : Profile) (clients_max : ℕ) (cs : List Call) (T :
 abbrev pub OneStatus : Type 0
 OneStatus = (S T U : State) (moment : ℕ) (bytes room other : List ℕ) (a b : Outcome)
     → Serves a (Some S) (Some T) moment bytes room → Serves b (Some S) (Some U) moment bytes other → length room ≡ length other
-    → (a ≡ NoMemory → ⊥) → (b ≡ NoMemory → ⊥) → status_of a ≡ status_of b
+    → (status_of a ≡ 3 → ⊥) → (status_of b ≡ 3 → ⊥) → status_of a ≡ status_of b

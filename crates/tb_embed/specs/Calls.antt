@@ -6,12 +6,13 @@ use Rattle.tb_records.specs.declared.limits.Profile.{Profile}
 use Rattle.tb_records.specs.declared.limits.Profile.TheVariants.{One, Two}
 use Rattle.tb_records.specs.Messages.{Message}
 use Rattle.tb_records.specs.Frames.{Spells, request_fault}
-use Rattle.tb_machine.specs.Histories.{State, start}
+use Rattle.tb_records.specs.ReplyFrames.{IsReply, SpellsReply}
+use Rattle.tb_machine.specs.Histories.{State, start, answer_to}
 use Rattle.tb_machine.specs.Scripts.{Pair, has_time, after_pair}
 use Rattle.tb_machine.specs.Runs.{is_new_in, IsTimely, answer_bytes}
 use Rattle.tb_embed.specs.declared.held.Server.{Server}
 use Rattle.tb_embed.specs.declared.outcomes.Outcome.{Outcome}
-use Rattle.tb_embed.specs.declared.outcomes.Outcome.TheVariants.{Done, Closed, Usage, NoMemory, Malformed, TimeExhausted, Absent, TooSmall}
+use Rattle.tb_embed.specs.declared.outcomes.Outcome.TheVariants.{Done, Closed, Usage, NoMemory, Unread, Malformed, TimeExhausted, Absent, TooSmall}
 
 -- where the server of a handle stands; a closed handle has none
 abbrev pub standing : Option Server → Option State
@@ -41,18 +42,20 @@ IsMalformed bytes = ((fault : FrameFault) × (request_fault bytes ≡ Some fault
 
 -- what a request that comes at a moment makes of the machine, and of the room for its reply: it is answered, or its reply
 -- needs more room than there is and can be had by sending the request again; or the machine stands as it stood, since no
--- time is left for a new request, or no memory
+-- time is left for a new request, or no memory to enter it. The numbers of each reply fit, so that its bytes are read as
+-- that reply and no other
 abbrev pub Answers : Outcome → State → State → Pair → List ℕ → Type 0
-Answers (Done n) S T p room = IsTimely S p × (T ≡ after_pair S p) × (n ≤ length room) × (take n room ≡ answer_bytes S p)
-Answers (TooSmall n) S T p room = IsTimely S p × (T ≡ after_pair S p) × (length room < n) × (n ≡ length (answer_bytes S p))
+Answers (Done n) S T p room = IsTimely S p × (T ≡ after_pair S p) × (n ≤ length room) × SpellsReply (take n room) (answer_to (after_pair S p) p.1)
+Answers (TooSmall n) S T p room = IsTimely S p × (T ≡ after_pair S p) × (length room < n) × (n ≡ length (answer_bytes S p)) × IsReply (answer_to (after_pair S p) p.1)
 Answers TimeExhausted S T p room = (is_new_in S p ≡ true) × (has_time S p ≡ false) × (T ≡ S)
 Answers NoMemory S T p room = (is_new_in S p ≡ true) × (has_time S p ≡ true) × (T ≡ S)
 Answers outcome S T p room = ⊥
 
--- the same of bytes: malformed ones change nothing, and neither does want of memory for reading them
+-- the same of bytes: malformed ones change nothing, and neither does want of memory for reading those that have no fault; but
+-- for that, memory is wanting only where the bytes are the frame of a request that is new and has a time
 abbrev pub AnswersFrame : Outcome → State → State → ℕ → List ℕ → List ℕ → Type 0
 AnswersFrame Malformed S T moment bytes room = IsMalformed bytes × (T ≡ S)
-AnswersFrame NoMemory S T moment bytes room = (request_fault bytes ≡ None) × (T ≡ S)
+AnswersFrame Unread S T moment bytes room = (request_fault bytes ≡ None) × (T ≡ S)
 AnswersFrame outcome S T moment bytes room = (r : Message) × Spells bytes r × Answers outcome S T (moment, r) room
 
 -- a request that was served at a moment and comes again at another one moves nothing, and is answered by the same bytes

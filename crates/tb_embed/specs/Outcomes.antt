@@ -1,13 +1,14 @@
 -- The status of each outcome, and the length that is told with it.
 use Rattle.std.specs.Prelude.{ℕ, ◌≡◌}
 use Rattle.tb_embed.specs.declared.outcomes.Outcome.{Outcome}
-use Rattle.tb_embed.specs.declared.outcomes.Outcome.TheVariants.{Done, Closed, Usage, NoMemory, Malformed, TimeExhausted, Absent, TooSmall}
+use Rattle.tb_embed.specs.declared.outcomes.Outcome.TheVariants.{Done, Closed, Usage, NoMemory, Unread, Malformed, TimeExhausted, Absent, TooSmall}
 
 abbrev pub status_of : Outcome → ℕ
 status_of (Done length) = 0
 status_of Closed = 1
 status_of Usage = 2
 status_of NoMemory = 3
+status_of Unread = 3
 status_of Malformed = 4
 status_of TimeExhausted = 5
 status_of Absent = 6

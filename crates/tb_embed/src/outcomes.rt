@@ -11,8 +11,10 @@ pub enum Outcome {
     Closed,
     /// The arguments are wrong, or the handle that is to be opened is open.
     Usage,
-    /// There was no memory, and nothing changed.
+    /// There was no memory to open a handle, or to enter a new request, and nothing changed.
     NoMemory,
+    /// There was no memory to read a frame, and nothing changed.
+    Unread,
     /// The bytes are not one frame of a request.
     Malformed,
     /// The request is new, and the end of time leaves no time for it.
@@ -32,7 +34,7 @@ impl Outcome {
             Outcome::Done(_) => 0,
             Outcome::Closed => 1,
             Outcome::Usage => 2,
-            Outcome::NoMemory => 3,
+            Outcome::NoMemory | Outcome::Unread => 3,
             Outcome::Malformed => 4,
             Outcome::TimeExhausted => 5,
             Outcome::Absent => 6,

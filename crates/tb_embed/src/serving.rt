@@ -37,6 +37,8 @@ fn serve_request(
 {
     let _lawful = request.body();
     let client = request.client();
+    let _session = request.session();
+    let _number = request.request();
     let class = machine.class(&request);
     match fill(machine, moment, request, reply) {
         Ok(length) => Outcome::Done(length),
@@ -68,7 +70,7 @@ fn serve_frame(
             serve_request(machine, moment, request, reply)
         }
         Ok(_) => Outcome::Malformed,
-        Err(FrameFault::NoMemory) => Outcome::NoMemory,
+        Err(FrameFault::NoMemory) => Outcome::Unread,
         Err(_) => Outcome::Malformed,
     }
 }
