@@ -16,10 +16,10 @@ module _ (K V A : RattleType) (g : Allocator.Ghosts A.Denot) where
   box_sync sa h s = search (sendable, crosses)
 
   pub tree_send : IsSend K → IsSend V → IsSend A → Frees g g.dealloc_token → IsSend (Tree.the_field K V A g).row
-  tree_send sk sv sa f = send-Tree K V A g (search sendable) (box_send sa f) (search sendable depth 12)
+  tree_send sk sv sa f = send-Tree K V A g (search sendable) (box_send sa f) sk sv
 
   pub tree_sync : IsSync K → IsSync V → IsSync A → IsSync (Tree.the_field K V A g).row
-  tree_sync sk sv sa = sync-Tree K V A g (search sendable) (box_sync sa) (search sendable depth 12)
+  tree_sync sk sv sa = sync-Tree K V A g (search sendable) (box_sync sa) sk sv
 
   pub spare_send : IsSend (Tree.the_field K V A g).row → IsSend (SpareNodes.the_row K V A g)
   spare_send s = search sendable depth 12

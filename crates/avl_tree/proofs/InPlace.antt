@@ -1,73 +1,70 @@
 -- A change of a value in one side of a tree is a change in the tree.
-use Rattle.std.proofs.Common.{◌≡◌, ℕ, ◌++◌, Bool, Option, None, Some, sym, ap, ◌∙◌, refl}
+use Rattle.std.proofs.Common.{◌≡◌, ℕ, ◌∷◌, ◌++◌, Bool, Option, None, Some, sym, ap, ◌∙◌, refl}
 use Rattle.std.specs.declared.cmp.Ordering.{Ordering}
-use Rattle.std.specs.Fn.{Mut}
-use Rattle.std.specs.Option.{IsSome, IfSome, IfNone}
+use Rattle.std.specs.Fn.{Mut, CalledAtMut}
+use Rattle.std.specs.Option.{IfSome, IfNone}
 use Rattle.std.specs.Map.{lookup}
 use Rattle.std.specs.BTreeMap.{is_at}
-use Rattle.avl_tree.specs.Nodes.{entries, with_first, IsAvl}
-use Rattle.avl_tree.specs.Changes.{Changed, CalledAtValue, KeepsLinks, Changes}
+use Rattle.avl_tree.specs.Nodes.{entries, IsAvl}
+use Rattle.avl_tree.specs.Changes.{Changed, KeepsLinks, Changes}
 use Rattle.avl_tree.specs.declared.tree.Tree.{Tree}
 use Rattle.avl_tree.specs.declared.tree.Tree.TheVariants.{Fork'}
 use Rattle.avl_tree.proofs.Steps.{GoesLeft, GoesRight, StandsHere}
 use denote.Ref.{MutBor}
 
 module _ {K V A : Type 0} where
-  pub keeps : {h : ℕ} {p : _} {l l' r r' : Tree K V A} {e e' : Option (K × V)} → IsAvl (Fork' h p l r e) → IsSome e' → KeepsLinks l l' → KeepsLinks r r' → KeepsLinks (Fork' h p l r e) (Fork' h p l' r' e')
-  keeps avl n k m =
+  pub keeps : {h : ℕ} {p : _} {l l' r r' : Tree K V A} {a : K} {b b' : V} → IsAvl (Fork' h p l r a b) → KeepsLinks l l' → KeepsLinks r r' → KeepsLinks (Fork' h p l r a b) (Fork' h p l' r' a b')
+  keeps avl k m =
       let left = k.height in
       let right = m.height in
-      record { balanced = (n, k.balanced, m.balanced, rw (left, right) avl.3, rw (left, right) avl.4); height = refl }
+      record { balanced = (k.balanced, m.balanced, rw (left, right) avl.2, rw (left, right) avl.3); height = refl }
 
   pub same : {t : Tree K V A} → IsAvl t → KeepsLinks t t
   same avl = record { balanced = avl; height = refl }
 
 module _ {F K V A R : Type 0} (c : Mut F (MutBor V × Unit {0}) (R × (MutBor V × Unit {0}))) {cmp : K → K → Ordering} {k : K} where
-  pub changes_left : {h : ℕ} {p : _} {t l r : Tree K V A} {e : Option (K × V)} → t ≡ Fork' h p l r e → GoesLeft cmp k (entries l) e (entries r) → IsAvl (Fork' h p l r e) → (o : Option R) (l' : Tree K V A) (f f' : F) → Changes c (is_at (cmp k)) l f o f' l' → Changes c (is_at (cmp k)) t f o f' (Fork' h p l' r e)
-  changes_left {r = r} {e = e} is w avl (Some v) l' f f' x =
+  pub changes_left : {h : ℕ} {p : _} {t l r : Tree K V A} {a : K} {b : V} → t ≡ Fork' h p l r a b → GoesLeft cmp k (entries l) (a, b) (entries r) → IsAvl (Fork' h p l r a b) → (o : Option R) (l' : Tree K V A) (f f' : F) → Changes c (is_at (cmp k)) l f o f' l' → Changes c (is_at (cmp k)) t f o f' (Fork' h p l' r a b)
+  changes_left {r = r} {a = a} {b = b} is w avl (Some v) l' f f' x =
       rw is (
         record {
           value = x.0.value;
           left = x.0.left;
           found = w.found ∙ x.0.found;
           called = x.0.called;
-          written = ap (λ m. m ++ with_first e (entries r)) x.0.written ∙ sym (w.written x.0.left);
+          written = ap (λ m. m ++ (a, b) ∷ entries r) x.0.written ∙ sym (w.written x.0.left);
         },
-        keeps avl avl.0 x.1 (same avl.2),
+        keeps avl x.1 (same avl.1),
       )
-  changes_left {h = h} {p = p} {r = r} {e = e} is w avl None l' f f' x =
-      rw is (w.found ∙ x.0, x.1, ap (λ m. Fork' h p m r e) x.2)
+  changes_left {h = h} {p = p} {r = r} {a = a} {b = b} is w avl None l' f f' x =
+      rw is (w.found ∙ x.0, x.1, ap (λ m. Fork' h p m r a b) x.2)
 
-  pub changes_right : {h : ℕ} {p : _} {t l r : Tree K V A} {e : Option (K × V)} → t ≡ Fork' h p l r e → GoesRight cmp k (entries l) e (entries r) → IsAvl (Fork' h p l r e) → (o : Option R) (r' : Tree K V A) (f f' : F) → Changes c (is_at (cmp k)) r f o f' r' → Changes c (is_at (cmp k)) t f o f' (Fork' h p l r' e)
-  changes_right {l = l} {e = e} is w avl (Some v) r' f f' x =
+  pub changes_right : {h : ℕ} {p : _} {t l r : Tree K V A} {a : K} {b : V} → t ≡ Fork' h p l r a b → GoesRight cmp k (entries l) (a, b) (entries r) → IsAvl (Fork' h p l r a b) → (o : Option R) (r' : Tree K V A) (f f' : F) → Changes c (is_at (cmp k)) r f o f' r' → Changes c (is_at (cmp k)) t f o f' (Fork' h p l r' a b)
+  changes_right {l = l} {a = a} {b = b} is w avl (Some v) r' f f' x =
       rw is (
         record {
           value = x.0.value;
           left = x.0.left;
           found = w.found ∙ x.0.found;
           called = x.0.called;
-          written = ap (λ m. entries l ++ with_first e m) x.0.written ∙ sym (w.written x.0.left);
+          written = ap (λ m. entries l ++ (a, b) ∷ m) x.0.written ∙ sym (w.written x.0.left);
         },
-        keeps avl avl.0 (same avl.1) x.1,
+        keeps avl (same avl.0) x.1,
       )
-  changes_right {h = h} {p = p} {l = l} {e = e} is w avl None r' f f' x =
-      rw is (w.found ∙ x.0, x.1, ap (λ m. Fork' h p l m e) x.2)
+  changes_right {h = h} {p = p} {l = l} {a = a} {b = b} is w avl None r' f f' x =
+      rw is (w.found ∙ x.0, x.1, ap (λ m. Fork' h p l m a b) x.2)
 
-  pub changes_here : {h : ℕ} {p : _} {t l r : Tree K V A} (e e' : Option (K × V)) → t ≡ Fork' h p l r e → StandsHere cmp k (entries l) e (entries r) → IsAvl (Fork' h p l r e) → (o : Option R) (f f' : F) → IfSome e (λ x. IfSome o (λ v. CalledAtValue c f x v f' e')) → IsSome o → Changes c (is_at (cmp k)) t f o f' (Fork' h p l r e')
-  changes_here None e' is w avl o f f' x n = let none : IsSome {T = K × V} None = avl.0 in absurd (cc)
-  changes_here (Some y) e' is w avl None f f' x n = absurd (cc)
-  changes_here (Some y) e' is w avl (Some v) f f' x n =
-      let put = x.written in
-      rw is (rw put (
+  pub changes_here : {h : ℕ} {p : _} {t l r : Tree K V A} {a : K} {b : V} (b' : V) → t ≡ Fork' h p l r a b → StandsHere cmp k (entries l) (a, b) (entries r) → IsAvl (Fork' h p l r a b) → (v : R) (f f' : F) → CalledAtMut c f b v f' b' → Changes c (is_at (cmp k)) t f (Some v) f' (Fork' h p l r a b')
+  changes_here {b = b} b' is w avl v f f' called =
+      rw is (
         record {
-          value = y.1;
-          left = x.left;
+          value = b;
+          left = b';
           found = w.found;
-          called = x.called;
-          written = sym (w.written x.left);
+          called = called;
+          written = sym (w.written b');
         },
-        keeps avl refl (same avl.1) (same avl.2),
-      ))
+        keeps avl (same avl.0) (same avl.1),
+      )
 
 -- what the two answers say
 module _ {F K V A R : Type 0} (c : Mut F (MutBor V × Unit {0}) (R × (MutBor V × Unit {0}))) (test : K → Bool) (t t' : Tree K V A) (f f' : F) where

@@ -1,44 +1,32 @@
 -- The shape of a tree: how long a path is at most, and how many nodes a height needs.
-use Rattle.std.proofs.Common.{◌≡◌, ℕ, zero, suc, ◌+◌, ◌-◌, ◌*◌, ◌^◌, ◌<◌, ◌≤◌, max, List, ◌++◌, length, Option, None, Some, sym, refl, ap, ◌∙◌, inl, inr, arith, length-append}
+use Rattle.std.proofs.Common.{◌≡◌, ℕ, zero, suc, ◌+◌, ◌-◌, ◌*◌, ◌^◌, ◌<◌, ◌≤◌, max, ◌∷◌, ◌++◌, length, sym, refl, ap, ◌∙◌, inl, inr, arith, length-append}
 use Rattle.std.proofs.lemmas.Bool.{cases_lt}
 use Rattle.std.proofs.Math.Nat.{pow-suc}
 use Rattle.std.specs.declared.cmp.Ordering.{Ordering}
 use Rattle.std.specs.declared.cmp.Ordering.TheVariants.{Less, Equal, Greater}
 use Rattle.std.specs.Ordering.{match_ordering}
-use Rattle.std.specs.Option.{IsSome, IfSome}
-use Rattle.avl_tree.specs.Search.{Search, entries_of, path_length, least}
-use Rattle.avl_tree.specs.Nodes.{entries, with_first, stored_height, joined, search_of, IsAvl}
+use Rattle.avl_tree.specs.Search.{Search, fork, entries_of, path_length, least}
+use Rattle.avl_tree.specs.Nodes.{entries, stored_height, search_of, IsAvl}
 use Rattle.avl_tree.specs.declared.tree.Tree.{Tree}
 use Rattle.avl_tree.specs.declared.tree.Tree.TheVariants.{Empty, Fork'}
 
-module _ {K V : Type 0} (compare : K → Ordering) (l r : Search (K × V)) where
-  pub path-left : (e : Option (K × V)) → IsSome e → IfSome e (λ f. Less ≡ compare f.0) → path_length compare (joined l e r) ≡ 1 + path_length compare l
-  path-left None n p = absurd (cc)
-  path-left (Some f) n p = let q = sym p in rw q refl
+module _ {K V : Type 0} (compare : K → Ordering) (l r : Search (K × V)) (e : K × V) where
+  pub path-left : Less ≡ compare e.0 → path_length compare (fork l e r) ≡ 1 + path_length compare l
+  path-left p = let q = sym p in rw q refl
 
-  pub path-right : (e : Option (K × V)) → IsSome e → IfSome e (λ f. Greater ≡ compare f.0) → path_length compare (joined l e r) ≡ 1 + path_length compare r
-  path-right None n p = absurd (cc)
-  path-right (Some f) n p = let q = sym p in rw q refl
-
-  pub path-here : (e : Option (K × V)) → IsSome e → IfSome e (λ f. Equal ≡ compare f.0) → path_length compare (joined l e r) ≡ 1
-  path-here None n p = absurd (cc)
-  path-here (Some f) n p = let q = sym p in rw q refl
+  pub path-right : Greater ≡ compare e.0 → path_length compare (fork l e r) ≡ 1 + path_length compare r
+  path-right p = let q = sym p in rw q refl
 
 -- the entries of the shape are those of the nodes
-joined-entries : {E : Type 0} (l r : Search E) (e : Option E) → IsSome e → entries_of (joined l e r) ≡ entries_of l ++ with_first e (entries_of r)
-joined-entries l r None n = absurd (cc)
-joined-entries l r (Some f) n = refl
-
-pub entries-search_of : {K V A : Type 0} (t : Tree K V A) → IsAvl t → entries_of (search_of t) ≡ entries t
-entries-search_of Empty a = refl
-entries-search_of (Fork' h p l r e) a =
-    joined-entries (search_of l) (search_of r) e a.0 ∙ ap (λ m. m ++ with_first e (entries_of (search_of r))) (entries-search_of l a.1) ∙ ap (λ m. entries l ++ with_first e m) (entries-search_of r a.2)
+pub entries-search_of : {K V A : Type 0} (t : Tree K V A) → entries_of (search_of t) ≡ entries t
+entries-search_of Empty = refl
+entries-search_of (Fork' h p l r k v) =
+    ap (λ m. m ++ (k, v) ∷ entries_of (search_of r)) (entries-search_of l) ∙ ap (λ m. entries l ++ (k, v) ∷ m) (entries-search_of r)
 
 -- no path is longer than the tree is high
-path-joined : {K V : Type 0} (compare : K → Ordering) (l r : Search (K × V)) (e : Option (K × V)) (n : ℕ) → path_length compare l ≤ n → path_length compare r ≤ n → path_length compare (joined l e r) ≤ n + 1
-path-joined compare l r None n a b = omega arith
-path-joined compare l r (Some f) n a b =
-    elim (compare f.0) as (λ o. 1 + match_ordering o (path_length compare l) 0 (path_length compare r) ≤ n + 1) [
+path-fork : {K V : Type 0} (compare : K → Ordering) (l r : Search (K × V)) (e : K × V) (n : ℕ) → path_length compare l ≤ n → path_length compare r ≤ n → path_length compare (fork l e r) ≤ n + 1
+path-fork compare l r e n a b =
+    elim (compare e.0) as (λ o. 1 + match_ordering o (path_length compare l) 0 (path_length compare r) ≤ n + 1) [
       | Less ↦ omega arith
       | Equal ↦ omega arith
       | Greater ↦ omega arith
@@ -46,11 +34,11 @@ path-joined compare l r (Some f) n a b =
 
 pub path-le-height : {K V A : Type 0} (compare : K → Ordering) (t : Tree K V A) → IsAvl t → path_length compare (search_of t) ≤ stored_height t
 path-le-height compare Empty a = omega arith
-path-le-height compare (Fork' h p l r e) a =
-    let x = path-le-height compare l a.1 in
-    let y = path-le-height compare r a.2 in
-    let z = path-joined compare (search_of l) (search_of r) e (max (stored_height l) (stored_height r)) (omega (arith, x)) (omega (arith, y)) in
-    omega (arith, z, a.3)
+path-le-height compare (Fork' h p l r k v) a =
+    let x = path-le-height compare l a.0 in
+    let y = path-le-height compare r a.1 in
+    let z = path-fork compare (search_of l) (search_of r) (k, v) (max (stored_height l) (stored_height r)) (omega (arith, x)) (omega (arith, y)) in
+    omega (arith, z, a.2)
 
 -- more height needs more nodes
 least_suc : (h : ℕ) → least h ≤ least (suc h)
@@ -65,10 +53,6 @@ least_more a (suc d) (suc c) e = let x = least_more a d c (omega arith) in omega
 least_monotone : (a c : ℕ) → a ≤ c → least a ≤ least c
 least_monotone a c h = least_more a (c - a) c (omega arith)
 
-length-with_first : {E : Type 0} (e : Option E) (xs : List E) → IsSome e → length (with_first e xs) ≡ length xs + 1
-length-with_first None xs n = absurd (cc)
-length-with_first (Some f) xs n = omega arith
-
 least_cases : (a b h n m : ℕ) → h ≡ max a b + 1 → a ≤ b + 1 → b ≤ a + 1 → least a ≤ n → least b ≤ m → least h ≤ n + (m + 1)
 least_cases a b zero n m e p q x y = absurd (omega arith)
 least_cases a b (suc zero) n m e p q x y = omega arith
@@ -81,11 +65,11 @@ least_cases a b (suc (suc h)) n m e p q x y =
 -- a balanced tree has at least the nodes that its height needs
 pub least-le-length : {K V A : Type 0} (t : Tree K V A) → IsAvl t → least (stored_height t) ≤ length (entries t)
 least-le-length Empty a = omega arith
-least-le-length (Fork' h p l r e) a =
-    let x = least-le-length l a.1 in
-    let y = least-le-length r a.2 in
-    let z = least_cases (stored_height l) (stored_height r) h (length (entries l)) (length (entries r)) a.3 a.4.0 a.4.1 x y in
-    omega (arith, z, length-append (entries l) (with_first e (entries r)), length-with_first e (entries r) a.0)
+least-le-length (Fork' h p l r k v) a =
+    let x = least-le-length l a.0 in
+    let y = least-le-length r a.1 in
+    let z = least_cases (stored_height l) (stored_height r) h (length (entries l)) (length (entries r)) a.2 a.3.0 a.3.1 x y in
+    omega (arith, z, length-append (entries l) ((k, v) ∷ entries r))
 
 -- so a number of nodes that fits 64 bits bounds the height
 double : ℕ → ℕ

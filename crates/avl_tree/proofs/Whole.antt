@@ -1,7 +1,6 @@
 -- What the fields of a map keep, through each change.
-use Rattle.std.proofs.Common.{◌≡◌, ℕ, ◌+◌, ◌<◌, Bool, true, false, length, Option, None, Some, sym, ap, ◌∙◌, subst, arith}
+use Rattle.std.proofs.Common.{◌≡◌, ℕ, ◌+◌, ◌<◌, Bool, true, false, length, ◌∷◌, Option, None, Some, sym, ap, ◌∙◌, subst, arith}
 use Rattle.std.specs.declared.cmp.Ordering.{Ordering}
-use Rattle.std.specs.Option.{IsSome, option_map}
 use Rattle.std.specs.Cmp.{IsTotalOrder}
 use Rattle.std.specs.List.Sorted.{IsStrictlySortedBy}
 use Rattle.std.specs.Fn.{Mut}
@@ -9,7 +8,7 @@ use Rattle.std.specs.Map.{keys_of, lookup, set_value, remove_entry}
 use Rattle.std.specs.BTreeMap.{insert_entry, is_at}
 use Rattle.std.proofs.lemmas.Map.{keys-set_value}
 use Rattle.std.proofs.lemmas.Map.Entries.{length-keys_of}
-use Rattle.avl_tree.specs.Nodes.{entries, with_first, stored_height, IsAvl, IsOrdered, IsWhole, Exchanges}
+use Rattle.avl_tree.specs.Nodes.{entries, stored_height, IsAvl, IsOrdered, IsWhole, Exchanges}
 use Rattle.avl_tree.specs.Changes.{Changes}
 use Rattle.avl_tree.specs.Pairs.{Taking, ChangesBoth}
 use Rattle.avl_tree.specs.declared.tree.Tree.{Tree}
@@ -58,9 +57,9 @@ module _ {K V A : Type 0} {cmp : K → K → Ordering} {root : Tree K V A} {len 
         fits = omega (arith, f, one_less);
       }
 
-  removed : (k : K) (v : V) → {root' : Tree K V A} {len' spare' : ℕ} → lookup (is_at (cmp k)) (entries root) ≡ Some v → IsAvl root' → entries root' ≡ remove_entry (is_at (cmp k)) (entries root) → len' + 1 ≡ len → spare' ≡ spare + 1 → IsWhole cmp root' len' spare'
-  removed k v found avl taken one_less one_more =
-      let n = length-remove_entry_found cmp k v (entries root) found in
+  pub whole_remove : (k : K) (v : V) → {root' : Tree K V A} {len' spare' : ℕ} → Some v ≡ lookup (is_at (cmp k)) (entries root) → IsAvl root' → entries root' ≡ remove_entry (is_at (cmp k)) (entries root) → len' + 1 ≡ len → spare' ≡ spare + 1 → IsWhole cmp root' len' spare'
+  whole_remove k v found avl taken one_less one_more =
+      let n = length-remove_entry_found cmp k v (entries root) (sym found) in
       let c = w.counted in
       let f = w.fits in
       record {
@@ -70,24 +69,19 @@ module _ {K V A : Type 0} {cmp : K → K → Ordering} {root : Tree K V A} {len 
         fits = omega (arith, f, one_less, one_more);
       }
 
-  pub whole_remove : (k : K) {root' : Tree K V A} {len' spare' : ℕ} (e : Option (K × V)) → IsSome e → option_map (λ f. f.1) e ≡ lookup (is_at (cmp k)) (entries root) → IsAvl root' → entries root' ≡ remove_entry (is_at (cmp k)) (entries root) → len' + 1 ≡ len → spare' ≡ spare + 1 → IsWhole cmp root' len' spare'
-  whole_remove k None n found avl taken one_less one_more = absurd (cc)
-  whole_remove k (Some f) n found avl taken one_less one_more = removed k f.1 (sym found) avl taken one_less one_more
-
   pub whole_absent : (k : K) {root' : Tree K V A} → lookup (is_at (cmp k)) (entries root) ≡ None → IsAvl root' → entries root' ≡ remove_entry (is_at (cmp k)) (entries root) → IsWhole cmp root' len spare
   whole_absent k {root'} absent avl taken =
       let same = taken ∙ remove_entry-absent cmp k (entries root) absent in
       record { balanced = avl; sorted = rw same w.sorted; counted = rw same w.counted; fits = w.fits }
 
-  pub whole_pop : {root' : Tree K V A} {len' spare' : ℕ} (e : Option (K × V)) → IsSome e → entries root ≡ with_first e (entries root') → IsAvl root' → len' + 1 ≡ len → spare' ≡ spare + 1 → IsWhole cmp root' len' spare'
-  whole_pop None n is avl one_less one_more = absurd (cc)
-  whole_pop {root'} (Some f) n is avl one_less one_more =
+  pub whole_pop : {root' : Tree K V A} {len' spare' : ℕ} (e : K × V) → entries root ≡ e ∷ entries root' → IsAvl root' → len' + 1 ≡ len → spare' ≡ spare + 1 → IsWhole cmp root' len' spare'
+  whole_pop {root'} e is avl one_less one_more =
       let c = w.counted in
       let fits = w.fits in
       let l = ap length is in
       record {
         balanced = avl;
-        sorted = ordered_tail cmp f (entries root') (subst (λ es. IsOrdered cmp es) is w.sorted);
+        sorted = ordered_tail cmp e (entries root') (subst (λ es. IsOrdered cmp es) is w.sorted);
         counted = omega (arith, c, l, one_less);
         fits = omega (arith, fits, one_less, one_more);
       }

@@ -25,12 +25,6 @@ pub record ChangedTwo {F K V R : Type 0} (c : Mut F (MutBor V × (MutBor V × Un
   pub called : CalledAtPairMut c f value other r f' left other_left
   pub written : es' ≡ set_value test' (set_value test es left) other_left
 
--- a call of f at the value of the entry e gave r, left f', and left the entry as o has it
-pub record CalledAtValue {F K V R : Type 0} (c : Mut F (MutBor V × Unit {0}) (R × (MutBor V × Unit {0}))) (f : F) (e : K × V) (r : R) (f' : F) (o : Option (K × V)) : Type 0 where
-  pub left : V
-  pub called : CalledAtMut c f e.1 r f' left
-  pub written : o ≡ Some (e.0, left)
-
 -- t' has the links of t, and is as balanced
 pub record KeepsLinks {K V A : Type 0} (t t' : Tree K V A) : Type 0 where
   pub balanced : IsAvl t'

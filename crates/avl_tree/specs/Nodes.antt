@@ -1,5 +1,5 @@
 -- What the boxed nodes hold, and when they are balanced.
-use Rattle.std.specs.Prelude.{◌≡◌, ◌≢◌, ℕ, ◌+◌, ◌≤◌, ◌<◌, max, List, [], ◌∷◌, ◌++◌, ◌^◌, length, Option, None, Some, IsSome, Bool, true, false}
+use Rattle.std.specs.Prelude.{◌≡◌, ◌≢◌, ℕ, ◌+◌, ◌≤◌, ◌<◌, max, List, [], ◌∷◌, ◌++◌, ◌^◌, length, Option, None, Some, Bool, true, false}
 use Rattle.std.specs.Map.{keys_of, lookup, set_value}
 use Rattle.std.specs.BTreeMap.{is_at}
 use Rattle.std.specs.List.Sorted.{IsStrictlySortedBy}
@@ -14,26 +14,29 @@ abbrev pub with_first : {E : Type 0} → Option E → List E → List E
 with_first None es = es
 with_first (Some e) es = e ∷ es
 
+-- the entry of a node
+abbrev pub entry : {K V A : Type 0} → Node K V A → K × V
+entry n = (n.key, n.value)
+
 -- the entries of a tree from the left to the right
 abbrev pub entries : {K V A : Type 0} → Tree K V A → List (K × V)
 entries Empty = []
-entries (Fork' h p l r e) = entries l ++ with_first e (entries r)
+entries (Fork' h p l r k v) = entries l ++ (k, v) ∷ entries r
 
 -- the height that the link to a tree keeps
 abbrev pub stored_height : {K V A : Type 0} → Tree K V A → ℕ
 stored_height Empty = 0
-stored_height (Fork' h p l r e) = h
+stored_height (Fork' h p l r k v) = h
 
 -- neither height is more than this above the other
 abbrev pub DifferByAtMost : ℕ → ℕ → ℕ → Type 0
 DifferByAtMost by l r = (l ≤ r + by) × (r ≤ l + by)
 
--- each node has an entry, each height is right, and no two sides of a node differ by more than one
+-- each height is right, and no two sides of a node differ by more than one
 abbrev pub IsAvl : {K V A : Type 0} → Tree K V A → Type 0
 IsAvl Empty = Unit {0}
-IsAvl (Fork' h p l r e) =
-    IsSome e
-    × IsAvl l
+IsAvl (Fork' h p l r k v) =
+    IsAvl l
     × IsAvl r
     × (h ≡ max (stored_height l) (stored_height r) + 1)
     × DifferByAtMost 1 (stored_height l) (stored_height r)
@@ -41,9 +44,8 @@ IsAvl (Fork' h p l r e) =
 -- the root of a balanced tree, after one of its sides has become one level higher or lower
 abbrev pub IsNearlyAvl : {K V A : Type 0} → Tree K V A → Type 0
 IsNearlyAvl Empty = Unit {0}
-IsNearlyAvl (Fork' h p l r e) =
-    IsSome e
-    × IsAvl l
+IsNearlyAvl (Fork' h p l r k v) =
+    IsAvl l
     × IsAvl r
     × (max (stored_height l) (stored_height r) < 250)
     × DifferByAtMost 2 (stored_height l) (stored_height r)
@@ -51,7 +53,7 @@ IsNearlyAvl (Fork' h p l r e) =
 -- the sides of the root differ by at most one, and h is its height over them
 abbrev pub IsLevelAt : {K V A : Type 0} → ℕ → Tree K V A → Type 0
 IsLevelAt h Empty = Unit {0}
-IsLevelAt h (Fork' _ p l r e) =
+IsLevelAt h (Fork' _ p l r k v) =
     DifferByAtMost 1 (stored_height l) (stored_height r)
     × (h ≡ max (stored_height l) (stored_height r) + 1)
 
@@ -62,9 +64,9 @@ IsHeightOver l r h = (max l r ≤ h) × (h ≤ max l r + 1) × (DifferByAtMost 1
 -- t after its root is balanced again: the same entries, and a height that its sides allow
 abbrev pub SettlesTo : {K V A : Type 0} → Tree K V A → Tree K V A → Type 0
 SettlesTo Empty u = u ≡ Empty
-SettlesTo (Fork' h p l r e) u =
+SettlesTo (Fork' h p l r k v) u =
     IsAvl u
-    × (entries u ≡ entries l ++ with_first e (entries r))
+    × (entries u ≡ entries l ++ (k, v) ∷ entries r)
     × IsHeightOver (stored_height l) (stored_height r) (stored_height u)
 
 -- a node with no side
@@ -82,13 +84,9 @@ pub record LeadsTo {K V A : Type 0} (cmp : K → K → Ordering) (k : K) (t u : 
   pub same : lookup (is_at (cmp k)) (entries u) ≡ lookup (is_at (cmp k)) (entries t)
 
 -- the shape of the tree, with its entries
-abbrev pub joined : {E : Type 0} → Search E → Option E → Search E → Search E
-joined l None r = leaf
-joined l (Some e) r = fork l e r
-
 abbrev pub search_of : {K V A : Type 0} → Tree K V A → Search (K × V)
 search_of Empty = leaf
-search_of (Fork' h p l r e) = joined (search_of l) e (search_of r)
+search_of (Fork' h p l r k v) = fork (search_of l) (k, v) (search_of r)
 
 -- a tree of height h has height h' after an insert
 abbrev pub IsGrown : ℕ → ℕ → Type 0
@@ -105,22 +103,22 @@ IsTold told h h' = (told ≡ false → h' ≡ h) × (told ≡ true → h' ≡ h 
 -- the root has no left side
 abbrev pub HasNoLeft : {K V A : Type 0} → Tree K V A → Type 0
 HasNoLeft Empty = Unit {0}
-HasNoLeft (Fork' h p l r e) = l ≡ Empty
+HasNoLeft (Fork' h p l r k v) = l ≡ Empty
 
 -- the root has a left side
 abbrev pub HasLeft : {K V A : Type 0} → Tree K V A → Type 0
 HasLeft Empty = ⊥
-HasLeft (Fork' h p l r e) = l ≢ Empty
+HasLeft (Fork' h p l r k v) = l ≢ Empty
 
 -- the entries of the two sides of the root
 abbrev pub beside_root : {K V A : Type 0} → Tree K V A → List (K × V)
 beside_root Empty = []
-beside_root (Fork' h p l r e) = entries l ++ entries r
+beside_root (Fork' h p l r k v) = entries l ++ entries r
 
 -- the entry of the root
 abbrev pub root_entry : {K V A : Type 0} → Tree K V A → Option (K × V)
 root_entry Empty = None
-root_entry (Fork' h p l r e) = e
+root_entry (Fork' h p l r k v) = Some (k, v)
 
 -- a tree t and a value v after the value at the key that passes the test was exchanged for v, where there is one
 pub record Exchanged {K V A : Type 0} (test : K → Bool) (t : Tree K V A) (v : V) (t' : Tree K V A) (v' : V) : Type 0 where
@@ -133,15 +131,15 @@ abbrev pub Exchanges : {K V A : Type 0} → (K → Bool) → Tree K V A → V �
 Exchanges test t v true t' v' = Exchanged test t v t' v'
 Exchanges test t v false t' v' = (lookup test (entries t) ≡ None) × (t' ≡ t) × (v' ≡ v)
 
--- the nodes of a chain through left sides have no entry and no right side
+-- the nodes of a chain through left sides have no right side
 abbrev pub IsSpareChain : {K V A : Type 0} → Tree K V A → Type 0
 IsSpareChain Empty = Unit {0}
-IsSpareChain (Fork' h p l r e) = IsSpareChain l × (r ≡ Empty) × (e ≡ None)
+IsSpareChain (Fork' h p l r k v) = IsSpareChain l × (r ≡ Empty)
 
 -- how many nodes such a chain has
 abbrev pub chain_length : {K V A : Type 0} → Tree K V A → ℕ
 chain_length Empty = 0
-chain_length (Fork' h p l r e) = chain_length l + 1
+chain_length (Fork' h p l r k v) = chain_length l + 1
 
 -- what the fields of a map keep: a balanced tree whose keys rise, its size, and a count of all nodes that fits
 pub record IsWhole {K V A : Type 0} (cmp : K → K → Ordering) (root : Tree K V A) (len spare : ℕ) : Type 0 where

@@ -16,31 +16,12 @@ abbrev pub CalledAtBoth : {F V R : Type 0} → Taking F V R → Bool → F → V
 CalledAtBoth c true f x y r f' x' y' = CalledAtPairMut c f x y r f' x' y'
 CalledAtBoth c false f x y r f' x' y' = CalledAtPairMut c f y x r f' y' x'
 
--- such a call at the values of the entries d and e
-pub record CalledAtEntries {F K V R : Type 0} (c : Taking F V R) (in_order : Bool) (f : F) (d e : Option (K × V)) (r : R) (f' : F) (d' e' : Option (K × V)) : Type 0 where
-  pub held_key : K
-  pub held : V
-  pub held_left : V
-  pub key : K
+-- such a call at the value d and the value of the key that passes the test
+pub record ChangedBeside {F K V R : Type 0} (c : Taking F V R) (in_order : Bool) (test : K → Bool) (d : V) (es : List (K × V)) (f : F) (r : R) (f' : F) (d' : V) (es' : List (K × V)) : Type 0 where
   pub value : V
   pub left : V
-  pub held_is : d ≡ Some (held_key, held)
-  pub value_is : e ≡ Some (key, value)
-  pub called : CalledAtBoth c in_order f held value r f' held_left left
-  pub held_written : d' ≡ Some (held_key, held_left)
-  pub written : e' ≡ Some (key, left)
-
--- such a call at the values of the entry d and of the key that passes the test
-pub record ChangedBeside {F K V R : Type 0} (c : Taking F V R) (in_order : Bool) (test : K → Bool) (d : Option (K × V)) (es : List (K × V)) (f : F) (r : R) (f' : F) (d' : Option (K × V)) (es' : List (K × V)) : Type 0 where
-  pub held_key : K
-  pub held : V
-  pub held_left : V
-  pub value : V
-  pub left : V
-  pub held_is : d ≡ Some (held_key, held)
   pub found : lookup test es ≡ Some value
-  pub called : CalledAtBoth c in_order f held value r f' held_left left
-  pub held_written : d' ≡ Some (held_key, held_left)
+  pub called : CalledAtBoth c in_order f d value r f' d' left
   pub written : es' ≡ set_value test es left
 
 -- such a call at the values of two keys, each in a list of its own
@@ -68,7 +49,7 @@ pub record ChangedBoth {F K V R : Type 0} (c : Taking F V R) (in_order : Bool) (
 
 -- the same of trees: f was called, or nothing changed where a key is missing
 module _ {F K V A R : Type 0} (c : Taking F V R) (in_order : Bool) where
-  abbrev pub ChangesBeside : (K → Bool) → Option (K × V) → Tree K V A → F → Option R → F → Option (K × V) → Tree K V A → Type 0
+  abbrev pub ChangesBeside : (K → Bool) → V → Tree K V A → F → Option R → F → V → Tree K V A → Type 0
   ChangesBeside test d t f (Some r) f' d' t' = ChangedBeside c in_order test d (entries t) f r f' d' (entries t') × KeepsLinks t t'
   ChangesBeside test d t f None f' d' t' = (lookup test (entries t) ≡ None) × (f' ≡ f) × (d' ≡ d) × (t' ≡ t)
 

@@ -1,9 +1,9 @@
 // Changes of the tree.
-ghost use Rattle.std.specs.Prelude.{◌≡◌, ◌≢◌, ◌+◌, ◌<◌, ◌≤◌, ◌++◌, true, false, None, Some, IsSome, IfSome, MatchOption};
-ghost use Rattle.std.specs.Option.{option_map, option_and_then, is_some};
+ghost use Rattle.std.specs.Prelude.{◌≡◌, ◌≢◌, ◌+◌, ◌<◌, ◌≤◌, ◌++◌, true, false, None, Some, IfSome, MatchOption};
+ghost use Rattle.std.specs.Option.{option_map, is_some};
 ghost use Rattle.std.specs.Map.{lookup, remove_entry};
 ghost use Rattle.std.specs.BTreeMap.{is_at, insert_entry};
-ghost use Rattle.avl_tree.specs.Nodes.{entries, with_first, stored_height, IsAvl, IsNearlyAvl, SettlesTo, IsOrdered, IsBare, HasLeft, HasNoLeft, beside_root, root_entry, IsGrown, IsShrunk, IsTold, Exchanges};
+ghost use Rattle.avl_tree.specs.Nodes.{entries, entry, with_first, stored_height, IsAvl, IsNearlyAvl, SettlesTo, IsOrdered, IsBare, HasLeft, HasNoLeft, beside_root, root_entry, IsGrown, IsShrunk, IsTold, Exchanges};
 ghost use Rattle.avl_tree.specs.Map.{first_to};
 ghost use Rattle.avl_tree.specs.declared.tree.Tree.TheVariants.{Empty};
 
@@ -15,15 +15,12 @@ use std::mem;
 
 /// Exchanges the value of a node.
 fn exchange_value<K, V, A: Allocator>(node: &mut Node<K, V, A>, value: &mut V)
-    requires { IsSome node.old.entry }
     ensures left { node.new.left ≡ node.old.left }
     ensures right { node.new.right ≡ node.old.right }
-    ensures entry { node.new.entry ≡ option_map (λ e. (e.0, value.old)) node.old.entry }
-    ensures value { Some value.new ≡ option_map (λ e. e.1) node.old.entry }
+    ensures entry { entry node.new ≡ (node.old.key, value.old) }
+    ensures value { value.new ≡ node.old.value }
 {
-    if let Some((_, held)) = &mut node.entry {
-        mem::swap(held, value);
-    }
+    mem::swap(&mut node.value, value);
 }
 
 /// Exchanges the value at the key that compares equal, and says whether there is one.
@@ -56,7 +53,7 @@ fn regrow<K, V, A: Allocator>(tree: &mut Tree<K, V, A>) -> bool
     height(tree) != before
 }
 
-/// Puts a node with an entry at its place, where no key compares equal, and says whether the tree is higher than before.
+/// Puts a node at its place, where no key compares equal, and says whether the tree is higher than before.
 /// Above a side that is not, nothing changes.
 pub fn insert<K: Ord, V, A: Allocator>(
     tree: &mut Tree<K, V, A>,
@@ -68,10 +65,9 @@ pub fn insert<K: Ord, V, A: Allocator>(
     requires height_fits { stored_height tree.old < 200 }
     requires absent { lookup (is_at (K.cmp key.now)) (entries tree.old) ≡ None }
     requires bare { IsBare fresh.value }
-    requires key { option_map (λ e. e.0) fresh.value.entry ≡ Some key.now }
+    requires key { fresh.value.key ≡ key.now }
     ensures balanced { IsAvl tree.new }
-    ensures entries { IfSome fresh.value.entry
-        (λ e. entries tree.new ≡ insert_entry K.cmp (entries tree.old) key.now e.1) }
+    ensures entries { entries tree.new ≡ insert_entry K.cmp (entries tree.old) key.now fresh.value.value }
     ensures height { IsGrown (stored_height tree.old) (stored_height tree.new) }
     ensures told { IsTold result (stored_height tree.old) (stored_height tree.new) }
 {
@@ -100,18 +96,16 @@ fn take_top<K, V, A: Allocator>(tree: &mut Tree<K, V, A>) -> Option<Box<Node<K, 
     requires no_left { HasNoLeft tree.old }
     ensures balanced { IsAvl tree.new }
     ensures entries { entries tree.old
-        ≡ with_first (option_and_then (λ b. b.value.entry) result) (entries tree.new) }
+        ≡ with_first (option_map (λ b. entry b.value) result) (entries tree.new) }
     ensures taken { MatchOption result ((tree.old ≡ Empty) × (tree.new ≡ Empty))
-        (λ b. IsBare b.value × IsSome b.value.entry) }
+        (λ b. IsBare b.value) }
     ensures height { IsShrunk (stored_height tree.old) (stored_height tree.new) }
     ensures lower { tree.old ≢ Empty → stored_height tree.new < stored_height tree.old }
 {
     match take(tree) {
         Tree::Empty => None,
-        Tree::Fork(_, node) => {
-            let (left, node, right) = split(node);
-            let Tree::Empty = left else { unreachable!() };
-            put(tree, right);
+        Tree::Fork(_, mut node) => {
+            put(tree, take(&mut node.right));
             Some(node)
         }
     }
@@ -128,9 +122,9 @@ pub fn take_first<K, V, A: Allocator>(
     requires not_lower { lower.old ≡ false }
     ensures balanced { IsAvl tree.new }
     ensures entries { entries tree.old
-        ≡ with_first (option_and_then (λ b. b.value.entry) result) (entries tree.new) }
+        ≡ with_first (option_map (λ b. entry b.value) result) (entries tree.new) }
     ensures taken { MatchOption result ((tree.old ≡ Empty) × (tree.new ≡ Empty))
-        (λ b. IsBare b.value × IsSome b.value.entry) }
+        (λ b. IsBare b.value) }
     ensures height { IsShrunk (stored_height tree.old) (stored_height tree.new) }
     ensures told { IsTold lower.new (stored_height tree.old) (stored_height tree.new) }
 {
@@ -189,11 +183,11 @@ fn take_top_to<K: Ord, V, A: Allocator>(
     requires no_left { HasNoLeft tree.old }
     requires not_lower { lower.old ≡ false }
     ensures balanced { IsAvl tree.new }
-    ensures first { option_and_then (λ b. b.value.entry) result ≡ first_to K.cmp bound.now (entries tree.old) }
+    ensures first { option_map (λ b. entry b.value) result ≡ first_to K.cmp bound.now (entries tree.old) }
     ensures entries { entries tree.old
-        ≡ with_first (option_and_then (λ b. b.value.entry) result) (entries tree.new) }
+        ≡ with_first (option_map (λ b. entry b.value) result) (entries tree.new) }
     ensures taken { MatchOption result ((tree.new ≡ tree.old) × (lower.new ≡ false))
-        (λ b. IsBare b.value × IsSome b.value.entry) }
+        (λ b. IsBare b.value) }
     ensures height { IsShrunk (stored_height tree.old) (stored_height tree.new) }
     ensures told { IsTold lower.new (stored_height tree.old) (stored_height tree.new) }
 {
@@ -215,11 +209,11 @@ pub fn take_first_to<K: Ord, V, A: Allocator>(
     requires height_fits { stored_height tree.old < 200 }
     requires not_lower { lower.old ≡ false }
     ensures balanced { IsAvl tree.new }
-    ensures first { option_and_then (λ b. b.value.entry) result ≡ first_to K.cmp bound.now (entries tree.old) }
+    ensures first { option_map (λ b. entry b.value) result ≡ first_to K.cmp bound.now (entries tree.old) }
     ensures entries { entries tree.old
-        ≡ with_first (option_and_then (λ b. b.value.entry) result) (entries tree.new) }
+        ≡ with_first (option_map (λ b. entry b.value) result) (entries tree.new) }
     ensures taken { MatchOption result ((tree.new ≡ tree.old) × (lower.new ≡ false))
-        (λ b. IsBare b.value × IsSome b.value.entry) }
+        (λ b. IsBare b.value) }
     ensures height { IsShrunk (stored_height tree.old) (stored_height tree.new) }
     ensures told { IsTold lower.new (stored_height tree.old) (stored_height tree.new) }
 {
@@ -242,8 +236,8 @@ fn take_root<K, V, A: Allocator>(tree: &mut Tree<K, V, A>) -> Option<Box<Node<K,
     requires height_fits { stored_height tree.old < 200 }
     ensures balanced { IsAvl tree.new }
     ensures entries { entries tree.new ≡ beside_root tree.old }
-    ensures root { option_and_then (λ b. b.value.entry) result ≡ root_entry tree.old }
-    ensures taken { IfSome result (λ b. IsBare b.value × IsSome b.value.entry) }
+    ensures root { option_map (λ b. entry b.value) result ≡ root_entry tree.old }
+    ensures taken { IfSome result (λ b. IsBare b.value) }
     ensures height { IsShrunk (stored_height tree.old) (stored_height tree.new) }
 {
     match take(tree) {
@@ -272,8 +266,8 @@ fn take_root_off<K, V, A: Allocator>(
     requires height_fits { stored_height tree.old < 200 }
     ensures balanced { IsAvl tree.new }
     ensures entries { entries tree.new ≡ beside_root tree.old }
-    ensures root { option_and_then (λ b. b.value.entry) result ≡ root_entry tree.old }
-    ensures taken { IfSome result (λ b. IsBare b.value × IsSome b.value.entry) }
+    ensures root { option_map (λ b. entry b.value) result ≡ root_entry tree.old }
+    ensures taken { IfSome result (λ b. IsBare b.value) }
     ensures height { IsShrunk (stored_height tree.old) (stored_height tree.new) }
     ensures told { IsTold lower.new (stored_height tree.old) (stored_height tree.new) }
 {
@@ -296,9 +290,9 @@ pub fn remove<K: Ord, V, A: Allocator>(
     requires not_lower { lower.old ≡ false }
     ensures balanced { IsAvl tree.new }
     ensures entries { entries tree.new ≡ remove_entry (is_at (K.cmp key.now)) (entries tree.old) }
-    ensures value { option_and_then (λ b. option_map (λ e. e.1) b.value.entry) result
+    ensures value { option_map (λ b. b.value.value) result
         ≡ lookup (is_at (K.cmp key.now)) (entries tree.old) }
-    ensures taken { IfSome result (λ b. IsBare b.value × IsSome b.value.entry) }
+    ensures taken { IfSome result (λ b. IsBare b.value) }
     ensures height { IsShrunk (stored_height tree.old) (stored_height tree.new) }
     ensures told { IsTold lower.new (stored_height tree.old) (stored_height tree.new) }
 {

@@ -9,7 +9,7 @@ ghost use Rattle.std.specs.BTreeMap.{insert_entry, is_at};
 ghost use Rattle.std.specs.declared.option.Option.TheVariants.{None, Some};
 ghost use Rattle.avl_tree.specs.Changes.{Changed, ChangedTwo};
 ghost use Rattle.avl_tree.specs.Map.{entries, get, first_to, IsShallow};
-ghost use Rattle.avl_tree.specs.Nodes.{with_first, search_of, IsBare, IsWhole};
+ghost use Rattle.avl_tree.specs.Nodes.{entry, with_first, search_of, IsBare, IsWhole};
 ghost use Rattle.avl_tree.specs.Search.{path_length};
 ghost use Rattle.avl_tree.specs.Visits.{between, VisitsTo};
 
@@ -59,43 +59,34 @@ unsafe impl<K: Ord + Copy + Send, V: Send, A: Allocator + Clone + Send> Send for
 
 unsafe impl<K: Ord + Copy + Sync, V: Sync, A: Allocator + Clone + Sync> Sync for AvlMap<K, V, A> {}
 
-/// Puts a pair into a node that holds nothing.
-fn fill<K, V, A: Allocator>(node: &mut Node<K, V, A>, key: K, value: V)
-    requires { node.old.entry ≡ None }
+/// Puts a pair into a node.
+fn fill<K: Copy, V: Drop, A: Allocator>(node: &mut Node<K, V, A>, key: K, value: V)
     ensures left { node.new.left ≡ node.old.left }
     ensures right { node.new.right ≡ node.old.right }
-    ensures entry { node.new.entry ≡ Some (key, value) }
+    ensures key { node.new.key ≡ key }
+    ensures value { node.new.value ≡ value }
 {
-    match mem::replace(&mut node.entry, Some((key, value))) {
-        None => {}
-        Some((_, _)) => unreachable!(),
-    }
+    node.key = key;
+    node.value = value;
 }
 
 /// Counts out a node that was taken off the tree, makes it spare, and answers its pair.
-fn retire<K, V, A: Allocator>(
+fn retire<K: Copy, V: Default, A: Allocator>(
     mut node: Box<Node<K, V, A>, A>,
     len: &mut usize,
     spare: &mut SpareNodes<K, V, A>,
-) -> Option<(K, V)>
+) -> (K, V)
     requires bare { IsBare node.value }
     requires counted { 0 < len.old }
     requires fits { spare.old + 1 < 2 ^ 64 }
-    ensures pair { result ≡ node.value.entry }
+    ensures pair { result ≡ entry node.value }
     ensures one_less { len.new + 1 ≡ len.old }
     ensures one_more { spare.new ≡ spare.old + 1 }
 {
-    let pair = mem::replace(&mut node.entry, None);
+    let pair = (node.key, mem::replace(&mut node.value, V::default()));
     *len -= 1;
     spare.push(node);
     pair
-}
-
-/// The value of a pair.
-fn value_of<K: Copy, V>(pair: Option<(K, V)>) -> Option<V>
-    ensures { result ≡ option_map (λ e. e.1) pair }
-{
-    pair.map(|(_, value)| value)
 }
 
 impl<K: Ord + Copy, V, A: Allocator + Clone> AvlMap<K, V, A> {
@@ -243,7 +234,9 @@ impl<K: Ord + Copy, V, A: Allocator + Clone> AvlMap<K, V, A> {
             Ordering::Greater => pairs::update_two(&mut self.root, b, a, false, f),
         }
     }
+}
 
+impl<K: Ord + Copy + Default, V: Default + Drop, A: Allocator + Clone> AvlMap<K, V, A> {
     /// Takes the key out, and answers its value. Its node becomes spare.
     pub fn remove(&mut self, key: &K) -> Option<V>
         ensures value { result ≡ get K.cmp self.old key.now }
@@ -252,7 +245,8 @@ impl<K: Ord + Copy, V, A: Allocator + Clone> AvlMap<K, V, A> {
     {
         let mut lower = false;
         let node = edits::remove(&mut self.root, key, &mut lower)?;
-        value_of(retire(node, &mut self.len, &mut self.spare))
+        let (_, value) = retire(node, &mut self.len, &mut self.spare);
+        Some(value)
     }
 
     /// Takes the pair of the least key out, and answers it. Its node becomes spare.
@@ -264,7 +258,7 @@ impl<K: Ord + Copy, V, A: Allocator + Clone> AvlMap<K, V, A> {
     {
         let mut lower = false;
         let node = edits::take_first(&mut self.root, &mut lower)?;
-        retire(node, &mut self.len, &mut self.spare)
+        Some(retire(node, &mut self.len, &mut self.spare))
     }
 
     /// Takes the pair of the least key out, where that key is at most the bound, and answers it. Its node becomes spare.
@@ -278,7 +272,7 @@ impl<K: Ord + Copy, V, A: Allocator + Clone> AvlMap<K, V, A> {
     {
         let mut lower = false;
         let node = edits::take_first_to(&mut self.root, bound, &mut lower)?;
-        retire(node, &mut self.len, &mut self.spare)
+        Some(retire(node, &mut self.len, &mut self.spare))
     }
 
     /// Makes spare nodes until there are `n`: the one call that takes memory. Where memory is refused, the pairs and

@@ -2,8 +2,8 @@
 ghost use Rattle.std.specs.Prelude.{◌≡◌, None, Some, IsSome, IfSome};
 ghost use Rattle.std.specs.BTreeMap.{is_at};
 ghost use Rattle.std.specs.declared.cmp.Ordering.TheVariants.{Less};
-ghost use Rattle.avl_tree.specs.Nodes.{entries, IsAvl, IsOrdered};
-ghost use Rattle.avl_tree.specs.Pairs.{CalledAtEntries, ChangesBeside, ChangesApart, ChangesBoth};
+ghost use Rattle.avl_tree.specs.Nodes.{entries, entry, IsAvl, IsOrdered};
+ghost use Rattle.avl_tree.specs.Pairs.{CalledAtBoth, ChangesBeside, ChangesApart, ChangesBoth};
 
 use crate::tree::{Node, Tree};
 use crate::walks::compare;
@@ -12,28 +12,20 @@ use std::cmp::Ordering;
 use std::mem;
 
 /// Calls the closure at a held value and another, in this order or the other one.
-fn call_both<K, V, R, F: FnMut(&mut V, &mut V) -> R>(
-    held: &mut Option<(K, V)>,
-    other: &mut Option<(K, V)>,
+fn call_both<V, R, F: FnMut(&mut V, &mut V) -> R>(
+    held: &mut V,
+    other: &mut V,
     in_order: bool,
     f: &mut F,
 ) -> R
-    requires held { IsSome held.old }
-    requires other { IsSome other.old }
     requires callable { F.IsAlwaysCallable f.old }
     ensures callable { F.IsAlwaysCallable f.new }
-    ensures called { CalledAtEntries F.FnMut in_order f.old held.old other.old result f.new held.new other.new }
+    ensures called { CalledAtBoth F.FnMut in_order f.old held.old other.old result f.new held.new other.new }
 {
-    let Some((_, held)) = held else {
-        unreachable!()
-    };
-    let Some((_, value)) = other else {
-        unreachable!()
-    };
     if in_order {
-        f(held, value)
+        f(held, other)
     } else {
-        f(value, held)
+        f(other, held)
     }
 }
 
@@ -49,22 +41,20 @@ fn answer<R>(out: &mut Option<R>, given: R)
 }
 
 /// Calls the closure at a held value and another, and puts its answer into its place.
-fn answer_both<K, V, R, F: FnMut(&mut V, &mut V) -> R>(
-    held: &mut Option<(K, V)>,
-    other: &mut Option<(K, V)>,
+fn answer_both<V, R, F: FnMut(&mut V, &mut V) -> R>(
+    held: &mut V,
+    other: &mut V,
     in_order: bool,
     f: &mut F,
     out: &mut Option<R>,
 )
-    requires held { IsSome held.old }
-    requires other { IsSome other.old }
     requires callable { F.IsAlwaysCallable f.old }
     requires empty { out.old ≡ None }
     ensures callable { F.IsAlwaysCallable f.new }
     ensures answered { IsSome out.new }
     ensures called { IfSome out.new
         (λ r.
-        CalledAtEntries F.FnMut in_order f.old held.old other.old r f.new held.new
+        CalledAtBoth F.FnMut in_order f.old held.old other.old r f.new held.new
         other.new) }
 {
     answer(out, call_both(held, other, in_order, f));
@@ -74,14 +64,13 @@ fn answer_both<K, V, R, F: FnMut(&mut V, &mut V) -> R>(
 fn beside<K: Ord, V, A: Allocator, R, F: FnMut(&mut V, &mut V) -> R>(
     tree: &mut Tree<K, V, A>,
     key: &K,
-    held: &mut Option<(K, V)>,
+    held: &mut V,
     in_order: bool,
     f: &mut F,
     out: &mut Option<R>,
 )
     requires balanced { IsAvl tree.old }
     requires sorted { IsOrdered K.cmp (entries tree.old) }
-    requires held { IsSome held.old }
     requires callable { F.IsAlwaysCallable f.old }
     requires empty { out.old ≡ None }
     ensures callable { F.IsAlwaysCallable f.new }
@@ -93,7 +82,7 @@ fn beside<K: Ord, V, A: Allocator, R, F: FnMut(&mut V, &mut V) -> R>(
         Tree::Fork(_, node) => match compare(key, node) {
             Ordering::Less => beside(&mut node.left, key, held, in_order, f, out),
             Ordering::Greater => beside(&mut node.right, key, held, in_order, f, out),
-            Ordering::Equal => answer_both(held, &mut node.entry, in_order, f, out),
+            Ordering::Equal => answer_both(held, &mut node.value, in_order, f, out),
         },
     }
 }
@@ -108,15 +97,15 @@ fn beside_left<K: Ord, V, A: Allocator, R, F: FnMut(&mut V, &mut V) -> R>(
 )
     requires balanced { IsAvl node.old.left }
     requires sorted { IsOrdered K.cmp (entries node.old.left) }
-    requires entry { IsSome node.old.entry }
     requires callable { F.IsAlwaysCallable f.old }
     requires empty { out.old ≡ None }
     ensures callable { F.IsAlwaysCallable f.new }
     ensures right { node.new.right ≡ node.old.right }
-    ensures changes { ChangesBeside F.FnMut in_order (is_at (K.cmp key.now)) node.old.entry node.old.left f.old
-        out.new f.new node.new.entry node.new.left }
+    ensures key { node.new.key ≡ node.old.key }
+    ensures changes { ChangesBeside F.FnMut in_order (is_at (K.cmp key.now)) node.old.value node.old.left f.old
+        out.new f.new node.new.value node.new.left }
 {
-    beside(&mut node.left, key, &mut node.entry, in_order, f, out)
+    beside(&mut node.left, key, &mut node.value, in_order, f, out)
 }
 
 /// Looks for the other key right of a node, while the node's value is held.
@@ -129,15 +118,15 @@ fn beside_right<K: Ord, V, A: Allocator, R, F: FnMut(&mut V, &mut V) -> R>(
 )
     requires balanced { IsAvl node.old.right }
     requires sorted { IsOrdered K.cmp (entries node.old.right) }
-    requires entry { IsSome node.old.entry }
     requires callable { F.IsAlwaysCallable f.old }
     requires empty { out.old ≡ None }
     ensures callable { F.IsAlwaysCallable f.new }
     ensures left { node.new.left ≡ node.old.left }
-    ensures changes { ChangesBeside F.FnMut in_order (is_at (K.cmp key.now)) node.old.entry node.old.right f.old
-        out.new f.new node.new.entry node.new.right }
+    ensures key { node.new.key ≡ node.old.key }
+    ensures changes { ChangesBeside F.FnMut in_order (is_at (K.cmp key.now)) node.old.value node.old.right f.old
+        out.new f.new node.new.value node.new.right }
 {
-    beside(&mut node.right, key, &mut node.entry, in_order, f, out)
+    beside(&mut node.right, key, &mut node.value, in_order, f, out)
 }
 
 /// Looks for one key in each of two trees, a level of either by turns, so that their waits for memory overlap.
@@ -167,7 +156,7 @@ fn apart<K: Ord, V, A: Allocator, R, F: FnMut(&mut V, &mut V) -> R>(
     };
     let order = compare(key, node);
     if matches!(order, Ordering::Equal) {
-        beside(other, other_key, &mut node.entry, in_order, f, out);
+        beside(other, other_key, &mut node.value, in_order, f, out);
         return;
     }
     match order {
@@ -193,7 +182,7 @@ fn apart_at<K: Ord, V, A: Allocator, R, F: FnMut(&mut V, &mut V) -> R>(
     requires callable { F.IsAlwaysCallable f.old }
     requires empty { out.old ≡ None }
     ensures callable { F.IsAlwaysCallable f.new }
-    ensures entry { node.new.entry ≡ node.old.entry }
+    ensures entry { entry node.new ≡ entry node.old }
     ensures changes { ChangesApart F.FnMut in_order (is_at (K.cmp low.now)) (is_at (K.cmp high.now)) node.old.left
         node.old.right f.old out.new f.new node.new.left node.new.right }
 {

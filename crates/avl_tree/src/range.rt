@@ -1,6 +1,5 @@
 // Walks over a range of keys.
-ghost use Rattle.std.specs.Prelude.{IsSome, IfSome};
-ghost use Rattle.avl_tree.specs.Nodes.{entries, IsAvl, IsOrdered};
+ghost use Rattle.avl_tree.specs.Nodes.{entries, entry, IsAvl, IsOrdered};
 ghost use Rattle.avl_tree.specs.Visits.{between, CalledAtEntry, VisitsTo};
 
 use crate::tree::{Node, Tree};
@@ -10,15 +9,11 @@ use std::cmp::Ordering;
 
 /// Calls the closure with the entry of a node.
 fn call_at<K, V, A: Allocator, F: FnMut(&K, &V)>(node: &Node<K, V, A>, f: &mut F)
-    requires entry { IsSome node.now.entry }
     requires callable { F.IsAlwaysCallable f.old }
     ensures callable { F.IsAlwaysCallable f.new }
-    ensures called { IfSome node.now.entry (λ e. CalledAtEntry F.FnMut f.old e f.new) }
+    ensures called { CalledAtEntry F.FnMut f.old (entry node.now) f.new }
 {
-    match &node.entry {
-        Some((key, value)) => f(key, value),
-        None => unreachable!(),
-    }
+    f(&node.key, &node.value);
 }
 
 /// Calls the closure with each entry from `low` to `high`, by rising key.

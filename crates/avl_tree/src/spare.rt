@@ -1,12 +1,12 @@
 // Nodes that wait for an entry.
-ghost use Rattle.std.specs.Prelude.{◌≡◌, ◌+◌, ◌<◌, ◌≤◌, ◌^◌, max, None, IfOk};
+ghost use Rattle.std.specs.Prelude.{◌≡◌, ◌+◌, ◌<◌, ◌≤◌, ◌^◌, max, IfOk};
 ghost use Rattle.avl_tree.specs.Nodes.{IsBare, IsSpareChain, chain_length};
 
 use crate::tree::{Node, Tree, put, take};
 use std::alloc::{AllocError, Allocator};
 use std::marker::Model;
 
-/// Nodes with no entry, each linked to the next by its left side.
+/// Nodes out of use, each linked to the next by its left side.
 pub struct SpareNodes<K, V, A: Allocator> {
     first: Tree<K, V, A>,
     count: usize,
@@ -40,7 +40,8 @@ fn free<K: Drop, V: Drop, A: Allocator>(mut chain: Tree<K, V, A>) {
                 let Node {
                     left,
                     right: _,
-                    entry: _,
+                    key: _,
+                    value: _,
                 } = Box::into_inner(node);
                 chain = left;
             }
@@ -48,34 +49,25 @@ fn free<K: Drop, V: Drop, A: Allocator>(mut chain: Tree<K, V, A>) {
     }
 }
 
-/// Makes a node with no entry.
-fn make<K, V, A: Allocator>(alloc: A) -> Result<Box<Node<K, V, A>, A>, AllocError>
+/// Makes a node. What stands in it is written over before it is read.
+fn make<K: Default + Drop, V: Default + Drop, A: Allocator>(
+    alloc: A,
+) -> Result<Box<Node<K, V, A>, A>, AllocError>
     ensures bare { IfOk result (λ b. IsBare b.value) }
-    ensures empty { IfOk result (λ b. b.value.entry ≡ None) }
 {
     let node = Node {
         left: Tree::Empty,
         right: Tree::Empty,
-        entry: None,
+        key: K::default(),
+        value: V::default(),
     };
     match Box::new(alloc, node) {
         Ok(node) => Ok(node),
         Err(failed) => {
-            discard(failed.value);
+            drop(failed.value);
             Err(AllocError)
         }
     }
-}
-
-/// Takes a node apart that holds nothing.
-fn discard<K, V, A: Allocator>(node: Node<K, V, A>)
-    requires bare { IsBare node }
-    requires empty { node.entry ≡ None }
-{
-    let Node { left, right, entry } = node;
-    let Tree::Empty = left else { unreachable!() };
-    let Tree::Empty = right else { unreachable!() };
-    let None = entry else { unreachable!() };
 }
 
 impl<K, V, A: Allocator> SpareNodes<K, V, A> {
@@ -96,10 +88,9 @@ impl<K, V, A: Allocator> SpareNodes<K, V, A> {
         self.count
     }
 
-    /// Adds a node that holds nothing.
+    /// Adds a node.
     pub fn push(&mut self, mut node: Box<Node<K, V, A>, A>)
         requires bare { IsBare node.value }
-        requires empty { node.value.entry ≡ None }
         requires fits { self.old + 1 < 2 ^ 64 }
         ensures { self.new ≡ self.old + 1 }
     {
@@ -113,7 +104,6 @@ impl<K, V, A: Allocator> SpareNodes<K, V, A> {
         requires { 0 < self.old }
         ensures one_less { self.new + 1 ≡ self.old }
         ensures bare { IsBare result.value }
-        ensures empty { result.value.entry ≡ None }
     {
         let Tree::Fork(_, mut node) = take(&mut self.first) else {
             unreachable!()
@@ -126,6 +116,8 @@ impl<K, V, A: Allocator> SpareNodes<K, V, A> {
     /// Makes nodes until there are `n`.
     pub fn grow_to(&mut self, n: usize, alloc: &A) -> Result<(), AllocError>
     where
+        K: Default + Drop,
+        V: Default + Drop,
         A: Clone,
         ensures not_less { self.old ≤ self.new }
         ensures no_more { self.new ≤ max self.old n }

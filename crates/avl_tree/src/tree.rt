@@ -1,6 +1,6 @@
 // The nodes of the tree, and how their links turn.
-ghost use Rattle.std.specs.Prelude.{◌≡◌, ◌+◌, ◌<◌, ◌≤◌, max, ◌++◌, IsSome, IfSome};
-ghost use Rattle.avl_tree.specs.Nodes.{entries, with_first, stored_height, IsAvl, IsNearlyAvl, SettlesTo, IsBare, IsHeightOver, IsLevelAt, DifferByAtMost};
+ghost use Rattle.std.specs.Prelude.{◌≡◌, ◌+◌, ◌<◌, ◌≤◌, max, ◌∷◌, ◌++◌, IfSome};
+ghost use Rattle.avl_tree.specs.Nodes.{entries, entry, stored_height, IsAvl, IsNearlyAvl, SettlesTo, IsBare, IsHeightOver, IsLevelAt, DifferByAtMost};
 ghost use Rattle.avl_tree.specs.declared.tree.Tree.TheVariants.{Empty};
 
 use std::alloc::Allocator;
@@ -16,13 +16,16 @@ pub enum Tree<K, V, A: Allocator> {
     Fork(u8, Box<Node<K, V, A>, A>),
 }
 
-/// A node, of the tree with an entry, and spare without one.
+/// A node.
+///
+/// A search reads the sides and the key alone, so they stand first, side by side. What a spare node holds is never read.
 #[cycle(avl)]
 #[derive(Drop)]
 pub struct Node<K, V, A: Allocator> {
     pub left: Tree<K, V, A>,
     pub right: Tree<K, V, A>,
-    pub entry: Option<(K, V)>,
+    pub key: K,
+    pub value: V,
 }
 
 /// The height that the link keeps.
@@ -60,7 +63,7 @@ pub fn split<K, V, A: Allocator>(
 ) -> (Tree<K, V, A>, Box<Node<K, V, A>, A>, Tree<K, V, A>)
     ensures left { result.0 ≡ node.value.left }
     ensures bare { IsBare result.1.value }
-    ensures entry { result.1.value.entry ≡ node.value.entry }
+    ensures entry { entry result.1.value ≡ entry node.value }
     ensures right { result.2 ≡ node.value.right }
 {
     let left = take(&mut node.left);
@@ -75,13 +78,12 @@ pub fn join<K, V, A: Allocator>(
     right: Tree<K, V, A>,
 ) -> Tree<K, V, A>
     requires bare { IsBare node.value }
-    requires entry { IsSome node.value.entry }
     requires left { IsAvl left }
     requires right { IsAvl right }
     requires close { DifferByAtMost 1 (stored_height left) (stored_height right) }
     requires height_fits { max (stored_height left) (stored_height right) < 255 }
     ensures balanced { IsAvl result }
-    ensures entries { entries result ≡ entries left ++ with_first node.value.entry (entries right) }
+    ensures entries { entries result ≡ entries left ++ entry node.value ∷ entries right }
     ensures height { stored_height result ≡ max (stored_height left) (stored_height right) + 1 }
 {
     let height = height(&left).max(height(&right)) + 1;
@@ -98,13 +100,12 @@ fn lean_left<K, V, A: Allocator>(
     right: Tree<K, V, A>,
 ) -> Tree<K, V, A>
     requires bare { IsBare node.value }
-    requires entry { IsSome node.value.entry }
     requires left { IsAvl left }
     requires right { IsAvl right }
     requires two_higher { stored_height left ≡ stored_height right + 2 }
     requires height_fits { stored_height left < 250 }
     ensures balanced { IsAvl result }
-    ensures entries { entries result ≡ entries left ++ with_first node.value.entry (entries right) }
+    ensures entries { entries result ≡ entries left ++ entry node.value ∷ entries right }
     ensures not_lower { stored_height left ≤ stored_height result }
     ensures at_most_one_higher { stored_height result ≤ stored_height left + 1 }
 {
@@ -130,13 +131,12 @@ fn lean_right<K, V, A: Allocator>(
     right: Tree<K, V, A>,
 ) -> Tree<K, V, A>
     requires bare { IsBare node.value }
-    requires entry { IsSome node.value.entry }
     requires left { IsAvl left }
     requires right { IsAvl right }
     requires two_higher { stored_height right ≡ stored_height left + 2 }
     requires height_fits { stored_height right < 250 }
     ensures balanced { IsAvl result }
-    ensures entries { entries result ≡ entries left ++ with_first node.value.entry (entries right) }
+    ensures entries { entries result ≡ entries left ++ entry node.value ∷ entries right }
     ensures not_lower { stored_height right ≤ stored_height result }
     ensures at_most_one_higher { stored_height result ≤ stored_height right + 1 }
 {
@@ -161,13 +161,12 @@ pub fn balance<K, V, A: Allocator>(
     right: Tree<K, V, A>,
 ) -> Tree<K, V, A>
     requires bare { IsBare node.value }
-    requires entry { IsSome node.value.entry }
     requires left { IsAvl left }
     requires right { IsAvl right }
     requires close { DifferByAtMost 2 (stored_height left) (stored_height right) }
     requires height_fits { max (stored_height left) (stored_height right) < 250 }
     ensures balanced { IsAvl result }
-    ensures entries { entries result ≡ entries left ++ with_first node.value.entry (entries right) }
+    ensures entries { entries result ≡ entries left ++ entry node.value ∷ entries right }
     ensures height { IsHeightOver (stored_height left) (stored_height right) (stored_height result) }
 {
     let (to_left, to_right) = (height(&left), height(&right));

@@ -1,8 +1,9 @@
 // Changes of values where they stand.
-ghost use Rattle.std.specs.Prelude.{◌≡◌, IsSome, IfSome};
+ghost use Rattle.std.specs.Prelude.{◌≡◌};
 ghost use Rattle.std.specs.BTreeMap.{is_at};
+ghost use Rattle.std.specs.Fn.{CalledAtMut};
 ghost use Rattle.avl_tree.specs.Nodes.{entries, IsAvl, IsOrdered};
-ghost use Rattle.avl_tree.specs.Changes.{CalledAtValue, Changes};
+ghost use Rattle.avl_tree.specs.Changes.{Changes};
 
 use crate::tree::{Node, Tree};
 use crate::walks::compare;
@@ -13,20 +14,15 @@ use std::cmp::Ordering;
 fn update_value<K, V, A: Allocator, R, F: FnMut(&mut V) -> R>(
     node: &mut Node<K, V, A>,
     f: &mut F,
-) -> Option<R>
-    requires entry { IsSome node.old.entry }
+) -> R
     requires callable { F.IsAlwaysCallable f.old }
     ensures callable { F.IsAlwaysCallable f.new }
     ensures left { node.new.left ≡ node.old.left }
     ensures right { node.new.right ≡ node.old.right }
-    ensures called { IfSome node.old.entry
-        (λ e. IfSome result (λ r. CalledAtValue F.FnMut f.old e r f.new node.new.entry)) }
-    ensures answered { IsSome result }
+    ensures key { node.new.key ≡ node.old.key }
+    ensures called { CalledAtMut F.FnMut f.old node.old.value result f.new node.new.value }
 {
-    match &mut node.entry {
-        Some((_, value)) => Some(f(value)),
-        None => None,
-    }
+    f(&mut node.value)
 }
 
 /// Calls the closure at the value of the key that compares equal, where there is one.
@@ -46,7 +42,7 @@ pub fn update<K: Ord, V, A: Allocator, R, F: FnMut(&mut V) -> R>(
         Tree::Fork(_, node) => match compare(key, node) {
             Ordering::Less => update(&mut node.left, key, f),
             Ordering::Greater => update(&mut node.right, key, f),
-            Ordering::Equal => update_value(node, f),
+            Ordering::Equal => Some(update_value(node, f)),
         },
     }
 }

@@ -1,12 +1,12 @@
 // Searches down the tree.
-ghost use Rattle.std.specs.Prelude.{◌≡◌, ◌<◌, IsSome, IfSome};
+ghost use Rattle.std.specs.Prelude.{◌≡◌, ◌<◌};
 ghost use Rattle.std.specs.Option.{option_copied, option_map};
 ghost use Rattle.std.specs.List.{slice_get};
 ghost use Rattle.std.specs.Map.{lookup};
 ghost use Rattle.std.specs.Ordering.{is_lt};
 ghost use Rattle.std.specs.BTreeMap.{is_at};
 ghost use Rattle.avl_tree.specs.Search.{path_length};
-ghost use Rattle.avl_tree.specs.Nodes.{entries, search_of, stored_height, IsAvl, IsOrdered};
+ghost use Rattle.avl_tree.specs.Nodes.{entries, entry, search_of, stored_height, IsAvl, IsOrdered};
 
 use crate::tree::{Node, Tree};
 use std::alloc::Allocator;
@@ -14,31 +14,23 @@ use std::cmp::Ordering;
 
 /// How a key compares to the key of a node.
 pub fn compare<K: Ord, V, A: Allocator>(key: &K, node: &Node<K, V, A>) -> Ordering
-    requires { IsSome node.now.entry }
-    ensures { IfSome node.now.entry (λ e. result ≡ K.cmp key.now e.0) }
+    ensures { result ≡ K.cmp key.now node.now.key }
 {
-    match &node.entry {
-        Some((held, _)) => key.cmp(held),
-        None => Ordering::Equal,
-    }
+    key.cmp(&node.key)
 }
 
 /// Whether a key is below the key of a node.
 pub fn is_below<K: Ord, V, A: Allocator>(key: &K, node: &Node<K, V, A>) -> bool
-    requires { IsSome node.now.entry }
-    ensures { IfSome node.now.entry (λ e. result ≡ is_lt (K.cmp key.now e.0)) }
+    ensures { result ≡ is_lt (K.cmp key.now node.now.key) }
 {
     matches!(compare(key, node), Ordering::Less)
 }
 
 /// The value of a node.
-fn value_of<K, V, A: Allocator>(node: &Node<K, V, A>) -> Option<&V>
-    ensures { option_copied result ≡ option_map (λ e. e.1) node.now.entry }
+fn value_of<K, V, A: Allocator>(node: &Node<K, V, A>) -> &V
+    ensures { result.now ≡ node.now.value }
 {
-    match &node.entry {
-        Some((_, value)) => Some(value),
-        None => None,
-    }
+    &node.value
 }
 
 /// The value at the key that compares equal.
@@ -52,20 +44,17 @@ pub fn find<'a, K: Ord, V, A: Allocator>(tree: &'a Tree<K, V, A>, key: &K) -> Op
         match compare(key, node) {
             Ordering::Less => at = &node.left,
             Ordering::Greater => at = &node.right,
-            Ordering::Equal => return value_of(node),
+            Ordering::Equal => return Some(value_of(node)),
         }
     }
     None
 }
 
 /// The entry of a node.
-fn entry_of<K, V, A: Allocator>(node: &Node<K, V, A>) -> Option<(&K, &V)>
-    ensures { option_map (λ p. (p.0.now, p.1.now)) result ≡ node.now.entry }
+fn entry_of<K, V, A: Allocator>(node: &Node<K, V, A>) -> (&K, &V)
+    ensures { (result.0.now, result.1.now) ≡ entry node.now }
 {
-    match &node.entry {
-        Some((key, value)) => Some((key, value)),
-        None => None,
-    }
+    (&node.key, &node.value)
 }
 
 /// The entry of the least key.
@@ -77,7 +66,7 @@ pub fn first<K, V, A: Allocator>(tree: &Tree<K, V, A>) -> Option<(&K, &V)>
         return None;
     };
     match &node.left {
-        Tree::Empty => entry_of(node),
+        Tree::Empty => Some(entry_of(node)),
         Tree::Fork(_, _) => first(&node.left),
     }
 }
@@ -100,7 +89,7 @@ pub fn count_visits<'a, K: Ord, V, A: Allocator>(
         match compare(key, node) {
             Ordering::Less => at = &node.left,
             Ordering::Greater => at = &node.right,
-            Ordering::Equal => return (value_of(node), visits),
+            Ordering::Equal => return (Some(value_of(node)), visits),
         }
     }
     (None, visits)

@@ -7,7 +7,7 @@ use std::process::Abort;
 use std::test::Fail;
 
 /// Inserts a pair, where there is a spare node and the key is absent.
-fn put<K: Ord + Copy, V, A: Allocator + Clone>(
+fn put<K: Ord + Copy + Default, V: Default + Drop, A: Allocator + Clone>(
     rt: &impl Abort,
     map: &mut AvlMap<K, V, A>,
     key: K,

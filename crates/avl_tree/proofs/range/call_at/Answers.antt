@@ -2,4 +2,4 @@ use Rattle.std.proofs.Common.{refl}
 use Rattle.avl_tree.proofs.range.call_at.Goals as goal
 
 pub returns-clause-called : goal.returns-clause-called
-returns-clause-called g c = rw c.in-Some.is (record { key = _; value = _; shows = (refl, refl); called = c.f.ensures })
+returns-clause-called g c = record { key = _; value = _; shows = (refl, refl); called = c.f.ensures }

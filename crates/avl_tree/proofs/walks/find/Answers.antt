@@ -1,32 +1,34 @@
-use Rattle.std.proofs.Common.{sym, ◌∙◌, subst}
-use Rattle.avl_tree.specs.Nodes.{entries, IsAvl, IsOrdered}
+use Rattle.std.proofs.Common.{Some, ap, sym, ◌∙◌, subst}
+use Rattle.avl_tree.specs.Nodes.{entries, entry, IsAvl, IsOrdered}
 use Rattle.avl_tree.proofs.Steps.{goes_left, goes_right, stands_here}
 use Rattle.avl_tree.proofs.walks.find.Goals as goal
 
 pub loop-at-preserved-in-Less : goal.loop-at-preserved-in-Less
 loop-at-preserved-in-Less g c =
     let avl = subst IsAvl c.in-Fork.is c.loop-at.invariant.balanced in
+    let n = c.in-Fork.node.value in
     let s = subst (λ t. IsOrdered g.K.Ord.cmp (entries t)) c.in-Fork.is c.loop-at.invariant.sorted in
     let same = rw c.in-Fork.is at c.loop-at.invariant.same in
     let p = rw c.deref.ensures at c.in-Less.ensures in
-    let w = goes_left g.met.K.Ord.total c.args.key.now _ _ _ avl.0 p s in
-    rw c.deref-in-Less.ensures (record { balanced = avl.1; sorted = w.sorted; same = sym w.found ∙ same })
+    let w = goes_left g.met.K.Ord.total c.args.key.now (entries n.left) (entry n) (entries n.right) p s in
+    rw c.deref-in-Less.ensures (record { balanced = avl.0; sorted = w.sorted; same = sym w.found ∙ same })
 
 pub loop-at-preserved : goal.loop-at-preserved
 loop-at-preserved g c =
     let avl = subst IsAvl c.in-Fork.is c.loop-at.invariant.balanced in
+    let n = c.in-Fork.node.value in
     let s = subst (λ t. IsOrdered g.K.Ord.cmp (entries t)) c.in-Fork.is c.loop-at.invariant.sorted in
     let same = rw c.in-Fork.is at c.loop-at.invariant.same in
     let p = rw c.deref.ensures at c.in-Greater.ensures in
-    let w = goes_right g.met.K.Ord.total c.args.key.now _ _ _ avl.0 p s in
-    rw c.deref-in-Greater.ensures (record { balanced = avl.2; sorted = w.sorted; same = sym w.found ∙ same })
+    let w = goes_right g.met.K.Ord.total c.args.key.now (entries n.left) (entry n) (entries n.right) p s in
+    rw c.deref-in-Greater.ensures (record { balanced = avl.1; sorted = w.sorted; same = sym w.found ∙ same })
 
 pub returns-in-Equal : goal.returns-in-Equal
 returns-in-Equal g c =
-    let avl = subst IsAvl c.in-Fork.is c.loop-at.invariant.balanced in
+    let n = c.in-Fork.node.value in
     let s = subst (λ t. IsOrdered g.K.Ord.cmp (entries t)) c.in-Fork.is c.loop-at.invariant.sorted in
     let same = rw c.in-Fork.is at c.loop-at.invariant.same in
     let p = rw c.deref.ensures at c.in-Equal.ensures in
-    let w = stands_here g.met.K.Ord.total c.args.key.now _ _ _ avl.0 p s in
+    let w = stands_here g.met.K.Ord.total c.args.key.now (entries n.left) (entry n) (entries n.right) p s in
     let here = rw c.deref-in-Equal.ensures at c.value_of.ensures in
-    here ∙ sym w.found ∙ same
+    ap Some here ∙ sym w.found ∙ same

@@ -3,5 +3,5 @@ use Rattle.avl_tree.proofs.map.AvlMap.get.Goals as goal
 
 pub returns : goal.returns
 returns g c =
-    let e = entries-search_of c.self.inside.root c.self.invariant.balanced in
+    let e = entries-search_of c.self.inside.root in
     rw (← c.self.view_is, e) c.find.ensures

@@ -7,5 +7,5 @@ use Rattle.avl_tree.proofs.map.AvlMap.get_many.Goals as goal
 
 pub returns : goal.returns
 returns g c =
-    let e = entries-search_of c.self.inside.root c.self.invariant.balanced in
+    let e = entries-search_of c.self.inside.root in
     rw (← c.self.view_is) (subst (λ es. map option_copied c.find_eight.result ≡ map (λ k. lookup (is_at (g.K.Ord.cmp k)) es) c.args.keys.now) (sym e) c.find_eight.ensures)

@@ -8,19 +8,19 @@ insert-requires-clause-height_fits g c = omega (arith, low_height c.self.invaria
 
 pub insert-requires-clause-absent : goal.insert-requires-clause-absent
 insert-requires-clause-absent g c =
-    let e = entries-search_of c.self.inside.root c.self.invariant.balanced in
+    let e = entries-search_of c.self.inside.root in
     rw e at (rw (← c.self.view_is) at c.requires.absent)
 
 pub invariant_of-self : goal.invariant_of-self
 invariant_of-self g c =
-    let e = entries-search_of c.self.inside.root c.self.invariant.balanced in
+    let e = entries-search_of c.self.inside.root in
     let absent = rw e at (rw (← c.self.view_is) at c.requires.absent) in
-    let put = rw c.fill.ensures.entry at c.insert.ensures.entries in
+    let put = rw c.fill.ensures.value at c.insert.ensures.entries in
     (refl, tt, whole_insert c.self.invariant g.met.K.Ord.total c.args.key c.args.value absent c.insert.ensures.balanced put c.pop-node.ensures.one_less)
 
 pub returns-clause-entries : goal.returns-clause-entries
 returns-clause-entries g c =
-    let e = entries-search_of c.self.inside.root c.self.invariant.balanced in
-    let n = entries-search_of c.insert.new.tree c.insert.ensures.balanced in
-    let put = rw c.fill.ensures.entry at c.insert.ensures.entries in
+    let e = entries-search_of c.self.inside.root in
+    let n = entries-search_of c.insert.new.tree in
+    let put = rw c.fill.ensures.value at c.insert.ensures.entries in
     rw (← c.self.view_is, e, n) put

@@ -9,11 +9,11 @@ count_visits-requires-clause-height_fits g c = omega (arith, low_height c.self.i
 
 pub returns-clause-value : goal.returns-clause-value
 returns-clause-value g c =
-    let e = entries-search_of c.self.inside.root c.self.invariant.balanced in
+    let e = entries-search_of c.self.inside.root in
     rw (← c.self.view_is, e) c.count_visits.ensures.value
 
 pub returns-clause-shallow : goal.returns-clause-shallow
 returns-clause-shallow g c =
     let root = c.self.inside.root in
-    let e = entries-search_of root c.self.invariant.balanced in
+    let e = entries-search_of root in
     rw (← c.self.view_is, e) (stored_height root, rw c.count_visits.ensures.visits (path-le-height _ root c.self.invariant.balanced), least-le-length root c.self.invariant.balanced)

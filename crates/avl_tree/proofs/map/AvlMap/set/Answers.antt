@@ -9,7 +9,7 @@ invariant_of-self g c = (refl, tt, whole_exchange c.self.invariant c.args.key c.
 
 pub returns-clause-old : goal.returns-clause-old
 returns-clause-old g c =
-    let e = entries-search_of c.self.inside.root c.self.invariant.balanced in
+    let e = entries-search_of c.self.inside.root in
     elim c.if-exchange.branch [
       | then-exchange w ↦
           let x = rw w.if-exchange.true at c.exchange.ensures in
@@ -19,18 +19,18 @@ returns-clause-old g c =
 
 pub returns-clause-written : goal.returns-clause-written
 returns-clause-written g c =
-    let e = entries-search_of c.self.inside.root c.self.invariant.balanced in
+    let e = entries-search_of c.self.inside.root in
     elim c.if-exchange.branch [
       | then-exchange w ↦
           let x = rw w.if-exchange.true at c.exchange.ensures in
-          let n = entries-search_of c.exchange.new.tree x.balanced in
+          let n = entries-search_of c.exchange.new.tree in
           rw (← c.self.view_is, e, n, w.result-is) x.written
       | else-exchange w ↦ rw w.result-is tt
     ]
 
 pub returns-clause-absent : goal.returns-clause-absent
 returns-clause-absent g c =
-    let e = entries-search_of c.self.inside.root c.self.invariant.balanced in
+    let e = entries-search_of c.self.inside.root in
     elim c.if-exchange.branch [
       | then-exchange w ↦ rw w.result-is tt
       | else-exchange w ↦

@@ -10,11 +10,11 @@ invariant_of-self g c = (refl, tt, whole_changes c.self.invariant g.F.FnMut c.ar
 
 pub returns-clause-changed : goal.returns-clause-changed
 returns-clause-changed g c =
-    let e = entries-search_of c.self.inside.root c.self.invariant.balanced in
-    let n = entries-search_of c.update.new.tree (invariant_of-self g c).2.balanced in
+    let e = entries-search_of c.self.inside.root in
+    let n = entries-search_of c.update.new.tree in
     rw (← c.self.view_is, e, n) (changed g.F.FnMut (is_at (g.K.Ord.cmp c.args.key.now)) c.self.inside.root c.update.new.tree c.args.f.now c.update.new.f c.update.result c.update.ensures.changes)
 
 pub returns-clause-absent : goal.returns-clause-absent
 returns-clause-absent g c =
-    let e = entries-search_of c.self.inside.root c.self.invariant.balanced in
+    let e = entries-search_of c.self.inside.root in
     unchanged g.F.FnMut (is_at (g.K.Ord.cmp c.args.key.now)) c.self.inside.root c.update.new.tree c.args.f.now c.update.new.f c.update.result c.update.ensures.changes (λ x. (rw (← c.self.view_is, e) x.0, x.1, (let same = x.2 in rw same c.self.view_is)))
