@@ -4,7 +4,7 @@ ghost use Rattle.tb_records.specs.Messages.{is_register};
 ghost use Rattle.tb_sessions.specs.Judged.{class_beside, first_class, register_lines, request_lines};
 
 use crate::classes::Class;
-use tb_records::{Body, Reply, Request};
+use tb_records::{Body, Reply, Request, Status};
 
 /// A client's session: its last committed request and the reply to it.
 #[derive(Drop)]
@@ -19,6 +19,29 @@ pub struct Row {
     pub reply: Reply,
     /// The commit number of that reply.
     pub commit: u64,
+}
+
+/// The register of client 1, which fills a row that no client has.
+fn filler() -> Request {
+    match Request::new(1, 0, 0, Body::Register) {
+        Ok(request) => request,
+        Err(_) => unreachable!(),
+    }
+}
+
+/// What stands in room for a row that isn't used. Nothing reads it.
+impl Default for Row {
+    fn default() -> Row {
+        let request = filler();
+        let reply = Reply::refusal(&request, Status::NoSession);
+        Row {
+            client: 0,
+            session: 0,
+            request,
+            reply,
+            commit: 0,
+        }
+    }
 }
 
 impl Row {

@@ -7,7 +7,7 @@ use std::alloc::{AllocError, Allocator};
 
 /// Puts a value at a key, in the place of an old one or in room made for it first, and answers the old one. Where
 /// there is no memory, the map holds what it held.
-pub fn put<K: Ord + Copy, V: Drop, A: Allocator + Clone>(
+pub fn put<K: Ord + Copy + Default, V: Default + Drop, A: Allocator + Clone>(
     map: &mut AvlMap<K, V, A>,
     key: K,
     value: V,
