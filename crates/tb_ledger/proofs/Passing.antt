@@ -9,12 +9,10 @@ use Rattle.tb_ledger.specs.declared.tables.timeouts.Timeout.{Timeout}
 use Rattle.tb_ledger.specs.declared.tables.trail.Undo.{Undo}
 use Rattle.tb_ledger.specs.declared.tables.trail.Undo.TheVariants.{Account}
 use Rattle.tb_ledger.specs.Trail.{undo_account, undo_transfer, undo_timeouts, unwound_accounts, unwound_transfers, unwound_timeouts, CanUndo, CanUnwind, IsNoted}
-use Rattle.tb_ledger.specs.declared.changes.single.Passed.{Passed}
 use Rattle.tb_ledger.specs.Books.{closing_debit, closing_credit}
 use Rattle.tb_ledger.specs.Kept.{account_row_key, row_now, gained, released_and_gained, on_debits, on_credits, accounts_gained}
 use Rattle.tb_ledger.specs.Exchanges.{as_recorded, Exchanges, ExchangesIn, row_at}
-use Rattle.tb_ledger.specs.Verdicts.{pair_code, balanced_amount}
-use Rattle.tb_ledger.specs.declared.changes.resolving.Parties.{Parties}
+use Rattle.tb_ledger.specs.Verdicts.{pair_code}
 use Rattle.tb_ledger.specs.Settlings.{CanSettle, Settles, SettlesIn}
 use Rattle.tb_ledger.proofs.Settled.{both_written, found_still, refound}
 use Rattle.tb_ledger.specs.Tables.{Stored}
@@ -30,47 +28,54 @@ replaced_same key x (y ∷ ys) found = by (eqb (key y) (key x)) (replaced_same k
     by true later is = let same : x ≡ y = cc in ap (λ z. z ∷ ys) same
     by false later is = ap (λ zs. y ∷ zs) (later is)
 
-pub passed_in : (t : Transfer) (time : ℕ) (accounts later : List AccountRow) (d c d' c' : AccountRow) (r : Result Passed ℕ) → t.debit_account_id ≢ t.credit_account_id
-    → row_at accounts t.debit_account_id ≡ Some d → row_at accounts t.credit_account_id ≡ Some c → Exchanges t time d c r d' c' → later ≡ replaced account_row_key c' (replaced account_row_key d' accounts)
-    → ExchangesIn t time accounts r later
-passed_in t time accounts later d c d' c' (Ok x) apart d_is c_is passes wrote =
-    let recorded = as_recorded t x.amount time in
-    let x_debit : x.debit ≡ d = ap (λ x. x.debit) passes.1.0 in
-    let x_credit : x.credit ≡ c = ap (λ x. x.credit) passes.1.0 in
+pub passed_in : (t : Transfer) (time : ℕ) (trail grown : Noted) (accounts later : List AccountRow) (d c d' c' : AccountRow) (r : Result ℕ ℕ) → t.debit_account_id ≢ t.credit_account_id
+    → row_at accounts t.debit_account_id ≡ Some d → row_at accounts t.credit_account_id ≡ Some c → Exchanges t time trail d c r d' c' grown → later ≡ replaced account_row_key c' (replaced account_row_key d' accounts)
+    → ExchangesIn t time trail accounts r later grown
+passed_in t time trail grown accounts later d c d' c' (Ok amount) apart d_is c_is passes wrote =
+    let recorded = as_recorded t amount time in
     let code : pair_code (option_map row_now (row_at accounts t.debit_account_id)) (option_map row_now (row_at accounts t.credit_account_id)) t time ≡ 0 = rw (d_is, c_is) passes.0 in
-    let amount : x.amount ≡ balanced_amount (row_now x.debit) (row_now x.credit) t = rw (x_debit, x_credit) (ap (λ x. x.amount) passes.1.0) in
     let gains : AccountRow → AccountRow = on_debits (gained closing_debit recorded) in
     let gives : AccountRow → AccountRow = on_credits (gained closing_credit recorded) in
     let first : changed account_row_key t.debit_account_id gains accounts ≡ replaced account_row_key d' accounts =
     changed_found account_row_key t.debit_account_id gains d accounts (λ y. refl) d_is ∙ ap (λ row. replaced account_row_key row accounts) (sym passes.1.1) in
     let still = found_still t.debit_account_id t.credit_account_id gains c accounts (λ y. refl) apart c_is in
     let second : changed account_row_key t.credit_account_id gives (changed account_row_key t.debit_account_id gains accounts) ≡ replaced account_row_key c' (changed account_row_key t.debit_account_id gains accounts) =
-    changed_found account_row_key t.credit_account_id gives c (changed account_row_key t.debit_account_id gains accounts) (λ y. refl) still ∙ ap (λ row. replaced account_row_key row (changed account_row_key t.debit_account_id gains accounts)) (sym passes.1.2) in
-    (code, (d_is ∙ ap (λ row. Some row) (sym x_debit), c_is ∙ ap (λ row. Some row) (sym x_credit), amount, wrote ∙ ap (replaced account_row_key c') (sym first) ∙ sym second))
-passed_in t time accounts later d c d' c' (Err code) apart d_is c_is refused wrote =
+    changed_found account_row_key t.credit_account_id gives c (changed account_row_key t.debit_account_id gains accounts) (λ y. refl) still ∙ ap (λ row. replaced account_row_key row (changed account_row_key t.debit_account_id gains accounts)) (sym passes.1.2) in (
+      code,
+      record {
+        debit = d;
+        credit = c;
+        debit_there = d_is;
+        credit_there = c_is;
+        balanced = passes.1.0;
+        written = wrote ∙ ap (replaced account_row_key c') (sym first) ∙ sym second;
+        notes = passes.1.3;
+      },
+    )
+passed_in t time trail grown accounts later d c d' c' (Err code) apart d_is c_is refused wrote =
     let first : replaced account_row_key d' accounts ≡ accounts = rw refused.1.0 (replaced_same account_row_key d accounts (refound account_row_key t.debit_account_id d accounts d_is)) in
     let second : replaced account_row_key c' accounts ≡ accounts = rw refused.1.1 (replaced_same account_row_key c accounts (refound account_row_key t.credit_account_id c accounts c_is)) in
     let is : pair_code (option_map row_now (row_at accounts t.debit_account_id)) (option_map row_now (row_at accounts t.credit_account_id)) t time ≡ code = rw (d_is, c_is) refused.0.0 in
-    ((is, refused.0.1), wrote ∙ ap (replaced account_row_key c') first ∙ second)
+    ((is, refused.0.1), (wrote ∙ ap (replaced account_row_key c') first ∙ second, refused.1.2))
 
-pub settled_in : (p r : Transfer) (accounts later : List AccountRow) (d c d' c' : AccountRow) (x : Result Parties ℕ) → r.debit_account_id ≢ r.credit_account_id
-    → row_at accounts r.debit_account_id ≡ Some d → row_at accounts r.credit_account_id ≡ Some c → CanSettle p r d.debits → CanSettle p r c.credits → Settles p r d c x d' c' → later ≡ replaced account_row_key c' (replaced account_row_key d' accounts)
-    → SettlesIn p r accounts x later
-settled_in p r accounts later d c d' c' (Ok x) apart d_is c_is can_d can_c passes wrote = record {
+pub settled_in : (p r : Transfer) (trail grown : Noted) (accounts later : List AccountRow) (d c d' c' : AccountRow) (x : Result (Unit {0}) ℕ) → r.debit_account_id ≢ r.credit_account_id
+    → row_at accounts r.debit_account_id ≡ Some d → row_at accounts r.credit_account_id ≡ Some c → CanSettle p r d.debits → CanSettle p r c.credits → Settles p r trail d c x d' c' grown → later ≡ replaced account_row_key c' (replaced account_row_key d' accounts)
+    → SettlesIn p r trail accounts x later grown
+settled_in p r trail grown accounts later d c d' c' (Ok x) apart d_is c_is can_d can_c passes wrote = record {
   debit = d;
   credit = c;
   debit_there = d_is;
   credit_there = c_is;
   judged = passes.0;
   leaves = (
-    passes.1.0,
-    both_written r.debit_account_id r.credit_account_id (on_debits (released_and_gained closing_debit p r)) (on_credits (released_and_gained closing_credit p r)) d d' c c' accounts later (λ y. refl) (λ y. refl) apart d_is c_is (passes.1.1 can_d) (passes.1.2 can_c) wrote,
+    both_written r.debit_account_id r.credit_account_id (on_debits (released_and_gained closing_debit p r)) (on_credits (released_and_gained closing_credit p r)) d d' c c' accounts later (λ y. refl) (λ y. refl) apart d_is c_is (passes.1.0 can_d) (passes.1.1 can_c) wrote,
+    passes.1.2,
   );
 }
-settled_in p r accounts later d c d' c' (Err code) apart d_is c_is can_d can_c refused wrote =
+settled_in p r trail grown accounts later d c d' c' (Err code) apart d_is c_is can_d can_c refused wrote =
     let first : replaced account_row_key d' accounts ≡ accounts = rw refused.1.0 (replaced_same account_row_key d accounts (refound account_row_key r.debit_account_id d accounts d_is)) in
     let second : replaced account_row_key c' accounts ≡ accounts = rw refused.1.1 (replaced_same account_row_key c accounts (refound account_row_key r.credit_account_id c accounts c_is)) in
-    record { debit = d; credit = c; debit_there = d_is; credit_there = c_is; judged = refused.0; leaves = wrote ∙ ap (replaced account_row_key c') first ∙ second }
+    record { debit = d; credit = c; debit_there = d_is; credit_there = c_is; judged = refused.0; leaves = (wrote ∙ ap (replaced account_row_key c') first ∙ second, refused.1.2) }
 
 -- both rows put back
 

@@ -3,7 +3,7 @@ use Rattle.std.specs.Prelude.{ℕ, ◌≡◌, ◌==◌, List, find, Option, Some
 use Rattle.std.specs.Option.{option_map}
 use Rattle.tb_records.specs.declared.records.Transfer.{Transfer}
 use Rattle.tb_ledger.specs.declared.tables.accounts.AccountRow.{AccountRow}
-use Rattle.tb_ledger.specs.declared.changes.single.Passed.{Passed}
+use Rattle.tb_ledger.specs.Noted.{Noted, NotesPair}
 use Rattle.tb_ledger.specs.Books.{closing_debit, closing_credit}
 use Rattle.tb_ledger.specs.Found.{Judges}
 use Rattle.tb_ledger.specs.Kept.{row_now, gained, on_debits, on_credits, accounts_gained}
@@ -13,33 +13,36 @@ use Rattle.tb_ledger.specs.Verdicts.{pair_code, balanced_amount}
 abbrev pub as_recorded : Transfer → ℕ → ℕ → Transfer
 as_recorded t amount time = record t { amount = amount; timestamp = time }
 
--- t passes between the rows d and c of its accounts: both take its amount
-abbrev pub Passes : Transfer → ℕ → AccountRow → AccountRow → Passed → AccountRow → AccountRow → Type 0
-Passes t time d c x d' c' =
-    (x ≡ record { debit = d; credit = c; amount = balanced_amount (row_now d) (row_now c) t })
-    × (d' ≡ on_debits (gained closing_debit (as_recorded t x.amount time)) d)
-    × (c' ≡ on_credits (gained closing_credit (as_recorded t x.amount time)) c)
+-- t passes between the rows d and c of its accounts: both take its amount, and are noted as they were
+abbrev pub Passes : Transfer → ℕ → Noted → AccountRow → AccountRow → ℕ → AccountRow → AccountRow → Noted → Type 0
+Passes t time trail d c amount d' c' grown =
+    (amount ≡ balanced_amount (row_now d) (row_now c) t)
+    × (d' ≡ on_debits (gained closing_debit (as_recorded t amount time)) d)
+    × (c' ≡ on_credits (gained closing_credit (as_recorded t amount time)) c)
+    × NotesPair d c trail grown
 
--- t is judged by both rows: it passes, or it is refused and they stay
-abbrev pub Exchanges : Transfer → ℕ → AccountRow → AccountRow → Result Passed ℕ → AccountRow → AccountRow → Type 0
-Exchanges t time d c result d' c' =
+-- t is judged by both rows: it passes, or it is refused and all stays
+abbrev pub Exchanges : Transfer → ℕ → Noted → AccountRow → AccountRow → Result ℕ ℕ → AccountRow → AccountRow → Noted → Type 0
+Exchanges t time trail d c result d' c' grown =
     Judges result (pair_code (Some (row_now d)) (Some (row_now c)) t time)
-    × MatchResult result (λ x. Passes t time d c x d' c') (λ _. (d' ≡ d) × (c' ≡ c))
+    × MatchResult result (λ amount. Passes t time trail d c amount d' c' grown) (λ _. (d' ≡ d) × (c' ≡ c) × (grown ≡ trail))
 
 -- the row of an id
 abbrev pub row_at : List AccountRow → ℕ → Option AccountRow
 row_at accounts id = find (λ a. a.created.id == id) accounts
 
 -- t passes between two of a table of accounts
-abbrev pub PassesIn : Transfer → ℕ → List AccountRow → Passed → List AccountRow → Type 0
-PassesIn t time accounts x later =
-    (row_at accounts t.debit_account_id ≡ Some x.debit)
-    × (row_at accounts t.credit_account_id ≡ Some x.credit)
-    × (x.amount ≡ balanced_amount (row_now x.debit) (row_now x.credit) t)
-    × (later ≡ accounts_gained (as_recorded t x.amount time) accounts)
+pub record PassesIn (t : Transfer) (time : ℕ) (trail : Noted) (accounts : List AccountRow) (amount : ℕ) (later : List AccountRow) (grown : Noted) : Type 0 where
+  pub debit : AccountRow
+  pub credit : AccountRow
+  pub debit_there : row_at accounts t.debit_account_id ≡ Some debit
+  pub credit_there : row_at accounts t.credit_account_id ≡ Some credit
+  pub balanced : amount ≡ balanced_amount (row_now debit) (row_now credit) t
+  pub written : later ≡ accounts_gained (as_recorded t amount time) accounts
+  pub notes : NotesPair debit credit trail grown
 
 -- t is judged by the table, where an account may not be there
-abbrev pub ExchangesIn : Transfer → ℕ → List AccountRow → Result Passed ℕ → List AccountRow → Type 0
-ExchangesIn t time accounts result later =
+abbrev pub ExchangesIn : Transfer → ℕ → Noted → List AccountRow → Result ℕ ℕ → List AccountRow → Noted → Type 0
+ExchangesIn t time trail accounts result later grown =
     Judges result (pair_code (option_map row_now (row_at accounts t.debit_account_id)) (option_map row_now (row_at accounts t.credit_account_id)) t time)
-    × MatchResult result (λ x. PassesIn t time accounts x later) (λ _. later ≡ accounts)
+    × MatchResult result (λ amount. PassesIn t time trail accounts amount later grown) (λ _. (later ≡ accounts) × (grown ≡ trail))

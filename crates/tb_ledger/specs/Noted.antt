@@ -1,6 +1,8 @@
 -- The changes of a chain that a trail has noted.
-use Rattle.std.specs.Prelude.{ℕ, Bool, List, [], ◌∷◌, ◌++◌, if◌then◌else◌}
+use Rattle.std.specs.Prelude.{ℕ, ◌≡◌, ◌+◌, ◌≤◌, Bool, List, [], ◌∷◌, ◌++◌, length, if◌then◌else◌}
+use Rattle.tb_ledger.specs.declared.tables.accounts.AccountRow.{AccountRow}
 use Rattle.tb_ledger.specs.declared.tables.trail.Undo.{Undo}
+use Rattle.tb_ledger.specs.declared.tables.trail.Undo.TheVariants.{Account}
 
 -- the changes since a chain began, the oldest first, whether they are noted at all, and how many there is room for
 pub record Noted : Type 0 where
@@ -11,3 +13,7 @@ pub record Noted : Type 0 where
 -- with one more, where they are noted
 abbrev pub with_noted : Undo → Noted → Noted
 with_noted undo trail = if trail.noting then record trail { changes = trail.changes ++ undo ∷ [] } else trail
+
+-- with the rows of two accounts from before their change, where there is room for both
+abbrev pub NotesPair : AccountRow → AccountRow → Noted → Noted → Type 0
+NotesPair debit credit trail grown = length trail.changes + 2 ≤ trail.capacity → grown ≡ with_noted (Account credit) (with_noted (Account debit) trail)

@@ -3,11 +3,11 @@ use Rattle.std.specs.Prelude.{ℕ, ◌≡◌, ◌+◌, ◌≤◌, List, Some, Re
 use Rattle.tb_records.specs.declared.records.Transfer.{Transfer}
 use Rattle.tb_ledger.specs.declared.tables.accounts.Side.{Side}
 use Rattle.tb_ledger.specs.declared.tables.accounts.AccountRow.{AccountRow}
-use Rattle.tb_ledger.specs.declared.changes.resolving.Parties.{Parties}
 use Rattle.tb_ledger.specs.Books.{Books, closing_debit, closing_credit}
 use Rattle.tb_ledger.specs.Exchanges.{row_at}
 use Rattle.tb_ledger.specs.Found.{Judges}
 use Rattle.tb_ledger.specs.Kept.{row_closed, on_debits, on_credits, released_and_gained, accounts_released_and_gained}
+use Rattle.tb_ledger.specs.Noted.{Noted, NotesPair}
 use Rattle.tb_ledger.specs.Verdicts.{closed_at, closed_lines, first_of, int_max}
 
 -- the code of t by the accounts of p, as they stand
@@ -20,24 +20,24 @@ pub record CanSettle (p r : Transfer) (s : Side) : Type 0 where
   pub fit : s.pending + s.posted ≤ int_max
   pub at_most : r.amount ≤ p.amount
 
--- the rows d and c of both accounts are settled, where they can be
-abbrev pub BothSettled : Transfer → Transfer → AccountRow → AccountRow → Parties → AccountRow → AccountRow → Type 0
-BothSettled p r d c x d' c' =
-    (x ≡ record { debit = d; credit = c })
-    × (CanSettle p r d.debits → d' ≡ on_debits (released_and_gained closing_debit p r) d)
+-- the rows d and c of both accounts are settled, where they can be, and are noted as they were
+abbrev pub BothSettled : Transfer → Transfer → Noted → AccountRow → AccountRow → AccountRow → AccountRow → Noted → Type 0
+BothSettled p r trail d c d' c' grown =
+    (CanSettle p r d.debits → d' ≡ on_debits (released_and_gained closing_debit p r) d)
     × (CanSettle p r c.credits → c' ≡ on_credits (released_and_gained closing_credit p r) c)
+    × NotesPair d c trail grown
 
--- r is judged by both rows: it settles them, or it is refused and they stay
-abbrev pub Settles : Transfer → Transfer → AccountRow → AccountRow → Result Parties ℕ → AccountRow → AccountRow → Type 0
-Settles p r d c result d' c' =
+-- r is judged by both rows: it settles them, or it is refused and all stays
+abbrev pub Settles : Transfer → Transfer → Noted → AccountRow → AccountRow → Result (Unit {0}) ℕ → AccountRow → AccountRow → Noted → Type 0
+Settles p r trail d c result d' c' grown =
     Judges result (first_of (closed_lines r (row_closed d) (row_closed c)))
-    × MatchResult result (λ x. BothSettled p r d c x d' c') (λ _. (d' ≡ d) × (c' ≡ c))
+    × MatchResult result (λ _. BothSettled p r trail d c d' c' grown) (λ _. (d' ≡ d) × (c' ≡ c) × (grown ≡ trail))
 
 -- the same of a table of accounts, where both stand
-pub record SettlesIn (p r : Transfer) (accounts : List AccountRow) (result : Result Parties ℕ) (later : List AccountRow) : Type 0 where
+pub record SettlesIn (p r : Transfer) (trail : Noted) (accounts : List AccountRow) (result : Result (Unit {0}) ℕ) (later : List AccountRow) (grown : Noted) : Type 0 where
   pub debit : AccountRow
   pub credit : AccountRow
   pub debit_there : row_at accounts r.debit_account_id ≡ Some debit
   pub credit_there : row_at accounts r.credit_account_id ≡ Some credit
   pub judged : Judges result (first_of (closed_lines r (row_closed debit) (row_closed credit)))
-  pub leaves : MatchResult result (λ x. (x ≡ record { debit = debit; credit = credit }) × (later ≡ accounts_released_and_gained p r accounts)) (λ _. later ≡ accounts)
+  pub leaves : MatchResult result (λ _. (later ≡ accounts_released_and_gained p r accounts) × NotesPair debit credit trail grown) (λ _. (later ≡ accounts) × (grown ≡ trail))

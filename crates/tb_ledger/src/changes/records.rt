@@ -8,7 +8,7 @@ ghost use Rattle.tb_ledger.specs.Trail.{IsMarked};
 use crate::tables::index::list;
 use crate::tables::map::Table;
 use crate::tables::timeouts::Timeouts;
-use crate::tables::trail::{Trail, Undo};
+use crate::tables::trail::Trail;
 use crate::tables::transfers::TransferRow;
 use std::alloc::Allocator;
 use tb_records::Transfer;
@@ -43,7 +43,7 @@ pub(crate) fn add_row<A: Allocator + Clone>(
     ensures marked { IsMarked 1 transfers.old.items transfers.new.items timeouts.old timeouts.new trail.old
         trail.new }
 {
-    trail.note(Undo::AddedTransfer(*row));
+    trail.note_added(row);
     transfers.insert_reserved(*row);
     list(timeouts, row);
 }

@@ -1,6 +1,5 @@
 //! A post or void: the pending transfer that it names is closed, and the sums of both accounts settled.
 ghost use Rattle.std.specs.Prelude.{◌≡◌, ◌≢◌, ◌+◌, ◌^◌, ◌<◌, ◌≤◌, ◌==◌, true, length, find, Some, None, IsSome};
-ghost use Rattle.std.specs.Option.{ok_or};
 ghost use Rattle.tb_ledger.specs.Batches.{transfer_events};
 ghost use Rattle.tb_ledger.specs.Books.{resolves, transfer_at};
 ghost use Rattle.tb_ledger.specs.Exchanges.{row_at};
@@ -20,7 +19,7 @@ use crate::tables::index::unlist;
 use crate::tables::map::{Keyed, Table};
 use crate::tables::rows::Rows;
 use crate::tables::timeouts::Timeouts;
-use crate::tables::trail::{TRAIL_PER_EVENT, Trail, Undo};
+use crate::tables::trail::{TRAIL_PER_EVENT, Trail};
 use crate::tables::transfers::{State, TransferRow};
 use crate::verdicts::resolving::{Resolution, closed_code, judge_resolving};
 use std::alloc::Allocator;
@@ -88,10 +87,8 @@ fn settle<A: Allocator + Clone>(
     ensures transfers_room { rows.old.transfers.spare ≤ rows.new.transfers.spare + 1 }
     ensures timeouts_room { rows.old.timeouts.spare ≤ rows.new.timeouts.spare + 1 }
 {
-    match settle_accounts(&mut rows.accounts, &p.recorded(), r) {
-        Ok(before) => {
-            trail.note(Undo::Account(before.debit));
-            trail.note(Undo::Account(before.credit));
+    match settle_accounts(&mut rows.accounts, trail, &p.recorded(), r) {
+        Ok(()) => {
             let state = state_given(r);
             close_row(&mut rows.transfers, &mut rows.timeouts, trail, p, state);
             let row = row_of(*r);
@@ -102,19 +99,14 @@ fn settle<A: Allocator + Clone>(
     }
 }
 
-/// The rows of both accounts of a transfer.
-#[derive(Clone, Copy)]
-struct Parties {
-    pub debit: AccountRow,
-    pub credit: AccountRow,
-}
-
-/// Judges a post or void by its accounts, and settles both where it passes: their rows from before, or a code.
+/// Judges a post or void by its accounts, and settles both where it passes, or answers a code. Where changes are noted the trail gets
+/// both rows from before.
 fn settle_accounts<A: Allocator + Clone>(
     accounts: &mut Table<AccountRow, A>,
+    trail: &mut Trail<A>,
     p: &Transfer,
     r: &Transfer,
-) -> Result<Parties, u32>
+) -> Result<(), u32>
     requires apart { r.now.debit_account_id ≢ r.now.credit_account_id }
     requires debit { IsSome (row_at accounts.old.items r.now.debit_account_id) }
     requires credit { IsSome (row_at accounts.old.items r.now.credit_account_id) }
@@ -122,49 +114,40 @@ fn settle_accounts<A: Allocator + Clone>(
         → CanSettle p.now r.now a.debits }
     requires can_credit { (a : AccountRow) → row_at accounts.old.items r.now.credit_account_id ≡ Some a
         → CanSettle p.now r.now a.credits }
-    ensures settled { SettlesIn p.now r.now accounts.old.items result accounts.new.items }
+    ensures settled { SettlesIn p.now r.now trail.old accounts.old.items result accounts.new.items trail.new }
     ensures room { accounts.new.spare ≡ accounts.old.spare }
 {
-    let mut before = None;
     let settled = accounts.update_two(
         r.debit_account_id,
         r.credit_account_id,
         &mut |debit: &mut AccountRow, credit: &mut AccountRow| settle_rows(
-            debit,
-            credit,
-            p,
-            r,
-            &mut before,
+            debit, credit, p, r, trail,
         ),
     );
     match settled {
-        Some(code) => before.ok_or(code),
+        Some(result) => result,
         None => unreachable!(),
     }
 }
 
-/// Judges a post or void by the rows of its accounts, and settles both where it passes: a code, or 0. The rows from before
-/// are large, so they go into a place of their own, and not through the search that calls this.
-fn settle_rows(
+/// Judges a post or void by the rows of its accounts, and settles both where it passes, or answers a code. The rows from before go
+/// to the trail from here, and not through the search that calls this.
+fn settle_rows<A: Allocator + Clone>(
     debit: &mut AccountRow,
     credit: &mut AccountRow,
     p: &Transfer,
     r: &Transfer,
-    before: &mut Option<Parties>,
-) -> u32
-    ensures settled { Settles p.now r.now debit.old credit.old (ok_or before.new result) debit.new credit.new }
+    trail: &mut Trail<A>,
+) -> Result<(), u32>
+    ensures settled { Settles p.now r.now trail.old debit.old credit.old result debit.new credit.new trail.new }
     ensures same_debit { debit.new.created ≡ debit.old.created }
     ensures same_credit { credit.new.created ≡ credit.old.created }
 {
-    *before = None;
     let code = closed_code(r, debit, credit);
     if code != 0 {
-        return code;
+        return Err(code);
     }
-    *before = Some(Parties {
-        debit: *debit,
-        credit: *credit,
-    });
+    trail.note_pair(debit, credit);
     debit.set_debits(settle_side(
         debit.debits(),
         p,
@@ -179,7 +162,7 @@ fn settle_rows(
         p.has(TransferFlag::ClosingCredit),
         r.has(TransferFlag::ClosingCredit),
     ));
-    0
+    Ok(())
 }
 
 /// Gives a pending transfer its state, and takes its timeout where it has one.
@@ -203,7 +186,7 @@ fn close_row<A: Allocator + Clone>(
         trail.new }
 {
     transfers.ordered();
-    trail.note(Undo::Transfer(*p));
+    trail.note_changed(p);
     let closed = transfers.update(
         p.key(),
         &mut |row: &mut TransferRow| {

@@ -1,6 +1,6 @@
 //! A transfer between two accounts: both rows are found by one walk, judged, and changed where they stand.
 ghost use Rattle.std.specs.Prelude.{◌≡◌, ◌+◌, ◌^◌, ◌<◌, ◌≤◌, false, length, ◌≢◌, if◌then◌else◌};
-ghost use Rattle.std.specs.Option.{is_some, ok_or};
+ghost use Rattle.std.specs.Option.{is_some};
 ghost use Rattle.tb_ledger.specs.Batches.{transfer_events};
 ghost use Rattle.tb_ledger.specs.Books.{resolves};
 ghost use Rattle.tb_ledger.specs.Kept.{books_in, IsKept};
@@ -13,7 +13,7 @@ use crate::changes::sides::gain_side;
 use crate::tables::accounts::AccountRow;
 use crate::tables::map::Table;
 use crate::tables::rows::Rows;
-use crate::tables::trail::{TRAIL_PER_EVENT, Trail, Undo};
+use crate::tables::trail::{TRAIL_PER_EVENT, Trail};
 use crate::verdicts::single::{between, single_own};
 use std::alloc::Allocator;
 use tb_records::{CreateTransferResult, Transfer, TransferFlag};
@@ -45,85 +45,60 @@ pub(crate) fn take_single<A: Allocator + Clone>(
     if code != 0 {
         return code;
     }
-    let mut passed = None;
-    let code = exchange(&mut rows.accounts, t, time, &mut passed);
-    match &passed {
-        Some(passed) => {
-            trail.note(Undo::Account(passed.debit));
-            trail.note(Undo::Account(passed.credit));
+    match exchange(&mut rows.accounts, trail, t, time) {
+        Ok(amount) => {
             let mut recorded = *t;
-            recorded.amount = passed.amount;
+            recorded.amount = amount;
             recorded.timestamp = time;
             rows.timeouts.ordered();
             let row = row_of(recorded);
             add_row(&mut rows.transfers, &mut rows.timeouts, trail, &row);
             0
         }
-        None => code,
+        Err(code) => code,
     }
 }
 
-/// What passed between two accounts: their rows from before, and the amount.
-#[derive(Clone, Copy)]
-struct Passed {
-    pub debit: AccountRow,
-    pub credit: AccountRow,
-    pub amount: u128,
-}
-
-/// Judges a transfer between two accounts, and changes their rows where it passes: a code, or 0. What passed is large, so it
-/// goes into a place of its own.
+/// Judges a transfer between two accounts, and changes their rows where it passes: the amount that it moves, or a code. Where
+/// changes are noted the trail gets both rows from before.
 fn exchange<A: Allocator + Clone>(
     accounts: &mut Table<AccountRow, A>,
+    trail: &mut Trail<A>,
     t: &Transfer,
     time: u64,
-    passed: &mut Option<Passed>,
-) -> u32
+) -> Result<u128, u32>
     requires { t.now.debit_account_id ≢ t.now.credit_account_id }
-    ensures exchanged { ExchangesIn t.now time accounts.old.items (ok_or passed.new result) accounts.new.items }
+    ensures exchanged { ExchangesIn t.now time trail.old accounts.old.items result accounts.new.items trail.new }
     ensures room { accounts.new.spare ≡ accounts.old.spare }
 {
     let exchanged = accounts.update_two(
         t.debit_account_id,
         t.credit_account_id,
         &mut |debit: &mut AccountRow, credit: &mut AccountRow| exchange_rows(
-            debit, credit, t, time, passed,
+            debit, credit, t, time, trail,
         ),
     );
     match exchanged {
-        Some(code) => code,
-        None => {
-            *passed = None;
-            missing(accounts, t)
-        }
+        Some(result) => result,
+        None => Err(missing(accounts, t)),
     }
 }
 
-/// Judges a transfer by the rows of its accounts, and changes both where it passes: a code, or 0. What passed does not go through
-/// the search that calls this.
-fn exchange_rows(
+/// Judges a transfer by the rows of its accounts, and changes both where it passes: the amount that it moves, or a code. The rows
+/// from before go to the trail from here, and not through the search that calls this.
+fn exchange_rows<A: Allocator + Clone>(
     debit: &mut AccountRow,
     credit: &mut AccountRow,
     t: &Transfer,
     time: u64,
-    passed: &mut Option<Passed>,
-) -> u32
-    ensures exchanged { Exchanges t.now time debit.old credit.old (ok_or passed.new result) debit.new credit.new }
+    trail: &mut Trail<A>,
+) -> Result<u128, u32>
+    ensures exchanged { Exchanges t.now time trail.old debit.old credit.old result debit.new credit.new trail.new }
     ensures same_debit { debit.new.created ≡ debit.old.created }
     ensures same_credit { credit.new.created ≡ credit.old.created }
 {
-    let amount = match between(debit, credit, t, time) {
-        Ok(amount) => amount,
-        Err(code) => {
-            *passed = None;
-            return code;
-        }
-    };
-    *passed = Some(Passed {
-        debit: *debit,
-        credit: *credit,
-        amount,
-    });
+    let amount = between(debit, credit, t, time)?;
+    trail.note_pair(debit, credit);
     let mut recorded = *t;
     recorded.amount = amount;
     recorded.timestamp = time;
@@ -133,7 +108,7 @@ fn exchange_rows(
         &recorded,
         t.has(TransferFlag::ClosingCredit),
     ));
-    0
+    Ok(amount)
 }
 
 /// Which account isn't there.

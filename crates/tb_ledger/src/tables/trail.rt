@@ -1,7 +1,7 @@
 //! The trail of a chain's changes, by which a chain that breaks is undone.
 ghost use Rattle.std.specs.Prelude.{◌≡◌, ◌*◌, ◌+◌, ◌<◌, ◌≤◌, ◌++◌, [], ◌∷◌, length, IfOk, IfSome, IfNone};
 ghost use Rattle.tb_ledger.specs.Trail.{unwound_accounts, unwound_transfers, unwound_timeouts, CanUnwind};
-ghost use Rattle.tb_ledger.specs.Noted.{with_noted};
+ghost use Rattle.tb_ledger.specs.Noted.{with_noted, NotesPair};
 
 use crate::tables::accounts::AccountRow;
 use crate::tables::index::{list, unlist};
@@ -70,6 +70,37 @@ impl<A: Allocator + Clone> Trail<A> {
     {
         if self.noting {
             self.log.push_reserved(undo);
+        }
+    }
+
+    /// Adds the row of a transfer from before its change, where changes are noted.
+    pub fn note_changed(&mut self, row: &TransferRow)
+        requires { length self.old.changes < self.old.capacity }
+        ensures { self.new ≡ with_noted (Undo.Transfer row.now) self.old }
+    {
+        if self.noting {
+            self.log.push_reserved(Undo::Transfer(*row));
+        }
+    }
+
+    /// Adds the row of a transfer that is added, where changes are noted.
+    pub fn note_added(&mut self, row: &TransferRow)
+        requires { length self.old.changes < self.old.capacity }
+        ensures { self.new ≡ with_noted (Undo.AddedTransfer row.now) self.old }
+    {
+        if self.noting {
+            self.log.push_reserved(Undo::AddedTransfer(*row));
+        }
+    }
+
+    /// Adds the rows of two accounts from before their change, where changes are noted. The search that calls this can't tell that
+    /// there is room for both: where there is none, nothing is noted.
+    pub fn note_pair(&mut self, debit: &AccountRow, credit: &AccountRow)
+        ensures { NotesPair debit.now credit.now self.old self.new }
+    {
+        if self.noting && self.log.capacity() - self.log.len() >= 2 {
+            self.log.push_reserved(Undo::Account(*debit));
+            self.log.push_reserved(Undo::Account(*credit));
         }
     }
 

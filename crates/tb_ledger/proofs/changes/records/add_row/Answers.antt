@@ -12,8 +12,8 @@ returns-clause-marked g c =
     let moved = c.list.new.timeouts in
     let back : unlisted row c.list.new.timeouts ≡ ts = rw c.list.ensures (undone_listed row ts c.requires.can_list) in
     let us = c.args.trail.now.changes in
-    let more = c.note.new.self.changes in
-    grown_by (AddedTransfer row) c.args.trail.now c.note.new.self c.note.ensures (λ pushed. record {
+    let more = c.note_added.new.self.changes in
+    grown_by (AddedTransfer row) c.args.trail.now c.note_added.new.self c.note_added.ensures (λ pushed. record {
       undo_accounts = other_accounts us more (AddedTransfer row) (λ rows. refl) pushed;
       undo_transfers = undone_row us more row c.args.transfers.now.items c.insert_reserved.new.self.items pushed (ap (λ v. v.items) c.insert_reserved.ensures.table) c.requires.fresh;
       undo_timeouts = undone_timeouts us more (AddedTransfer row) ts moved pushed back;

@@ -39,8 +39,8 @@ returns-clause-marked g c =
     let the_row : ch.row ≡ p = let e : Some ch.row ≡ Some p = sym found ∙ c.requires.found in cc in
     let closed : later ≡ replaced transfer_row_key (settled c.args.state p) transfers = ch.written ∙ ap (λ row. replaced transfer_row_key row transfers) (left_is ∙ ap (settled c.args.state) the_row) in
     let us = c.args.trail.now.changes in
-    let more = c.note.new.self.changes in
-    grown_by (Transfer p) c.args.trail.now c.note.new.self c.note.ensures (λ pushed. record {
+    let more = c.note_changed.new.self.changes in
+    grown_by (Transfer p) c.args.trail.now c.note_changed.new.self c.note_changed.ensures (λ pushed. record {
       undo_accounts = other_accounts us more (Transfer p) (λ rows. refl) pushed;
       undo_transfers = undone_close us more p (settled c.args.state p) transfers later pushed closed c.requires.found;
       undo_timeouts = undone_timeouts us more (Transfer p) ts moved pushed (rw taken back);

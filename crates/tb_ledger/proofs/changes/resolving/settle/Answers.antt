@@ -1,8 +1,10 @@
-use Rattle.std.proofs.Common.{◌≡◌, refl, sym, subst, ap, ◌∙◌, ◌==◌, find, Some, IsSome, arith}
+use Rattle.std.proofs.Common.{◌≡◌, refl, sym, subst, ap, ◌∙◌, ◌==◌, find, IsSome, arith}
 use Rattle.tb_records.specs.Ordered.{put, replaced}
 use Rattle.tb_ledger.specs.Books.{closing_debit, closing_credit}
 use Rattle.tb_ledger.specs.Exchanges.{row_at}
 use Rattle.tb_ledger.specs.Kept.{on_debits, on_credits, released_and_gained, accounts_released_and_gained, settled, listed, IsIndex, transfer_row_key, new_transfer_row}
+use Rattle.tb_ledger.specs.Noted.{with_noted}
+use Rattle.tb_ledger.specs.declared.tables.trail.Undo.TheVariants.{Account}
 use Rattle.tb_ledger.specs.Trail.{IsMarked}
 use Rattle.tb_ledger.proofs.Passing.{noted_two}
 use Rattle.tb_ledger.proofs.Trails.{grows_both}
@@ -84,7 +86,7 @@ returns-in-Ok-clause-kept g c =
     let rows = c.args.rows.now in
     let p = c.args.p.now in
     let r = c.args.r.now in
-    let moved_on : c.settle_accounts.new.accounts.items ≡ accounts_released_and_gained p.recorded r rows.accounts.items = c.in-Ok.ensures.settled.leaves.1 ∙ ap (λ q. accounts_released_and_gained q r rows.accounts.items) c.recorded.ensures in
+    let moved_on : c.settle_accounts.new.accounts.items ≡ accounts_released_and_gained p.recorded r rows.accounts.items = c.in-Ok.ensures.settled.leaves.0 ∙ ap (λ q. accounts_released_and_gained q r rows.accounts.items) c.recorded.ensures in
     let closed = ap (λ v. v.items) c.close_row.ensures.transfers ∙ ap (λ s. replaced transfer_row_key (settled s p) rows.transfers.items) c.state_given-state.ensures in
     let added = ap (λ v. v.items) c.add_row.ensures.transfers ∙ ap (λ row. put transfer_row_key row c.close_row.new.transfers.items) c.row_of-row.ensures.row ∙ ap (put transfer_row_key (new_transfer_row r)) closed in
     let moved = c.add_row.ensures.timeouts ∙ ap (λ row. listed row c.close_row.new.timeouts) c.row_of-row.ensures.row ∙ ap (listed (new_transfer_row r)) c.close_row.ensures.timeouts in
@@ -96,7 +98,7 @@ returns-in-Ok-clause-books g c _ =
     let rows = c.args.rows.now in
     let p = c.args.p.now in
     let r = c.args.r.now in
-    let moved_on : c.settle_accounts.new.accounts.items ≡ accounts_released_and_gained p.recorded r rows.accounts.items = c.in-Ok.ensures.settled.leaves.1 ∙ ap (λ q. accounts_released_and_gained q r rows.accounts.items) c.recorded.ensures in
+    let moved_on : c.settle_accounts.new.accounts.items ≡ accounts_released_and_gained p.recorded r rows.accounts.items = c.in-Ok.ensures.settled.leaves.0 ∙ ap (λ q. accounts_released_and_gained q r rows.accounts.items) c.recorded.ensures in
     let closed = ap (λ v. v.items) c.close_row.ensures.transfers ∙ ap (λ s. replaced transfer_row_key (settled s p) rows.transfers.items) c.state_given-state.ensures in
     let added = ap (λ v. v.items) c.add_row.ensures.transfers ∙ ap (λ row. put transfer_row_key row c.close_row.new.transfers.items) c.row_of-row.ensures.row ∙ ap (put transfer_row_key (new_transfer_row r)) closed in
     books_with_resolver rows.accounts.items rows.transfers.items rows.failed.items rows.keeps_failed rows.timeouts.items rows.time c.requires.kept p r c.requires.found c.requires.resolves c.requires.is_resolver c.settle_accounts.new.accounts.items c.add_row.new.transfers.items moved_on added
@@ -106,13 +108,14 @@ returns-in-Ok-clause-step g c =
     let rows = c.args.rows.now in
     let p = c.args.p.now.recorded in
     let r = c.args.r.now in
-    let d = c.in-Ok.before.debit in
-    let k = c.in-Ok.before.credit in
     let has = c.in-Ok.ensures.settled in
-    let moved_on : c.settle_accounts.new.accounts.items ≡ accounts_released_and_gained p r rows.accounts.items = has.leaves.1 ∙ ap (λ q. accounts_released_and_gained q r rows.accounts.items) c.recorded.ensures in
+    let d = has.debit in
+    let k = has.credit in
+    let mid = with_noted (Account d) c.args.trail.now in
+    let moved_on : c.settle_accounts.new.accounts.items ≡ accounts_released_and_gained p r rows.accounts.items = has.leaves.0 ∙ ap (λ q. accounts_released_and_gained q r rows.accounts.items) c.recorded.ensures in
     let differ = apart rows.accounts.items rows.transfers.items rows.failed.items rows.keeps_failed rows.timeouts.items rows.time c.requires.kept c.args.p.now c.args.r.now c.requires.found c.requires.resolves c.requires.is_resolver in
-    let noted = noted_two r.debit_account_id r.credit_account_id (on_debits (released_and_gained closing_debit p r)) (on_credits (released_and_gained closing_credit p r)) d k rows.accounts.items c.settle_accounts.new.accounts.items c.args.trail.now c.note.new.self c.note-in-Ok.new.self (λ y. refl) (λ y. refl) c.note.ensures c.note-in-Ok.ensures differ (has.debit_there ∙ ap (λ x. Some x.debit) (sym has.leaves.0)) (has.credit_there ∙ ap (λ x. Some x.credit) (sym has.leaves.0)) moved_on in
-    let marked : IsMarked 2 rows.transfers.items c.add_row.new.transfers.items rows.timeouts c.add_row.new.timeouts c.note-in-Ok.new.self c.add_row.new.trail = grows_both 1 1 2 c.note-in-Ok.new.self c.close_row.new.trail c.add_row.new.trail c.close_row.ensures.marked c.add_row.ensures.marked (omega arith) (λ us vs ws first second. record {
+    let noted = noted_two r.debit_account_id r.credit_account_id (on_debits (released_and_gained closing_debit p r)) (on_credits (released_and_gained closing_credit p r)) d k rows.accounts.items c.settle_accounts.new.accounts.items c.args.trail.now mid c.settle_accounts.new.trail (λ y. refl) (λ y. refl) refl (has.leaves.1 (omega (arith, c.requires.trail_room))) differ has.debit_there has.credit_there moved_on in
+    let marked : IsMarked 2 rows.transfers.items c.add_row.new.transfers.items rows.timeouts c.add_row.new.timeouts c.settle_accounts.new.trail c.add_row.new.trail = grows_both 1 1 2 c.settle_accounts.new.trail c.close_row.new.trail c.add_row.new.trail c.close_row.ensures.marked c.add_row.ensures.marked (omega arith) (λ us vs ws first second. record {
       undo_accounts = λ accounts. second.undo_accounts accounts ∙ first.undo_accounts accounts;
       undo_transfers = second.undo_transfers ∙ first.undo_transfers;
       undo_timeouts = second.undo_timeouts ∙ first.undo_timeouts;
@@ -122,7 +125,7 @@ returns-in-Ok-clause-step g c =
       failed = refl;
       keeps_failed = refl;
       time = refl;
-      grows = grows_both 2 2 4 c.args.trail.now c.note-in-Ok.new.self c.add_row.new.trail noted marked (omega arith) (λ us vs ws first second. record {
+      grows = grows_both 2 2 4 c.args.trail.now c.settle_accounts.new.trail c.add_row.new.trail noted marked (omega arith) (λ us vs ws first second. record {
         undo_accounts = second.undo_accounts c.settle_accounts.new.accounts.items ∙ first.undo_accounts;
         undo_transfers = second.undo_transfers ∙ first.undo_transfers rows.transfers.items;
         undo_timeouts = second.undo_timeouts ∙ first.undo_timeouts rows.timeouts;
@@ -131,4 +134,4 @@ returns-in-Ok-clause-step g c =
     }
 
 pub returns-in-Err-clause-refused : goal.returns-in-Err-clause-refused
-returns-in-Err-clause-refused g c _ = ((λ i. record c.args.rows.now { accounts = record { items = c.in-Err.ensures.settled.leaves i; spare = c.settle_accounts.ensures.room i } }), refl)
+returns-in-Err-clause-refused g c _ = ((λ i. record c.args.rows.now { accounts = record { items = c.in-Err.ensures.settled.leaves.0 i; spare = c.settle_accounts.ensures.room i } }), c.in-Err.ensures.settled.leaves.1)
