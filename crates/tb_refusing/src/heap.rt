@@ -1,4 +1,4 @@
-//! An allocator that refuses one growth, and counts its blocks.
+//! An allocator that refuses one growth, and counts its blocks and the bytes that it is asked for.
 use std::alloc::{AllocError, Allocator};
 use std::cell::Cell;
 
@@ -11,9 +11,13 @@ pub struct Tally {
     pub refused_at: u64,
     /// The blocks taken and not given back.
     pub blocks: u64,
+    /// The bytes of all growths that were asked for.
+    pub bytes: u64,
+    /// The bytes of the greatest of them.
+    pub greatest: u64,
 }
 
-/// An allocator over another one, that refuses one growth, once, and counts its blocks.
+/// An allocator over another one, that refuses one growth, once, and counts its blocks and bytes.
 pub struct Refusing<B: Allocator> {
     inner: B,
     tally: Cell<Tally>,
@@ -28,6 +32,8 @@ impl<B: Allocator> Refusing<B> {
                 asked: 0,
                 refused_at,
                 blocks: 0,
+                bytes: 0,
+                greatest: 0,
             }),
         }
     }
@@ -44,10 +50,12 @@ impl<B: Allocator> Drop for Refusing<B> {
     }
 }
 
-/// Counts a growth that is asked for, and says whether it is refused.
-fn refuses(tally: &Cell<Tally>) -> bool {
+/// Counts a growth of so many bytes that is asked for, and says whether it is refused.
+fn refuses(tally: &Cell<Tally>, size: usize) -> bool {
     let mut now = tally.get();
     now.asked = now.asked.wrapping_add(1);
+    now.bytes = now.bytes.wrapping_add(size as u64);
+    now.greatest = now.greatest.max(size as u64);
     let refused = now.asked == now.refused_at;
     if !refused {
         now.blocks = now.blocks.wrapping_add(1);
@@ -67,7 +75,7 @@ unsafe impl<B: Allocator> Allocator for Refusing<B> {
     ghost dealloc_token = { λ heap ty ptr. B.dealloc_token heap.inner ty ptr };
 
     fn allocate(&self, size: usize, align: usize) -> Result<*mut u8, AllocError> {
-        if refuses(&self.tally) {
+        if refuses(&self.tally, size) {
             return Err(AllocError);
         }
         self.inner.allocate(size, align)

@@ -13,7 +13,7 @@ use tb_records::{
 const TRANSFERS: [u128; 13] = [11, 20, 21, 22, 23, 24, 25, 26, 27, 28, 50, 51, 53];
 
 /// The moment at which most requests come.
-const EARLY: u64 = 10;
+pub(crate) const EARLY: u64 = 10;
 
 /// A moment at which a pending transfer that came at the early one with a timeout of a second has expired.
 const LATE: u64 = 2_000_000_000;
@@ -31,7 +31,7 @@ enum Rows {
 
 /// A request, and the moment at which it comes.
 #[derive(Drop)]
-struct Turn {
+pub(crate) struct Turn {
     moment: u64,
     request: Request,
 }
@@ -55,7 +55,7 @@ fn account(id: u128) -> Account {
 }
 
 /// A transfer from account 1 to account 2.
-fn transfer(id: u128, amount: u128) -> Transfer {
+pub(crate) fn transfer(id: u128, amount: u128) -> Transfer {
     Transfer {
         id,
         debit_account_id: 1,
@@ -74,7 +74,7 @@ fn transfer(id: u128, amount: u128) -> Transfer {
 }
 
 /// A transfer with a flag.
-fn flagged(flag: TransferFlag, t: Transfer) -> Transfer {
+pub(crate) fn flagged(flag: TransferFlag, t: Transfer) -> Transfer {
     Transfer {
         flags: t.flags | flag as u16,
         ..t
@@ -114,12 +114,12 @@ fn void(id: u128, pending_id: u128) -> Transfer {
 }
 
 /// Client 7's request with a number, at a moment.
-fn numbered(moment: u64, number: u32, body: Body) -> Result<Turn, Fail> {
+pub(crate) fn numbered(moment: u64, number: u32, body: Body) -> Result<Turn, Fail> {
     let request = Request::new(7, 1, number, body)?;
     Ok(Turn { moment, request })
 }
 
-fn two_accounts(alloc: Global) -> Result<Turn, Fail> {
+pub(crate) fn two_accounts(alloc: Global) -> Result<Turn, Fail> {
     let accounts = Vec::from_slice(alloc, &[account(1), account(2)])?;
     numbered(EARLY, 1, Body::CreateAccounts(Items::new(accounts)))
 }
@@ -175,7 +175,7 @@ fn add_transfers(alloc: Global, rows: Rows, turns: &mut Vec<Turn>) -> Result<(),
 }
 
 /// Client 7's register.
-fn register() -> Result<Turn, Fail> {
+pub(crate) fn register() -> Result<Turn, Fail> {
     let request = Request::new(7, 0, 0, Body::Register)?;
     let moment = EARLY;
     Ok(Turn { moment, request })
@@ -265,7 +265,7 @@ fn apply<A: Allocator + Clone>(
 }
 
 /// Enters a request at its moment; says whether that was refused once.
-fn enter<A: Allocator + Clone>(
+pub(crate) fn enter<A: Allocator + Clone>(
     rt: &impl Abort,
     alloc: Global,
     machine: &mut Machine<A>,
