@@ -31,7 +31,7 @@ standing_in rows commit client = standing_by commit (option_map (λ row. row.rep
 -- what is left out
 
 abbrev pub nothing : LeftOut
-nothing = record { began = None; registered = None; moment = None; client = None; session = None; request = None }
+nothing = record { register_moment = None; registered = None; moment = None; client = None; session = None; request = None }
 
 -- what stands for a number that is left out
 abbrev pub unless_given : Option ℕ → ℕ → Option ℕ
@@ -47,7 +47,7 @@ next_in session Unknown = 1
 -- where the session is left out: it is the client's, and a client that has none is registered first
 abbrev pub without_session : Given → ℕ → Standing → LeftOut
 without_session g c (Open session next) = record {
-  began = None;
+  register_moment = None;
   registered = None;
   moment = None;
   client = unless_given g.client c;
@@ -55,7 +55,7 @@ without_session g c (Open session next) = record {
   request = unless_given g.request next;
 }
 without_session g c (Closed session) = record {
-  began = None;
+  register_moment = None;
   registered = Some c;
   moment = None;
   client = unless_given g.client c;
@@ -67,7 +67,7 @@ without_session g c Unknown = nothing
 abbrev pub by_session : Given → ℕ → Standing → Option ℕ → LeftOut
 by_session g c standing None = without_session g c standing
 by_session g c standing (Some session) = record {
-  began = None;
+  register_moment = None;
   registered = None;
   moment = None;
   client = unless_given g.client c;
@@ -83,7 +83,7 @@ left_out_of_batch g c standing =
 
 abbrev pub left_out_of_register : Given → ℕ → LeftOut
 left_out_of_register g c = record {
-  began = None;
+  register_moment = None;
   registered = None;
   moment = None;
   client = unless_given g.client c;
@@ -95,7 +95,7 @@ left_out_of_register g c = record {
 -- registered at the statement's moment.
 abbrev pub at_moment : Option ℕ → Given → LeftOut → LeftOut
 at_moment clock g x = record {
-  began = option_and_then (λ c. option_or g.moment clock) x.registered;
+  register_moment = option_and_then (λ c. option_or g.moment clock) x.registered;
   registered = x.registered;
   moment = if is_some g.moment then None else clock;
   client = x.client;
@@ -127,7 +127,7 @@ number_line name ending (Some n) = name ++ (decimal n ++ ending)
 -- a line for each, a whole statement where a client is registered
 unfoldable pub written : LeftOut → List ℕ
 written x =
-    number_line (codes "at=") (codes " ") x.began
+    number_line (codes "at=") (codes " ") x.register_moment
     ++ (number_line (codes "client=") (codes " register;\n") x.registered
     ++ (number_line (codes "at=") (codes "\n") x.moment
     ++ (number_line (codes "client=") (codes "\n") x.client

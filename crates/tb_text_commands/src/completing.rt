@@ -53,7 +53,7 @@ pub trait Standings {
 /// What stands for what a statement leaves out: a client that is registered first, at a moment, and numbers.
 #[derive(Clone, Copy)]
 pub struct LeftOut {
-    pub began: Option<u128>,
+    pub register_moment: Option<u128>,
     pub registered: Option<u128>,
     pub moment: Option<u128>,
     pub client: Option<u128>,
@@ -87,7 +87,7 @@ impl LeftOut {
         ensures { result ≡ nothing }
     {
         LeftOut {
-            began: None,
+            register_moment: None,
             registered: None,
             moment: None,
             client: None,
@@ -158,7 +158,7 @@ impl LeftOut {
         ensures { result ≡ at_moment clock given self }
     {
         LeftOut {
-            began: match self.registered {
+            register_moment: match self.registered {
                 Some(_) => given.moment.or(clock),
                 None => None,
             },
@@ -230,7 +230,7 @@ fn put_line(
 fn put_left_out(alloc: Global, out: &mut Vec<u8>, left_out: LeftOut) -> Result<(), AllocError>
     ensures { OnOk result (out.new.items ≡ out.old.items ++ written left_out) }
 {
-    put_line(alloc, out, b"at=", b" ", left_out.began)?;
+    put_line(alloc, out, b"at=", b" ", left_out.register_moment)?;
     put_line(alloc, out, b"client=", b" register;\n", left_out.registered)?;
     put_line(alloc, out, b"at=", b"\n", left_out.moment)?;
     put_line(alloc, out, b"client=", b"\n", left_out.client)?;
