@@ -13,4 +13,5 @@ pub mod Scanning
 pub mod Repairing
 pub mod Opened
 pub mod Beginning
+pub mod Blanks
 pub mod Nexts

@@ -2,7 +2,7 @@
 ghost use Rattle.std.specs.Prelude.{◌≡◌, true, IfOk, IfErr};
 ghost use Rattle.tb_journal.specs.Device.{IsKept, LeavesOnly};
 ghost use Rattle.tb_journal.specs.Opening.{device_left, fault_left};
-ghost use Rattle.tb_journal.specs.Creating.{is_torn_from, is_blank, MayBeCreated, IsLeft, HasCreateCause, IsNew, IsUnborn, Begins};
+ghost use Rattle.tb_journal.specs.Creating.{is_torn_from, is_blank, MayBeCreated, IsLeft, HasCreateCause, IsNew, IsUnborn, FindsBlank, Begins};
 
 use crate::batches::Batch;
 use crate::calls::write_kept;
@@ -31,9 +31,9 @@ pub fn create<D: Device>(alloc: Global, device: D) -> Result<Journal<D>, NotOpen
     ensures cause { D.tells → HasCreateCause (fault_left result) (D.disk device) (D.disk (device_left result)) }
 {
     let mut device = device;
-    match read_kept(alloc, &mut device) {
-        Ok(bytes) => {
-            if is_blank(&bytes) {
+    match finds_blank(alloc, &mut device) {
+        Ok(found) => {
+            if found {
                 begin(alloc, device)
             } else {
                 Err(NotOpened {
@@ -46,6 +46,24 @@ pub fn create<D: Device>(alloc: Global, device: D) -> Result<Journal<D>, NotOpen
             device,
             fault: OpenFault::Device(fault),
         }),
+    }
+}
+
+// Says whether a file is blank. One that is longer than the first bytes is not, and is not read.
+fn finds_blank<D: Device>(alloc: Global, device: &mut D) -> Result<bool, Fault>
+    ensures { D.tells → FindsBlank result (D.disk device.old) (D.disk device.new) }
+{
+    match device.len() {
+        Ok(len) => {
+            if len > FIRST.len() {
+                return Ok(false);
+            }
+            match read_kept(alloc, device) {
+                Ok(bytes) => Ok(is_blank(&bytes)),
+                Err(fault) => Err(fault),
+            }
+        }
+        Err(fault) => Err(fault),
     }
 }
 

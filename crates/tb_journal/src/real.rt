@@ -104,7 +104,10 @@ impl Device for Real {
     }
 }
 
+// Room for the whole file and one byte more is made at once, so that the end is found without more room.
 fn read_all(file: &mut File, bytes: &mut Vec<u8>) -> io::Result<()> {
+    let len = file.metadata()?.len() as usize;
+    bytes.reserve_exact(len.saturating_add(1))?;
     file.seek(SeekFrom::Start(0))?;
     file.read_to_end(bytes)?;
     Ok(())

@@ -1,4 +1,5 @@
-//! Journals over a file in memory: worked rows, byte for byte, and what a crash or a call that fails leaves.
+//! Journals over a file in memory: worked rows, byte for byte, and what a crash or a call that fails leaves; and over files
+//! of the system.
 #![tactic(auto)]
 
 #[cfg(test)]
@@ -9,6 +10,8 @@ mod failing;
 mod files;
 #[cfg(test)]
 mod openings;
+#[cfg(test)]
+mod real;
 #[cfg(test)]
 mod rows;
 #[cfg(test)]
