@@ -148,8 +148,8 @@ fn expect_failing(rt: &impl Abort, alloc: Global, number: u64, whole: &[u8]) -> 
 fn each_call_fails_once(rt: HostRuntime) -> Result<(), Fail> {
     let alloc = rt.alloc();
     let whole = replies(&rt, alloc, &script(alloc, 6)?);
-    // Creating takes 9 calls, and serving 16.
-    for number in 1..=27u64 {
+    // Creating takes 10 calls, and serving 16.
+    for number in 1..=28u64 {
         expect_failing(&rt, alloc, number, &whole)?;
     }
     Ok(())

@@ -78,8 +78,10 @@ fn expect_fault(
             assert!(rt; false);
         }
         Err(failed) => {
-            assert!(rt; failed.fault == fault);
-            assert!(rt; failed.device.bytes() == before.as_slice());
+            let found = failed.fault;
+            let is_same = failed.device.bytes() == before.as_slice();
+            drop(failed);
+            assert!(rt; found == fault && is_same);
         }
     }
     Ok(())
@@ -177,16 +179,25 @@ fn other_rules(rt: HostRuntime) -> Result<(), Fail> {
     expect_other_rules(&rt, rt.alloc())
 }
 
-/// Files that are no journal, or damaged: none is opened, and where something stands none is created.
-fn expect_no_journal(rt: &impl Abort, alloc: Global) -> Result<(), Fail> {
-    let none = StartFault::Journal(OpenFault::Refused(Refusal::NotAJournal));
-    expect_fault(rt, alloc, file_of(alloc, b"a text")?, rules(rt), none)?;
-    let mut bytes = Vec::from_slice(alloc, file_with(rt, alloc, &HEAD, &[], &[])?.bytes())?;
+/// The bytes of a file of a head, of which one turned.
+fn damaged(rt: &impl Abort, alloc: Global) -> Result<Vec<u8>, Fail> {
+    let file = file_with(rt, alloc, &HEAD, &[], &[])?;
+    let copy = Vec::from_slice(alloc, file.bytes());
+    drop(file);
+    let mut bytes = copy?;
     if let Some(byte) = bytes.get_mut(17) {
         *byte = 0;
     }
-    let damaged = StartFault::Journal(OpenFault::Refused(Refusal::Damaged { at: 8 }));
-    expect_fault(rt, alloc, file_of(alloc, &bytes)?, rules(rt), damaged)
+    Ok(bytes)
+}
+
+/// Files that are no journal, or damaged: none is opened.
+fn expect_no_journal(rt: &impl Abort, alloc: Global) -> Result<(), Fail> {
+    let none = StartFault::Journal(OpenFault::Refused(Refusal::NotAJournal));
+    expect_fault(rt, alloc, file_of(alloc, b"a text")?, rules(rt), none)?;
+    let spoiled = StartFault::Journal(OpenFault::Refused(Refusal::Damaged { at: 8 }));
+    let bytes = damaged(rt, alloc)?;
+    expect_fault(rt, alloc, file_of(alloc, &bytes)?, rules(rt), spoiled)
 }
 
 #[test]

@@ -93,89 +93,95 @@ fn served<R: Source>(alloc: Global, keeper: Keeper<Memory>, reader: &mut R) -> O
     }
 }
 
-/// The moments of the file that serving takes, by a reader that has all at hand or one pair at a time.
-fn moments_taken(rt: &impl Abort, alloc: Global, at_hand: bool) -> Result<usize, Fail> {
-    let script = script(alloc, 6)?;
-    let mut buffered = Buffered::new(BufReader::with_capacity(alloc, 4096, script.as_slice())?);
-    let mut counting = Counting::new(script.as_slice());
-    let keeper = created_in(rt, alloc, file_of(alloc, &[])?);
-    let served = if at_hand {
-        served(alloc, keeper, &mut buffered)
-    } else {
-        served(alloc, keeper, &mut counting)
-    };
+/// What serving a script over a new file leaves, where all of it is at hand.
+fn served_at_hand(rt: &impl Abort, alloc: Global, script: &[u8]) -> Result<Outcome, Fail> {
+    let mut reader = Buffered::new(BufReader::with_capacity(alloc, 4096, script)?);
+    let file = file_of(alloc, &[])?;
+    Ok(served(alloc, created_in(rt, alloc, file), &mut reader))
+}
+
+/// What serving a script over a new file leaves, where one pair at a time is at hand.
+fn served_by_turns(rt: &impl Abort, alloc: Global, script: &[u8]) -> Result<Outcome, Fail> {
+    let mut reader = Counting::new(script);
+    let file = file_of(alloc, &[])?;
+    Ok(served(alloc, created_in(rt, alloc, file), &mut reader))
+}
+
+/// The moments of the file that serving six pairs took.
+fn moments_taken(rt: &impl Abort, served: &Outcome) -> usize {
     assert!(rt; served.result == Ok(6));
-    Ok(served.moments)
+    served.moments
 }
 
 #[test]
 fn pairs_at_hand_share_a_commit(rt: HostRuntime) -> Result<(), Fail> {
     let alloc = rt.alloc();
+    let script = script(alloc, 6)?;
     // A commit is two writes, each with a sync: one for all entries, or one for each of the four.
-    assert!(rt; moments_taken(&rt, alloc, true)? == 4);
-    assert!(rt; moments_taken(&rt, alloc, false)? == 16);
+    let at_hand = served_at_hand(&rt, alloc, &script)?;
+    assert!(rt; moments_taken(&rt, &at_hand) == 4);
+    let by_turns = served_by_turns(&rt, alloc, &script)?;
+    assert!(rt; moments_taken(&rt, &by_turns) == 16);
     assert!(rt; HELD_BYTES_MAX == 1048576);
     Ok(())
 }
 
-/// What serving answers to a script whose last frame is cut short.
-fn cut_short(rt: &impl Abort, alloc: Global) -> Result<(), Fail> {
+/// The first two pairs of the script, and a third one without its last byte.
+fn cut_short(alloc: Global) -> Result<Vec<u8>, Fail> {
     let mut bytes = script(alloc, 2)?;
     put_pair(&mut bytes, &TRANSFER)?;
     let whole = bytes.len();
     bytes.truncate(whole.saturating_sub(1));
-    let mut reader = Counting::new(bytes.as_slice());
-    let keeper = created_in(rt, alloc, file_of(alloc, &[])?);
-    let served = served(alloc, keeper, &mut reader);
+    Ok(bytes)
+}
+
+#[test]
+fn a_frame_cut_short_ends_serving(rt: HostRuntime) -> Result<(), Fail> {
+    let alloc = rt.alloc();
+    let bytes = cut_short(alloc)?;
+    let served = served_by_turns(&rt, alloc, &bytes)?;
     assert!(rt; served.result == Err(KeepFault::Serving(RunFault::Frame(FrameFault::Short))));
     // The replies to the register and the accounts, 48 bytes each.
     assert!(rt; served.replies.len() == 96);
     Ok(())
 }
 
-#[test]
-fn a_frame_cut_short_ends_serving(rt: HostRuntime) -> Result<(), Fail> {
-    cut_short(&rt, rt.alloc())
-}
-
-/// Serves a script whose last pair has a byte changed, where all of it is at hand: that pair ends serving, and those before
-/// it are committed and told.
-fn ends_behind_two(
-    rt: &impl Abort,
-    alloc: Global,
-    changed: (usize, u8),
-    fault: RunFault,
-) -> Result<(), Fail> {
+/// The first two pairs of the script, and a third one with a byte changed.
+fn changed(alloc: Global, at: usize, value: u8) -> Result<Vec<u8>, Fail> {
     let mut bytes = script(alloc, 2)?;
     let whole = bytes.len();
     put_pair(&mut bytes, &TRANSFER)?;
-    if let Some(byte) = bytes.get_mut(whole.saturating_add(changed.0)) {
-        *byte = changed.1;
+    if let Some(byte) = bytes.get_mut(whole.saturating_add(at)) {
+        *byte = value;
     }
-    let mut reader = Buffered::new(BufReader::with_capacity(alloc, 4096, bytes.as_slice())?);
-    let keeper = created_in(rt, alloc, file_of(alloc, &[])?);
-    let served = served(alloc, keeper, &mut reader);
+    Ok(bytes)
+}
+
+/// The third pair ended serving, and the two before it were committed and told.
+fn expect_two(rt: &impl Abort, served: &Outcome, fault: RunFault) {
     assert!(rt; served.result == Err(KeepFault::Serving(fault)));
     // The replies to the register and the accounts, 48 bytes each, and their records behind the head, by one commit.
     assert!(rt; served.replies.len() == 96);
     assert!(rt; served.records == 3);
     assert!(rt; served.moments == 4);
-    Ok(())
 }
 
 #[test]
 fn a_wrong_frame_ends_serving_behind_those_before_it(rt: HostRuntime) -> Result<(), Fail> {
+    let alloc = rt.alloc();
     // A reserved byte of the header, behind the moment.
-    ends_behind_two(
-        &rt,
-        rt.alloc(),
-        (37, 1),
-        RunFault::Frame(FrameFault::Reserved),
-    )
+    let bytes = changed(alloc, 37, 1)?;
+    let served = served_at_hand(&rt, alloc, &bytes)?;
+    expect_two(&rt, &served, RunFault::Frame(FrameFault::Reserved));
+    Ok(())
 }
 
 #[test]
 fn the_end_of_time_ends_serving_behind_those_before_it(rt: HostRuntime) -> Result<(), Fail> {
+    let alloc = rt.alloc();
     // The highest byte of the moment, which is 2^63 and 10 then.
-    ends_behind_two(&rt, rt.alloc(), (7, 128), RunFault::TimeExhausted)
+    let bytes = changed(alloc, 7, 128)?;
+    let served = served_at_hand(&rt, alloc, &bytes)?;
+    expect_two(&rt, &served, RunFault::TimeExhausted);
+    Ok(())
 }
