@@ -102,10 +102,10 @@ module _ {V : Type 0} (key : V → ℕ) where
 
   -- where two rows were changed, or none
   pub known-changed : {F R : Type 0} (A : Type 0) (c : Mut F (MutBor V × (MutBor V × Unit {0})) (R × (MutBor V × (MutBor V × Unit {0})))) (a b : ℕ) (P : ℕ → Type 0) (rows later : List V) (f f' : F) (o : Option R)
-      → IfSome o (λ r. ChangedRows key c a b rows f r f' later) → IfNone o (A × (later ≡ rows)) → OfKeys P rows → OfKeys P later
+      → IfSome o (λ r. ChangedRows key c a b rows f r f' later) → IfNone o (A × (f' ≡ f) × (later ≡ rows)) → OfKeys P rows → OfKeys P later
   known-changed A c a b P rows later f f' (Some r) changed absent known =
       subst (OfKeys P) (sym changed.written) (known-replaced P changed.other_left (replaced key changed.left rows) (known-replaced P changed.left rows known))
-  known-changed A c a b P rows later f f' None changed absent known = subst (OfKeys P) (sym absent.1) known
+  known-changed A c a b P rows later f f' None changed absent known = subst (OfKeys P) (sym absent.2) known
 
   -- a search
 

@@ -146,6 +146,10 @@ pub record IsLedger (accounts : List AccountRow) (transfers : List TransferRow) 
 abbrev pub IsKept : {A : Type 0} → Rows A → Type 0
 IsKept rows = IsLedger rows.accounts.items rows.transfers.items rows.failed.items rows.keeps_failed rows.timeouts.items rows.time
 
+-- of a transfer with this stamp no timeout has passed yet, since the shortest one is a second
+abbrev pub PrecedesTimeouts : {A : Type 0} → Rows A → ℕ → Type 0
+PrecedesTimeouts rows stamp = rows.time < stamp + 1000000000
+
 -- the changes of a side: a transfer comes, and the amount of a pending one leaves
 
 abbrev pub gained : (Transfer → Bool) → Transfer → Side → Side

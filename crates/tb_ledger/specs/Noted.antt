@@ -10,10 +10,14 @@ pub record Noted : Type 0 where
   pub noting : Bool
   pub capacity : ℕ
 
+-- there is room for n more
+abbrev pub HasRoomFor : ℕ → Noted → Type 0
+HasRoomFor n trail = length trail.changes + n ≤ trail.capacity
+
 -- with one more, where they are noted
 abbrev pub with_noted : Undo → Noted → Noted
 with_noted undo trail = if trail.noting then record trail { changes = trail.changes ++ undo ∷ [] } else trail
 
 -- with the rows of two accounts from before their change, where there is room for both
 abbrev pub NotesPair : AccountRow → AccountRow → Noted → Noted → Type 0
-NotesPair debit credit trail grown = length trail.changes + 2 ≤ trail.capacity → grown ≡ with_noted (Account credit) (with_noted (Account debit) trail)
+NotesPair debit credit trail grown = HasRoomFor 2 trail → grown ≡ with_noted (Account credit) (with_noted (Account debit) trail)

@@ -1,7 +1,7 @@
 //! A batch: its chains, one after another.
 ghost use Rattle.std.specs.Prelude.{◌≡◌, ◌+◌, ◌*◌, ◌^◌, ◌<◌, ◌≤◌, ◌++◌, length, vec_len, vec_capacity};
 ghost use Rattle.tb_ledger.specs.Batches.{blocks, blocks_after, timed_from, results_from};
-ghost use Rattle.tb_ledger.specs.Kept.{books_in, IsKept};
+ghost use Rattle.tb_ledger.specs.Kept.{books_in, IsKept, PrecedesTimeouts};
 
 pub(crate) mod chains;
 pub(crate) mod events;
@@ -38,7 +38,7 @@ pub(crate) fn run_batch<E: Event, A: Allocator + Clone, R: Allocator>(
     requires ids { E.HasIdRoom (length events.now) rows.old.keeps_failed rows.old.failed.spare }
     requires trail_room { TRAIL_PER_EVENT * length events.now ≤ trail.old.capacity }
     requires results_room { vec_len results.old + length events.now ≤ vec_capacity results.old }
-    requires stamped { rows.old.time < time + 1000000000 }
+    requires stamped { PrecedesTimeouts rows.old time }
     requires index_fits { length events.now < 2 ^ 32 }
     requires time_fits { time + length events.now < 2 ^ 64 }
     ensures books { books_in rows.new

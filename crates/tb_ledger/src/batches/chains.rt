@@ -1,8 +1,9 @@
 //! Chains: all of one, or nothing of it.
 ghost use Rattle.std.specs.Prelude.{◌≡◌, ◌≢◌, ℕ, ◌+◌, ◌*◌, ◌^◌, ◌<◌, ◌≤◌, ◌&&◌, ◌++◌, length, if◌then◌else◌, vec_len, vec_capacity};
 ghost use Rattle.tb_ledger.specs.Batches.{block_length, block_after, timed_from, results_from};
-ghost use Rattle.tb_ledger.specs.Kept.{books_in, IsKept};
+ghost use Rattle.tb_ledger.specs.Kept.{books_in, IsKept, PrecedesTimeouts};
 ghost use Rattle.tb_ledger.specs.Trail.{Stays, IsStep};
+ghost use Rattle.tb_ledger.specs.Noted.{HasRoomFor};
 
 use crate::batches::events::Event;
 use crate::batches::results::{LINKED_EVENT_CHAIN_OPEN, break_off};
@@ -43,7 +44,7 @@ pub(crate) fn run_block<E: Event, A: Allocator + Clone, R: Allocator>(
     requires ids { E.HasIdRoom (length block.now) rows.old.keeps_failed rows.old.failed.spare }
     requires trail_room { TRAIL_PER_EVENT * length block.now ≤ trail.old.capacity }
     requires results_room { vec_len results.old + length block.now ≤ vec_capacity results.old }
-    requires stamped { rows.old.time < time + 1000000000 }
+    requires stamped { PrecedesTimeouts rows.old time }
     requires index_fits { index + length block.now < 2 ^ 32 }
     requires time_fits { time + length block.now < 2 ^ 64 }
     ensures books { books_in rows.new
@@ -93,8 +94,8 @@ fn take_in_chain<E: Event, A: Allocator + Clone>(
     requires kept { IsKept rows.old }
     requires room { 0 < E.room rows.old.accounts.spare rows.old.transfers.spare }
     requires timeouts_room { E.HasTimeoutRoom 1 rows.old.timeouts.spare }
-    requires stamped { rows.old.time < time + 1000000000 }
-    requires trail_room { length trail.old.changes + TRAIL_PER_EVENT ≤ trail.old.capacity }
+    requires stamped { PrecedesTimeouts rows.old time }
+    requires trail_room { HasRoomFor TRAIL_PER_EVENT trail.old }
     ensures code { result
         ≡ (if last && E.kind.linked event.now then
         2

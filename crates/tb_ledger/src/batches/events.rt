@@ -1,7 +1,8 @@
 //! What a batch asks of its events.
-ghost use Rattle.std.specs.Prelude.{◌≡◌, ◌≢◌, ℕ, ◌+◌, ◌<◌, ◌≤◌, ◌==◌, true, false, length};
-ghost use Rattle.tb_ledger.specs.Kept.{books_in, IsKept};
+ghost use Rattle.std.specs.Prelude.{◌≡◌, ◌≢◌, ℕ, ◌+◌, ◌<◌, ◌≤◌, ◌==◌, true, false};
+ghost use Rattle.tb_ledger.specs.Kept.{books_in, IsKept, PrecedesTimeouts};
 ghost use Rattle.tb_ledger.specs.Trail.{Stays, IsStep};
+ghost use Rattle.tb_ledger.specs.Noted.{HasRoomFor};
 
 use crate::changes::account::take_account;
 use crate::changes::transfer::{note_failed, take_transfer};
@@ -42,8 +43,8 @@ pub trait Event: Copy {
         requires kept { IsKept rows.old }
         requires room { 0 < room rows.old.accounts.spare rows.old.transfers.spare }
         requires timeouts_room { HasTimeoutRoom 1 rows.old.timeouts.spare }
-        requires stamped { rows.old.time < time + 1000000000 }
-        requires trail_room { length trail.old.changes + TRAIL_PER_EVENT ≤ trail.old.capacity }
+        requires stamped { PrecedesTimeouts rows.old time }
+        requires trail_room { HasRoomFor TRAIL_PER_EVENT trail.old }
         ensures code { result ≡ kind.verdict (books_in rows.old) self.now time }
         ensures done { result ≡ 0 → books_in rows.new ≡ kind.recorded (books_in rows.old) self.now time }
         ensures fresh { result ≢ 0 → IsNew (books_in rows.old).failed self.now result }

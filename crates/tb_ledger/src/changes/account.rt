@@ -4,6 +4,7 @@ ghost use Rattle.tb_ledger.specs.Batches.{account_events};
 ghost use Rattle.tb_ledger.specs.Books.{account_at};
 ghost use Rattle.tb_ledger.specs.Kept.{books_in, IsKept, account_row_key, blank, new_row};
 ghost use Rattle.tb_ledger.specs.Trail.{Stays, IsStep, IsNoted};
+ghost use Rattle.tb_ledger.specs.Noted.{HasRoomFor};
 ghost use Rattle.tb_records.specs.Ordered.{put};
 ghost use Rattle.tb_ledger.specs.Sound.{Sound, account_key};
 
@@ -24,7 +25,7 @@ pub(crate) fn take_account<A: Allocator + Clone>(
 ) -> u32
     requires kept { IsKept rows.old }
     requires room { 0 < rows.old.accounts.spare }
-    requires trail_room { length trail.old.changes + TRAIL_PER_EVENT ≤ trail.old.capacity }
+    requires trail_room { HasRoomFor TRAIL_PER_EVENT trail.old }
     ensures code { result ≡ account_events.verdict (books_in rows.old) a.now time }
     ensures done { result ≡ 0 → books_in rows.new ≡ account_events.recorded (books_in rows.old) a.now time }
     ensures kept { IsKept rows.new }
@@ -46,7 +47,7 @@ pub(crate) fn take_account<A: Allocator + Clone>(
 fn record_account<A: Allocator + Clone>(rows: &mut Rows<A>, trail: &mut Trail<A>, a: &Account)
     requires kept { IsKept rows.old }
     requires room { 0 < rows.old.accounts.spare }
-    requires trail_room { length trail.old.changes + TRAIL_PER_EVENT ≤ trail.old.capacity }
+    requires trail_room { HasRoomFor TRAIL_PER_EVENT trail.old }
     requires fresh { account_at (books_in rows.old) a.now.id ≡ None }
     requires plain { a.now ≡ blank a.now }
     requires sound { Sound

@@ -5,6 +5,7 @@ ghost use Rattle.tb_ledger.specs.Books.{resolves, transfer_at};
 ghost use Rattle.tb_ledger.specs.Exchanges.{row_at};
 ghost use Rattle.tb_ledger.specs.Kept.{books_in, IsKept, transfer_row_key, times_out, unlisted, IsListed, settled, state_given_by};
 ghost use Rattle.tb_ledger.specs.Trail.{Stays, IsStep, IsMarked};
+ghost use Rattle.tb_ledger.specs.Noted.{HasRoomFor};
 ghost use Rattle.tb_ledger.specs.Settlings.{closed_code, CanSettle, Settles, SettlesIn};
 ghost use Rattle.tb_ledger.specs.Verdicts.{id_code};
 ghost use Rattle.tb_records.specs.Ordered.{put, replaced, Rising};
@@ -34,7 +35,7 @@ pub(crate) fn take_resolving<A: Allocator + Clone>(
 ) -> u32
     requires kept { IsKept rows.old }
     requires room { 0 < rows.old.transfers.spare }
-    requires trail_room { length trail.old.changes + TRAIL_PER_EVENT ≤ trail.old.capacity }
+    requires trail_room { HasRoomFor TRAIL_PER_EVENT trail.old }
     requires free { id_code (books_in rows.old) t.now ≡ 0 }
     requires resolving { resolves t.now ≡ true }
     requires plain { t.now.flags < 2 ^ 8 }
@@ -70,7 +71,7 @@ fn settle<A: Allocator + Clone>(
 ) -> u32
     requires kept { IsKept rows.old }
     requires room { 0 < rows.old.transfers.spare }
-    requires trail_room { length trail.old.changes + TRAIL_PER_EVENT ≤ trail.old.capacity }
+    requires trail_room { HasRoomFor TRAIL_PER_EVENT trail.old }
     requires fresh { transfer_at (books_in rows.old) r.now.id ≡ None }
     requires found { find (λ row. row.recorded.id == r.now.pending_id) rows.old.transfers.items ≡ Some p.now }
     requires plain { r.now.flags < 2 ^ 8 }

@@ -1,10 +1,11 @@
 //! A transfer between two accounts: both rows are found by one walk, judged, and changed where they stand.
-ghost use Rattle.std.specs.Prelude.{◌≡◌, ◌+◌, ◌^◌, ◌<◌, ◌≤◌, false, length, ◌≢◌, if◌then◌else◌};
+ghost use Rattle.std.specs.Prelude.{◌≡◌, ◌+◌, ◌^◌, ◌<◌, ◌≤◌, false, ◌≢◌, if◌then◌else◌};
 ghost use Rattle.std.specs.Option.{is_some};
 ghost use Rattle.tb_ledger.specs.Batches.{transfer_events};
 ghost use Rattle.tb_ledger.specs.Books.{resolves};
-ghost use Rattle.tb_ledger.specs.Kept.{books_in, IsKept};
+ghost use Rattle.tb_ledger.specs.Kept.{books_in, IsKept, PrecedesTimeouts};
 ghost use Rattle.tb_ledger.specs.Trail.{Stays, IsStep};
+ghost use Rattle.tb_ledger.specs.Noted.{HasRoomFor};
 ghost use Rattle.tb_ledger.specs.Verdicts.{id_code};
 ghost use Rattle.tb_ledger.specs.Exchanges.{Exchanges, ExchangesIn, row_at};
 
@@ -28,8 +29,8 @@ pub(crate) fn take_single<A: Allocator + Clone>(
     requires kept { IsKept rows.old }
     requires room { 0 < rows.old.transfers.spare }
     requires timeouts_room { 0 < rows.old.timeouts.spare }
-    requires trail_room { length trail.old.changes + TRAIL_PER_EVENT ≤ trail.old.capacity }
-    requires stamped { rows.old.time < time + 1000000000 }
+    requires trail_room { HasRoomFor TRAIL_PER_EVENT trail.old }
+    requires stamped { PrecedesTimeouts rows.old time }
     requires free { id_code (books_in rows.old) t.now ≡ 0 }
     requires single { resolves t.now ≡ false }
     requires plain { t.now.flags < 2 ^ 8 }

@@ -1,10 +1,11 @@
 //! A transfer is judged, and recorded where it is accepted; by profile 2 the id of one that fails for good is noted.
-ghost use Rattle.std.specs.Prelude.{◌≡◌, ◌≢◌, ℕ, ◌+◌, ◌<◌, ◌≤◌, ◌==◌, true, false, length};
+ghost use Rattle.std.specs.Prelude.{◌≡◌, ◌≢◌, ℕ, ◌+◌, ◌<◌, ◌≤◌, ◌==◌, true, false};
 ghost use Rattle.std.specs.List.{list_any};
 ghost use Rattle.std.specs.Option.{option_map_or};
 ghost use Rattle.tb_ledger.specs.Batches.{is_final, transfer_events};
-ghost use Rattle.tb_ledger.specs.Kept.{books_in, IsKept};
+ghost use Rattle.tb_ledger.specs.Kept.{books_in, IsKept, PrecedesTimeouts};
 ghost use Rattle.tb_ledger.specs.Trail.{Stays, IsStep};
+ghost use Rattle.tb_ledger.specs.Noted.{HasRoomFor};
 
 use crate::changes::resolving::take_resolving;
 use crate::changes::single::take_single;
@@ -24,8 +25,8 @@ pub(crate) fn take_transfer<A: Allocator + Clone>(
     requires kept { IsKept rows.old }
     requires room { 0 < rows.old.transfers.spare }
     requires timeouts_room { 0 < rows.old.timeouts.spare }
-    requires trail_room { length trail.old.changes + TRAIL_PER_EVENT ≤ trail.old.capacity }
-    requires stamped { rows.old.time < time + 1000000000 }
+    requires trail_room { HasRoomFor TRAIL_PER_EVENT trail.old }
+    requires stamped { PrecedesTimeouts rows.old time }
     ensures code { result ≡ transfer_events.verdict (books_in rows.old) t.now time }
     ensures done { result ≡ 0 → books_in rows.new ≡ transfer_events.recorded (books_in rows.old) t.now time }
     ensures kept { IsKept rows.new }

@@ -39,7 +39,6 @@ pub struct AccountRow {
 const _: () = prove!(size_of::<AccountRow>() == 128);
 
 impl Model for AccountRow {
-    ghost use Rattle.std.specs.Prelude.{ℕ};
     ghost use Rattle.tb_ledger.specs.KeptRows.{KeptAccount};
 
     ghost Value = { KeptAccount };

@@ -143,8 +143,8 @@ fn update_rows<V: Keyed, A: Allocator + Clone, R, F: FnMut(&mut V, &mut V) -> R>
     ensures absent { IfNone result
         (((find (λ y. V.key y == a) (values_of (entries rows.old)) ≡ None)
         ⊎ (find (λ y. V.key y == b) (values_of (entries rows.old)) ≡ None))
+        × (f.new ≡ f.old)
         × (values_of (entries rows.new) ≡ values_of (entries rows.old))) }
-    ensures uncalled { IfNone result (f.new ≡ f.old) }
     ensures room { rows.new.spare ≡ rows.old.spare }
 {
     rows.update_two(&a, &b, f)
@@ -311,8 +311,8 @@ impl<V: Keyed, A: Allocator + Clone> Table<V, A> {
         ensures absent { IfNone result
             (((find (λ y. V.key y == a) self.old.items ≡ None)
             ⊎ (find (λ y. V.key y == b) self.old.items ≡ None))
+            × (f.new ≡ f.old)
             × (self.new.items ≡ self.old.items)) }
-        ensures uncalled { IfNone result (f.new ≡ f.old) }
         ensures room { self.new.spare ≡ self.old.spare }
     {
         match &mut self.rows {

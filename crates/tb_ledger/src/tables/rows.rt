@@ -1,5 +1,5 @@
 //! The tables of a ledger: what it keeps of its accounts and transfers.
-ghost use Rattle.std.specs.Prelude.{◌≡◌, ◌^◌, ◌-◌, [], false};
+ghost use Rattle.std.specs.Prelude.{◌≡◌};
 ghost use Rattle.tb_ledger.specs.Books.{empty_books};
 ghost use Rattle.tb_ledger.specs.Kept.{books_in, IsKept};
 ghost use Rattle.tb_ledger.specs.Sound.{IdsRise};

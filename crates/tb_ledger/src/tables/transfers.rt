@@ -43,7 +43,6 @@ pub struct TransferRow {
 const _: () = prove!(size_of::<TransferRow>() == 128);
 
 impl Model for TransferRow {
-    ghost use Rattle.std.specs.Prelude.{ℕ};
     ghost use Rattle.tb_ledger.specs.KeptRows.{KeptTransfer};
 
     ghost Value = { KeptTransfer };

@@ -23,7 +23,4 @@ returns-clause-table g c =
 
 pub returns-clause-absent : goal.returns-clause-absent
 returns-clause-absent g c =
-    none-leads c.update_two.result _ _ (λ p. (missing-rows g.V.Keyed.key c.args.a c.args.b (entries c.args.rows.now) c.requires.table.own p.0, ap (λ m. values_of (entries m)) p.2)) c.update_two.ensures.absent
-
-pub returns-clause-uncalled : goal.returns-clause-uncalled
-returns-clause-uncalled g c = none-leads c.update_two.result _ _ (λ p. p.1) c.update_two.ensures.absent
+    none-leads c.update_two.result _ _ (λ p. (missing-rows g.V.Keyed.key c.args.a c.args.b (entries c.args.rows.now) c.requires.table.own p.0, p.1, ap (λ m. values_of (entries m)) p.2)) c.update_two.ensures.absent

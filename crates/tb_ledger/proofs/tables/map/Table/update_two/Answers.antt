@@ -27,8 +27,8 @@ returns-clause-absent g c =
       | in-Some w ↦
           let items = sym (ap (λ m. rows_in m) w.in-Some.is) ∙ ap (λ t. t.items) c.self.view_is in
           let new = values_of (entries w.update_rows.new.rows) in
-          rw (w.result-is, w.self-inside-is) (subst (λ rows. IfNone w.update_rows.result (((find (λ y. key y == a) rows ≡ None) ⊎ (find (λ y. key y == b) rows ≡ None)) × (new ≡ rows))) items w.update_rows.ensures.absent)
+          rw (w.result-is, w.self-inside-is, w.f-is) (subst (λ rows. IfNone w.update_rows.result (((find (λ y. key y == a) rows ≡ None) ⊎ (find (λ y. key y == b) rows ≡ None)) × (w.update_rows.new.f ≡ c.args.f.now) × (new ≡ rows))) items w.update_rows.ensures.absent)
       | in-None w ↦
           let items = sym (ap (λ m. rows_in m) w.in-None.is) ∙ ap (λ t. t.items) c.self.view_is in
-          rw (w.result-is, w.self-inside-is) (inl (subst (λ rows. find (λ y. key y == a) rows ≡ None) items refl), ap (λ t. t.items) c.self.view_is)
+          rw (w.result-is, w.self-inside-is, w.f-is) (inl (subst (λ rows. find (λ y. key y == a) rows ≡ None) items refl), refl, ap (λ t. t.items) c.self.view_is)
     ]
