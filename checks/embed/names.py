@@ -158,6 +158,14 @@ def comparisons():
     yield from in_pages(read("docs/FORMATS.md"))
 
 
+def statuses_of_outcomes():
+    """The statuses by the names of outcomes. Of outcomes with one status a caller sees the first: want of memory has one, wherever it was met."""
+    first = {}
+    for name, number in numbers(spec("Outcomes", "tb_embed"), "status_of").items():
+        first.setdefault(number, name)
+    return {name: number for number, name in first.items()}
+
+
 def in_c(header):
     enums, named = enums_in_c(header), texts_in_c(header)
     kinds = {"tb_fault", "tb_status", *(it[3] for it in KINDS)}
@@ -171,7 +179,7 @@ def in_c(header):
     faults = defined("Faults", "fault_number", "fault_name")
     yield same("tb_fault in C", {"FAULT_NONE": 0, **{f"FAULT_{upper(it)}": number for it, (number, _) in faults.items()}}, enums["tb_fault"])
     yield same("tb_fault in C, by name", {"FAULT_NONE": "none", **{f"FAULT_{upper(it)}": text for it, (_, text) in faults.items()}}, named["tb_fault"])
-    statuses = numbers(spec("Outcomes", "tb_embed"), "status_of")
+    statuses = statuses_of_outcomes()
     yield same("tb_status in C", {upper(it): number for it, number in statuses.items()}, enums["tb_status"])
     yield same("tb_status in C, by name", {upper(it): upper(it).lower().replace("_", " ") for it in statuses}, named["tb_status"])
     yield asserted("sizes and limits in C", [f"TB_{name} == {value}" for name, value in limits().items()])
@@ -193,7 +201,7 @@ def in_rust(source):
         yield same(f"{name} in Rust", {upper(it) if "Flags" in name else it: row for it, row in rows.items()}, enums[name])
     yield same("Fault in Rust", numbers(spec("Faults"), "fault_number"), faults_in_rust(source))
     refusals = re.findall(r"^        (\d+) => Err\(Refusal::(\w+)", source, re.M)
-    shown = numbers(spec("Outcomes", "tb_embed"), "status_of")
+    shown = statuses_of_outcomes()
     known = {name: number for name, number in shown.items() if name not in ("Done", "Closed", "Absent")}
     yield same("Refusal in Rust", known, {name: int(number) for number, name in refusals})
     constants = dict(re.findall(r"^pub const (\w+): \w+ = ([^;]+);", source, re.M))
@@ -225,7 +233,7 @@ def in_python():
         rows = defined(file, number_word, text_word)
         found = {it: int(value) for it, value in getattr(tb_client, name).__members__.items()}
         yield same(f"{name} in Python", {text: number for number, text in rows.values()}, found)
-    statuses = numbers(spec("Outcomes", "tb_embed"), "status_of")
+    statuses = statuses_of_outcomes()
     yield same("REFUSALS in Python", {number: it for it, number in statuses.items() if number}, tb_embed.REFUSALS)
     wanted = limits()
     found = {"HEADER_SIZE": frames.HEADER, "RECORD_SIZE": records.RECORD, "ID_SIZE": records.ID, "ITEMS_MAX": frames.ITEMS_MAX}
