@@ -9,13 +9,12 @@ use std::test::Fail;
 use tb_machine::Machine;
 use tb_records::{Body, ClientsMax, Items, Profile, Transfer, TransferFlag};
 
-/// The undo log has room for four changes of each event, and a change has at most so many bytes: the row of an account with
-/// its sums.
-const LOG: u64 = 4 * 240;
+/// The undo log has room for four changes of each event, and a change has at most so many bytes: a row, and which change it is.
+const LOG: u64 = 4 * 144;
 
 /// What is kept of an event has at most so many bytes, with the links of its trees: a transfer's row, a timeout, an id that
 /// failed.
-const KEPT: u64 = 256 + 96 + 96;
+const KEPT: u64 = 192 + 80 + 80;
 
 /// So many transfers of 1 each, alone or as one chain.
 fn events(alloc: Global, count: u32, chained: bool) -> Result<Vec<Transfer>, Fail> {
