@@ -5,7 +5,7 @@ use Rattle.std.proofs.lemmas.Grind.{flat_map-append}
 use Rattle.std.proofs.lemmas.List.Elements.{All-append, All-cons, All-nil}
 use Rattle.std.proofs.KnownBytes.{Appends-trans, Consumes-trans}
 use Rattle.std.specs.Io.KnownBytes.{Appends, Consumes}
-use Rattle.std.proofs.Math.Nat.{mul-le-mul_right}
+use Rattle.std.proofs.Math.Nat.{mul-le-mul_right, add-mul}
 use Rattle.tb_records.specs.declared.faults.FrameFault.{FrameFault}
 use Rattle.tb_records.specs.declared.faults.FrameFault.TheVariants.{Short, Device}
 use Rattle.std.proofs.Math.Seq.{take-add, take-append-add}
@@ -111,25 +111,31 @@ length-items spelling size (x ∷ items) each =
     let e = length-items spelling size items each in
     omega (arith, length-append (spelling x) (flat_map spelling items), each x)
 
--- a row of items, of which one could not be read
-pub items_cut : {X : Type 0} (fault : FrameFault) (spelling : X → List ℕ) (count size : ℕ) (items : List X) (a b c : Option (List ℕ))
-    → length items < count → ((x : X) → length (spelling x) ≡ size) → Consumes a b (flat_map spelling items)
-    → ReadFault fault size b c → BodyFault fault (count * size) a c
-items_cut Short spelling count size items a b c h each bytes cut =
+-- items, and n more, have no more bytes than all
+spread : {X : Type 0} (items : List X) (n count size : ℕ) → length items + n ≤ count → length items * size + n * size ≤ count * size
+spread items n count size h =
+    let all : (length items + n) * size ≤ count * size = mul-le-mul_right size h in
+    omega (arith, add-mul (length items) n size, all)
+
+-- a row of items, of which n more could not be read
+pub items_cut : {X : Type 0} (fault : FrameFault) (spelling : X → List ℕ) (count size n long : ℕ) (items : List X) (a b c : Option (List ℕ))
+    → length items + n ≤ count → long ≡ n * size → ((x : X) → length (spelling x) ≡ size) → Consumes a b (flat_map spelling items)
+    → ReadFault fault long b c → BodyFault fault (count * size) a c
+items_cut Short spelling count size n long items a b c h same each bytes cut =
     let front = flat_map spelling items in
-    let fits : (length items + 1) * size ≤ count * size = mul-le-mul_right size (omega arith) in
+    let fits : length items * size + n * size ≤ count * size = spread items n count size h in
     record {
       rest = front ++ cut.rest;
       short = omega (arith, length-append front cut.rest, length-items spelling size items each, cut.short);
       bytes = Consumes-trans a b c front cut.rest bytes cut.bytes;
       end = cut.end;
     }
-items_cut Device spelling count size items a b c h each bytes cut =
+items_cut Device spelling count size n long items a b c h same each bytes cut =
     let front = flat_map spelling items in
-    let fits : (length items + 1) * size ≤ count * size = mul-le-mul_right size (omega arith) in
+    let fits : length items * size + n * size ≤ count * size = spread items n count size h in
     record {
       front = front ++ cut.front;
       short = omega (arith, length-append front cut.front, length-items spelling size items each, cut.short);
       bytes = Consumes-trans a b c front cut.front bytes cut.bytes;
     }
-items_cut fault spelling count size items a b c h each bytes cut = absurd cut
+items_cut fault spelling count size n long items a b c h same each bytes cut = absurd cut

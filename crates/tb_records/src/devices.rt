@@ -1,10 +1,10 @@
 //! Readers and writers that count their failures, and the loops that fill and empty buffers.
-ghost use Rattle.std.specs.Prelude.{false, ◌≡◌, ◌≤◌, ◌<◌, ◌+◌, ◌*◌, ℕ, [], List, Option, MatchResult, IfSome, OnOk, All, length, flat_map};
+ghost use Rattle.std.specs.Prelude.{false, ◌≡◌, ◌≤◌, ◌<◌, ◌+◌, ◌*◌, ◌++◌, ℕ, [], List, Option, MatchResult, IfSome, OnOk, All, length, flat_map, vec_len, vec_capacity};
 ghost use Rattle.std.specs.Io.{ReadsAtMost, WritesAtMost, StartsWith};
 ghost use Rattle.std.specs.Io.Buffered.{reader_buffer, reader_remaining};
-ghost use Rattle.std.specs.Io.KnownBytes.{ReadConsumes, WriteAppends};
+ghost use Rattle.std.specs.Io.KnownBytes.{Consumes, ReadConsumes, WriteAppends};
 ghost use Rattle.tb_records.specs.Transport.{uncounted, Input, Output, Fails, Gives, Counts, Takes, Errs, Sent, CutOff};
-ghost use Rattle.tb_records.specs.Reading.{Filled, Lost, ReadsItem, ReadsItems, ReadFault, BodyFault};
+ghost use Rattle.tb_records.specs.Reading.{Filled, Lost, ReadsItems, ReadFault, BodyFault};
 
 use crate::faults::FrameFault;
 use crate::layout::Item;
@@ -254,22 +254,66 @@ pub fn put_all<W: Sink>(sink: &mut W, bytes: &[u8]) -> Result<(), FrameFault>
     Ok(())
 }
 
-/// Reads one item. The buffer is the caller's, so that a row of items needs only one.
-fn item_from<S: Source, T: Item>(source: &mut S, buf: &mut [u8; 128]) -> Result<T, FrameFault>
+/// Fills the buffer. Short where the input ends before.
+fn fill_all<S: Source>(source: &mut S, buf: &mut [u8]) -> Result<(), FrameFault>
     ensures bytes { MatchResult result
-        (λ x. ReadsItem T.spelling T.Fits x (S.input source.old).left (S.input source.new).left)
-        (λ f. ReadFault f T.SIZE (S.input source.old).left (S.input source.new).left) }
+        (λ _. Consumes (S.input source.old).left (S.input source.new).left buf.new)
+        (λ f. ReadFault f (length buf.old) (S.input source.old).left (S.input source.new).left) }
     ensures counted { Counts result (S.input source.old) (S.input source.new) }
 {
-    let buf: &mut [u8] = buf;
-    let buf = &mut buf[..T::SIZE];
-    if fill(source, buf)? < T::SIZE {
+    if fill(source, buf)? < buf.len() {
         return Err(FrameFault::Short);
     }
-    Ok(T::read(buf))
+    Ok(())
 }
 
-/// Reads a row of items. The room for them is made before the first byte is read.
+/// Adds the items that the bytes spell, one behind the other.
+fn push_items<T: Item>(bytes: &[u8], count: usize, items: &mut Vec<T>)
+    requires long { length bytes.now ≡ T.SIZE * count }
+    requires room { vec_len items.old + count ≤ vec_capacity items.old }
+    ensures spelled { flat_map T.spelling items.new.items ≡ flat_map T.spelling items.old.items ++ bytes.now }
+    ensures fit { All T.Fits items.old.items → All T.Fits items.new.items }
+    ensures long { vec_len items.new ≡ vec_len items.old + count }
+    ensures capacity { vec_capacity items.new ≡ vec_capacity items.old }
+{
+    let mut rest = bytes;
+    for _ in 0..count {
+        let (item, more) = rest.split_at(T::SIZE);
+        items.push_reserved(T::read(item));
+        rest = more;
+    }
+}
+
+/// Reads items to an empty row, so many at a time. The buffer is the caller's, and has room for these.
+fn fill_items<S: Source, T: Item>(
+    source: &mut S,
+    buf: &mut [u8],
+    at_once: usize,
+    items: &mut Vec<T>,
+    count: usize,
+) -> Result<(), FrameFault>
+    requires some { 0 < at_once }
+    requires buffer { at_once * T.SIZE ≤ length buf.old }
+    requires empty { items.old.items ≡ [] }
+    requires room { count ≤ vec_capacity items.old }
+    ensures bytes { MatchResult result
+        (λ _.
+        ReadsItems T.spelling T.Fits count items.new.items (S.input source.old).left
+        (S.input source.new).left)
+        (λ f. BodyFault f (count * T.SIZE) (S.input source.old).left (S.input source.new).left) }
+    ensures counted { Counts result (S.input source.old) (S.input source.new) }
+{
+    while items.len() < count {
+        let n = at_once.min(count - items.len());
+        let part = &mut buf[..n * T::SIZE];
+        fill_all(source, part)?;
+        push_items(part, n, items);
+    }
+    Ok(())
+}
+
+/// Reads a row of items, eight at a time where there are so many. The room for them is made before the first byte is read,
+/// and no byte behind them is.
 pub(crate) fn items_from<S: Source, T: Item>(
     alloc: Global,
     source: &mut S,
@@ -283,9 +327,10 @@ pub(crate) fn items_from<S: Source, T: Item>(
     ensures counted { Counts result (S.input source.old) (S.input source.new) }
 {
     let mut items = Vec::with_capacity(alloc, count)?;
-    let mut buf = [0; 128];
-    for _ in 0..count {
-        items.push(item_from(source, &mut buf)?)?;
+    if count < 8 {
+        fill_items(source, &mut [0; 128], 1, &mut items, count)?;
+    } else {
+        fill_items(source, &mut [0; 1024], 8, &mut items, count)?;
     }
     Ok(items)
 }
