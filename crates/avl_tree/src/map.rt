@@ -1,5 +1,5 @@
 // The map.
-ghost use Rattle.std.specs.Prelude.{◌≡◌, ◌+◌, ◌<◌, ◌≤◌, ◌^◌, ◌⊎◌, false, [], length, map, max, IfOk, IfErr, if◌then◌else◌};
+ghost use Rattle.std.specs.Prelude.{◌≡◌, ◌+◌, ◌<◌, ◌≤◌, ◌^◌, ◌⊎◌, true, false, [], length, map, max, IfOk, IfErr, if◌then◌else◌};
 ghost use Rattle.std.specs.Option.{option_copied, option_map, is_some, IfNone, IfSome};
 ghost use Rattle.std.specs.List.{slice_get};
 ghost use Rattle.std.specs.List.Sorted.{IsStrictlySortedBy};
@@ -189,6 +189,19 @@ impl<K: Ord + Copy, V, A: Allocator + Clone> AvlMap<K, V, A> {
         } else {
             Err(value)
         }
+    }
+
+    /// Exchanges the value of the key for the one in the given place, which has the old one then, and says that the key is
+    /// there. Where it is absent, nothing changes.
+    pub fn exchange(&mut self, key: &K, value: &mut V) -> bool
+        ensures spare { self.new.spare ≡ self.old.spare }
+        ensures old { result ≡ true → get K.cmp self.old key.now ≡ Some value.new }
+        ensures written { result ≡ true
+            → entries self.new ≡ set_value (is_at (K.cmp key.now)) (entries self.old) value.old }
+        ensures absent { result ≡ false
+            → (get K.cmp self.old key.now ≡ None) × (value.new ≡ value.old) × (self.new ≡ self.old) }
+    {
+        edits::exchange(&mut self.root, key, value)
     }
 
     /// Calls the closure at the value of the key, which it may change where it stands, and answers what the closure

@@ -176,6 +176,34 @@ fn expect_two(rt: &impl Abort, map: &mut AvlMap<u64, u128, Global>) {
     assert_eq!(rt; map.first().map(|(key, _)| *key), Some(1));
 }
 
+/// Exchanges the value of a key, where it has this one, for another.
+fn expect_exchange(
+    rt: &impl Abort,
+    map: &mut AvlMap<u64, u128, Global>,
+    key: u64,
+    value: u128,
+    old: Option<u128>,
+) {
+    let mut place = value;
+    let found = map.exchange(&key, &mut place);
+    assert_eq!(rt; found, old.is_some(), "key {key}");
+    assert_eq!(rt; place, old.unwrap_or(value), "key {key}");
+}
+
+fn exchange_values(rt: &impl Abort, map: &mut AvlMap<u64, u128, Global>) -> Result<(), Fail> {
+    put_three(rt, map)?;
+    expect_exchange(rt, map, 3, 33, Some(30));
+    expect_value(rt, map, 3, Some(33));
+    expect_exchange(rt, map, 4, 40, None);
+    expect_digits(rt, map, 0, 9, 123);
+    Ok(())
+}
+
+#[test]
+fn values_are_exchanged(rt: HostRuntime) -> Result<(), Fail> {
+    exchange_values(&rt, &mut AvlMap::new_in(rt.alloc()))
+}
+
 fn keep_spare_nodes(rt: &impl Abort, map: &mut AvlMap<u64, u128, Global>) -> Result<(), Fail> {
     put_three(rt, map)?;
     remove_twice(rt, map);

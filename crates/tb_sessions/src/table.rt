@@ -1,5 +1,5 @@
 //! The sessions of the clients: at most one of each, and at most so many in all.
-ghost use Rattle.std.specs.Prelude.{◌≡◌, ◌<◌, ◌≤◌, IfOk, IfErr, MatchOption, Some, None, [], length};
+ghost use Rattle.std.specs.Prelude.{◌≡◌, ◌<◌, ◌≤◌, true, false, IfOk, MatchOption, Some, None, [], length};
 ghost use Rattle.std.specs.Option.{option_map};
 ghost use Rattle.tb_records.specs.Ordered.{Each, put, replaced, taken_out};
 ghost use Rattle.tb_sessions.specs.Judged.{class_of, client_of, row_of};
@@ -102,10 +102,10 @@ impl Sessions {
         ensures table { self.new ≡ record self.old { rows = admitted self.old.clients_max self.old.rows row } }
         ensures left { result ≡ leaving self.old.clients_max self.old.rows row }
     {
-        let row = match self.renew(row) {
-            Ok(old) => return Some(old),
-            Err(row) => row,
-        };
+        let mut row = row;
+        if self.renew(&mut row) {
+            return Some(row);
+        }
         let gone = if self.rows.len() < self.clients_max {
             None
         } else {
@@ -115,26 +115,23 @@ impl Sessions {
         gone
     }
 
-    /// Puts a row in the place of its client's row, which comes back; or the row itself, of a client without one.
-    fn renew(&mut self, row: Row) -> Result<Row, Row>
-        requires later { Each (λ (other : Row). other.commit < row.commit) self.old.rows }
-        ensures renewed { IfOk result
-            (λ old.
-            (row_of self.old.rows row.client ≡ Some old)
-            × (self.new ≡ record self.old { rows = replaced client_of row self.old.rows })) }
-        ensures absent { IfErr result
-            (λ back.
-            (back ≡ row)
-            × (row_of self.old.rows row.client ≡ None)
-            × (self.new ≡ self.old)) }
+    /// Exchanges a row and that of its client, where the client has one, and says that it has.
+    fn renew(&mut self, row: &mut Row) -> bool
+        requires later { Each (λ (other : Row). other.commit < row.old.commit) self.old.rows }
+        ensures renewed { result ≡ true
+            → (row_of self.old.rows row.old.client ≡ Some row.new)
+            × (self.new ≡ record self.old { rows = replaced client_of row.old self.old.rows }) }
+        ensures absent { result ≡ false
+            → (row.new ≡ row.old)
+            × (row_of self.old.rows row.old.client ≡ None)
+            × (self.new ≡ self.old) }
     {
-        match self.rows.set(row.client, row) {
-            Ok(old) => {
-                bring_up(self.clients_max, &self.rows, &mut self.clients);
-                Ok(old)
-            }
-            Err(row) => Err(row),
+        let client = row.client;
+        if !self.rows.exchange(&client, row) {
+            return false;
         }
+        bring_up(self.clients_max, &self.rows, &mut self.clients);
+        true
     }
 
     /// Takes the row of least commit out.

@@ -8,7 +8,7 @@ use Rattle.tb_sessions.proofs.table.Sessions.record.Goals.{then-len-self, else-l
 
 pub put_in-requires-clause-absent : goal.put_in-requires-clause-absent
 put_in-requires-clause-absent c =
-    let unchanged = c.in-Err.ensures.absent in
+    let unchanged = c.renew.ensures.absent c.if-renew.false in
     let row = unchanged.0 in
     let same = unchanged.2 in
     elim c.if-len-self.branch [
@@ -18,7 +18,7 @@ put_in-requires-clause-absent c =
 
 pub put_in-requires-clause-later : goal.put_in-requires-clause-later
 put_in-requires-clause-later c =
-    let unchanged = c.in-Err.ensures.absent in
+    let unchanged = c.renew.ensures.absent c.if-renew.false in
     let row = unchanged.0 in
     let same = unchanged.2 in
     elim c.if-len-self.branch [
