@@ -6,6 +6,7 @@ ghost use Rattle.tb_ledger.specs.Kept.{books_in, IsKept, PrecedesTimeouts};
 pub(crate) mod chains;
 pub(crate) mod events;
 mod results;
+pub(crate) mod room;
 
 use crate::batches::chains::{block_length, run_block};
 use crate::batches::events::Event;

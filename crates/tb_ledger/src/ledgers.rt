@@ -1,5 +1,5 @@
 //! The ledger: its books, kept in rows.
-ghost use Rattle.std.specs.Prelude.{◌≡◌, ◌+◌, ◌<◌, ◌≤◌, ◌++◌, max, true, length, IfOk, OnOk, OnErr, vec_len, vec_capacity};
+ghost use Rattle.std.specs.Prelude.{◌≡◌, ◌+◌, ◌*◌, ◌<◌, ◌≤◌, ◌++◌, [], max, true, length, IfOk, OnOk, OnErr, vec_len, vec_capacity};
 ghost use Rattle.tb_ledger.specs.Batches.{account_events, batch_after, results, transfer_events};
 ghost use Rattle.tb_ledger.specs.Books.{account_now, empty_books, found_accounts, found_transfers, moved_to_two, profile_of, transfer_at};
 ghost use Rattle.tb_ledger.specs.Kept.{books_in, IsKept};
@@ -8,11 +8,12 @@ ghost use Rattle.tb_ledger.specs.Tables.{IsShortSearch};
 ghost use Rattle.tb_ledger.specs.Verdicts.{max_time};
 
 use crate::batches::events::Event;
+use crate::batches::room::{Room, SMALL_BATCH, make_room};
 use crate::batches::run_batch;
 use crate::changes::expiry::expire;
 use crate::lookups;
 use crate::tables::rows::Rows;
-use crate::tables::trail::Trail;
+use crate::tables::trail::TRAIL_PER_EVENT;
 use std::alloc::{AllocError, Allocator, Global};
 use std::marker::Model;
 use tb_records::{Account, EventResult, Profile, Transfer};
@@ -27,6 +28,8 @@ use tb_records::{Account, EventResult, Profile, Transfer};
 pub struct Ledger<A: Allocator + Clone> {
     alloc: A,
     rows: Rows<A>,
+    /// What a small batch made last, for the next one.
+    kept: Option<Room<A>>,
 }
 
 impl<A: Allocator + Clone> Model for Ledger<A> {
@@ -62,9 +65,40 @@ fn reserve_transfers<A: Allocator + Clone>(
     Ok(())
 }
 
-/// Enters a batch at the time `t`, where there is room for its records: expires to `t`, then takes the events.
+/// Enters a batch at the time `t`, where there is room for its records, its changes and its results: expires to `t`, then takes
+/// the events.
+fn enter_within<E: Event, A: Allocator + Clone>(
+    rows: &mut Rows<A>,
+    room: &mut Room<A>,
+    global: Global,
+    t: u64,
+    events: &[E],
+) -> Vec<EventResult>
+    requires kept { IsKept rows.old }
+    requires room { length events.now ≤ E.room rows.old.accounts.spare rows.old.transfers.spare }
+    requires timeouts_room { E.HasTimeoutRoom (length events.now) rows.old.timeouts.spare }
+    requires ids { E.HasIdRoom (length events.now) rows.old.keeps_failed rows.old.failed.spare }
+    requires trail_room { TRAIL_PER_EVENT * length events.now ≤ room.old.trail.capacity }
+    requires results_room { length events.now ≤ vec_capacity room.old.refused }
+    requires no_result { room.old.refused.items ≡ [] }
+    requires count { length events.now ≤ 8190 }
+    requires later { rows.old.time + max (length events.now) 1 ≤ t }
+    requires in_range { t ≤ max_time }
+    ensures kept { IsKept rows.new }
+    ensures books { books_in rows.new ≡ (batch_after E.kind (books_in rows.old) events.now t).books }
+    ensures results { result.items ≡ results (batch_after E.kind (books_in rows.old) events.now t).codes }
+{
+    let first = t + 1 - events.len() as u64;
+    expire(rows, t);
+    run_batch(rows, &mut room.trail, &mut room.refused, events, first);
+    room.hand_out(global)
+}
+
+/// Enters a batch at the time `t`, where there is room for its records, in the room that the last small batch left. That of a
+/// large one is let go.
 fn enter<E: Event, A: Allocator + Clone>(
     rows: &mut Rows<A>,
+    kept: &mut Option<Room<A>>,
     alloc: &A,
     global: Global,
     t: u64,
@@ -84,11 +118,12 @@ fn enter<E: Event, A: Allocator + Clone>(
         (λ r. r.items ≡ results (batch_after E.kind (books_in rows.old) events.now t).codes) }
     ensures err { OnErr result (books_in rows.new ≡ books_in rows.old) }
 {
-    let n = events.len();
-    let mut trail = Trail::with_room(alloc.clone()?, n)?;
-    let mut refused = Vec::with_capacity(global, n)?;
-    expire(rows, t);
-    run_batch(rows, &mut trail, &mut refused, events, t + 1 - n as u64);
+    make_room(kept, alloc, global, events.len())?;
+    let Some(room) = kept else { unreachable!() };
+    let refused = enter_within(rows, room, global, t, events);
+    if events.len() > SMALL_BATCH {
+        *kept = None;
+    }
     Ok(refused)
 }
 
@@ -100,6 +135,7 @@ impl<A: Allocator + Clone> Ledger<A> {
         Ledger {
             alloc,
             rows: Rows::new(profile),
+            kept: None,
         }
     }
 
@@ -193,7 +229,14 @@ impl<A: Allocator + Clone> Ledger<A> {
         ensures err { OnErr result (self.new ≡ self.old) }
     {
         self.rows.accounts.reserve(&self.alloc, events.len())?;
-        enter(&mut self.rows, &self.alloc, global, t, events)
+        enter(
+            &mut self.rows,
+            &mut self.kept,
+            &self.alloc,
+            global,
+            t,
+            events,
+        )
     }
 
     /// Creates transfers, as an entry of the time `t`, in the way of [`Ledger::create_accounts`]: single transfers, pending
@@ -213,7 +256,14 @@ impl<A: Allocator + Clone> Ledger<A> {
         ensures err { OnErr result (self.new ≡ self.old) }
     {
         reserve_transfers(&mut self.rows, &self.alloc, events.len())?;
-        enter(&mut self.rows, &self.alloc, global, t, events)
+        enter(
+            &mut self.rows,
+            &mut self.kept,
+            &self.alloc,
+            global,
+            t,
+            events,
+        )
     }
 
     /// Accounts as they stand, in the order of the ids: one that isn't there is left out, one asked twice is answered twice.

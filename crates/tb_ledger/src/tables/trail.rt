@@ -1,5 +1,5 @@
 //! The trail of a chain's changes, by which a chain that breaks is undone.
-ghost use Rattle.std.specs.Prelude.{◌≡◌, ◌*◌, ◌+◌, ◌<◌, ◌≤◌, ◌++◌, [], ◌∷◌, length, IfOk, IfSome, IfNone};
+ghost use Rattle.std.specs.Prelude.{◌≡◌, ◌*◌, ◌+◌, ◌<◌, ◌≤◌, ◌++◌, true, [], ◌∷◌, length, IfOk, IfSome, IfNone};
 ghost use Rattle.tb_ledger.specs.Trail.{unwound_accounts, unwound_transfers, unwound_timeouts, CanUnwind};
 ghost use Rattle.tb_ledger.specs.Noted.{with_noted, NotesPair};
 
@@ -53,6 +53,14 @@ impl<A: Allocator + Clone> Trail<A> {
     {
         let log = Vec::with_capacity(alloc, TRAIL_PER_EVENT * events)?;
         Ok(Trail { log, noting: false })
+    }
+
+    /// There is room for the changes of so many events.
+    pub fn has_room(&self, events: usize) -> bool
+        requires { events ≤ 8190 }
+        ensures { result ≡ true → TRAIL_PER_EVENT * events ≤ self.now.capacity }
+    {
+        TRAIL_PER_EVENT * events <= self.log.capacity()
     }
 
     /// Begins a chain, whose changes are noted or not.

@@ -1,5 +1,5 @@
 use Rattle.std.proofs.Common.{length, arith}
-use Rattle.tb_ledger.proofs.ledgers.enter.Goals as goal
+use Rattle.tb_ledger.proofs.ledgers.enter_within.Goals as goal
 
 pub run_batch-requires-clause-timeouts_room : goal.run_batch-requires-clause-timeouts_room
 run_batch-requires-clause-timeouts_room g c =
