@@ -46,7 +46,7 @@ entry_comes S p lawful entered =
     }
 
 module _ (profile : Profile) (clients_max : ℕ) where
-  legal_with : (h : List Entry) (p : Pair) → IsLegal profile clients_max h → IsTrue (is_lawful p.1) → IsLegal profile clients_max (with_pair profile clients_max h p)
+  pub legal_with : (h : List Entry) (p : Pair) → IsLegal profile clients_max h → IsTrue (is_lawful p.1) → IsLegal profile clients_max (with_pair profile clients_max h p)
   legal_with h p legal lawful = parts (is_entered (after profile clients_max h) p) refl
     where
       parts : (b : Bool) → is_entered (after profile clients_max h) p ≡ b → IsLegal profile clients_max (cond b (h ++ entry_of (after profile clients_max h) p ∷ []) h)

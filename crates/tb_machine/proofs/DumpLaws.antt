@@ -41,7 +41,7 @@ one_row (e ∷ h) (f ∷ k) xs ys all each ends stops is =
     let rest = one_row h k xs ys all.1 each.1 ends stops first.1 in
     ((λ i. first.0 i ∷ rest.0 i), rest.1)
 
-each_split : {X : Type 0} (P : X → Type 0) (xs ys : List X) → Each P (xs ++ ys) → Each P xs × Each P ys
+pub each_split : {X : Type 0} (P : X → Type 0) (xs ys : List X) → Each P (xs ++ ys) → Each P xs × Each P ys
 each_split P [] ys each = (tt, each)
 each_split P (x ∷ xs) ys each = let rest = each_split P xs ys each.1 in ((each.0, rest.0), rest.1)
 

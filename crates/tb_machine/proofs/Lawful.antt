@@ -17,15 +17,16 @@ use Rattle.tb_machine.specs.Histories.{at_time, executed, found}
 pub record LawfulNumbers (r : Message) : Type 0 where
   pub client : r.client ≢ 0
   pub register : is_register r.body ≡ true → r.request ≡ 0
+  pub session : is_register r.body ≡ true → r.session ≡ 0
   pub numbered : is_register r.body ≡ false → r.request ≢ 0
   pub few : item_count r.body ≤ items_max
 
 lines : (client register session number many : Bool)
     → first_fault ((client, fault.ClientZero) ∷ (register && not (session && number), fault.RegisterNumbers) ∷ (not register && number, fault.RequestZero) ∷ (many, fault.TooMany) ∷ []) ≡ None
-    → (client ≡ false) × (register ≡ true → number ≡ true) × (register ≡ false → number ≡ false) × (many ≡ false)
+    → (client ≡ false) × (register ≡ true → (session ≡ true) × (number ≡ true)) × (register ≡ false → number ≡ false) × (many ≡ false)
 lines true register session number many e = absurd cc
 lines false true true true true e = absurd cc
-lines false true true true false e = (refl, λ _. refl, λ is. absurd cc, refl)
+lines false true true true false e = (refl, λ _. (refl, refl), λ is. absurd cc, refl)
 lines false true true false many e = absurd cc
 lines false true false number many e = absurd cc
 lines false false session true many e = absurd cc
@@ -37,7 +38,8 @@ lawful_numbers r lawful =
     let line = lines (eqb r.client 0) (is_register r.body) (eqb r.session 0) (eqb r.request 0) (ltb items_max (item_count r.body)) lawful in
     record {
       client = apart line.0;
-      register = λ is. eqb-true r.request 0 (line.1 is);
+      register = λ is. eqb-true r.request 0 (line.1 is).1;
+      session = λ is. eqb-true r.session 0 (line.1 is).0;
       numbered = λ is. apart (line.2 is);
       few = ltb-false items_max (item_count r.body) line.3;
     }

@@ -20,3 +20,6 @@ pub mod ReachedBy
 pub mod MarkLeads
 pub mod MarkLegal
 pub mod IdsRising
+pub mod CodesFit
+pub mod BooksFit
+pub mod RepliesFit

@@ -13,7 +13,7 @@ use Rattle.tb_machine.specs.Dumps.{marked_after, after_with, IsLegalWith}
 use Rattle.tb_machine.specs.MarkedLaws.{LimitsHoldWith, LedgersBalanceWith}
 use Rattle.tb_machine.proofs.Judging.{may_come}
 
-sound_executed : (B : Books) (body : Body) (time : ℕ) → B.time ≤ time → Sound B → Sound (executed B body time)
+pub sound_executed : (B : Books) (body : Body) (time : ℕ) → B.time ≤ time → Sound B → Sound (executed B body time)
 sound_executed B Register time later sound = sound_later B time later sound
 sound_executed B (CreateAccounts events) time later sound = sound_accounts B events time later sound
 sound_executed B (CreateTransfers events) time later sound = sound_transfers B events time later sound

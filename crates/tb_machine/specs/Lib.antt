@@ -13,6 +13,7 @@ pub mod HistoryLaws
 pub mod MarkedLaws
 pub mod Settling
 pub mod ScriptLaws
+pub mod ReplyLaws
 pub mod WorkedRows
 -- what private functions alone cite
 pub mod Serving

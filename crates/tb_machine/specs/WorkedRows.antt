@@ -8,7 +8,7 @@ use Rattle.tb_records.specs.declared.bodies.ReplyBody.TheVariants.{Empty, Result
 use Rattle.tb_records.specs.declared.replies.Status.TheVariants as status
 use Rattle.tb_records.specs.declared.limits.Profile.TheVariants.{One, Two}
 use Rattle.tb_records.specs.Messages.{Message, Answer, asked, answered, status_code}
-use Rattle.tb_ledger.specs.Verdicts.{max_time}
+use Rattle.tb_ledger.specs.Verdicts.{int_max, max_time}
 use Rattle.tb_ledger.specs.Books.{profile_of}
 use Rattle.tb_machine.specs.declared.entries.Entry.{Entry}
 use Rattle.tb_machine.specs.declared.restoring.Unfit.TheVariants.{Commit, Time, NotNew}
@@ -92,6 +92,19 @@ Refusals =
     ≡ (0, 1, 1) ∷ (0, 1, 2) ∷ (0, 1, 3) ∷ (0, 1, 4)
     ∷ (0, 1, 4) ∷ (4, 1, 0) ∷ (5, 1, 0) ∷ (6, 1, 0) ∷ (3, 2, 0) ∷ (2, 0, 0) ∷ (1, 1, 0) ∷ [])
     × (entered 2 (first_requests ++ refused_requests) ≡ 4)
+
+-- client 7 moves the greatest amount, 2^128 - 1, from account 1 to account 2, and 1 more, by which account 1's debits would
+-- overflow: the second transfer is refused (49), and account 2's sum is the greatest that has a frame
+abbrev greatest : Message
+greatest = asked 7 1 2 (CreateTransfers (transfer 11 1 2 int_max ∷ transfer 12 1 2 1 ∷ []))
+
+abbrev pub GreatestSum : Type 0
+GreatestSum = replies_to One 2 (script (register 7 ∷ accounts ∷ greatest ∷ asked 7 1 3 (LookupAccounts (2 ∷ [])) ∷ []))
+    ≡ answered 7 1 0 2 status.Reply 1 Empty
+    ∷ answered 7 1 1 129 status.Reply 2 (Results [])
+    ∷ answered 7 1 2 130 status.Reply 3 (Results (record { index = 1; result = 49 } ∷ []))
+    ∷ answered 7 1 3 131 status.Reply 4 (Accounts (record (account 2) { credits_posted = int_max; timestamp = 12 } ∷ []))
+    ∷ []
 
 -- two places: client 9 drives out 8, whose reply has the least commit number, though 7 has the least session; 8 then
 -- drives out 7, and 7's old register 9

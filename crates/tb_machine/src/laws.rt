@@ -1,6 +1,7 @@
 //! The laws of legal histories, over the definitions alone. A call does nothing; its promise is the law.
 ghost use Rattle.tb_machine.specs.Dumps.{OneDump};
 ghost use Rattle.tb_machine.specs.ScriptLaws.{AcceptedIsLegal, RepliesAreOfHistory, ServedAreLawful};
+ghost use Rattle.tb_machine.specs.ReplyLaws.{RepliesFit, RepliesReadBack, AnswersFit, GivenFit, AcceptedAreRequests};
 ghost use Rattle.tb_machine.specs.MarkedLaws.{OneKeyWith, FirstReplyWith, NotNewAgainWith, StaysOutWith, LimitsHoldWith, LedgersBalanceWith};
 ghost use Rattle.tb_machine.specs.MarkedLaws.{NextIsLegalWith, MovedIsLegalWith, AcceptedIsLegalWith, DumpedIsLegal};
 ghost use Rattle.tb_machine.specs.Recording.{OneRecord};
@@ -49,6 +50,21 @@ pub fn accepted_is_legal()
 /// holds it, or refused.
 pub fn replies_are_of_history()
     ensures { RepliesAreOfHistory }
+{}
+
+/// The replies to a script of requests have frames, whatever their moments are: the numbers of each fit their fields and go
+/// together. So what spells them spells no other replies.
+pub fn replies_fit()
+    ensures fit { RepliesFit }
+    ensures read_back { RepliesReadBack }
+{}
+
+/// After a legal history of requests, with a mark or none, the answer to each request has a frame, a refusal too; and so has
+/// the reply to each entry. A history that a script of requests makes is one of requests.
+pub fn answers_fit()
+    ensures answers { AnswersFit }
+    ensures given { GivenFit }
+    ensures held { AcceptedAreRequests }
 {}
 
 /// The requests that `run` served keep the rules, where the reader tells its bytes.

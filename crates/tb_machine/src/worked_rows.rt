@@ -1,5 +1,5 @@
 //! Worked rows: scripts, and what the definitions answer to them, computed. A call does nothing; its promise is the row.
-ghost use Rattle.tb_machine.specs.WorkedRows.{FirstRequests, Refusals, Eviction, EndOfTime, EvictionStorm, UnfitEntries, MarkedHistory};
+ghost use Rattle.tb_machine.specs.WorkedRows.{FirstRequests, Refusals, GreatestSum, Eviction, EndOfTime, EvictionStorm, UnfitEntries, MarkedHistory};
 
 /// A register, the same again, two accounts, their lookup, a transfer.
 pub fn first_requests()
@@ -9,6 +9,11 @@ pub fn first_requests()
 /// A repeat, and one refusal of each status.
 pub fn refusals()
     ensures { Refusals }
+{}
+
+/// The greatest sum of an account, and a transfer by which it would overflow.
+pub fn greatest_sum()
+    ensures { GreatestSum }
 {}
 
 /// The client whose reply has the least commit number loses its session.
