@@ -1,14 +1,14 @@
 -- The tables give what the bits give.
-use Rattle.std.proofs.Common.{◌≡◌, ℕ, zero, suc, ◌+◌, ◌*◌, ◌/◌, ◌%◌, ◌^◌, ◌<◌, ◌≤◌, ◌==◌, ◌&&◌, ◌⊎◌, inl, inr, ⊎_elim, subst, Bool, true, false, List, [], ◌∷◌, ◌++◌, get_or, length, take, drop, take_all, length-drop, ◌-◌, refl, sym, ◌∙◌, ap, arith, lit<, if◌then◌else◌}
+use Rattle.std.proofs.Common.{◌≡◌, ℕ, zero, suc, ◌+◌, ◌*◌, ◌/◌, ◌%◌, ◌^◌, ◌<◌, ◌≤◌, ◌==◌, ◌&&◌, subst, Bool, true, false, List, [], ◌∷◌, ◌++◌, get_or, length, take, drop, take_all, length-drop, ◌-◌, refl, sym, ◌∙◌, ap, arith, lit<, if◌then◌else◌}
 use Rattle.std.proofs.Math.Nat.{mul_assoc, pow-suc}
 use Rattle.std.proofs.lemmas.Nat.{xor_comm, xor_block, xor_lt, xor_shr, xor_mod, and_mask, pow_pos, shr_split, mod_below}
 use Rattle.std.proofs.lemmas.List.{get_or-drop}
-use Rattle.std.proofs.lemmas.Bool.{cases_lt}
 use Rattle.std.proofs.lemmas.Bool.Decides.{Decides-eqb}
 use Rattle.std.specs.Prelude.{bit_and}
-use Rattle.tb_journal.specs.declared.checksums.TheConstants.{NEAR, FAR}
+use Rattle.tb_journal.specs.declared.tables.TheConstants.{REMAINDERS}
 use Rattle.std.specs.Int.Bits.{bit_xor, xor_assoc, xor_zero_l, xor_zero_r}
 use Rattle.tb_journal.specs.Checksum.{bit_on, byte_on, remainder, zeros_on}
+use Rattle.tb_journal.proofs.Walks.{drop_parts}
 
 -- what a bit adds
 turned : ℕ → ℕ
@@ -67,7 +67,7 @@ steps_high (suc k) h l small =
     halved : (l q : ℕ) → l < q * 2 → l / 2 < q
     halved l q h = omega arith
 
-pub byte_high : (c : ℕ) → byte_on c ≡ bit_xor (byte_on (c % 256)) (c / 256)
+byte_high : (c : ℕ) → byte_on c ≡ bit_xor (byte_on (c % 256)) (c / 256)
 unfolding steps byte_on
 byte_high c =
     let small : c % 256 < 256 = omega arith in
@@ -117,80 +117,83 @@ zeros_both (suc k) a b = ap (zeros_on k) (byte_both a b) ∙ zeros_both k (byte_
 
 -- the tables
 
--- each of these is what one byte of zeros makes of the one before, and the first what it makes of c
-follow : ℕ → ℕ → List ℕ → Bool
-follow zero c xs = true
-follow (suc n) c [] = false
-follow (suc n) c (x ∷ xs) = (x == byte_on c) && follow n x xs
+-- each of these is what one byte of zeros makes of the one at its place, and so on
+each_on : List ℕ → List ℕ → Bool
+each_on [] [] = true
+each_on [] (y ∷ ys) = false
+each_on (x ∷ xs) [] = false
+each_on (x ∷ xs) (y ∷ ys) = (y == byte_on x) && each_on xs ys
+
+rows_on : List ℕ → List (List ℕ) → Bool
+rows_on xs [] = true
+rows_on xs (ys ∷ rows) = each_on xs ys && rows_on ys rows
 
 both_true : (a b : Bool) → (a && b) ≡ true → (a ≡ true) × (b ≡ true)
 both_true true true is = (refl, refl)
 both_true true false is = absurd (cc)
 both_true false b is = absurd (cc)
 
-follow_gives : (n c k : ℕ) (xs : List ℕ) → follow n c xs ≡ true → k < n → get_or xs k 0 ≡ zeros_on (suc k) c
-unfolding follow
-follow_gives zero c k xs is less = absurd (omega (arith, less))
-follow_gives (suc n) c k [] is less = absurd (cc)
-follow_gives (suc n) c zero (x ∷ xs) is less = (Decides-eqb x (byte_on c)).0 (both_true (x == byte_on c) (follow n x xs) is).0
-follow_gives (suc n) c (suc k) (x ∷ xs) is less =
-    let parts = both_true (x == byte_on c) (follow n x xs) is in
-    follow_gives n x k xs parts.1 (omega (arith, less)) ∙ ap (zeros_on (suc k)) ((Decides-eqb x (byte_on c)).0 parts.0)
+each_long : (xs ys : List ℕ) → each_on xs ys ≡ true → length ys ≡ length xs
+unfolding each_on
+each_long [] [] is = refl
+each_long [] (y ∷ ys) is = absurd (cc)
+each_long (x ∷ xs) [] is = absurd (cc)
+each_long (x ∷ xs) (y ∷ ys) is = ap suc (each_long xs ys (both_true (y == byte_on x) (each_on xs ys) is).1)
 
-near_row : ℕ → List ℕ
-near_row p = get_or NEAR p []
+each_gives : (xs ys : List ℕ) (p : ℕ) → each_on xs ys ≡ true → p < length xs → get_or ys p 0 ≡ byte_on (get_or xs p 0)
+unfolding each_on
+each_gives [] ys p is less = absurd (omega (arith, less))
+each_gives (x ∷ xs) [] p is less = absurd (cc)
+each_gives (x ∷ xs) (y ∷ ys) zero is less = (Decides-eqb y (byte_on x)).0 (both_true (y == byte_on x) (each_on xs ys) is).0
+each_gives (x ∷ xs) (y ∷ ys) (suc p) is less = each_gives xs ys p (both_true (y == byte_on x) (each_on xs ys) is).1 (omega (arith, less))
 
-far_row : ℕ → List ℕ
-far_row p = get_or FAR p []
+rows_give : (xs : List ℕ) (rows : List (List ℕ)) (k p : ℕ) → rows_on xs rows ≡ true → k < length rows → p < length xs
+    → get_or (get_or rows k []) p 0 ≡ zeros_on (suc k) (get_or xs p 0)
+unfolding rows_on
+rows_give xs [] k p is least less = absurd (omega (arith, least))
+rows_give xs (ys ∷ rows) zero p is least less = each_gives xs ys p (both_true (each_on xs ys) (rows_on ys rows) is).0 less
+rows_give xs (ys ∷ rows) (suc k) p is least less =
+    let parts = both_true (each_on xs ys) (rows_on ys rows) is in
+    let long = each_long xs ys parts.0 in
+    rows_give ys rows k p parts.1 (omega (arith, least)) (omega (arith, less, long)) ∙ ap (zeros_on (suc k)) (each_gives xs ys p parts.0 less)
 
-are_rows : ℕ → Bool
-are_rows zero = true
-are_rows (suc p) = (follow 4 p (near_row p) && follow 4 (get_or (near_row p) 3 0) (far_row p)) && are_rows p
+-- so many numbers, from one on
+numbers : ℕ → ℕ → List ℕ
+numbers zero n = []
+numbers (suc k) n = n ∷ numbers k (n + 1)
 
-record HasRows (p : ℕ) : Type 0 where
-  near : follow 4 p (near_row p) ≡ true
-  far : follow 4 (get_or (near_row p) 3 0) (far_row p) ≡ true
+number_at : (k n p : ℕ) → p < k → get_or (numbers k n) p 0 ≡ n + p
+unfolding numbers
+number_at zero n p less = absurd (omega (arith, less))
+number_at (suc k) n zero less = omega arith
+number_at (suc k) n (suc p) less = number_at k (n + 1) p (omega (arith, less)) ∙ (let e : n + 1 + p ≡ n + suc p = omega arith in e)
 
-rows_below : (n p : ℕ) → are_rows n ≡ true → p < n → HasRows p
-unfolding are_rows
-rows_below zero p all less = absurd (omega (arith, less))
-rows_below (suc n) p all less =
-    let parts = both_true (follow 4 n (near_row n) && follow 4 (get_or (near_row n) 3 0) (far_row n)) (are_rows n) all in
-    let here = both_true (follow 4 n (near_row n)) (follow 4 (get_or (near_row n) 3 0) (far_row n)) parts.0 in
-    ⊎_elim (λ (e : p ≡ n). subst HasRows (sym e) (record { near = here.0; far = here.1 })) (λ (h : p < n). rows_below n p parts.1 h) (last n p less)
-  where
-    last : (n p : ℕ) → p < suc n → (p ≡ n) ⊎ (p < n)
-    last n p h = ⊎_elim (λ (less : p < n). inr less) (λ (le : n ≤ p). inl (omega (arith, h, le))) (cases_lt p n)
+how_many : (k n : ℕ) → length (numbers k n) ≡ k
+unfolding numbers
+how_many zero n = refl
+how_many (suc k) n = ap suc (how_many k (n + 1))
 
-all_rows : are_rows 256 ≡ true
-unfolding are_rows follow near_row far_row byte_on bit_on
+all_rows : rows_on (numbers 256 0) REMAINDERS ≡ true
+unfolding rows_on each_on numbers byte_on bit_on
 all_rows = refl
 
-pub near_is : (p k : ℕ) → p < 256 → k < 4 → get_or (get_or NEAR p []) k 0 ≡ zeros_on (k + 1) p
-unfolding near_row
-near_is p k h less =
-    let next : suc k ≡ k + 1 = omega arith in
-    follow_gives 4 p k (near_row p) (rows_below 256 p all_rows h).near less ∙ ap (λ (n : ℕ). zeros_on n p) next
-
-pub far_is : (p k : ℕ) → p < 256 → k < 4 → get_or (get_or FAR p []) k 0 ≡ zeros_on (k + 5) p
-unfolding near_row far_row
-far_is p k h less =
-    let rows = rows_below 256 p all_rows h in
-    let next : suc (suc (suc (suc (suc k)))) ≡ k + 5 = omega arith in
-    follow_gives 4 (get_or (near_row p) 3 0) k (far_row p) rows.far less
-    ∙ ap (zeros_on (suc k)) (follow_gives 4 p 3 (near_row p) rows.near (lit< tt))
-    ∙ zeros_further (suc k) p
-    ∙ ap (λ (n : ℕ). zeros_on n p) next
-  where
-    zeros_further : (k c : ℕ) → zeros_on k (zeros_on 4 c) ≡ zeros_on (suc (suc (suc (suc k)))) c
-    zeros_further k c = refl
+-- the entry of a byte behind which stand z - 1 bytes of zeros
+pub row_is : (p z : ℕ) → p < 256 → 1 ≤ z → z ≤ 16 → get_or (get_or REMAINDERS (z - 1) []) p 0 ≡ zeros_on z p
+row_is p z small least most =
+    let within : z - 1 < 16 = omega (arith, least, most) in
+    let count : suc (z - 1) ≡ z = omega (arith, least) in
+    let none : 0 + p ≡ p = omega arith in
+    let long = how_many 256 0 in
+    rows_give (numbers 256 0) REMAINDERS (z - 1) p all_rows within (omega (arith, small, long))
+    ∙ ap (zeros_on (suc (z - 1))) (number_at 256 0 p small ∙ none)
+    ∙ ap (λ (k : ℕ). zeros_on k p) count
 
 -- what bytes of zeros make of the four bytes of a remainder
 
 zeros_split : (k c : ℕ) → zeros_on (suc k) c ≡ bit_xor (zeros_on (suc k) (c % 256)) (zeros_on k (c / 256))
 zeros_split k c = ap (zeros_on k) (byte_high c) ∙ zeros_both k (byte_on (c % 256)) (c / 256)
 
-pub zeros_by_rows : (m c : ℕ) → zeros_on (suc (suc (suc (suc m)))) c
+zeros_by_rows : (m c : ℕ) → zeros_on (suc (suc (suc (suc m)))) c
     ≡ bit_xor (bit_xor (bit_xor (zeros_on (suc (suc (suc (suc m)))) (c % 256)) (zeros_on (suc (suc (suc m))) (c / 256 % 256))) (zeros_on (suc (suc m)) (c / 65536 % 256))) (zeros_on (suc m) (c / 16777216))
 zeros_by_rows m c =
     let a = zeros_on (suc (suc (suc (suc m)))) (c % 256) in
@@ -204,7 +207,7 @@ zeros_by_rows m c =
     zeros_split (suc (suc m)) (c / 256) ∙ ap (λ (x : ℕ). bit_xor b (zeros_on (suc (suc m)) x)) two ∙ ap (bit_xor b) third in
     zeros_split (suc (suc (suc m))) c ∙ ap (bit_xor a) second ∙ sym (xor_assoc a b (bit_xor d e)) ∙ sym (xor_assoc (bit_xor a b) d e)
 
-pub rows_make : (m c near mid far last : ℕ) → near ≡ zeros_on (suc (suc (suc (suc m)))) (bit_and c 255) → mid ≡ zeros_on (suc (suc (suc m))) (bit_and (c / 256) 255)
+rows_make : (m c near mid far last : ℕ) → near ≡ zeros_on (suc (suc (suc (suc m)))) (bit_and c 255) → mid ≡ zeros_on (suc (suc (suc m))) (bit_and (c / 256) 255)
     → far ≡ zeros_on (suc (suc m)) (bit_and (c / 65536) 255) → last ≡ zeros_on (suc m) (c / 16777216) → bit_xor (bit_xor (bit_xor near mid) far) last ≡ zeros_on (suc (suc (suc (suc m)))) c
 rows_make m c near mid far last a b d e =
     ap (λ (x : ℕ). bit_xor (bit_xor (bit_xor x mid) far) last) (a ∙ ap (zeros_on (suc (suc (suc (suc m))))) (and_mask c 8))
@@ -212,6 +215,18 @@ rows_make m c near mid far last a b d e =
     ∙ ap (λ (x : ℕ). bit_xor (bit_xor (bit_xor (zeros_on (suc (suc (suc (suc m)))) (c % 256)) (zeros_on (suc (suc (suc m))) (c / 256 % 256))) x) last) (d ∙ ap (zeros_on (suc (suc m))) (and_mask (c / 65536) 8))
     ∙ ap (bit_xor (bit_xor (bit_xor (zeros_on (suc (suc (suc (suc m)))) (c % 256)) (zeros_on (suc (suc (suc m))) (c / 256 % 256))) (zeros_on (suc (suc m)) (c / 65536 % 256)))) e
     ∙ sym (zeros_by_rows m c)
+
+pub word_rows : (z c near mid far last : ℕ) → 4 ≤ z → near ≡ zeros_on z (bit_and c 255) → mid ≡ zeros_on (z - 1) (bit_and (c / 256) 255)
+    → far ≡ zeros_on (z - 2) (bit_and (c / 65536) 255) → last ≡ zeros_on (z - 3) (c / 16777216) → bit_xor (bit_xor (bit_xor near mid) far) last ≡ zeros_on z c
+word_rows z c near mid far last least a b d e =
+    let m = z - 4 in
+    let four : z ≡ suc (suc (suc (suc m))) = omega (arith, least) in
+    let three : z - 1 ≡ suc (suc (suc m)) = omega (arith, least) in
+    let two : z - 2 ≡ suc (suc m) = omega (arith, least) in
+    let one : z - 3 ≡ suc m = omega (arith, least) in
+    rows_make m c near mid far last (a ∙ ap (λ (k : ℕ). zeros_on k (bit_and c 255)) four) (b ∙ ap (λ (k : ℕ). zeros_on k (bit_and (c / 256) 255)) three)
+    (d ∙ ap (λ (k : ℕ). zeros_on k (bit_and (c / 65536) 255)) two) (e ∙ ap (λ (k : ℕ). zeros_on k (c / 16777216)) one)
+    ∙ ap (λ (k : ℕ). zeros_on k c) (sym four)
 
 -- bytes of a number
 
@@ -268,7 +283,7 @@ abbrev pub AreBytes : List ℕ → Type 0
 AreBytes xs = (i : ℕ) → get_or xs i 0 < 256
 
 -- the first eight bytes of a list
-pub eight_of : (s first second far near : ℕ) (xs : List ℕ) → 8 ≤ length xs → AreBytes xs
+eight_of : (s first second far near : ℕ) (xs : List ℕ) → 8 ≤ length xs → AreBytes xs
     → first ≡ number_of (get_or xs 0 0) (get_or xs 1 0) (get_or xs 2 0) (get_or xs 3 0) → second ≡ number_of (get_or xs 4 0) (get_or xs 5 0) (get_or xs 6 0) (get_or xs 7 0)
     → far ≡ zeros_on 8 (bit_xor s first) → near ≡ zeros_on 4 second → remainder (drop 8 xs) (bit_xor far near) ≡ remainder xs s
 eight_of s first second far near [] long small is also u v = absurd (omega (arith, long))
@@ -289,6 +304,36 @@ rest_is k xs = take_all (length xs - k) (drop k xs) (omega (arith, length-drop k
 
 pub bytes_behind : (k : ℕ) (xs : List ℕ) → AreBytes xs → AreBytes (drop k xs)
 bytes_behind k xs small i = subst (λ (b : ℕ). b < 256) (sym (get_or-drop k xs i 0)) (small (k + i))
+
+-- the first sixteen
+pub sixteen_of : (s first second third fourth w x y z : ℕ) (xs : List ℕ) → 16 ≤ length xs → AreBytes xs
+    → first ≡ number_of (get_or xs 0 0) (get_or xs 1 0) (get_or xs 2 0) (get_or xs 3 0) → second ≡ number_of (get_or xs 4 0) (get_or xs 5 0) (get_or xs 6 0) (get_or xs 7 0)
+    → third ≡ number_of (get_or xs 8 0) (get_or xs 9 0) (get_or xs 10 0) (get_or xs 11 0) → fourth ≡ number_of (get_or xs 12 0) (get_or xs 13 0) (get_or xs 14 0) (get_or xs 15 0)
+    → w ≡ zeros_on 16 (bit_xor s first) → x ≡ zeros_on 12 second → y ≡ zeros_on 8 third → z ≡ zeros_on 4 fourth
+    → remainder (drop 16 xs) (bit_xor (bit_xor (bit_xor w x) y) z) ≡ remainder xs s
+sixteen_of s first second third fourth w x y z xs long small f g h i a b d e =
+    let ys = drop 8 xs in
+    let p = zeros_on 8 (bit_xor s first) in
+    let q = zeros_on 4 second in
+    let sum = bit_xor p q in
+    let before : remainder ys sum ≡ remainder xs s = eight_of s first second p q xs (omega (arith, long)) small f g refl refl in
+    let room : 8 ≤ length ys = omega (arith, long, length-drop 8 xs) in
+    let behind : remainder (drop 8 ys) (bit_xor (zeros_on 8 (bit_xor sum third)) z) ≡ remainder ys sum =
+    eight_of sum third fourth (zeros_on 8 (bit_xor sum third)) z ys room (bytes_behind 8 xs small) (h ∙ sym (number_behind xs 0 1 2 3)) (i ∙ sym (number_behind xs 4 5 6 7)) refl e in
+    let mixed : bit_xor (bit_xor w x) y ≡ zeros_on 8 (bit_xor sum third) =
+    ap (λ (n : ℕ). bit_xor (bit_xor n x) y) a ∙ ap (λ (n : ℕ). bit_xor (bit_xor (zeros_on 8 p) n) y) b ∙ ap (bit_xor (bit_xor (zeros_on 8 p) (zeros_on 8 q))) d
+    ∙ ap (λ (n : ℕ). bit_xor n (zeros_on 8 third)) (sym (zeros_both 8 p q)) ∙ sym (zeros_both 8 sum third) in
+    ap (λ (n : ℕ). remainder (drop 16 xs) (bit_xor n z)) mixed
+    ∙ ap (λ (l : List ℕ). remainder l (bit_xor (zeros_on 8 (bit_xor sum third)) z)) (drop_parts 8 8 xs)
+    ∙ behind ∙ before
+  where
+    number_behind : (xs : List ℕ) (a b c d : ℕ)
+        → number_of (get_or (drop 8 xs) a 0) (get_or (drop 8 xs) b 0) (get_or (drop 8 xs) c 0) (get_or (drop 8 xs) d 0) ≡ number_of (get_or xs (8 + a) 0) (get_or xs (8 + b) 0) (get_or xs (8 + c) 0) (get_or xs (8 + d) 0)
+    number_behind xs a b c d =
+        ap (λ (n : ℕ). number_of n (get_or (drop 8 xs) b 0) (get_or (drop 8 xs) c 0) (get_or (drop 8 xs) d 0)) (get_or-drop 8 xs a 0)
+        ∙ ap (λ (n : ℕ). number_of (get_or xs (8 + a) 0) n (get_or (drop 8 xs) c 0) (get_or (drop 8 xs) d 0)) (get_or-drop 8 xs b 0)
+        ∙ ap (λ (n : ℕ). number_of (get_or xs (8 + a) 0) (get_or xs (8 + b) 0) n (get_or (drop 8 xs) d 0)) (get_or-drop 8 xs c 0)
+        ∙ ap (number_of (get_or xs (8 + a) 0) (get_or xs (8 + b) 0) (get_or xs (8 + c) 0)) (get_or-drop 8 xs d 0)
 
 pub after_is : (s b low row : ℕ) → b < 256 → low ≡ bit_and (bit_xor s b) 255 → row ≡ byte_on low → bit_xor row (s / 256) ≡ byte_on (bit_xor s b)
 after_is s b low row small is found =

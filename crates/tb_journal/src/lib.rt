@@ -14,6 +14,7 @@ mod reading;
 mod real;
 mod records;
 mod scanned;
+mod tables;
 
 pub use creating::create;
 pub use devices::Device;
