@@ -458,18 +458,20 @@ fn first_rows(rt: HostRuntime) -> Result<(), Fail> {
     Ok(())
 }
 
+/// Entry 5 has two events, and entry 4 made room for three and left no row: so it asks for none.
 #[test]
 fn broken_chain(rt: HostRuntime) -> Result<(), Fail> {
     for profile in [Profile::One, Profile::Two] {
-        refuse_each(&rt, rt.alloc(), profile, Rows::Chain, &[2, 4, 5])?;
+        refuse_each(&rt, rt.alloc(), profile, Rows::Chain, &[2, 4])?;
     }
     Ok(())
 }
 
+/// Entry 7 has two events, and entry 6 made room for two and left no row: so it asks for none.
 #[test]
 fn pending_rows(rt: HostRuntime) -> Result<(), Fail> {
     for profile in [Profile::One, Profile::Two] {
-        refuse_each(&rt, rt.alloc(), profile, Rows::Pending, &[2, 4, 5, 6, 7])?;
+        refuse_each(&rt, rt.alloc(), profile, Rows::Pending, &[2, 4, 5, 6])?;
     }
     Ok(())
 }
