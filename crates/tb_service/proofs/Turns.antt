@@ -1,5 +1,6 @@
 -- Turns one after another.
-use Rattle.std.proofs.Common.{◌≡◌, ◌≢◌, ℕ, suc, ◌+◌, Bool, true, false, ◌&&◌, if◌then◌else◌, Ok, Err, List, [], ◌∷◌, ◌++◌, length, Some, None, refl, sym, ap, ◌∙◌, subst, append_assoc, append-nil, arith}
+use Rattle.std.proofs.Common.{◌≡◌, ◌≢◌, ℕ, suc, ◌+◌, Bool, true, false, ◌&&◌, if◌then◌else◌, Result, Ok, Err, List, [], ◌∷◌, ◌++◌, length, Option, Some, None, refl, sym, ap, ◌∙◌, subst, append_assoc, append-nil, arith}
+use Rattle.std.specs.Result.{result_err}
 use Rattle.tb_records.specs.Messages.{Message}
 use Rattle.tb_sessions.specs.declared.classes.Class.{Class}
 use Rattle.tb_sessions.specs.declared.classes.Class.TheVariants.{New, Repeat, NoSession, SessionTooLow, NewerSession, Older, Collision, NewerRequest}
@@ -14,7 +15,7 @@ use Rattle.tb_published.specs.declared.faults.Taken.{Taken}
 use Rattle.tb_published.specs.declared.faults.Taken.TheVariants as taken
 use Rattle.tb_published.specs.Lines.{Opening, after_in}
 use Rattle.tb_published.specs.Taking.{Enters}
-use Rattle.tb_service.specs.History.{accepted_in, Turn, requests_at, moments_at, places_at, unless, kept, at_place, refused_from, IsLawful, AreLawful, Leads, Room, Serves, ServesOn}
+use Rattle.tb_service.specs.History.{accepted_in, Turn, requests_at, moments_at, places_at, unless, kept, at_place, refused_from, IsLawful, turn_of, HasTurn, AreLawful, Leads, Room, Serves, ServesOn}
 
 -- lists of turns, one behind the other
 
@@ -118,22 +119,21 @@ module _ {M G : Type 0} (o : Opening) (tells : M → ℕ → M → Type 0) (pass
 
   -- one turn at the place n of a request that is kept, and of one that is left out
 
-  pub serves_on_kept : (x y : Room M G) (n place moment : ℕ) (r : Message) (a : List (ℕ × TakeFault)) → place ≡ n
-      → IsLawful o x.history (record { moment = moment; request = r; fault = None }) → accepted_in o x.history ((moment, r) ∷ []) ≡ y.history
+  pub serves_on_kept : (x y : Room M G) (n place moment : ℕ) (r : Message) (a : List (ℕ × TakeFault)) → place ≡ n → HasTurn o x.history (turn_of moment r None) y.history
       → tells x.moments moment y.moments → passes x.gate place y.gate → ServesOn o tells passes x n (r ∷ []) a a y
-  serves_on_kept x y n place moment r a here lawful history told passed = record {
+  serves_on_kept x y n place moment r a here turn told passed = record {
     more = [];
     added = sym (append-nil a);
-    serves = serves_one x y n (record { moment = moment; request = r; fault = None }) lawful history told (subst (λ (k : ℕ). passes x.gate k y.gate) here passed);
+    serves = serves_one x y n (turn_of moment r None) turn.lawful turn.history told (subst (λ (k : ℕ). passes x.gate k y.gate) here passed);
   }
 
   pub serves_on_refused : (x y : Room M G) (n place moment : ℕ) (r : Message) (f : TakeFault) (a b : List (ℕ × TakeFault)) → place ≡ n → b ≡ a ++ (place, f) ∷ []
-      → IsLawful o x.history (record { moment = moment; request = r; fault = Some f }) → x.history ≡ y.history
+      → HasTurn o x.history (turn_of moment r (Some f)) y.history
       → tells x.moments moment y.moments → passes x.gate place y.gate → ServesOn o tells passes x n (r ∷ []) a b y
-  serves_on_refused x y n place moment r f a b here added lawful history told passed = record {
+  serves_on_refused x y n place moment r f a b here added turn told passed = record {
     more = (n, f) ∷ [];
     added = added ∙ ap (λ (k : ℕ). a ++ (k, f) ∷ []) here;
-    serves = serves_one x y n (record { moment = moment; request = r; fault = Some f }) lawful history told (subst (λ (k : ℕ). passes x.gate k y.gate) here passed);
+    serves = serves_one x y n (turn_of moment r (Some f)) turn.lawful turn.history told (subst (λ (k : ℕ). passes x.gate k y.gate) here passed);
   }
 
 -- what the history does with one request
@@ -164,13 +164,25 @@ module _ (o : Opening) (h m : List Entry) (r : Message) (now : ℕ) where
   stays : class ≢ New → accepted_in o h ((now, r) ∷ []) ≡ h
   stays other = entered_as false (ap (λ (b : Bool). b && has_time here (now, r)) (not_new class other))
 
-  pub accepts : (t : Taken) → Enters o h r now (Ok t) m
-      → IsLawful o h (record { moment = now; request = r; fault = None }) × (accepted_in o h ((now, r) ∷ []) ≡ m)
-  accepts (taken.Committed c) e = ((λ _. e.1), entered_as true (ap (λ (k : Class). is_new k && has_time here (now, r)) e.0 ∙ e.1) ∙ sym e.3)
-  accepts (taken.Repeat c) e = let other : class ≢ New = λ new. cc in ((λ new. absurd (other new)), stays other ∙ sym e.2)
-  accepts (taken.Refused s) e = ((λ new. absurd (e.0 new)), stays e.0 ∙ sym e.3)
+  accepts : (t : Taken) → Enters o h r now (Ok t) m → HasTurn o h (turn_of now r None) m
+  accepts (taken.Committed c) e = record {
+    lawful = λ _. e.1;
+    history = entered_as true (ap (λ (k : Class). is_new k && has_time here (now, r)) e.0 ∙ e.1) ∙ sym e.3;
+  }
+  accepts (taken.Repeat c) e = let other : class ≢ New = λ new. cc in record { lawful = λ new. absurd (other new); history = stays other ∙ sym e.2 }
+  accepts (taken.Refused s) e = record { lawful = λ new. absurd (e.0 new); history = stays e.0 ∙ sym e.3 }
 
-  pub refuses : (f : TakeFault) → Enters o h r now (Err f) m → IsLawful o h (record { moment = now; request = r; fault = Some f }) × (h ≡ m)
-  refuses fault.NoMemory e = ((e.0, e.1), sym e.2)
-  refuses fault.TimeExhausted e = ((e.0, e.1), sym e.2)
+  refuses : (f : TakeFault) → Enters o h r now (Err f) m → HasTurn o h (turn_of now r (Some f)) m
+  refuses fault.NoMemory e = record { lawful = (e.0, e.1); history = sym e.2 }
+  refuses fault.TimeExhausted e = record { lawful = (e.0, e.1); history = sym e.2 }
   refuses (fault.Unpublished c) e = absurd e
+
+-- what the entering of a request answers
+pub has_turn : (o : Opening) (h m : List Entry) (r : Message) (now : ℕ) (answer : Result Taken TakeFault) (left_out : Option TakeFault) → left_out ≡ result_err answer
+    → Enters o h r now answer m → HasTurn o h (turn_of now r left_out) m
+has_turn o h m r now (Ok t) None is entered = accepts o h m r now t entered
+has_turn o h m r now (Ok t) (Some f) is entered = absurd cc
+has_turn o h m r now (Err f) None is entered = absurd cc
+has_turn o h m r now (Err f) (Some g) is entered =
+    let same : f ≡ g = cc in
+    subst (λ (k : TakeFault). HasTurn o h (turn_of now r (Some k)) m) same (refuses o h m r now f entered)

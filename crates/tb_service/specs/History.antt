@@ -65,6 +65,14 @@ Fares class timely (Some (fault.Unpublished c)) = ⊥
 abbrev pub IsLawful : Opening → List Entry → Turn → Type 0
 IsLawful o h t = let S = after_in o h in Fares (class_of S.rows t.request) (has_time S (t.moment, t.request)) t.fault
 
+abbrev pub turn_of : ℕ → Message → Option TakeFault → Turn
+turn_of moment r fault = record { moment = moment; request = r; fault = fault }
+
+-- a turn makes the history m of h
+pub record HasTurn (o : Opening) (h : List Entry) (t : Turn) (m : List Entry) : Type 0 where
+  pub lawful : IsLawful o h t
+  pub history : accepted_in o h (unless t.fault (t.moment, t.request)) ≡ m
+
 -- each turn after what the earlier ones made of h
 abbrev pub AreLawful : Opening → List Entry → List Turn → Type 0
 AreLawful o h [] = Unit {0}

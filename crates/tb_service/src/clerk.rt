@@ -1,15 +1,24 @@
 //! What the requests of an order do to the history, each in its turn.
 ghost use Rattle.std.specs.Prelude.{◌≡◌, ◌+◌, ◌≤◌, ◌<◌, [], ◌∷◌, ◌++◌, length, vec_len, vec_capacity, OnOk};
+ghost use Rattle.tb_service.specs.History.{turn_of, HasTurn};
 
 use crate::gates::{Gate, Moments};
 use crate::orders::{Order, What};
 use std::alloc::AllocError;
 use std::sync::Wait;
-use tb_published::{Held, Naming, TakeFault};
+use tb_published::{Held, Naming, Publisher, TakeFault};
 use tb_records::Request;
 
 /// An order has at most this many requests.
 const REQUESTS_MAX: usize = 8;
+
+/// A request has its turn at a moment: it is entered where it is new. Tells the fault that leaves it out, if there is one.
+#[tactic(auto, using(crate::proofs::Turns::has_turn))]
+fn enter<J: Naming>(publisher: &mut Publisher<J>, request: Request, now: u64) -> Option<TakeFault>
+    ensures { HasTurn J.opening publisher.old.history (turn_of now request result) publisher.new.history }
+{
+    publisher.enter(request, now).err()
+}
 
 /// Enters requests, and keeps the port of each place and the refusals.
 #[derive(Drop)]
@@ -50,7 +59,7 @@ impl<J: Naming, W: Wait + Drop, M: Moments + Drop, G: Gate + Drop> Clerk<J, W, M
         let place = self.ports.len() as u64;
         self.gate.pass(place);
         let now = self.moments.now();
-        if let Err(fault) = self.held.publisher.enter(request, now) {
+        if let Some(fault) = enter(&mut self.held.publisher, request, now) {
             self.refused.push_reserved((place, fault));
         }
     }
