@@ -31,10 +31,12 @@ pub fn enter_once<A: Allocator + Clone>(
     ensures left { IfErr result (λ _. machine.new ≡ machine.old) }
 {
     if !matches!(machine.class(&request), Class::New) {
+        drop(request);
         return Err(Left::NotNew);
     }
     let events = request.body().event_count() as u64;
     let Some(time) = machine.next_time(now, events) else {
+        drop(request);
         return Err(Left::NoTime);
     };
     let commit = machine.commit() + 1;
@@ -43,5 +45,11 @@ pub fn enter_once<A: Allocator + Clone>(
         time,
         request,
     };
-    machine.enter(entry).map_err(|_| Left::NoMemory)
+    match machine.enter(entry) {
+        Ok(()) => Ok(()),
+        Err(back) => {
+            drop(back);
+            Err(Left::NoMemory)
+        }
+    }
 }

@@ -48,8 +48,21 @@ pub fn ask_two<J: Naming>(
     let second = two.answer(request);
     let within = are_within(publisher, one, two);
     match (first, second) {
-        (Ok(first), Ok(second)) if within => Ok(Some((first, second))),
-        (Err(fault), _) | (_, Err(fault)) => Err(fault),
-        _ => Ok(None),
+        (Ok(first), Ok(second)) => {
+            if within {
+                return Ok(Some((first, second)));
+            }
+            drop(first);
+            drop(second);
+            Ok(None)
+        }
+        (Err(fault), second) => {
+            drop(second);
+            Err(fault)
+        }
+        (Ok(first), Err(fault)) => {
+            drop(first);
+            Err(fault)
+        }
     }
 }

@@ -43,6 +43,7 @@ pub fn keep(
     ensures back { IfErr result (λ back. (back ≡ request) × (sessions.new ≡ sessions.old)) }
 {
     if !matches!(sessions.classify(&request), Class::New) {
+        drop(reply);
         return Err(request);
     }
     let row = Row {

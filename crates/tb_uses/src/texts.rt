@@ -5,7 +5,7 @@ ghost use Rattle.tb_text.specs.Steps.{Means, Stops};
 
 use std::alloc::{AllocError, Global};
 use tb_records::{Items, Request};
-use tb_text::{TextFault, read_text};
+use tb_text::{Reading, TextFault, read_text};
 
 /// The requests that a text means, each with its moment; or where the text goes wrong.
 pub fn requests_of(
@@ -17,9 +17,12 @@ pub fn requests_of(
         MatchResult read (λ pairs. Means text.now pairs)
         (λ fault. (whole : List (ℕ × Message)) × Stops text.now whole fault.place)) }
 {
-    let reading = read_text(alloc, text)?;
-    match reading.fault {
-        None => Ok(Ok(reading.pairs)),
-        Some(fault) => Ok(Err(fault)),
+    let Reading { pairs, fault } = read_text(alloc, text)?;
+    match fault {
+        None => Ok(Ok(pairs)),
+        Some(fault) => {
+            drop(pairs);
+            Ok(Err(fault))
+        }
     }
 }
