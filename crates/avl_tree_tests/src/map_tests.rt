@@ -1,4 +1,5 @@
 //! The map in use, at the keys that the books have.
+use crate::comparing::{holds, same};
 use crate::limited::Limited;
 use avl_tree::AvlMap;
 use std::alloc::{Allocator, Global};
@@ -13,8 +14,9 @@ fn put<K: Ord + Copy + Default, V: Default + Drop, A: Allocator + Clone>(
     key: K,
     value: V,
 ) {
-    assert!(rt; map.spare() > 0, "no spare node");
-    assert!(rt; map.get(&key).is_none(), "the key is there");
+    if map.spare() == 0 || map.get(&key).is_some() {
+        rt.panic("no spare node, or the key is there");
+    }
     map.insert_reserved(key, value);
 }
 
@@ -33,7 +35,7 @@ fn longest_path(rt: &impl Abort, map: &AvlMap<u32, u64, Global>, last: u32) -> u
     let mut longest = 0;
     for key in 1..=last {
         let (value, visits) = map.probe(&key);
-        assert_eq!(rt; value.copied(), Some(u64::from(key) * 10));
+        same(rt, &value.copied(), &Some(u64::from(key) * 10), &key);
         longest = longest.max(visits);
     }
     longest
@@ -41,23 +43,28 @@ fn longest_path(rt: &impl Abort, map: &AvlMap<u32, u64, Global>, last: u32) -> u
 
 fn probe_seven(rt: &impl Abort, map: &mut AvlMap<u32, u64, Global>) -> Result<(), Fail> {
     put_rising(rt, map, 7)?;
-    assert!(rt; longest_path(rt, map, 7) <= 4);
+    holds(rt, longest_path(rt, map, 7) <= 4, &7);
     Ok(())
 }
 
 fn probe_thousand(rt: &impl Abort, map: &mut AvlMap<u32, u64, Global>) -> Result<(), Fail> {
     put_rising(rt, map, 1000)?;
-    assert!(rt; longest_path(rt, map, 1000) <= 14);
+    holds(rt, longest_path(rt, map, 1000) <= 14, &1000);
     let (value, visits) = map.probe(&1001);
-    assert!(rt; value.is_none());
-    assert!(rt; visits <= 14);
+    holds(rt, value.is_none() && visits <= 14, &1001);
     Ok(())
 }
 
 #[test]
 fn probes_stay_short(rt: HostRuntime) -> Result<(), Fail> {
-    probe_seven(&rt, &mut AvlMap::new_in(rt.alloc()))?;
-    probe_thousand(&rt, &mut AvlMap::new_in(rt.alloc()))
+    let mut map = AvlMap::new_in(rt.alloc());
+    let done = probe_seven(&rt, &mut map);
+    drop(map);
+    done?;
+    let mut map = AvlMap::new_in(rt.alloc());
+    let done = probe_thousand(&rt, &mut map);
+    drop(map);
+    done
 }
 
 /// Eight keys are looked up by one call, two of them absent and one twice.
@@ -73,9 +80,7 @@ fn expect_eight(rt: &impl Abort, map: &AvlMap<u32, u64, Global>) {
         Some(640),
     ];
     let found = map.get_many(&[50, 1, 101, 100, 0, 7, 7, 64]);
-    for (value, wanted) in found.iter().zip(wanted.iter()) {
-        assert_eq!(rt; value.copied(), *wanted);
-    }
+    same(rt, &found.map(|value| value.copied()), &wanted, &"eight");
 }
 
 fn look_eight_up(rt: &impl Abort, map: &mut AvlMap<u32, u64, Global>) -> Result<(), Fail> {
@@ -86,7 +91,10 @@ fn look_eight_up(rt: &impl Abort, map: &mut AvlMap<u32, u64, Global>) -> Result<
 
 #[test]
 fn eight_are_looked_up_at_once(rt: HostRuntime) -> Result<(), Fail> {
-    look_eight_up(&rt, &mut AvlMap::new_in(rt.alloc()))
+    let mut map = AvlMap::new_in(rt.alloc());
+    let done = look_eight_up(&rt, &mut map);
+    drop(map);
+    done
 }
 
 /// The keys from `low` to `high`, below 10, as the digits of a number in the order in which they come.
@@ -102,7 +110,7 @@ fn digits<A: Allocator + Clone>(map: &AvlMap<u64, u128, A>, low: u64, high: u64)
 
 /// The key has this value, or is absent.
 fn expect_value(rt: &impl Abort, map: &AvlMap<u64, u128, Global>, key: u64, value: Option<u128>) {
-    assert_eq!(rt; map.get(&key).copied(), value, "key {key}");
+    same(rt, &map.get(&key).copied(), &value, &key);
 }
 
 /// These are the keys from `low` to `high`, by their digits.
@@ -113,7 +121,7 @@ fn expect_digits<A: Allocator + Clone>(
     high: u64,
     wanted: u64,
 ) {
-    assert_eq!(rt; digits(map, low, high), wanted, "{low} to {high}");
+    same(rt, &digits(map, low, high), &wanted, &(low, high));
 }
 
 /// The map has so many pairs.
@@ -122,7 +130,23 @@ fn expect_len<K: Ord + Copy, V, A: Allocator + Clone>(
     map: &AvlMap<K, V, A>,
     len: usize,
 ) {
-    assert_eq!(rt; map.len(), len);
+    same(rt, &map.len(), &len, &"len");
+}
+
+/// So many spare nodes were won.
+fn expect_won<K: Ord + Copy, V, A: Allocator + Clone>(
+    rt: &impl Abort,
+    map: &AvlMap<K, V, A>,
+    before: usize,
+    won: usize,
+) {
+    same(rt, &map.spare().checked_sub(before), &Some(won), &"spare");
+}
+
+/// The key of the first pair.
+fn first_key<K: Ord + Copy, V, A: Allocator + Clone>(map: &AvlMap<K, V, A>) -> Option<K> {
+    let (key, _) = map.first()?;
+    Some(*key)
 }
 
 /// The keys 2, 1 and 3 take three of the spare nodes.
@@ -131,7 +155,8 @@ fn take_three(rt: &impl Abort, map: &mut AvlMap<u64, u128, Global>) {
     for (key, value) in [(2, 20), (1, 10), (3, 30)] {
         put(rt, map, key, value);
     }
-    assert!(rt; reserved >= 3 && reserved.checked_sub(map.spare()) == Some(3));
+    holds(rt, reserved >= 3, &reserved);
+    same(rt, &reserved.checked_sub(map.spare()), &Some(3), &"spare");
 }
 
 /// Puts the keys 2, 1 and 3 in.
@@ -146,11 +171,8 @@ fn put_three(rt: &impl Abort, map: &mut AvlMap<u64, u128, Global>) -> Result<(),
 fn remove_twice(rt: &impl Abort, map: &mut AvlMap<u64, u128, Global>) {
     let before = map.spare();
     for value in [Some(20), None] {
-        let removed = map.remove(&2);
-        assert!(rt;
-            removed == value && map.spare().checked_sub(before) == Some(1),
-            "{value:?}"
-        );
+        same(rt, &map.remove(&2), &value, &2);
+        expect_won(rt, map, before, 1);
     }
 }
 
@@ -162,7 +184,7 @@ fn expect_set(
     value: u128,
     answer: Result<u128, u128>,
 ) {
-    assert_eq!(rt; map.set(key, value), answer, "key {key}");
+    same(rt, &map.set(key, value), &answer, &key);
 }
 
 /// Keys 1 and 3 are left.
@@ -173,7 +195,7 @@ fn expect_two(rt: &impl Abort, map: &mut AvlMap<u64, u128, Global>) {
     expect_value(rt, map, 2, None);
     expect_digits(rt, map, 0, 9, 13);
     expect_digits(rt, map, 9, 0, 0);
-    assert_eq!(rt; map.first().map(|(key, _)| *key), Some(1));
+    same(rt, &first_key(map), &Some(1), &"first");
 }
 
 /// Exchanges the value of a key, where it has this one, for another.
@@ -213,7 +235,10 @@ fn keep_spare_nodes(rt: &impl Abort, map: &mut AvlMap<u64, u128, Global>) -> Res
 
 #[test]
 fn spare_nodes_are_kept(rt: HostRuntime) -> Result<(), Fail> {
-    keep_spare_nodes(&rt, &mut AvlMap::new_in(rt.alloc()))
+    let mut map = AvlMap::new_in(rt.alloc());
+    let done = keep_spare_nodes(&rt, &mut map);
+    drop(map);
+    done
 }
 
 /// Doubles the value of the key where it stands, and answers what it was.
@@ -264,8 +289,7 @@ fn expect_transfer(
     amount: u128,
     moved: Option<bool>,
 ) {
-    let answer = transfer(map, from, to, amount);
-    assert_eq!(rt; answer, moved, "{from} {to}");
+    same(rt, &transfer(map, from, to, amount), &moved, &(from, to));
 }
 
 /// Ten from one key to each other, and back.
@@ -301,7 +325,10 @@ fn change_two(rt: &impl Abort, map: &mut AvlMap<u64, u128, Global>) -> Result<()
 
 #[test]
 fn two_values_change_at_once(rt: HostRuntime) -> Result<(), Fail> {
-    change_two(&rt, &mut AvlMap::new_in(rt.alloc()))
+    let mut map = AvlMap::new_in(rt.alloc());
+    let done = change_two(&rt, &mut map);
+    drop(map);
+    done
 }
 
 /// Doubles the value of a key, which was this one, or absent.
@@ -311,7 +338,7 @@ fn expect_double(
     key: u64,
     before: Option<u128>,
 ) {
-    assert_eq!(rt; double(map, key), before, "key {key}");
+    same(rt, &double(map, key), &before, &key);
 }
 
 /// Key 3 is doubled twice, and key 4 is absent.
@@ -333,7 +360,10 @@ fn change_in_place(rt: &impl Abort, map: &mut AvlMap<u64, u128, Global>) -> Resu
 
 #[test]
 fn values_change_in_place(rt: HostRuntime) -> Result<(), Fail> {
-    change_in_place(&rt, &mut AvlMap::new_in(rt.alloc()))
+    let mut map = AvlMap::new_in(rt.alloc());
+    let done = change_in_place(&rt, &mut map);
+    drop(map);
+    done
 }
 
 /// A number that looks like chance, different for each `n`.
@@ -368,7 +398,7 @@ fn thin_both(
 ) {
     for n in 0..keys {
         if n % 3 != 0 {
-            assert_eq!(rt; map.remove(&mixed(n)), other.remove(&mixed(n)));
+            same(rt, &map.remove(&mixed(n)), &other.remove(&mixed(n)), &n);
         }
     }
 }
@@ -381,7 +411,8 @@ fn look_up_both(
     keys: u64,
 ) {
     for n in 0..keys.saturating_mul(2) {
-        assert_eq!(rt; map.get(&mixed(n)).copied(), other.get(&mixed(n)).copied());
+        let key = mixed(n);
+        same(rt, &map.get(&key).copied(), &other.get(&key).copied(), &n);
     }
 }
 
@@ -394,7 +425,7 @@ fn expect_same(rt: &impl Abort, map: &AvlMap<u128, u64, Global>, other: &BTreeMa
         &u128::MAX,
         &mut |key: &u128, value: &u64| { same = same && others.next() == Some((key, value)) },
     );
-    assert!(rt; same && others.next().is_none());
+    holds(rt, same && others.next().is_none(), &"all pairs");
 }
 
 fn compare(
@@ -405,7 +436,7 @@ fn compare(
     const KEYS: u64 = 1_000_000;
     fill_both(rt, map, other, KEYS)?;
     thin_both(rt, map, other, KEYS);
-    assert_eq!(rt; map.len(), other.len());
+    expect_len(rt, map, other.len());
     look_up_both(rt, map, other, KEYS);
     expect_same(rt, map, other);
     Ok(())
@@ -415,7 +446,10 @@ fn compare(
 fn agrees_with_another_map(rt: HostRuntime) -> Result<(), Fail> {
     let mut map = AvlMap::new_in(rt.alloc());
     let mut other = BTreeMap::new(rt.alloc());
-    compare(&rt, &mut map, &mut other)
+    let done = compare(&rt, &mut map, &mut other);
+    drop(map);
+    drop(other);
+    done
 }
 
 type Pairs = AvlMap<(u64, u128), (), Global>;
@@ -430,24 +464,19 @@ fn put_pairs(rt: &impl Abort, map: &mut Pairs) -> Result<(), Fail> {
 
 /// This key is the first.
 fn expect_first(rt: &impl Abort, map: &Pairs, key: (u64, u128)) {
-    assert_eq!(rt; map.first().map(|(key, _)| *key), Some(key));
+    same(rt, &first_key(map), &Some(key), &"first");
 }
 
 /// The first key leaves the map, and the next one is the first.
 fn remove_first(rt: &impl Abort, map: &mut Pairs) {
     expect_first(rt, map, (1, 8));
-    assert_eq!(rt; map.remove(&(1, 8)), Some(()));
+    same(rt, &map.remove(&(1, 8)), &Some(()), &(1, 8));
     expect_first(rt, map, (1, 9));
 }
 
 /// The first pair comes out, or none.
 fn expect_popped(rt: &impl Abort, map: &mut Pairs, first: Option<((u64, u128), ())>) {
-    assert_eq!(rt; map.pop_first(), first);
-}
-
-/// So many spare nodes were won.
-fn expect_won(rt: &impl Abort, map: &Pairs, before: usize, won: usize) {
-    assert_eq!(rt; map.spare().checked_sub(before), Some(won));
+    same(rt, &map.pop_first(), &first, &"first");
 }
 
 /// The other two come out by order.
@@ -469,7 +498,10 @@ fn order_pairs(rt: &impl Abort, map: &mut Pairs) -> Result<(), Fail> {
 
 #[test]
 fn pairs_come_by_both_parts(rt: HostRuntime) -> Result<(), Fail> {
-    order_pairs(&rt, &mut AvlMap::new_in(rt.alloc()))
+    let mut map = AvlMap::new_in(rt.alloc());
+    let done = order_pairs(&rt, &mut map);
+    drop(map);
+    done
 }
 
 /// What comes out up to a bound.
@@ -479,7 +511,7 @@ fn expect_popped_to(
     bound: (u64, u128),
     first: Option<((u64, u128), ())>,
 ) {
-    assert_eq!(rt; map.pop_first_to(&bound), first, "{bound:?}");
+    same(rt, &map.pop_first_to(&bound), &first, &bound);
 }
 
 /// What comes out of the three pairs up to each bound, the number of pairs that are left, and the spare nodes that were won.
@@ -508,14 +540,22 @@ fn pop_to_bounds(rt: &impl Abort, map: &mut Pairs) -> Result<(), Fail> {
 
 #[test]
 fn the_first_pair_comes_out_to_a_bound(rt: HostRuntime) -> Result<(), Fail> {
-    pop_to_bounds(&rt, &mut AvlMap::new_in(rt.alloc()))
+    let mut map = AvlMap::new_in(rt.alloc());
+    let done = pop_to_bounds(&rt, &mut map);
+    drop(map);
+    done
 }
 
 /// The key that a bound names comes out, if it is due, and none behind it.
 fn expect_due(rt: &impl Abort, map: &mut AvlMap<u32, u64, Global>, bound: u32, due: bool) {
-    let key = map.pop_first_to(&bound).map(|(key, _)| key);
-    let no_more = map.pop_first_to(&bound).is_none();
-    assert!(rt; key == due.then_some(bound) && no_more, "{bound}: {key:?}");
+    let value = u64::from(bound) * 10;
+    same(
+        rt,
+        &map.pop_first_to(&bound),
+        &due.then_some((bound, value)),
+        &bound,
+    );
+    holds(rt, map.pop_first_to(&bound).is_none(), &bound);
 }
 
 /// As many keys as there are, in order, up to a bound that rises: each comes out once its turn is there, and no other.
@@ -530,14 +570,20 @@ fn pop_by_bounds(rt: &impl Abort, map: &mut AvlMap<u32, u64, Global>) -> Result<
 
 #[test]
 fn a_thousand_pairs_come_out_as_the_bound_rises(rt: HostRuntime) -> Result<(), Fail> {
-    pop_by_bounds(&rt, &mut AvlMap::new_in(rt.alloc()))
+    let mut map = AvlMap::new_in(rt.alloc());
+    let done = pop_by_bounds(&rt, &mut map);
+    drop(map);
+    done
 }
 
 #[test]
 fn many_spare_nodes_are_let_go(rt: HostRuntime) -> Result<(), Fail> {
     let mut map: AvlMap<u128, [u64; 16], Global> = AvlMap::new_in(rt.alloc());
-    map.reserve(1_000_000)?;
-    assert!(rt; map.spare() >= 1_000_000);
+    let reserved = map.reserve(1_000_000);
+    let spare = map.spare();
+    drop(map);
+    reserved?;
+    holds(&rt, spare >= 1_000_000, &spare);
     Ok(())
 }
 
@@ -561,7 +607,12 @@ fn look_up_all<A: Allocator + Clone>(
     high: u64,
 ) {
     for key in low..=high {
-        assert_eq!(rt; map.get(&key).copied(), Some(u128::from(key) * 10));
+        same(
+            rt,
+            &map.get(&key).copied(),
+            &Some(u128::from(key) * 10),
+            &key,
+        );
     }
 }
 
@@ -574,8 +625,8 @@ fn refuse_reserve(
 ) {
     let before = map.spare();
     limited.allow(given);
-    assert!(rt; map.reserve(8).is_err(), "after {given} blocks");
-    assert!(rt; map.spare() >= before);
+    holds(rt, map.reserve(8).is_err(), &given);
+    holds(rt, map.spare() >= before, &given);
 }
 
 /// The keys 1 to 3 are there, and no other below 10.
@@ -600,7 +651,7 @@ fn reserve_twice(
 
     limited.allow(8);
     map.reserve(8)?;
-    assert!(rt; map.spare() >= 8);
+    holds(rt, map.spare() >= 8, &given);
     Ok(())
 }
 
@@ -624,7 +675,9 @@ fn refused_reserve_leaves_the_map(rt: HostRuntime) -> Result<(), Fail> {
     for given in 0..6 {
         let limited = Limited::new(rt.alloc(), 5);
         let mut map = AvlMap::new_in(&limited);
-        reserve_and_fill(&rt, &limited, &mut map, given)?;
+        let done = reserve_and_fill(&rt, &limited, &mut map, given);
+        drop(map);
+        done?;
     }
     Ok(())
 }
