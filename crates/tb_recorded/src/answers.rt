@@ -198,6 +198,23 @@ fn count_unreached(logs: &[Log], reached: &[usize]) -> u64 {
     count
 }
 
+/// Applies an entry, and checks the answers of all logs at its commit; false where it may not come next.
+fn check_entry(
+    alloc: Global,
+    machine: &mut Machine<Global>,
+    entry: &Entry,
+    logs: &[Log],
+    reached: &mut [usize],
+    tally: &mut Tally,
+) -> Result<bool, Fault> {
+    if !machine.fits(entry) {
+        return Ok(false);
+    }
+    machine.apply(entry)?;
+    check_all(alloc, machine, logs, reached, tally)?;
+    Ok(true)
+}
+
 /// Applies the history to a machine entry by entry, and checks each answer where the machine has the commit at which its seat
 /// stood.
 fn check_entries(
@@ -208,13 +225,10 @@ fn check_entries(
     reached: &mut [usize],
     tally: &mut Tally,
 ) -> Result<(), Fault> {
-    check_all(alloc, machine, logs, reached, tally)?;
     for entry in history {
-        if !machine.fits(entry) {
+        if !check_entry(alloc, machine, entry, logs, reached, tally)? {
             break;
         }
-        machine.apply(entry)?;
-        check_all(alloc, machine, logs, reached, tally)?;
     }
     Ok(())
 }
@@ -229,6 +243,7 @@ fn check_by(
 ) -> Result<Tally, Fault> {
     let mut tally = Tally::new();
     let mut reached = Vec::from_elem(alloc, 0usize, logs.len())?;
+    check_all(alloc, machine, logs, &mut reached, &mut tally)?;
     check_entries(alloc, machine, history, logs, &mut reached, &mut tally)?;
     tally.count_wrong((history.len() as u64).abs_diff(machine.commit()));
     tally.count_wrong(count_unreached(logs, &reached));
