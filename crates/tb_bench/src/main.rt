@@ -13,8 +13,9 @@ mod offering;
 mod reading;
 mod requests;
 mod taking;
+mod telling;
 
-use anyhow::{Error, anyhow};
+use anyhow::Error;
 use std::alloc::Global;
 use std::env;
 use std::marker::Brand;
@@ -23,15 +24,16 @@ use std::sync::Wait;
 use std::thread::Threads;
 use tb_published::Opening;
 use tb_records::{ClientsMax, Profile};
+use telling::wanted;
 
 /// The number that a word spells.
 fn number(word: Option<&String>) -> Result<u32, Error> {
-    let word = word.ok_or(anyhow!("a number is missing"))?;
+    let word = wanted(word, "a number is missing")?;
     Ok(word.as_str().parse::<u32>()?)
 }
 
 fn opening() -> Result<Opening, Error> {
-    let clients_max = ClientsMax::new(64).ok_or(anyhow!("clients_max"))?;
+    let clients_max = wanted(ClientsMax::new(64), "clients_max")?;
     Ok(Opening::new(Profile::One, clients_max))
 }
 
@@ -48,7 +50,7 @@ enum Task {
 
 /// The task that words tell.
 fn task_of(words: &[String]) -> Result<Task, Error> {
-    let kind = words.get(0).ok_or(anyhow!("a word is missing"))?.as_str();
+    let kind = wanted(words.get(0), "a word is missing")?.as_str();
     let first = number(words.get(1))?;
     match kind {
         "take" => Ok(Task::Take(taking::Kind::Batches, first)),
@@ -76,10 +78,7 @@ fn task_of(words: &[String]) -> Result<Task, Error> {
 
 /// The task that the program's words tell.
 fn read_task(rt: &HostRuntime) -> Result<Task, Error> {
-    let mut words = Vec::new(rt.alloc());
-    for word in env::args(rt)?.skip(1) {
-        words.push(word)?;
-    }
+    let words = env::args(rt)?.skip(1).collect::<Vec<String>>(rt.alloc())?;
     task_of(words.as_slice())
 }
 

@@ -3,7 +3,8 @@ ghost use Rattle.std.specs.Prelude.{◌≡◌};
 
 use crate::requests::{before_ports, transfer_of};
 use crate::taking::take_all;
-use anyhow::{Error, anyhow};
+use crate::telling::{add, tell_count, tell_time, wanted};
+use anyhow::Error;
 use std::alloc::Global;
 use std::mem;
 use std::rt::Clock;
@@ -81,7 +82,7 @@ fn put_orders(
     scale: Scale,
 ) -> Result<(), Error> {
     for order in 0..scale.orders {
-        orders.push(make_order(alloc, client, scale, order)?)?;
+        add(orders, make_order(alloc, client, scale, order)?)?;
     }
     Ok(())
 }
@@ -96,7 +97,7 @@ fn put_requests(
 ) -> Result<(), Error> {
     let first = order.saturating_mul(scale.each);
     for k in first..first.saturating_add(scale.each) {
-        requests.push(transfer_of(alloc, client, scale.ports, k)?)?;
+        add(requests, transfer_of(alloc, client, scale.ports, k)?)?;
     }
     Ok(())
 }
@@ -160,8 +161,7 @@ fn add_client(
     number: u32,
     scale: Scale,
 ) -> Result<(), Error> {
-    clients.push(Client::new(alloc, port, number, scale)?)?;
-    Ok(())
+    add(clients, Client::new(alloc, port, number, scale)?)
 }
 
 /// Adds the clients of ports, with the numbers from 1 on.
@@ -251,11 +251,9 @@ fn tell<R: Print + Eprint>(
     refused: usize,
     spent: Option<u128>,
 ) -> Result<(), Error> {
-    println!(rt; "commits {commits}")?;
-    println!(rt; "refused {refused}")?;
-    let spent = spent.ok_or(anyhow!("the clock"))?;
-    eprintln!(rt; "orders {spent}")?;
-    Ok(())
+    tell_count(rt, "commits", commits)?;
+    tell_count(rt, "refused", refused)?;
+    tell_time(rt, "orders", wanted(spent, "the clock")?)
 }
 
 /// Measures what the ports of a publisher hand over.
@@ -285,8 +283,8 @@ pub fn measure<J: Naming + Send + Sync, R: Threads + Wait + Clock + Print + Epri
 ) -> Result<(), Error>
     requires { opening ≡ J.opening }
 {
-    let seats = SeatCount::new(scale.ports).ok_or(anyhow!("seats"))?;
-    let ports = PortCount::new(scale.ports).ok_or(anyhow!("ports"))?;
+    let seats = wanted(SeatCount::new(scale.ports), "seats")?;
+    let ports = wanted(PortCount::new(scale.ports), "ports")?;
     let (publisher, seats) = open::<J, R>(alloc, rt, opening, seats)?;
     let measured = measure_ports(rt, alloc, publisher, ports, scale);
     drop(seats);

@@ -3,6 +3,7 @@ ghost use Rattle.std.specs.Prelude.{◌≡◌};
 
 use crate::requests::{first_requests, round};
 use crate::taking::take_all;
+use crate::telling::{tell_time, wanted};
 use anyhow::{Error, anyhow};
 use std::alloc::Global;
 use std::rt::Clock;
@@ -206,12 +207,11 @@ fn measure_reads<J: Naming + Send + Sync, R: Threads + Wait + Clock + Print + Ep
 ) -> Result<(), Error> {
     prepare(rt, alloc, publisher)?;
     let (taken, times) = read_second(rt, alloc, publisher, seats, scale)?;
-    let (asked, found) = times.ok_or(anyhow!("a seat failed"))?;
+    let (asked, found) = wanted(times, "a seat failed")?;
     println!(rt; "reads {} in each of {} threads", scale.reads, seats.len())?;
-    eprintln!(rt; "status {asked}")?;
-    eprintln!(rt; "lookup {found}")?;
-    eprintln!(rt; "takes {taken}")?;
-    Ok(())
+    tell_time(rt, "status", asked)?;
+    tell_time(rt, "lookup", found)?;
+    tell_time(rt, "takes", u128::from(taken))
 }
 
 /// Opens a publisher with so many seats, and measures their reads, beside a busy writer unless it is calm.
@@ -223,7 +223,7 @@ pub fn measure<J: Naming + Send + Sync, R: Threads + Wait + Clock + Print + Epri
 ) -> Result<(), Error>
     requires { opening ≡ J.opening }
 {
-    let seats = SeatCount::new(scale.threads).ok_or(anyhow!("seats"))?;
+    let seats = wanted(SeatCount::new(scale.threads), "seats")?;
     let (mut publisher, mut seats) = open::<J, R>(alloc, rt, opening, seats)?;
     let measured = measure_reads(rt, alloc, &mut publisher, seats.as_mut_slice(), scale);
     drop(publisher.close(rt));

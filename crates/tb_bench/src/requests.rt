@@ -1,4 +1,5 @@
 //! The requests of a measure: a client creates accounts 1 to 1000, and transfers between them with rising ids.
+use crate::telling::add;
 use anyhow::Error;
 use std::alloc::Global;
 use tb_records::{Account, Body, Items, Request, Transfer};
@@ -48,15 +49,32 @@ pub fn first_requests(alloc: Global) -> Result<Vec<Request>, Error> {
     accounts_of(alloc, 7)
 }
 
-/// A client's register, and its request that creates the accounts.
-fn accounts_of(alloc: Global, client: u128) -> Result<Vec<Request>, Error> {
+/// Appends a request.
+fn add_request(
+    all: &mut Vec<Request>,
+    client: u128,
+    session: u64,
+    number: u32,
+    body: Body,
+) -> Result<(), Error> {
+    add(all, Request::new(client, session, number, body)?)
+}
+
+/// The accounts.
+fn all_accounts(alloc: Global) -> Result<Vec<Account>, Error> {
     let mut accounts = Vec::with_capacity(alloc, ACCOUNTS as usize)?;
     for id in 1..=ACCOUNTS {
-        accounts.push(account(u128::from(id)))?;
+        add(&mut accounts, account(u128::from(id)))?;
     }
+    Ok(accounts)
+}
+
+/// A client's register, and its request that creates the accounts.
+fn accounts_of(alloc: Global, client: u128) -> Result<Vec<Request>, Error> {
     let mut all = Vec::new(alloc);
-    all.push(Request::new(client, 0, 0, Body::Register)?)?;
-    all.push(Request::new(client, 1, 1, Body::CreateAccounts(Items::new(accounts)))?)?;
+    add_request(&mut all, client, 0, 0, Body::Register)?;
+    let accounts = Items::new(all_accounts(alloc)?);
+    add_request(&mut all, client, 1, 1, Body::CreateAccounts(accounts))?;
     Ok(all)
 }
 
@@ -64,7 +82,7 @@ fn accounts_of(alloc: Global, client: u128) -> Result<Vec<Request>, Error> {
 pub fn round(alloc: Global, number: u32, requests: u32, each: u32) -> Result<Vec<Request>, Error> {
     let mut all = Vec::with_capacity(alloc, requests as usize)?;
     for k in number..number.saturating_add(requests) {
-        all.push(batch(alloc, k, each)?)?;
+        add(&mut all, batch(alloc, k, each)?)?;
     }
     Ok(all)
 }
@@ -74,7 +92,7 @@ fn batch(alloc: Global, number: u32, each: u32) -> Result<Request, Error> {
     let mut transfers = Vec::with_capacity(alloc, each as usize)?;
     let first = u64::from(number) * u64::from(each);
     for k in 0..each {
-        transfers.push(transfer(first.saturating_add(u64::from(k))))?;
+        add(&mut transfers, transfer(first.saturating_add(u64::from(k))))?;
     }
     Ok(Request::new(7, 1, number, Body::CreateTransfers(Items::new(transfers)))?)
 }
@@ -84,7 +102,7 @@ fn batch(alloc: Global, number: u32, each: u32) -> Result<Request, Error> {
 pub fn before_ports(alloc: Global, ports: u32) -> Result<Vec<Request>, Error> {
     let mut all = accounts_of(alloc, 100)?;
     for client in 1..=ports {
-        all.push(Request::new(u128::from(client), 0, 0, Body::Register)?)?;
+        add_request(&mut all, u128::from(client), 0, 0, Body::Register)?;
     }
     Ok(all)
 }

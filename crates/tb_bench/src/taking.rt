@@ -2,6 +2,7 @@
 ghost use Rattle.std.specs.Prelude.{◌≡◌};
 
 use crate::requests::{first_requests, round};
+use crate::telling::{add, tell_count, tell_time, wanted};
 use anyhow::{Error, anyhow};
 use std::alloc::Global;
 use std::rt::Clock;
@@ -44,17 +45,6 @@ pub fn take_all<J: Naming, R: Wait>(
     Ok(())
 }
 
-/// Takes requests with a show each, and tells the time.
-fn take_round<J: Naming, R: Wait + Clock>(
-    rt: &R,
-    publisher: &mut Publisher<J>,
-    requests: Vec<Request>,
-) -> Result<Duration, Error> {
-    let start = Instant::now(rt);
-    take_all(rt, publisher, requests)?;
-    Ok(start?.elapsed(rt)?)
-}
-
 /// Enters requests with one show for eight.
 fn enter_all<J: Naming, R: Wait>(
     rt: &R,
@@ -74,15 +64,17 @@ fn enter_all<J: Naming, R: Wait>(
     Ok(())
 }
 
-/// Enters requests with one show for eight, and tells the time.
-fn enter_round<J: Naming, R: Wait + Clock>(
+/// Takes requests of a kind.
+fn take_kind<J: Naming, R: Wait>(
     rt: &R,
     publisher: &mut Publisher<J>,
+    kind: Kind,
     requests: Vec<Request>,
-) -> Result<Duration, Error> {
-    let start = Instant::now(rt);
-    enter_all(rt, publisher, requests)?;
-    Ok(start?.elapsed(rt)?)
+) -> Result<(), Error> {
+    match kind {
+        Kind::Eights => enter_all(rt, publisher, requests),
+        Kind::Batches | Kind::Singles => take_all(rt, publisher, requests),
+    }
 }
 
 /// Appends the entries that requests make, one after another, of so many events each: the first has the next commit number and
@@ -98,11 +90,12 @@ fn put_entries(
     let mut time = time;
     for request in requests {
         commit = commit.saturating_add(1);
-        entries.push(Entry {
+        let entry = Entry {
             commit,
             time,
             request,
-        })?;
+        };
+        add(entries, entry)?;
         time = time.saturating_add(u64::from(each));
     }
     Ok(())
@@ -204,10 +197,29 @@ fn take_next<J: Naming, R: Wait + Clock>(
 ) -> Result<Duration, Error> {
     let (count, each) = kind.sizes();
     let requests = round(alloc, number, count, each)?;
-    match kind {
-        Kind::Eights => enter_round(rt, publisher, requests),
-        Kind::Batches | Kind::Singles => take_round(rt, publisher, requests),
+    let start = Instant::now(rt);
+    take_kind(rt, publisher, kind, requests)?;
+    Ok(start?.elapsed(rt)?)
+}
+
+/// The nanoseconds that so many rounds take, by the publisher and by the machine.
+fn sum_rounds<J: Naming, R: Wait + Clock>(
+    rt: &R,
+    alloc: Global,
+    publisher: &mut Publisher<J>,
+    machine: &mut Machine<Global>,
+    kind: Kind,
+    rounds: u32,
+) -> Result<(u128, u128), Error> {
+    let (requests, _) = kind.sizes();
+    let mut taken = 0u128;
+    let mut applied = 0u128;
+    for k in 0..rounds {
+        let number = k.saturating_mul(requests).saturating_add(2);
+        applied = applied.saturating_add(apply_next(rt, alloc, machine, kind, number)?.as_nanos());
+        taken = taken.saturating_add(take_next(rt, alloc, publisher, kind, number)?.as_nanos());
     }
+    Ok((taken, applied))
 }
 
 /// Measures so many rounds, and tells the sums.
@@ -221,22 +233,13 @@ fn measure_rounds<J: Naming, R: Wait + Clock + Print + Eprint>(
 ) -> Result<(), Error> {
     take_all(rt, publisher, first_requests(alloc)?)?;
     prepare(alloc, machine)?;
+    let (taken, applied) = sum_rounds(rt, alloc, publisher, machine, kind, rounds)?;
     let (requests, each) = kind.sizes();
-    let mut taken = 0u128;
-    let mut applied = 0u128;
-    for k in 0..rounds {
-        let number = k.saturating_mul(requests).saturating_add(2);
-        applied = applied.saturating_add(apply_next(rt, alloc, machine, kind, number)?.as_nanos());
-        taken = taken.saturating_add(take_next(rt, alloc, publisher, kind, number)?.as_nanos());
-    }
-    println!(rt; "commits {}", publisher.history().len())?;
-    println!(rt;
-        "transfers {}",
-        rounds.saturating_mul(requests).saturating_mul(each)
-    )?;
-    eprintln!(rt; "take {taken}")?;
-    eprintln!(rt; "apply {applied}")?;
-    Ok(())
+    let transfers = rounds.saturating_mul(requests).saturating_mul(each);
+    tell_count(rt, "commits", publisher.history().len())?;
+    tell_count(rt, "transfers", transfers as usize)?;
+    tell_time(rt, "take", taken)?;
+    tell_time(rt, "apply", applied)
 }
 
 /// Applies so many batches to a machine.
@@ -250,13 +253,12 @@ fn fill<R: Clock + Print>(
     for k in 0..rounds {
         apply_next(rt, alloc, machine, Kind::Batches, k.saturating_add(2))?;
     }
-    println!(rt; "commits {}", machine.commit())?;
-    Ok(())
+    tell_count(rt, "commits", machine.commit() as usize)
 }
 
 /// Applies so many batches to a machine alone, whose memory can then be measured.
 pub fn fill_machine<R: Clock + Print>(rt: &R, alloc: Global, rounds: u32) -> Result<(), Error> {
-    let clients_max = ClientsMax::new(64).ok_or(anyhow!("clients_max"))?;
+    let clients_max = wanted(ClientsMax::new(64), "clients_max")?;
     let mut machine = Machine::new_in(alloc, alloc, Profile::One, clients_max)?;
     let filled = fill(rt, alloc, &mut machine, rounds);
     drop(machine);
@@ -288,8 +290,8 @@ pub fn measure<J: Naming, R: Wait + Clock + Print + Eprint>(
 ) -> Result<(), Error>
     requires { opening ≡ J.opening }
 {
-    let clients_max = ClientsMax::new(64).ok_or(anyhow!("clients_max"))?;
-    let seats = SeatCount::new(1).ok_or(anyhow!("seats"))?;
+    let clients_max = wanted(ClientsMax::new(64), "clients_max")?;
+    let seats = wanted(SeatCount::new(1), "seats")?;
     let (mut publisher, seats) = open::<J, R>(alloc, rt, opening, seats)?;
     let measured = measure_beside(rt, alloc, &mut publisher, clients_max, kind, rounds);
     drop(publisher.close(rt));
