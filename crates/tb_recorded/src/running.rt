@@ -203,30 +203,6 @@ fn take_part<J: Naming + Send + Sync, S: Serving + Send + Sync, R: Threads + Wai
     Ok(left)
 }
 
-/// The server runs in one thread, and the clients take part in others; what both leave.
-fn serve_clients<J: Naming + Send + Sync, S: Serving + Send + Sync, R: Threads + Wait + Sync>(
-    rt: &R,
-    alloc: Global,
-    server: Server<J, &R, Ticks, Open>,
-    clients: Vec<Client<J, S>>,
-    notes: &[Note],
-    steps: u32,
-) -> (Finished<J>, Result<Vec<Left<S>>, Fault>)
-    ensures { service_at result.0 ≡ service_on server.entry }
-{
-    let begun = &AtomicBool::new(false);
-    thread::join(
-        rt,
-        move || -> Finished<J>
-            ensures { service_at result ≡ service_on server.entry }
-        {
-            begun.store(true, Ordering::SeqCst);
-            server.run(rt)
-        },
-        || take_part(rt, alloc, begun, clients, notes, steps),
-    )
-}
-
 /// A run over a server and its ports, with a note for each client, and its audit.
 fn run_over<J: Naming + Send + Sync, S: Serving + Send + Sync, R: Threads + Wait + Sync>(
     rt: &R,
@@ -248,7 +224,17 @@ fn run_over<J: Naming + Send + Sync, S: Serving + Send + Sync, R: Threads + Wait
             return Err(Fault::NoMemory);
         }
     };
-    let (mut finished, left) = serve_clients(rt, alloc, server, clients, notes, scale.steps);
+    let begun = &AtomicBool::new(false);
+    let (mut finished, left) = thread::join(
+        rt,
+        move || -> Finished<J>
+            ensures { service_at result ≡ service_on server.entry }
+        {
+            begun.store(true, Ordering::SeqCst);
+            server.run(rt)
+        },
+        || take_part(rt, alloc, begun, clients, notes, scale.steps),
+    );
     let tally = match left {
         Ok(left) => audit(alloc, rules, &mut finished, left),
         Err(fault) => Err(fault),
