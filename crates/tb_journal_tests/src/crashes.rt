@@ -3,7 +3,7 @@ use crate::steps::{ONE_RECORD, THREE_RECORDS, commit_two, opened};
 use std::alloc::Global;
 use std::process::Abort;
 use std::test::Fail;
-use tb_journal::{Memory, recover};
+use tb_journal::Memory;
 
 /// What a torn write leaves in its range: bytes of the batch, zeros, and ones.
 const BLOCKS: [u8; 22] = [
@@ -26,14 +26,15 @@ fn records_after(
 ) -> usize {
     assert!(rt; moment <= file.moments());
     let left = file.after_crash(moment, torn).expect(rt, "memory");
-    let again = Memory::new(alloc, left).expect(rt, "memory");
-    let journal = recover(alloc, again).ok().expect(rt, "a journal");
+    let journal = opened(alloc, &left).expect(rt, "a journal");
     let bytes = journal.device().bytes();
     // Any byte but 0 is an open gate, and stays as it was.
     let is_whole = bytes.get(..18) == THREE_RECORDS.get(..18)
         && bytes.get(19..) == THREE_RECORDS.get(19..);
     assert!(rt; bytes == ONE_RECORD.as_slice() || is_whole);
-    journal.count()
+    let count = journal.count();
+    drop(journal);
+    count
 }
 
 /// A crash at a moment leaves so many records at least, and so many at most, however the last write is torn.
@@ -72,6 +73,7 @@ fn a_crash_leaves_the_whole_batch_or_none_of_it(rt: HostRuntime) -> Result<(), F
     // Behind the write of the gate, and behind its sync.
     expect_records(&rt, alloc, file, begin + 3, 1, 3);
     expect_records(&rt, alloc, file, begin + 4, 3, 3);
+    drop(journal);
     Ok(())
 }
 
@@ -88,5 +90,6 @@ fn an_open_gate_counts_with_all_its_batch(rt: HostRuntime) -> Result<(), Fail> {
             "{count} records behind the gate {byte}"
         );
     }
+    drop(journal);
     Ok(())
 }

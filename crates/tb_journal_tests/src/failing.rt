@@ -1,16 +1,15 @@
 //! A device that fails at one call.
 use crate::crashes::expect_records;
-use crate::steps::{ONE_RECORD, commit_two};
+use crate::steps::{ONE_RECORD, commit_two, file_of};
 use std::alloc::Global;
 use std::process::Abort;
 use std::test::Fail;
-use tb_journal::{Fault, Memory, OpenFault, recover};
+use tb_journal::{Fault, OpenFault, recover};
 
 /// Opens a journal of one record and commits two more, over a device whose call of this number fails. Says which step
 /// failed: the first is to open it, and none is the third.
 fn failed_step(rt: &impl Abort, alloc: Global, number: u64) -> usize {
-    let bytes = Vec::from_slice(alloc, &ONE_RECORD).expect(rt, "memory");
-    let mut file = Memory::new(alloc, bytes).expect(rt, "memory");
+    let mut file = file_of(alloc, &ONE_RECORD).expect(rt, "memory");
     file.fail_at(number);
     match recover(alloc, file) {
         Ok(journal) => {
@@ -18,18 +17,20 @@ fn failed_step(rt: &impl Abort, alloc: Global, number: u64) -> usize {
             let committed = commit_two(&mut journal);
             let file = journal.device();
             let moments = file.moments();
+            let least = if committed == Ok(()) { 3 } else { 1 };
+            expect_records(rt, alloc, file, moments, least, 3);
+            drop(journal);
             if committed == Ok(()) {
-                expect_records(rt, alloc, file, moments, 3, 3);
                 return 3;
             }
             assert!(rt; committed == Err(Fault::Failed));
-            expect_records(rt, alloc, file, moments, 1, 3);
             2
         }
         Err(failed) => {
             assert!(rt; failed.fault == OpenFault::Device(Fault::Failed));
             let moments = failed.device.moments();
             expect_records(rt, alloc, &failed.device, moments, 1, 1);
+            drop(failed);
             1
         }
     }

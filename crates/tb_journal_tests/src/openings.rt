@@ -1,65 +1,69 @@
 //! Files that are opened, refused or created over: worked rows.
+use crate::steps::{created, file_of};
 use std::alloc::Global;
+use std::process::Abort;
 use std::test::Fail;
 use tb_journal::{Fault, Memory, OpenFault, Refusal, Scanned, create, recover};
-
-/// A file of these bytes.
-fn file_of(alloc: Global, bytes: &[u8]) -> Result<Memory, Fail> {
-    Ok(Memory::new(alloc, Vec::from_slice(alloc, bytes)?)?)
-}
 
 /// The file of a record without bytes, whose checksum is that of three bytes of 0.
 const EMPTY_RECORD: [u8; 17] = [
     84, 66, 74, 82, 78, 76, 48, 49, 255, 0, 0, 0, 122, 163, 100, 96, 0,
 ];
 
+/// The same, and three bytes behind its closed gate.
+const MORE_BEHIND: [u8; 20] = [
+    84, 66, 74, 82, 78, 76, 48, 49, 255, 0, 0, 0, 122, 163, 100, 96, 0, 1, 2, 3,
+];
+
+/// The same file, in which a byte of the checksum is another.
+const BAD_CHECKSUM: [u8; 17] = [
+    84, 66, 74, 82, 78, 76, 48, 49, 255, 0, 0, 0, 123, 163, 100, 96, 0,
+];
+
 #[test]
 fn what_stands_behind_the_records_is_cut_off(rt: HostRuntime) -> Result<(), Fail> {
     let alloc = rt.alloc();
-    let mut bytes = Vec::from_slice(alloc, &EMPTY_RECORD)?;
-    bytes.extend_from_slice(&[1, 2, 3])?;
-    let file = Memory::new(alloc, bytes)?;
+    let file = file_of(alloc, &MORE_BEHIND).expect(&rt, "memory");
     let journal = recover(alloc, file).ok().expect(&rt, "a journal");
     assert!(rt; journal.count() == 1);
     assert_eq!(rt; journal.device().bytes(), EMPTY_RECORD.as_slice());
+    drop(journal);
     Ok(())
+}
+
+/// A file of these bytes is refused so, and is as it was. It is given back.
+fn refused(rt: &impl Abort, alloc: Global, bytes: &[u8], why: Refusal) -> Memory {
+    let file = file_of(alloc, bytes).expect(rt, "memory");
+    let failed = recover(alloc, file).err().expect(rt, "a fault");
+    assert!(rt; failed.fault == OpenFault::Refused(why));
+    let device = failed.device;
+    assert_eq!(rt; device.bytes(), bytes);
+    device
 }
 
 #[test]
 fn a_bad_checksum_is_told_with_its_place(rt: HostRuntime) -> Result<(), Fail> {
-    let alloc = rt.alloc();
-    let mut bytes = EMPTY_RECORD;
-    bytes[12] = 123;
-    let failed = recover(alloc, file_of(alloc, &bytes)?)
-        .err()
-        .expect(&rt, "a fault");
-    let told = OpenFault::Refused(Refusal::Damaged { at: 8 });
-    assert!(rt; failed.fault == told);
-    assert_eq!(rt; failed.device.bytes(), bytes.as_slice());
+    let why = Refusal::Damaged { at: 8 };
+    drop(refused(&rt, rt.alloc(), &BAD_CHECKSUM, why));
     Ok(())
 }
 
 #[test]
 fn another_file_is_left_alone(rt: HostRuntime) -> Result<(), Fail> {
     let alloc = rt.alloc();
-    let text = b"hello";
-    let failed = recover(alloc, file_of(alloc, text)?)
-        .err()
-        .expect(&rt, "a fault");
-    assert!(rt; failed.fault == OpenFault::Refused(Refusal::NotAJournal));
-    let again = create(alloc, failed.device).err().expect(&rt, "a fault");
+    let file = refused(&rt, alloc, b"hello", Refusal::NotAJournal);
+    let again = create(alloc, file).err().expect(&rt, "a fault");
     assert!(rt; again.fault == OpenFault::Device(Fault::NotEmpty));
-    assert_eq!(rt; again.device.bytes(), text.as_slice());
+    assert_eq!(rt; again.device.bytes(), b"hello".as_slice());
+    drop(again);
     Ok(())
 }
 
 #[test]
 fn a_creation_that_was_cut_short_is_made_again(rt: HostRuntime) -> Result<(), Fail> {
-    let alloc = rt.alloc();
-    let journal = create(alloc, file_of(alloc, &[84, 66, 0, 0])?)
-        .ok()
-        .expect(&rt, "a journal");
+    let journal = created(rt.alloc(), &[84, 66, 0, 0]).expect(&rt, "a journal");
     assert_eq!(rt; journal.device().bytes(), b"TBJRNL01\0".as_slice());
+    drop(journal);
     Ok(())
 }
 

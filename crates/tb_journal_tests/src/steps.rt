@@ -4,7 +4,8 @@ ghost use Rattle.tb_journal.specs.Memory.{memory_disk};
 ghost use Rattle.tb_journal.specs.Ready.{IsReady};
 
 use std::alloc::Global;
-use tb_journal::{Fault, Journal, Memory, recover};
+use std::process::Abort;
+use tb_journal::{Fault, Journal, Memory, create, recover};
 
 /// The file of a journal without records: `TBJRNL01`, and a closed gate.
 pub(crate) const NO_RECORDS: [u8; 9] = [84, 66, 74, 82, 78, 76, 48, 49, 0];
@@ -25,12 +26,35 @@ pub(crate) const THREE_RECORDS: [u8; 41] = [
     0,
 ];
 
+/// A file of these bytes, all of them on the disk.
+pub(crate) fn file_of(alloc: Global, bytes: &[u8]) -> Option<Memory> {
+    Memory::new(alloc, Vec::from_slice(alloc, bytes).ok()?).ok()
+}
+
+/// Creates a journal in a file of these bytes.
+pub(crate) fn created(alloc: Global, bytes: &[u8]) -> Option<Journal<Memory>>
+    ensures { IfSome result (IsReady memory_disk) }
+{
+    create(alloc, file_of(alloc, bytes)?).ok()
+}
+
 /// Opens a journal's file, of which all bytes are on the disk.
 pub(crate) fn opened(alloc: Global, bytes: &[u8]) -> Option<Journal<Memory>>
     ensures { IfSome result (IsReady memory_disk) }
 {
-    let file = Memory::new(alloc, Vec::from_slice(alloc, bytes).ok()?).ok()?;
-    recover(alloc, file).ok()
+    recover(alloc, file_of(alloc, bytes)?).ok()
+}
+
+/// Compares the bytes of a journal's file, the number of the records in it, and of those that wait.
+pub(crate) fn expect_journal(
+    rt: &impl Abort,
+    journal: &Journal<Memory>,
+    bytes: &[u8],
+    count: usize,
+    waiting: usize,
+) {
+    assert_eq!(rt; journal.device().bytes(), bytes);
+    assert!(rt; journal.count() == count && journal.waiting() == waiting);
 }
 
 /// Lets a record wait.
