@@ -2,8 +2,10 @@
 use Rattle.std.specs.Prelude.{ℕ, Bool, true, false, ◌≡◌, ◌⊎◌, Result, Ok, Err}
 use Rattle.tb_records.specs.Transport.{Input, Output, risen, Refuses}
 use Rattle.tb_text_commands.specs.declared.faults.Fault.{Fault}
-use Rattle.tb_text_commands.specs.declared.faults.Fault.TheVariants.{Usage, Device, NoMemory, TimeExhausted, Frame, Dump, Arguments, Text, WasTold}
+use Rattle.tb_text_commands.specs.declared.faults.Fault.TheVariants.{Usage, Device, NoMemory, TimeExhausted, TooLong, Frame, Dump, Arguments, Text, WasTold}
+use Rattle.tb_text_commands.specs.declared.arguments.Order.{Order}
 use Rattle.tb_text_commands.specs.Statuses.{fault_status, TellsOf}
+use Rattle.tb_text_commands.specs.Whole.{IsInputOf, WasWhole}
 
 -- nothing failed: no error was counted, and the writer took some of whatever it was offered
 pub record IsWhole (before after : Input) (start written : Output) : Type 0 where
@@ -61,6 +63,7 @@ IsOfInput fault = Unit {0}
 abbrev pub is_passing : Fault → Bool
 is_passing (Text line) = true
 is_passing TimeExhausted = true
+is_passing TooLong = false
 is_passing Usage = false
 is_passing Device = false
 is_passing NoMemory = false
@@ -80,9 +83,10 @@ Tells (Ok done) quiet told = told ≡ quiet
 Tells (Err fault) quiet told = TellsOf fault quiet told
 
 -- a form of the program was done, or a fault ended it: the status is the outcome's, and a device failed exactly where that
--- says so; where no statements are typed, nothing but its line is told
-pub record Exits (talks : Bool) (status : ℕ) (before after : Input) (start written quiet told : Output) : Type 0 where
+-- says so; with status 0 a whole input was read; where no statements are typed, nothing but its line is told
+pub record Exits (order : Order) (talks : Bool) (status : ℕ) (before after : Input) (start written quiet told : Output) : Type 0 where
   pub outcome : Result (Unit {0}) Fault
   pub ended : Ended outcome before after start written
   pub status_is : status ≡ outcome_status outcome
+  pub whole : status ≡ 0 → WasWhole (IsInputOf order) before.left
   pub line : talks ≡ false → Tells outcome quiet told

@@ -9,7 +9,7 @@ use Rattle.tb_records.specs.DumpFaults.{dump_fault_name}
 use Rattle.tb_records.specs.Faults.{fault_name}
 use Rattle.tb_records.specs.Transport.{Output, Sent, CutOff}
 use Rattle.tb_text_commands.specs.declared.faults.Fault.{Fault}
-use Rattle.tb_text_commands.specs.declared.faults.Fault.TheVariants.{Usage, Device, NoMemory, TimeExhausted, Frame, Dump, Arguments, Text, WasTold}
+use Rattle.tb_text_commands.specs.declared.faults.Fault.TheVariants.{Usage, Device, NoMemory, TimeExhausted, TooLong, Frame, Dump, Arguments, Text, WasTold}
 
 -- the faults of a frame and of a dump: a device that failed and want of memory are the program's own
 
@@ -40,6 +40,7 @@ fault_status Usage = 2
 fault_status Device = 1
 fault_status NoMemory = 1
 fault_status TimeExhausted = 2
+fault_status TooLong = 2
 fault_status (Frame fault) = frame_status fault
 fault_status (Dump fault) = dump_status fault
 fault_status (Arguments line) = 2
@@ -57,6 +58,7 @@ fault_line Usage = []
 fault_line Device = line_named (codes "Device")
 fault_line NoMemory = line_named (codes "NoMemory")
 fault_line TimeExhausted = line_named (codes "TimeExhausted")
+fault_line TooLong = line_named (codes "TooLong")
 fault_line (Frame fault) = line_named (fault_name fault)
 fault_line (Dump fault) = line_named (dump_fault_name fault)
 fault_line (Arguments line) = line.items

@@ -1,6 +1,7 @@
 //! A dump joined with what its replay gives: who asked, what became of each event, expiries, and the balances of an account.
-ghost use Rattle.std.specs.Prelude.{IfErr};
+ghost use Rattle.std.specs.Prelude.{IfErr, OnOk};
 ghost use Rattle.tb_text_commands.specs.Ends.{Ended, IsOfInput, Written};
+ghost use Rattle.tb_text_commands.specs.Whole.{IsDump, IsItem, Parts, WasWhole};
 
 use crate::faults::{Fault, dump_fault};
 use crate::lines::{balance_line, expired_line, head_line, judged_line, mark_line};
@@ -157,6 +158,33 @@ fn audit_mark<W: Sink>(
     put_line(writer, mark_line(alloc))
 }
 
+/// Audits an entry or the mark of a dump.
+fn audit_item<W: Sink>(
+    alloc: Global,
+    machine: &mut Machine<Global>,
+    watch: &mut Watch,
+    writer: &mut W,
+    item: DumpItem,
+) -> Result<(), Fault>
+    ensures { Written result (W.output writer.old) (W.output writer.new) }
+{
+    match item {
+        DumpItem::Entry {
+            commit,
+            time,
+            request,
+        } => {
+            let entry = Entry {
+                commit,
+                time,
+                request,
+            };
+            audit_entry(alloc, machine, watch, writer, &entry)
+        }
+        DumpItem::Mark => audit_mark(alloc, machine, writer),
+    }
+}
+
 /// Audits the entries and the mark of a dump.
 fn audit_items<R: Source, W: Sink>(
     alloc: Global,
@@ -165,8 +193,9 @@ fn audit_items<R: Source, W: Sink>(
     reader: &mut R,
     writer: &mut W,
 ) -> Result<(), Fault>
-    ensures { Ended result (R.input reader.old) (R.input reader.new) (W.output writer.old)
+    ensures ended { Ended result (R.input reader.old) (R.input reader.new) (W.output writer.old)
         (W.output writer.new) }
+    ensures whole { OnOk result (WasWhole (Parts IsItem) (R.input reader.old).left) }
 {
     let mut watch = Watch {
         timeouts: Vec::new(alloc),
@@ -175,25 +204,11 @@ fn audit_items<R: Source, W: Sink>(
     };
     for _ in 0..u64::MAX {
         match next_item(alloc, reader, writer)? {
-            Some(
-                DumpItem::Entry {
-                    commit,
-                    time,
-                    request,
-                },
-            ) => {
-                let entry = Entry {
-                    commit,
-                    time,
-                    request,
-                };
-                audit_entry(alloc, machine, &mut watch, writer, &entry)?;
-            }
-            Some(DumpItem::Mark) => audit_mark(alloc, machine, writer)?,
-            None => break,
+            Some(item) => audit_item(alloc, machine, &mut watch, writer, item)?,
+            None => return Ok(()),
         }
     }
-    Ok(())
+    Err(Fault::TooLong)
 }
 
 /// The machine of a dump's head.
@@ -214,8 +229,9 @@ pub fn audit<R: Source, W: Sink>(
     reader: &mut R,
     writer: &mut W,
 ) -> Result<(), Fault>
-    ensures { Ended result (R.input reader.old) (R.input reader.new) (W.output writer.old)
+    ensures ended { Ended result (R.input reader.old) (R.input reader.new) (W.output writer.old)
         (W.output writer.new) }
+    ensures whole { OnOk result (WasWhole IsDump (R.input reader.old).left) }
 {
     let head = match read_head_from(reader) {
         Ok(head) => head,

@@ -1,8 +1,9 @@
 //! The program's forms, over any reader and writer.
-ghost use Rattle.std.specs.Prelude.{◌≡◌, ◌<◌, false, IfOk, None, Some, map, string_bytes};
+ghost use Rattle.std.specs.Prelude.{◌≡◌, ◌<◌, false, IfOk, None, OnOk, Some, map, string_bytes};
 ghost use Rattle.tb_text_commands.specs.declared.arguments.Order.{Order};
 ghost use Rattle.tb_text_commands.specs.Ends.{Ended, Exits};
 ghost use Rattle.tb_text_commands.specs.Orders.{order_of};
+ghost use Rattle.tb_text_commands.specs.Whole.{IsInputOf, WasWhole};
 
 use crate::arguments::{Order, read_order, wrong_words};
 use crate::auditing::audit;
@@ -27,6 +28,7 @@ fn perform<C: Clock, R: Source, W: Sink, E: Sink>(
 ) -> Result<(), Fault>
     ensures ended { Ended result (R.input reader.old) (R.input reader.new) (W.output writer.old)
         (W.output writer.new) }
+    ensures whole { OnOk result (WasWhole (IsInputOf order) (R.input reader.old).left) }
     ensures quiet { IfOk result (λ _. faults.new ≡ faults.old) }
     ensures silent { talks ≡ false → faults.new ≡ faults.old }
 {
@@ -85,7 +87,7 @@ pub fn command<C: Clock, R: Source, W: Sink, E: Sink>(
     ensures usage { order_of (map string_bytes words.now) ≡ None
         → (result ≡ 2) × (reader.new ≡ reader.old) × (writer.new ≡ writer.old) }
     ensures ended { (order : Order) → order_of (map string_bytes words.now) ≡ Some order
-        → Exits talks result (R.input reader.old) (R.input reader.new) (W.output writer.old)
+        → Exits order talks result (R.input reader.old) (R.input reader.new) (W.output writer.old)
         (W.output writer.new) (E.output faults.old) (E.output faults.new) }
 {
     let Some(order) = read_order(words) else {

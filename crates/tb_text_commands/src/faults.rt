@@ -24,6 +24,8 @@ pub enum Fault {
     NoMemory,
     /// The next request is new, and the end of time leaves no time for it.
     TimeExhausted,
+    /// There are more than 2^64 - 1 statements, frames or entries.
+    TooLong,
     /// The next frame is none.
     Frame(FrameFault),
     /// The dump is none, from here on.
@@ -170,6 +172,7 @@ impl Fault {
             Fault::Frame(FrameFault::NoMemory) => 1,
             Fault::Usage => 2,
             Fault::TimeExhausted => 2,
+            Fault::TooLong => 2,
             Fault::Frame(_) => 2,
             Fault::Dump(_) => 2,
             Fault::Arguments(_) => 2,
@@ -188,6 +191,7 @@ impl Fault {
             Fault::Device => put_line(line_of("Device").as_slice(), faults),
             Fault::NoMemory => put_line(line_of("NoMemory").as_slice(), faults),
             Fault::TimeExhausted => put_line(line_of("TimeExhausted").as_slice(), faults),
+            Fault::TooLong => put_line(line_of("TooLong").as_slice(), faults),
             Fault::Frame(fault) => put_line(line_of(fault.name()).as_slice(), faults),
             Fault::Dump(fault) => put_line(line_of(fault.name()).as_slice(), faults),
             Fault::Arguments(line) => put_line(line.as_slice(), faults),

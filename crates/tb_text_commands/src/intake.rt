@@ -1,5 +1,7 @@
 //! Bytes that were read and wait to be taken: statements, or replies, one by one.
+ghost use Rattle.std.specs.Prelude.{◌≡◌, [], IfOk, drop, false, take, true};
 ghost use Rattle.tb_text_commands.specs.Ends.{Ended};
+ghost use Rattle.tb_text_commands.specs.Taken.{Holds, Stays, rest_of, waiting};
 
 use crate::faults::Fault;
 use std::alloc::Global;
@@ -28,7 +30,10 @@ pub struct Intake {
 
 impl Intake {
     /// Nothing read yet.
-    pub fn new(alloc: Global) -> Intake {
+    pub fn new(alloc: Global) -> Intake
+        ensures empty { rest_of result ≡ [] }
+        ensures goes_on { result.ended ≡ false }
+    {
         Intake {
             bytes: Vec::new(alloc),
             at: 0,
@@ -41,8 +46,22 @@ impl Intake {
     }
 
     /// What was read and not taken yet.
-    pub fn rest(&self) -> &[u8] {
+    pub fn rest(&self) -> &[u8]
+        ensures { result.now ≡ rest_of self.now }
+    {
         self.bytes.get(self.at..).unwrap_or(&[])
+    }
+
+    /// The first bytes of the rest, or all of it.
+    pub fn first(&self, length: usize) -> &[u8]
+        ensures { result.now ≡ take length (rest_of self.now) }
+    {
+        let rest = self.rest();
+        if length < rest.len() {
+            &rest[..length]
+        } else {
+            rest
+        }
     }
 
     /// The line and the column of a place in the rest, both from 1.
@@ -60,7 +79,10 @@ impl Intake {
     }
 
     /// Takes bytes of the rest.
-    pub fn take(&mut self, length: usize) {
+    pub fn take(&mut self, length: usize)
+        ensures rest { rest_of self.new ≡ drop length (rest_of self.old) }
+        ensures same { self.new.ended ≡ self.old.ended }
+    {
         let (line, column) = self.position_at(length);
         self.line = line;
         self.column = column;
@@ -70,7 +92,9 @@ impl Intake {
     }
 
     /// The number of bytes as far as the `;` of the next statement, where it was read.
-    pub fn statement(&mut self) -> Option<usize> {
+    pub fn statement(&mut self) -> Option<usize>
+        ensures { Holds self.old self.new }
+    {
         let rest = self.bytes.get(self.searched..).unwrap_or(&[]);
         for (place, byte) in rest.iter().enumerate() {
             match *byte {
@@ -88,12 +112,17 @@ impl Intake {
     }
 
     /// Moves the rest to the beginning of the memory.
-    fn make_room(&mut self) {
-        if self.at == 0 || self.bytes.len() < self.at {
+    fn make_room(&mut self)
+        ensures bytes { self.new.bytes.items ≡ rest_of self.old }
+        ensures first { self.new.at ≡ 0 }
+        ensures same { self.new.ended ≡ self.old.ended }
+    {
+        if self.at == 0 {
             return;
         }
-        let length = self.bytes.len() - self.at;
-        self.bytes.copy_within(self.at.., 0);
+        let at = self.at.min(self.bytes.len());
+        let length = self.bytes.len() - at;
+        self.bytes.copy_within(at.., 0);
         self.bytes.truncate(length);
         self.searched = self.searched.saturating_sub(self.at);
         self.at = 0;
@@ -106,8 +135,11 @@ impl Intake {
         reader: &mut R,
         writer: &mut W,
     ) -> Result<bool, Fault>
-        ensures { Ended result (R.input reader.old) (R.input reader.new) (W.output writer.old)
+        ensures ended { Ended result (R.input reader.old) (R.input reader.new) (W.output writer.old)
             (W.output writer.new) }
+        ensures kept { IfOk result (λ _.
+            Stays (waiting self.old (R.input reader.old)) (waiting self.new (R.input reader.new))) }
+        ensures end { IfOk result (λ more. more ≡ false → self.new.ended ≡ true) }
     {
         if self.ended {
             return Ok(false);

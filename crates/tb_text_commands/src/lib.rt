@@ -13,12 +13,14 @@ mod heads;
 mod help;
 mod intake;
 mod lines;
+mod lists;
 mod objects;
 mod results;
 mod running;
 mod scripts;
 mod statements;
 mod told;
+pub mod whole_laws;
 
 pub use arguments::{Order, read_order};
 pub use commands::command;

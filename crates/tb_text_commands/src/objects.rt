@@ -1,248 +1,201 @@
-//! Requests, replies and entries as JSON objects: the fields of the records by their names, numbers of 64 and 128 bits as
-//! strings, flags, statuses, operations and results by name.
-use serde::Serialize;
-use std::alloc::{AllocError, Global};
+//! Records, ids and results as JSON objects: the fields by their names, numbers of 64 and 128 bits as strings, flags and
+//! results by name.
+use serde::{Described, Serialize, Serializer};
 use tb_records::{
-    Account, AccountFlag, CreateAccountResult, CreateTransferResult, EventResult, Status, Transfer,
-    TransferFlag,
+    Account, AccountFlag, CreateAccountResult, CreateTransferResult, Transfer, TransferFlag,
 };
 
-/// An account.
-#[derive(Drop, Serialize)]
-pub struct AccountObject {
-    id: String,
-    debits_pending: String,
-    debits_posted: String,
-    credits_pending: String,
-    credits_posted: String,
-    user_data_128: String,
-    user_data_64: String,
-    user_data_32: u32,
-    reserved: u32,
-    ledger: u32,
-    code: u16,
-    flags: Vec<String>,
-    timestamp: String,
+/// What a plain field shows.
+#[derive(Clone, Copy)]
+pub enum Shown {
+    /// A number of 64 or 128 bits, or one in place of a name: a string.
+    Digits(u128),
+    /// A number of at most 32 bits.
+    Number(u32),
+    /// A name.
+    Name(&'static str),
 }
 
-/// A transfer.
-#[derive(Drop, Serialize)]
-pub struct TransferObject {
-    id: String,
-    debit_account_id: String,
-    credit_account_id: String,
-    amount: String,
-    pending_id: String,
-    user_data_128: String,
-    user_data_64: String,
-    user_data_32: u32,
-    timeout: u32,
-    ledger: u32,
-    code: u16,
-    flags: Vec<String>,
-    timestamp: String,
-}
+/// A plain field: its name, and what it shows.
+pub type Field = (&'static str, Shown);
 
-/// The result of an event that was not accepted.
-#[derive(Drop, Serialize)]
-pub struct ResultObject {
-    index: u32,
-    result: String,
-}
-
-/// An id that is looked up.
-#[derive(Drop, Serialize)]
-pub struct IdObject {
-    id: String,
-}
-
-/// A reply.
-#[derive(Drop, Serialize)]
-pub struct ReplyObject<T> {
-    pub client: String,
-    pub session: String,
-    pub request: u32,
-    pub operation: String,
-    pub status: String,
-    pub commit: String,
-    pub results: Vec<T>,
-}
-
-/// The head of a dump.
-#[derive(Drop, Serialize)]
-pub struct HeadObject {
-    pub profile: u32,
-    pub clients_max: u32,
-}
-
-/// The mark of a dump.
-#[derive(Drop, Serialize)]
-pub struct MarkObject {
-    pub profile: u32,
-}
-
-/// An entry of a dump.
-#[derive(Drop, Serialize)]
-pub struct EntryObject<T> {
-    pub commit: String,
-    pub time: String,
-    pub client: String,
-    pub session: String,
-    pub request: u32,
-    pub operation: String,
-    pub events: Vec<T>,
-}
-
-/// An event of a batch, and its result: `created` where it was accepted, and then the record as it was made.
-#[derive(Drop, Serialize)]
-pub struct EventObject<T> {
-    pub result: String,
-    pub event: T,
-}
-
-/// A pending transfer that has expired.
-#[derive(Drop, Serialize)]
-pub struct ExpiredObject {
-    pub time: String,
-    pub expired: TransferObject,
-}
-
-/// An account as it stands after an entry.
-#[derive(Drop, Serialize)]
-pub struct BalanceObject {
-    pub commit: String,
-    pub time: String,
-    pub account: AccountObject,
-}
-
-/// The names of an account's flags; bits that are no flag as one number behind them.
-fn account_flags(alloc: Global, flags: u16) -> Result<Vec<String>, AllocError> {
-    let mut names = Vec::new(alloc);
-    let mut rest = flags;
-    for flag in AccountFlag::ALL {
-        if flag.is_in(flags) {
-            names.push(flag.name().to_string(alloc)?)?;
-            rest &= !flag.bit();
+/// Writes plain fields.
+fn put_fields<S: Serializer>(out: &mut S, fields: &[Field]) -> Result<(), S::Error> {
+    for (name, shown) in fields {
+        out.key(name)?;
+        match shown {
+            Shown::Digits(number) => out.collect_str(number)?,
+            Shown::Number(number) => out.u64(u64::from(*number))?,
+            Shown::Name(text) => out.str(text)?,
         }
     }
-    if rest != 0 {
-        names.push(rest.to_string(alloc)?)?;
-    }
-    Ok(names)
+    Ok(())
 }
 
-/// The names of a transfer's flags; bits that are no flag as one number behind them.
-fn transfer_flags(alloc: Global, flags: u16) -> Result<Vec<String>, AllocError> {
-    let mut names = Vec::new(alloc);
-    let mut rest = flags;
-    for flag in TransferFlag::ALL {
-        if flag.is_in(flags) {
-            names.push(flag.name().to_string(alloc)?)?;
-            rest &= !flag.bit();
+/// An object of plain fields.
+#[derive(Drop)]
+pub struct Plain<'a>(pub &'a [Field]);
+
+impl Described for Plain<'_> {}
+
+impl Serialize for Plain<'_> {
+    fn serialize<S: Serializer>(&self, out: &mut S) -> Result<(), S::Error> {
+        out.begin_map(None)?;
+        put_fields(out, self.0)?;
+        out.end_map()
+    }
+}
+
+/// An object of plain fields, and behind them one field more.
+#[derive(Drop)]
+pub struct Object<'a, T> {
+    pub fields: &'a [Field],
+    pub name: &'static str,
+    pub last: &'a T,
+}
+
+impl<T> Described for Object<'_, T> {}
+
+impl<T: Serialize> Serialize for Object<'_, T> {
+    fn serialize<S: Serializer>(&self, out: &mut S) -> Result<(), S::Error> {
+        out.begin_map(None)?;
+        put_fields(out, self.fields)?;
+        out.key(self.name)?;
+        self.last.serialize(out)?;
+        out.end_map()
+    }
+}
+
+/// The flags of an account by their names; bits that are no flag as one number behind them.
+#[derive(Clone, Copy)]
+struct AccountFlags(u16);
+
+impl Described for AccountFlags {}
+
+impl Serialize for AccountFlags {
+    fn serialize<S: Serializer>(&self, out: &mut S) -> Result<(), S::Error> {
+        let mut rest = self.0;
+        out.begin_seq(None)?;
+        for flag in AccountFlag::ALL {
+            if flag.is_in(rest) {
+                out.str(flag.name())?;
+                rest &= !flag.bit();
+            }
         }
+        if rest != 0 {
+            out.collect_str(&rest)?;
+        }
+        out.end_seq()
     }
-    if rest != 0 {
-        names.push(rest.to_string(alloc)?)?;
+}
+
+/// The flags of a transfer by their names; bits that are no flag as one number behind them.
+#[derive(Clone, Copy)]
+struct TransferFlags(u16);
+
+impl Described for TransferFlags {}
+
+impl Serialize for TransferFlags {
+    fn serialize<S: Serializer>(&self, out: &mut S) -> Result<(), S::Error> {
+        let mut rest = self.0;
+        out.begin_seq(None)?;
+        for flag in TransferFlag::ALL {
+            if flag.is_in(rest) {
+                out.str(flag.name())?;
+                rest &= !flag.bit();
+            }
+        }
+        if rest != 0 {
+            out.collect_str(&rest)?;
+        }
+        out.end_seq()
     }
-    Ok(names)
 }
 
-/// The object of an account.
-pub fn account_object(alloc: Global, a: &Account) -> Result<AccountObject, AllocError> {
-    Ok(AccountObject {
-        id: a.id.to_string(alloc)?,
-        debits_pending: a.debits_pending.to_string(alloc)?,
-        debits_posted: a.debits_posted.to_string(alloc)?,
-        credits_pending: a.credits_pending.to_string(alloc)?,
-        credits_posted: a.credits_posted.to_string(alloc)?,
-        user_data_128: a.user_data_128.to_string(alloc)?,
-        user_data_64: a.user_data_64.to_string(alloc)?,
-        user_data_32: a.user_data_32,
-        reserved: a.reserved,
-        ledger: a.ledger,
-        code: a.code,
-        flags: account_flags(alloc, a.flags)?,
-        timestamp: a.timestamp.to_string(alloc)?,
-    })
+/// The fields of an account before its flags.
+fn account_fields(a: &Account) -> [Field; 11] {
+    [
+        ("id", Shown::Digits(a.id)),
+        ("debits_pending", Shown::Digits(a.debits_pending)),
+        ("debits_posted", Shown::Digits(a.debits_posted)),
+        ("credits_pending", Shown::Digits(a.credits_pending)),
+        ("credits_posted", Shown::Digits(a.credits_posted)),
+        ("user_data_128", Shown::Digits(a.user_data_128)),
+        ("user_data_64", Shown::Digits(u128::from(a.user_data_64))),
+        ("user_data_32", Shown::Number(a.user_data_32)),
+        ("reserved", Shown::Number(a.reserved)),
+        ("ledger", Shown::Number(a.ledger)),
+        ("code", Shown::Number(u32::from(a.code))),
+    ]
 }
 
-/// The object of a transfer.
-pub fn transfer_object(alloc: Global, t: &Transfer) -> Result<TransferObject, AllocError> {
-    Ok(TransferObject {
-        id: t.id.to_string(alloc)?,
-        debit_account_id: t.debit_account_id.to_string(alloc)?,
-        credit_account_id: t.credit_account_id.to_string(alloc)?,
-        amount: t.amount.to_string(alloc)?,
-        pending_id: t.pending_id.to_string(alloc)?,
-        user_data_128: t.user_data_128.to_string(alloc)?,
-        user_data_64: t.user_data_64.to_string(alloc)?,
-        user_data_32: t.user_data_32,
-        timeout: t.timeout,
-        ledger: t.ledger,
-        code: t.code,
-        flags: transfer_flags(alloc, t.flags)?,
-        timestamp: t.timestamp.to_string(alloc)?,
-    })
+/// The fields of a transfer before its flags.
+fn transfer_fields(t: &Transfer) -> [Field; 11] {
+    [
+        ("id", Shown::Digits(t.id)),
+        ("debit_account_id", Shown::Digits(t.debit_account_id)),
+        ("credit_account_id", Shown::Digits(t.credit_account_id)),
+        ("amount", Shown::Digits(t.amount)),
+        ("pending_id", Shown::Digits(t.pending_id)),
+        ("user_data_128", Shown::Digits(t.user_data_128)),
+        ("user_data_64", Shown::Digits(u128::from(t.user_data_64))),
+        ("user_data_32", Shown::Number(t.user_data_32)),
+        ("timeout", Shown::Number(t.timeout)),
+        ("ledger", Shown::Number(t.ledger)),
+        ("code", Shown::Number(u32::from(t.code))),
+    ]
 }
 
-/// The object of an id.
-pub fn id_object(alloc: Global, id: u128) -> Result<IdObject, AllocError> {
-    Ok(IdObject {
-        id: id.to_string(alloc)?,
-    })
+/// Writes the object of a record: the fields before its flags, its flags and its timestamp.
+fn put_record<S: Serializer, F: Serialize>(
+    out: &mut S,
+    fields: &[Field],
+    flags: &F,
+    timestamp: u64,
+) -> Result<(), S::Error> {
+    out.begin_map(None)?;
+    put_fields(out, fields)?;
+    out.key("flags")?;
+    flags.serialize(out)?;
+    put_fields(out, &[("timestamp", Shown::Digits(u128::from(timestamp)))])?;
+    out.end_map()
 }
 
-/// The name of a result to the events of an operation, or its number where there is none.
-pub fn result_name(
-    alloc: Global,
-    operation: u8,
-    event: &EventResult,
-) -> Result<String, AllocError> {
+/// An account as an object.
+#[derive(Drop)]
+pub struct AccountObject<'a>(pub &'a Account);
+
+impl Described for AccountObject<'_> {}
+
+impl Serialize for AccountObject<'_> {
+    fn serialize<S: Serializer>(&self, out: &mut S) -> Result<(), S::Error> {
+        let fields = account_fields(self.0);
+        put_record(out, &fields, &AccountFlags(self.0.flags), self.0.timestamp)
+    }
+}
+
+/// A transfer as an object.
+#[derive(Drop)]
+pub struct TransferObject<'a>(pub &'a Transfer);
+
+impl Described for TransferObject<'_> {}
+
+impl Serialize for TransferObject<'_> {
+    fn serialize<S: Serializer>(&self, out: &mut S) -> Result<(), S::Error> {
+        let fields = transfer_fields(self.0);
+        put_record(out, &fields, &TransferFlags(self.0.flags), self.0.timestamp)
+    }
+}
+
+/// The result of an event of an operation by its name, or by its number where it has none.
+pub fn result_shown(operation: u8, code: u32) -> Shown {
     let name = if operation == 129 {
-        CreateAccountResult::from_code(event.result).map(|code| code.name())
+        CreateAccountResult::from_code(code).map(|verdict| verdict.name())
     } else {
-        CreateTransferResult::from_code(event.result).map(|code| code.name())
+        CreateTransferResult::from_code(code).map(|verdict| verdict.name())
     };
     match name {
-        Some(name) => name.to_string(alloc),
-        None => event.result.to_string(alloc),
-    }
-}
-
-/// The object of a result to the events of an operation.
-pub fn result_object(
-    alloc: Global,
-    operation: u8,
-    event: &EventResult,
-) -> Result<ResultObject, AllocError> {
-    Ok(ResultObject {
-        index: event.index,
-        result: result_name(alloc, operation, event)?,
-    })
-}
-
-/// The name of a status.
-pub fn status_name(status: Status) -> &'static str {
-    match status {
-        Status::Reply => "reply",
-        Status::NoSession => "no_session",
-        Status::SessionTooLow => "session_too_low",
-        Status::NewerSession => "newer_session",
-        Status::Older => "older",
-        Status::Collision => "collision",
-        Status::NewerRequest => "newer_request",
-        Status::NotYet => "not_yet",
-    }
-}
-
-/// The name of an operation's number.
-pub fn operation_name(operation: u8) -> &'static str {
-    match operation {
-        2 => "register",
-        129 => "create_accounts",
-        130 => "create_transfers",
-        131 => "lookup_accounts",
-        132 => "lookup_transfers",
-        _ => "unknown",
+        Some(name) => Shown::Name(name),
+        None => Shown::Digits(u128::from(code)),
     }
 }

@@ -1,4 +1,5 @@
 //! What became of the events of a machine's last entry.
+use crate::objects::{Shown, result_shown};
 use std::alloc::Global;
 use tb_machine::Machine;
 use tb_records::{EventResult, ReplyBody};
@@ -22,4 +23,14 @@ pub fn is_accepted(results: &[EventResult], index: usize) -> bool {
         }
     }
     true
+}
+
+/// What became of an event of an operation: `created` where no result says that it was not accepted.
+pub fn outcome_of(operation: u8, results: &[EventResult], index: usize) -> Shown {
+    for result in results {
+        if result.index as usize == index {
+            return result_shown(operation, result.result);
+        }
+    }
+    Shown::Name("created")
 }

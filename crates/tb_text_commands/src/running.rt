@@ -1,8 +1,10 @@
 //! A server for statements: each is served when it is read, and its reply is told as a line of JSON.
-ghost use Rattle.std.specs.Prelude.{◌≡◌, false, IfErr, IfOk, Some};
+ghost use Rattle.std.specs.Prelude.{◌≡◌, false, true, IfErr, IfOk, OnOk, Some};
 ghost use Rattle.tb_sessions.specs.Judged.{class_of};
 ghost use Rattle.tb_text_commands.specs.Completed.{standing_in};
 ghost use Rattle.tb_text_commands.specs.Ends.{Ended, IsOfInput, Written, is_passing};
+ghost use Rattle.tb_text_commands.specs.Taken.{TakesNone, TakesOne, waiting};
+ghost use Rattle.tb_text_commands.specs.Whole.{IsStatement, Parts, WasWhole};
 
 use crate::completing::{Standing, Standings};
 use crate::faults::Fault;
@@ -128,8 +130,14 @@ fn serve_next<C: Clock, R: Source, W: Sink>(
     writer: &mut W,
     talks: bool,
 ) -> Result<bool, Fault>
-    ensures { Ended result (R.input reader.old) (R.input reader.new) (W.output writer.old)
+    ensures ended { Ended result (R.input reader.old) (R.input reader.new) (W.output writer.old)
         (W.output writer.new) }
+    ensures more { IfOk result (λ served. served ≡ true
+        → TakesOne IsStatement (waiting intake.old (R.input reader.old))
+        (waiting intake.new (R.input reader.new))) }
+    ensures none { IfOk result (λ served. served ≡ false
+        → TakesNone (waiting intake.old (R.input reader.old))
+        (waiting intake.new (R.input reader.new))) }
 {
     let Some(pairs) = next_statement(alloc, intake, server, reader, writer, talks)? else {
         return Ok(false)
@@ -156,6 +164,7 @@ fn converse<C: Clock, R: Source, W: Sink, E: Sink>(
 ) -> Result<(), Fault>
     ensures ended { Ended result (R.input reader.old) (R.input reader.new) (W.output writer.old)
         (W.output writer.new) }
+    ensures whole { OnOk result (WasWhole (Parts IsStatement) (R.input reader.old).left) }
     ensures quiet { IfOk result (λ _. faults.new ≡ faults.old) }
     ensures silent { talks ≡ false → faults.new ≡ faults.old }
 {
@@ -164,7 +173,8 @@ fn converse<C: Clock, R: Source, W: Sink, E: Sink>(
     for _ in 0..u64::MAX {
         match serve_next(alloc, server, &mut intake, reader, writer, talks) {
             Ok(true) => {}
-            Ok(false) => break,
+            Ok(false) if told => return Err(Fault::WasTold),
+            Ok(false) => return Ok(()),
             Err(fault) if talks && is_passing(&fault) => {
                 writer.pass_on();
                 fault.tell(faults);
@@ -173,7 +183,7 @@ fn converse<C: Clock, R: Source, W: Sink, E: Sink>(
             Err(fault) => return Err(fault),
         }
     }
-    if told { Err(Fault::WasTold) } else { Ok(()) }
+    Err(Fault::TooLong)
 }
 
 /// Serves statements by a machine of its own. One that leaves out its moment comes when the clock says.
@@ -189,6 +199,7 @@ pub fn run<C: Clock, R: Source, W: Sink, E: Sink>(
 ) -> Result<(), Fault>
     ensures ended { Ended result (R.input reader.old) (R.input reader.new) (W.output writer.old)
         (W.output writer.new) }
+    ensures whole { OnOk result (WasWhole (Parts IsStatement) (R.input reader.old).left) }
     ensures quiet { IfOk result (λ _. faults.new ≡ faults.old) }
     ensures silent { talks ≡ false → faults.new ≡ faults.old }
 {

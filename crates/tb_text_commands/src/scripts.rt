@@ -1,5 +1,8 @@
 //! The forms between statements, scripts, replies and dumps.
+ghost use Rattle.std.specs.Prelude.{IfOk, OnOk};
 ghost use Rattle.tb_text_commands.specs.Ends.{Ended, Written};
+ghost use Rattle.tb_text_commands.specs.Taken.{TakesNext, waiting};
+ghost use Rattle.tb_text_commands.specs.Whole.{IsDump, IsItem, IsPair, IsReplyFrame, IsStatement, Parts, WasWhole};
 
 use crate::faults::{Fault, dump_fault, frame_fault};
 use crate::intake::Intake;
@@ -56,6 +59,14 @@ fn put_pairs<W: Sink>(writer: &mut W, pairs: &[(u64, Request)]) -> Result<(), Fa
     Ok(())
 }
 
+/// Notes what requests tell, and writes their pairs.
+fn put_told<W: Sink>(told: &mut Told, writer: &mut W, pairs: &[(u64, Request)]) -> Result<(), Fault>
+    ensures { Written result (W.output writer.old) (W.output writer.new) }
+{
+    told.note(pairs)?;
+    put_pairs(writer, pairs)
+}
+
 /// Writes the script of statements, with what they leave out where the statements before tell it; where they go wrong, that
 /// of the statements before.
 pub fn script<R: Source, W: Sink>(
@@ -63,19 +74,50 @@ pub fn script<R: Source, W: Sink>(
     reader: &mut R,
     writer: &mut W,
 ) -> Result<(), Fault>
-    ensures { Ended result (R.input reader.old) (R.input reader.new) (W.output writer.old)
+    ensures ended { Ended result (R.input reader.old) (R.input reader.new) (W.output writer.old)
         (W.output writer.new) }
+    ensures whole { OnOk result (WasWhole (Parts IsStatement) (R.input reader.old).left) }
 {
     let mut intake = Intake::new(alloc);
     let mut told = Told::new(alloc);
     for _ in 0..u64::MAX {
-        let Some(pairs) = next_statement(alloc, &mut intake, &told, reader, writer, false)? else {
-            break;
-        };
-        told.note(pairs.as_slice())?;
-        put_pairs(writer, pairs.as_slice())?;
+        match next_statement(alloc, &mut intake, &told, reader, writer, false)? {
+            Some(pairs) => put_told(&mut told, writer, pairs.as_slice())?,
+            None => return Ok(()),
+        }
     }
-    Ok(())
+    Err(Fault::TooLong)
+}
+
+/// The next pair of a script. What was written is passed on first, where it may have to be waited for.
+fn next_pair<R: Source, W: Sink>(
+    alloc: Global,
+    reader: &mut R,
+    writer: &mut W,
+) -> Result<Option<(u64, Request)>, Fault>
+    ensures ended { Ended result (R.input reader.old) (R.input reader.new) (W.output writer.old)
+        (W.output writer.new) }
+    ensures taken { IfOk result (λ next. TakesNext IsPair next (R.input reader.old).left (R.input reader.new).left) }
+{
+    if !holds_pair(reader.at_hand()) {
+        writer.pass_on();
+    }
+    match read_timed_from(alloc, reader) {
+        Ok(pair) => Ok(pair),
+        Err(fault) => Err(frame_fault(fault)),
+    }
+}
+
+/// Writes the statement of a pair.
+fn put_statement<W: Sink>(alloc: Global, writer: &mut W, pair: &(u64, Request)) -> Result<(), Fault>
+    ensures { Written result (W.output writer.old) (W.output writer.new) }
+{
+    let (moment, request) = pair;
+    let mut text = Vec::new(alloc);
+    match print_request(alloc, &mut text, *moment, request) {
+        Ok(()) => put(writer, text.as_slice()),
+        Err(_) => Err(Fault::NoMemory),
+    }
 }
 
 /// Writes the statements of a script.
@@ -84,25 +126,17 @@ pub fn requests<R: Source, W: Sink>(
     reader: &mut R,
     writer: &mut W,
 ) -> Result<(), Fault>
-    ensures { Ended result (R.input reader.old) (R.input reader.new) (W.output writer.old)
+    ensures ended { Ended result (R.input reader.old) (R.input reader.new) (W.output writer.old)
         (W.output writer.new) }
+    ensures whole { OnOk result (WasWhole (Parts IsPair) (R.input reader.old).left) }
 {
     for _ in 0..u64::MAX {
-        if !holds_pair(reader.at_hand()) {
-            writer.pass_on();
+        match next_pair(alloc, reader, writer)? {
+            Some(pair) => put_statement(alloc, writer, &pair)?,
+            None => return Ok(()),
         }
-        let (moment, request) = match read_timed_from(alloc, reader) {
-            Ok(Some(pair)) => pair,
-            Ok(None) => break,
-            Err(fault) => return Err(frame_fault(fault)),
-        };
-        let mut text = Vec::new(alloc);
-        if print_request(alloc, &mut text, moment, &request).is_err() {
-            return Err(Fault::NoMemory);
-        }
-        put(writer, text.as_slice())?;
     }
-    Ok(())
+    Err(Fault::TooLong)
 }
 
 /// The next reply, None where there is none.
@@ -112,8 +146,11 @@ fn next_reply<R: Source, W: Sink>(
     reader: &mut R,
     writer: &mut W,
 ) -> Result<Option<Reply>, Fault>
-    ensures { Ended result (R.input reader.old) (R.input reader.new) (W.output writer.old)
+    ensures ended { Ended result (R.input reader.old) (R.input reader.new) (W.output writer.old)
         (W.output writer.new) }
+    ensures taken { IfOk result (λ next.
+        TakesNext IsReplyFrame next (waiting intake.old (R.input reader.old))
+        (waiting intake.new (R.input reader.new))) }
 {
     for _ in 0..u64::MAX {
         match read_reply(alloc, intake.rest()) {
@@ -133,7 +170,7 @@ fn next_reply<R: Source, W: Sink>(
             };
         }
     }
-    Ok(None)
+    Err(Fault::TooLong)
 }
 
 /// Writes a line for each reply.
@@ -142,17 +179,18 @@ pub fn replies<R: Source, W: Sink>(
     reader: &mut R,
     writer: &mut W,
 ) -> Result<(), Fault>
-    ensures { Ended result (R.input reader.old) (R.input reader.new) (W.output writer.old)
+    ensures ended { Ended result (R.input reader.old) (R.input reader.new) (W.output writer.old)
         (W.output writer.new) }
+    ensures whole { OnOk result (WasWhole (Parts IsReplyFrame) (R.input reader.old).left) }
 {
     let mut intake = Intake::new(alloc);
     for _ in 0..u64::MAX {
-        let Some(reply) = next_reply(alloc, &mut intake, reader, writer)? else {
-            break;
-        };
-        put_line(writer, reply_line(alloc, &reply))?;
+        match next_reply(alloc, &mut intake, reader, writer)? {
+            Some(reply) => put_line(writer, reply_line(alloc, &reply))?,
+            None => return Ok(()),
+        }
     }
-    Ok(())
+    Err(Fault::TooLong)
 }
 
 /// What stands next behind the head of a dump. What was written is passed on first, where it may have to be waited for.
@@ -161,8 +199,9 @@ pub fn next_item<R: Source, W: Sink>(
     reader: &mut R,
     writer: &mut W,
 ) -> Result<Option<DumpItem>, Fault>
-    ensures { Ended result (R.input reader.old) (R.input reader.new) (W.output writer.old)
+    ensures ended { Ended result (R.input reader.old) (R.input reader.new) (W.output writer.old)
         (W.output writer.new) }
+    ensures taken { IfOk result (λ next. TakesNext IsItem next (R.input reader.old).left (R.input reader.new).left) }
 {
     if !holds_item(reader.at_hand()) {
         writer.pass_on();
@@ -175,8 +214,9 @@ pub fn next_item<R: Source, W: Sink>(
 
 /// Writes a line for the head, each entry and the mark of a dump.
 pub fn dump<R: Source, W: Sink>(alloc: Global, reader: &mut R, writer: &mut W) -> Result<(), Fault>
-    ensures { Ended result (R.input reader.old) (R.input reader.new) (W.output writer.old)
+    ensures ended { Ended result (R.input reader.old) (R.input reader.new) (W.output writer.old)
         (W.output writer.new) }
+    ensures whole { OnOk result (WasWhole IsDump (R.input reader.old).left) }
 {
     let head = match read_head_from(reader) {
         Ok(head) => head,
@@ -184,28 +224,38 @@ pub fn dump<R: Source, W: Sink>(alloc: Global, reader: &mut R, writer: &mut W) -
     };
     put_line(writer, head_line(alloc, &head))?;
     for _ in 0..u64::MAX {
-        let Some(item) = next_item(alloc, reader, writer)? else {
-            break;
-        };
-        put_line(writer, item_line(alloc, &item))?;
+        match next_item(alloc, reader, writer)? {
+            Some(item) => put_line(writer, item_line(alloc, &item))?,
+            None => return Ok(()),
+        }
     }
-    Ok(())
+    Err(Fault::TooLong)
+}
+
+/// Writes the pair of an entry; a mark has none.
+fn put_item<W: Sink>(writer: &mut W, item: &DumpItem) -> Result<(), Fault>
+    ensures { Written result (W.output writer.old) (W.output writer.new) }
+{
+    match item {
+        DumpItem::Entry { time, request, .. } => put_pair(writer, *time, request),
+        DumpItem::Mark => Ok(()),
+    }
 }
 
 /// Writes the pairs of a dump's entries: each request at its entry's time.
 pub fn pairs<R: Source, W: Sink>(alloc: Global, reader: &mut R, writer: &mut W) -> Result<(), Fault>
-    ensures { Ended result (R.input reader.old) (R.input reader.new) (W.output writer.old)
+    ensures ended { Ended result (R.input reader.old) (R.input reader.new) (W.output writer.old)
         (W.output writer.new) }
+    ensures whole { OnOk result (WasWhole IsDump (R.input reader.old).left) }
 {
     if let Err(fault) = read_head_from(reader) {
         return Err(dump_fault(fault));
     }
     for _ in 0..u64::MAX {
         match next_item(alloc, reader, writer)? {
-            Some(DumpItem::Entry { time, request, .. }) => put_pair(writer, time, &request)?,
-            Some(DumpItem::Mark) => {}
-            None => break,
+            Some(item) => put_item(writer, &item)?,
+            None => return Ok(()),
         }
     }
-    Ok(())
+    Err(Fault::TooLong)
 }

@@ -1,6 +1,8 @@
 //! Statements that are read one by one.
-ghost use Rattle.std.specs.Prelude.{IfErr};
+ghost use Rattle.std.specs.Prelude.{IfErr, IfOk, OnOk};
 ghost use Rattle.tb_text_commands.specs.Ends.{Ended, IsOfInput};
+ghost use Rattle.tb_text_commands.specs.Taken.{TakesNext, TakesPart, waiting};
+ghost use Rattle.tb_text_commands.specs.Whole.{IsStatement};
 
 use crate::completing::{Standings, Untold, completed, untold_in};
 use crate::faults::Fault;
@@ -64,10 +66,10 @@ fn take_text<S: Standings>(
     standings: &S,
     length: usize,
 ) -> Result<Items<(u64, Request)>, Fault>
-    ensures { IfErr result IsOfInput }
+    ensures fault { IfErr result IsOfInput }
+    ensures taken { OnOk result (TakesPart IsStatement intake.old intake.new) }
 {
-    let rest = intake.rest();
-    let text = rest.get(..length).unwrap_or(rest);
+    let text = intake.first(length);
     let clock = standings.moment().map(|moment| moment as u128);
     let Ok(whole) = completed(alloc, clock, standings, text) else {
         return Err(Fault::NoMemory);
@@ -75,15 +77,30 @@ fn take_text<S: Standings>(
     let Ok(reading) = read_text(alloc, whole.as_slice()) else {
         return Err(Fault::NoMemory);
     };
-    let fault = match reading.fault {
-        Some(fault) => Some(fault_in(alloc, intake, standings, text, whole.as_slice(), fault)),
-        None => None,
-    };
-    intake.take(length);
-    match fault {
-        Some(fault) => Err(fault),
-        None => Ok(reading.pairs),
+    match reading.fault {
+        Some(fault) => {
+            let fault = fault_in(alloc, intake, standings, text, whole.as_slice(), fault);
+            intake.take(length);
+            Err(fault)
+        }
+        None => {
+            intake.take(length);
+            Ok(reading.pairs)
+        }
     }
+}
+
+/// The requests of the rest, which is taken; or where they go wrong.
+fn take_all<S: Standings>(
+    alloc: Global,
+    intake: &mut Intake,
+    standings: &S,
+) -> Result<Items<(u64, Request)>, Fault>
+    ensures fault { IfErr result IsOfInput }
+    ensures taken { OnOk result (TakesPart IsStatement intake.old intake.new) }
+{
+    let length = intake.rest().len();
+    take_text(alloc, intake, standings, length)
 }
 
 /// Says that the lines of the rest begin no statement, whatever follows. That needs no clock: any moment fits.
@@ -117,24 +134,26 @@ pub fn next_statement<R: Source, W: Sink, S: Standings>(
     writer: &mut W,
     urgent: bool,
 ) -> Result<Option<Items<(u64, Request)>>, Fault>
-    ensures { Ended result (R.input reader.old) (R.input reader.new) (W.output writer.old)
+    ensures ended { Ended result (R.input reader.old) (R.input reader.new) (W.output writer.old)
         (W.output writer.new) }
+    ensures taken { IfOk result (λ next.
+        TakesNext IsStatement next (waiting intake.old (R.input reader.old))
+        (waiting intake.new (R.input reader.new))) }
 {
     for _ in 0..u64::MAX {
         if let Some(length) = intake.statement() {
             return Ok(Some(take_text(alloc, intake, standings, length)?));
         }
-        let length = intake.rest().len();
         if urgent && goes_wrong(alloc, intake, standings)? {
-            return Ok(Some(take_text(alloc, intake, standings, length)?));
+            return Ok(Some(take_all(alloc, intake, standings)?));
         }
         if !intake.read_more(reader, writer)? {
-            return if length == 0 {
+            return if intake.rest().is_empty() {
                 Ok(None)
             } else {
-                Ok(Some(take_text(alloc, intake, standings, length)?))
+                Ok(Some(take_all(alloc, intake, standings)?))
             };
         }
     }
-    Ok(None)
+    Err(Fault::TooLong)
 }

@@ -5,3 +5,6 @@ returns-in-NoMemory g c = rw c.in-NoMemory.is (rw (c.as_slice-in-NoMemory.ensure
 
 pub returns-in-TimeExhausted : goal.returns-in-TimeExhausted
 returns-in-TimeExhausted g c = rw c.in-TimeExhausted.is (rw (c.as_slice-in-TimeExhausted.ensures.value, c.line_of-in-TimeExhausted.ensures) at c.put_line-in-TimeExhausted.ensures)
+
+pub returns-in-TooLong : goal.returns-in-TooLong
+returns-in-TooLong g c = rw c.in-TooLong.is (rw (c.as_slice-in-TooLong.ensures.value, c.line_of-in-TooLong.ensures) at c.put_line-in-TooLong.ensures)
