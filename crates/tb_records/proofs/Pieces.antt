@@ -1,5 +1,5 @@
 -- Buffers that are filled or emptied piece by piece, and counts that rise.
-use Rattle.std.proofs.Common.{◌≡◌, ℕ, ◌*◌, [], ◌∷◌, get_or, flat_map, All, subst, Option, true, ◌+◌, ◌-◌, ◌<◌, ◌≤◌, inl, inr, min, List, ◌++◌, length, take, drop, cond, not, ◌&&◌, ◌==◌, sym, ap, ◌∙◌, arith, length-take, length-append, length-drop}
+use Rattle.std.proofs.Common.{◌≡◌, ℕ, ◌*◌, [], ◌∷◌, get_or, flat_map, All, refl, subst, Option, true, false, ◌+◌, ◌-◌, ◌<◌, ◌≤◌, inl, inr, min, List, ◌++◌, length, take, drop, cond, not, ◌&&◌, ◌==◌, sym, ap, ◌∙◌, arith, length-take, length-append, length-drop}
 use Rattle.std.proofs.lemmas.List.{take-append-le, take-append-drop, take_min, drop_more}
 use Rattle.std.proofs.lemmas.Grind.{flat_map-append}
 use Rattle.std.proofs.lemmas.List.Elements.{All-append, All-cons, All-nil}
@@ -86,23 +86,37 @@ fit_more Fits items k x h e fits all =
     subst (All Fits) (sym (take-add k 1 items ∙ ap (λ l. take k items ++ l) next))
     (All-append Fits (take k items) (x ∷ []) all (All-cons Fits x [] fits (All-nil Fits)))
 
--- a row of items was cut off in one of them
-pub cut_off_at : {X : Type 0} (spelling : X → List ℕ) (items : List X) (k : ℕ) (x : X) (bytes : List ℕ) (old mid new : Output)
-    → k < length items → x ≡ get_or items k x → bytes ≡ spelling x → Appends old.written mid.written (flat_map spelling (take k items)) → mid.failed ≡ old.failed → mid.stalled ≡ old.stalled
-    → CutOff bytes mid new → CutOff (flat_map spelling items) old new
-cut_off_at spelling items k x bytes old mid new h at spelled grown counted flowed cut =
-    let front = flat_map spelling (take k items) in
-    let rest = flat_map spelling (drop (k + 1) items) in
-    let n = min cut.count (length (spelling x)) in
-    let here : take (length front + n) (flat_map spelling items) ≡ front ++ take cut.count bytes =
-    ap (take (length front + n)) (spellings_at spelling items k x h at)
-    ∙ take-append-add front (spelling x ++ rest) n
-    ∙ ap (λ l. front ++ l) (take-append-le n (spelling x) rest (omega arith) ∙ take_min cut.count (spelling x) ∙ ap (take cut.count) (sym spelled)) in
+-- bytes were cut off in one of their parts
+pub cut_off_in : (front bytes rest whole : List ℕ) (old mid new : Output)
+    → whole ≡ front ++ (bytes ++ rest) → Appends old.written mid.written front → mid.failed ≡ old.failed → mid.stalled ≡ old.stalled
+    → CutOff bytes mid new → CutOff whole old new
+cut_off_in front bytes rest whole old mid new parts grown counted flowed cut =
+    let n = min cut.count (length bytes) in
+    let here : take (length front + n) whole ≡ front ++ take cut.count bytes =
+    ap (take (length front + n)) parts
+    ∙ take-append-add front (bytes ++ rest) n
+    ∙ ap (λ l. front ++ l) (take-append-le n bytes rest (omega arith) ∙ take_min cut.count bytes) in
     record {
       count = length front + n;
       grown = subst (Appends old.written new.written) (sym here) (Appends-trans old.written mid.written new.written front (take cut.count bytes) grown cut.grown);
       refused = refuses_since old mid new counted flowed cut.refused;
     }
+
+-- the spellings of a row in three parts
+pub spellings_in : {X : Type 0} (spelling : X → List ℕ) (front part rest items : List X) → items ≡ front ++ (part ++ rest)
+    → flat_map spelling items ≡ flat_map spelling front ++ (flat_map spelling part ++ flat_map spelling rest)
+spellings_in spelling front part rest items parts =
+    ap (flat_map spelling) parts
+    ∙ flat_map-append spelling front (part ++ rest)
+    ∙ ap (λ l. flat_map spelling front ++ l) (flat_map-append spelling part rest)
+
+-- two parts of a row, cut at one place
+pub rejoined : {X : Type 0} (n : ℕ) (xs front more : List X) → front ≡ take n xs → more ≡ drop n xs → front ++ more ≡ xs
+rejoined n xs front more e f = ap (λ l. l ++ more) e ∙ ap (λ l. take n xs ++ l) f ∙ take-append-drop n xs
+
+pub none_left : {X : Type 0} (xs : List X) → true ≡ (length xs == 0) → xs ≡ []
+none_left [] none = refl
+none_left (x ∷ xs) none = let never : true ≡ false = none ∙ ne_eqb (length (x ∷ xs)) 0 (omega arith) in absurd (cc)
 
 -- items of one size
 pub length-items : {X : Type 0} (spelling : X → List ℕ) (size : ℕ) (items : List X) → ((x : X) → length (spelling x) ≡ size) → length (flat_map spelling items) ≡ length items * size

@@ -1,5 +1,5 @@
 //! Readers and writers that count their failures, and the loops that fill and empty buffers.
-ghost use Rattle.std.specs.Prelude.{false, ◌≡◌, ◌≤◌, ◌<◌, ◌+◌, ◌*◌, ◌++◌, ℕ, [], List, Option, MatchResult, IfSome, OnOk, All, length, flat_map, vec_len, vec_capacity};
+ghost use Rattle.std.specs.Prelude.{false, ◌≡◌, ◌≤◌, ◌<◌, ◌+◌, ◌*◌, ◌++◌, ℕ, [], List, Option, MatchResult, IfSome, OnOk, All, length, take, flat_map, vec_len, vec_capacity};
 ghost use Rattle.std.specs.Io.{ReadsAtMost, WritesAtMost, StartsWith};
 ghost use Rattle.std.specs.Io.Buffered.{reader_buffer, reader_remaining};
 ghost use Rattle.std.specs.Io.KnownBytes.{Consumes, ReadConsumes, WriteAppends};
@@ -335,7 +335,25 @@ pub(crate) fn items_from<S: Source, T: Item>(
     Ok(items)
 }
 
-/// Writes a row of items, or stops where the writer fails or takes nothing.
+/// Writes the bytes of items one behind another, from the first byte of the block on, and answers how many they are.
+fn spell_items<T: Item>(items: &[T], block: &mut [u8]) -> usize
+    requires room { length items.now * T.SIZE ≤ length block.old }
+    ensures within { result ≤ length block.new }
+    ensures spelled { take result block.new ≡ flat_map T.spelling items.now }
+    ensures fit { All T.Fits items.now }
+{
+    let mut buf = [0; 128];
+    let mut at = 0;
+    for item in items {
+        item.write(&mut buf);
+        let bytes: &[u8] = &buf;
+        block[at..at + T::SIZE].copy_from_slice(&bytes[..T::SIZE]);
+        at += T::SIZE;
+    }
+    at
+}
+
+/// Writes a row of items, eight at a time, or stops where the writer fails or takes nothing.
 pub(crate) fn put_items<W: Sink, T: Item>(sink: &mut W, items: &[T]) -> Result<(), FrameFault>
     ensures sent { MatchResult result
         (λ _. Sent (flat_map T.spelling items.now) (W.output sink.old) (W.output sink.new))
@@ -344,11 +362,14 @@ pub(crate) fn put_items<W: Sink, T: Item>(sink: &mut W, items: &[T]) -> Result<(
         × CutOff (flat_map T.spelling items.now) (W.output sink.old) (W.output sink.new)) }
     ensures fit { OnOk result (All T.Fits items.now) }
 {
-    let mut buf = [0; 128];
-    for item in items {
-        item.write(&mut buf);
-        let bytes: &[u8] = &buf;
-        put_all(sink, &bytes[..T::SIZE])?;
+    let mut block = [0; 1024];
+    let mut left = items;
+    while !left.is_empty() {
+        let (part, rest) = left.split_at(left.len().min(8));
+        let count = spell_items(part, &mut block);
+        let bytes: &[u8] = &block;
+        put_all(sink, &bytes[..count])?;
+        left = rest;
     }
     Ok(())
 }

@@ -1,13 +1,61 @@
-use Rattle.std.proofs.Common.{◌∙◌, ap, take, arith}
+use Rattle.std.proofs.Common.{rules, ◌≡◌, ◌∙◌, ◌++◌, [], take, flat_map, All, sym, ap, subst, refl, append_assoc}
+use Rattle.std.proofs.lemmas.List.{append-nil}
 use Rattle.std.proofs.lemmas.Result.{err_from_is_err_and}
-use Rattle.tb_records.proofs.Pieces.{cut_off_at}
+use Rattle.std.proofs.lemmas.List.Elements.{All-append, All-nil}
+use Rattle.std.proofs.KnownBytes.{Appends-trans}
+use Rattle.std.specs.Io.KnownBytes.{Appends}
+use Rattle.tb_records.proofs.Pieces.{cut_off_in, spellings_in, rejoined, none_left}
+use Rattle.std.proofs.lemmas.Grind.{flat_map-append}
 use Rattle.tb_records.proofs.devices.put_items.Goals as goal
+
+pub loop-left-init : goal.loop-left-init
+loop-left-init g c = ([], refl, search rules, refl, refl, All-nil g.T.Item.Fits)
 
 pub returns-in_err-put_all-clause-sent : goal.returns-in_err-put_all-clause-sent
 returns-in_err-put_all-clause-sent g c =
+    let inv = c.loop-left.invariant in
+    let part = c.split_at.result.0.now in
+    let rest = c.split_at.result.1.now in
+    let cut : part ++ rest ≡ c.loop-left.left.now = rejoined c.min.result c.loop-left.left.now part rest c.split_at.ensures.front c.split_at.ensures.back in
     let p = err_from_is_err_and c.from_residual.result c.from_residual.ensures.1 in
+    let failed = c.in_err-put_all.ensures in
     rw (p.1, p.2) (
-      c.in_err-put_all.ensures.0,
-      cut_off_at g.T.Item.spelling c.args.items.now c.loop-item.item-index c.item-item.result _ _ _ _
-          (omega arith) c.item-item.is (ap (λ n. take n c.write.new.out) c.SIZE.ensures ∙ c.write.ensures.spelled) c.loop-item.invariant.grown c.loop-item.invariant.counted c.loop-item.invariant.flowed c.in_err-put_all.ensures.1,
+      failed.0,
+      cut_off_in (flat_map g.T.Item.spelling inv.0) _ (flat_map g.T.Item.spelling rest) _ _ _ _
+          (spellings_in g.T.Item.spelling inv.0 part rest c.args.items.now (inv.1 ∙ ap (λ l. inv.0 ++ l) (sym cut))
+          ∙ ap (λ l. flat_map g.T.Item.spelling inv.0 ++ (l ++ flat_map g.T.Item.spelling rest)) (sym c.spell_items-count.ensures.spelled))
+          inv.2 inv.3 inv.4 failed.1,
     )
+
+pub loop-left-preserved : goal.loop-left-preserved
+loop-left-preserved g c =
+    let inv = c.loop-left.invariant in
+    let part = c.split_at.result.0.now in
+    let rest = c.split_at.result.1.now in
+    let cut : part ++ rest ≡ c.loop-left.left.now = rejoined c.min.result c.loop-left.left.now part rest c.split_at.ensures.front c.split_at.ensures.back in
+    let sent = c.in_ok-put_all.ensures in
+    let spelled : flat_map g.T.Item.spelling (inv.0 ++ part) ≡ flat_map g.T.Item.spelling inv.0 ++ take c.spell_items-count.result c.spell_items-count.new.block =
+    flat_map-append g.T.Item.spelling inv.0 part ∙ ap (λ l. flat_map g.T.Item.spelling inv.0 ++ l) (sym c.spell_items-count.ensures.spelled) in (
+      inv.0 ++ part,
+      inv.1 ∙ ap (λ l. inv.0 ++ l) (sym cut) ∙ sym (append_assoc inv.0 part rest),
+      subst (λ l. Appends (g.W.Sink.output c.args.sink.now).written (g.W.Sink.output c.put_all.new.sink).written l) (sym spelled) (Appends-trans _ _ _ _ _ inv.2 sent.grown),
+      sent.counted ∙ inv.3,
+      sent.flowed ∙ inv.4,
+      All-append g.T.Item.Fits inv.0 part inv.5 c.spell_items-count.ensures.fit,
+    )
+
+pub returns-clause-sent : goal.returns-clause-sent
+returns-clause-sent g c =
+    let inv = c.loop-left.invariant in
+    let all : c.args.items.now ≡ inv.0 = inv.1 ∙ ap (λ l. inv.0 ++ l) (none_left c.loop-left.left.now c.loop-left-test.ensures) ∙ append-nil inv.0 in
+    record {
+      grown = subst (λ l. Appends (g.W.Sink.output c.args.sink.now).written (g.W.Sink.output c.loop-left.sink).written (flat_map g.T.Item.spelling l)) (sym all) inv.2;
+      counted = inv.3;
+      flowed = inv.4;
+    }
+
+pub returns-clause-fit : goal.returns-clause-fit
+returns-clause-fit g c =
+    let inv = c.loop-left.invariant in
+    let all : c.args.items.now ≡ inv.0 = inv.1 ∙ ap (λ l. inv.0 ++ l) (none_left c.loop-left.left.now c.loop-left-test.ensures) ∙ append-nil inv.0 in
+    subst (λ l. All g.T.Item.Fits l) (sym all) inv.5

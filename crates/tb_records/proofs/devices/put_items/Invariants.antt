@@ -1,11 +1,14 @@
-use Rattle.std.proofs.Common.{◌≡◌, All, take, flat_map}
+use Rattle.std.proofs.Common.{◌≡◌, ◌++◌, List, All, length, flat_map}
 use Rattle.std.specs.Io.KnownBytes.{Appends}
 use Rattle.tb_records.proofs.devices.put_items.Given as goal
 
-abbrev pub invariant-loop-item : goal.invariant-loop-item
-invariant-loop-item g l = record {
-  grown : Appends (g.W.Sink.output l.initial.sink).written (g.W.Sink.output l.sink).written (flat_map g.T.Item.spelling (take l.item-index l.items));
-  counted : (g.W.Sink.output l.sink).failed ≡ (g.W.Sink.output l.initial.sink).failed;
-  flowed : (g.W.Sink.output l.sink).stalled ≡ (g.W.Sink.output l.initial.sink).stalled;
-  fit : All g.T.Item.Fits (take l.item-index l.items);
-}
+abbrev pub invariant-loop-left : goal.invariant-loop-left
+invariant-loop-left g l = (front : List g.row.T.Denot)
+    × (l.items ≡ front ++ l.left)
+    × Appends (g.W.Sink.output l.initial.sink).written (g.W.Sink.output l.sink).written (flat_map g.T.Item.spelling front)
+    × ((g.W.Sink.output l.sink).failed ≡ (g.W.Sink.output l.initial.sink).failed)
+    × ((g.W.Sink.output l.sink).stalled ≡ (g.W.Sink.output l.initial.sink).stalled)
+    × All g.T.Item.Fits front
+
+abbrev pub decreases-loop-left : goal.decreases-loop-left
+decreases-loop-left g l = length l.left
