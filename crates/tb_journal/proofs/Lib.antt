@@ -9,9 +9,12 @@ pub mod Publishing
 pub mod Waiting
 pub mod Committing
 pub mod Heads
-pub mod Scanning
 pub mod Repairing
 pub mod Opened
 pub mod Beginning
 pub mod Blanks
+pub mod Fronts
 pub mod Nexts
+pub mod Looking
+pub mod Windows
+pub mod Scans

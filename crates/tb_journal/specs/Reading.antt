@@ -7,7 +7,7 @@ use Rattle.tb_journal.specs.declared.reading.Head.TheVariants as heads
 use Rattle.tb_journal.specs.declared.reading.Extent.{Extent}
 use Rattle.tb_journal.specs.declared.reading.Refusal.{Refusal}
 use Rattle.tb_journal.specs.declared.reading.Refusal.TheVariants as refusals
-use Rattle.tb_journal.specs.Device.{Disk, IsKept, LeavesOnly, HasCause, ReadsAt}
+use Rattle.tb_journal.specs.Device.{Disk, IsKept, LeavesOnly, HasCause}
 use Rattle.tb_journal.specs.Contents.{Front, Ends, Spoiled, Whole, front, Contents, NotAJournal, Damaged, Records, contents, records_end}
 use Rattle.tb_journal.specs.Opening.{IsAsBefore}
 use Rattle.tb_journal.specs.Scans.{Place, IsAhead, HasRead}
@@ -40,21 +40,14 @@ pub record HasAhead (n at : ℕ) (file ahead : List ℕ) : Type 0 where
   pub same : IsAhead at file ahead
   pub enough : (n ≤ length ahead) ⊎ (ahead ≡ drop at file)
 
--- what stands at an offset, by the bytes that were read ahead
-pub record FindsHead (at : ℕ) (file ahead : List ℕ) (head : Head) : Type 0 where
+-- what stands at an offset stands at the head of the bytes that were read ahead
+pub record FindsHead (at : ℕ) (file ahead : List ℕ) : Type 0 where
   pub same : IsAhead at file ahead
-  pub finds : head ≡ head_is (front (drop at file))
+  pub finds : front ahead ≡ front (drop at file)
 
--- a sync, and a first look
-pub record ReadsKept (result : Result ℕ Fault) (into : List ℕ) (before after : Disk) : Type 0 where
-  pub ok : IfOk result (λ count. ReadsAt count 0 before.seen into × IsKept after)
-  pub seen : after.seen ≡ before.seen
-  pub any_moment : LeavesOnly before after (IsAsBefore before)
-  pub cause : HasCause result before after
-
--- the same, with the bytes read ahead
-pub record StartsAhead (result : Result Held Fault) (before after : Disk) : Type 0 where
-  pub ok : IfOk result (λ window. HasAhead 8 0 before.seen window.ahead × IsKept after)
+-- a sync, and a look at what is then on the disk
+pub record LooksKept {T : Type 0} (result : Result T Fault) (Found : T → Type 0) (before after : Disk) : Type 0 where
+  pub ok : IfOk result (λ found. Found found × IsKept after)
   pub seen : after.seen ≡ before.seen
   pub any_moment : LeavesOnly before after (IsAsBefore before)
   pub cause : HasCause result before after

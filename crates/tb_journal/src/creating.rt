@@ -1,9 +1,9 @@
 //! A journal is created.
 ghost use Rattle.std.specs.Prelude.{◌≡◌, ◌≤◌, true, length, IfOk, IfErr};
-ghost use Rattle.tb_journal.specs.Device.{IsKept, LeavesOnly};
+ghost use Rattle.tb_journal.specs.Device.{IsKept, LeavesOnly, ReadsAt};
 ghost use Rattle.tb_journal.specs.Opening.{device_left, fault_left};
 ghost use Rattle.tb_journal.specs.Creating.{is_torn_from, is_blank, MayBeCreated, IsLeft, HasCreateCause, IsNew, IsUnborn, FindsBlank, Begins};
-ghost use Rattle.tb_journal.specs.Reading.{ReadsKept};
+ghost use Rattle.tb_journal.specs.Reading.{LooksKept};
 
 use crate::batches::Batch;
 use crate::calls::write_kept;
@@ -72,7 +72,8 @@ fn finds_blank<D: Device>(device: &mut D) -> Result<bool, Fault>
 // The first bytes of a file. What is read is on the disk before it is read.
 fn read_kept<D: Device>(device: &mut D, into: &mut [u8]) -> Result<usize, Fault>
     ensures within { IfOk result (λ count. count ≤ length into.new) }
-    ensures reads { D.tells → ReadsKept result into.new (D.disk device.old) (D.disk device.new) }
+    ensures reads { D.tells
+        → LooksKept result (λ count. ReadsAt count 0 (D.disk device.old).seen into.new) (D.disk device.old) (D.disk device.new) }
 {
     match device.sync() {
         Ok(()) => device.read_at(0, into),

@@ -4,7 +4,7 @@ ghost use Rattle.tb_journal.specs.Device.{IsKept, LeavesOnly, Looks, IsLookedAt}
 ghost use Rattle.tb_journal.specs.Contents.{front, contents};
 ghost use Rattle.tb_journal.specs.Opening.{IsAsBefore, HasOpenCause};
 ghost use Rattle.tb_journal.specs.Scans.{Place, IsAhead, HasRead, ReadsNext, GoesFurther};
-ghost use Rattle.tb_journal.specs.Reading.{HasAhead, FindsHead, StartsAhead, StartsScan, head_is, extent_of};
+ghost use Rattle.tb_journal.specs.Reading.{HasAhead, FindsHead, LooksKept, StartsScan, head_is, extent_of};
 
 use crate::devices::Device;
 use crate::faults::Fault;
@@ -106,7 +106,8 @@ impl Scan {
 
 // The first bytes of a file. What is read is on the disk before it is read.
 fn read_first<D: Device>(alloc: Global, device: &mut D) -> Result<Window, Fault>
-    ensures { D.tells → StartsAhead result (D.disk device.old) (D.disk device.new) }
+    ensures { D.tells
+        → LooksKept result (λ window. HasAhead 8 0 (D.disk device.old).seen window.ahead) (D.disk device.old) (D.disk device.new) }
 {
     let mut window = Window::new(alloc)?;
     device.sync()?;
