@@ -16,5 +16,5 @@ pub mod Blanks
 pub mod Fronts
 pub mod Nexts
 pub mod Looking
-pub mod Windows
-pub mod Scans
+pub mod Filling
+pub mod Scanning

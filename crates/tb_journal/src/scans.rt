@@ -1,5 +1,5 @@
 //! A journal's file, read record by record.
-ghost use Rattle.std.specs.Prelude.{◌≡◌, ◌≤◌, ◌<◌, ◌+◌, ◌^◌, true, List, ℕ, [], Ok, IfOk};
+ghost use Rattle.std.specs.Prelude.{◌≡◌, ◌≤◌, ◌<◌, ◌+◌, ◌^◌, true, List, ℕ, [], length, Ok, IfOk, OnOk};
 ghost use Rattle.tb_journal.specs.Device.{IsKept, LeavesOnly, Looks, IsLookedAt};
 ghost use Rattle.tb_journal.specs.Contents.{front, contents};
 ghost use Rattle.tb_journal.specs.Opening.{IsAsBefore, HasOpenCause};
@@ -135,13 +135,17 @@ fn begin(window: Window) -> Option<Scan>
 fn head_at<D: Device>(window: &mut Window, device: &mut D, at: usize) -> Result<Head, Fault>
     requires { at < 2 ^ 62 }
     ensures head { IfOk result (λ head. head ≡ head_is (front window.new.ahead)) }
+    ensures short { OnOk result (length window.new.ahead < 2 ^ 63) }
     ensures finds { D.tells
         → IsAhead at (D.disk device.old).seen window.old.ahead
-        → IfOk result (FindsHead at (D.disk device.old).seen window.new.ahead) }
+        → OnOk result (FindsHead at (D.disk device.old).seen window.new.ahead) }
     ensures looks { D.tells → Looks result (D.disk device.old) (D.disk device.new) }
 {
     window.fill(device, at, FIXED)?;
     let needed = asked(window.ahead());
+    if needed == FIXED {
+        return Ok(head_of(window.ahead()));
+    }
     window.fill(device, at, needed)?;
     Ok(head_of(window.ahead()))
 }
