@@ -1,19 +1,11 @@
 -- What a window has after it was filled.
-use Rattle.std.proofs.Common.{◌≡◌, ◌⊎◌, inl, inr, ⊎_elim, ℕ, ◌+◌, ◌-◌, ◌≤◌, List, [], ◌∷◌, ◌++◌, length, take, drop, refl, sym, ◌∙◌, ap, subst, arith, length-append, length-drop, length-take}
+use Rattle.std.proofs.Common.{◌≡◌, inl, inr, ⊎_elim, ℕ, ◌+◌, ◌≤◌, List, ◌++◌, length, take, drop, sym, ◌∙◌, ap, arith, length-drop, length-take}
 use Rattle.std.proofs.lemmas.List.{take_all, take-take, length-take-le}
 use Rattle.std.proofs.lemmas.Bool.{cases_lt}
-use Rattle.std.specs.List.{slice_range}
 use Rattle.tb_journal.specs.Device.{ReadsAt}
 use Rattle.tb_journal.specs.Scans.{IsAhead}
 use Rattle.tb_journal.specs.Reading.{HasAhead}
 use Rattle.tb_journal.proofs.Walks.{take_parts, drop_parts}
-
-pub nothing_ahead : (at : ℕ) (file ahead : List ℕ) → length ahead ≡ 0 → IsAhead at file ahead
-nothing_ahead at file [] is = refl
-nothing_ahead at file (x ∷ xs) is = absurd (omega (arith, is))
-
-pub range_length : (xs : List ℕ) (from end : ℕ) → from ≤ end → end ≤ length xs → length (slice_range xs from end) ≡ end - from
-range_length xs from end order within = length-take-le (end - from) (drop from xs) (omega (arith, order, within, length-drop from xs))
 
 -- bytes that stay in front stay ahead
 pub kept_in_front : (k n : ℕ) (now was old : List ℕ) → k ≤ n → take n now ≡ was → take k was ≡ old → take k now ≡ old

@@ -13,8 +13,6 @@ pub mod Repairing
 pub mod Opened
 pub mod Beginning
 pub mod Blanks
-pub mod Fronts
 pub mod Nexts
-pub mod Looking
 pub mod Filling
 pub mod Scanning

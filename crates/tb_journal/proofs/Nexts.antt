@@ -1,21 +1,16 @@
 -- The next step of a scan, by what stands behind the records that it has read.
-use Rattle.std.proofs.Common.{◌≡◌, ◌⊎◌, inl, inr, ℕ, suc, ◌+◌, ◌-◌, ◌<◌, ◌≤◌, ◌^◌, Bool, true, false, List, [], ◌∷◌, ◌++◌, length, take, drop, refl, sym, ◌∙◌, ap, subst, arith, nat_eq, length-append, length-drop, length-take, take-append-drop, if◌then◌else◌, Result, Ok, Err}
-use Rattle.std.proofs.lemmas.List.{append-nil, take_all, drop_all, drop-take, take-take}
-use Rattle.std.proofs.lemmas.Bool.Decides.{Decides-eqb}
-use Rattle.std.proofs.lemmas.Slice.Eq.{slice_eq-Decides}
-use Rattle.std.specs.Bool.{Decides}
-use Rattle.std.specs.List.{starts_with}
+use Rattle.std.proofs.Common.{◌≡◌, inr, ℕ, ◌+◌, ◌-◌, ◌≤◌, ◌^◌, Bool, List, [], ◌∷◌, ◌++◌, length, take, drop, refl, sym, ◌∙◌, ap, subst, arith, length-append, length-drop, length-take, take-append-drop, Err}
+use Rattle.std.proofs.lemmas.List.{append-nil, take_all, drop_all, drop-take}
 use Rattle.tb_journal.specs.declared.faults.Fault.TheVariants as faults
 use Rattle.tb_journal.specs.declared.opening.OpenFault.TheVariants as open_faults
 use Rattle.tb_journal.specs.declared.reading.Head.{Head}
 use Rattle.tb_journal.specs.declared.reading.Head.TheVariants as heads
-use Rattle.tb_journal.specs.declared.reading.Extent.{Extent}
 use Rattle.tb_journal.specs.Device.{Disk}
-use Rattle.tb_journal.specs.Contents.{magic, Front, Ends, Spoiled, Whole, front, Contents, NotAJournal, Damaged, Records, with_record, with_records, walk, contents, blocks_length, records_end}
+use Rattle.tb_journal.specs.Contents.{Front, Ends, Spoiled, Whole, front, Damaged, Records, with_record, with_records, walk, contents, records_end}
 use Rattle.tb_journal.specs.Opening.{HasOpenCause}
 use Rattle.tb_journal.specs.Scans.{Place, BeginsWith, IsAhead, HasRead}
-use Rattle.tb_journal.specs.Reading.{head_is, extent_of, HasAhead, FindsHead}
-use Rattle.tb_journal.proofs.Walks.{take_parts, drop_parts, walk-whole, walk-ends, walk-spoiled, is_whole, IsFile, is_file, ended, with_records-Records, with_records-Damaged}
+use Rattle.tb_journal.specs.Reading.{head_is, FindsHead}
+use Rattle.tb_journal.proofs.Walks.{take_parts, drop_parts, walk-whole, walk-spoiled, is_whole, IsFile, is_file, ended, with_records-Records, with_records-Damaged}
 use Rattle.tb_journal.proofs.Committing.{blocks_length-append}
 
 -- by what stands at the head
@@ -50,7 +45,7 @@ module _ (records : List (List ℕ)) (file : List ℕ) (begins : BeginsWith reco
   parts : IsFile (take end file) records
   parts = is_file (take end file) records begins
 
-  pub end_within : end ≤ length file
+  end_within : end ≤ length file
   end_within = omega (arith, parts.within, length-take end file)
 
   first_whole : take end (take end file) ≡ take end file
@@ -62,13 +57,13 @@ module _ (records : List (List ℕ)) (file : List ℕ) (begins : BeginsWith reco
   all : contents file ≡ with_records records (walk 0 end (drop end file))
   all = ap contents (sym (take-append-drop end file)) ∙ goes_on (drop end file)
 
-  pub next_none : front (drop end file) ≡ Ends → contents file ≡ Records records
+  next_none : front (drop end file) ≡ Ends → contents file ≡ Records records
   next_none is = all ∙ ended records end (drop end file) is
 
-  pub next_damaged : front (drop end file) ≡ Spoiled → contents file ≡ Damaged end
+  next_damaged : front (drop end file) ≡ Spoiled → contents file ≡ Damaged end
   next_damaged is = all ∙ ap (with_records records) (walk-spoiled (drop end file) end is) ∙ with_records-Damaged records end
 
-  pub one_more : (r : List ℕ) → front (drop end file) ≡ Whole r → BeginsWith (records ++ r ∷ []) file
+  one_more : (r : List ℕ) → front (drop end file) ≡ Whole r → BeginsWith (records ++ r ∷ []) file
   one_more r is =
       let n = 8 + length r in
       let rest = take n (drop end file) in
@@ -82,7 +77,7 @@ module _ (records : List (List ℕ)) (file : List ℕ) (begins : BeginsWith reco
 
 -- what is ahead behind a block
 
-pub ahead_behind : (k at next : ℕ) (file ahead : List ℕ) → k ≤ length ahead → next ≡ at + k → IsAhead at file ahead → IsAhead next file (drop k ahead)
+ahead_behind : (k at next : ℕ) (file ahead : List ℕ) → k ≤ length ahead → next ≡ at + k → IsAhead at file ahead → IsAhead next file (drop k ahead)
 ahead_behind k at next file ahead le is same =
     let m = length (drop k ahead) in
     let long : m ≡ length ahead - k = length-drop k ahead in
@@ -119,50 +114,7 @@ module _ (records : List (List ℕ)) (file : List ℕ) (old : Place) (read : Has
         ahead = subst (IsAhead end file) (drop_parts 8 len ahead ∙ sym left) (ahead_behind (8 + len) old.end end file ahead (omega (arith, there.within, whole.2)) far found.same);
       }
 
--- before the first record
-
-not_chosen : (b : Bool) (x : Contents) → b ≡ false → (if b then x else NotAJournal) ≡ NotAJournal
-not_chosen false x is = refl
-not_chosen true x is = absurd (cc)
-
-module _ (file ahead : List ℕ) (has : HasAhead 8 0 file ahead) where
-  firsts : take 8 ahead ≡ take 8 file
-  firsts = by_length has.enough
-    where
-      by_length : (8 ≤ length ahead) ⊎ (ahead ≡ drop 0 file) → take 8 ahead ≡ take 8 file
-      by_length (inr all) = ap (take 8) all
-      by_length (inl long) = ap (take 8) has.same ∙ take-take 8 (length ahead) file long
-
-  of_ahead : Decides (starts_with nat_eq ahead magic) (magic ≡ take 8 ahead)
-  of_ahead = slice_eq-Decides Decides-eqb magic (take 8 ahead) (starts_with nat_eq ahead magic) refl
-
-  of_file : Decides (starts_with nat_eq file magic) (magic ≡ take 8 file)
-  of_file = slice_eq-Decides Decides-eqb magic (take 8 file) (starts_with nat_eq file magic) refl
-
-  pub magic_within : starts_with nat_eq ahead magic ≡ true → 8 ≤ length ahead
-  magic_within is = omega (arith, ap length (of_ahead.0 is), length-take 8 ahead)
-
-  pub begins_scan : (last behind : List ℕ) → starts_with nat_eq ahead magic ≡ true → behind ≡ drop 8 ahead → HasRead [] file (record { end = 8; count = 0; last = last; ahead = behind })
-  begins_scan last behind is left = record {
-    begins = ap contents (sym (of_ahead.0 is ∙ firsts));
-    end = refl;
-    count = refl;
-    ahead = subst (IsAhead 8 file) (sym left) (ahead_behind 8 0 8 file ahead (magic_within is) refl has.same);
-  }
-
-  pub no_journal : starts_with nat_eq ahead magic ≡ false → contents file ≡ NotAJournal
-  no_journal is = not_chosen (starts_with nat_eq file magic) (walk 0 8 (drop 8 file)) (by_file (starts_with nat_eq file magic) refl)
-    where
-      by_file : (b : Bool) → starts_with nat_eq file magic ≡ b → b ≡ false
-      by_file false found = refl
-      by_file true found = let e = sym is ∙ of_ahead.1 (of_file.0 found ∙ sym firsts) in absurd (cc)
-
--- what a scan tells of its file
-
-pub extent_is : (records : List (List ℕ)) (file : List ℕ) (scan : Place) (extent : Extent) → contents file ≡ Records records → HasRead records file scan → extent.end ≡ scan.end → extent.count ≡ scan.count → extent_of (contents file) ≡ Ok extent
-extent_is records file scan extent is read end count =
-    ap extent_of is ∙ ap (λ (n : ℕ). Ok (record { end = n; count = length records })) (sym (end ∙ read.end))
-    ∙ ap (λ (n : ℕ). Ok (record { end = extent.end; count = n })) (sym (count ∙ read.count))
+-- a file whose records end too far behind
 
 pub too_far : (disk : Disk) (records : List (List ℕ)) (scan : Place) → HasRead records disk.seen scan → 2 ^ 62 ≤ scan.end → HasOpenCause {T = Bool} (Err (open_faults.Device faults.Full)) disk disk
 too_far disk records scan read long = record {

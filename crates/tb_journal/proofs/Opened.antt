@@ -1,5 +1,5 @@
 -- A journal over a file that was read.
-use Rattle.std.proofs.Common.{◌≡◌, inr, ℕ, ◌≤◌, ◌^◌, List, length, refl, sym, ap, arith, Ok, Err}
+use Rattle.std.proofs.Common.{◌≡◌, inr, ◌≤◌, ◌^◌, length, refl, sym, ap, arith, Ok, Err}
 use Rattle.tb_journal.specs.declared.faults.Fault.TheVariants as faults
 use Rattle.tb_journal.specs.declared.opening.OpenFault.TheVariants as open_faults
 use Rattle.tb_journal.specs.declared.reading.Extent.{Extent}

@@ -1,58 +1,15 @@
 -- A file is read, what stands behind its records cut off, and its gate closed.
-use Rattle.std.proofs.Common.{◌≡◌, inl, ⊎_elim, ℕ, ◌≤◌, List, [], ◌∷◌, ◌++◌, length, take, refl, sym, ◌∙◌, ap, subst, arith, Result, Ok, Err, OnOk}
-use Rattle.std.specs.Prelude.{IfOk}
+use Rattle.std.proofs.Common.{◌≡◌, ⊎_elim, ℕ, ◌≤◌, List, [], ◌∷◌, ◌++◌, length, take, sym, ◌∙◌, ap, subst, arith, Result, Ok, Err, OnOk}
 use Rattle.std.proofs.lemmas.List.{take_all, length-take-le}
 use Rattle.tb_journal.specs.declared.faults.Fault.{Fault}
-use Rattle.tb_journal.specs.declared.faults.Fault.TheVariants.{Memory}
-use Rattle.tb_journal.specs.Device.{Disk, Only, IsKept, Torn, Cut, LeavesOnly, HasCause, Looks, Cuts, Syncs, overwritten}
+use Rattle.tb_journal.specs.Device.{Disk, Only, IsKept, Torn, Cut, LeavesOnly, HasCause, Cuts, Syncs, overwritten}
 use Rattle.tb_journal.specs.Contents.{Records, contents, recorded, records_end}
 use Rattle.tb_journal.specs.Steps.{IsAtRest, Overwrites, Shortens}
-use Rattle.tb_journal.specs.Opening.{IsAsBefore, Repairs}
-use Rattle.tb_journal.specs.Reading.{LooksKept}
+use Rattle.tb_journal.specs.Opening.{Repairs}
 use Rattle.tb_journal.proofs.Moments.{started, goes_on, then, weaker}
-use Rattle.tb_journal.proofs.Kept.{cause_since, has_cause_since}
+use Rattle.tb_journal.proofs.Kept.{has_cause_since}
 use Rattle.tb_journal.proofs.Steps.{within, cut_torn, close_torn, closes, reads_closed, front_closed}
 use Rattle.tb_journal.proofs.Publishing.{rests}
-
--- a sync and a look
-
-cause_behind : {T : Type 0} (before mid after : Disk) (result : Result T Fault) → before.faults ≤ mid.faults → HasCause result mid after → HasCause result before after
-cause_behind before mid after (Ok x) le has = record { later = omega (arith, le, has.later); cause = tt }
-cause_behind before mid after (Err f) le has = record { later = omega (arith, le, has.later); cause = cause_since before mid after f le has.cause }
-
-module _ {T : Type 0} (Found : T → Type 0) (before : Disk) (now : (c : List ℕ) → before.left_since before.moment c → before.may_leave c) where
-  begun : LeavesOnly before before (IsAsBefore before)
-  begun = started before (IsAsBefore before) (λ c left. inl (now c left))
-
-  pub read_lacks : (f : Fault) → f ≡ Memory → LooksKept (Err f) Found before before
-  read_lacks f is = record { ok = tt; seen = refl; any_moment = begun; cause = record { later = omega arith; cause = inl is } }
-
-  module _ (mid : Disk) (result : Result (Unit {0}) Fault) (sync : Syncs result before mid) where
-    synced : LeavesOnly before mid (IsAsBefore before)
-    synced = goes_on before before mid (IsAsBefore before) begun sync.time sync.crash
-
-    pub read_failed : (f : Fault) → result ≡ Err f → LooksKept (Err f) Found before mid
-    read_failed f is = record {
-      ok = tt;
-      seen = sync.seen;
-      any_moment = synced;
-      cause = let has = subst (λ (r : Result (Unit {0}) Fault). HasCause r before mid) is sync.cause in record { later = has.later; cause = has.cause };
-    }
-
-    pub read_done : (after : Disk) (looked : Result T Fault) → result ≡ Ok tt → IfOk looked Found → Looks looked mid after → LooksKept looked Found before after
-    read_done after looked is found looks = record {
-      ok = whole looked found;
-      seen = looks.seen ∙ sync.seen;
-      any_moment = goes_on before mid after (IsAsBefore before) synced looks.time (λ c left. sync.crash c (looks.crash c left));
-      cause = cause_behind before mid after looked sync.cause.later looks.cause;
-    }
-      where
-        durable : Only before.seen mid.may_leave
-        durable = subst (λ (r : Result (Unit {0}) Fault). OnOk r (Only before.seen mid.may_leave)) is sync.durable
-
-        whole : (r : Result T Fault) → IfOk r Found → IfOk r (λ x. Found x × IsKept after)
-        whole (Ok x) so = (so, λ c left. durable c (looks.crash c left) ∙ sym (looks.seen ∙ sync.seen))
-        whole (Err f) so = tt
 
 -- a cut and a sync
 

@@ -7,7 +7,7 @@ use Rattle.tb_journal.specs.declared.reading.Refusal.TheVariants as refusals
 use Rattle.tb_journal.specs.declared.opening.OpenFault.{OpenFault}
 use Rattle.tb_journal.specs.declared.opening.OpenFault.TheVariants as open_faults
 use Rattle.tb_journal.specs.declared.opening.NotOpened.{NotOpened}
-use Rattle.tb_journal.specs.Device.{Disk, IsKept, LeavesOnly, HasCause, IsCause}
+use Rattle.tb_journal.specs.Device.{Disk, LeavesOnly, HasCause, IsCause}
 use Rattle.tb_journal.specs.Contents.{Contents, NotAJournal, Damaged, Records, contents, recorded}
 use Rattle.tb_journal.specs.Steps.{IsAtRest}
 use Rattle.tb_journal.specs.Ready.{Kept, IsReady}

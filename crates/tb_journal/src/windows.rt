@@ -26,8 +26,9 @@ impl Model for Window {
     ghost Value = { Held };
 
     ghost view = { λ w. record {
-        taken = slice_range w.bytes.items w.from w.used;
-        ahead = slice_range w.bytes.items w.used w.filled } };
+      taken = slice_range w.bytes.items w.from w.used;
+      ahead = slice_range w.bytes.items w.used w.filled;
+    } };
 
     ghost invariant = { λ w. (w.from ≤ w.used) × (w.used ≤ w.filled) × (w.filled ≤ length w.bytes.items) };
 }

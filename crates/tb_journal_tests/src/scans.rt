@@ -122,7 +122,10 @@ fn each_call_fails_in_turn(rt: HostRuntime) -> Result<(), Fail> {
     for number in 1..=4 {
         file.fail_at(number);
         let answer = count_of(alloc, &mut file);
-        assert!(rt; answer == Err(OpenFault::Device(Fault::Failed)), "call {number}");
+        assert!(rt;
+            answer == Err(OpenFault::Device(Fault::Failed)),
+            "call {number}"
+        );
     }
     file.fail_at(5);
     let answer = count_of(alloc, &mut file);

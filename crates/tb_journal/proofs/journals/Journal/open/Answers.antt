@@ -1,6 +1,6 @@
 use Rattle.std.proofs.Common.{ap, length, arith}
-use Rattle.tb_journal.specs.Contents.{at_rest, contents}
-use Rattle.tb_journal.proofs.Opened.{is_told, too_long}
+use Rattle.tb_journal.specs.Contents.{at_rest}
+use Rattle.tb_journal.proofs.Opened.{too_long}
 use Rattle.tb_journal.proofs.journals.Journal.open.Goals as goal
 
 pub returns-then-end-ge-FILE_BYTES_MAX-clause-cause : goal.returns-then-end-ge-FILE_BYTES_MAX-clause-cause

@@ -1,4 +1,4 @@
-use Rattle.std.proofs.Common.{◌≡◌, ◌≤◌, ◌+◌, ◌∙◌, ap, arith, drop, length, refl, subst, sym, take}
+use Rattle.std.proofs.Common.{◌≡◌, ◌+◌, ◌∙◌, ap, arith, drop, refl, subst, sym, take}
 use Rattle.tb_journal.specs.Scans.{Place, HasRead}
 use Rattle.tb_journal.proofs.Nexts.{block_within, step_ends, step_stays, step_spoiled, step_whole, too_far}
 use Rattle.tb_journal.proofs.scans.Scan.next.Goals as goal
