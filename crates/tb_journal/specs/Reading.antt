@@ -24,8 +24,8 @@ extent_of NotAJournal = Err refusals.NotAJournal
 extent_of (Damaged at) = Err (refusals.Damaged at)
 extent_of (Records records) = Ok (record { end = records_end records; count = length records })
 
--- so many bytes of a file from a place on tell what stands there: the parts of a block that have a fixed length, and the
--- record where the gate is open
+-- so many bytes of a file from a place on tell what stands there: the parts of a block that have a fixed length, and
+-- the record where the gate is open
 abbrev pub asked : List ℕ → ℕ
 asked (gate ∷ a ∷ b ∷ c ∷ rest) = if gate == 0 then 8 else 8 + from_le_bytes w32 (a ∷ b ∷ c ∷ 0 ∷ [])
 asked other = 8

@@ -6,7 +6,7 @@ use Rattle.tb_journal.specs.Checksum.{byte_on, bit_on}
 use Rattle.tb_journal.specs.Contents.{Records, block, contents, records_end}
 use Rattle.tb_journal.specs.Opening.{refused_as}
 
--- how far a file was read: where the records end, how many they are, the last of them, and the bytes that were read ahead
+-- how far a file was read: where the records end, how many they are, the last of them, and the bytes read ahead
 pub record Place : Type 0 where
   pub end : ℕ
   pub count : ℕ

@@ -73,7 +73,8 @@ fn finds_blank<D: Device>(device: &mut D) -> Result<bool, Fault>
 fn read_kept<D: Device>(device: &mut D, into: &mut [u8]) -> Result<usize, Fault>
     ensures within { IfOk result (λ count. count ≤ length into.new) }
     ensures reads { D.tells
-        → LooksKept result (λ count. ReadsAt count 0 (D.disk device.old).seen into.new) (D.disk device.old) (D.disk device.new) }
+        → LooksKept result (λ count. ReadsAt count 0 (D.disk device.old).seen into.new)
+        (D.disk device.old) (D.disk device.new) }
 {
     match device.sync() {
         Ok(()) => device.read_at(0, into),

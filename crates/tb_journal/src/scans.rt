@@ -18,8 +18,8 @@ use std::marker::Model;
 // The parts of a block that have a fixed length: gate, length and checksum.
 const FIXED: usize = 8;
 
-/// A journal's file as it is read, record by record, from its first bytes on. The checksum of a record is looked at before the
-/// record is handed out.
+/// A journal's file as it is read, record by record, from its first bytes on. The checksum of a record is looked at
+/// before the record is handed out.
 #[derive(Drop)]
 pub struct Scan {
     window: Window,
@@ -54,8 +54,8 @@ impl Scan {
         }
     }
 
-    /// Reads the next record, and says whether there is one. Damaged, with the offset of the gate, where a block is not whole or
-    /// its checksum does not match.
+    /// Reads the next record, and says whether there is one. Damaged, with the offset of the gate, where a block is not
+    /// whole or its checksum does not match.
     pub fn next<D: Device>(&mut self, device: &mut D) -> Result<bool, OpenFault>
         ensures reads { D.tells → (records : List (List ℕ))
             → HasRead records (D.disk device.old).seen self.old
@@ -107,7 +107,8 @@ impl Scan {
 // The first bytes of a file. What is read is on the disk before it is read.
 fn read_first<D: Device>(alloc: Global, device: &mut D) -> Result<Window, Fault>
     ensures { D.tells
-        → LooksKept result (λ window. HasAhead 8 0 (D.disk device.old).seen window.ahead) (D.disk device.old) (D.disk device.new) }
+        → LooksKept result (λ window. HasAhead 8 0 (D.disk device.old).seen window.ahead)
+        (D.disk device.old) (D.disk device.new) }
 {
     let mut window = Window::new(alloc)?;
     device.sync()?;

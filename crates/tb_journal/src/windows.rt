@@ -12,8 +12,8 @@ use std::marker::Model;
 // A piece of a file, which is read at once.
 const PIECE: usize = 1 << 16;
 
-// The part of a file that was read ahead, behind the bytes that were taken of it last. One buffer serves for the whole file: it
-// holds a piece, and grows where more is asked for.
+// The part of a file that was read ahead, behind the bytes that were taken of it last. One buffer serves for the whole
+// file: it holds a piece, and grows where more is asked for.
 #[derive(Drop)]
 pub struct Window {
     bytes: Vec<u8>,
@@ -71,8 +71,8 @@ impl Window {
         self.used += n;
     }
 
-    // Reads on where fewer bytes are ahead than these: then so many are there, or all that the file has left. The bytes that
-    // were taken are let go.
+    // Reads on where fewer bytes are ahead than these: then so many are there, or all that the file has left. The bytes
+    // that were taken are let go.
     pub fn fill<D: Device>(&mut self, device: &mut D, at: usize, n: usize) -> Result<(), Fault>
         requires { at < 2 ^ 62 }
         ensures ahead { D.tells

@@ -134,8 +134,8 @@ fn each_call_fails_in_turn(rt: HostRuntime) -> Result<(), Fail> {
     Ok(())
 }
 
-/// Where no memory is left the fault says so: `rt try --test --fail-alloc n` refuses the nth growth of each test, and that of the
-/// window among them.
+/// Where no memory is left the fault says so: `rt try --test --fail-alloc n` refuses the nth allocation of each test,
+/// that of the window and its growth among them.
 #[test]
 fn a_growth_may_be_refused(rt: HostRuntime) -> Result<(), Fail> {
     let alloc = rt.alloc();
