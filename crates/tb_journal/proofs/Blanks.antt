@@ -1,9 +1,11 @@
 -- Whether a file is blank: by its length, and then by its bytes.
-use Rattle.std.proofs.Common.{◌≡◌, inl, inr, ⊎_elim, ℕ, ◌<◌, Bool, true, false, List, length, refl, ◌∙◌, ap, subst, arith, Vec, Result, Ok, Err}
-use Rattle.std.specs.declared.alloc.Global.{Global}
+use Rattle.std.proofs.Common.{◌≡◌, inl, inr, ⊎_elim, ℕ, ◌<◌, Bool, true, false, ◌≤◌, List, length, take, refl, ◌∙◌, ap, subst, arith, Result, Ok, Err}
+use Rattle.std.proofs.lemmas.List.{take_all}
+use Rattle.std.specs.Prelude.{IfOk}
 use Rattle.tb_journal.specs.declared.faults.Fault.{Fault}
-use Rattle.tb_journal.specs.Device.{Disk, LeavesOnly, HasCause, Looks}
-use Rattle.tb_journal.specs.Opening.{IsAsBefore, ReadsKept}
+use Rattle.tb_journal.specs.Device.{Disk, IsKept, LeavesOnly, HasCause, Looks, ReadsAt}
+use Rattle.tb_journal.specs.Opening.{IsAsBefore}
+use Rattle.tb_journal.specs.Reading.{LooksKept}
 use Rattle.tb_journal.specs.Creating.{is_blank, FindsBlank}
 use Rattle.tb_journal.proofs.Moments.{started, goes_on, then, weaker}
 use Rattle.tb_journal.proofs.Kept.{cause_since}
@@ -33,27 +35,30 @@ module _ (before mid : Disk) (now : (c : List ℕ) → before.left_since before.
     cause = record { later = looks.cause.later; cause = tt };
   }
 
-  read_behind : (after : Disk) (bytes : Result (Vec ℕ Global) Fault) → ReadsKept bytes mid after → LeavesOnly before after (IsAsBefore before)
-  read_behind after bytes read =
-      then before mid after (IsAsBefore before) looked
-      (weaker mid after (IsAsBefore mid) (IsAsBefore before) (λ c. ⊎_elim (λ left. inl (looks.crash c left)) (λ same. inr (same ∙ looks.seen))) read.any_moment)
+  module _ (into : List ℕ) (after : Disk) (bytes : Result ℕ Fault) (read : LooksKept bytes (λ count. ReadsAt count 0 mid.seen into) mid after) where
+    read_behind : LeavesOnly before after (IsAsBefore before)
+    read_behind =
+        then before mid after (IsAsBefore before) looked
+        (weaker mid after (IsAsBefore mid) (IsAsBefore before) (λ c. ⊎_elim (λ left. inl (looks.crash c left)) (λ same. inr (same ∙ looks.seen))) read.any_moment)
 
-  pub blank_read : (after : Disk) (bytes : Result (Vec ℕ Global) Fault) (v : Vec ℕ Global) (found : Bool) → bytes ≡ Ok v → ReadsKept bytes mid after → found ≡ is_blank v.items → FindsBlank (Ok found) before after
-  blank_read after bytes v found is read finds =
-      let whole = subst (λ (r : Result (Vec ℕ Global) Fault). ReadsKept r mid after) is read in
-      record {
-        ok = (finds ∙ ap is_blank (whole.ok.0 ∙ looks.seen), λ _. whole.ok.1);
-        seen = read.seen ∙ looks.seen;
-        any_moment = read_behind after bytes read;
-        cause = record { later = omega (arith, looks.cause.later, read.cause.later); cause = tt };
-      }
+    pub blank_read : (len count : ℕ) (found : Bool) → len ≡ length before.seen → len ≤ 9 → length into ≡ 9 → bytes ≡ Ok count → found ≡ is_blank (take count into) → FindsBlank (Ok found) before after
+    blank_read len count found is short room done finds =
+        let got = subst (λ (r : Result ℕ Fault). IfOk r (λ n. ReadsAt n 0 mid.seen into × IsKept after)) done read.ok in
+        let long : count ≡ length mid.seen = omega (arith, got.0.counts, is, short, room, ap length looks.seen) in
+        let whole : take count into ≡ before.seen = got.0.bytes ∙ take_all count mid.seen (omega (arith, long)) ∙ looks.seen in
+        record {
+          ok = (finds ∙ ap is_blank whole, λ _. got.1);
+          seen = read.seen ∙ looks.seen;
+          any_moment = read_behind;
+          cause = record { later = omega (arith, looks.cause.later, read.cause.later); cause = tt };
+        }
 
-  pub blank_unread : (after : Disk) (bytes : Result (Vec ℕ Global) Fault) (f : Fault) → bytes ≡ Err f → ReadsKept bytes mid after → FindsBlank (Err f) before after
-  blank_unread after bytes f is read =
-      let none = subst (λ (r : Result (Vec ℕ Global) Fault). ReadsKept r mid after) is read in
-      record {
-        ok = tt;
-        seen = read.seen ∙ looks.seen;
-        any_moment = read_behind after bytes read;
-        cause = record { later = omega (arith, looks.cause.later, read.cause.later); cause = cause_since before mid after f looks.cause.later none.cause.cause };
-      }
+    pub blank_unread : (f : Fault) → bytes ≡ Err f → FindsBlank (Err f) before after
+    blank_unread f is =
+        let cause = subst (λ (r : Result ℕ Fault). HasCause r mid after) is read.cause in
+        record {
+          ok = tt;
+          seen = read.seen ∙ looks.seen;
+          any_moment = read_behind;
+          cause = record { later = omega (arith, looks.cause.later, read.cause.later); cause = cause_since before mid after f looks.cause.later cause.cause };
+        }

@@ -6,7 +6,7 @@ use Rattle.tb_journal.specs.Steps.{IsAtRest}
 use Rattle.tb_journal.specs.Ready.{Kept, IsReady}
 use Rattle.tb_journal.proofs.Waiting.{many_blocks, length-at_rest}
 
-blocks_length-append : (xs ys : List (List ℕ)) → blocks_length (xs ++ ys) ≡ blocks_length xs + blocks_length ys
+pub blocks_length-append : (xs ys : List (List ℕ)) → blocks_length (xs ++ ys) ≡ blocks_length xs + blocks_length ys
 blocks_length-append [] ys = let e : blocks_length ys ≡ 0 + blocks_length ys = omega arith in e
 blocks_length-append (x ∷ xs) ys = omega (arith, blocks_length-append xs ys)
 

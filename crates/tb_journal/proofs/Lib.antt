@@ -9,9 +9,10 @@ pub mod Publishing
 pub mod Waiting
 pub mod Committing
 pub mod Heads
-pub mod Scanning
 pub mod Repairing
 pub mod Opened
 pub mod Beginning
 pub mod Blanks
 pub mod Nexts
+pub mod Filling
+pub mod Scanning

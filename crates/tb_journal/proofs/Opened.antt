@@ -1,14 +1,28 @@
 -- A journal over a file that was read.
-use Rattle.std.proofs.Common.{◌≡◌, inr, ℕ, ◌≤◌, ◌^◌, List, length, refl, ap, arith, Err}
+use Rattle.std.proofs.Common.{◌≡◌, inr, ◌≤◌, ◌^◌, length, refl, sym, ap, arith, Ok, Err}
 use Rattle.tb_journal.specs.declared.faults.Fault.TheVariants as faults
 use Rattle.tb_journal.specs.declared.opening.OpenFault.TheVariants as open_faults
+use Rattle.tb_journal.specs.declared.reading.Extent.{Extent}
 use Rattle.tb_journal.specs.Device.{Disk}
-use Rattle.tb_journal.specs.Contents.{Records, contents, recorded, records_end}
+use Rattle.tb_journal.specs.Contents.{Contents, NotAJournal, Damaged, Records, contents, recorded, records_of, records_end}
 use Rattle.tb_journal.specs.Opening.{HasOpenCause}
+use Rattle.tb_journal.specs.Reading.{extent_of}
 use Rattle.tb_journal.proofs.Steps.{within}
 
-pub too_long : (disk : Disk) (file : List ℕ) (end : ℕ) → disk.seen ≡ file → contents file ≡ Records (recorded file) → end ≡ records_end (recorded file) → 2 ^ 62 ≤ end → HasOpenCause {T = Unit {0}} (Err (open_faults.Device faults.Full)) disk disk
-too_long disk file end read reads ends long = record {
-  later = omega arith;
-  cause = inr (refl, omega (arith, ap length read, ends, long, within file (recorded file) reads));
-}
+-- what an extent tells of its file
+pub record IsTold (found : Contents) (extent : Extent) : Type 0 where
+  pub reads : found ≡ Records (records_of found)
+  pub end : extent.end ≡ records_end (records_of found)
+  pub count : extent.count ≡ length (records_of found)
+
+pub is_told : (found : Contents) (extent : Extent) → extent_of found ≡ Ok extent → IsTold found extent
+is_told NotAJournal extent is = absurd (cc)
+is_told (Damaged at) extent is = absurd (cc)
+is_told (Records records) extent is =
+    let same : record { end = records_end records; count = length records } ≡ extent = cc in
+    record { reads = refl; end = sym (ap (λ (e : Extent). e.end) same); count = sym (ap (λ (e : Extent). e.count) same) }
+
+pub too_long : (disk : Disk) (extent : Extent) → extent_of (contents disk.seen) ≡ Ok extent → 2 ^ 62 ≤ extent.end → HasOpenCause {T = Unit {0}} (Err (open_faults.Device faults.Full)) disk disk
+too_long disk extent read long =
+    let told = is_told (contents disk.seen) extent read in
+    record { later = omega arith; cause = inr (refl, omega (arith, told.end, long, within disk.seen (recorded disk.seen) told.reads)) }

@@ -1,48 +1,15 @@
 -- A file is read, what stands behind its records cut off, and its gate closed.
-use Rattle.std.proofs.Common.{◌≡◌, inl, ⊎_elim, ℕ, ◌≤◌, List, [], ◌∷◌, ◌++◌, length, take, sym, ◌∙◌, ap, subst, arith, Vec, Result, Ok, Err, OnOk}
-use Rattle.std.specs.Prelude.{IfOk}
+use Rattle.std.proofs.Common.{◌≡◌, ⊎_elim, ℕ, ◌≤◌, List, [], ◌∷◌, ◌++◌, length, take, sym, ◌∙◌, ap, subst, arith, Result, Ok, Err, OnOk}
 use Rattle.std.proofs.lemmas.List.{take_all, length-take-le}
-use Rattle.std.specs.declared.alloc.Global.{Global}
 use Rattle.tb_journal.specs.declared.faults.Fault.{Fault}
-use Rattle.tb_journal.specs.Device.{Disk, Only, IsKept, Torn, Cut, LeavesOnly, HasCause, Looks, Cuts, Syncs, overwritten}
+use Rattle.tb_journal.specs.Device.{Disk, Only, IsKept, Torn, Cut, LeavesOnly, HasCause, Cuts, Syncs, overwritten}
 use Rattle.tb_journal.specs.Contents.{Records, contents, recorded, records_end}
 use Rattle.tb_journal.specs.Steps.{IsAtRest, Overwrites, Shortens}
-use Rattle.tb_journal.specs.Opening.{IsAsBefore, ReadsKept, Repairs}
+use Rattle.tb_journal.specs.Opening.{Repairs}
 use Rattle.tb_journal.proofs.Moments.{started, goes_on, then, weaker}
-use Rattle.tb_journal.proofs.Kept.{cause_since, has_cause_since}
+use Rattle.tb_journal.proofs.Kept.{has_cause_since}
 use Rattle.tb_journal.proofs.Steps.{within, cut_torn, close_torn, closes, reads_closed, front_closed}
 use Rattle.tb_journal.proofs.Publishing.{rests}
-
--- a sync and a read
-
-bytes_cause : (before mid after : Disk) (result : Result (Vec ℕ Global) Fault) → before.faults ≤ mid.faults → HasCause result mid after → HasCause result before after
-bytes_cause before mid after (Ok x) le has = record { later = omega (arith, le, has.later); cause = tt }
-bytes_cause before mid after (Err f) le has = record { later = omega (arith, le, has.later); cause = cause_since before mid after f le has.cause }
-
-module _ (before mid : Disk) (now : (c : List ℕ) → before.left_since before.moment c → before.may_leave c) (result : Result (Unit {0}) Fault) (sync : Syncs result before mid) where
-  synced : LeavesOnly before mid (IsAsBefore before)
-  synced = goes_on before before mid (IsAsBefore before) (started before (IsAsBefore before) (λ c left. inl (now c left))) sync.time sync.crash
-
-  failed_cause : (f : Fault) → result ≡ Err f → HasCause {T = Vec ℕ Global} (Err f) before mid
-  failed_cause f is = let has = subst (λ (r : Result (Unit {0}) Fault). HasCause r before mid) is sync.cause in record { later = has.later; cause = has.cause }
-
-  pub read_failed : (f : Fault) → result ≡ Err f → ReadsKept (Err f) before mid
-  read_failed f is = record { ok = tt; seen = sync.seen; any_moment = synced; cause = failed_cause f is }
-
-  pub read_done : (after : Disk) (bytes : Result (Vec ℕ Global) Fault) → result ≡ Ok tt → IfOk bytes (λ v. v.items ≡ mid.seen) → Looks bytes mid after → ReadsKept bytes before after
-  read_done after bytes is same looks = record {
-    ok = whole bytes same;
-    seen = looks.seen ∙ sync.seen;
-    any_moment = goes_on before mid after (IsAsBefore before) synced looks.time (λ c left. sync.crash c (looks.crash c left));
-    cause = bytes_cause before mid after bytes sync.cause.later looks.cause;
-  }
-    where
-      durable : Only before.seen mid.may_leave
-      durable = subst (λ (r : Result (Unit {0}) Fault). OnOk r (Only before.seen mid.may_leave)) is sync.durable
-
-      whole : (r : Result (Vec ℕ Global) Fault) → IfOk r (λ v. v.items ≡ mid.seen) → IfOk r (λ v. (v.items ≡ before.seen) × IsKept after)
-      whole (Ok v) e = (e ∙ sync.seen, λ c left. durable c (looks.crash c left) ∙ sym (looks.seen ∙ sync.seen))
-      whole (Err f) e = tt
 
 -- a cut and a sync
 

@@ -57,6 +57,7 @@ walk-spoiled (gate ∷ behind) at is = ap (λ (f : Front). joined f at (walk (sk
 
 pub record IsWhole (bytes record_bytes : List ℕ) : Type 0 where
   pub within : 8 + length record_bytes ≤ length bytes
+  pub is : take (length record_bytes) (drop 8 bytes) ≡ record_bytes
   pub stays : (others : List ℕ) → front (take (8 + length record_bytes) bytes ++ others) ≡ Whole record_bytes
 
 choice_true : {X : Type 0} (b : Bool) (x y : X) → b ≡ true → (if b then x else y) ≡ x
@@ -87,6 +88,7 @@ open_choice false f r is = (refl, is)
 pub record StaysBehind (size : List ℕ) (sum : ℕ) (rest record_bytes : List ℕ) : Type 0 where
   pub count : from_le_bytes w32 (size ++ 0 ∷ []) ≡ length record_bytes
   pub within : length record_bytes ≤ length rest
+  pub is : take (length record_bytes) rest ≡ record_bytes
   pub stays : (others : List ℕ) → behind_gate size sum (take (length record_bytes) rest ++ others) ≡ Whole record_bytes
 
 stays_behind : (size : List ℕ) (sum : ℕ) (rest record_bytes : List ℕ) → behind_gate size sum rest ≡ Whole record_bytes → StaysBehind size sum rest record_bytes
@@ -100,6 +102,7 @@ stays_behind size sum rest r is =
     record {
       count = counts;
       within = omega (arith, fits, counts);
+      is = ap (λ (k : ℕ). take k rest) (sym counts) ∙ chosen.1;
       stays = λ others.
           let whole : take (length r) rest ++ others ≡ r ++ others = ap (λ (k : ℕ). take k rest ++ others) (sym counts) ∙ ap (λ (l : List ℕ). l ++ others) chosen.1 in
           let front_is : take n (r ++ others) ≡ r = take_at r others n (sym counts) in
@@ -131,6 +134,7 @@ is_whole (g ∷ a ∷ b ∷ c ∷ s ∷ t ∷ u ∷ v ∷ rest) r is =
     let far : 8 + length r ≡ suc (suc (suc (suc (suc (suc (suc (suc (length r)))))))) = omega arith in
     record {
       within = omega (arith, kept.within);
+      is = kept.is;
       stays = λ others.
           let head = take (length r) rest ++ others in
           ap (λ (k : ℕ). front (take k (g ∷ a ∷ b ∷ c ∷ s ∷ t ∷ u ∷ v ∷ rest) ++ others)) far
@@ -209,6 +213,10 @@ is_file file records is =
           ap contents cut ∙ parts.goes_on 8 others;
       ends = ap front (drop_parts 8 k file) ∙ parts.ends;
     }
+
+pub with_records-Damaged : (records : List (List ℕ)) (at : ℕ) → with_records records (Damaged at) ≡ Damaged at
+with_records-Damaged [] at = refl
+with_records-Damaged (r ∷ records) at = ap (with_record r) (with_records-Damaged records at)
 
 pub with_records-Records : (records others : List (List ℕ)) → with_records records (Records others) ≡ Records (records ++ others)
 with_records-Records [] others = refl

@@ -72,6 +72,18 @@ pub record Looks {T : Type 0} (result : Result T Fault) (before after : Disk) : 
   pub time : Elapses before after
   pub cause : HasCause result before after
 
+-- bytes that were read from an offset on: as many as there is room for or as are left, and they stand first
+pub record ReadsAt (count at : ℕ) (file into : List ℕ) : Type 0 where
+  pub counts : count ≡ min (length into) (length (drop at file))
+  pub bytes : take count into ≡ take count (drop at file)
+
+-- calls that only look
+pub record IsLookedAt (before after : Disk) : Type 0 where
+  pub seen : after.seen ≡ before.seen
+  pub crash : AddsNone before after
+  pub time : Elapses before after
+  pub later : before.faults ≤ after.faults
+
 -- a write
 pub record Writes (at : ℕ) (bytes : List ℕ) (result : Result (Unit {0}) Fault) (before after : Disk) : Type 0 where
   pub written : OnOk result (after.seen ≡ overwritten before.seen at bytes)

@@ -8,6 +8,7 @@ pub mod Ready
 pub mod Torn
 pub mod Memory
 pub mod Opening
+pub mod Scans
 pub mod Creating
 -- what private functions alone cite
 pub mod Reading

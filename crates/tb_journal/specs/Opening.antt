@@ -1,6 +1,5 @@
 -- How a journal is opened, and what stays of its file.
-use Rattle.std.specs.Prelude.{◌≡◌, ◌⊎◌, ℕ, ◌≤◌, ◌^◌, List, [], length, Result, Ok, Err, Vec, IfOk, IfErr, OnOk}
-use Rattle.std.specs.declared.alloc.Global.{Global}
+use Rattle.std.specs.Prelude.{◌≡◌, ◌⊎◌, ℕ, ◌≤◌, ◌^◌, List, [], length, Result, Ok, Err, IfErr, OnOk}
 use Rattle.tb_journal.specs.declared.faults.Fault.{Fault}
 use Rattle.tb_journal.specs.declared.faults.Fault.TheVariants as faults
 use Rattle.tb_journal.specs.declared.reading.Refusal.{Refusal}
@@ -8,7 +7,7 @@ use Rattle.tb_journal.specs.declared.reading.Refusal.TheVariants as refusals
 use Rattle.tb_journal.specs.declared.opening.OpenFault.{OpenFault}
 use Rattle.tb_journal.specs.declared.opening.OpenFault.TheVariants as open_faults
 use Rattle.tb_journal.specs.declared.opening.NotOpened.{NotOpened}
-use Rattle.tb_journal.specs.Device.{Disk, IsKept, LeavesOnly, HasCause, IsCause}
+use Rattle.tb_journal.specs.Device.{Disk, LeavesOnly, HasCause, IsCause}
 use Rattle.tb_journal.specs.Contents.{Contents, NotAJournal, Damaged, Records, contents, recorded}
 use Rattle.tb_journal.specs.Steps.{IsAtRest}
 use Rattle.tb_journal.specs.Ready.{Kept, IsReady}
@@ -57,13 +56,6 @@ pub record IsOpened {D : Type 0} (disk : D → Disk) (file : List ℕ) (journal 
   pub ready : IsReady disk journal
   pub same : recorded (disk journal.device).seen ≡ recorded file
   pub none_waits : journal.waiting ≡ []
-
--- a sync, and a read
-pub record ReadsKept (result : Result (Vec ℕ Global) Fault) (before after : Disk) : Type 0 where
-  pub ok : IfOk result (λ bytes. (bytes.items ≡ before.seen) × IsKept after)
-  pub seen : after.seen ≡ before.seen
-  pub any_moment : LeavesOnly before after (IsAsBefore before)
-  pub cause : HasCause result before after
 
 -- what stands behind the records is cut off, and a closed gate written
 pub record Repairs (result : Result (Unit {0}) Fault) (before after : Disk) : Type 0 where

@@ -1,11 +1,16 @@
 -- What private functions find in the bytes of a journal.
-use Rattle.std.specs.Prelude.{◌≡◌, ℕ, List, ◌∷◌, length, Result, Ok, Err}
+use Rattle.std.specs.Prelude.{◌≡◌, ◌⊎◌, ℕ, ◌+◌, ◌≤◌, ◌==◌, List, [], ◌∷◌, length, drop, Option, Some, None, Result, Ok, Err, IfOk, if◌then◌else◌, refl}
+use Rattle.std.specs.Int.{w32, from_le_bytes}
+use Rattle.tb_journal.specs.declared.faults.Fault.{Fault}
 use Rattle.tb_journal.specs.declared.reading.Head.{Head}
 use Rattle.tb_journal.specs.declared.reading.Head.TheVariants as heads
 use Rattle.tb_journal.specs.declared.reading.Extent.{Extent}
 use Rattle.tb_journal.specs.declared.reading.Refusal.{Refusal}
 use Rattle.tb_journal.specs.declared.reading.Refusal.TheVariants as refusals
-use Rattle.tb_journal.specs.Contents.{Front, Ends, Spoiled, Whole, Contents, NotAJournal, Damaged, Records, walk, records_of, records_end}
+use Rattle.tb_journal.specs.Device.{Disk, IsKept, LeavesOnly, HasCause}
+use Rattle.tb_journal.specs.Contents.{Front, Ends, Spoiled, Whole, front, Contents, NotAJournal, Damaged, Records, contents, records_end}
+use Rattle.tb_journal.specs.Opening.{IsAsBefore}
+use Rattle.tb_journal.specs.Scans.{Place, IsAhead, HasRead}
 
 -- what stands at the head of bytes, without the record itself
 abbrev pub head_is : Front → Head
@@ -19,15 +24,44 @@ extent_of NotAJournal = Err refusals.NotAJournal
 extent_of (Damaged at) = Err (refusals.Damaged at)
 extent_of (Records records) = Ok (record { end = records_end records; count = length records })
 
--- the records of some bytes that begin with blocks
-abbrev pub blocks_in : List ℕ → List (List ℕ)
-blocks_in bytes = records_of (walk 0 0 bytes)
+-- so many bytes of a file from a place on tell what stands there: the parts of a block that have a fixed length, and
+-- the record where the gate is open
+abbrev pub asked : List ℕ → ℕ
+asked (gate ∷ a ∷ b ∷ c ∷ rest) = if gate == 0 then 8 else 8 + from_le_bytes w32 (a ∷ b ∷ c ∷ 0 ∷ [])
+asked other = 8
 
--- no block of them is damaged
-abbrev pub AreWhole : List ℕ → Type 0
-AreWhole bytes = walk 0 0 bytes ≡ Records (blocks_in bytes)
+-- what a window on a file has: the bytes that were taken last, and those that were read ahead
+pub record Held : Type 0 where
+  pub taken : List ℕ
+  pub ahead : List ℕ
 
--- the first of them has this record, and the others stand in these bytes
-pub record IsFirst (bytes content rest : List ℕ) : Type 0 where
-  pub splits : blocks_in bytes ≡ content ∷ blocks_in rest
-  pub whole : AreWhole rest
+-- at least so many bytes from an offset on were read ahead, or all that are left
+pub record HasAhead (n at : ℕ) (file ahead : List ℕ) : Type 0 where
+  pub same : IsAhead at file ahead
+  pub enough : (n ≤ length ahead) ⊎ (ahead ≡ drop at file)
+
+-- what stands at an offset stands at the head of the bytes that were read ahead
+pub record FindsHead (at : ℕ) (file ahead : List ℕ) : Type 0 where
+  pub same : IsAhead at file ahead
+  pub finds : front ahead ≡ front (drop at file)
+
+-- a sync, and a look at what is then on the disk
+pub record LooksKept {T : Type 0} (result : Result T Fault) (Found : T → Type 0) (before after : Disk) : Type 0 where
+  pub ok : IfOk result (λ found. Found found × IsKept after)
+  pub seen : after.seen ≡ before.seen
+  pub any_moment : LeavesOnly before after (IsAsBefore before)
+  pub cause : HasCause result before after
+
+-- a scan before its first record, or none of a file that is no journal
+abbrev pub StartsScan : Option Place → List ℕ → Type 0
+StartsScan (Some scan) file = HasRead [] file scan
+StartsScan None file = contents file ≡ NotAJournal
+
+-- rows
+
+-- of a closed gate the fixed part is asked for, and of an open one the record too
+pub asked_at_a_closed_gate : asked (0 ∷ 7 ∷ 7 ∷ 7 ∷ []) ≡ 8
+asked_at_a_closed_gate = refl
+
+pub asked_at_an_open_gate : asked (255 ∷ 2 ∷ 1 ∷ 0 ∷ []) ≡ 266
+asked_at_an_open_gate = refl

@@ -1,15 +1,16 @@
 //! A journal is created.
-ghost use Rattle.std.specs.Prelude.{◌≡◌, true, IfOk, IfErr};
-ghost use Rattle.tb_journal.specs.Device.{IsKept, LeavesOnly};
+ghost use Rattle.std.specs.Prelude.{◌≡◌, ◌≤◌, true, length, IfOk, IfErr};
+ghost use Rattle.tb_journal.specs.Device.{IsKept, LeavesOnly, ReadsAt};
 ghost use Rattle.tb_journal.specs.Opening.{device_left, fault_left};
 ghost use Rattle.tb_journal.specs.Creating.{is_torn_from, is_blank, MayBeCreated, IsLeft, HasCreateCause, IsNew, IsUnborn, FindsBlank, Begins};
+ghost use Rattle.tb_journal.specs.Reading.{LooksKept};
 
 use crate::batches::Batch;
 use crate::calls::write_kept;
 use crate::devices::Device;
 use crate::faults::Fault;
 use crate::journals::Journal;
-use crate::opening::{NotOpened, OpenFault, read_kept};
+use crate::opening::{NotOpened, OpenFault};
 use crate::reading::MAGIC;
 use std::alloc::Global;
 
@@ -31,7 +32,7 @@ pub fn create<D: Device>(alloc: Global, device: D) -> Result<Journal<D>, NotOpen
     ensures cause { D.tells → HasCreateCause (fault_left result) (D.disk device) (D.disk (device_left result)) }
 {
     let mut device = device;
-    match finds_blank(alloc, &mut device) {
+    match finds_blank(&mut device) {
         Ok(found) => {
             if found {
                 begin(alloc, device)
@@ -50,7 +51,7 @@ pub fn create<D: Device>(alloc: Global, device: D) -> Result<Journal<D>, NotOpen
 }
 
 // Says whether a file is blank. One that is longer than the first bytes is not, and is not read.
-fn finds_blank<D: Device>(alloc: Global, device: &mut D) -> Result<bool, Fault>
+fn finds_blank<D: Device>(device: &mut D) -> Result<bool, Fault>
     ensures { D.tells → FindsBlank result (D.disk device.old) (D.disk device.new) }
 {
     match device.len() {
@@ -58,11 +59,25 @@ fn finds_blank<D: Device>(alloc: Global, device: &mut D) -> Result<bool, Fault>
             if len > FIRST.len() {
                 return Ok(false);
             }
-            match read_kept(alloc, device) {
-                Ok(bytes) => Ok(is_blank(&bytes)),
+            let mut bytes = [0; 9];
+            match read_kept(device, &mut bytes) {
+                Ok(count) => Ok(is_blank(&bytes[..count])),
                 Err(fault) => Err(fault),
             }
         }
+        Err(fault) => Err(fault),
+    }
+}
+
+// The first bytes of a file. What is read is on the disk before it is read.
+fn read_kept<D: Device>(device: &mut D, into: &mut [u8]) -> Result<usize, Fault>
+    ensures within { IfOk result (λ count. count ≤ length into.new) }
+    ensures reads { D.tells
+        → LooksKept result (λ count. ReadsAt count 0 (D.disk device.old).seen into.new)
+        (D.disk device.old) (D.disk device.new) }
+{
+    match device.sync() {
+        Ok(()) => device.read_at(0, into),
         Err(fault) => Err(fault),
     }
 }

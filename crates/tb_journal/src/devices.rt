@@ -1,9 +1,8 @@
 //! A file as the journal sees it: what a read returns, and what a crash may leave.
 ghost use Rattle.std.specs.Prelude.{◌≡◌, ◌≤◌, ℕ, List, length, IfOk};
-ghost use Rattle.tb_journal.specs.Device.{Disk, Looks, Writes, Cuts, Syncs};
+ghost use Rattle.tb_journal.specs.Device.{Disk, Looks, ReadsAt, Writes, Cuts, Syncs};
 
 use crate::faults::Fault;
-use std::alloc::Global;
 
 /// A file on a disk. What the calls do to it is told of a device that knows: a real disk promises nothing, and a file in
 /// memory all of it.
@@ -14,9 +13,11 @@ pub trait Device {
     /// The disk and its clock.
     ghost disk: { Self → Disk };
 
-    /// All the bytes.
-    fn read(&mut self, alloc: Global) -> Result<Vec<u8>, Fault>
-        ensures bytes { tells → IfOk result (λ bytes. bytes.items ≡ (disk self.old).seen) }
+    /// Some of the bytes from an offset on: as many as there is room for, or all that are left.
+    fn read_at(&mut self, at: usize, into: &mut [u8]) -> Result<usize, Fault>
+        // Of any device, so that no reader trusts a count that is too large.
+        ensures within { IfOk result (λ count. count ≤ length into.new) }
+        ensures bytes { tells → IfOk result (λ count. ReadsAt count at (disk self.old).seen into.new) }
         ensures looks { tells → Looks result (disk self.old) (disk self.new) };
 
     /// The number of bytes.

@@ -1,6 +1,6 @@
 //! A file in memory that tells what a crash may leave of it, and can fail.
 ghost use Rattle.std.specs.Prelude.{◌≡◌, ◌≤◌, ℕ, ◌-◌, ◌==◌, length, IfOk};
-ghost use Rattle.tb_journal.specs.Device.{Torn, overwritten};
+ghost use Rattle.tb_journal.specs.Device.{Torn, ReadsAt, overwritten};
 ghost use Rattle.tb_journal.specs.Torn.{Adds};
 
 use crate::devices::Device;
@@ -126,11 +126,11 @@ impl Device for Memory {
 
     ghost only_now = { memory_only_now };
 
-    fn read(&mut self, alloc: Global) -> Result<Vec<u8>, Fault> {
+    fn read_at(&mut self, at: usize, into: &mut [u8]) -> Result<usize, Fault> {
         if trips(&mut self.fuse) {
             return Err(Fault::Failed);
         }
-        Ok(Vec::from_slice(alloc, &self.bytes)?)
+        Ok(copy_from(&self.bytes, at, into))
     }
 
     fn len(&mut self) -> Result<usize, Fault> {
@@ -168,6 +168,19 @@ impl Device for Memory {
         self.calls.push(Call::Sync { file })?;
         Ok(())
     }
+}
+
+// Copies the bytes from an offset on, as many as there is room for.
+fn copy_from(bytes: &[u8], at: usize, into: &mut [u8]) -> usize
+    ensures { ReadsAt result at bytes.now into.new }
+{
+    if at >= bytes.len() {
+        return 0;
+    }
+    let (_, rest) = bytes.split_at(at);
+    let count = rest.len().min(into.len());
+    into[..count].copy_from_slice(&rest[..count]);
+    count
 }
 
 // Counts a call, and answers whether it is the one that fails.

@@ -1,9 +1,10 @@
 //! A journal is opened from a file that a crash may have left.
-ghost use Rattle.std.specs.Prelude.{◌≡◌, ◌≤◌, List, ℕ, length, IfOk, IfErr};
+ghost use Rattle.std.specs.Prelude.{◌≡◌, ◌≤◌, List, ℕ, length, Ok, IfOk, IfErr};
 ghost use Rattle.tb_journal.specs.Device.{IsKept, LeavesOnly};
 ghost use Rattle.tb_journal.specs.Contents.{Records, contents, recorded, records_end};
 ghost use Rattle.tb_journal.specs.Steps.{Shortens};
-ghost use Rattle.tb_journal.specs.Opening.{IsAsBefore, StandsForTheSame, HasOpenCause, IsUntouched, IsOpened, ReadsKept, Repairs, device_left, fault_left};
+ghost use Rattle.tb_journal.specs.Reading.{extent_of};
+ghost use Rattle.tb_journal.specs.Opening.{IsAsBefore, StandsForTheSame, HasOpenCause, IsUntouched, IsOpened, Repairs, device_left, fault_left};
 
 use crate::batches::{Batch, CLOSED};
 use crate::calls::write_kept;
@@ -11,7 +12,7 @@ use crate::devices::Device;
 use crate::faults::Fault;
 use crate::journals::{FILE_BYTES_MAX, Journal};
 use crate::reading::{Extent, Refusal};
-use crate::scanned::Scanned;
+use crate::scans::read_journal;
 use std::alloc::Global;
 
 /// Why a journal was not opened.
@@ -28,16 +29,6 @@ pub enum OpenFault {
 pub struct NotOpened<D: Device> {
     pub device: D,
     pub fault: OpenFault,
-}
-
-// What a read returns is on the disk before it is read.
-pub fn read_kept<D: Device>(alloc: Global, device: &mut D) -> Result<Vec<u8>, Fault>
-    ensures { D.tells → ReadsKept result (D.disk device.old) (D.disk device.new) }
-{
-    match device.sync() {
-        Ok(()) => device.read(alloc),
-        Err(fault) => Err(fault),
-    }
 }
 
 // Cuts, and syncs.
@@ -66,38 +57,21 @@ fn repair<D: Device>(device: &mut D, end: usize) -> Result<(), Fault>
     }
 }
 
-/// Reads a journal's file, and writes nothing. What it read is on the disk.
-pub fn read_journal<D: Device>(alloc: Global, device: &mut D) -> Result<Scanned, OpenFault>
-    ensures found { D.tells
-        → IfOk result (λ file. (file ≡ (D.disk device.old).seen) × IsKept (D.disk device.new)) }
-    ensures seen { D.tells → (D.disk device.new).seen ≡ (D.disk device.old).seen }
-    ensures untouched { D.tells
-        → LeavesOnly (D.disk device.old) (D.disk device.new) (IsAsBefore (D.disk device.old)) }
-    ensures cause { D.tells → HasOpenCause result (D.disk device.old) (D.disk device.new) }
-{
-    match read_kept(alloc, device) {
-        Ok(bytes) => match Scanned::new(bytes) {
-            Ok(file) => Ok(file),
-            Err(why) => Err(OpenFault::Refused(why)),
-        },
-        Err(fault) => Err(OpenFault::Device(fault)),
-    }
-}
-
 impl<D: Device> Journal<D> {
-    /// Opens the file that was read: what stands behind its records is cut off. A crash at any
-    /// moment of the call leaves a file of the same records.
-    pub fn open(alloc: Global, device: D, file: &Scanned) -> Result<Journal<D>, NotOpened<D>>
+    /// Opens the file that was read, of which a scan told the extent: what stands behind its records
+    /// is cut off. A crash at any moment of the call leaves a file of the same records.
+    pub fn open(alloc: Global, device: D, extent: Extent) -> Result<Journal<D>, NotOpened<D>>
+        requires few { extent.count ≤ extent.end }
         requires kept { D.tells → IsKept (D.disk device) }
-        requires read { D.tells → (D.disk device).seen ≡ file.now }
+        requires read { D.tells → extent_of (contents (D.disk device).seen) ≡ Ok extent }
 
-        ensures opened { D.tells → IfOk result (IsOpened D.disk file.now) }
+        ensures opened { D.tells → IfOk result (IsOpened D.disk (D.disk device).seen) }
         ensures any_moment { D.tells
             → LeavesOnly (D.disk device) (D.disk (device_left result))
-            (λ c. contents c ≡ Records (recorded file.now)) }
+            (λ c. contents c ≡ Records (recorded (D.disk device).seen)) }
         ensures cause { D.tells → HasOpenCause (fault_left result) (D.disk device) (D.disk (device_left result)) }
     {
-        let Extent { end, count } = file.extent();
+        let Extent { end, count } = extent;
         if end >= FILE_BYTES_MAX {
             return Err(NotOpened {
                 device,
@@ -143,7 +117,7 @@ pub fn recover<D: Device>(alloc: Global, device: D) -> Result<Journal<D>, NotOpe
 {
     let mut device = device;
     match read_journal(alloc, &mut device) {
-        Ok(file) => Journal::open(alloc, device, &file),
+        Ok(extent) => Journal::open(alloc, device, extent),
         Err(fault) => Err(NotOpened { device, fault }),
     }
 }

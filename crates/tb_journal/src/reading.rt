@@ -1,7 +1,7 @@
 //! How the bytes of a journal are read.
 ghost use Rattle.std.specs.Prelude.{◌≡◌, [], ◌∷◌};
-ghost use Rattle.tb_journal.specs.Contents.{front, behind_gate, contents};
-ghost use Rattle.tb_journal.specs.Reading.{head_is, extent_of};
+ghost use Rattle.tb_journal.specs.Contents.{front, behind_gate};
+ghost use Rattle.tb_journal.specs.Reading.{head_is, asked};
 
 use crate::checksums::checksum_of;
 
@@ -10,7 +10,7 @@ pub const MAGIC: [u8; 8] = [84, 66, 74, 82, 78, 76, 48, 49];
 
 // What stands at the head of some bytes.
 #[derive(Clone, Copy, PartialEq, Eq)]
-enum Head {
+pub enum Head {
     End,
     Spoiled,
     // A whole block, whose record has this length.
@@ -33,28 +33,18 @@ pub enum Refusal {
     Damaged { at: usize },
 }
 
-/// Finds the end of the records.
-pub fn scan(bytes: &[u8]) -> Result<Extent, Refusal>
-    ensures { result ≡ extent_of (contents bytes.now) }
+// So many bytes from a place on tell what stands there.
+pub fn asked(bytes: &[u8]) -> usize
+    ensures { result ≡ asked bytes.now }
 {
-    if !bytes.starts_with(&MAGIC) {
-        return Err(Refusal::NotAJournal);
-    }
-    let mut end = MAGIC.len();
-    let mut count = 0;
-    loop {
-        match head_of(&bytes[end..]) {
-            Head::End => return Ok(Extent { end, count }),
-            Head::Spoiled => return Err(Refusal::Damaged { at: end }),
-            Head::Whole(len) => {
-                end += 8 + len;
-                count += 1;
-            }
-        }
+    match bytes {
+        [gate, a, b, c, ..] if *gate != 0 => 8 + u32::from_le_bytes([*a, *b, *c, 0]) as usize,
+        _ => 8,
     }
 }
 
-fn head_of(bytes: &[u8]) -> Head
+// What stands at the head of these bytes.
+pub fn head_of(bytes: &[u8]) -> Head
     ensures { result ≡ head_is (front bytes.now) }
 {
     match bytes {

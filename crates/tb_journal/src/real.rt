@@ -1,12 +1,12 @@
 //! A file of the system.
+ghost use Rattle.std.specs.Prelude.{◌≤◌, length, IfOk};
 ghost use Rattle.tb_journal.specs.Real.{untold};
 
 use crate::devices::Device;
 use crate::faults::Fault;
-use std::alloc::Global;
 use std::fs::{File, Files, TryLockError};
 use std::io;
-use std::io::{ErrorKind, Read, Seek, SeekFrom};
+use std::io::ErrorKind;
 use std::os::unix::fs::FileExt;
 
 /// Why a file was not opened.
@@ -76,12 +76,8 @@ impl Device for Real {
 
     ghost only_now = { λ _ c left. left };
 
-    fn read(&mut self, alloc: Global) -> Result<Vec<u8>, Fault> {
-        let mut bytes = Vec::new(alloc);
-        match read_all(&mut self.file, &mut bytes) {
-            Ok(()) => Ok(bytes),
-            Err(error) => Err(fault_of(&error)),
-        }
+    fn read_at(&mut self, at: usize, into: &mut [u8]) -> Result<usize, Fault> {
+        read_from(&self.file, at, into)
     }
 
     fn len(&mut self) -> Result<usize, Fault> {
@@ -104,13 +100,23 @@ impl Device for Real {
     }
 }
 
-// Room for the whole file and one byte more is made at once, so that the end is found without more room.
-fn read_all(file: &mut File, bytes: &mut Vec<u8>) -> io::Result<()> {
-    let len = file.metadata()?.len() as usize;
-    bytes.reserve_exact(len.saturating_add(1))?;
-    file.seek(SeekFrom::Start(0))?;
-    file.read_to_end(bytes)?;
-    Ok(())
+// Reads on until there is no more room, or nothing is left.
+fn read_from(file: &File, at: usize, into: &mut [u8]) -> Result<usize, Fault>
+    ensures { IfOk result (λ count. count ≤ length into.new) }
+{
+    let mut count = 0;
+    for _ in 0..u64::MAX {
+        if count >= into.len() {
+            return Ok(count);
+        }
+        match file.read_at(&mut into[count..], (at as u64).wrapping_add(count as u64)) {
+            Ok(0) => return Ok(count),
+            Ok(more) => count += more,
+            Err(error) if error.kind() == ErrorKind::Interrupted => {}
+            Err(error) => return Err(fault_of(&error)),
+        }
+    }
+    Err(Fault::Failed)
 }
 
 fn told(answer: io::Result<()>) -> Result<(), Fault> {

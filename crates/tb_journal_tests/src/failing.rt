@@ -39,15 +39,15 @@ fn failed_step(rt: &impl Abort, alloc: Global, number: u64) -> usize {
 #[test]
 fn each_call_of_a_small_run_fails_once(rt: HostRuntime) -> Result<(), Fail> {
     let alloc = rt.alloc();
-    // To open a journal takes a sync, a read, a cut, a sync, a write and a sync.
-    for number in 1..=6 {
+    // To open a journal takes a sync, two looks, a cut, a sync, a write and a sync.
+    for number in 1..=7 {
         assert!(rt; failed_step(&rt, alloc, number) == 1, "call {number}");
     }
     // A commit takes a write, a sync, a write and a sync.
-    for number in 7..=10 {
+    for number in 8..=11 {
         assert!(rt; failed_step(&rt, alloc, number) == 2, "call {number}");
     }
-    assert!(rt; failed_step(&rt, alloc, 11) == 3);
+    assert!(rt; failed_step(&rt, alloc, 12) == 3);
     assert!(rt; failed_step(&rt, alloc, 0) == 3);
     Ok(())
 }

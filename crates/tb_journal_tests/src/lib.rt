@@ -15,4 +15,6 @@ mod real;
 #[cfg(test)]
 mod rows;
 #[cfg(test)]
+mod scans;
+#[cfg(test)]
 mod steps;

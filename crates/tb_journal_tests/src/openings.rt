@@ -3,7 +3,7 @@ use crate::steps::{created, file_of};
 use std::alloc::Global;
 use std::process::Abort;
 use std::test::Fail;
-use tb_journal::{Fault, Memory, OpenFault, Refusal, Scanned, create, recover};
+use tb_journal::{Fault, Memory, OpenFault, Refusal, Scan, create, recover};
 
 /// The file of a record without bytes, whose checksum is that of three bytes of 0.
 const EMPTY_RECORD: [u8; 17] = [
@@ -68,13 +68,16 @@ fn a_creation_that_was_cut_short_is_made_again(rt: HostRuntime) -> Result<(), Fa
 }
 
 #[test]
-fn records_are_read_one_by_one(rt: HostRuntime) -> Result<(), Fail> {
+fn the_records_of_a_file_are_read(rt: HostRuntime) -> Result<(), Fail> {
     let alloc = rt.alloc();
-    let bytes = Vec::from_slice(alloc, &EMPTY_RECORD)?;
-    let file = Scanned::new(bytes).ok().expect(&rt, "a journal");
-    let mut records = file.records();
-    let first = records.next().expect(&rt, "a record");
-    assert!(rt; first.is_empty());
-    assert!(rt; records.next().is_none());
+    let mut file = file_of(alloc, &EMPTY_RECORD).expect(&rt, "memory");
+    let mut scan = Scan::start(alloc, &mut file).ok().expect(&rt, "a journal");
+    assert!(rt; scan.next(&mut file) == Ok(true));
+    assert!(rt; scan.record().is_empty());
+    assert!(rt; scan.next(&mut file) == Ok(false));
+    let extent = scan.extent();
+    drop(scan);
+    drop(file);
+    assert!(rt; extent.end == 16 && extent.count == 1);
     Ok(())
 }

@@ -70,7 +70,22 @@ pub(crate) fn commit_two(journal: &mut Journal<Memory>) -> Result<(), Fault>
     requires { IsReady memory_disk journal.old }
     ensures { OnOk result (IsReady memory_disk journal.new) }
 {
-    wait(journal, &[])?;
-    wait(journal, &[115, 101, 99, 111, 110, 100])?;
+    commit_both(journal, &[], b"second")
+}
+
+/// Commits two records as one batch.
+fn commit_both(journal: &mut Journal<Memory>, first: &[u8], second: &[u8]) -> Result<(), Fault>
+    requires { IsReady memory_disk journal.old }
+    ensures { OnOk result (IsReady memory_disk journal.new) }
+{
+    wait(journal, first)?;
+    wait(journal, second)?;
     journal.commit()
+}
+
+/// The file of a journal of two records.
+pub(crate) fn file_of_two(alloc: Global, first: &[u8], second: &[u8]) -> Option<Memory> {
+    let mut journal = created(alloc, &[])?;
+    commit_both(&mut journal, first, second).ok()?;
+    Some(journal.into_device())
 }

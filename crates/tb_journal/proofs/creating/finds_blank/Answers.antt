@@ -1,3 +1,4 @@
+use Rattle.std.proofs.Common.{◌≡◌, length}
 use Rattle.tb_journal.proofs.Blanks.{blank_unasked, blank_long, blank_read, blank_unread}
 use Rattle.tb_journal.proofs.creating.finds_blank.Goals as goal
 
@@ -13,10 +14,12 @@ returns-in-Err g c t =
 
 pub returns-in-Ok-read_kept : goal.returns-in-Ok-read_kept
 returns-in-Ok-read_kept g c t =
+    let room : length c.read_kept.new.into ≡ 9 = c.read_kept.auto.into in
     blank_read (g.D.Device.disk c.args.device.now) (g.D.Device.disk c.len.new.self) (g.met.D.Device.only_now c.args.device.now) c.len.result (c.len.ensures.looks t)
-    (g.D.Device.disk c.read_kept.new.device) c.read_kept.result c.in-Ok-read_kept.bytes c.is_blank.result c.in-Ok-read_kept.is (c.read_kept.ensures t) (rw c.deref.ensures.value at c.is_blank.ensures)
+    c.read_kept.new.into (g.D.Device.disk c.read_kept.new.device) c.read_kept.result (c.read_kept.ensures.reads t)
+    c.in-Ok.len c.in-Ok-read_kept.count c.is_blank.result (c.in-Ok.ensures.bytes t) c.if-len-gt9.false room c.in-Ok-read_kept.is c.is_blank.ensures
 
 pub returns-in-Err-read_kept : goal.returns-in-Err-read_kept
 returns-in-Err-read_kept g c t =
     blank_unread (g.D.Device.disk c.args.device.now) (g.D.Device.disk c.len.new.self) (g.met.D.Device.only_now c.args.device.now) c.len.result (c.len.ensures.looks t)
-    (g.D.Device.disk c.read_kept.new.device) c.read_kept.result c.in-Err-read_kept.fault c.in-Err-read_kept.is (c.read_kept.ensures t)
+    c.read_kept.new.into (g.D.Device.disk c.read_kept.new.device) c.read_kept.result (c.read_kept.ensures.reads t) c.in-Err-read_kept.fault c.in-Err-read_kept.is

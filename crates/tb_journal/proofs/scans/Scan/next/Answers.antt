@@ -1,0 +1,59 @@
+use Rattle.std.proofs.Common.{◌≡◌, ◌+◌, ◌∙◌, ap, arith, drop, refl, subst, sym, take}
+use Rattle.tb_journal.specs.Scans.{Place, HasRead}
+use Rattle.tb_journal.proofs.Nexts.{block_within, step_ends, step_stays, step_spoiled, step_whole, too_far}
+use Rattle.tb_journal.proofs.scans.Scan.next.Goals as goal
+
+pub returns-then-self-ge-FILE_BYTES_MAX-clause-cause : goal.returns-then-self-ge-FILE_BYTES_MAX-clause-cause
+returns-then-self-ge-FILE_BYTES_MAX-clause-cause g c t records read =
+    let end : c.self.inside.end ≡ c.args.self.now.end = ap (λ (p : Place). p.end) c.self.view_is in
+    too_far (g.D.Device.disk c.args.device.now) records c.args.self.now read (omega (arith, end, c.if-self-ge-FILE_BYTES_MAX.true))
+
+pub overflow_add-self : goal.overflow_add-self
+overflow_add-self g c =
+    let there = block_within c.head_at.new.window.ahead c.in-Ok-Whole.field-0 c.in-Ok-Whole.len c.in-Ok-Whole.field-0-is c.in-Ok-Whole.ensures.head in
+    omega (arith, there, c.in-Ok-Whole.ensures.short)
+
+pub overflow_add-self-in-Ok-Whole : goal.overflow_add-self-in-Ok-Whole
+overflow_add-self-in-Ok-Whole g c =
+    let there = block_within c.head_at.new.window.ahead c.in-Ok-Whole.field-0 c.in-Ok-Whole.len c.in-Ok-Whole.field-0-is c.in-Ok-Whole.ensures.head in
+    omega (arith, there, c.in-Ok-Whole.ensures.short, c.if-self-ge-FILE_BYTES_MAX.false)
+
+pub invariant_of-self-in-Ok-Whole : goal.invariant_of-self-in-Ok-Whole
+invariant_of-self-in-Ok-Whole g c =
+    let there = block_within c.head_at.new.window.ahead c.in-Ok-Whole.field-0 c.in-Ok-Whole.len c.in-Ok-Whole.field-0-is c.in-Ok-Whole.ensures.head in
+    (omega (arith, there, c.in-Ok-Whole.ensures.short, c.if-self-ge-FILE_BYTES_MAX.false), omega (arith, c.self.invariant.1))
+
+pub returns-in-Ok-End-clause-reads : goal.returns-in-Ok-End-clause-reads
+returns-in-Ok-End-clause-reads g c t records read =
+    let file = (g.D.Device.disk c.args.device.now).seen in
+    let old = subst (HasRead records file) (sym c.self.view_is) read in
+    let ahead = c.head_at.new.window.ahead in
+    let found = c.in-Ok-End.ensures.finds t old.ahead in
+    let head = c.in-Ok-End.field-0 in
+    let told = c.in-Ok-End.ensures.head in
+    (step_ends records file _ old ahead found head told c.in-Ok-End.field-0-is, step_stays records file _ old ahead found head told c.head_at.new.window.taken)
+
+pub returns-in-Ok-Spoiled-clause-reads : goal.returns-in-Ok-Spoiled-clause-reads
+returns-in-Ok-Spoiled-clause-reads g c t records read =
+    let file = (g.D.Device.disk c.args.device.now).seen in
+    let old = subst (HasRead records file) (sym c.self.view_is) read in
+    step_spoiled records file _ old c.head_at.new.window.ahead (c.in-Ok-Spoiled.ensures.finds t old.ahead) c.in-Ok-Spoiled.field-0 c.in-Ok-Spoiled.ensures.head c.in-Ok-Spoiled.field-0-is
+
+pub returns-in-Ok-Spoiled-clause-cause : goal.returns-in-Ok-Spoiled-clause-cause
+returns-in-Ok-Spoiled-clause-cause g c t records read =
+    let file = (g.D.Device.disk c.args.device.now).seen in
+    let old = subst (HasRead records file) (sym c.self.view_is) read in
+    record {
+      later = (c.head_at.ensures.looks t).cause.later;
+      cause = step_spoiled records file _ old c.head_at.new.window.ahead (c.in-Ok-Spoiled.ensures.finds t old.ahead) c.in-Ok-Spoiled.field-0 c.in-Ok-Spoiled.ensures.head c.in-Ok-Spoiled.field-0-is;
+    }
+
+pub returns-in-Ok-Whole-clause-reads : goal.returns-in-Ok-Whole-clause-reads
+returns-in-Ok-Whole-clause-reads g c t records read =
+    let file = (g.D.Device.disk c.args.device.now).seen in
+    let old = subst (HasRead records file) (sym c.self.view_is) read in
+    let window = c.take-in-Ok-Whole.new.self in
+    let len = c.in-Ok-Whole.len in
+    step_whole records file _ old c.head_at.new.window.ahead (c.in-Ok-Whole.ensures.finds t old.ahead) c.in-Ok-Whole.field-0 c.in-Ok-Whole.ensures.head
+    len (c.self.inside.end + (8 + len)) (c.self.inside.count + 1) window.taken window.ahead c.in-Ok-Whole.field-0-is refl refl
+    (c.take-in-Ok-Whole.ensures.taken ∙ ap (take len) c.take.ensures.ahead) (c.take-in-Ok-Whole.ensures.ahead ∙ ap (drop len) c.take.ensures.ahead)

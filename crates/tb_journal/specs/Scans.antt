@@ -1,0 +1,51 @@
+-- How a journal's file is read, record by record.
+use Rattle.std.specs.Prelude.{◌≡◌, ℕ, ◌<◌, ◌^◌, Bool, true, false, List, [], ◌∷◌, ◌++◌, length, take, drop, codes, refl, Result, Ok, Err}
+use Rattle.tb_journal.specs.declared.opening.OpenFault.{OpenFault}
+use Rattle.tb_journal.specs.declared.opening.OpenFault.TheVariants as open_faults
+use Rattle.tb_journal.specs.Checksum.{byte_on, bit_on}
+use Rattle.tb_journal.specs.Contents.{Records, block, contents, records_end}
+use Rattle.tb_journal.specs.Opening.{refused_as}
+
+-- how far a file was read: where the records end, how many they are, the last of them, and the bytes read ahead
+pub record Place : Type 0 where
+  pub end : ℕ
+  pub count : ℕ
+  pub last : List ℕ
+  pub ahead : List ℕ
+
+-- the file begins with these records: cut off behind them, it stands for them and no others
+abbrev pub BeginsWith : List (List ℕ) → List ℕ → Type 0
+BeginsWith records file = contents (take (records_end records) file) ≡ Records records
+
+-- these bytes are those of the file from an offset on, as far as they go
+abbrev pub IsAhead : ℕ → List ℕ → List ℕ → Type 0
+IsAhead at file ahead = ahead ≡ take (length ahead) (drop at file)
+
+-- what a scan has read of a file
+pub record HasRead (records : List (List ℕ)) (file : List ℕ) (scan : Place) : Type 0 where
+  pub begins : BeginsWith records file
+  pub end : scan.end ≡ records_end records
+  pub count : scan.count ≡ length records
+  pub ahead : IsAhead scan.end file scan.ahead
+
+-- the next step behind these records: one record more, the end, or why the file is refused
+abbrev pub ReadsNext : Result Bool OpenFault → List (List ℕ) → List ℕ → Place → Type 0
+ReadsNext (Ok true) records file scan = HasRead (records ++ scan.last ∷ []) file scan
+ReadsNext (Ok false) records file scan = (contents file ≡ Records records) × HasRead records file scan
+ReadsNext (Err (open_faults.Refused why)) records file scan = contents file ≡ refused_as why
+ReadsNext (Err (open_faults.Device fault)) records file scan = Unit {0}
+
+-- a record was read behind a place, and there is no end to this but the greatest length of a file
+abbrev pub GoesFurther : Place → Place → Type 0
+GoesFurther old new = (old.end < 2 ^ 62) × (old.end < new.end)
+
+-- rows
+
+-- a damaged block behind a good one takes nothing from the good one
+pub begins_before_damage : BeginsWith (codes "ab" ∷ []) (codes "TBJRNL01" ++ (block (codes "ab") ++ 255 ∷ 1 ∷ []))
+unfolding byte_on bit_on
+begins_before_damage = refl
+
+-- each journal begins with no record
+pub begins_with_none : BeginsWith [] (codes "TBJRNL01" ++ 255 ∷ 7 ∷ [])
+begins_with_none = refl

@@ -1,0 +1,168 @@
+//! A journal's file, read record by record.
+ghost use Rattle.std.specs.Prelude.{◌≡◌, ◌≤◌, ◌<◌, ◌+◌, ◌^◌, true, List, ℕ, [], length, Ok, IfOk, OnOk};
+ghost use Rattle.tb_journal.specs.Device.{IsKept, LeavesOnly, Looks, IsLookedAt};
+ghost use Rattle.tb_journal.specs.Contents.{front, contents};
+ghost use Rattle.tb_journal.specs.Opening.{IsAsBefore, HasOpenCause};
+ghost use Rattle.tb_journal.specs.Scans.{Place, IsAhead, HasRead, ReadsNext, GoesFurther};
+ghost use Rattle.tb_journal.specs.Reading.{HasAhead, FindsHead, LooksKept, StartsScan, head_is, extent_of};
+
+use crate::devices::Device;
+use crate::faults::Fault;
+use crate::journals::FILE_BYTES_MAX;
+use crate::opening::OpenFault;
+use crate::reading::{Extent, Head, MAGIC, Refusal, asked, head_of};
+use crate::windows::Window;
+use std::alloc::Global;
+use std::marker::Model;
+
+// The parts of a block that have a fixed length: gate, length and checksum.
+const FIXED: usize = 8;
+
+/// A journal's file as it is read, record by record, from its first bytes on. The checksum of a record is looked at
+/// before the record is handed out.
+#[derive(Drop)]
+pub struct Scan {
+    window: Window,
+    end: usize,
+    count: usize,
+}
+
+impl Model for Scan {
+    ghost Value = { Place };
+
+    ghost view = { λ s. record { end = s.end; count = s.count; last = s.window.taken; ahead = s.window.ahead } };
+
+    ghost invariant = { λ s. (s.end ≤ 2 ^ 62 + 2 ^ 63) × (s.count ≤ s.end) };
+}
+
+impl Scan {
+    /// Reads the first bytes. What a scan reads is on the disk.
+    pub fn start<D: Device>(alloc: Global, device: &mut D) -> Result<Scan, OpenFault>
+        ensures begun { D.tells
+            → IfOk result (λ scan. HasRead [] (D.disk device.old).seen scan × IsKept (D.disk device.new)) }
+        ensures seen { D.tells → (D.disk device.new).seen ≡ (D.disk device.old).seen }
+        ensures untouched { D.tells
+            → LeavesOnly (D.disk device.old) (D.disk device.new) (IsAsBefore (D.disk device.old)) }
+        ensures cause { D.tells → HasOpenCause result (D.disk device.old) (D.disk device.new) }
+    {
+        match read_first(alloc, device) {
+            Ok(window) => match begin(window) {
+                Some(scan) => Ok(scan),
+                None => Err(OpenFault::Refused(Refusal::NotAJournal)),
+            },
+            Err(fault) => Err(OpenFault::Device(fault)),
+        }
+    }
+
+    /// Reads the next record, and says whether there is one. Damaged, with the offset of the gate, where a block is not
+    /// whole or its checksum does not match.
+    pub fn next<D: Device>(&mut self, device: &mut D) -> Result<bool, OpenFault>
+        ensures reads { D.tells → (records : List (List ℕ))
+            → HasRead records (D.disk device.old).seen self.old
+            → ReadsNext result records (D.disk device.old).seen self.new }
+        ensures looks { D.tells → IsLookedAt (D.disk device.old) (D.disk device.new) }
+        ensures cause { D.tells → (records : List (List ℕ))
+            → HasRead records (D.disk device.old).seen self.old
+            → HasOpenCause result (D.disk device.old) (D.disk device.new) }
+        // Of any device: so a loop over the records comes to an end.
+        ensures further { IfOk result (λ more. more ≡ true → GoesFurther self.old self.new) }
+    {
+        if self.end >= FILE_BYTES_MAX {
+            return Err(OpenFault::Device(Fault::Full));
+        }
+        match head_at(&mut self.window, device, self.end) {
+            Ok(Head::End) => Ok(false),
+            Ok(Head::Spoiled) => Err(OpenFault::Refused(Refusal::Damaged { at: self.end })),
+            Ok(Head::Whole(len)) => {
+                self.window.take(FIXED);
+                self.window.take(len);
+                self.end += FIXED + len;
+                self.count += 1;
+                Ok(true)
+            }
+            Err(fault) => Err(OpenFault::Device(fault)),
+        }
+    }
+
+    /// The record that the last call of `next` read.
+    pub fn record(&self) -> &[u8]
+        ensures { result.now ≡ self.now.last }
+    {
+        self.window.taken()
+    }
+
+    /// Where the records that were read end, and how many they are.
+    pub fn extent(&self) -> Extent
+        ensures end { result.end ≡ self.now.end }
+        ensures count { result.count ≡ self.now.count }
+        ensures few { result.count ≤ result.end }
+    {
+        Extent {
+            end: self.end,
+            count: self.count,
+        }
+    }
+}
+
+// The first bytes of a file. What is read is on the disk before it is read.
+fn read_first<D: Device>(alloc: Global, device: &mut D) -> Result<Window, Fault>
+    ensures { D.tells
+        → LooksKept result (λ window. HasAhead 8 0 (D.disk device.old).seen window.ahead)
+        (D.disk device.old) (D.disk device.new) }
+{
+    let mut window = Window::new(alloc)?;
+    device.sync()?;
+    window.fill(device, 0, MAGIC.len())?;
+    Ok(window)
+}
+
+// A scan of a file with these first bytes. None where they are not those of a journal.
+fn begin(window: Window) -> Option<Scan>
+    ensures { (file : List ℕ) → HasAhead 8 0 file window.ahead → StartsScan result file }
+{
+    let mut window = window;
+    if !window.ahead().starts_with(&MAGIC) {
+        return None;
+    }
+    window.take(MAGIC.len());
+    Some(Scan {
+        window,
+        end: MAGIC.len(),
+        count: 0,
+    })
+}
+
+// What stands at this offset, with its checksum. All of a block is read ahead.
+fn head_at<D: Device>(window: &mut Window, device: &mut D, at: usize) -> Result<Head, Fault>
+    requires { at < 2 ^ 62 }
+    ensures head { IfOk result (λ head. head ≡ head_is (front window.new.ahead)) }
+    ensures short { OnOk result (length window.new.ahead < 2 ^ 63) }
+    ensures finds { D.tells
+        → IsAhead at (D.disk device.old).seen window.old.ahead
+        → OnOk result (FindsHead at (D.disk device.old).seen window.new.ahead) }
+    ensures looks { D.tells → Looks result (D.disk device.old) (D.disk device.new) }
+{
+    window.fill(device, at, FIXED)?;
+    let needed = asked(window.ahead());
+    if needed == FIXED {
+        return Ok(head_of(window.ahead()));
+    }
+    window.fill(device, at, needed)?;
+    Ok(head_of(window.ahead()))
+}
+
+/// Reads a journal's file from end to end, and writes nothing. What it read is on the disk.
+pub fn read_journal<D: Device>(alloc: Global, device: &mut D) -> Result<Extent, OpenFault>
+    ensures found { D.tells
+        → IfOk result (λ extent.
+        (extent_of (contents (D.disk device.old).seen) ≡ Ok extent) × IsKept (D.disk device.new)) }
+    ensures few { IfOk result (λ extent. extent.count ≤ extent.end) }
+    ensures seen { D.tells → (D.disk device.new).seen ≡ (D.disk device.old).seen }
+    ensures untouched { D.tells
+        → LeavesOnly (D.disk device.old) (D.disk device.new) (IsAsBefore (D.disk device.old)) }
+    ensures cause { D.tells → HasOpenCause result (D.disk device.old) (D.disk device.new) }
+{
+    let mut scan = Scan::start(alloc, device)?;
+    while scan.next(device)? {}
+    Ok(scan.extent())
+}
