@@ -1,10 +1,10 @@
 //! Accounts that are created or refused, and the most of them in one request.
+use crate::comparing::holds;
 use crate::fixtures::{account, account_with, at, found, transfer};
 use crate::scripts::Script;
 use crate::serving::{PROFILES, expect_all, serve_on};
 use crate::steps::{Step, put_steps};
 use std::process::Abort;
-use std::test::Fail;
 use tb_records::{
     Account, AccountFlag, CreateAccountResult as AccountOutcome, CreateTransferResult as Outcome,
     Operation,
@@ -12,7 +12,7 @@ use tb_records::{
 
 /// Nine accounts, of which the last is right.
 #[test]
-fn accounts_refused(rt: HostRuntime) -> Result<(), Fail> {
+fn accounts_refused(rt: HostRuntime) {
     serve_on(
         &rt,
         rt.alloc(),
@@ -61,44 +61,46 @@ fn accounts_refused(rt: HostRuntime) -> Result<(), Fail> {
             Step::FoundAccount(found([0; 4], 11, account(1))),
             Step::Send(Operation::LookupAccounts),
         ],
-    )
+    );
 }
 
 /// Puts accounts 1 to 8190 into one request, of 1,048,320 bytes.
-fn put_most(script: &mut Script) -> Result<(), Fail> {
+fn put_most(rt: &impl Abort, script: &mut Script) {
     for id in 1u64..8191 {
-        script.put_account(&account(id as u128), 0)?;
+        script.put_account(rt, &account(id as u128), 0);
     }
-    script.send(Operation::CreateAccounts)
+    script.send(rt, Operation::CreateAccounts);
 }
 
-/// Client 7 creates accounts 1 to 8190 in one request, and looks three up.
-fn expect_most(rt: &impl Abort, script: &mut Script) -> Result<(), Fail> {
-    script.register(7, 1)?;
-    put_most(script)?;
-    // two pairs of a moment and a header, and the body
-    assert_eq!(rt; script.bytes.len(), 112 + 1_048_320);
-    let last = [
+/// Looks three of them up.
+fn three_of_most() -> [Step; 6] {
+    [
         Step::Id(8190),
         Step::Id(8191),
         Step::Id(1),
         Step::FoundAccount(found([0; 4], 8200, account(8190))),
         Step::FoundAccount(found([0; 4], 11, account(1))),
         Step::Send(Operation::LookupAccounts),
-    ];
-    put_steps(script, &last)?;
-    expect_all(rt, script, &PROFILES)
+    ]
 }
 
+/// Client 7 creates accounts 1 to 8190 in one request, and looks three up.
 #[test]
-fn most_events(rt: HostRuntime) -> Result<(), Fail> {
+fn most_events(rt: HostRuntime) {
     let mut script = Script::new(rt.alloc());
-    expect_most(&rt, &mut script)
+    script.register(&rt, 7, 1);
+    put_most(&rt, &mut script);
+    // two pairs of a moment and a header, and the body
+    let length = script.bytes.len();
+    holds(&rt, length == 112 + 1_048_320, &length);
+    put_steps(&rt, &mut script, &three_of_most());
+    expect_all(&rt, &script, &PROFILES);
+    drop(script);
 }
 
 /// An account whose debits must not exceed its credits, and one whose credits must not exceed its debits.
 #[test]
-fn limits_of_accounts(rt: HostRuntime) -> Result<(), Fail> {
+fn limits_of_accounts(rt: HostRuntime) {
     let debits = account_with(AccountFlag::DebitsMustNotExceedCredits, account(3));
     let credits = account_with(AccountFlag::CreditsMustNotExceedDebits, account(4));
     serve_on(
@@ -123,5 +125,5 @@ fn limits_of_accounts(rt: HostRuntime) -> Result<(), Fail> {
             Step::FoundTransfer(at(17, transfer(82, 3, 1, 0))),
             Step::Send(Operation::LookupTransfers),
         ],
-    )
+    );
 }

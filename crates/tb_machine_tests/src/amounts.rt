@@ -2,14 +2,13 @@
 use crate::fixtures::{account, account_with, at, both_balanced, debit_balanced, held, transfer};
 use crate::serving::{PROFILES, serve_on};
 use crate::steps::Step;
-use std::test::Fail;
 use tb_records::{
     AccountFlag, CreateAccountResult as AccountOutcome, CreateTransferResult as Outcome, Operation,
 };
 
 /// A balancing debit of 80 where 50 is left, its repeats, and one where nothing is left.
 #[test]
-fn balancing_debit_lowers(rt: HostRuntime) -> Result<(), Fail> {
+fn balancing_debit_lowers(rt: HostRuntime) {
     serve_on(
         &rt,
         rt.alloc(),
@@ -35,12 +34,12 @@ fn balancing_debit_lowers(rt: HostRuntime) -> Result<(), Fail> {
             Step::Send(Operation::LookupTransfers),
             Step::First([30, 70, 0, 100]),
         ],
-    )
+    );
 }
 
 /// Either side can be what limits a transfer that balances both. An account created closed takes none.
 #[test]
-fn balancing_both_ways(rt: HostRuntime) -> Result<(), Fail> {
+fn balancing_both_ways(rt: HostRuntime) {
     let closed = account_with(AccountFlag::Closed, account(6));
     serve_on(
         &rt,
@@ -72,11 +71,11 @@ fn balancing_both_ways(rt: HostRuntime) -> Result<(), Fail> {
             Step::FoundTransfer(at(21, debit_balanced(5, 1, 2, 0))),
             Step::Send(Operation::LookupTransfers),
         ],
-    )
+    );
 }
 
 #[test]
-fn sum_overflows(rt: HostRuntime) -> Result<(), Fail> {
+fn sum_overflows(rt: HostRuntime) {
     serve_on(
         &rt,
         rt.alloc(),
@@ -90,5 +89,5 @@ fn sum_overflows(rt: HostRuntime) -> Result<(), Fail> {
             Step::FoundTransfer(at(13, transfer(1, 1, 2, u128::MAX))),
             Step::Send(Operation::LookupTransfers),
         ],
-    )
+    );
 }

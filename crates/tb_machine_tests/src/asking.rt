@@ -1,11 +1,11 @@
 //! Nothing is asked again: a reader or a writer of which one call alone goes wrong. The calls behind it are counted.
+use crate::comparing::holds;
 use crate::scripts::Script;
 use crate::serving::room;
 use crate::steps::{begin, put_steps, third};
 use std::alloc::Global;
 use std::io::{self, Error, ErrorKind, Read, Write};
 use std::process::Abort;
-use std::test::Fail;
 use tb_machine::{RunFault, dump, replay, run};
 use tb_records::{Counting, DumpFault, FrameFault, Profile, Sink, Source};
 
@@ -86,8 +86,6 @@ enum Form {
     Replay,
 }
 
-const FORMS: [Form; 3] = [Form::Run, Form::Dump, Form::Replay];
-
 /// How a call ended.
 #[derive(Clone, Copy, Debug, PartialEq, Eq)]
 enum Outcome {
@@ -114,43 +112,64 @@ fn outcome_of_replay(answer: Result<u64, DumpFault>) -> Outcome {
 
 /// Serves what a reader gives, for two clients.
 fn serve<R: Source, W: Sink>(
+    rt: &impl Abort,
     alloc: Global,
     form: Form,
     reader: &mut R,
     writer: &mut W,
-) -> Result<Outcome, Fail> {
-    let clients_max = room(2)?;
-    Ok(match form {
+) -> Outcome {
+    let clients_max = room(rt, 2);
+    match form {
         Form::Run => outcome_of(run(alloc, Profile::One, clients_max, reader, writer)),
         Form::Dump => outcome_of(dump(alloc, clients_max, Some(1), reader, writer)),
         Form::Replay => outcome_of_replay(replay(alloc, reader, writer)),
-    })
+    }
 }
 
-/// Serves an input with the read behind so many failing; says whether one did.
-fn slip(rt: &impl Abort, alloc: Global, form: Form, input: &[u8], good: u32) -> Result<bool, Fail> {
-    let mut reader = Counting::new(Slipping {
+/// A reader of an input that fails behind so many good reads.
+fn failing_reader(input: &[u8], good: u32) -> Counting<Slipping<'_>> {
+    Counting::new(Slipping {
         rest: input,
         good,
         calls: 0,
         late: 0,
         ended: false,
-    });
+    })
+}
+
+/// How a call is to end, and how many failures are counted: well where the calls were no more than the good ones.
+fn wanted(calls: u32, good: u32, failures: u64) -> (Outcome, u64) {
+    if calls <= good {
+        (Outcome::Done, 0)
+    } else {
+        (Outcome::Device, failures)
+    }
+}
+
+/// Serves an input with the read behind so many failing; says whether one did.
+fn slip(rt: &impl Abort, alloc: Global, form: Form, input: &[u8], good: u32) -> bool {
+    let mut reader = failing_reader(input, good);
     let mut writer = Counting::new(Vec::new(alloc));
-    let outcome = serve(alloc, form, &mut reader, &mut writer)?;
+    let outcome = serve(rt, alloc, form, &mut reader, &mut writer);
+    drop(writer);
     let failures = Source::failures(&reader);
     let Slipping { calls, late, .. } = reader.into_inner();
-    assert!(rt; late == 0, "behind {good} reads");
-    if calls <= good {
-        assert!(rt; outcome == Outcome::Done && failures == 0, "{calls} reads");
-        return Ok(false);
-    }
-    assert!(rt;
-        outcome == Outcome::Device && failures == 1,
-        "behind {good} reads"
-    );
-    assert!(rt; calls == good.wrapping_add(1), "behind {good} reads");
-    Ok(true)
+    holds(rt, late == 0, &good);
+    let found = (outcome, failures);
+    holds(rt, found == wanted(calls, good, 1), &calls);
+    holds(rt, calls <= good.wrapping_add(1), &good);
+    calls > good
+}
+
+/// A writer that fails, or takes nothing, behind so many good writes.
+fn failing_writer(alloc: Global, good: u32, fails: bool) -> Counting<Stumbling> {
+    Counting::new(Stumbling {
+        taken: Vec::new(alloc),
+        good,
+        fails,
+        writes: 0,
+        late: 0,
+    })
 }
 
 /// Serves an input with the write behind so many failing, or taking nothing; says whether one did.
@@ -161,118 +180,97 @@ fn stumble(
     input: &[u8],
     good: u32,
     fails: bool,
-) -> Result<bool, Fail> {
-    let taken = Vec::new(alloc);
+) -> bool {
     let mut reader = Counting::new(input);
-    let mut writer = Counting::new(Stumbling {
-        taken,
-        good,
-        fails,
-        writes: 0,
-        late: 0,
-    });
-    let outcome = serve(alloc, form, &mut reader, &mut writer)?;
+    let mut writer = failing_writer(alloc, good, fails);
+    let outcome = serve(rt, alloc, form, &mut reader, &mut writer);
     let failures = Sink::failures(&writer);
-    let Stumbling { writes, late, .. } = writer.into_inner();
-    assert!(rt; late == 0, "behind {good} writes");
-    if writes <= good {
-        assert!(rt;
-            outcome == Outcome::Done && failures == 0,
-            "{writes} writes"
-        );
-        return Ok(false);
-    }
-    assert!(rt; outcome == Outcome::Device, "behind {good} writes");
-    assert!(rt; failures == u64::from(fails), "behind {good} writes");
-    Ok(true)
+    let stumbled = writer.into_inner();
+    let (writes, late) = (stumbled.writes, stumbled.late);
+    drop(stumbled);
+    holds(rt, late == 0, &good);
+    let found = (outcome, failures);
+    let failed = u64::from(fails);
+    holds(rt, found == wanted(writes, good, failed), &writes);
+    writes > good
 }
 
 /// How many reads go well before one fails that nothing comes after: where there is no such read, 100.
-fn reads(rt: &impl Abort, alloc: Global, form: Form, input: &[u8]) -> Result<u32, Fail> {
+fn reads(rt: &impl Abort, alloc: Global, form: Form, input: &[u8]) -> u32 {
     for good in 0..100 {
-        if !slip(rt, alloc, form, input, good)? {
-            return Ok(good);
+        if !slip(rt, alloc, form, input, good) {
+            return good;
         }
     }
-    Ok(100)
+    100
 }
 
 /// The same of writes, which fail or take nothing.
-fn writes(
-    rt: &impl Abort,
-    alloc: Global,
-    form: Form,
-    input: &[u8],
-    fails: bool,
-) -> Result<u32, Fail> {
+fn writes(rt: &impl Abort, alloc: Global, form: Form, input: &[u8], fails: bool) -> u32 {
     for good in 0..100 {
-        if !stumble(rt, alloc, form, input, good, fails)? {
-            return Ok(good);
+        if !stumble(rt, alloc, form, input, good, fails) {
+            return good;
         }
     }
-    Ok(100)
+    100
 }
 
 /// Each read fails in turn, then each write, then each write takes nothing.
-fn expect_no_second_try(
-    rt: &impl Abort,
-    alloc: Global,
-    form: Form,
-    input: &[u8],
-) -> Result<(), Fail> {
-    let good = reads(rt, alloc, form, input)?;
-    assert!(rt; (19..100).contains(&good), "{good} reads");
+fn expect_no_second_try(rt: &impl Abort, alloc: Global, form: Form, input: &[u8]) {
+    let good = reads(rt, alloc, form, input);
+    holds(rt, (19..100).contains(&good), &good);
     for fails in [true, false] {
-        let good = writes(rt, alloc, form, input, fails)?;
-        assert!(rt; (14..100).contains(&good), "{good} writes");
+        let good = writes(rt, alloc, form, input, fails);
+        holds(rt, (14..100).contains(&good), &good);
     }
-    Ok(())
 }
 
-/// An input that is cut anywhere is at its end where a read finds nothing: no other read follows.
-fn expect_one_end(rt: &impl Abort, alloc: Global, form: Form, input: &[u8]) -> Result<(), Fail> {
+/// An input that is at its end where a read finds nothing: no other read follows.
+fn expect_end(rt: &impl Abort, alloc: Global, form: Form, input: &[u8]) {
+    let mut reader = failing_reader(input, u32::MAX);
+    let mut writer = Counting::new(Vec::new(alloc));
+    let outcome = serve(rt, alloc, form, &mut reader, &mut writer);
+    drop(writer);
+    let Slipping { late, ended, .. } = reader.into_inner();
+    let length = input.len();
+    holds(rt, outcome != Outcome::Device, &length);
+    holds(rt, ended, &length);
+    holds(rt, late == 0, &length);
+}
+
+/// The same of an input that is cut anywhere.
+fn expect_one_end(rt: &impl Abort, alloc: Global, form: Form, input: &[u8]) {
     for length in 0..=input.len() {
-        let mut reader = Counting::new(Slipping {
-            rest: &input[..length],
-            good: u32::MAX,
-            calls: 0,
-            late: 0,
-            ended: false,
-        });
-        let mut writer = Counting::new(Vec::new(alloc));
-        let outcome = serve(alloc, form, &mut reader, &mut writer)?;
-        let Slipping { late, ended, .. } = reader.into_inner();
-        assert!(rt;
-            outcome != Outcome::Device && ended && late == 0,
-            "{length} bytes"
-        );
+        expect_end(rt, alloc, form, &input[..length]);
     }
-    Ok(())
+}
+
+/// Nothing is asked again, whatever fails, and wherever the input ends.
+fn expect_asked_once(rt: &impl Abort, alloc: Global, form: Form, input: &[u8]) {
+    expect_no_second_try(rt, alloc, form, input);
+    expect_one_end(rt, alloc, form, input);
+}
+
+/// The dump of what three requests make.
+fn history(rt: &impl Abort, alloc: Global, pairs: &[u8]) -> Vec<u8> {
+    let mut reader = Counting::new(pairs);
+    let mut history = Counting::new(Vec::new(alloc));
+    let outcome = serve(rt, alloc, Form::Dump, &mut reader, &mut history);
+    holds(rt, outcome == Outcome::Done, &"a dump");
+    history.into_inner()
 }
 
 /// The three requests, and the dump of their history.
-fn expect_all(rt: &impl Abort, script: &mut Script) -> Result<(), Fail> {
-    put_steps(script, &begin())?;
-    put_steps(script, &third())?;
-    let alloc = script.alloc;
-    let pairs = script.bytes.as_slice();
-    let mut history = Counting::new(Vec::new(alloc));
-    let outcome = serve(alloc, Form::Dump, &mut Counting::new(pairs), &mut history)?;
-    assert!(rt; outcome == Outcome::Done);
-    let history = history.into_inner();
-    for form in FORMS {
-        let input = match form {
-            Form::Replay => history.as_slice(),
-            _ => pairs,
-        };
-        expect_no_second_try(rt, alloc, form, input)?;
-        expect_one_end(rt, alloc, form, input)?;
-    }
-    Ok(())
-}
-
 #[test]
-fn nothing_is_asked_again(rt: HostRuntime) -> Result<(), Fail> {
-    let mut script = Script::new(rt.alloc());
-    expect_all(&rt, &mut script)
+fn nothing_is_asked_again(rt: HostRuntime) {
+    let alloc = rt.alloc();
+    let mut script = Script::new(alloc);
+    put_steps(&rt, &mut script, &begin());
+    put_steps(&rt, &mut script, &third());
+    let history = history(&rt, alloc, script.bytes.as_slice());
+    expect_asked_once(&rt, alloc, Form::Run, script.bytes.as_slice());
+    expect_asked_once(&rt, alloc, Form::Dump, script.bytes.as_slice());
+    expect_asked_once(&rt, alloc, Form::Replay, history.as_slice());
+    drop(history);
+    drop(script);
 }

@@ -2,11 +2,10 @@
 use crate::fixtures::{account, at, found, held, linked, post, transfer};
 use crate::serving::{PROFILES, serve_both, serve_on};
 use crate::steps::Step;
-use std::test::Fail;
 use tb_records::{CreateTransferResult as Outcome, Operation, Profile};
 
 #[test]
-fn chain_undone(rt: HostRuntime) -> Result<(), Fail> {
+fn chain_undone(rt: HostRuntime) {
     serve_on(
         &rt,
         rt.alloc(),
@@ -29,11 +28,11 @@ fn chain_undone(rt: HostRuntime) -> Result<(), Fail> {
             Step::Id(52),
             Step::Send(Operation::LookupTransfers),
         ],
-    )
+    );
 }
 
 #[test]
-fn chain_open(rt: HostRuntime) -> Result<(), Fail> {
+fn chain_open(rt: HostRuntime) {
     serve_on(
         &rt,
         rt.alloc(),
@@ -58,12 +57,12 @@ fn chain_open(rt: HostRuntime) -> Result<(), Fail> {
             Step::Send(Operation::LookupTransfers),
             Step::First([0; 4]),
         ],
-    )
+    );
 }
 
 /// A chain that is broken leaves the pending transfer open that it would have posted.
 #[test]
-fn broken_chain_frees_its_post(rt: HostRuntime) -> Result<(), Fail> {
+fn broken_chain_frees_its_post(rt: HostRuntime) {
     let whole = post(65, 64, u128::MAX);
     serve_on(
         &rt,
@@ -80,7 +79,7 @@ fn broken_chain_frees_its_post(rt: HostRuntime) -> Result<(), Fail> {
             Step::Single(whole, Outcome::Ok),
             Step::First([0, 40, 0, 0]),
         ],
-    )
+    );
 }
 
 /// Transfers from an account that is not there, one by itself and one in a chain. Their ids come again, with an account
@@ -102,7 +101,7 @@ fn failed_again(outcome: Outcome, posted: u128) -> [Step; 11] {
 }
 
 #[test]
-fn failed_ids_are_free_by_profile_one(rt: HostRuntime) -> Result<(), Fail> {
+fn failed_ids_are_free_by_profile_one(rt: HostRuntime) {
     serve_both(
         &rt,
         rt.alloc(),
@@ -114,11 +113,11 @@ fn failed_ids_are_free_by_profile_one(rt: HostRuntime) -> Result<(), Fail> {
             Step::FoundTransfer(at(18, transfer(72, 1, 2, 1))),
             Step::Send(Operation::LookupTransfers),
         ],
-    )
+    );
 }
 
 #[test]
-fn failed_ids_stay_by_profile_two(rt: HostRuntime) -> Result<(), Fail> {
+fn failed_ids_stay_by_profile_two(rt: HostRuntime) {
     serve_both(
         &rt,
         rt.alloc(),
@@ -128,13 +127,13 @@ fn failed_ids_stay_by_profile_two(rt: HostRuntime) -> Result<(), Fail> {
             Step::FoundTransfer(at(17, transfer(71, 1, 2, 1))),
             Step::Send(Operation::LookupTransfers),
         ],
-    )
+    );
 }
 
 /// A failed id fails again in its own batch already, and ever after. An event that is there with other flags fails no id:
 /// once its chain is undone, 75 is free.
 #[test]
-fn failed_ids_outlive_their_chain(rt: HostRuntime) -> Result<(), Fail> {
+fn failed_ids_outlive_their_chain(rt: HostRuntime) {
     serve_on(
         &rt,
         rt.alloc(),
@@ -150,5 +149,5 @@ fn failed_ids_outlive_their_chain(rt: HostRuntime) -> Result<(), Fail> {
             Step::Single(post(76, 999, 0), Outcome::PendingTransferNotFound),
             Step::Single(post(76, 999, 0), Outcome::IdAlreadyFailed),
         ],
-    )
+    );
 }

@@ -1,4 +1,5 @@
 //! Replies leave before the program waits: a reader that fails where it is asked for more while a reply is still held back.
+use crate::comparing::holds;
 use crate::scripts::Script;
 use crate::serving::room;
 use crate::steps::{begin, put_steps, third};
@@ -6,9 +7,8 @@ use std::alloc::Global;
 use std::cell::Cell;
 use std::io::{self, BufReader, Error, ErrorKind, Read, Write};
 use std::process::Abort;
-use std::test::Fail;
 use tb_machine::{dump, replay, run};
-use tb_records::{Buffered, Counting, Profile};
+use tb_records::{Buffered, Counting, Profile, Sink, Source};
 
 /// Where a part of the input ends, and how many bytes are to be passed on before more is asked for.
 type Turn = (usize, usize);
@@ -84,6 +84,22 @@ enum Form {
     Replay,
 }
 
+/// Serves a reader's input; says whether all went well.
+fn serve<R: Source, W: Sink>(
+    rt: &impl Abort,
+    alloc: Global,
+    form: Form,
+    reader: &mut R,
+    writer: &mut W,
+) -> bool {
+    let clients_max = room(rt, 2);
+    match form {
+        Form::Run => run(alloc, Profile::One, clients_max, reader, writer).is_ok(),
+        Form::Dump => dump(alloc, clients_max, Some(1), reader, writer).is_ok(),
+        Form::Replay => replay(alloc, reader, writer).is_ok(),
+    }
+}
+
 /// Serves an input that comes in pieces. All is passed on at the end, and what was written is given back.
 fn converse(
     rt: &impl Abort,
@@ -92,7 +108,7 @@ fn converse(
     input: &[u8],
     turns: &[Turn],
     piece: usize,
-) -> Result<Vec<u8>, Fail> {
+) -> Vec<u8> {
     let passed = Cell::new(0);
     let waiting = Waiting {
         rest: input,
@@ -101,48 +117,43 @@ fn converse(
         turns,
         passed: &passed,
     };
-    let mut reader = Buffered::new(BufReader::new(alloc, waiting)?);
+    let mut reader = Buffered::new(BufReader::new(alloc, waiting).expect(rt, "memory"));
     let taken = Vec::new(alloc);
     let mut writer = Counting::new(Holding {
         taken,
         passed: &passed,
     });
-    let clients_max = room(2)?;
-    let done = match form {
-        Form::Run => run(alloc, Profile::One, clients_max, &mut reader, &mut writer).is_ok(),
-        Form::Dump => dump(alloc, clients_max, Some(1), &mut reader, &mut writer).is_ok(),
-        Form::Replay => replay(alloc, &mut reader, &mut writer).is_ok(),
-    };
-    assert!(rt; done, "pieces of {piece} bytes");
-    let taken = writer.into_inner().taken;
-    assert!(rt; passed.get() == taken.len(), "pieces of {piece} bytes");
-    Ok(taken)
+    let done = serve(rt, alloc, form, &mut reader, &mut writer);
+    drop(reader);
+    holds(rt, done, &piece);
+    let Holding { taken, passed } = writer.into_inner();
+    holds(rt, passed.get() == taken.len(), &piece);
+    taken
 }
 
 /// Serves a script, dumps it and replays its dump, in pieces of a length.
-fn expect_answers(rt: &impl Abort, script: &Script, piece: usize) -> Result<(), Fail> {
+fn expect_answers(rt: &impl Abort, script: &Script, piece: usize) {
     let alloc = script.alloc;
     let bytes = script.bytes.as_slice();
-    let replies = converse(rt, alloc, Form::Run, bytes, &SERVED, piece)?;
-    let history = converse(rt, alloc, Form::Dump, bytes, &DUMPED, piece)?;
-    let again = converse(rt, alloc, Form::Replay, &history, &REPLAYED, piece)?;
-    assert!(rt; replies.as_slice() == script.replies.as_slice());
-    assert!(rt; again.as_slice() == script.replies.as_slice());
-    Ok(())
+    let wanted = script.replies.as_slice();
+    let replies = converse(rt, alloc, Form::Run, bytes, &SERVED, piece);
+    holds(rt, replies.as_slice() == wanted, &piece);
+    drop(replies);
+    let history = converse(rt, alloc, Form::Dump, bytes, &DUMPED, piece);
+    let again = converse(rt, alloc, Form::Replay, &history, &REPLAYED, piece);
+    holds(rt, again.as_slice() == wanted, &piece);
+    drop(again);
+    drop(history);
 }
 
 /// Puts the three requests into a script, and serves it in pieces of each length.
-fn expect_each(rt: &impl Abort, script: &mut Script) -> Result<(), Fail> {
-    put_steps(script, &begin())?;
-    put_steps(script, &third())?;
-    for piece in PIECES {
-        expect_answers(rt, script, piece)?;
-    }
-    Ok(())
-}
-
 #[test]
-fn answered_before_it_waits(rt: HostRuntime) -> Result<(), Fail> {
+fn answered_before_it_waits(rt: HostRuntime) {
     let mut script = Script::new(rt.alloc());
-    expect_each(&rt, &mut script)
+    put_steps(&rt, &mut script, &begin());
+    put_steps(&rt, &mut script, &third());
+    for piece in PIECES {
+        expect_answers(&rt, &script, piece);
+    }
+    drop(script);
 }

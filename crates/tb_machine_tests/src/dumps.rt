@@ -1,9 +1,9 @@
 //! Scripts that are dumped and dumps that are replayed, in memory: worked rows, by the bytes that the formats give.
-use crate::frames::put_lines;
+use crate::comparing::holds;
+use crate::frames::{put_bytes, put_lines};
 use crate::serving::room;
 use std::alloc::Global;
 use std::process::Abort;
-use std::test::Fail;
 use tb_machine::{RunFault, dump, replay};
 use tb_records::{ClientsMax, Counting, DumpFault, FrameFault};
 
@@ -41,38 +41,56 @@ const ONE_REGISTER: [Line; 5] = [HEAD, FIRST, CLIENT, REGISTER, 0];
 const END: Line = 0xbc0200000a0000000000000000000000;
 
 /// Appends a moment and the register of a client below 256.
-fn put_register(out: &mut Vec<u8>, moment: u64, client: u8) -> Result<(), Fail> {
-    out.extend_from_slice(&moment.to_le_bytes())?;
-    put_lines(out, &[(client as u128) << 120, REGISTER, 0])
+fn put_register(rt: &impl Abort, out: &mut Vec<u8>, moment: u64, client: u8) {
+    put_bytes(rt, out, &moment.to_le_bytes());
+    put_lines(rt, out, &[(client as u128) << 120, REGISTER, 0]);
 }
 
-/// Appends accounts 1 and 2 at moment 10, as client 7's first request.
-fn put_accounts(out: &mut Vec<u8>) -> Result<(), Fail> {
-    out.extend_from_slice(&10u64.to_le_bytes())?;
-    let numbers = 0x01000000000000000100000081000000;
-    put_lines(out, &[CLIENT, numbers, 0x00010000000000000000000000000000])?;
-    for id in [1u128, 2] {
-        put_lines(out, &[id << 120, 0, 0, 0, 0, 0, 0, END])?;
-    }
-    Ok(())
+/// Accounts 1 and 2, as client 7's first request.
+const ACCOUNTS: [Line; 19] = [
+    CLIENT,
+    0x01000000000000000100000081000000,
+    0x00010000000000000000000000000000,
+    1 << 120,
+    0,
+    0,
+    0,
+    0,
+    0,
+    0,
+    END,
+    2 << 120,
+    0,
+    0,
+    0,
+    0,
+    0,
+    0,
+    END,
+];
+
+/// Appends accounts 1 and 2 at moment 10.
+fn put_accounts(rt: &impl Abort, out: &mut Vec<u8>) {
+    put_bytes(rt, out, &10u64.to_le_bytes());
+    put_lines(rt, out, &ACCOUNTS);
 }
 
 /// Appends a transfer of 1 to account 2 at moment 10, as client 7's request of a number below 256.
-fn put_transfer(out: &mut Vec<u8>, number: u8, id: u8, debit: u8) -> Result<(), Fail> {
-    out.extend_from_slice(&10u64.to_le_bytes())?;
+fn put_transfer(rt: &impl Abort, out: &mut Vec<u8>, number: u8, id: u8, debit: u8) {
+    put_bytes(rt, out, &10u64.to_le_bytes());
     let numbers = 0x01000000000000000000000082000000 + ((number as u128) << 56);
     let accounts = [(id as u128) << 120, (debit as u128) << 120, 2 << 120];
-    put_lines(out, &[CLIENT, numbers, 128 << 120])?;
-    put_lines(out, &accounts)?;
-    put_lines(out, &[1 << 120, 0, 0, 0, END])
+    put_lines(rt, out, &[CLIENT, numbers, 128 << 120]);
+    put_lines(rt, out, &accounts);
+    put_lines(rt, out, &[1 << 120, 0, 0, 0, END]);
 }
 
 /// A register, accounts 1 and 2, a transfer 77 from an account that is not there, and transfer 77 from account 1.
-fn put_failed_and_again(out: &mut Vec<u8>) -> Result<(), Fail> {
-    put_register(out, 10, 7)?;
-    put_accounts(out)?;
-    put_transfer(out, 2, 77, 99)?;
-    put_transfer(out, 3, 77, 1)
+fn put_failed_and_again(rt: &impl Abort, out: &mut Vec<u8>) {
+    put_register(rt, out, 10, 7);
+    put_accounts(rt, out);
+    put_transfer(rt, out, 2, 77, 99);
+    put_transfer(rt, out, 3, 77, 1);
 }
 
 /// Dumps a script, and compares the answer; gives what was written.
@@ -87,23 +105,22 @@ fn dumped(
     let mut reader = Counting::new(script);
     let mut writer = Counting::new(Vec::new(alloc));
     let result = dump(alloc, clients_max, at, &mut reader, &mut writer);
-    assert!(rt; result == answer);
+    holds(rt, result == answer, &"the answer of a dump");
     writer.into_inner()
 }
 
-/// Dumps a script, and compares the answer; gives how many bytes were written.
-fn length_dumped(
+/// Dumps a script, and compares the answer and how many bytes were written.
+fn expect_length(
     rt: &impl Abort,
     alloc: Global,
-    clients_max: ClientsMax,
     at: Option<u64>,
     script: &[u8],
     answer: Result<u64, RunFault>,
-) -> usize {
-    let dump = dumped(rt, alloc, clients_max, at, script, answer);
-    let length = dump.len();
+    length: usize,
+) {
+    let dump = dumped(rt, alloc, room(rt, 2), at, script, answer);
+    holds(rt, dump.len() == length, &length);
     drop(dump);
-    length
 }
 
 /// Replays a dump, and compares the answer; gives the replies.
@@ -116,41 +133,33 @@ fn replayed(
     let mut reader = Counting::new(dump);
     let mut writer = Counting::new(Vec::new(alloc));
     let result = replay(alloc, &mut reader, &mut writer);
-    assert!(rt; result == answer);
+    holds(rt, result == answer, &"the answer of a replay");
     writer.into_inner()
 }
 
-/// A register that is sent twice makes a history of one entry, 80 bytes, whose replay is the reply to it.
-fn expect_one_entry(
-    rt: &impl Abort,
-    alloc: Global,
-    script: &mut Vec<u8>,
-    want: &mut Vec<u8>,
-) -> Result<(), Fail> {
-    put_register(script, 10, 7)?;
-    put_register(script, 10, 7)?;
-    put_lines(want, &ONE_REGISTER)?;
-    put_lines(want, &REPLY)?;
-    let clients_max = room(2)?;
-    let mut dump = dumped(rt, alloc, clients_max, None, script.as_slice(), Ok(1));
-    let length = dump.len();
-    let replies = replayed(rt, alloc, dump.as_slice(), Ok(1));
-    let put = dump.extend_from_slice(replies.as_slice()).is_ok();
-    drop(replies);
-    let same = dump.as_slice() == want.as_slice();
-    drop(dump);
-    assert!(rt; put && length == 80 && same);
-    Ok(())
+/// Bytes are those of these lines.
+fn expect_lines(rt: &impl Abort, alloc: Global, bytes: &[u8], lines: &[Line]) {
+    let mut want = Vec::new(alloc);
+    put_lines(rt, &mut want, lines);
+    holds(rt, bytes == want.as_slice(), &"the lines");
+    drop(want);
 }
 
+/// A register that is sent twice makes a history of one entry, 80 bytes, whose replay is the reply to it.
 #[test]
-fn dump_and_replay(rt: HostRuntime) -> Result<(), Fail> {
-    let mut script = Vec::new(rt.alloc());
-    let mut want = Vec::new(rt.alloc());
-    let done = expect_one_entry(&rt, rt.alloc(), &mut script, &mut want);
+fn dump_and_replay(rt: HostRuntime) {
+    let alloc = rt.alloc();
+    let mut script = Vec::new(alloc);
+    put_register(&rt, &mut script, 10, 7);
+    put_register(&rt, &mut script, 10, 7);
+    let dump = dumped(&rt, alloc, room(&rt, 2), None, &script, Ok(1));
+    holds(&rt, dump.len() == 80, &"the length of a dump");
+    expect_lines(&rt, alloc, &dump, &ONE_REGISTER);
+    let replies = replayed(&rt, alloc, &dump, Ok(1));
+    expect_lines(&rt, alloc, &replies, &REPLY);
+    drop(replies);
+    drop(dump);
     drop(script);
-    drop(want);
-    done
 }
 
 /// A dump has the mark at this place, where one is named.
@@ -179,40 +188,34 @@ fn has_codes(replies: &[u8], code: u8) -> bool {
 fn expect_mark(
     rt: &impl Abort,
     alloc: Global,
-    clients_max: ClientsMax,
     script: &[u8],
     at: Option<u64>,
     want: (usize, Option<usize>, u8),
 ) {
     let (length, mark, code) = want;
-    let dump = dumped(rt, alloc, clients_max, at, script, Ok(4));
-    let replies = replayed(rt, alloc, dump.as_slice(), Ok(4));
-    let marked = dump.len() == length && has_mark(dump.as_slice(), mark);
-    let answered = has_codes(replies.as_slice(), code);
+    let dump = dumped(rt, alloc, room(rt, 2), at, script, Ok(4));
+    let replies = replayed(rt, alloc, &dump, Ok(4));
+    holds(rt, dump.len() == length, &at);
+    holds(rt, has_mark(&dump, mark), &at);
+    holds(rt, has_codes(&replies, code), &at);
     drop(replies);
     drop(dump);
-    assert!(rt; marked && answered);
 }
 
 /// Marks behind no entry, behind the last, and before the fourth and the third.
-fn expect_marks(rt: &impl Abort, alloc: Global, script: &mut Vec<u8>) -> Result<(), Fail> {
-    put_failed_and_again(script)?;
-    let clients_max = room(2)?;
+#[test]
+fn mark_in_a_dump(rt: HostRuntime) {
+    let mut script = Vec::new(rt.alloc());
+    put_failed_and_again(&rt, &mut script);
     for (at, want) in [
         (None, (784, None, 0)),
         (Some(4), (784, None, 0)),
         (Some(3), (800, Some(592), 0)),
         (Some(2), (800, Some(400), 68)),
     ] {
-        expect_mark(rt, alloc, clients_max, script.as_slice(), at, want);
+        expect_mark(&rt, rt.alloc(), &script, at, want);
     }
-    Ok(())
-}
-
-#[test]
-fn mark_in_a_dump(rt: HostRuntime) -> Result<(), Fail> {
-    let mut script = Vec::new(rt.alloc());
-    expect_marks(&rt, rt.alloc(), &mut script)
+    drop(script);
 }
 
 /// A dump by its lines, of which so many bytes are there; what its replay answers; and how many bytes of replies it writes.
@@ -271,40 +274,35 @@ const ROWS: [Row; 15] = [
     (&[HEAD, MARK, MARK], 40, SHORT, 0),
 ];
 
-/// Replays each row's dump.
-fn expect_rows(rt: &impl Abort, alloc: Global, dump: &mut Vec<u8>) -> Result<(), Fail> {
-    for (lines, length, answer, written) in ROWS {
-        dump.clear();
-        put_lines(dump, lines)?;
-        dump.truncate(length);
-        assert!(rt; dump.len() == length);
-        let replies = replayed(rt, alloc, dump.as_slice(), answer);
-        assert!(rt; replies.len() == written, "{length} bytes");
-    }
-    Ok(())
+/// Replays a row's dump.
+fn expect_row(rt: &impl Abort, alloc: Global, row: Row) {
+    let (lines, length, answer, written) = row;
+    let mut dump = Vec::new(alloc);
+    put_lines(rt, &mut dump, lines);
+    dump.truncate(length);
+    holds(rt, dump.len() == length, &length);
+    let replies = replayed(rt, alloc, &dump, answer);
+    holds(rt, replies.len() == written, &length);
+    drop(replies);
+    drop(dump);
 }
 
 #[test]
-fn dumps_replayed(rt: HostRuntime) -> Result<(), Fail> {
-    let mut dump = Vec::new(rt.alloc());
-    expect_rows(&rt, rt.alloc(), &mut dump)
+fn dumps_replayed(rt: HostRuntime) {
+    for row in ROWS {
+        expect_row(&rt, rt.alloc(), row);
+    }
 }
 
 /// No mark goes out before an entry that there is no time for, or that can't be read.
-fn expect_no_mark(rt: &impl Abort, alloc: Global, script: &mut Vec<u8>) -> Result<(), Fail> {
-    put_register(script, i64::MAX as u64, 7)?;
-    put_register(script, 0, 8)?;
-    let clients_max = room(2)?;
-    let short = Err(RunFault::Frame(FrameFault::Short));
-    let late = Err(RunFault::TimeExhausted);
-    let one = length_dumped(rt, alloc, clients_max, Some(1), script.as_slice(), late);
-    let none = length_dumped(rt, alloc, clients_max, Some(0), &[0; 8], short);
-    assert!(rt; one == 80 && none == 16);
-    Ok(())
-}
-
 #[test]
-fn no_mark_without_its_entry(rt: HostRuntime) -> Result<(), Fail> {
+fn no_mark_without_its_entry(rt: HostRuntime) {
     let mut script = Vec::new(rt.alloc());
-    expect_no_mark(&rt, rt.alloc(), &mut script)
+    put_register(&rt, &mut script, i64::MAX as u64, 7);
+    put_register(&rt, &mut script, 0, 8);
+    let late = Err(RunFault::TimeExhausted);
+    expect_length(&rt, rt.alloc(), Some(1), &script, late, 80);
+    let short = Err(RunFault::Frame(FrameFault::Short));
+    expect_length(&rt, rt.alloc(), Some(0), &[0; 8], short, 16);
+    drop(script);
 }

@@ -1,8 +1,8 @@
 //! The frames of three requests and their replies in hex.
+use crate::comparing::holds;
 use crate::scripts::Script;
 use crate::steps::{begin, put_steps, third};
 use std::process::Abort;
-use std::test::Fail;
 
 /// An account's last 16 bytes before it has a timestamp.
 const NEW: u128 = 0xbc0200000a0000000000000000000000;
@@ -74,43 +74,41 @@ const REPLIES: [u128; 25] = [
     0xbc0200000a0000000b00000000000000,
 ];
 
+/// Appends bytes.
+pub fn put_bytes(rt: &impl Abort, out: &mut Vec<u8>, bytes: &[u8]) {
+    out.extend_from_slice(bytes).expect(rt, "memory");
+}
+
 /// Appends lines of 16 bytes.
-pub fn put_lines(out: &mut Vec<u8>, lines: &[u128]) -> Result<(), Fail> {
+pub fn put_lines(rt: &impl Abort, out: &mut Vec<u8>, lines: &[u128]) {
     for line in lines {
-        out.extend_from_slice(&line.to_be_bytes())?;
+        put_bytes(rt, out, &line.to_be_bytes());
     }
-    Ok(())
 }
 
 /// Appends the frames of the three requests, each behind the moment 10.
-fn put_requests(out: &mut Vec<u8>) -> Result<(), Fail> {
+fn put_requests(rt: &impl Abort, out: &mut Vec<u8>) {
     for lines in REQUESTS {
-        out.extend_from_slice(&10u64.to_le_bytes())?;
-        put_lines(out, lines)?;
+        put_bytes(rt, out, &10u64.to_le_bytes());
+        put_lines(rt, out, lines);
     }
-    Ok(())
 }
 
 /// The frames that are put together here are those in hex.
-fn expect_frames(
-    rt: &impl Abort,
-    script: &mut Script,
-    requests: &mut Vec<u8>,
-    replies: &mut Vec<u8>,
-) -> Result<(), Fail> {
-    put_steps(script, &begin())?;
-    put_steps(script, &third())?;
-    put_requests(requests)?;
-    put_lines(replies, &REPLIES)?;
-    assert!(rt; script.bytes.as_slice() == requests.as_slice());
-    assert!(rt; script.replies.as_slice() == replies.as_slice());
-    Ok(())
-}
-
 #[test]
-fn frames_in_hex(rt: HostRuntime) -> Result<(), Fail> {
+fn frames_in_hex(rt: HostRuntime) {
     let mut script = Script::new(rt.alloc());
+    put_steps(&rt, &mut script, &begin());
+    put_steps(&rt, &mut script, &third());
     let mut requests = Vec::new(rt.alloc());
+    put_requests(&rt, &mut requests);
     let mut replies = Vec::new(rt.alloc());
-    expect_frames(&rt, &mut script, &mut requests, &mut replies)
+    put_lines(&rt, &mut replies, &REPLIES);
+    let same = script.bytes.as_slice() == requests.as_slice();
+    holds(&rt, same, &"requests");
+    let same = script.replies.as_slice() == replies.as_slice();
+    holds(&rt, same, &"replies");
+    drop(replies);
+    drop(requests);
+    drop(script);
 }

@@ -12,6 +12,8 @@ mod chains;
 #[cfg(test)]
 mod classes;
 #[cfg(test)]
+mod comparing;
+#[cfg(test)]
 mod conversations;
 #[cfg(test)]
 mod dumps;

@@ -1,9 +1,10 @@
 //! Machines that entries move on, and what is asked of them.
+use crate::comparing::holds;
 use crate::fixtures::{account, transfer};
 use std::alloc::Global;
-use std::test::Fail;
+use std::process::Abort;
 use tb_machine::{Entry, Machine};
-use tb_records::{Body, ClientsMax, Items, Profile, Request, Status, Transfer};
+use tb_records::{Account, Body, ClientsMax, Items, Profile, Request, Status, Transfer};
 use tb_sessions::Class;
 
 /// A request's client, session and number.
@@ -27,121 +28,112 @@ pub enum Ask {
     Transfer(Transfer),
 }
 
-fn lookup_of(alloc: Global, ids: &[u128]) -> Result<Items<u128>, Fail> {
-    Ok(Items::new(Vec::from_slice(alloc, ids)?))
+fn lookup_of(rt: &impl Abort, alloc: Global, ids: &[u128]) -> Items<u128> {
+    Items::new(Vec::from_slice(alloc, ids).expect(rt, "memory"))
 }
 
-fn body_of(alloc: Global, ask: Ask) -> Result<Body, Fail> {
+fn accounts_of(rt: &impl Abort, alloc: Global, rows: &[Account]) -> Body {
+    Body::CreateAccounts(Items::new(Vec::from_slice(alloc, rows).expect(rt, "memory")))
+}
+
+fn transfers_of(rt: &impl Abort, alloc: Global, rows: &[Transfer]) -> Body {
+    Body::CreateTransfers(Items::new(Vec::from_slice(alloc, rows).expect(rt, "memory")))
+}
+
+fn body_of(rt: &impl Abort, alloc: Global, ask: Ask) -> Body {
     match ask {
-        Ask::Register => Ok(Body::Register),
-        Ask::TwoAccounts => {
-            let accounts = Vec::from_slice(alloc, &[account(1), account(2)])?;
-            Ok(Body::CreateAccounts(Items::new(accounts)))
-        }
-        Ask::ThreeLookedUp => Ok(Body::LookupAccounts(lookup_of(alloc, &[2, 9, 1])?)),
-        Ask::NoneLookedUp => Ok(Body::LookupAccounts(lookup_of(alloc, &[])?)),
-        Ask::PostsLookedUp => Ok(Body::LookupTransfers(lookup_of(alloc, &[25, 21])?)),
-        Ask::Transfer(row) => {
-            let transfers = Vec::from_slice(alloc, &[row])?;
-            Ok(Body::CreateTransfers(Items::new(transfers)))
-        }
+        Ask::Register => Body::Register,
+        Ask::TwoAccounts => accounts_of(rt, alloc, &[account(1), account(2)]),
+        Ask::ThreeLookedUp => Body::LookupAccounts(lookup_of(rt, alloc, &[2, 9, 1])),
+        Ask::NoneLookedUp => Body::LookupAccounts(lookup_of(rt, alloc, &[])),
+        Ask::PostsLookedUp => Body::LookupTransfers(lookup_of(rt, alloc, &[25, 21])),
+        Ask::Transfer(row) => transfers_of(rt, alloc, &[row]),
     }
 }
 
 /// A request by its numbers.
-pub fn request_of(alloc: Global, numbers: Numbers, ask: Ask) -> Result<Request, Fail> {
+pub fn request_of(rt: &impl Abort, alloc: Global, numbers: Numbers, ask: Ask) -> Request {
     let (client, session, number) = numbers;
-    let body = body_of(alloc, ask)?;
-    Ok(Request::new(client, session, number, body)?)
+    let body = body_of(rt, alloc, ask);
+    Request::new(client, session, number, body).expect(rt, "a request")
 }
 
 /// A machine by profile 1 with room for the sessions of so many clients.
-pub fn machine(alloc: Global, clients_max: u32) -> Result<Machine<Global>, Fail> {
-    let clients_max = ClientsMax::new(clients_max).ok_or("clients_max")?;
-    Ok(Machine::new_in(alloc, alloc, Profile::One, clients_max)?)
+pub fn machine(rt: &impl Abort, alloc: Global, clients_max: u32) -> Machine<Global> {
+    let clients_max = ClientsMax::new(clients_max).expect(rt, "clients_max");
+    Machine::new_in(alloc, alloc, Profile::One, clients_max).expect(rt, "a machine")
 }
 
 /// The class of a request.
 pub fn class_of(
+    rt: &impl Abort,
     alloc: Global,
     machine: &Machine<Global>,
     numbers: Numbers,
     ask: Ask,
-) -> Result<Class, Fail> {
-    let request = request_of(alloc, numbers, ask)?;
+) -> Class {
+    let request = request_of(rt, alloc, numbers, ask);
     let class = machine.class(&request);
     drop(request);
-    Ok(class)
+    class
 }
 
 /// Enters an entry, its request copied.
-pub fn apply_entry(machine: &mut Machine<Global>, entry: &Entry) -> Result<(), Fail> {
-    if machine.fits(entry) {
-        Ok(machine.apply(entry)?)
-    } else {
-        Err("the entry may not come next".into())
-    }
+pub fn apply_entry(rt: &impl Abort, machine: &mut Machine<Global>, entry: &Entry) {
+    assert!(rt; machine.fits(entry), "the entry may not come next");
+    machine.apply(entry).expect(rt, "memory");
 }
 
 /// Enters an entry, its request moved in.
-fn enter_entry(machine: &mut Machine<Global>, entry: Entry) -> Result<(), Fail> {
-    if !machine.fits(&entry) {
-        drop(entry);
-        return Err("the entry may not come next".into());
-    }
-    match machine.enter(entry) {
-        Ok(()) => Ok(()),
-        Err(back) => {
-            drop(back);
-            Err("no memory".into())
-        }
-    }
+fn enter_entry(rt: &impl Abort, machine: &mut Machine<Global>, entry: Entry) {
+    assert!(rt; machine.fits(&entry), "the entry may not come next");
+    let entered = machine.enter(entry);
+    holds(rt, entered.is_ok(), &"memory");
+    drop(entered);
 }
 
 /// The entry of a request that comes next, at moment 10.
 pub fn entry_of(
+    rt: &impl Abort,
     alloc: Global,
     machine: &Machine<Global>,
     numbers: Numbers,
     ask: Ask,
-) -> Result<Entry, Fail> {
-    let request = request_of(alloc, numbers, ask)?;
+) -> Entry {
+    let request = request_of(rt, alloc, numbers, ask);
     let events = request.body().event_count() as u64;
-    let Some(time) = machine.next_time(10, events) else {
-        drop(request);
-        return Err("a time".into());
-    };
-    let commit = machine.commit() + 1;
-    Ok(Entry {
-        commit,
+    let time = machine.next_time(10, events).expect(rt, "a time");
+    Entry {
+        commit: machine.commit() + 1,
         time,
         request,
-    })
+    }
 }
 
 /// Enters a request at moment 10, and answers its commit number and time.
 pub fn enter(
+    rt: &impl Abort,
     alloc: Global,
     machine: &mut Machine<Global>,
     numbers: Numbers,
     ask: Ask,
-) -> Result<(u64, u64), Fail> {
-    let entry = entry_of(alloc, machine, numbers, ask)?;
+) -> (u64, u64) {
+    let entry = entry_of(rt, alloc, machine, numbers, ask);
     let at = (entry.commit, entry.time);
-    enter_entry(machine, entry)?;
-    Ok(at)
+    enter_entry(rt, machine, entry);
+    at
 }
 
 /// Enters requests at moment 10, one after another.
 pub fn enter_all(
+    rt: &impl Abort,
     alloc: Global,
     machine: &mut Machine<Global>,
     rows: &[(Numbers, Ask)],
-) -> Result<(), Fail> {
+) {
     for (numbers, ask) in rows {
-        enter(alloc, machine, *numbers, *ask)?;
+        enter(rt, alloc, machine, *numbers, *ask);
     }
-    Ok(())
 }
 
 /// The stored reply of a client.

@@ -4,7 +4,6 @@ use crate::fixtures::{
 };
 use crate::serving::{PROFILES, serve_both, serve_on};
 use crate::steps::Step;
-use std::test::Fail;
 use tb_records::{AccountFlag, CreateTransferResult as Outcome, Operation, Profile};
 
 /// Posts of the whole, of 15 and of nothing.
@@ -48,8 +47,8 @@ fn voids() -> [Step; 14] {
 }
 
 #[test]
-fn posts_and_voids(rt: HostRuntime) -> Result<(), Fail> {
-    serve_both(&rt, rt.alloc(), &PROFILES, &posts(), &voids())
+fn posts_and_voids(rt: HostRuntime) {
+    serve_both(&rt, rt.alloc(), &PROFILES, &posts(), &voids());
 }
 
 /// A closing transfer, what is refused while its account is closed, and its void. Transfer 41 then has this outcome, and
@@ -78,16 +77,16 @@ fn closed_and_opened(outcome: Outcome, posted: u128) -> [Step; 16] {
 
 /// By profile 2 the transfer that came while the account was closed has failed for good.
 #[test]
-fn account_closed_and_opened(rt: HostRuntime) -> Result<(), Fail> {
+fn account_closed_and_opened(rt: HostRuntime) {
     let by_one = closed_and_opened(Outcome::Ok, 1);
-    serve_on(&rt, rt.alloc(), &[Profile::One], &by_one)?;
+    serve_on(&rt, rt.alloc(), &[Profile::One], &by_one);
     let by_two = closed_and_opened(Outcome::IdAlreadyFailed, 0);
-    serve_on(&rt, rt.alloc(), &[Profile::Two], &by_two)
+    serve_on(&rt, rt.alloc(), &[Profile::Two], &by_two);
 }
 
 /// A pending transfer holds its amount until the very moment it expires.
 #[test]
-fn pending_transfer_expires(rt: HostRuntime) -> Result<(), Fail> {
+fn pending_transfer_expires(rt: HostRuntime) {
     let short = with_timeout(1, held(60, 40));
     serve_on(
         &rt,
@@ -107,7 +106,7 @@ fn pending_transfer_expires(rt: HostRuntime) -> Result<(), Fail> {
             Step::FoundTransfer(at(100, short)),
             Step::Send(Operation::LookupTransfers),
         ],
-    )
+    );
 }
 
 /// A closing transfer expires, and its account is open again; then timeouts that end after the last moment and before it.
@@ -132,9 +131,9 @@ fn closed_for_a_second(outcome: Outcome, posted: u128) -> [Step; 10] {
 
 /// By profile 2 the transfer that came while the account was closed has failed for good.
 #[test]
-fn closing_transfer_expires(rt: HostRuntime) -> Result<(), Fail> {
+fn closing_transfer_expires(rt: HostRuntime) {
     let by_one = closed_for_a_second(Outcome::Ok, 1);
-    serve_on(&rt, rt.alloc(), &[Profile::One], &by_one)?;
+    serve_on(&rt, rt.alloc(), &[Profile::One], &by_one);
     let by_two = closed_for_a_second(Outcome::IdAlreadyFailed, 0);
-    serve_on(&rt, rt.alloc(), &[Profile::Two], &by_two)
+    serve_on(&rt, rt.alloc(), &[Profile::Two], &by_two);
 }

@@ -1,9 +1,9 @@
 //! Accounts and transfers as lookups find them, by requests and by the machine's own calls.
+use crate::comparing::holds;
 use crate::fixtures::{account, at, found, held, post, resolved};
 use crate::machines::{Ask, Numbers, enter, enter_all, first_four, machine, reply_of};
 use std::alloc::Global;
 use std::process::Abort;
-use std::test::Fail;
 use tb_machine::Machine;
 use tb_records::{Account, ReplyBody, Status, Transfer};
 
@@ -51,36 +51,35 @@ fn replies_no_result(machine: &Machine<Global>) -> bool {
 }
 
 /// The machine finds accounts with these ids and timestamps by these ids.
-fn finds_times(
-    machine: &Machine<Global>,
-    ids: &[u128],
-    want: &[(u128, u64)],
-) -> Result<bool, Fail> {
-    let found = machine.lookup_accounts(ids)?;
-    Ok(have_times(found.as_slice(), want))
+fn expect_times(rt: &impl Abort, machine: &Machine<Global>, ids: &[u128], want: &[(u128, u64)]) {
+    let found = machine.lookup_accounts(ids).expect(rt, "memory");
+    holds(
+        rt,
+        have_times(found.as_slice(), want),
+        &"ids and timestamps",
+    );
+    drop(found);
 }
 
 /// Accounts 2, 9 and 1 by client 7's request and by the machine's own lookup.
-fn expect_accounts(
-    rt: &impl Abort,
-    alloc: Global,
-    machine: &mut Machine<Global>,
-) -> Result<(), Fail> {
-    enter_all(alloc, machine, &first_four()[..2])?;
-    let entered = enter(alloc, machine, (7, 1, 2), Ask::ThreeLookedUp)?;
-    let want = [(2, 12), (1, 11)];
-    let found = finds_times(machine, &[2, 9, 1], &want)?;
-    assert!(rt; entered == (3, 13) && reply_of(machine, 7) == Some((1, 2, Status::Reply, 3)));
-    assert!(rt; replies_accounts(machine, &want) && machine.account(9).is_none() && found);
-    Ok(())
-}
-
 #[test]
-fn accounts_looked_up_in_order(rt: HostRuntime) -> Result<(), Fail> {
-    let mut machine = machine(rt.alloc(), 2)?;
-    let done = expect_accounts(&rt, rt.alloc(), &mut machine);
+fn accounts_looked_up_in_order(rt: HostRuntime) {
+    let alloc = rt.alloc();
+    let mut machine = machine(&rt, alloc, 2);
+    enter_all(&rt, alloc, &mut machine, &first_four()[..2]);
+    let entered = enter(&rt, alloc, &mut machine, (7, 1, 2), Ask::ThreeLookedUp);
+    holds(&rt, entered == (3, 13), &"the entry");
+    let stored = reply_of(&machine, 7);
+    holds(
+        &rt,
+        stored == Some((1, 2, Status::Reply, 3)),
+        &"the stored reply",
+    );
+    let want = [(2, 12), (1, 11)];
+    holds(&rt, replies_accounts(&machine, &want), &"its accounts");
+    holds(&rt, machine.account(9).is_none(), &"account 9");
+    expect_times(&rt, &machine, &[2, 9, 1], &want);
     drop(machine);
-    done
 }
 
 fn amount_and_time(machine: &Machine<Global>, id: u128) -> Option<(u128, u64)> {
@@ -88,28 +87,33 @@ fn amount_and_time(machine: &Machine<Global>, id: u128) -> Option<(u128, u64)> {
     Some((transfer.amount, transfer.timestamp))
 }
 
-/// What client 7's transfer of 100 leaves.
-fn expect_transfer(
-    rt: &impl Abort,
-    alloc: Global,
-    machine: &mut Machine<Global>,
-) -> Result<(), Fail> {
-    enter_all(alloc, machine, &first_four())?;
-    let stored = reply_of(machine, 7) == Some((1, 3, Status::Reply, 4));
-    let first = found([0, 100, 0, 0], 11, account(1));
-    let second = found([0, 0, 0, 100], 12, account(2));
-    let moved = machine.account(1) == Some(first) && machine.account(2) == Some(second);
-    assert!(rt; stored && replies_no_result(machine));
-    assert!(rt; amount_and_time(machine, 11) == Some((100, 14)) && moved);
-    Ok(())
+/// The machine has these accounts 1 and 2.
+fn expect_two(rt: &impl Abort, machine: &Machine<Global>, want: &[Account; 2]) {
+    let [first, second] = want;
+    holds(rt, machine.account(1) == Some(*first), &"account 1");
+    holds(rt, machine.account(2) == Some(*second), &"account 2");
 }
 
+/// What client 7's transfer of 100 leaves.
 #[test]
-fn transfer_recorded(rt: HostRuntime) -> Result<(), Fail> {
-    let mut machine = machine(rt.alloc(), 2)?;
-    let done = expect_transfer(&rt, rt.alloc(), &mut machine);
+fn transfer_recorded(rt: HostRuntime) {
+    let mut machine = machine(&rt, rt.alloc(), 2);
+    enter_all(&rt, rt.alloc(), &mut machine, &first_four());
+    let stored = reply_of(&machine, 7);
+    holds(
+        &rt,
+        stored == Some((1, 3, Status::Reply, 4)),
+        &"the stored reply",
+    );
+    holds(&rt, replies_no_result(&machine), &"its results");
+    let moved = amount_and_time(&machine, 11);
+    holds(&rt, moved == Some((100, 14)), &"the transfer");
+    let accounts = [
+        found([0, 100, 0, 0], 11, account(1)),
+        found([0, 0, 0, 100], 12, account(2)),
+    ];
+    expect_two(&rt, &machine, &accounts);
     drop(machine);
-    done
 }
 
 /// Client 7's first to seventh request: accounts 1 and 2, three pending transfers, and posts of the whole, of 15 and of
@@ -144,57 +148,48 @@ fn posts() -> [Transfer; 2] {
 }
 
 /// The machine finds these accounts by these ids.
-fn finds_accounts(machine: &Machine<Global>, ids: &[u128], want: &[Account]) -> Result<bool, Fail> {
-    let found = machine.lookup_accounts(ids)?;
-    Ok(found.as_slice() == want)
+fn expect_accounts(rt: &impl Abort, machine: &Machine<Global>, ids: &[u128], want: &[Account]) {
+    let found = machine.lookup_accounts(ids).expect(rt, "memory");
+    holds(rt, found.as_slice() == want, &"accounts");
+    drop(found);
 }
 
 /// The machine finds these transfers by these ids.
-fn finds_transfers(
-    machine: &Machine<Global>,
-    ids: &[u128],
-    want: &[Transfer],
-) -> Result<bool, Fail> {
-    let found = machine.lookup_transfers(ids)?;
-    Ok(found.as_slice() == want)
+fn expect_transfers(rt: &impl Abort, machine: &Machine<Global>, ids: &[u128], want: &[Transfer]) {
+    let found = machine.lookup_transfers(ids).expect(rt, "memory");
+    holds(rt, found.as_slice() == want, &"transfers");
+    drop(found);
 }
 
 /// The machine finds transfers with these ids and amounts by these ids.
-fn finds_amounts(
-    machine: &Machine<Global>,
-    ids: &[u128],
-    want: &[(u128, u128)],
-) -> Result<bool, Fail> {
-    let found = machine.lookup_transfers(ids)?;
-    Ok(have_amounts(found.as_slice(), want))
+fn expect_amounts(rt: &impl Abort, machine: &Machine<Global>, ids: &[u128], want: &[(u128, u128)]) {
+    let found = machine.lookup_transfers(ids).expect(rt, "memory");
+    holds(rt, have_amounts(found.as_slice(), want), &"ids and amounts");
+    drop(found);
 }
 
 /// The machine's own lookups find accounts and posts, field by field.
-fn expect_lookups(rt: &impl Abort, machine: &Machine<Global>) -> Result<(), Fail> {
-    let accounts = finds_accounts(machine, &[1, 2], &posted_accounts())?;
-    let whole = finds_transfers(machine, &[21, 23], &posts())?;
-    let amounts = finds_amounts(machine, &[21, 23, 26, 25], &[(21, 40), (23, 15), (25, 0)])?;
-    assert!(rt; accounts && whole && amounts);
-    Ok(())
+fn expect_lookups(rt: &impl Abort, machine: &Machine<Global>) {
+    expect_accounts(rt, machine, &[1, 2], &posted_accounts());
+    expect_transfers(rt, machine, &[21, 23], &posts());
+    let amounts = [(21, 40), (23, 15), (25, 0)];
+    expect_amounts(rt, machine, &[21, 23, 26, 25], &amounts);
 }
 
 /// Three posts, what they leave, and client 7's eighth request, which looks two of them up.
-fn expect_posts(rt: &impl Abort, alloc: Global, machine: &mut Machine<Global>) -> Result<(), Fail> {
-    enter_all(alloc, machine, &three_posts())?;
-    expect_lookups(rt, machine)?;
-    assert!(rt; amount_and_time(machine, 23) == Some((15, 16)));
-    assert!(rt; amount_and_time(machine, 26).is_none());
-    let [first, second] = posted_accounts();
-    assert!(rt; machine.account(1) == Some(first) && machine.account(2) == Some(second));
-    enter(alloc, machine, (7, 1, 8), Ask::PostsLookedUp)?;
-    assert!(rt; replies_transfers(machine, &[(25, 0), (21, 40)]));
-    Ok(())
-}
-
 #[test]
-fn posts_record_their_amounts(rt: HostRuntime) -> Result<(), Fail> {
-    let mut machine = machine(rt.alloc(), 2)?;
-    let done = expect_posts(&rt, rt.alloc(), &mut machine);
+fn posts_record_their_amounts(rt: HostRuntime) {
+    let alloc = rt.alloc();
+    let mut machine = machine(&rt, alloc, 2);
+    enter_all(&rt, alloc, &mut machine, &three_posts());
+    expect_lookups(&rt, &machine);
+    let second = amount_and_time(&machine, 23);
+    holds(&rt, second == Some((15, 16)), &"the second post");
+    let none = amount_and_time(&machine, 26);
+    holds(&rt, none.is_none(), &"transfer 26");
+    expect_two(&rt, &machine, &posted_accounts());
+    enter(&rt, alloc, &mut machine, (7, 1, 8), Ask::PostsLookedUp);
+    let right = replies_transfers(&machine, &[(25, 0), (21, 40)]);
+    holds(&rt, right, &"the transfers of a reply");
     drop(machine);
-    done
 }

@@ -1,7 +1,7 @@
 //! Scripts and the replies that are wanted, put together from numbers, field by field.
 use std::alloc::Global;
 use std::mem;
-use std::test::Fail;
+use std::process::Abort;
 use tb_records::{Account, Operation, Status, Transfer};
 
 /// What requests and replies say of themselves before the length of their body.
@@ -36,24 +36,23 @@ impl Head {
 }
 
 /// Appends a number, little-endian, in so many bytes, 16 at most.
-pub fn put(out: &mut Vec<u8>, number: u128, width: usize) -> Result<(), Fail> {
+pub fn put(rt: &impl Abort, out: &mut Vec<u8>, number: u128, width: usize) {
     for byte in number.to_le_bytes().iter().take(width) {
-        out.push(*byte)?;
+        out.push(*byte).expect(rt, "memory");
     }
-    Ok(())
 }
 
 /// Appends numbers, each in so many bytes.
-fn put_all(out: &mut Vec<u8>, numbers: &[(u128, usize)]) -> Result<(), Fail> {
+fn put_all(rt: &impl Abort, out: &mut Vec<u8>, numbers: &[(u128, usize)]) {
     for (number, width) in numbers {
-        put(out, *number, *width)?;
+        put(rt, out, *number, *width);
     }
-    Ok(())
 }
 
 /// Appends the first 32 bytes of a header, which requests and replies share but for the status.
-fn put_head(out: &mut Vec<u8>, head: Head, status: u8) -> Result<(), Fail> {
+fn put_head(rt: &impl Abort, out: &mut Vec<u8>, head: Head, status: u8) {
     put_all(
+        rt,
         out,
         &[
             (head.client, 16),
@@ -63,12 +62,13 @@ fn put_head(out: &mut Vec<u8>, head: Head, status: u8) -> Result<(), Fail> {
             (status as u128, 1),
             (0, 2),
         ],
-    )
+    );
 }
 
 /// Appends an account's record.
-pub fn put_account(out: &mut Vec<u8>, account: &Account) -> Result<(), Fail> {
+pub fn put_account(rt: &impl Abort, out: &mut Vec<u8>, account: &Account) {
     put_all(
+        rt,
         out,
         &[
             (account.id, 16),
@@ -83,12 +83,13 @@ pub fn put_account(out: &mut Vec<u8>, account: &Account) -> Result<(), Fail> {
             (account.flags as u128, 2),
             (account.timestamp as u128, 8),
         ],
-    )
+    );
 }
 
 /// Appends a transfer's record.
-fn put_transfer(out: &mut Vec<u8>, transfer: &Transfer) -> Result<(), Fail> {
+fn put_transfer(rt: &impl Abort, out: &mut Vec<u8>, transfer: &Transfer) {
     put_all(
+        rt,
         out,
         &[
             (transfer.id, 16),
@@ -104,7 +105,7 @@ fn put_transfer(out: &mut Vec<u8>, transfer: &Transfer) -> Result<(), Fail> {
             (transfer.flags as u128, 2),
             (transfer.timestamp as u128, 8),
         ],
-    )
+    );
 }
 
 /// A script, and the replies that are wanted.
@@ -145,137 +146,145 @@ impl Script {
     }
 
     /// A request's moment and header, of which the body has so many bytes.
-    pub fn ask_header(&mut self, head: Head, length: usize) -> Result<(), Fail> {
-        put(&mut self.bytes, self.moment as u128, 8)?;
-        put_head(&mut self.bytes, head, 0)?;
-        put_all(&mut self.bytes, &[(length as u128, 4), (0, 12)])
+    pub fn ask_header(&mut self, rt: &impl Abort, head: Head, length: usize) {
+        put(rt, &mut self.bytes, self.moment as u128, 8);
+        put_head(rt, &mut self.bytes, head, 0);
+        put_all(rt, &mut self.bytes, &[(length as u128, 4), (0, 12)]);
     }
 
     /// A request without a body.
-    pub fn ask(&mut self, head: Head) -> Result<(), Fail> {
+    pub fn ask(&mut self, rt: &impl Abort, head: Head) {
         self.requests = self.requests.wrapping_add(1);
-        self.ask_header(head, 0)
+        self.ask_header(rt, head, 0);
     }
 
     /// The header of a reply that is wanted, of which the body has so many bytes.
-    fn want(&mut self, head: Head, status: Status, commit: u64, length: usize) -> Result<(), Fail> {
-        put_head(&mut self.replies, head, status.code())?;
+    fn want(&mut self, rt: &impl Abort, head: Head, status: Status, commit: u64, length: usize) {
+        put_head(rt, &mut self.replies, head, status.code());
         put_all(
+            rt,
             &mut self.replies,
             &[(length as u128, 4), (commit as u128, 8), (0, 4)],
-        )
+        );
     }
 
     /// A client's register, which makes a session.
-    pub fn register(&mut self, client: u128, session: u64) -> Result<(), Fail> {
-        self.ask(Head::register(client, 0))?;
-        self.want(Head::register(client, session), Status::Reply, session, 0)?;
+    pub fn register(&mut self, rt: &impl Abort, client: u128, session: u64) {
+        self.ask(rt, Head::register(client, 0));
+        self.want(
+            rt,
+            Head::register(client, session),
+            Status::Reply,
+            session,
+            0,
+        );
         self.commit = session;
-        Ok(())
     }
 
     /// A lookup of no account, by client, session and number, and its reply's status and commit number.
     pub fn look(
         &mut self,
+        rt: &impl Abort,
         client: u128,
         session: u64,
         number: u32,
         status: Status,
         commit: u64,
-    ) -> Result<(), Fail> {
+    ) {
         let head = Head {
             client,
             session,
             number,
             operation: Operation::LookupAccounts,
         };
-        self.ask(head)?;
-        self.want(head, status, commit, 0)
+        self.ask(rt, head);
+        self.want(rt, head, status, commit, 0);
     }
 
     /// The request of client 7 with this number and one transfer, and its reply's status and commit number.
     pub fn transfer(
         &mut self,
+        rt: &impl Abort,
         number: u32,
         row: &Transfer,
         status: Status,
         commit: u64,
-    ) -> Result<(), Fail> {
+    ) {
         let head = Head::of_seven(number, Operation::CreateTransfers);
         self.requests = self.requests.wrapping_add(1);
-        self.ask_header(head, 128)?;
-        put_transfer(&mut self.bytes, row)?;
-        self.want(head, status, commit, 0)
+        self.ask_header(rt, head, 128);
+        put_transfer(rt, &mut self.bytes, row);
+        self.want(rt, head, status, commit, 0);
     }
 
     /// The request of client 7 with this number, which looks accounts 2, 9 and 1 up, and the status that it is refused with.
-    pub fn look_again(&mut self, number: u32, status: Status) -> Result<(), Fail> {
+    pub fn look_again(&mut self, rt: &impl Abort, number: u32, status: Status) {
         let head = Head::of_seven(number, Operation::LookupAccounts);
         self.requests = self.requests.wrapping_add(1);
-        self.ask_header(head, 48)?;
-        put_all(&mut self.bytes, &[(2, 16), (9, 16), (1, 16)])?;
-        self.want(head, status, 0, 0)
+        self.ask_header(rt, head, 48);
+        put_all(rt, &mut self.bytes, &[(2, 16), (9, 16), (1, 16)]);
+        self.want(rt, head, status, 0, 0);
     }
 
     /// Counts an event of client 7's next request, and puts its result's code into the answer where that is not 0.
-    fn put_event(&mut self, code: u32) -> Result<(), Fail> {
+    fn put_event(&mut self, rt: &impl Abort, code: u32) {
         let index = self.events;
         self.events = index.wrapping_add(1);
-        if code == 0 {
-            return Ok(());
+        if code != 0 {
+            put_all(
+                rt,
+                &mut self.answer,
+                &[(index as u128, 4), (code as u128, 4)],
+            );
         }
-        put(&mut self.answer, index as u128, 4)?;
-        put(&mut self.answer, code as u128, 4)
     }
 
     /// An account of client 7's next request, and its result's code.
-    pub fn put_account(&mut self, row: &Account, code: u32) -> Result<(), Fail> {
-        put_account(&mut self.body, row)?;
-        self.put_event(code)
+    pub fn put_account(&mut self, rt: &impl Abort, row: &Account, code: u32) {
+        put_account(rt, &mut self.body, row);
+        self.put_event(rt, code);
     }
 
     /// A transfer of client 7's next request, and its result's code.
-    pub fn put_transfer(&mut self, row: &Transfer, code: u32) -> Result<(), Fail> {
-        put_transfer(&mut self.body, row)?;
-        self.put_event(code)
+    pub fn put_transfer(&mut self, rt: &impl Abort, row: &Transfer, code: u32) {
+        put_transfer(rt, &mut self.body, row);
+        self.put_event(rt, code);
     }
 
     /// An id of client 7's next lookup.
-    pub fn put_id(&mut self, id: u128) -> Result<(), Fail> {
-        put(&mut self.body, id, 16)
+    pub fn put_id(&mut self, rt: &impl Abort, id: u128) {
+        put(rt, &mut self.body, id, 16);
     }
 
     /// An account that the lookup finds.
-    pub fn put_found_account(&mut self, row: &Account) -> Result<(), Fail> {
-        put_account(&mut self.answer, row)
+    pub fn put_found_account(&mut self, rt: &impl Abort, row: &Account) {
+        put_account(rt, &mut self.answer, row);
     }
 
     /// A transfer that the lookup finds.
-    pub fn put_found_transfer(&mut self, row: &Transfer) -> Result<(), Fail> {
-        put_transfer(&mut self.answer, row)
+    pub fn put_found_transfer(&mut self, rt: &impl Abort, row: &Transfer) {
+        put_transfer(rt, &mut self.answer, row);
     }
 
     /// Client 7's next request, which is entered, and the body of its reply.
-    fn next(&mut self, operation: Operation, body: &[u8], answer: &[u8]) -> Result<(), Fail> {
+    fn next(&mut self, rt: &impl Abort, operation: Operation, body: &[u8], answer: &[u8]) {
         self.number = self.number.wrapping_add(1);
         self.commit = self.commit.wrapping_add(1);
         self.requests = self.requests.wrapping_add(1);
         let head = Head::of_seven(self.number, operation);
-        self.ask_header(head, body.len())?;
-        self.bytes.extend_from_slice(body)?;
-        self.want(head, Status::Reply, self.commit, answer.len())?;
-        self.replies.extend_from_slice(answer)?;
-        Ok(())
+        self.ask_header(rt, head, body.len());
+        self.bytes.extend_from_slice(body).expect(rt, "memory");
+        self.want(rt, head, Status::Reply, self.commit, answer.len());
+        self.replies.extend_from_slice(answer).expect(rt, "memory");
     }
 
     /// Client 7's next request, which is entered: its body and the answer are those that were put.
-    pub fn send(&mut self, operation: Operation) -> Result<(), Fail> {
+    pub fn send(&mut self, rt: &impl Abort, operation: Operation) {
         let body = mem::replace(&mut self.body, Vec::new(self.alloc));
         let answer = mem::replace(&mut self.answer, Vec::new(self.alloc));
         self.events = 0;
-        let sent = self.next(operation, body.as_slice(), answer.as_slice());
+        self.next(rt, operation, body.as_slice(), answer.as_slice());
         drop(answer);
         drop(body);
-        sent
     }
 }

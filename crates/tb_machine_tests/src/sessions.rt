@@ -1,25 +1,25 @@
 //! Registers, repeats, refusals and evictions, by scripts.
+use crate::comparing::holds;
 use crate::fixtures::transfer;
 use crate::scripts::Script;
 use crate::serving::{PROFILES, expect_whole, room, serve_both, serve_on, serve_steps};
 use crate::steps::{Step, put_steps, third};
 use std::process::Abort;
-use std::test::Fail;
 use tb_records::Status;
 
 #[test]
-fn empty_script(rt: HostRuntime) -> Result<(), Fail> {
-    serve_steps(&rt, rt.alloc(), &PROFILES, &[])
+fn empty_script(rt: HostRuntime) {
+    serve_steps(&rt, rt.alloc(), &PROFILES, &[]);
 }
 
 #[test]
-fn first_register(rt: HostRuntime) -> Result<(), Fail> {
-    serve_steps(&rt, rt.alloc(), &PROFILES, &[Step::Register(7, 1)])
+fn first_register(rt: HostRuntime) {
+    serve_steps(&rt, rt.alloc(), &PROFILES, &[Step::Register(7, 1)]);
 }
 
 /// The history has one entry.
 #[test]
-fn register_repeated(rt: HostRuntime) -> Result<(), Fail> {
+fn register_repeated(rt: HostRuntime) {
     serve_steps(
         &rt,
         rt.alloc(),
@@ -29,22 +29,22 @@ fn register_repeated(rt: HostRuntime) -> Result<(), Fail> {
             Step::Register(7, 1),
             Step::Look(7, 1, 1, Status::Reply, 2),
         ],
-    )
+    );
 }
 
 #[test]
-fn accounts_created(rt: HostRuntime) -> Result<(), Fail> {
-    serve_on(&rt, rt.alloc(), &PROFILES, &[])
+fn accounts_created(rt: HostRuntime) {
+    serve_on(&rt, rt.alloc(), &PROFILES, &[]);
 }
 
 #[test]
-fn accounts_looked_up_in_order(rt: HostRuntime) -> Result<(), Fail> {
-    serve_on(&rt, rt.alloc(), &PROFILES, &third())
+fn accounts_looked_up_in_order(rt: HostRuntime) {
+    serve_on(&rt, rt.alloc(), &PROFILES, &third());
 }
 
 /// The transfer again gets the same reply; the request before it is older. The history has 4 entries.
 #[test]
-fn transfer_repeated_and_older(rt: HostRuntime) -> Result<(), Fail> {
+fn transfer_repeated_and_older(rt: HostRuntime) {
     let hundred = transfer(11, 1, 2, 100);
     serve_both(
         &rt,
@@ -57,12 +57,12 @@ fn transfer_repeated_and_older(rt: HostRuntime) -> Result<(), Fail> {
             Step::Again(2, Status::Older),
             Step::Look(7, 1, 4, Status::Reply, 5),
         ],
-    )
+    );
 }
 
 /// The history has 4 entries.
 #[test]
-fn each_refusal_by_its_class(rt: HostRuntime) -> Result<(), Fail> {
+fn each_refusal_by_its_class(rt: HostRuntime) {
     serve_both(
         &rt,
         rt.alloc(),
@@ -77,13 +77,13 @@ fn each_refusal_by_its_class(rt: HostRuntime) -> Result<(), Fail> {
             Step::Look(9, 1, 1, Status::NoSession, 0),
             Step::Look(7, 1, 4, Status::Reply, 5),
         ],
-    )
+    );
 }
 
 /// Client 8's reply has the least commit number, though 7 has the least session; then 7's is 3 and 9's is 4. Client 7's old
 /// register makes a new session, and 9 goes.
 #[test]
-fn least_commit_is_evicted(rt: HostRuntime) -> Result<(), Fail> {
+fn least_commit_is_evicted(rt: HostRuntime) {
     serve_steps(
         &rt,
         rt.alloc(),
@@ -99,40 +99,37 @@ fn least_commit_is_evicted(rt: HostRuntime) -> Result<(), Fail> {
             Step::Register(7, 6),
             Step::Look(9, 4, 1, Status::NoSession, 0),
         ],
-    )
+    );
 }
 
 /// A hundred clients register, and all but the last are then without a session.
-fn put_hundred(script: &mut Script) -> Result<(), Fail> {
+fn put_hundred(rt: &impl Abort, script: &mut Script) {
     for client in 1u64..101 {
-        script.register(client as u128, client)?;
+        script.register(rt, client as u128, client);
     }
     for client in 1u64..100 {
-        script.look(client as u128, client, 1, Status::NoSession, 0)?;
+        script.look(rt, client as u128, client, 1, Status::NoSession, 0);
     }
-    Ok(())
 }
+
+/// What comes behind the hundred: the last of them has the place, and gives it to the first, who comes again.
+const LAST: [Step; 4] = [
+    Step::Look(100, 100, 1, Status::Reply, 101),
+    Step::Register(1, 102),
+    Step::Look(1, 1, 1, Status::SessionTooLow, 0),
+    Step::Look(100, 100, 2, Status::NoSession, 0),
+];
 
 /// A hundred clients one after another in one place: each takes the place of the one before.
-fn expect_storm(rt: &impl Abort, script: &mut Script) -> Result<(), Fail> {
-    put_hundred(script)?;
-    let last = [
-        Step::Look(100, 100, 1, Status::Reply, 101),
-        Step::Register(1, 102),
-        Step::Look(1, 1, 1, Status::SessionTooLow, 0),
-        Step::Look(100, 100, 2, Status::NoSession, 0),
-    ];
-    put_steps(script, &last)?;
-    assert_eq!(rt; script.requests, 203);
-    let clients_max = room(1)?;
-    for profile in PROFILES {
-        expect_whole(rt, script, clients_max, profile)?;
-    }
-    Ok(())
-}
-
 #[test]
-fn eviction_storm(rt: HostRuntime) -> Result<(), Fail> {
+fn eviction_storm(rt: HostRuntime) {
     let mut script = Script::new(rt.alloc());
-    expect_storm(&rt, &mut script)
+    put_hundred(&rt, &mut script);
+    put_steps(&rt, &mut script, &LAST);
+    holds(&rt, script.requests == 203, &script.requests);
+    let clients_max = room(&rt, 1);
+    for profile in PROFILES {
+        expect_whole(&rt, &script, clients_max, profile);
+    }
+    drop(script);
 }

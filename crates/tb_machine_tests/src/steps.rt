@@ -1,7 +1,7 @@
 //! A script as data: one step after another, with what each is to be answered.
 use crate::fixtures::{account, found};
 use crate::scripts::Script;
-use std::test::Fail;
+use std::process::Abort;
 use tb_records::{Account, CreateAccountResult, CreateTransferResult, Operation, Status, Transfer};
 
 /// What a script asks next, and what it is to be answered.
@@ -36,16 +36,16 @@ pub enum Step {
 }
 
 /// Client 7's next request, which looks account 1 up.
-fn look_up_first(script: &mut Script, account: &Account) -> Result<(), Fail> {
-    script.put_id(1)?;
-    script.put_found_account(account)?;
-    script.send(Operation::LookupAccounts)
+fn look_up_first(rt: &impl Abort, script: &mut Script, account: &Account) {
+    script.put_id(rt, 1);
+    script.put_found_account(rt, account);
+    script.send(rt, Operation::LookupAccounts);
 }
 
 /// Client 7's next request, which creates one transfer.
-fn send_single(script: &mut Script, row: &Transfer, code: u32) -> Result<(), Fail> {
-    script.put_transfer(row, code)?;
-    script.send(Operation::CreateTransfers)
+fn send_single(rt: &impl Abort, script: &mut Script, row: &Transfer, code: u32) {
+    script.put_transfer(rt, row, code);
+    script.send(rt, Operation::CreateTransfers);
 }
 
 /// Sets the moment of what follows.
@@ -54,37 +54,33 @@ fn set_moment(script: &mut Script, moment: u64) {
 }
 
 /// Appends a step to a script.
-fn put_step(script: &mut Script, step: &Step) -> Result<(), Fail> {
+fn put_step(rt: &impl Abort, script: &mut Script, step: &Step) {
     match step {
-        Step::Moment(moment) => {
-            set_moment(script, *moment);
-            Ok(())
-        }
-        Step::Register(client, session) => script.register(*client, *session),
+        Step::Moment(moment) => set_moment(script, *moment),
+        Step::Register(client, session) => script.register(rt, *client, *session),
         Step::Look(client, session, number, status, commit) => {
-            script.look(*client, *session, *number, *status, *commit)
+            script.look(rt, *client, *session, *number, *status, *commit)
         }
         Step::Numbered(number, row, status, commit) => {
-            script.transfer(*number, row, *status, *commit)
+            script.transfer(rt, *number, row, *status, *commit)
         }
-        Step::Again(number, status) => script.look_again(*number, *status),
-        Step::Account(row, result) => script.put_account(row, *result as u32),
-        Step::Transfer(row, result) => script.put_transfer(row, *result as u32),
-        Step::Id(id) => script.put_id(*id),
-        Step::FoundAccount(row) => script.put_found_account(row),
-        Step::FoundTransfer(row) => script.put_found_transfer(row),
-        Step::Send(operation) => script.send(*operation),
-        Step::Single(row, result) => send_single(script, row, *result as u32),
-        Step::First(sums) => look_up_first(script, &found(*sums, 11, account(1))),
+        Step::Again(number, status) => script.look_again(rt, *number, *status),
+        Step::Account(row, result) => script.put_account(rt, row, *result as u32),
+        Step::Transfer(row, result) => script.put_transfer(rt, row, *result as u32),
+        Step::Id(id) => script.put_id(rt, *id),
+        Step::FoundAccount(row) => script.put_found_account(rt, row),
+        Step::FoundTransfer(row) => script.put_found_transfer(rt, row),
+        Step::Send(operation) => script.send(rt, *operation),
+        Step::Single(row, result) => send_single(rt, script, row, *result as u32),
+        Step::First(sums) => look_up_first(rt, script, &found(*sums, 11, account(1))),
     }
 }
 
 /// Appends steps to a script.
-pub fn put_steps(script: &mut Script, steps: &[Step]) -> Result<(), Fail> {
+pub fn put_steps(rt: &impl Abort, script: &mut Script, steps: &[Step]) {
     for step in steps {
-        put_step(script, step)?;
+        put_step(rt, script, step);
     }
-    Ok(())
 }
 
 /// The first two requests: client 7 registers at moment 10 and creates accounts 1 and 2, which takes the moments 11 and 12.

@@ -1,6 +1,6 @@
 //! Reply frames as they are printed in hexadecimal, 16 bytes in each number.
 use std::alloc::Global;
-use std::test::Fail;
+use std::process::Abort;
 use tb_published::{Naming, Seat};
 use tb_records::{Request, write_reply};
 
@@ -27,33 +27,33 @@ const ACCOUNTS: [u128; 16] = [
     0xbc020000_0a000000_0b000000_00000000,
 ];
 
-fn put_lines(bytes: &mut Vec<u8>, lines: &[u128]) -> Result<(), Fail> {
+fn put_lines(rt: &impl Abort, bytes: &mut Vec<u8>, lines: &[u128]) {
     for line in lines {
-        bytes.extend_from_slice(&line.to_be_bytes())?;
+        let line = line.to_be_bytes();
+        bytes.extend_from_slice(&line).expect(rt, "memory");
     }
-    Ok(())
 }
 
 /// A reply's frame: its header, and the two accounts where it found them.
-pub(crate) fn frame(alloc: Global, header: Header, found: bool) -> Result<Vec<u8>, Fail> {
+pub(crate) fn frame(rt: &impl Abort, alloc: Global, header: Header, found: bool) -> Vec<u8> {
     let mut bytes = Vec::new(alloc);
-    put_lines(&mut bytes, &header)?;
+    put_lines(rt, &mut bytes, &header);
     if found {
-        put_lines(&mut bytes, &ACCOUNTS)?;
+        put_lines(rt, &mut bytes, &ACCOUNTS);
     }
-    Ok(bytes)
+    bytes
 }
 
 /// The frame of a seat's answer to a request.
 pub(crate) fn answered<J: Naming>(
+    rt: &impl Abort,
     alloc: Global,
     seat: &mut Seat<J>,
     request: &Request,
-) -> Result<Vec<u8>, Fail> {
-    let reply = seat.answer(request)?;
+) -> Vec<u8> {
+    let reply = seat.answer(request).expect(rt, "a reply");
     let mut bytes = Vec::new(alloc);
-    let written = write_reply(&reply, &mut bytes);
+    write_reply(&reply, &mut bytes).expect(rt, "memory");
     drop(reply);
-    written?;
-    Ok(bytes)
+    bytes
 }

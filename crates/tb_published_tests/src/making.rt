@@ -3,8 +3,8 @@
 ghost use Rattle.std.specs.Prelude.{◌≡◌};
 
 use std::alloc::Global;
+use std::process::Abort;
 use std::sync::Wait;
-use std::test::Fail;
 use tb_published::{Held, Naming, Opening, Publisher, Seat, SeatCount, Taken, open};
 use tb_records::{Account, Body, ClientsMax, Items, Profile, Request, Transfer};
 
@@ -53,58 +53,67 @@ pub(crate) fn transfer(row: Transferred) -> Transfer {
     }
 }
 
-fn request(numbers: Numbers, body: Body) -> Result<Request, Fail> {
+fn request(rt: &impl Abort, numbers: Numbers, body: Body) -> Request {
     let (client, session, number) = numbers;
-    Ok(Request::new(client, session, number, body)?)
+    Request::new(client, session, number, body).expect(rt, "a request")
 }
 
-pub(crate) fn register(client: u128) -> Result<Request, Fail> {
-    request((client, 0, 0), Body::Register)
+pub(crate) fn register(rt: &impl Abort, client: u128) -> Request {
+    request(rt, (client, 0, 0), Body::Register)
 }
 
-pub(crate) fn two_accounts(alloc: Global, numbers: Numbers) -> Result<Request, Fail> {
-    let accounts = Vec::from_slice(alloc, &[account(1), account(2)])?;
-    request(numbers, Body::CreateAccounts(Items::new(accounts)))
+pub(crate) fn two_accounts(rt: &impl Abort, alloc: Global, numbers: Numbers) -> Request {
+    let accounts = Vec::from_slice(alloc, &[account(1), account(2)]).expect(rt, "memory");
+    request(rt, numbers, Body::CreateAccounts(Items::new(accounts)))
 }
 
-pub(crate) fn lookup(alloc: Global, numbers: Numbers, ids: &[u128]) -> Result<Request, Fail> {
-    let ids = Vec::from_slice(alloc, ids)?;
-    request(numbers, Body::LookupAccounts(Items::new(ids)))
+pub(crate) fn lookup(rt: &impl Abort, alloc: Global, numbers: Numbers, ids: &[u128]) -> Request {
+    let ids = Vec::from_slice(alloc, ids).expect(rt, "memory");
+    request(rt, numbers, Body::LookupAccounts(Items::new(ids)))
 }
 
 pub(crate) fn transfers(
+    rt: &impl Abort,
     alloc: Global,
     numbers: Numbers,
     row: Transferred,
-) -> Result<Request, Fail> {
-    let transfers = Vec::from_slice(alloc, &[transfer(row)])?;
-    request(numbers, Body::CreateTransfers(Items::new(transfers)))
+) -> Request {
+    let transfers = Vec::from_slice(alloc, &[transfer(row)]).expect(rt, "memory");
+    request(rt, numbers, Body::CreateTransfers(Items::new(transfers)))
 }
 
-pub(crate) fn opening(profile: Profile, clients_max: u32) -> Result<Opening, Fail> {
-    let clients_max = ClientsMax::new(clients_max).ok_or("clients_max")?;
-    Ok(Opening::new(profile, clients_max))
+/// A register where the number is 0, else a lookup of no account.
+pub(crate) fn register_or_lookup(rt: &impl Abort, alloc: Global, numbers: Numbers) -> Request {
+    match numbers.2 {
+        0 => register(rt, numbers.0),
+        _ => lookup(rt, alloc, numbers, &[]),
+    }
+}
+
+pub(crate) fn opening(rt: &impl Abort, profile: Profile, clients_max: u32) -> Opening {
+    let clients_max = ClientsMax::new(clients_max).expect(rt, "clients_max");
+    Opening::new(profile, clients_max)
 }
 
 /// A publisher that closes by itself, and so many seats.
-pub(crate) fn opened<J: Naming, R: Wait>(
+pub(crate) fn opened<J: Naming, R: Wait + Abort>(
     rt: &R,
     alloc: Global,
     opening: Opening,
     seats: u32,
-) -> Result<(Held<J, &R>, Vec<Seat<J>>), Fail>
+) -> (Held<J, &R>, Vec<Seat<J>>)
     requires { opening ≡ J.opening }
 {
-    let seats = SeatCount::new(seats).ok_or("seats")?;
-    let (publisher, seats) = open(alloc, rt, opening, seats)?;
-    Ok((Held::new(publisher, rt), seats))
+    let count = SeatCount::new(seats).expect(rt, "seats");
+    let (publisher, seats) = open(alloc, rt, opening, count).expect(rt, "a publisher");
+    (Held::new(publisher, rt), seats)
 }
 
 /// Takes a request at moment 10.
-pub(crate) fn take<J: Naming, R: Wait>(
+pub(crate) fn take<J: Naming, R: Wait + Abort>(
     rt: &R,
     publisher: &mut Publisher<J>,
     request: Request,
-) -> Result<Taken, Fail> {
-    Ok(publisher.take(rt, request, 10)?)
+) -> Taken {
+    publisher.take(rt, request, 10).expect(rt, "taken")
 }

@@ -1,31 +1,28 @@
 //! What earlier requests have refused later: sessions that were evicted, and ids that failed.
 ghost use Rattle.std.specs.Prelude.{◌≡◌};
 
-use crate::making::{lookup, opened, opening, register, take, transfers, two_accounts};
+use crate::comparing::holds;
+use crate::making::{
+    lookup, opened, opening, register, register_or_lookup, take, transfers, two_accounts,
+};
 use std::alloc::Global;
 use std::marker::Brand;
 use std::process::Abort;
 use std::sync::Wait;
-use std::test::Fail;
 use tb_published::{Naming, Opening, Publisher, Seat, Taken};
 use tb_records::{Profile, Reply, ReplyBody, Request, Status};
 
 /// Clients 1 to 100 register by turns where one can have a session; then each of the first 99 sends a request.
-fn expect_storm<J: Naming, R: Wait + Abort>(
-    rt: &R,
-    alloc: Global,
-    publisher: &mut Publisher<J>,
-) -> Result<(), Fail> {
+fn expect_storm<J: Naming, R: Wait + Abort>(rt: &R, alloc: Global, publisher: &mut Publisher<J>) {
     for client in 1..=100 {
-        assert!(rt;
-            take(rt, publisher, register(u128::from(client))?)? == Taken::Committed(client)
-        );
+        let taken = take(rt, publisher, register(rt, u128::from(client)));
+        holds(rt, taken == Taken::Committed(client), &client);
     }
     for client in 1..=99 {
-        let lookup = lookup(alloc, (u128::from(client), client, 1), &[])?;
-        assert!(rt; take(rt, publisher, lookup)? == Taken::Refused(Status::NoSession));
+        let numbers = (u128::from(client), client, 1);
+        let taken = take(rt, publisher, lookup(rt, alloc, numbers, &[]));
+        holds(rt, taken == Taken::Refused(Status::NoSession), &numbers);
     }
-    Ok(())
 }
 
 /// The requests after them, a client's session and number each, and what becomes of them.
@@ -41,44 +38,28 @@ fn expect_after_storm<J: Naming, R: Wait + Abort>(
     rt: &R,
     alloc: Global,
     publisher: &mut Publisher<J>,
-) -> Result<(), Fail> {
-    for (numbers, taken) in AFTER_STORM {
-        let request = match numbers.2 {
-            0 => register(numbers.0),
-            _ => lookup(alloc, numbers, &[]),
-        }?;
-        assert!(rt; take(rt, publisher, request)? == taken);
+) {
+    for (numbers, expected) in AFTER_STORM {
+        let taken = take(rt, publisher, register_or_lookup(rt, alloc, numbers));
+        holds(rt, taken == expected, &numbers);
     }
-    assert!(rt; publisher.history().len() == 102);
-    Ok(())
+    holds(rt, publisher.history().len() == 102, &"entries");
 }
 
-fn expect_both<J: Naming, R: Wait + Abort>(
-    rt: &R,
-    alloc: Global,
-    publisher: &mut Publisher<J>,
-) -> Result<(), Fail> {
-    expect_storm(rt, alloc, publisher)?;
-    expect_after_storm(rt, alloc, publisher)
-}
-
-fn take_storm<J: Naming, R: Wait + Abort>(
-    rt: &R,
-    alloc: Global,
-    opening: Opening,
-) -> Result<(), Fail>
+fn take_storm<J: Naming, R: Wait + Abort>(rt: &R, alloc: Global, opening: Opening)
     requires { opening ≡ J.opening }
 {
-    let (mut held, seats) = opened::<J, R>(rt, alloc, opening, 1)?;
-    let outcome = expect_both(rt, alloc, &mut held.publisher);
+    let (mut held, seats) = opened::<J, R>(rt, alloc, opening, 1);
+    expect_storm(rt, alloc, &mut held.publisher);
+    expect_after_storm(rt, alloc, &mut held.publisher);
     drop(seats);
     drop(held);
-    outcome
 }
 
 #[test]
-fn eviction_storm(rt: HostRuntime) -> Result<(), Fail> {
-    take_storm::<Brand, _>(&rt, rt.alloc(), opening(Profile::One, 1)?)
+fn eviction_storm(rt: HostRuntime) {
+    let opening = opening(&rt, Profile::One, 1);
+    take_storm::<Brand, _>(&rt, rt.alloc(), opening);
 }
 
 /// The code of the first event that a reply does not accept; 0 where it accepts all.
@@ -92,16 +73,20 @@ fn first_code(reply: &Reply) -> u32 {
     }
 }
 
-/// The code of the first event of a request that is taken, as a seat finds it.
-fn code_after<J: Naming, R: Wait>(
+/// A request is taken, and the first event of its reply has this code, as a seat finds it.
+fn expect_code<J: Naming, R: Wait + Abort>(
     rt: &R,
     alloc: Global,
     publisher: &mut Publisher<J>,
     seat: &mut Seat<J>,
-    request: &Request,
-) -> Result<u32, Fail> {
-    take(rt, publisher, request.copy(alloc)?)?;
-    Ok(first_code(&seat.answer(request)?))
+    request: Request,
+    code: u32,
+) {
+    take(rt, publisher, request.copy(alloc).expect(rt, "memory"));
+    let reply = seat.answer(&request).expect(rt, "a reply");
+    drop(request);
+    holds(rt, first_code(&reply) == code, &code);
+    drop(reply);
 }
 
 /// The codes that a seat finds for a transfer that is sent twice, before and after its account can be found.
@@ -111,15 +96,14 @@ fn expect_codes<J: Naming, R: Wait + Abort>(
     publisher: &mut Publisher<J>,
     seats: &mut Vec<Seat<J>>,
     codes: [u32; 2],
-) -> Result<(), Fail> {
-    let seat = seats.iter_mut().next().ok_or("a seat")?;
-    take(rt, publisher, register(7)?)?;
-    take(rt, publisher, two_accounts(alloc, (7, 1, 1))?)?;
+) {
+    let seat = seats.iter_mut().next().expect(rt, "a seat");
+    take(rt, publisher, register(rt, 7));
+    take(rt, publisher, two_accounts(rt, alloc, (7, 1, 1)));
     for (number, debit, code) in [(2, 99, codes[0]), (3, 1, codes[1])] {
-        let request = transfers(alloc, (7, 1, number), (70, debit, 1))?;
-        assert!(rt; code_after(rt, alloc, publisher, seat, &request)? == code);
+        let request = transfers(rt, alloc, (7, 1, number), (70, debit, 1));
+        expect_code(rt, alloc, publisher, seat, request, code);
     }
-    Ok(())
 }
 
 fn take_failed_id<J: Naming, R: Wait + Abort>(
@@ -127,20 +111,19 @@ fn take_failed_id<J: Naming, R: Wait + Abort>(
     alloc: Global,
     opening: Opening,
     codes: [u32; 2],
-) -> Result<(), Fail>
+)
     requires { opening ≡ J.opening }
 {
-    let (mut held, mut seats) = opened::<J, R>(rt, alloc, opening, 1)?;
-    let outcome = expect_codes(rt, alloc, &mut held.publisher, &mut seats, codes);
+    let (mut held, mut seats) = opened::<J, R>(rt, alloc, opening, 1);
+    expect_codes(rt, alloc, &mut held.publisher, &mut seats, codes);
     drop(seats);
     drop(held);
-    outcome
 }
 
 #[test]
-fn failed_id_is_refused_again(rt: HostRuntime) -> Result<(), Fail> {
+fn failed_id_is_refused_again(rt: HostRuntime) {
     for (profile, codes) in [(Profile::One, [21, 0]), (Profile::Two, [21, 68])] {
-        take_failed_id::<Brand, _>(&rt, rt.alloc(), opening(profile, 2)?, codes)?;
+        let opening = opening(&rt, profile, 2);
+        take_failed_id::<Brand, _>(&rt, rt.alloc(), opening, codes);
     }
-    Ok(())
 }

@@ -2,6 +2,7 @@
 //! up then.
 ghost use Rattle.std.specs.Prelude.{◌≡◌};
 
+use crate::comparing::holds;
 use crate::frames::{Header, answered, frame};
 use crate::making::{
     Numbers, account, lookup, opened, opening, register, take, transfer, transfers, two_accounts,
@@ -10,7 +11,6 @@ use std::alloc::Global;
 use std::marker::Brand;
 use std::process::Abort;
 use std::sync::Wait;
-use std::test::Fail;
 use tb_published::{Naming, Opening, Publisher, Seat, Taken};
 use tb_records::{Account, Profile, Request, Status, Transfer};
 
@@ -153,13 +153,13 @@ const LATER_ROWS: [Row; 8] = [
 ];
 
 /// The request of a row.
-fn requested(alloc: Global, numbers: Numbers, asked: Asked) -> Result<Request, Fail> {
+fn requested(rt: &impl Abort, alloc: Global, numbers: Numbers, asked: Asked) -> Request {
     match asked {
-        Asked::Register => register(numbers.0),
-        Asked::TwoAccounts => two_accounts(alloc, numbers),
-        Asked::Lookup => lookup(alloc, numbers, &[2, 9, 1]),
-        Asked::EmptyLookup => lookup(alloc, numbers, &[]),
-        Asked::Transfer(amount) => transfers(alloc, numbers, (11, 1, amount)),
+        Asked::Register => register(rt, numbers.0),
+        Asked::TwoAccounts => two_accounts(rt, alloc, numbers),
+        Asked::Lookup => lookup(rt, alloc, numbers, &[2, 9, 1]),
+        Asked::EmptyLookup => lookup(rt, alloc, numbers, &[]),
+        Asked::Transfer(amount) => transfers(rt, alloc, numbers, (11, 1, amount)),
     }
 }
 
@@ -178,11 +178,14 @@ fn expect_answer<J: Naming>(
     seat: &mut Seat<J>,
     request: &Request,
     row: Row,
-) -> Result<(), Fail> {
-    assert!(rt; seat.status(request)? == status_after(row.2));
-    let answer = answered(alloc, seat, request)?;
-    assert!(rt; answer == frame(alloc, row.3, row.4)?);
-    Ok(())
+) {
+    let status = seat.status(request).expect(rt, "a status");
+    holds(rt, status == status_after(row.2), &row.0);
+    let answer = answered(rt, alloc, seat, request);
+    let wanted = frame(rt, alloc, row.3, row.4);
+    holds(rt, answer.as_slice() == wanted.as_slice(), &row.0);
+    drop(wanted);
+    drop(answer);
 }
 
 /// Takes a row's request, and asks a seat for it then.
@@ -192,13 +195,12 @@ fn expect_row<J: Naming, R: Wait + Abort>(
     publisher: &mut Publisher<J>,
     seat: &mut Seat<J>,
     row: Row,
-) -> Result<(), Fail> {
-    let taken = take(rt, publisher, requested(alloc, row.0, row.1)?)?;
-    assert!(rt; taken == row.2);
-    let request = requested(alloc, row.0, row.1)?;
-    let outcome = expect_answer(rt, alloc, seat, &request, row);
+) {
+    let taken = take(rt, publisher, requested(rt, alloc, row.0, row.1));
+    holds(rt, taken == row.2, &row.0);
+    let request = requested(rt, alloc, row.0, row.1);
+    expect_answer(rt, alloc, seat, &request, row);
     drop(request);
-    outcome
 }
 
 fn expect_rows<J: Naming, R: Wait + Abort>(
@@ -207,21 +209,15 @@ fn expect_rows<J: Naming, R: Wait + Abort>(
     publisher: &mut Publisher<J>,
     seat: &mut Seat<J>,
     rows: &[Row],
-) -> Result<(), Fail> {
+) {
     for row in rows {
-        expect_row(rt, alloc, publisher, seat, *row)?;
+        expect_row(rt, alloc, publisher, seat, *row);
     }
-    Ok(())
 }
 
 /// What a seat finds for accounts 2, 9 and 1: how many entries there are, and what went from account 1 to account 2.
-fn expect_accounts<J: Naming>(
-    rt: &impl Abort,
-    seat: &mut Seat<J>,
-    entries: u64,
-    posted: u128,
-) -> Result<(), Fail> {
-    let found = [
+fn expect_accounts<J: Naming>(rt: &impl Abort, seat: &mut Seat<J>, entries: u64, posted: u128) {
+    let wanted = [
         Account {
             credits_posted: posted,
             timestamp: 12,
@@ -233,20 +229,22 @@ fn expect_accounts<J: Naming>(
             ..account(1)
         },
     ];
-    let (commit, accounts) = seat.lookup_accounts(&[2, 9, 1])?;
-    assert!(rt; commit == entries && accounts.as_slice() == found.as_slice());
-    Ok(())
+    let (commit, found) = seat.lookup_accounts(&[2, 9, 1]).expect(rt, "accounts");
+    holds(rt, commit == entries, &commit);
+    holds(rt, found.as_slice() == wanted.as_slice(), &posted);
+    drop(found);
 }
 
 /// What a seat finds for transfers 12 and 11.
-fn expect_transfers<J: Naming>(rt: &impl Abort, seat: &mut Seat<J>) -> Result<(), Fail> {
-    let found = [Transfer {
+fn expect_transfers<J: Naming>(rt: &impl Abort, seat: &mut Seat<J>) {
+    let wanted = [Transfer {
         timestamp: 14,
         ..transfer((11, 1, 100))
     }];
-    let (commit, transfers) = seat.lookup_transfers(&[12, 11])?;
-    assert!(rt; commit == 4 && transfers.as_slice() == found.as_slice());
-    Ok(())
+    let (commit, found) = seat.lookup_transfers(&[12, 11]).expect(rt, "transfers");
+    holds(rt, commit == 4, &commit);
+    holds(rt, found.as_slice() == wanted.as_slice(), &"transfers");
+    drop(found);
 }
 
 /// All rows, and what a seat looks up between them and after them.
@@ -255,41 +253,28 @@ pub(crate) fn expect_first<J: Naming, R: Wait + Abort>(
     alloc: Global,
     publisher: &mut Publisher<J>,
     seat: &mut Seat<J>,
-) -> Result<(), Fail> {
-    expect_rows(rt, alloc, publisher, seat, &FIRST_ROWS)?;
-    expect_accounts(rt, seat, 3, 0)?;
-    expect_rows(rt, alloc, publisher, seat, &LATER_ROWS)?;
-    expect_accounts(rt, seat, 4, 100)?;
-    expect_transfers(rt, seat)?;
-    assert!(rt; publisher.history().len() == 4 && publisher.machine().commit() == 4);
-    Ok(())
+) {
+    expect_rows(rt, alloc, publisher, seat, &FIRST_ROWS);
+    expect_accounts(rt, seat, 3, 0);
+    expect_rows(rt, alloc, publisher, seat, &LATER_ROWS);
+    expect_accounts(rt, seat, 4, 100);
+    expect_transfers(rt, seat);
+    holds(rt, publisher.history().len() == 4, &"entries");
+    holds(rt, publisher.machine().commit() == 4, &"the last entry");
 }
 
-fn expect_one<J: Naming, R: Wait + Abort>(
-    rt: &R,
-    alloc: Global,
-    publisher: &mut Publisher<J>,
-    seats: &mut [Seat<J>],
-) -> Result<(), Fail> {
-    let seat = seats.first_mut().ok_or("a seat")?;
-    expect_first(rt, alloc, publisher, seat)
-}
-
-fn take_first_rows<J: Naming, R: Wait + Abort>(
-    rt: &R,
-    alloc: Global,
-    opening: Opening,
-) -> Result<(), Fail>
+fn take_first_rows<J: Naming, R: Wait + Abort>(rt: &R, alloc: Global, opening: Opening)
     requires { opening ≡ J.opening }
 {
-    let (mut held, mut seats) = opened::<J, R>(rt, alloc, opening, 1)?;
-    let outcome = expect_one(rt, alloc, &mut held.publisher, seats.as_mut_slice());
+    let (mut held, mut seats) = opened::<J, R>(rt, alloc, opening, 1);
+    let seat = seats.iter_mut().next().expect(rt, "a seat");
+    expect_first(rt, alloc, &mut held.publisher, seat);
     drop(seats);
     drop(held);
-    outcome
 }
 
 #[test]
-fn first_rows_through_take(rt: HostRuntime) -> Result<(), Fail> {
-    take_first_rows::<Brand, _>(&rt, rt.alloc(), opening(Profile::One, 2)?)
+fn first_rows_through_take(rt: HostRuntime) {
+    let opening = opening(&rt, Profile::One, 2);
+    take_first_rows::<Brand, _>(&rt, rt.alloc(), opening);
 }

@@ -1,13 +1,13 @@
 //! Seats beside the writer, each in a thread of its own.
 ghost use Rattle.std.specs.Prelude.{◌≡◌};
 
+use crate::comparing::holds;
 use crate::making::{lookup, opened, opening};
 use std::alloc::Global;
 use std::marker::Brand;
 use std::process::Abort;
 use std::sync::Wait;
 use std::sync::atomic::{AtomicU64, Ordering};
-use std::test::Fail;
 use std::thread::{self, Threads, join};
 use tb_published::{Naming, Opening, Publisher, Seat, SeatFault, Taken, Told};
 use tb_records::{Body, Items, Profile, Request, Status};
@@ -170,45 +170,37 @@ fn expect_learnt<J: Naming>(
     seat: &mut Seat<J>,
     told: &Told<J>,
     request: &Request,
-) -> Result<(), Fail> {
+) {
     seat.learn(told);
-    assert!(rt; seat.seen() == 200 && seat.status(request)? == Status::Reply);
-    Ok(())
+    holds(rt, seat.seen() == 200, &"what is seen");
+    let status = seat.status(request);
+    holds(rt, status == Ok(Status::Reply), &"the status");
 }
 
 /// Four seats look for the last request while it is on its way, and learn of it when it was taken.
-fn expect_learnt_by_all<J: Naming + Send + Sync, R: Threads + Wait + Abort + Sync>(
-    rt: &R,
-    alloc: Global,
-    publisher: &mut Publisher<J>,
-    seats: &mut Vec<Seat<J>>,
-    last: &Request,
-) -> Result<(), Fail> {
-    let risen = watch_beside(rt, alloc, publisher, seats.as_mut_slice(), last);
-    assert!(rt; risen);
-    let told = publisher.tell();
-    for seat in seats.iter_mut() {
-        expect_learnt(rt, seat, &told, last)?;
-    }
-    Ok(())
-}
-
 fn watch_writer<J: Naming + Send + Sync, R: Threads + Wait + Abort + Sync>(
     rt: &R,
     alloc: Global,
     opening: Opening,
-) -> Result<(), Fail>
+)
     requires { opening ≡ J.opening }
 {
-    let last = lookup(alloc, (7, 1, 199), &[])?;
-    let (mut held, mut seats) = opened::<J, R>(rt, alloc, opening, 4)?;
-    let outcome = expect_learnt_by_all(rt, alloc, &mut held.publisher, &mut seats, &last);
+    let last = lookup(rt, alloc, (7, 1, 199), &[]);
+    let (mut held, mut seats) = opened::<J, R>(rt, alloc, opening, 4);
+    let risen = watch_beside(rt, alloc, &mut held.publisher, seats.as_mut_slice(), &last);
+    holds(rt, risen, &"all four");
+    let told = held.publisher.tell();
+    for seat in seats.iter_mut() {
+        expect_learnt(rt, seat, &told, &last);
+    }
+    drop(told);
     drop(seats);
     drop(held);
-    outcome
+    drop(last);
 }
 
 #[test]
-fn four_seats_beside_a_writer(rt: HostRuntime) -> Result<(), Fail> {
-    watch_writer::<Brand, _>(&rt, rt.alloc(), opening(Profile::One, 2)?)
+fn four_seats_beside_a_writer(rt: HostRuntime) {
+    let opening = opening(&rt, Profile::One, 2);
+    watch_writer::<Brand, _>(&rt, rt.alloc(), opening);
 }

@@ -1,12 +1,12 @@
 //! Requests that come when no time is left.
 ghost use Rattle.std.specs.Prelude.{◌≡◌};
 
-use crate::making::{Numbers, lookup, opened, opening, register};
+use crate::comparing::holds;
+use crate::making::{Numbers, opened, opening, register_or_lookup};
 use std::alloc::Global;
 use std::marker::Brand;
 use std::process::Abort;
 use std::sync::Wait;
-use std::test::Fail;
 use tb_published::{Naming, Opening, Publisher, TakeFault, Taken};
 use tb_records::{Profile, Status};
 
@@ -38,17 +38,16 @@ fn expect_rows<J: Naming, R: Wait + Abort>(
     publisher: &mut Publisher<J>,
     rows: &[Row],
     entries: usize,
-) -> Result<(), Fail> {
+) {
     for (numbers, moment, expected) in rows {
-        let request = match numbers.2 {
-            0 => register(numbers.0),
-            _ => lookup(alloc, *numbers, &[]),
-        }?;
-        assert!(rt; publisher.take(rt, request, *moment) == *expected);
+        let request = register_or_lookup(rt, alloc, *numbers);
+        let taken = publisher.take(rt, request, *moment);
+        holds(rt, taken == *expected, numbers);
     }
-    assert!(rt; publisher.history().len() == entries);
-    assert!(rt; publisher.tell().commit() == entries as u64);
-    Ok(())
+    holds(rt, publisher.history().len() == entries, &"entries");
+    let told = publisher.tell();
+    holds(rt, told.commit() == entries as u64, &"what is told");
+    drop(told);
 }
 
 fn take_rows<J: Naming, R: Wait + Abort>(
@@ -57,22 +56,23 @@ fn take_rows<J: Naming, R: Wait + Abort>(
     opening: Opening,
     rows: &[Row],
     entries: usize,
-) -> Result<(), Fail>
+)
     requires { opening ≡ J.opening }
 {
-    let (mut held, seats) = opened::<J, R>(rt, alloc, opening, 1)?;
-    let outcome = expect_rows(rt, alloc, &mut held.publisher, rows, entries);
+    let (mut held, seats) = opened::<J, R>(rt, alloc, opening, 1);
+    expect_rows(rt, alloc, &mut held.publisher, rows, entries);
     drop(seats);
     drop(held);
-    outcome
 }
 
 #[test]
-fn time_runs_out(rt: HostRuntime) -> Result<(), Fail> {
-    take_rows::<Brand, _>(&rt, rt.alloc(), opening(Profile::One, 2)?, &LAST_MOMENT, 1)
+fn time_runs_out(rt: HostRuntime) {
+    let opening = opening(&rt, Profile::One, 2);
+    take_rows::<Brand, _>(&rt, rt.alloc(), opening, &LAST_MOMENT, 1);
 }
 
 #[test]
-fn first_register_too_late(rt: HostRuntime) -> Result<(), Fail> {
-    take_rows::<Brand, _>(&rt, rt.alloc(), opening(Profile::One, 2)?, &TOO_LATE, 0)
+fn first_register_too_late(rt: HostRuntime) {
+    let opening = opening(&rt, Profile::One, 2);
+    take_rows::<Brand, _>(&rt, rt.alloc(), opening, &TOO_LATE, 0);
 }

@@ -2,16 +2,15 @@
 ghost use Rattle.std.specs.Prelude.{◌≡◌, ◌≤◌};
 
 use crate::making::{
-    one_port, opened, opening, ports, register, rising, transfer, transfers, two_accounts,
+    holds, one_port, opened, opening, register, rising, transfer, transfers, two_accounts,
 };
 use std::alloc::Global;
 use std::marker::Brand;
 use std::process::Abort;
 use std::sync::Wait;
-use std::test::Fail;
-use tb_published::{Naming, Opening, Publisher, Seat, SeatFault};
+use tb_published::{Naming, Opening, Seat, SeatFault};
 use tb_records::{Request, Status};
-use tb_service::{Port, PortCount};
+use tb_service::Port;
 
 /// Client 7's register, two accounts, or behind them a transfer of 10.
 fn nth_request(alloc: Global, number: u32) -> Option<Request> {
@@ -23,166 +22,129 @@ fn nth_request(alloc: Global, number: u32) -> Option<Request> {
 }
 
 /// Eight requests of client 7: its register, two accounts, and six transfers of 10.
-fn eight(alloc: Global) -> Option<Vec<Request>> {
+fn eight(rt: &impl Abort, alloc: Global) -> Vec<Request> {
     let mut all = Vec::new(alloc);
     for number in 0..8 {
-        all.push(nth_request(alloc, number)?).ok()?;
+        let request = nth_request(alloc, number).expect(rt, "a request");
+        all.push(request).expect(rt, "memory");
     }
-    Some(all)
+    all
 }
 
-/// What account 2 was credited with, as a seat finds it, and after how many entries.
-fn credited<J: Naming>(seats: &mut Vec<Seat<J>>) -> Result<(u64, u128), Fail> {
-    let seat = seats.iter_mut().next().ok_or("a seat")?;
-    let (commit, accounts) = seat.lookup_accounts(&[2])?;
-    Ok((commit, accounts.first().ok_or("account 2")?.credits_posted))
+/// What account 2 was credited with, as the first seat finds it, and after how many entries.
+fn credited<J: Naming>(rt: &impl Abort, seats: &mut Vec<Seat<J>>) -> (u64, u128) {
+    let seat = seats.iter_mut().next().expect(rt, "a seat");
+    let (commit, accounts) = seat.lookup_accounts(&[2]).expect(rt, "accounts");
+    let account = accounts.first().expect(rt, "account 2");
+    (commit, account.credits_posted)
+}
+
+/// A port hands eight requests over, and is closed.
+fn hand_over_eight<R: Wait + Abort>(rt: &R, alloc: Global, mut port: Port) {
+    let requests = eight(rt, alloc);
+    assert!(rt; requests.len() == 8);
+    let outcome = port.offer_many(rt, requests);
+    holds(rt, outcome.is_ok(), "handed over");
+    drop(outcome);
+    let closed = port.close(rt);
+    holds(rt, closed.offered() == 8, "offers");
+    drop(closed);
 }
 
 /// One port hands eight requests over, and a seat finds them.
-fn run_eight<J: Naming, R: Wait + Abort>(
-    rt: &R,
-    alloc: Global,
-    publisher: Publisher<J>,
-    count: PortCount,
-    seats: &mut Vec<Seat<J>>,
-) -> Result<(), Fail> {
-    let (server, mut port) = one_port(rt, alloc, publisher, count, rising())?;
-    let handed_over = match eight(alloc) {
-        Some(requests) => {
-            assert!(rt; requests.len() == 8);
-            port.offer_many(rt, requests).is_ok()
-        }
-        None => false,
-    };
-    let closed = port.close(rt);
-    assert!(rt; handed_over && closed.offered() == 8);
-    drop(closed);
-    let finished = server.run(rt);
-    let entries = finished.publisher.history().len();
-    let found = credited(seats);
-    drop(finished.close(rt));
-    assert!(rt; entries == 8);
-    assert!(rt; found? == (8, 60));
-    Ok(())
-}
-
-fn fill_with_eight<J: Naming, R: Wait + Abort>(
-    rt: &R,
-    alloc: Global,
-    opening: Opening,
-) -> Result<(), Fail>
+fn fill_with_eight<J: Naming, R: Wait + Abort>(rt: &R, alloc: Global, opening: Opening)
     requires { opening ≡ J.opening }
 {
-    let count = ports(1)?;
-    let (publisher, mut seats) = opened::<J, R>(rt, alloc, opening)?;
-    let outcome = run_eight(rt, alloc, publisher, count, &mut seats);
+    let (publisher, mut seats) = opened::<J, R>(rt, alloc, opening);
+    let (server, port) = one_port(rt, alloc, publisher, rising());
+    hand_over_eight(rt, alloc, port);
+    let finished = server.run(rt);
+    let found = credited(rt, &mut seats);
+    let entries = finished.close(rt);
+    holds(rt, entries.len() == 8, "entries");
+    holds(rt, found == (8, 60), "what was credited");
+    drop(entries);
     drop(seats);
-    outcome
 }
 
 #[test]
-fn eight_in_one_order(rt: HostRuntime) -> Result<(), Fail> {
-    fill_with_eight::<Brand, _>(&rt, rt.alloc(), opening()?)
+fn eight_in_one_order(rt: HostRuntime) {
+    fill_with_eight::<Brand, _>(&rt, rt.alloc(), opening(&rt));
+}
+
+/// A call of the first seat that never asks again: the seat answers that it has no such request yet.
+fn call_at_once<J: Naming, R: Wait + Abort>(rt: &R, port: &mut Port, seats: &mut Vec<Seat<J>>) {
+    let asked = register(7).expect(rt, "a request");
+    let seat = seats.iter_mut().next().expect(rt, "a seat");
+    let reply = port.call(rt, seat, &asked, 0).expect(rt, "a reply");
+    holds(rt, reply.status() == Status::NotYet, "not yet");
+    drop(reply);
+    drop(asked);
 }
 
 /// A call that never asks again: its request was handed over once.
-fn run_call<J: Naming, R: Wait + Abort>(
-    rt: &R,
-    alloc: Global,
-    publisher: Publisher<J>,
-    count: PortCount,
-    seats: &mut Vec<Seat<J>>,
-    asked: &Request,
-) -> Result<(), Fail> {
-    let seat = seats.iter_mut().next();
-    let (server, mut port) = one_port(rt, alloc, publisher, count, rising())?;
-    let not_yet = match seat {
-        Some(seat) =>
-            matches!(port.call(rt, seat, asked, 0), Ok(reply) if reply.status() == Status::NotYet),
-        None => false,
-    };
-    let closed = port.close(rt);
-    assert!(rt; not_yet && closed.offered() == 1);
-    drop(closed);
-    assert!(rt; server.run(rt).close(rt).len() == 1);
-    Ok(())
-}
-
-fn call_once<J: Naming, R: Wait + Abort>(
-    rt: &R,
-    alloc: Global,
-    opening: Opening,
-) -> Result<(), Fail>
+fn call_once<J: Naming, R: Wait + Abort>(rt: &R, alloc: Global, opening: Opening)
     requires { opening ≡ J.opening }
 {
-    let count = ports(1)?;
-    let asked = register(7).ok_or("a request")?;
-    let (publisher, mut seats) = opened::<J, R>(rt, alloc, opening)?;
-    let outcome = run_call(rt, alloc, publisher, count, &mut seats, &asked);
+    let (publisher, mut seats) = opened::<J, R>(rt, alloc, opening);
+    let (server, mut port) = one_port(rt, alloc, publisher, rising());
+    call_at_once(rt, &mut port, &mut seats);
+    let closed = port.close(rt);
+    holds(rt, closed.offered() == 1, "offers");
+    drop(closed);
+    let entries = server.run(rt).close(rt);
+    holds(rt, entries.len() == 1, "entries");
+    drop(entries);
     drop(seats);
-    outcome
 }
 
 #[test]
-fn call_without_turns(rt: HostRuntime) -> Result<(), Fail> {
-    call_once::<Brand, _>(&rt, rt.alloc(), opening()?)
+fn call_without_turns(rt: HostRuntime) {
+    call_once::<Brand, _>(&rt, rt.alloc(), opening(&rt));
 }
 
 /// Where the publisher was closed a call ends as its seat does, without a copy, and hands nothing over.
 fn finds_no_copy<J: Naming, R: Wait>(
     rt: &R,
     port: &mut Port,
-    seats: &mut Vec<Seat<J>>,
+    seat: &mut Seat<J>,
     asked: &Request,
 ) -> bool {
-    match seats.iter_mut().next() {
-        Some(seat) => matches!(port.call(rt, seat, asked, 1), Err(SeatFault::NoCopy))
-            && matches!(seat.answer(asked), Err(SeatFault::NoCopy))
-            && matches!(seat.status(asked), Err(SeatFault::NoCopy)),
-        None => false,
+    matches!(port.call(rt, seat, asked, 1), Err(SeatFault::NoCopy))
+        && matches!(seat.answer(asked), Err(SeatFault::NoCopy))
+        && matches!(seat.status(asked), Err(SeatFault::NoCopy))
+}
+
+/// What a port offers comes back.
+fn offer_in_vain<R: Wait + Abort>(rt: &R, port: &mut Port, request: Request) {
+    match port.offer(rt, request) {
+        Ok(()) => panic!(rt; "handed over"),
+        Err(back) => {
+            holds(rt, back.client() == 7, "the client");
+            holds(rt, back.request() == 0, "the request's number");
+            drop(back);
+        }
     }
 }
 
 /// A server is dropped before it has run, and its publisher closed: what its port offers comes back.
-fn offer_to_none<J: Naming, R: Wait + Abort>(
-    rt: &R,
-    alloc: Global,
-    publisher: Publisher<J>,
-    count: PortCount,
-    seats: &mut Vec<Seat<J>>,
-    asked: &Request,
-) -> Result<(), Fail> {
-    let (server, mut port) = one_port(rt, alloc, publisher, count, rising())?;
-    drop(server);
-    assert!(rt; finds_no_copy(rt, &mut port, seats, asked));
-    let comes_back = match register(7) {
-        Some(request) => match port.offer(rt, request) {
-            Ok(()) => false,
-            Err(back) => back.client() == 7 && back.request() == 0,
-        },
-        None => false,
-    };
-    assert!(rt; comes_back);
-    assert!(rt; port.close(rt).offered() == 0);
-    Ok(())
-}
-
-fn drop_server<J: Naming, R: Wait + Abort>(
-    rt: &R,
-    alloc: Global,
-    opening: Opening,
-) -> Result<(), Fail>
+fn drop_server<J: Naming, R: Wait + Abort>(rt: &R, alloc: Global, opening: Opening)
     requires { opening ≡ J.opening }
 {
-    let count = ports(1)?;
-    let asked = register(7).ok_or("a request")?;
-    let (publisher, mut seats) = opened::<J, R>(rt, alloc, opening)?;
-    let outcome = offer_to_none(rt, alloc, publisher, count, &mut seats, &asked);
+    let asked = register(7).expect(rt, "a request");
+    let (publisher, mut seats) = opened::<J, R>(rt, alloc, opening);
+    let (server, mut port) = one_port(rt, alloc, publisher, rising());
+    drop(server);
+    let seat = seats.iter_mut().next().expect(rt, "a seat");
+    holds(rt, finds_no_copy(rt, &mut port, seat, &asked), "no copy");
+    offer_in_vain(rt, &mut port, asked);
+    let closed = port.close(rt);
+    holds(rt, closed.offered() == 0, "offers");
+    drop(closed);
     drop(seats);
-    outcome
 }
 
 #[test]
-fn dropped_server_gives_back(rt: HostRuntime) -> Result<(), Fail> {
-    drop_server::<Brand, _>(&rt, rt.alloc(), opening()?)
+fn dropped_server_gives_back(rt: HostRuntime) {
+    drop_server::<Brand, _>(&rt, rt.alloc(), opening(&rt));
 }

@@ -1,6 +1,6 @@
 //! What the rows are made of: moments, requests, openings, and a server with its ports. Each opening is named by the call of
 //! a function that is generic in its name.
-ghost use Rattle.std.specs.Prelude.{◌≡◌, ℕ, IfOk};
+ghost use Rattle.std.specs.Prelude.{◌≡◌, ℕ};
 ghost use Rattle.tb_service.specs.Names.{Name};
 ghost use Rattle.tb_service.specs.Ports.{AreNumbered, service, service_by};
 ghost use Rattle.tb_service.specs.Servers.{service_on};
@@ -9,7 +9,6 @@ ghost use Rattle.tb_service.specs.Finished.{service_at};
 use std::alloc::Global;
 use std::process::Abort;
 use std::sync::Wait;
-use std::test::Fail;
 use tb_published::{Naming, Opening, Publisher, Seat, SeatCount, open};
 use tb_records::{Account, Body, ClientsMax, Items, Profile, Request, Transfer};
 use tb_service::{Closed, Finished, Moments, Open, Port, PortCount, Server, service};
@@ -98,80 +97,84 @@ pub(crate) fn transfers(alloc: Global, number: u32, row: Transfer) -> Option<Req
     Request::new(7, 1, number, body).ok()
 }
 
-pub(crate) fn opening() -> Result<Opening, Fail> {
-    Ok(Opening::new(Profile::One, ClientsMax::new(2).ok_or("clients_max")?))
+/// It is so. What is asked stands in the message, since the line that a failed assert names is this one.
+pub(crate) fn holds(rt: &impl Abort, is_so: bool, asked: &str) {
+    assert!(rt; is_so, "{asked}");
+}
+
+pub(crate) fn opening(rt: &impl Abort) -> Opening {
+    Opening::new(Profile::One, ClientsMax::new(2).expect(rt, "clients_max"))
 }
 
 /// A port that is sure to hand over a request that could be made.
 pub(crate) fn offer<R: Wait + Abort>(rt: &R, port: &mut Port, request: Option<Request>)
     ensures { service port.new ≡ service port.old }
 {
-    let handed_over = match request {
-        Some(request) => port.offer(rt, request).is_ok(),
-        None => false,
-    };
-    assert!(rt; handed_over);
+    let outcome = port.offer(rt, request.expect(rt, "a request"));
+    holds(rt, outcome.is_ok(), "handed over");
+    drop(outcome);
 }
 
-pub(crate) fn ports(count: u32) -> Result<PortCount, Fail> {
-    Ok(PortCount::new(count).ok_or("ports")?)
+pub(crate) fn ports(rt: &impl Abort, count: u32) -> PortCount {
+    PortCount::new(count).expect(rt, "ports")
 }
 
 /// The last port that is left.
-fn next_port(ports: &mut Vec<Port>) -> Result<Port, Fail>
-    ensures { IfOk result
-        (λ port.
-        (name : Name) (n : ℕ) → AreNumbered name n ports.old.items
-        → AreNumbered name n ports.new.items × (service port ≡ name)) }
+fn next_port(rt: &impl Abort, ports: &mut Vec<Port>) -> Port
+    ensures { (name : Name) (n : ℕ) → AreNumbered name n ports.old.items
+        → AreNumbered name n ports.new.items × (service result ≡ name) }
 {
     if let Some(port) = ports.pop() {
-        return Ok(port);
+        return port;
     }
-    Err(Fail::from("a port"))
+    panic!(rt; "a port");
 }
 
 /// A server and one port.
-pub(crate) fn one_port<'a, J: Naming, R: Wait>(
+pub(crate) fn one_port<'a, J: Naming, R: Wait + Abort>(
     rt: &'a R,
     alloc: Global,
     publisher: Publisher<J>,
-    count: PortCount,
     moments: Every,
-) -> Result<(Started<'a, J, R>, Port), Fail>
-    ensures { IfOk result (λ made. service made.1 ≡ service_on made.0) }
+) -> (Started<'a, J, R>, Port)
+    ensures { service result.1 ≡ service_on result.0 }
 {
-    let (server, mut ports) = service(alloc, publisher, rt, count, moments, Open)?;
-    let port = next_port(&mut ports)?;
-    Ok((server, port))
+    let count = ports(rt, 1);
+    let made = service(alloc, publisher, rt, count, moments, Open);
+    let (server, mut ports) = made.expect(rt, "a server");
+    let port = next_port(rt, &mut ports);
+    drop(ports);
+    (server, port)
 }
 
 /// A server and two ports.
-pub(crate) fn two_ports<'a, J: Naming, R: Wait>(
+pub(crate) fn two_ports<'a, J: Naming, R: Wait + Abort>(
     rt: &'a R,
     alloc: Global,
     publisher: Publisher<J>,
-    count: PortCount,
     moments: Every,
-) -> Result<(Started<'a, J, R>, Port, Port), Fail>
-    ensures { IfOk result
-        (λ made. (service made.1 ≡ service_on made.0) × (service made.2 ≡ service_on made.0)) }
+) -> (Started<'a, J, R>, Port, Port)
+    ensures { (service result.1 ≡ service_on result.0) × (service result.2 ≡ service_on result.0) }
 {
-    let (server, mut ports) = service(alloc, publisher, rt, count, moments, Open)?;
-    let second = next_port(&mut ports)?;
-    let first = next_port(&mut ports)?;
-    Ok((server, first, second))
+    let count = ports(rt, 2);
+    let made = service(alloc, publisher, rt, count, moments, Open);
+    let (server, mut ports) = made.expect(rt, "a server");
+    let second = next_port(rt, &mut ports);
+    let first = next_port(rt, &mut ports);
+    drop(ports);
+    (server, first, second)
 }
 
-/// An opening's publisher, and one seat.
-pub(crate) fn opened<J: Naming, R: Wait>(
+/// An opening's publisher, and two seats.
+pub(crate) fn opened<J: Naming, R: Wait + Abort>(
     rt: &R,
     alloc: Global,
     opening: Opening,
-) -> Result<(Publisher<J>, Vec<Seat<J>>), Fail>
+) -> (Publisher<J>, Vec<Seat<J>>)
     requires { opening ≡ J.opening }
 {
-    let seats = SeatCount::new(2).ok_or("seats")?;
-    Ok(open::<J, R>(alloc, rt, opening, seats)?)
+    let seats = SeatCount::new(2).expect(rt, "seats");
+    open::<J, R>(alloc, rt, opening, seats).expect(rt, "a publisher")
 }
 
 /// The places of a port, after the run.

@@ -2,17 +2,15 @@
 ghost use Rattle.std.specs.Prelude.{◌≡◌};
 
 use crate::making::{
-    lookup, offer, one_port, opened, opening, ports, register, rising, transfer, transfers,
+    holds, lookup, offer, one_port, opened, opening, register, rising, transfer, transfers,
     two_accounts,
 };
 use std::alloc::Global;
 use std::marker::Brand;
 use std::process::Abort;
 use std::sync::Wait;
-use std::test::Fail;
-use tb_published::{Held, Naming, Opening, Publisher, Seat};
+use tb_published::{Naming, Opening, Publisher, Seat};
 use tb_records::{Request, Status};
-use tb_service::PortCount;
 
 /// What a request of client 7 asks for.
 #[derive(Clone, Copy)]
@@ -57,42 +55,40 @@ fn serve_all<J: Naming, R: Wait + Abort>(
     rt: &R,
     alloc: Global,
     publisher: Publisher<J>,
-    count: PortCount,
     rows: &[Row],
-) -> Result<Publisher<J>, Fail> {
-    let (server, mut port) = one_port(rt, alloc, publisher, count, rising())?;
+) -> Publisher<J> {
+    let (server, mut port) = one_port(rt, alloc, publisher, rising());
     for row in rows {
         offer(rt, &mut port, requested(alloc, row.0));
     }
     drop(port.close(rt));
-    Ok(server.run(rt).into_publisher())
+    server.run(rt).into_publisher()
 }
 
 /// What a seat answers to a request: status and commit number.
-fn expect_answer<J: Naming>(
-    rt: &impl Abort,
-    seat: &mut Seat<J>,
-    request: &Request,
-    row: (Status, u64),
-) -> Result<(), Fail> {
-    let reply = seat.answer(request)?;
-    assert!(rt; (reply.status(), reply.commit()) == row);
-    Ok(())
+fn expect_answer<J: Naming>(rt: &impl Abort, alloc: Global, seat: &mut Seat<J>, row: Row) {
+    let request = requested(alloc, row.0).expect(rt, "a request");
+    let reply = seat.answer(&request).expect(rt, "a reply");
+    holds(rt, reply.status() == row.1, "the status");
+    holds(rt, reply.commit() == row.2, "the commit number");
+    drop(reply);
+    drop(request);
+}
+
+/// A seat finds accounts after so many entries.
+fn expect_accounts<J: Naming>(rt: &impl Abort, seat: &mut Seat<J>, ids: &[u128], entries: u64) {
+    let (commit, accounts) = seat.lookup_accounts(ids).expect(rt, "accounts");
+    holds(rt, commit == entries, "entries");
+    drop(accounts);
 }
 
 /// What a seat answers after the first requests.
-fn expect_answers<J: Naming>(
-    rt: &impl Abort,
-    alloc: Global,
-    seats: &mut Vec<Seat<J>>,
-) -> Result<(), Fail> {
-    let seat = seats.iter_mut().next().ok_or("a seat")?;
-    for (asked, status, commit) in FIRST_ROWS {
-        let request = requested(alloc, asked).ok_or("a request")?;
-        expect_answer(rt, seat, &request, (status, commit))?;
+fn expect_answers<J: Naming>(rt: &impl Abort, alloc: Global, seats: &mut Vec<Seat<J>>) {
+    let seat = seats.iter_mut().next().expect(rt, "a seat");
+    for row in FIRST_ROWS {
+        expect_answer(rt, alloc, seat, row);
     }
-    assert!(rt; seat.lookup_accounts(&[2, 9, 1])?.0 == 4);
-    Ok(())
+    expect_accounts(rt, seat, &[2, 9, 1], 4);
 }
 
 /// A seat that has learnt nothing answers by what it then has seen: four entries, after which the request is new, or all five.
@@ -110,71 +106,44 @@ fn expect_learning<J: Naming>(
     alloc: Global,
     publisher: &Publisher<J>,
     seats: &mut Vec<Seat<J>>,
-) -> Result<(), Fail> {
-    let request = lookup(alloc, 4).ok_or("a request")?;
+) {
+    let request = lookup(alloc, 4).expect(rt, "a request");
     let told = publisher.tell();
-    assert!(rt; told.commit() == 5);
+    holds(rt, told.commit() == 5, "what is told");
     let mut both = seats.iter_mut();
-    let one = both.next().ok_or("a seat")?;
-    let two = both.next().ok_or("a seat")?;
-    assert!(rt; is_right_by_its_number(two, &request));
+    let one = both.next().expect(rt, "a seat");
+    let two = both.next().expect(rt, "another seat");
+    holds(
+        rt,
+        is_right_by_its_number(two, &request),
+        "before it is told",
+    );
     two.learn(&told);
-    assert!(rt; two.status(&request)? == Status::Reply);
+    holds(
+        rt,
+        two.status(&request) == Ok(Status::Reply),
+        "once it is told",
+    );
     one.learn(&told);
-    assert!(rt; one.lookup_accounts(&[1])?.0 == 5);
-    Ok(())
+    expect_accounts(rt, one, &[1], 5);
+    drop(told);
+    drop(request);
 }
 
-/// Serves the first requests, of which one seat learns, and gives the publisher back.
-fn serve_first<J: Naming, R: Wait + Abort>(
-    rt: &R,
-    alloc: Global,
-    publisher: Publisher<J>,
-    count: PortCount,
-    seats: &mut Vec<Seat<J>>,
-) -> Result<Publisher<J>, Fail> {
-    let publisher = serve_all(rt, alloc, publisher, count, &FIRST_ROWS)?;
-    let held = Held::new(publisher, rt);
-    match expect_answers(rt, alloc, seats) {
-        Ok(()) => Ok(held.into_publisher()),
-        Err(fault) => {
-            drop(held);
-            Err(fault)
-        }
-    }
-}
-
-/// Two services over one publisher, one after the other.
-fn serve_both<J: Naming, R: Wait + Abort>(
-    rt: &R,
-    alloc: Global,
-    publisher: Publisher<J>,
-    count: PortCount,
-    seats: &mut Vec<Seat<J>>,
-) -> Result<(), Fail> {
-    let publisher = serve_first(rt, alloc, publisher, count, seats)?;
-    let publisher = serve_all(rt, alloc, publisher, count, &NEXT)?;
-    let held = Held::new(publisher, rt);
-    let outcome = expect_learning(rt, alloc, &held.publisher, seats);
-    drop(held);
-    outcome
-}
-
-fn serve_twice<J: Naming, R: Wait + Abort>(
-    rt: &R,
-    alloc: Global,
-    opening: Opening,
-) -> Result<(), Fail>
+/// Two services over one publisher, one after the other; one seat learns of the first requests.
+fn serve_twice<J: Naming, R: Wait + Abort>(rt: &R, alloc: Global, opening: Opening)
     requires { opening ≡ J.opening }
 {
-    let count = ports(1)?;
-    let (publisher, mut seats) = opened::<J, R>(rt, alloc, opening)?;
-    let outcome = serve_both(rt, alloc, publisher, count, &mut seats);
+    let (publisher, mut seats) = opened::<J, R>(rt, alloc, opening);
+    let publisher = serve_all(rt, alloc, publisher, &FIRST_ROWS);
+    expect_answers(rt, alloc, &mut seats);
+    let publisher = serve_all(rt, alloc, publisher, &NEXT);
+    expect_learning(rt, alloc, &publisher, &mut seats);
+    drop(publisher.close(rt));
     drop(seats);
-    outcome
 }
 
 #[test]
-fn two_seats_and_a_told(rt: HostRuntime) -> Result<(), Fail> {
-    serve_twice::<Brand, _>(&rt, rt.alloc(), opening()?)
+fn two_seats_and_a_told(rt: HostRuntime) {
+    serve_twice::<Brand, _>(&rt, rt.alloc(), opening(&rt));
 }

@@ -5,18 +5,17 @@ ghost use Rattle.tb_service.specs.Servers.{service_on};
 ghost use Rattle.tb_service.specs.Finished.{service_at};
 
 use crate::making::{
-    offer, opened, opening, ports, register, rising, transfer, two_accounts, two_ports,
+    holds, offer, opened, opening, ports, register, rising, transfer, two_accounts, two_ports,
 };
 use std::alloc::Global;
 use std::marker::Brand;
 use std::process::Abort;
+use std::sync::Wait;
 use std::sync::atomic::{AtomicU64, Ordering};
-use std::sync::{Arc, Wait};
-use std::test::Fail;
 use std::thread::{self, Threads, join};
-use tb_published::{Held, Naming, Opening, Publisher, Seat};
-use tb_records::{Body, Items, Request, Status};
-use tb_service::{Closed, Finished, Gate, Port, PortCount, service as serve};
+use tb_published::{Naming, Opening, Publisher, Seat, SeatFault};
+use tb_records::{Body, Items, Reply, Request, Status};
+use tb_service::{Closed, Finished, Gate, Port, service as serve};
 
 /// The client's nth transfer, of the amount n, is its request n + 1.
 fn nth_transfer(alloc: Global, n: u32) -> Option<Request>
@@ -27,7 +26,19 @@ fn nth_transfer(alloc: Global, n: u32) -> Option<Request>
     Request::new(7, 1, n + 1, body).ok()
 }
 
-/// Calls until the answer is a reply, or that the request is older than the last one.
+/// The answer is a reply, or that the request is older than the last one.
+fn is_settled(answer: Result<Reply, SeatFault>) -> bool {
+    match answer {
+        Ok(reply) => {
+            let settled = matches!(reply.status(), Status::Reply | Status::Older);
+            drop(reply);
+            settled
+        }
+        Err(_) => false,
+    }
+}
+
+/// Calls until the answer settles it.
 fn settle<J: Naming, R: Wait>(
     rt: &R,
     port: &mut Port,
@@ -37,9 +48,7 @@ fn settle<J: Naming, R: Wait>(
     ensures { service port.new ≡ service port.old }
 {
     for _ in 0..100 {
-        if let Ok(reply) = port.call(rt, seat, request, 1_000_000)
-            && matches!(reply.status(), Status::Reply | Status::Older)
-        {
+        if is_settled(port.call(rt, seat, request, 1_000_000)) {
             return true;
         }
     }
@@ -47,7 +56,7 @@ fn settle<J: Naming, R: Wait>(
 }
 
 /// Calls the transfers 1 to 50 in their order.
-fn call_in_order<J: Naming, R: Wait>(
+fn call_in_order<J: Naming, R: Wait + Abort>(
     rt: &R,
     alloc: Global,
     mut port: Port,
@@ -57,28 +66,26 @@ fn call_in_order<J: Naming, R: Wait>(
 {
     let mut settled = true;
     for n in 1..=50 {
-        settled = match nth_transfer(alloc, n) {
-            Some(request) => settle(rt, &mut port, seat, &request) && settled,
-            None => false,
-        };
+        let request = nth_transfer(alloc, n).expect(rt, "a request");
+        settled = settle(rt, &mut port, seat, &request) && settled;
+        drop(request);
     }
     (port.close(rt), settled)
 }
 
 /// Offers the transfers 50 to 1, ten times over.
-fn offer_in_reverse<R: Wait>(rt: &R, alloc: Global, mut port: Port) -> Closed
+fn offer_in_reverse<R: Wait + Abort>(rt: &R, alloc: Global, mut port: Port) -> Closed
     ensures { service_by result ≡ service port }
 {
     for round in 0..500 {
-        if let Some(request) = nth_transfer(alloc, 50 - round % 50) {
-            let _ = port.offer(rt, request);
-        }
+        let request = nth_transfer(alloc, 50 - round % 50).expect(rt, "a request");
+        drop(port.offer(rt, request));
     }
     port.close(rt)
 }
 
 /// Both at once.
-fn offer_both<J: Naming + Send + Sync, R: Threads + Wait + Sync>(
+fn offer_both<J: Naming + Send + Sync, R: Threads + Wait + Abort + Sync>(
     rt: &R,
     alloc: Global,
     first: Port,
@@ -107,7 +114,7 @@ fn nth_of_two(alloc: Global, number: u32) -> Option<Request> {
 }
 
 /// Client 7 registers and creates accounts 1 and 2; then both ports offer at once.
-fn offer_all<J: Naming + Send + Sync, R: Threads + Wait + Sync>(
+fn offer_all<J: Naming + Send + Sync, R: Threads + Wait + Abort + Sync>(
     rt: &R,
     alloc: Global,
     mut first: Port,
@@ -117,9 +124,9 @@ fn offer_all<J: Naming + Send + Sync, R: Threads + Wait + Sync>(
     ensures { (service_by result.0.0 ≡ service first) × (service_by result.1 ≡ service second) }
 {
     for number in 0..2 {
-        if let Some(request) = nth_of_two(alloc, number) {
-            settle(rt, &mut first, seat, &request);
-        }
+        let request = nth_of_two(alloc, number).expect(rt, "a request");
+        settle(rt, &mut first, seat, &request);
+        drop(request);
     }
     offer_both(rt, alloc, first, second, seat)
 }
@@ -148,21 +155,20 @@ fn are_numbered<J: Naming>(publisher: &Publisher<J>) -> bool {
 }
 
 /// A seat that has learnt all finds 52 entries, and what account 2 was credited with.
-fn finds_all<J: Naming>(publisher: &Publisher<J>, seat: &mut Seat<J>) -> bool {
-    seat.learn(&publisher.tell());
-    match seat.lookup_accounts(&[2]) {
-        Ok((commit, accounts)) => commit == 52
-            && accounts.first().map_or(0, |account| account.credits_posted) == 1275,
-        Err(_) => false,
-    }
+fn expect_all<J: Naming>(rt: &impl Abort, publisher: &Publisher<J>, seat: &mut Seat<J>) {
+    let told = publisher.tell();
+    seat.learn(&told);
+    drop(told);
+    let (commit, accounts) = seat.lookup_accounts(&[2]).expect(rt, "accounts");
+    let account = accounts.first().expect(rt, "account 2");
+    holds(rt, commit == 52, "entries");
+    holds(rt, account.credits_posted == 1275, "what was credited");
+    drop(accounts);
 }
 
-/// The history has each of the 52 requests once, and both seats find what it makes.
-fn is_right<J: Naming>(publisher: &Publisher<J>, one: &mut Seat<J>, two: &mut Seat<J>) -> bool {
-    publisher.history().len() == 52
-        && are_numbered(publisher)
-        && finds_all(publisher, one)
-        && finds_all(publisher, two)
+/// The history has each of the 52 requests once.
+fn is_right<J: Naming>(publisher: &Publisher<J>) -> bool {
+    publisher.history().len() == 52 && are_numbered(publisher)
 }
 
 /// What two ports offer at once is entered once, in the order of its numbers; no offer is given up.
@@ -170,11 +176,10 @@ fn run_both<J: Naming + Send + Sync, R: Threads + Wait + Abort + Sync>(
     rt: &R,
     alloc: Global,
     publisher: Publisher<J>,
-    count: PortCount,
     one: &mut Seat<J>,
     two: &mut Seat<J>,
-) -> Result<(), Fail> {
-    let (server, first, second) = two_ports(rt, alloc, publisher, count, rising())?;
+) {
+    let (server, first, second) = two_ports(rt, alloc, publisher, rising());
     let seat = &mut *one;
     let (mut finished, ((first, settled), second)) = join(
         rt,
@@ -185,63 +190,52 @@ fn run_both<J: Naming + Send + Sync, R: Threads + Wait + Abort + Sync>(
             ensures { (service_by result.0.0 ≡ service first) × (service_by result.1 ≡ service second) }
         { offer_all(rt, alloc, first, second, seat) },
     );
-    let offered = second.offered();
-    let whole = is_whole(&mut finished, first) && is_whole(&mut finished, second);
-    let right = is_right(&finished.publisher, one, two);
+    holds(rt, settled, "all calls were settled");
+    holds(rt, second.offered() == 500, "offers");
+    holds(rt, is_whole(&mut finished, first), "places of the first");
+    holds(rt, is_whole(&mut finished, second), "places of the second");
+    holds(rt, is_right(&finished.publisher), "the history");
+    expect_all(rt, &finished.publisher, one);
+    expect_all(rt, &finished.publisher, two);
     drop(finished.close(rt));
-    assert!(rt; settled && whole && right && offered == 500);
-    Ok(())
 }
 
 fn repeat_in_reverse<J: Naming + Send + Sync, R: Threads + Wait + Abort + Sync>(
     rt: &R,
     alloc: Global,
     opening: Opening,
-) -> Result<(), Fail>
+)
     requires { opening ≡ J.opening }
 {
-    let count = ports(2)?;
-    let (publisher, mut seats) = opened::<J, R>(rt, alloc, opening)?;
-    let held = Held::new(publisher, rt);
+    let (publisher, mut seats) = opened::<J, R>(rt, alloc, opening);
     let mut both = seats.iter_mut();
-    let outcome = match (both.next(), both.next()) {
-        (Some(one), Some(two)) => run_both(rt, alloc, held.into_publisher(), count, one, two),
-        _ => {
-            drop(held);
-            Err(Fail::from("two seats"))
-        }
-    };
+    let one = both.next().expect(rt, "a seat");
+    let two = both.next().expect(rt, "another seat");
+    run_both(rt, alloc, publisher, one, two);
     drop(seats);
-    outcome
 }
 
 #[test]
-fn reordered_repeats(rt: HostRuntime) -> Result<(), Fail> {
-    repeat_in_reverse::<Brand, _>(&rt, rt.alloc(), opening()?)
+fn reordered_repeats(rt: HostRuntime) {
+    repeat_in_reverse::<Brand, _>(&rt, rt.alloc(), opening(&rt));
 }
 
 /// Ten seat calls are waited for, and whoever waits looks so often at the most.
 const LOOKS: u32 = 100_000_000;
 
-/// A gate that says that a request stands before it, and lets it pass once ten seat calls were made.
+/// Whether a request stands before a gate, and how many seat calls were made.
 #[derive(Drop)]
 struct Watch {
-    stands: Arc<AtomicU64, Global>,
-    calls: Arc<AtomicU64, Global>,
+    stands: AtomicU64,
+    calls: AtomicU64,
 }
 
 impl Watch {
-    fn new(alloc: Global) -> Result<Watch, Fail> {
-        let stands = Arc::new(alloc, AtomicU64::new(0))?;
-        let calls = Arc::new(alloc, AtomicU64::new(0))?;
-        Ok(Watch { stands, calls })
-    }
-
-    /// The same gate.
-    fn again(&self) -> Result<Watch, Fail> {
-        let stands = Arc::try_clone(&self.stands)?;
-        let calls = Arc::try_clone(&self.calls)?;
-        Ok(Watch { stands, calls })
+    fn new() -> Watch {
+        Watch {
+            stands: AtomicU64::new(0),
+            calls: AtomicU64::new(0),
+        }
     }
 }
 
@@ -256,13 +250,17 @@ fn reaches(number: &AtomicU64, least: u64) -> bool {
     false
 }
 
-impl Gate for Watch {
+/// A gate that says that a request stands before it, and lets it pass once ten seat calls were made.
+#[derive(Drop)]
+struct Waiting<'a>(&'a Watch);
+
+impl Gate for Waiting<'_> {
     ghost passes = { λ before place after. Unit {0} };
 
     fn pass(&mut self, place: u64) {
-        self.stands.store(place, Ordering::SeqCst);
-        if !reaches(&self.calls, 10) {
-            self.stands.store(0, Ordering::SeqCst);
+        self.0.stands.store(place, Ordering::SeqCst);
+        if !reaches(&self.0.calls, 10) {
+            self.0.stands.store(0, Ordering::SeqCst);
         }
     }
 }
@@ -273,7 +271,11 @@ fn sees_nothing<J: Naming>(seat: &mut Seat<J>, request: &Request, turn: u32) -> 
         return matches!(seat.status(request), Ok(Status::NotYet));
     }
     match seat.lookup_accounts(&[1]) {
-        Ok((commit, accounts)) => commit == 0 && accounts.is_empty(),
+        Ok((commit, accounts)) => {
+            let nothing = commit == 0 && accounts.is_empty();
+            drop(accounts);
+            nothing
+        }
         Err(_) => false,
     }
 }
@@ -296,64 +298,52 @@ fn call_ten<J: Naming>(
 }
 
 /// The same of the first two seats.
-fn call_both<J: Naming>(seats: &mut Vec<Seat<J>>, watch: &Watch) -> bool {
-    let Some(request) = register(7) else {
-        return false;
-    };
+fn call_both<J: Naming, R: Abort>(rt: &R, seats: &mut Vec<Seat<J>>, watch: &Watch) -> bool {
+    let request = register(7).expect(rt, "a request");
     let mut both = seats.iter_mut();
-    match (both.next(), both.next()) {
-        (Some(one), Some(two)) => call_ten(one, two, &request, watch),
-        _ => false,
-    }
+    let one = both.next().expect(rt, "a seat");
+    let two = both.next().expect(rt, "another seat");
+    let unseen = call_ten(one, two, &request, watch);
+    drop(request);
+    unseen
 }
 
 /// The last port that is left offers a register, and is closed.
 fn offer_and_close<R: Wait + Abort>(rt: &R, ports: &mut Vec<Port>) {
-    let port = ports.pop();
-    assert!(rt; port.is_some());
-    if let Some(mut port) = port {
-        offer(rt, &mut port, register(7));
-        drop(port.close(rt));
-    }
+    let mut port = ports.pop().expect(rt, "a port");
+    offer(rt, &mut port, register(7));
+    drop(port.close(rt));
 }
 
 /// A request stands before a gate while seats are asked.
-fn run_watched<J: Naming + Send + Sync, R: Threads + Wait + Abort + Sync>(
-    rt: &R,
-    alloc: Global,
-    publisher: Publisher<J>,
-    count: PortCount,
-    gate: Watch,
-    seats: &mut Vec<Seat<J>>,
-    watch: &Watch,
-) -> Result<(), Fail> {
-    let (server, mut ports) = serve(alloc, publisher, rt, count, rising(), gate)?;
-    offer_and_close(rt, &mut ports);
-    drop(ports);
-    let (finished, unseen) = join(rt, move || server.run(rt), || call_both(seats, watch));
-    let entries = finished.publisher.history().len();
-    drop(finished.close(rt));
-    assert!(rt; unseen && entries == 1 && watch.stands.load(Ordering::SeqCst) == 1);
-    Ok(())
-}
-
 fn call_while_held<J: Naming + Send + Sync, R: Threads + Wait + Abort + Sync>(
     rt: &R,
     alloc: Global,
     opening: Opening,
-) -> Result<(), Fail>
+)
     requires { opening ≡ J.opening }
 {
-    let count = ports(1)?;
-    let watch = Watch::new(alloc)?;
-    let gate = watch.again()?;
-    let (publisher, mut seats) = opened::<J, R>(rt, alloc, opening)?;
-    let outcome = run_watched(rt, alloc, publisher, count, gate, &mut seats, &watch);
+    let (publisher, mut seats) = opened::<J, R>(rt, alloc, opening);
+    let watch = Watch::new();
+    let gate = Waiting(&watch);
+    let made = serve(alloc, publisher, rt, ports(rt, 1), rising(), gate);
+    let (server, mut ports) = made.expect(rt, "a server");
+    offer_and_close(rt, &mut ports);
+    drop(ports);
+    let (finished, unseen) = join(
+        rt,
+        move || server.run(rt),
+        || call_both(rt, &mut seats, &watch),
+    );
+    holds(rt, unseen, "the seats see nothing");
+    holds(rt, watch.stands.load(Ordering::SeqCst) == 1, "the place");
+    let entries = finished.close(rt);
+    holds(rt, entries.len() == 1, "entries");
+    drop(entries);
     drop(seats);
-    outcome
 }
 
 #[test]
-fn seats_answer_while_held(rt: HostRuntime) -> Result<(), Fail> {
-    call_while_held::<Brand, _>(&rt, rt.alloc(), opening()?)
+fn seats_answer_while_held(rt: HostRuntime) {
+    call_while_held::<Brand, _>(&rt, rt.alloc(), opening(&rt));
 }

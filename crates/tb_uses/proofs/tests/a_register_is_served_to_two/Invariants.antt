@@ -1,5 +1,5 @@
 use Rattle.tb_uses.proofs.tests.a_register_is_served_to_two.Given as goal
 
 -- the opening that was just made
-abbrev pub ghosts-open_and_serve : goal.ghosts-open_and_serve
-ghosts-open_and_serve g a = record { opening = a.opening }
+abbrev pub ghosts-serve_register : goal.ghosts-serve_register
+ghosts-serve_register g a = record { opening = a.opening }
