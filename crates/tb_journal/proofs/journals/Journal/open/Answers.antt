@@ -10,4 +10,4 @@ returns-then-end-ge-FILE_BYTES_MAX-clause-cause g c t =
 pub invariant_of-result : goal.invariant_of-result
 invariant_of-result g c =
     let none = ap (λ batch. length (at_rest batch)) c.in-Ok.ensures in
-    (omega (arith, c.if-end-ge-FILE_BYTES_MAX.false, none), c.requires.few)
+    (omega (arith, c.if-end-ge-FILE_BYTES_MAX.false, none), omega (arith, c.requires.few))
