@@ -1,5 +1,5 @@
 -- Entries that lead from one state to another: none, and one more.
-use Rattle.std.proofs.Common.{ℕ, ◌≡◌, ◌⊎◌, ◌<◌, suc, List, [], ◌∷◌, ◌++◌, length, map, fold, Err, refl, sym, ap, ◌∙◌, subst, IsTrue, arith}
+use Rattle.std.proofs.Common.{ℕ, ◌≡◌, ◌⊎◌, List, [], ◌∷◌, ◌++◌, map, fold, Err, refl, sym, ap, ◌∙◌, subst, IsTrue}
 use Rattle.tb_records.specs.declared.limits.Profile.{Profile}
 use Rattle.tb_machine.specs.declared.entries.Entry.{Entry}
 use Rattle.tb_machine.specs.Histories.{State, start as start_state, step, fits, LegalFrom}
@@ -8,7 +8,7 @@ use Rattle.tb_machine.specs.Recording.{IsRecord}
 use Rattle.tb_keep.specs.Keeping.{AreRecorded}
 use Rattle.tb_keep.specs.declared.faults.StartFault.{StartFault}
 use Rattle.tb_keep.specs.declared.faults.StartFault.TheVariants as start
-use Rattle.tb_keep.specs.Restoration.{Leads, StopsAt, RestoresAll, HeadAnswers, StopsFile}
+use Rattle.tb_keep.specs.Restoration.{Leads, RestoresAll, HeadAnswers, StopsFile}
 
 pub leads_none : (S : State) → Leads S [] S
 leads_none S = record { entries = []; legal = tt; state = refl; recorded_are = tt; spelled = refl }
@@ -38,39 +38,6 @@ leads_more S T U front bytes e leads is next to = record {
   recorded_are = recorded_snoc leads.entries e leads.recorded_are (subst (λ (b : List ℕ). IsRecord b e) is.bytes_are is);
   spelled = ap (λ (f : List (List ℕ)). f ++ bytes ∷ []) leads.spelled ∙ ap (λ (b : List ℕ). map dumped leads.entries ++ b ∷ []) is.bytes_are ∙ dumped_snoc leads.entries e;
 }
-
--- records that are left
-
-pub fewer : (left : List (List ℕ)) (bytes : List ℕ) (rest : List (List ℕ)) → left ≡ bytes ∷ rest → length rest < length left
-fewer left bytes rest is = let more : length left ≡ suc (length rest) = ap (λ (r : List (List ℕ)). length r) is in omega (arith, more)
-
-pub leads_on : (S T U : State) (records front left rest : List (List ℕ)) (bytes : List ℕ)
-    → records ≡ front ++ left → Leads S front T → left ≡ bytes ∷ rest
-    → ((e : Entry) × IsRecord bytes e × IsTrue (fits T e) × (U ≡ step T e))
-    → (more : List (List ℕ)) × (records ≡ more ++ rest) × Leads S more U
-leads_on S T U records front left rest bytes all leads is (e, is_record, next, to) = (
-  front ++ bytes ∷ [],
-  all ∙ ap (λ (r : List (List ℕ)). front ++ r) is ∙ shifted front,
-  leads_more S T U front bytes e leads is_record next to,
-)
-  where
-    shifted : (xs : List (List ℕ)) → xs ++ bytes ∷ rest ≡ (xs ++ bytes ∷ []) ++ rest
-    shifted [] = refl
-    shifted (x ∷ xs) = ap (λ (r : List (List ℕ)). x ∷ r) (shifted xs)
-
-pub leads_all : (S T : State) (records front left : List (List ℕ)) → records ≡ front ++ left → Leads S front T → left ≡ [] → Leads S records T
-leads_all S T records front left all leads none = subst (λ (r : List (List ℕ)). Leads S r T) (sym (all ∙ ap (λ (r : List (List ℕ)). front ++ r) none ∙ whole front)) leads
-  where
-    whole : (xs : List (List ℕ)) → xs ++ [] ≡ xs
-    whole [] = refl
-    whole (x ∷ xs) = ap (λ (r : List (List ℕ)). x ∷ r) (whole xs)
-
-pub leads_to_fault : (fault : StartFault) (S T U : State) (records front left rest : List (List ℕ)) (bytes : List ℕ)
-    → records ≡ front ++ left → Leads S front T → left ≡ bytes ∷ rest
-    → ((U ≡ T) × StopsAt fault T bytes)
-    → RestoresAll (Err fault) S records U
-leads_to_fault fault S T U records front left rest bytes all leads is (same, stops) =
-    subst (λ (V : State). RestoresAll (Err fault) S records V) (sym same) (front, bytes, rest, all ∙ ap (λ (r : List (List ℕ)). front ++ r) is, leads, stops)
 
 -- a file of which a record is refused
 pub stops_file : (fault : StartFault) (profile : Profile) (clients_max : ℕ) (records : List (List ℕ)) (head : List ℕ) (rest : List (List ℕ))

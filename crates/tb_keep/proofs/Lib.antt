@@ -3,7 +3,9 @@ pub mod Going
 pub mod Moments
 pub mod Lasting
 pub mod Leading
+pub mod Beginnings
 pub mod Opened
+pub mod Entered
 pub mod Dumping
 pub mod Crashes
 pub mod Again

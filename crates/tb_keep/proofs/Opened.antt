@@ -5,7 +5,7 @@ use Rattle.tb_journal.specs.declared.faults.Fault.TheVariants as faults
 use Rattle.tb_journal.specs.declared.reading.Refusal.TheVariants as refusals
 use Rattle.tb_journal.specs.declared.opening.OpenFault.{OpenFault}
 use Rattle.tb_journal.specs.declared.opening.OpenFault.TheVariants as open_faults
-use Rattle.tb_journal.specs.Device.{Disk}
+use Rattle.tb_journal.specs.Device.{Disk, LeavesOnly}
 use Rattle.tb_journal.specs.Contents.{Records, contents, recorded}
 use Rattle.tb_journal.specs.Opening.{IsAsBefore, IsOpenCause}
 use Rattle.tb_journal.proofs.Moments.{then, weaker}
@@ -13,9 +13,9 @@ use Rattle.tb_keep.specs.declared.faults.StartFault.{StartFault}
 use Rattle.tb_keep.specs.declared.faults.StartFault.TheVariants as start
 use Rattle.tb_keep.specs.declared.opening.NotKept.{NotKept}
 use Rattle.tb_keep.specs.Keeping.{Keeping}
-use Rattle.tb_keep.specs.Restoration.{StopsFile}
-use Rattle.tb_keep.specs.Opening.{IsUntouched, IsRefused, IsStartRefused}
-use Rattle.tb_keep.specs.Headed.{IsOfDevice}
+use Rattle.tb_keep.specs.Restoration.{StopsReading}
+use Rattle.tb_keep.specs.Opening.{IsUntouched, MayBeOpened, IsRefused, IsStartRefused}
+use Rattle.tb_keep.specs.Headed.{IsOfDevice, OpensOnly}
 
 -- a file that was read is not refused as one that is no journal
 pub of_device : (before after : Disk) (fault : OpenFault) → contents before.seen ≡ Records (recorded before.seen)
@@ -34,7 +34,7 @@ of_device before after (open_faults.Device faults.NotEmpty) reads (inr (is, long
 abbrev pub Counts : Disk → Type 0
 Counts disk = (t : ℕ) (c : List ℕ) → t ≤ disk.moment → disk.may_leave c → disk.left_since t c
 
-untouched_then : (before mid after : Disk) → Counts mid → IsUntouched before mid → IsUntouched mid after → IsUntouched before after
+pub untouched_then : (before mid after : Disk) → Counts mid → IsUntouched before mid → IsUntouched mid after → IsUntouched before after
 untouched_then before mid after counts first second = record {
   seen = second.seen ∙ first.seen;
   any_moment = then before mid after (IsAsBefore before) first.any_moment (weaker mid after (IsAsBefore mid) (IsAsBefore before) back second.any_moment);
@@ -51,13 +51,13 @@ refused_then profile clients_max before mid after (start.Journal (open_faults.Re
 refused_then profile clients_max before mid after (start.Journal (open_faults.Device fault)) counts first is = tt
 refused_then profile clients_max before mid after start.NoMemory counts first is = untouched_then before mid after counts first is.1
 refused_then profile clients_max before mid after start.Head counts first is =
-    (subst (λ file. StopsFile start.Head profile clients_max (recorded file)) first.seen is.0, untouched_then before mid after counts first is.1)
+    (subst (λ (file : List ℕ). StopsReading start.Head profile clients_max file) first.seen is.0, untouched_then before mid after counts first is.1)
 refused_then profile clients_max before mid after start.OtherRules counts first is =
-    (subst (λ file. StopsFile start.OtherRules profile clients_max (recorded file)) first.seen is.0, untouched_then before mid after counts first is.1)
+    (subst (λ (file : List ℕ). StopsReading start.OtherRules profile clients_max file) first.seen is.0, untouched_then before mid after counts first is.1)
 refused_then profile clients_max before mid after (start.Record place fault) counts first is =
-    (subst (λ file. StopsFile (start.Record place fault) profile clients_max (recorded file)) first.seen is.0, untouched_then before mid after counts first is.1)
+    (subst (λ (file : List ℕ). StopsReading (start.Record place fault) profile clients_max file) first.seen is.0, untouched_then before mid after counts first is.1)
 refused_then profile clients_max before mid after (start.Entry fault) counts first is =
-    (subst (λ file. StopsFile (start.Entry fault) profile clients_max (recorded file)) first.seen is.0, untouched_then before mid after counts first is.1)
+    (subst (λ (file : List ℕ). StopsReading (start.Entry fault) profile clients_max file) first.seen is.0, untouched_then before mid after counts first is.1)
 
 pub refused_at_last : {D : Type 0} (disk : D → Disk) (profile : Profile) (clients_max : ℕ) (before mid : Disk) (result : Result (Keeping D) (NotKept D)) → Counts mid
     → IsUntouched before mid
@@ -66,3 +66,37 @@ pub refused_at_last : {D : Type 0} (disk : D → Disk) (profile : Profile) (clie
 refused_at_last disk profile clients_max before mid (Ok keeper) counts first is = tt
 refused_at_last disk profile clients_max before mid (Err failed) counts first is =
     refused_then profile clients_max before mid (disk failed.device) failed.fault counts first is
+
+-- a file that was read and then opened
+
+module _ (profile : Profile) (clients_max : ℕ) (before mid after : Disk) (untouched : IsUntouched before mid) where
+  opens_only : (c : List ℕ) → OpensOnly profile clients_max (recorded mid.seen) c → MayBeOpened profile clients_max before c
+  opens_only c (inl reads) = inr (inl (reads ∙ ap (λ (file : List ℕ). Records (recorded file)) untouched.seen))
+  opens_only c (inr (none, found)) = inr (inr (ap recorded (sym untouched.seen) ∙ none, found))
+
+  pub opens_then : LeavesOnly mid after (OpensOnly profile clients_max (recorded mid.seen)) → LeavesOnly before after (MayBeOpened profile clients_max before)
+  opens_then opens =
+      then before mid after (MayBeOpened profile clients_max before)
+      (weaker before mid (IsAsBefore before) (MayBeOpened profile clients_max before) (λ c was. inl was) untouched.any_moment)
+      (weaker mid after (OpensOnly profile clients_max (recorded mid.seen)) (MayBeOpened profile clients_max before) opens_only opens)
+
+-- why it is not opened
+
+pub refused_at_reading : (profile : Profile) (clients_max : ℕ) (fault : StartFault) (before after : Disk) → StopsReading fault profile clients_max before.seen → IsUntouched before after
+    → IsRefused profile clients_max fault before after
+refused_at_reading profile clients_max (start.Journal (open_faults.Refused why)) before after stops untouched = (stops, untouched)
+refused_at_reading profile clients_max (start.Journal (open_faults.Device fault)) before after stops untouched = tt
+refused_at_reading profile clients_max start.Head before after stops untouched = (stops, untouched)
+refused_at_reading profile clients_max start.OtherRules before after stops untouched = (stops, untouched)
+refused_at_reading profile clients_max (start.Record place fault) before after stops untouched = (stops, untouched)
+refused_at_reading profile clients_max (start.Entry fault) before after stops untouched = (stops, untouched)
+refused_at_reading profile clients_max start.NoMemory before after stops untouched = (stops, untouched)
+
+pub refused_of_device : (profile : Profile) (clients_max : ℕ) (fault : StartFault) (before after : Disk) → IsOfDevice fault → IsRefused profile clients_max fault before after
+refused_of_device profile clients_max (start.Journal (open_faults.Refused why)) before after is = absurd is
+refused_of_device profile clients_max (start.Journal (open_faults.Device fault)) before after is = tt
+refused_of_device profile clients_max start.Head before after is = absurd is
+refused_of_device profile clients_max start.OtherRules before after is = absurd is
+refused_of_device profile clients_max (start.Record place fault) before after is = absurd is
+refused_of_device profile clients_max (start.Entry fault) before after is = absurd is
+refused_of_device profile clients_max start.NoMemory before after is = absurd is

@@ -3,6 +3,11 @@ use Rattle.std.proofs.Common.{ℕ, ◌≡◌, ◌⊎◌, ◌+◌, inl, inr, Bool
 use Rattle.std.specs.Prelude.{nat_le}
 use Rattle.tb_records.specs.declared.faults.FrameFault.{FrameFault}
 use Rattle.tb_records.specs.declared.faults.FrameFault.TheVariants as frame
+use Rattle.tb_journal.specs.declared.opening.OpenFault.TheVariants as open_faults
+use Rattle.tb_journal.specs.declared.reading.Refusal.{Refusal}
+use Rattle.tb_journal.specs.declared.reading.Refusal.TheVariants as refusals
+use Rattle.tb_journal.specs.Contents.{Records}
+use Rattle.tb_journal.specs.Opening.{refused_as}
 use Rattle.tb_ledger.specs.Verdicts.{max_time}
 use Rattle.tb_sessions.specs.Judged.{class_of}
 use Rattle.tb_machine.specs.declared.entries.Entry.{Entry}
@@ -15,9 +20,10 @@ use Rattle.tb_machine.specs.Restoring.{cause_of}
 use Rattle.tb_machine.proofs.JournalRecords.{one_record}
 use Rattle.tb_keep.specs.declared.faults.StartFault.{StartFault}
 use Rattle.tb_keep.specs.declared.faults.StartFault.TheVariants as start
-use Rattle.tb_keep.specs.Keeping.{History, head_record, records_of, IsKeepable, AreRecorded}
-use Rattle.tb_keep.specs.Restoration.{IsNoRecord, Fails, StopsAt, RestoresAll, HeadAnswers, OnlyMemory}
+use Rattle.tb_keep.specs.Keeping.{History, head_record, records_of, IsKeepable, AreRecorded, IsLedger}
+use Rattle.tb_keep.specs.Restoration.{IsNoRecord, Fails, StopsAt, RestoresAll, HeadAnswers, StopsBeginning, IsFromOutside, OnlyMemory, FileOnlyMemory}
 use Rattle.tb_keep.proofs.Again.{one_head}
+use Rattle.tb_keep.proofs.Beginnings.{whole_stops}
 
 -- an entry that may come next fails no test
 no_cause : (a b c d e : Bool) → ((((a && b) && c) && d) && e) ≡ true → cond (not a) (Some unfit.Commit) (cond (not (b && c)) (Some unfit.Time) (cond (not e) (Some unfit.NotNew) None)) ≡ None
@@ -112,3 +118,24 @@ only_memory start.OtherRules h keepable (head, rest, is, why) = stopped_not star
 only_memory (start.Record place f) h keepable (head, rest, is, why) = stopped_not (start.Record place f) h head rest keepable is why
 only_memory (start.Entry f) h keepable (head, rest, is, why) = stopped_not (start.Entry f) h head rest keepable is why
 only_memory start.NoMemory h keepable stops = refl
+
+refused_not : (why : Refusal) (records : List (List ℕ)) → Records records ≡ refused_as why → ⊥
+refused_not refusals.NotAJournal records is = absurd (cc)
+refused_not (refusals.Damaged at) records is = absurd (cc)
+
+from_outside : (fault : StartFault) → fault ≡ start.NoMemory → IsFromOutside fault
+from_outside fault is = subst IsFromOutside (sym is) tt
+
+-- what stops records that a file of such a history begins with stops all of them
+stops_beginning : (fault : StartFault) (h : History) (file : List ℕ) → IsLedger h file → StopsBeginning fault h.profile h.clients_max file → IsFromOutside fault
+stops_beginning fault h file is early =
+    from_outside fault (only_memory fault h is.keepable (whole_stops fault h.profile h.clients_max file early.records (records_of h) is.reads early.begins early.stops))
+
+pub file_only_memory : FileOnlyMemory
+file_only_memory (start.Journal (open_faults.Refused why)) h file is stops = absurd (refused_not why (records_of h) (sym is.reads ∙ stops))
+file_only_memory (start.Journal (open_faults.Device f)) h file is stops = tt
+file_only_memory start.Head h file is stops = stops_beginning start.Head h file is stops
+file_only_memory start.OtherRules h file is stops = stops_beginning start.OtherRules h file is stops
+file_only_memory (start.Record place f) h file is stops = stops_beginning (start.Record place f) h file is stops
+file_only_memory (start.Entry f) h file is stops = stops_beginning (start.Entry f) h file is stops
+file_only_memory start.NoMemory h file is stops = tt

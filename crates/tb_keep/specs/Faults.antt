@@ -1,7 +1,10 @@
 -- The numbers and the names of faults.
 use Rattle.std.specs.Prelude.{ℕ, ◌+◌, List, codes}
+use Rattle.tb_records.specs.Faults as frame_faults
 use Rattle.tb_journal.specs.Faults.{fault_number, fault_name}
 use Rattle.tb_machine.specs.RunFaults.{run_fault_number, run_fault_name}
+use Rattle.tb_keep.specs.declared.faults.DumpFault.{DumpFault}
+use Rattle.tb_keep.specs.declared.faults.DumpFault.TheVariants as dump
 use Rattle.tb_keep.specs.declared.faults.KeepFault.{KeepFault}
 use Rattle.tb_keep.specs.declared.faults.KeepFault.TheVariants as keep
 use Rattle.tb_keep.specs.declared.faults.StartFault.{StartFault}
@@ -32,3 +35,7 @@ start_fault_name start.OtherRules = codes "OtherRules"
 start_fault_name (start.Record place fault) = codes "Record"
 start_fault_name (start.Entry fault) = codes "Entry"
 start_fault_name start.NoMemory = codes "NoMemory"
+
+abbrev pub dump_fault_name : DumpFault → List ℕ
+dump_fault_name (dump.Journal fault) = codes "Journal"
+dump_fault_name (dump.Writer fault) = frame_faults.fault_name fault

@@ -5,14 +5,14 @@ use Rattle.tb_journal.specs.declared.faults.Fault.TheVariants.{NotEmpty}
 use Rattle.tb_journal.specs.declared.opening.OpenFault.TheVariants as open_faults
 use Rattle.tb_journal.specs.Device.{Disk, LeavesOnly}
 use Rattle.tb_journal.specs.Contents.{Records, contents, recorded}
-use Rattle.tb_journal.specs.Opening.{IsAsBefore, refused_as}
+use Rattle.tb_journal.specs.Opening.{IsAsBefore}
 use Rattle.tb_journal.specs.Creating.{is_blank, IsUnborn}
 use Rattle.tb_machine.specs.declared.entries.Entry.{Entry}
 use Rattle.tb_keep.specs.declared.faults.StartFault.{StartFault}
 use Rattle.tb_keep.specs.declared.faults.StartFault.TheVariants as start
 use Rattle.tb_keep.specs.declared.opening.NotKept.{NotKept}
 use Rattle.tb_keep.specs.Keeping.{History, records_of, head_record, Keeping, Keeps}
-use Rattle.tb_keep.specs.Restoration.{StopsFile}
+use Rattle.tb_keep.specs.Restoration.{StopsReading}
 
 -- a history of these rules
 abbrev pub history_of : Profile → ℕ → List Entry → History
@@ -68,12 +68,12 @@ module _ (profile : Profile) (clients_max : ℕ) where
   abbrev pub MayBeStarted : Disk → List ℕ → Type 0
   MayBeStarted before file = MayBeOpened before file ⊎ MayBeCreated before file
 
-  -- why a file is not opened: it is no journal or is damaged, or its records are those of no history of these rules. Then, and where
-  -- there is no memory to restore it, it is as it was. Behind any other fault the device failed, or was full
+  -- why a file is not opened: it is no journal or is damaged, or it begins with records of which the last is none of the next entry
+  -- by these rules. Then, and where there is no memory to restore it, it is as it was. Behind any other fault the device failed, or
+  -- was full
   abbrev pub IsRefused : StartFault → Disk → Disk → Type 0
-  IsRefused (start.Journal (open_faults.Refused why)) before after = (contents before.seen ≡ refused_as why) × IsUntouched before after
   IsRefused (start.Journal (open_faults.Device fault)) before after = Unit {0}
-  IsRefused fault before after = StopsFile fault profile clients_max (recorded before.seen) × IsUntouched before after
+  IsRefused fault before after = StopsReading fault profile clients_max before.seen × IsUntouched before after
 
   abbrev pub IsStartRefused : StartFault → Disk → Disk → Type 0
   IsStartRefused start.NoMemory before after = IsUntouched before after

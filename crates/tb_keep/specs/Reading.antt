@@ -1,31 +1,51 @@
 -- What is read of a kept file, without a write.
-use Rattle.std.specs.Prelude.{ℕ, ◌≡◌, ◌<◌, ◌≤◌, List, [], ◌∷◌, ◌++◌, Result, Ok, Err, None}
+use Rattle.std.specs.Prelude.{ℕ, ◌≡◌, ◌⊎◌, ◌<◌, ◌≤◌, List, [], ◌∷◌, ◌++◌, Result, Ok, Err, None}
+use Rattle.tb_records.specs.declared.faults.FrameFault.TheVariants.{Device}
 use Rattle.tb_records.specs.declared.limits.Profile.{Profile}
 use Rattle.tb_records.specs.DumpBytes.{head_bytes}
-use Rattle.tb_journal.specs.Contents.{recorded}
+use Rattle.tb_records.specs.Transport.{Output, Sent, CutOff}
+use Rattle.tb_journal.specs.Contents.{Records, contents, recorded}
+use Rattle.tb_journal.specs.Scans.{BeginsWith}
 use Rattle.tb_machine.specs.Histories.{State}
 use Rattle.tb_machine.specs.Dumps.{DumpSpells}
+use Rattle.tb_keep.specs.declared.faults.DumpFault.{DumpFault}
+use Rattle.tb_keep.specs.declared.faults.DumpFault.TheVariants as dump
 use Rattle.tb_keep.specs.declared.faults.StartFault.{StartFault}
 use Rattle.tb_keep.specs.declared.faults.StartFault.TheVariants as start
 use Rattle.tb_keep.specs.declared.heads.Rules.{Rules}
 use Rattle.tb_keep.specs.Keeping.{History, state_of, head_record, IsLedger}
-use Rattle.tb_keep.specs.Restoration.{StopsFile}
+use Rattle.tb_keep.specs.Restoration.{StopsJournal, StopsReading}
 
 abbrev pub rules_of : Profile → ℕ → Rules
 rules_of profile clients_max = record { profile = profile; clients_max = clients_max }
 
+-- a record is no head
+abbrev pub IsNoHead : List ℕ → Type 0
+IsNoHead head =
+    (profile : Profile) (clients_max : ℕ) → 0 < clients_max → clients_max ≤ 64 → head ≡ head_record profile clients_max → ⊥
+
+-- the first record of a file is the head of a ledger of these rules
+abbrev pub HasRules : Rules → List ℕ → Type 0
+HasRules rules file = BeginsWith (head_record rules.profile rules.clients_max ∷ []) file
+
 -- the first record is no head, or there is none
-abbrev pub HasNoHead : List (List ℕ) → Type 0
-HasNoHead records = (profile : Profile) (clients_max : ℕ) (rest : List (List ℕ)) → 0 < clients_max → clients_max ≤ 64 → records ≡ head_record profile clients_max ∷ rest → ⊥
+abbrev pub HasNoHead : List ℕ → Type 0
+HasNoHead file =
+    (contents file ≡ Records []) ⊎ ((head : List ℕ) × (rest : List (List ℕ)) × BeginsWith (head ∷ rest) file × IsNoHead head)
 
--- the first record is the head of a ledger of these rules
-abbrev pub HasRules : Rules → List (List ℕ) → Type 0
-HasRules rules records = (rest : List (List ℕ)) × (records ≡ head_record rules.profile rules.clients_max ∷ rest)
+abbrev pub RulesAnswer : Result Rules StartFault → List ℕ → Type 0
+RulesAnswer (Ok rules) file = HasRules rules file
+RulesAnswer (Err start.Head) file = HasNoHead file
+RulesAnswer (Err (start.Journal fault)) file = StopsJournal fault file
+RulesAnswer (Err fault) file = ⊥
 
-abbrev pub RulesAnswer : Result Rules StartFault → List (List ℕ) → Type 0
-RulesAnswer (Ok rules) records = HasRules rules records
-RulesAnswer (Err start.Head) records = HasNoHead records
-RulesAnswer (Err fault) records = ⊥
+-- the same of all records of a file that is read to its end
+abbrev pub WholeRules : Type 0
+WholeRules = (rules : Rules) (file : List ℕ) (all : List (List ℕ)) → contents file ≡ Records all → HasRules rules file
+    → (rest : List (List ℕ)) × (all ≡ head_record rules.profile rules.clients_max ∷ rest)
+
+abbrev pub WholeNoHead : Type 0
+WholeNoHead = (file head : List ℕ) (rest : List (List ℕ)) → contents file ≡ Records (head ∷ rest) → HasNoHead file → IsNoHead head
 
 -- the file stands for a history of these rules, after which the machine stands
 pub record IsHistory (rules : Rules) (S : State) (file : List ℕ) : Type 0 where
@@ -35,10 +55,11 @@ pub record IsHistory (rules : Rules) (S : State) (file : List ℕ) : Type 0 wher
   pub clients : history.clients_max ≡ rules.clients_max
   pub state : S ≡ state_of history
 
--- the file stands for no history: it has no head, or a record behind it is none of the next entry
-abbrev pub IsNoHistory : StartFault → List (List ℕ) → Type 0
-IsNoHistory start.Head records = HasNoHead records
-IsNoHistory fault records = (rules : Rules) × HasRules rules records × StopsFile fault rules.profile rules.clients_max records
+-- the file stands for no history: it is not read, it has no head, or a record behind it is none of the next entry
+abbrev pub IsNoHistory : StartFault → List ℕ → Type 0
+IsNoHistory (start.Journal fault) file = StopsJournal fault file
+IsNoHistory start.Head file = HasNoHead file
+IsNoHistory fault file = (rules : Rules) × HasRules rules file × StopsReading fault rules.profile rules.clients_max file
 
 -- the records behind the first
 abbrev pub behind_head : List (List ℕ) → List (List ℕ)
@@ -50,18 +71,39 @@ abbrev pub joined : List (List ℕ) → List ℕ
 joined [] = []
 joined (bytes ∷ records) = bytes ++ joined records
 
--- a dump of a file: the head of a dump, and the records behind the file's head
+-- a dump of records: the head of a dump, and the records behind the first
+abbrev pub dump_with : Rules → List (List ℕ) → List ℕ
+dump_with rules records = head_bytes rules.profile rules.clients_max ++ joined (behind_head records)
+
+-- a dump of a file
 abbrev pub dump_of : Rules → List ℕ → List ℕ
-dump_of rules file = head_bytes rules.profile rules.clients_max ++ joined (behind_head (recorded file))
+dump_of rules file = dump_with rules (recorded file)
 
 -- such a dump spells the history that the file stands for
 abbrev pub DumpIsOfHistory : Type 0
 DumpIsOfHistory = (rules : Rules) (h : History) (file : List ℕ) → h.profile ≡ rules.profile → h.clients_max ≡ rules.clients_max → IsLedger h file
     → DumpSpells (dump_of rules file) h.profile h.clients_max h.entries None
 
+-- nothing went out, or a dump of records that the file begins with
+abbrev pub DumpsSome : Rules → List ℕ → Output → Output → Type 0
+DumpsSome rules file before after =
+    (after ≡ before) ⊎ ((records : List (List ℕ)) × BeginsWith records file × Sent (dump_with rules records) before after)
+
+-- the dump of a file went out; or the file is not read to its end; or the writer failed, and a beginning of a dump went out
+abbrev pub Dumps : Result (Unit {0}) DumpFault → Rules → List ℕ → Output → Output → Type 0
+Dumps (Ok done) rules file before after = (contents file ≡ Records (recorded file)) × Sent (dump_of rules file) before after
+Dumps (Err (dump.Journal fault)) rules file before after = StopsJournal fault file × DumpsSome rules file before after
+Dumps (Err (dump.Writer fault)) rules file before after =
+    (fault ≡ Device) × ((records : List (List ℕ)) × BeginsWith records file × CutOff (dump_with rules records) before after)
+
+-- of a file that is read to its end this is a beginning of its dump
+abbrev pub WholeDumps : Type 0
+WholeDumps = (rules : Rules) (file : List ℕ) (records : List (List ℕ)) (before after : Output) → contents file ≡ Records (recorded file)
+    → BeginsWith records file → CutOff (dump_with rules records) before after → CutOff (dump_of rules file) before after
+
 -- what private functions alone cite
 
 abbrev pub RulesIn : Result Rules StartFault → List ℕ → Type 0
 RulesIn (Ok rules) head = head ≡ head_record rules.profile rules.clients_max
-RulesIn (Err start.Head) head = (profile : Profile) (clients_max : ℕ) → 0 < clients_max → clients_max ≤ 64 → head ≡ head_record profile clients_max → ⊥
+RulesIn (Err start.Head) head = IsNoHead head
 RulesIn (Err fault) head = ⊥

@@ -1,6 +1,13 @@
 -- What the restoring of a machine from the records of a file makes.
 use Rattle.std.specs.Prelude.{ℕ, ◌≡◌, ◌⊎◌, ◌+◌, ◌<◌, ◌≤◌, IsTrue, List, [], ◌∷◌, ◌++◌, map, fold, Some, Result, Ok, Err}
 use Rattle.tb_records.specs.declared.limits.Profile.{Profile}
+use Rattle.tb_journal.specs.declared.opening.OpenFault.{OpenFault}
+use Rattle.tb_journal.specs.declared.opening.OpenFault.TheVariants as open_faults
+use Rattle.tb_journal.specs.declared.reading.Extent.{Extent}
+use Rattle.tb_journal.specs.Contents.{Records, contents, recorded}
+use Rattle.tb_journal.specs.Opening.{refused_as}
+use Rattle.tb_journal.specs.Reading.{extent_of}
+use Rattle.tb_journal.specs.Scans.{BeginsWith}
 use Rattle.tb_records.specs.declared.faults.FrameFault.{FrameFault}
 use Rattle.tb_records.specs.declared.faults.FrameFault.TheVariants as frame
 use Rattle.tb_machine.specs.declared.entries.Entry.{Entry}
@@ -12,7 +19,7 @@ use Rattle.tb_machine.specs.Recording.{IsRecord, RecordAnswers}
 use Rattle.tb_machine.specs.Restoring.{cause_of}
 use Rattle.tb_keep.specs.declared.faults.StartFault.{StartFault}
 use Rattle.tb_keep.specs.declared.faults.StartFault.TheVariants as start
-use Rattle.tb_keep.specs.Keeping.{History, head_record, records_of, IsKeepable, AreRecorded}
+use Rattle.tb_keep.specs.Keeping.{History, head_record, records_of, IsKeepable, AreRecorded, IsLedger}
 
 -- the records are those of entries that lead from one state to another
 pub record Leads (S : State) (records : List (List ℕ)) (T : State) : Type 0 where
@@ -78,6 +85,48 @@ StopsFile fault profile clients_max records =
     (head : List ℕ) × (rest : List (List ℕ)) × (records ≡ head ∷ rest)
     × (HeadAnswers (Err fault) head profile clients_max ⊎ ((T : State) × RestoresAll (Err fault) (start_state profile clients_max) rest T))
 
+-- the file was read to its end, and the machine stands after its entries
+pub record IsRestoredFrom (profile : Profile) (clients_max : ℕ) (file : List ℕ) (S : State) (extent : Extent) : Type 0 where
+  pub extent_is : extent_of (contents file) ≡ Ok extent
+  pub restored : IsRestored profile clients_max (recorded file) S
+
+-- the file begins with records that are not restored
+pub record StopsBeginning (fault : StartFault) (profile : Profile) (clients_max : ℕ) (file : List ℕ) : Type 0 where
+  pub records : List (List ℕ)
+  pub begins : BeginsWith records file
+  pub stops : StopsFile fault profile clients_max records
+
+-- why the reading of a file stops: it is no journal or is damaged, or a call on the device failed
+abbrev pub StopsJournal : OpenFault → List ℕ → Type 0
+StopsJournal (open_faults.Refused why) file = contents file ≡ refused_as why
+StopsJournal (open_faults.Device fault) file = Unit {0}
+
+-- why a file is not restored: that, or the head, or a record behind it
+abbrev pub StopsReading : StartFault → Profile → ℕ → List ℕ → Type 0
+StopsReading (start.Journal fault) profile clients_max file = StopsJournal fault file
+StopsReading fault profile clients_max file = StopsBeginning fault profile clients_max file
+
+-- the machine, and where the records end, or why not
+abbrev pub Restores : Result (State × Extent) StartFault → Profile → ℕ → List ℕ → Type 0
+Restores (Ok found) profile clients_max file = IsRestoredFrom profile clients_max file found.0 found.1
+Restores (Err fault) profile clients_max file = StopsReading fault profile clients_max file
+
+-- what stops records that a file begins with stops all of them
+abbrev pub WholeStops : Type 0
+WholeStops = (fault : StartFault) (profile : Profile) (clients_max : ℕ) (file : List ℕ) (records all : List (List ℕ))
+    → contents file ≡ Records all → BeginsWith records file → StopsFile fault profile clients_max records → StopsFile fault profile clients_max all
+
 -- the records of a history that may be kept are refused for want of memory alone
 abbrev pub OnlyMemory : Type 0
 OnlyMemory = (fault : StartFault) (h : History) → IsKeepable h → StopsFile fault h.profile h.clients_max (records_of h) → fault ≡ start.NoMemory
+
+-- a fault that says nothing against the file: there is no memory, or the device failed
+abbrev pub IsFromOutside : StartFault → Type 0
+IsFromOutside start.NoMemory = Unit {0}
+IsFromOutside (start.Journal (open_faults.Device fault)) = Unit {0}
+IsFromOutside fault = ⊥
+
+-- so a file that stands for such a history is not refused for what stands in it
+abbrev pub FileOnlyMemory : Type 0
+FileOnlyMemory = (fault : StartFault) (h : History) (file : List ℕ) → IsLedger h file
+    → StopsReading fault h.profile h.clients_max file → IsFromOutside fault

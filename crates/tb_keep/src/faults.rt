@@ -1,6 +1,6 @@
 //! Why a kept ledger does not go on.
 ghost use Rattle.std.specs.Prelude.{◌≡◌};
-ghost use Rattle.tb_keep.specs.Faults.{keep_fault_number, keep_fault_name, start_fault_number, start_fault_name};
+ghost use Rattle.tb_keep.specs.Faults.{keep_fault_number, keep_fault_name, start_fault_number, start_fault_name, dump_fault_name};
 
 use std::fmt;
 use tb_journal::{Fault, OpenFault};
@@ -123,6 +123,38 @@ impl fmt::Display for StartFault {
     ghost use Rattle.tb_keep.specs.Faults.{start_fault_name};
 
     ghost output = { λ fault. Some (start_fault_name fault) };
+
+    fn fmt<W: fmt::Write>(&self, f: &mut fmt::Formatter<W>) -> fmt::Result {
+        f.write_str(self.name())
+    }
+}
+
+/// Why the dump of a file is not written.
+#[derive(Clone, Copy, Debug, PartialEq, Eq, Error)]
+pub enum DumpFault {
+    /// The file is no journal, or it is damaged, or a call on its device failed.
+    Journal(OpenFault),
+    /// The writer failed, or took nothing.
+    Writer(FrameFault),
+}
+
+impl DumpFault {
+    /// The fault's name, as a message shows it.
+    pub fn name(self) -> &'static str
+        ensures { result.now ≡ dump_fault_name self }
+    {
+        match self {
+            DumpFault::Journal(_) => "Journal",
+            DumpFault::Writer(fault) => fault.name(),
+        }
+    }
+}
+
+impl fmt::Display for DumpFault {
+    ghost use Rattle.std.specs.Prelude.{Some};
+    ghost use Rattle.tb_keep.specs.Faults.{dump_fault_name};
+
+    ghost output = { λ fault. Some (dump_fault_name fault) };
 
     fn fmt<W: fmt::Write>(&self, f: &mut fmt::Formatter<W>) -> fmt::Result {
         f.write_str(self.name())

@@ -3,8 +3,8 @@ ghost use Rattle.std.specs.Prelude.{List};
 ghost use Rattle.tb_machine.specs.Scripts.{Pair};
 ghost use Rattle.tb_records.specs.Transport.{Sent};
 ghost use Rattle.tb_keep.specs.Again.{OneHistory, OneLedger, GoesOnAfter, AnyCrash};
-ghost use Rattle.tb_keep.specs.Reading.{DumpIsOfHistory};
-ghost use Rattle.tb_keep.specs.Restoration.{OnlyMemory};
+ghost use Rattle.tb_keep.specs.Reading.{DumpIsOfHistory, WholeRules, WholeNoHead, WholeDumps};
+ghost use Rattle.tb_keep.specs.Restoration.{OnlyMemory, FileOnlyMemory, WholeStops};
 ghost use Rattle.tb_keep.specs.Moments.{WhileCommitting, WhileTelling, Lasts, RoundsAreServed};
 ghost use Rattle.tb_keep.specs.Rounds.{Standing, Rounds, pairs_of, told_from};
 
@@ -42,7 +42,18 @@ pub fn opened_again()
 /// A file that stands for a history is refused for want of memory alone, where the device does not fail: where a head or a
 /// record is refused, the records are those of no history of these rules.
 pub fn only_memory()
-    ensures { OnlyMemory }
+    ensures records { OnlyMemory }
+    ensures file { FileOnlyMemory }
+{}
+
+/// A start tells what it finds in records that a file begins with, since it reads no further. Where the file is read to its
+/// end the same holds of all its records: what stops the first of them stops all, their head is that of all, and what went
+/// out of their dump is a beginning of that of all.
+pub fn whole_files()
+    ensures stops { WholeStops }
+    ensures rules { WholeRules }
+    ensures no_head { WholeNoHead }
+    ensures dumps { WholeDumps }
 {}
 
 /// What `write_dump` writes of a file spells the history that the file stands for.

@@ -13,9 +13,9 @@ mod serving;
 pub mod worked_rows;
 
 pub use dumps::{read_history, read_rules, write_dump};
-pub use faults::{KeepFault, StartFault};
+pub use faults::{DumpFault, KeepFault, StartFault};
 pub use heads::{Rules, read_head, write_head};
 pub use keepers::Keeper;
 pub use opening::{NotKept, create};
-pub use restoring::{restore_all, restored};
+pub use restoring::restored;
 pub use serving::{HELD_BYTES_MAX, keep};

@@ -1,11 +1,12 @@
 //! A kept file is created, or opened after a crash.
-ghost use Rattle.std.specs.Prelude.{◌≡◌, true, [], IfOk, IfErr};
+ghost use Rattle.std.specs.Prelude.{◌≡◌, ◌≤◌, true, [], Ok, IfOk, IfErr};
 ghost use Rattle.tb_journal.specs.Device.{IsKept, LeavesOnly};
-ghost use Rattle.tb_journal.specs.Contents.{Records, contents, recorded};
+ghost use Rattle.tb_journal.specs.Contents.{contents, recorded};
+ghost use Rattle.tb_journal.specs.Reading.{extent_of};
 ghost use Rattle.tb_journal.specs.Ready.{IsReady};
 ghost use Rattle.tb_journal.specs.Creating.{is_blank};
 ghost use Rattle.tb_keep.specs.Keeping.{Keeps, IsFresh};
-ghost use Rattle.tb_keep.specs.Restoration.{IsRestored};
+ghost use Rattle.tb_keep.specs.Restoration.{IsRestoredFrom};
 ghost use Rattle.tb_keep.specs.Opening.{IsOpened, IsStarted, HasNoEntry, MayBeOpened, MayBeCreated, MayBeStarted, IsRefused, IsCreateRefused, IsStartRefused, history_of, device_left};
 ghost use Rattle.tb_keep.specs.Headed.{HasHead, HasRecords, IsOfDevice, OpensOnly, journal_left};
 
@@ -14,7 +15,7 @@ use crate::heads::{Rules, write_head};
 use crate::keepers::Keeper;
 use crate::restoring::restored;
 use std::alloc::Global;
-use tb_journal::{Device, Fault, Journal, NotOpened, OpenFault, Scanned, read_journal};
+use tb_journal::{Device, Extent, Fault, Journal, NotOpened, OpenFault};
 use tb_machine::Machine;
 
 /// A device whose file was not opened as a kept ledger, and why.
@@ -106,23 +107,24 @@ pub fn create<D: Device>(global: Global, device: D, rules: Rules) -> Result<Keep
     }
 }
 
-/// The journal of a file that was read. One without records gets a head.
+/// The journal of a file that was read to this extent. One without records gets a head.
 fn open_headed<D: Device>(
     global: Global,
     device: D,
     rules: Rules,
-    file: &Scanned,
+    extent: Extent,
 ) -> Result<Journal<D>, NotKept<D>>
+    requires few { extent.count ≤ extent.end }
     requires kept { D.tells → IsKept (D.disk device) }
-    requires read { D.tells → (D.disk device).seen ≡ file.now }
-    requires reads { contents file.now ≡ Records (recorded file.now) }
-    ensures opened { D.tells → IfOk result (HasRecords D.disk rules.profile rules.clients_max (recorded file.now)) }
+    requires read { D.tells → extent_of (contents (D.disk device).seen) ≡ Ok extent }
+    ensures opened { D.tells
+        → IfOk result (HasRecords D.disk rules.profile rules.clients_max (recorded (D.disk device).seen)) }
     ensures any_moment { D.tells
         → LeavesOnly (D.disk device) (D.disk (journal_left result))
-        (OpensOnly rules.profile rules.clients_max (recorded file.now)) }
+        (OpensOnly rules.profile rules.clients_max (recorded (D.disk device).seen)) }
     ensures fault { D.tells → IfErr result (λ failed. IsOfDevice failed.fault) }
 {
-    match Journal::open(global, device, file) {
+    match Journal::open(global, device, extent) {
         Ok(journal) => {
             if journal.count() == 0 {
                 headed(journal, rules)
@@ -134,34 +136,35 @@ fn open_headed<D: Device>(
     }
 }
 
-/// The keeper of a file that was read, from which a machine was restored.
+/// The keeper of a file that was read to this extent, from which a machine was restored.
 fn open_restored<D: Device>(
     global: Global,
     device: D,
     rules: Rules,
-    file: &Scanned,
+    extent: Extent,
     machine: Machine<Global>,
 ) -> Result<Keeper<D>, NotKept<D>>
+    requires few { extent.count ≤ extent.end }
     requires kept { D.tells → IsKept (D.disk device) }
-    requires read { D.tells → (D.disk device).seen ≡ file.now }
-    requires restored { IsRestored rules.profile rules.clients_max (recorded file.now) machine }
-    ensures opened { D.tells → IfOk result (IsOpened D.disk rules.profile rules.clients_max file.now) }
+    requires restored { D.tells
+        → IsRestoredFrom rules.profile rules.clients_max (D.disk device).seen machine extent }
+    ensures opened { D.tells
+        → IfOk result (IsOpened D.disk rules.profile rules.clients_max (D.disk device).seen) }
     ensures fresh { D.tells → IfOk result (IsFresh D.disk) }
     ensures any_moment { D.tells
         → LeavesOnly (D.disk device) (D.disk (device_left result))
-        (OpensOnly rules.profile rules.clients_max (recorded file.now)) }
+        (OpensOnly rules.profile rules.clients_max (recorded (D.disk device).seen)) }
     ensures fault { D.tells → IfErr result (λ failed. IsOfDevice failed.fault) }
 {
-    let _extent = file.extent();
-    match open_headed(global, device, rules, file) {
+    match open_headed(global, device, rules, extent) {
         Ok(journal) => Ok(Keeper::new(global, journal, machine)),
         Err(failed) => Err(failed),
     }
 }
 
 impl<D: Device> Keeper<D> {
-    /// Opens a kept ledger: its machine stands after the entries that the file has. A file without records gets a head. What
-    /// a crash left behind the records is cut off.
+    /// Opens a kept ledger: its machine stands after the entries that the file has. It is read in pieces, and each record is
+    /// entered before the next is read. A file without records gets a head. What a crash left behind the records is cut off.
     pub fn open(global: Global, device: D, rules: Rules) -> Result<Keeper<D>, NotKept<D>>
         ensures opened { D.tells
             → IfOk result (IsOpened D.disk rules.profile rules.clients_max (D.disk device).seen) }
@@ -179,15 +182,9 @@ impl<D: Device> Keeper<D> {
     {
         let mut device = device;
         let same = rules;
-        match read_journal(global, &mut device) {
-            Ok(file) => match restored(global, same, &file) {
-                Ok(machine) => open_restored(global, device, rules, &file, machine),
-                Err(fault) => Err(NotKept { device, fault }),
-            },
-            Err(fault) => Err(NotKept {
-                device,
-                fault: StartFault::Journal(fault),
-            }),
+        match restored(global, same, &mut device) {
+            Ok((machine, extent)) => open_restored(global, device, rules, extent, machine),
+            Err(fault) => Err(NotKept { device, fault }),
         }
     }
 

@@ -1,18 +1,20 @@
 //! Worked rows: what small files stand for, by the definitions. A call does nothing; its promise is the row.
 ghost use Rattle.std.specs.Prelude.{◌≡◌, ◌∷◌, ◌++◌, [], Err, Ok, codes};
-ghost use Rattle.tb_journal.specs.Contents.{Records, contents, journal_of};
+ghost use Rattle.tb_journal.specs.Contents.{block, journal_of, magic};
+ghost use Rattle.tb_journal.specs.declared.opening.OpenFault.TheVariants as open_faults;
+ghost use Rattle.tb_journal.specs.declared.reading.Refusal.TheVariants as refusals;
 ghost use Rattle.tb_keep.specs.declared.faults.StartFault.TheVariants as start;
 ghost use Rattle.tb_keep.specs.Keeping.{head_record};
 ghost use Rattle.tb_keep.specs.Opening.{HasNoEntry, StandFor, history_of};
-ghost use Rattle.tb_keep.specs.Reading.{HasRules, RulesAnswer, dump_of, rules_of};
-ghost use Rattle.tb_keep.specs.Restoration.{IsRestored, StopsAt, StopsFile};
+ghost use Rattle.tb_keep.specs.Reading.{RulesAnswer, dump_of, rules_of};
+ghost use Rattle.tb_keep.specs.Restoration.{IsRestored, StopsAt, StopsFile, StopsReading};
 ghost use Rattle.tb_machine.specs.Histories.{start as start_state};
 ghost use Rattle.tb_records.specs.declared.faults.FrameFault.TheVariants as frame;
 ghost use Rattle.tb_records.specs.declared.limits.Profile.TheVariants.{One, Two};
 
 /// A file of a head alone stands for a ledger of its rules without entries.
 pub fn head_alone()
-    ensures rules { RulesAnswer (Ok (rules_of Two 8)) (head_record Two 8 ∷ []) }
+    ensures rules { RulesAnswer (Ok (rules_of Two 8)) (journal_of (head_record Two 8 ∷ [])) }
     ensures restored { IsRestored Two 8 (head_record Two 8 ∷ []) (start_state Two 8) }
     ensures no_entry { HasNoEntry Two 8 (journal_of (head_record Two 8 ∷ [])) }
 {}
@@ -28,7 +30,7 @@ pub fn dump_of_a_head()
 pub fn no_record()
     ensures stands { StandFor (history_of Two 8 []) [] }
     ensures restored { IsRestored Two 8 [] (start_state Two 8) }
-    ensures rules { RulesAnswer (Err start.Head) [] }
+    ensures rules { RulesAnswer (Err start.Head) (journal_of []) }
     ensures no_entry { HasNoEntry Two 8 (journal_of []) }
 {}
 
@@ -47,4 +49,12 @@ pub fn no_head()
 /// Two bytes behind the head are no record of an entry: the first one is told.
 pub fn short_record()
     ensures { StopsAt (start.Record 1 frame.Short) (start_state Two 8) (1 ∷ 2 ∷ []) }
+{}
+
+/// Of a record that is none of an entry and a block that is cut short, the one is told that stands first.
+pub fn first_in_the_file()
+    ensures record { StopsReading (start.Record 1 frame.Short) Two 8
+        (magic ++ (block (head_record Two 8) ++ (block (1 ∷ 2 ∷ []) ++ 255 ∷ 1 ∷ []))) }
+    ensures block { StopsReading (start.Journal (open_faults.Refused (refusals.Damaged 22))) Two 8
+        (magic ++ (block (head_record Two 8) ++ 255 ∷ 1 ∷ [])) }
 {}

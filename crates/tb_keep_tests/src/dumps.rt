@@ -1,70 +1,101 @@
 //! The history of a kept file, read without a write.
-use crate::scripts::{bytes_of, created_in, file_of, rules, script, serve};
+use crate::scripts::{expect, file_of, kept, rules, script};
 use std::alloc::Global;
 use std::process::Abort;
-use std::test::Fail;
-use tb_journal::Scanned;
-use tb_keep::{StartFault, read_history, read_rules, write_dump};
+use tb_journal::{Fault, Memory, OpenFault};
+use tb_keep::{DumpFault, StartFault, read_history, read_rules, write_dump};
 use tb_machine::dump;
 use tb_records::{Counting, Profile};
 
-/// The file of the script, read.
-fn kept(rt: &impl Abort, alloc: Global) -> Result<Scanned, Fail> {
-    let script = script(alloc, 6)?;
-    let mut keeper = created_in(rt, alloc, file_of(alloc, &[])?);
-    let (well, _) = serve(alloc, &mut keeper, &script);
-    assert!(rt; well);
-    let bytes = bytes_of(alloc, keeper)?;
-    Ok(Scanned::new(bytes).ok().expect(rt, "a journal"))
+/// The file over which the script was served.
+fn kept_file(rt: &impl Abort, alloc: Global) -> Memory {
+    let (_, bytes) = kept(rt, alloc, &script(rt, alloc, 6));
+    file_of(rt, alloc, &bytes)
 }
 
 /// The dump that a server without a file writes of the script.
-fn dump_of(rt: &impl Abort, alloc: Global) -> Result<Vec<u8>, Fail> {
-    let script = script(alloc, 6)?;
+fn dump_of(rt: &impl Abort, alloc: Global) -> Vec<u8> {
+    let script = script(rt, alloc, 6);
     let mut reader = Counting::new(script.as_slice());
     let mut writer = Counting::new(Vec::new(alloc));
     let result = dump(alloc, rules(rt).clients_max, None, &mut reader, &mut writer);
-    assert!(rt; result.is_ok());
-    Ok(writer.into_inner())
+    expect(rt, result.is_ok());
+    writer.into_inner()
 }
 
-#[test]
-fn a_dump_is_that_of_the_script(rt: HostRuntime) -> Result<(), Fail> {
-    let alloc = rt.alloc();
-    let file = kept(&rt, alloc)?;
-    let want = dump_of(&rt, alloc)?;
+/// What a dump of a file answers, and what went out.
+fn dumped(rt: &impl Abort, alloc: Global, file: &mut Memory) -> (Result<(), DumpFault>, Vec<u8>) {
     let mut writer = Counting::new(Vec::new(alloc));
-    assert!(&rt; write_dump(&file, rules(&rt), &mut writer).is_ok());
-    let written = writer.into_inner();
-    assert!(&rt; written.as_slice() == want.as_slice());
-    Ok(())
+    let result = write_dump(alloc, file, rules(rt), &mut writer);
+    (result, writer.into_inner())
 }
 
 #[test]
-fn a_history_is_read(rt: HostRuntime) -> Result<(), Fail> {
+fn a_dump_is_that_of_the_script(rt: HostRuntime) {
     let alloc = rt.alloc();
-    let file = kept(&rt, alloc)?;
-    let (found, machine) = read_history(alloc, &file).ok().expect(&rt, "a history");
-    let commit = machine.commit();
-    drop(machine);
-    assert!(&rt; commit == 4);
-    assert!(&rt; found.profile == Profile::One && found.clients_max.get() == 2);
-    Ok(())
+    let want = dump_of(&rt, alloc);
+    let mut file = kept_file(&rt, alloc);
+    let (result, written) = dumped(&rt, alloc, &mut file);
+    drop(file);
+    expect(&rt, result == Ok(()));
+    expect(&rt, written.as_slice() == want.as_slice());
 }
 
-/// A file without records has no rules.
-fn expect_no_rules(rt: &impl Abort, alloc: Global) -> Result<(), Fail> {
-    let bytes = Vec::from_slice(alloc, b"TBJRNL01\0")?;
-    let file = Scanned::new(bytes).ok().expect(rt, "a journal");
-    let is_head = match read_rules(&file) {
+/// The calls of a dump: a sync, and the file with its end.
+const CALLS: u64 = 3;
+
+/// The dump of a file whose call of a number fails is a beginning of the whole one, and the fault is told.
+fn expect_failing(rt: &impl Abort, alloc: Global, file: &mut Memory, number: u64, want: &[u8]) {
+    file.fail_at(number);
+    let (result, written) = dumped(rt, alloc, file);
+    let failed = DumpFault::Journal(OpenFault::Device(Fault::Failed));
+    expect(
+        rt,
+        result == if number <= CALLS { Err(failed) } else { Ok(()) },
+    );
+    expect(rt, want.starts_with(&written));
+}
+
+#[test]
+fn each_call_of_a_dump_fails_once(rt: HostRuntime) {
+    let alloc = rt.alloc();
+    let want = dump_of(&rt, alloc);
+    let mut file = kept_file(&rt, alloc);
+    for number in 1..=CALLS + 1 {
+        expect_failing(&rt, alloc, &mut file, number, &want);
+    }
+    drop(file);
+}
+
+/// The entries, the rules and the records that a file is read to have.
+fn read(alloc: Global, file: &mut Memory) -> Result<(u64, Profile, u32, usize), StartFault> {
+    match read_history(alloc, file) {
+        Ok((rules, machine, extent)) => {
+            let commit = machine.commit();
+            drop(machine);
+            Ok((commit, rules.profile, rules.clients_max.get(), extent.count))
+        }
+        Err(fault) => Err(fault),
+    }
+}
+
+#[test]
+fn a_history_is_read(rt: HostRuntime) {
+    let alloc = rt.alloc();
+    let mut file = kept_file(&rt, alloc);
+    let found = read(alloc, &mut file);
+    drop(file);
+    expect(&rt, found == Ok((4, Profile::One, 2, 5)));
+}
+
+#[test]
+fn a_file_without_records_has_no_rules(rt: HostRuntime) {
+    let alloc = rt.alloc();
+    let mut file = file_of(&rt, alloc, b"TBJRNL01\0");
+    let is_head = match read_rules(alloc, &mut file) {
         Err(fault) => fault == StartFault::Head,
         Ok(_) => false,
     };
-    assert!(rt; is_head);
-    Ok(())
-}
-
-#[test]
-fn a_file_without_records_has_no_rules(rt: HostRuntime) -> Result<(), Fail> {
-    expect_no_rules(&rt, rt.alloc())
+    drop(file);
+    expect(&rt, is_head);
 }

@@ -8,6 +8,8 @@ mod dumps;
 #[cfg(test)]
 mod openings;
 #[cfg(test)]
+mod pieces;
+#[cfg(test)]
 mod scripts;
 #[cfg(test)]
 mod serving;

@@ -2,10 +2,9 @@
 ghost use Rattle.tb_journal.specs.Memory.{memory_disk};
 ghost use Rattle.tb_journal.specs.Ready.{IsReady};
 
-use crate::scripts::{file_of, rules, script, serve};
+use crate::scripts::{bytes_of, created, expect, file_of, outcome, rules, script, sure};
 use std::alloc::Global;
 use std::process::Abort;
-use std::test::Fail;
 use tb_journal::{Fault, Journal, Memory, OpenFault, Refusal};
 use tb_keep::{Keeper, Rules, StartFault, create};
 use tb_machine::{RestoreFault, Unfit};
@@ -31,82 +30,79 @@ fn append_some(rt: &impl Abort, journal: &mut Journal<Memory>, bytes: &[u8])
     ensures { IsReady memory_disk journal.new }
 {
     if !bytes.is_empty() {
-        assert!(rt; journal.append(bytes) == Ok(()));
+        expect(rt, journal.append(bytes) == Ok(()));
     }
 }
 
 /// A file of these records, of which an empty one is left out.
-fn file_with(
-    rt: &impl Abort,
-    alloc: Global,
-    first: &[u8],
-    second: &[u8],
-    third: &[u8],
-) -> Result<Memory, Fail> {
-    let file = file_of(alloc, &[])?;
+fn file_with(rt: &impl Abort, alloc: Global, records: [&[u8]; 3]) -> Memory {
+    let [first, second, third] = records;
+    let file = file_of(rt, alloc, &[]);
     let mut journal = tb_journal::create(alloc, file).ok().expect(rt, "a journal");
     append_some(rt, &mut journal, first);
     append_some(rt, &mut journal, second);
     append_some(rt, &mut journal, third);
-    assert!(rt; journal.commit() == Ok(()));
-    Ok(journal.into_device())
+    expect(rt, journal.commit() == Ok(()));
+    journal.into_device()
+}
+
+/// The bytes of such a file, of which one may be changed.
+fn bytes_with(
+    rt: &impl Abort,
+    alloc: Global,
+    records: [&[u8]; 3],
+    changed: Option<usize>,
+) -> Vec<u8> {
+    let file = file_with(rt, alloc, records);
+    let copy = Vec::from_slice(alloc, file.bytes());
+    drop(file);
+    let mut bytes = sure(rt, copy);
+    if let Some(byte) = changed.and_then(|at| bytes.get_mut(at)) {
+        *byte = 77;
+    }
+    bytes
 }
 
 #[test]
-fn a_new_file(rt: HostRuntime) -> Result<(), Fail> {
+fn a_new_file(rt: HostRuntime) {
     let alloc = rt.alloc();
-    let keeper = create(alloc, file_of(alloc, &[])?, rules(&rt))
-        .ok()
-        .expect(&rt, "a ledger");
-    assert!(rt; is_new(keeper.journal().device().bytes()));
-    drop(keeper);
-    Ok(())
+    let bytes = bytes_of(&rt, alloc, created(&rt, alloc));
+    expect(&rt, is_new(&bytes));
 }
 
-/// Opens a file, and compares why it is not kept; it is as it was.
-fn expect_fault(
-    rt: &impl Abort,
-    alloc: Global,
-    file: Memory,
-    rules: Rules,
-    fault: StartFault,
-) -> Result<(), Fail> {
-    let before = Vec::from_slice(alloc, file.bytes())?;
-    match Keeper::open(alloc, file, rules) {
-        Ok(keeper) => {
-            drop(keeper);
-            assert!(rt; false);
-        }
-        Err(failed) => {
-            let found = failed.fault;
-            let is_same = failed.device.bytes() == before.as_slice();
-            drop(failed);
-            assert!(rt; found == fault && is_same);
-        }
-    }
-    Ok(())
+/// A file of these bytes is refused, and is as it was.
+pub fn expect_fault(rt: &impl Abort, alloc: Global, bytes: &[u8], rules: Rules, fault: StartFault) {
+    let file = file_of(rt, alloc, bytes);
+    let (found, left) = outcome(rt, alloc, Keeper::open(alloc, file, rules));
+    expect(rt, found == Some(fault));
+    expect(rt, left.as_slice() == bytes);
 }
 
 const HEAD: [u8; 6] = [84, 66, 75, 49, 1, 2];
 
-/// The entry of a register of client 7: its commit number, its time, and the frame.
-fn entry(alloc: Global, commit: u8, time: u8) -> Result<Vec<u8>, Fail> {
-    let mut bytes = Vec::new(alloc);
-    bytes.extend_from_slice(&[commit, 0, 0, 0, 0, 0, 0, 0, time, 0, 0, 0, 0, 0, 0, 0])?;
-    bytes.extend_from_slice(script(alloc, 1)?.get(8..).unwrap_or_default())?;
-    Ok(bytes)
-}
+/// Where the block of the record behind the head begins, and its record.
+const SECOND: usize = 22;
 
-/// A file of a head and these records is refused.
-fn expect_records(
-    rt: &impl Abort,
-    alloc: Global,
-    second: &[u8],
-    third: &[u8],
-    fault: StartFault,
-) -> Result<(), Fail> {
-    let file = file_with(rt, alloc, &HEAD, second, third)?;
-    expect_fault(rt, alloc, file, rules(rt), fault)
+const IN_SECOND: usize = 30;
+
+/// The same of the next one, behind an entry of 64 bytes.
+const THIRD: usize = 94;
+
+const IN_THIRD: usize = 102;
+
+/// The entry of a register of client 7: its commit number, its time, and the frame.
+fn entry(rt: &impl Abort, alloc: Global, commit: u8, time: u8) -> Vec<u8> {
+    let mut bytes = Vec::new(alloc);
+    sure(
+        rt,
+        bytes.extend_from_slice(&[commit, 0, 0, 0, 0, 0, 0, 0, time, 0, 0, 0, 0, 0, 0, 0]),
+    );
+    let pair = script(rt, alloc, 1);
+    sure(
+        rt,
+        bytes.extend_from_slice(pair.get(8..).unwrap_or_default()),
+    );
+    bytes
 }
 
 /// The fault of an entry.
@@ -122,138 +118,120 @@ fn too_short(place: u64) -> StartFault {
     }
 }
 
-/// Files by their records, and why each is refused.
-fn expect_refusals(rt: &impl Abort, alloc: Global) -> Result<(), Fail> {
-    let first = entry(alloc, 1, 10)?;
-    let early = entry(alloc, 2, 10)?;
-    let again = entry(alloc, 2, 11)?;
+/// The block at this offset is damaged.
+pub fn damaged(at: usize) -> StartFault {
+    StartFault::Journal(OpenFault::Refused(Refusal::Damaged { at }))
+}
+
+/// The records of a file, the byte of it that is changed, and why it is refused.
+type Row<'a> = ([&'a [u8]; 3], Option<usize>, StartFault);
+
+/// Files are refused, each as its row says.
+fn expect_each(rt: &impl Abort, alloc: Global, rows: &[Row<'_>]) {
+    for (records, changed, fault) in rows {
+        let bytes = bytes_with(rt, alloc, *records, *changed);
+        expect_fault(rt, alloc, &bytes, rules(rt), *fault);
+    }
+}
+
+/// The first record is no head, or is damaged.
+#[test]
+fn files_without_a_head(rt: HostRuntime) {
+    let alloc = rt.alloc();
+    let first = entry(&rt, alloc, 1, 10);
+    let rows: [Row<'_>; 3] = [
+        ([&first, &[], &[]], None, StartFault::Head),
+        ([&[84, 66, 75, 50, 1, 2], &[], &[]], None, StartFault::Head),
+        ([&HEAD, &[], &[]], Some(17), damaged(8)),
+    ];
+    expect_each(&rt, alloc, &rows);
+}
+
+/// Of an entry that may not come next and a damaged block the one is told that stands first.
+#[test]
+fn records_that_are_refused(rt: HostRuntime) {
+    let alloc = rt.alloc();
+    let first = entry(&rt, alloc, 1, 10);
+    let early = entry(&rt, alloc, 2, 10);
+    let again = entry(&rt, alloc, 2, 11);
     let short = first.get(..15).unwrap_or_default();
-    expect_records(rt, alloc, short, &[], too_short(1))?;
-    expect_records(rt, alloc, &first, short, too_short(2))?;
-    expect_records(rt, alloc, &early, &[], unfit(1, Unfit::Commit))?;
-    expect_records(rt, alloc, &first, &early, unfit(2, Unfit::Time))?;
-    expect_records(rt, alloc, &first, &again, unfit(2, Unfit::NotNew))
-}
-
-/// Files whose first record is no head.
-fn expect_no_head(rt: &impl Abort, alloc: Global) -> Result<(), Fail> {
-    let first = entry(alloc, 1, 10)?;
-    let entry_first = file_with(rt, alloc, &first, &[], &[])?;
-    expect_fault(rt, alloc, entry_first, rules(rt), StartFault::Head)?;
-    let other = file_with(rt, alloc, &[84, 66, 75, 50, 1, 2], &[], &[])?;
-    expect_fault(rt, alloc, other, rules(rt), StartFault::Head)
-}
-
-#[test]
-fn files_without_a_head(rt: HostRuntime) -> Result<(), Fail> {
-    expect_no_head(&rt, rt.alloc())
-}
-
-#[test]
-fn records_that_are_refused(rt: HostRuntime) -> Result<(), Fail> {
-    expect_refusals(&rt, rt.alloc())
+    let rows: [Row<'_>; 8] = [
+        ([&HEAD, short, &[]], None, too_short(1)),
+        ([&HEAD, &first, short], None, too_short(2)),
+        ([&HEAD, &early, &[]], None, unfit(1, Unfit::Commit)),
+        ([&HEAD, &first, &early], None, unfit(2, Unfit::Time)),
+        ([&HEAD, &first, &again], None, unfit(2, Unfit::NotNew)),
+        (
+            [&HEAD, &early, &first],
+            Some(IN_THIRD),
+            unfit(1, Unfit::Commit),
+        ),
+        ([&HEAD, &first, &early], Some(IN_SECOND), damaged(SECOND)),
+        ([&HEAD, &first, &first], Some(IN_THIRD), damaged(THIRD)),
+    ];
+    expect_each(&rt, alloc, &rows);
 }
 
 /// A ledger of other rules.
-fn expect_other_rules(rt: &impl Abort, alloc: Global) -> Result<(), Fail> {
-    let three = ClientsMax::new(3).expect(rt, "3 is a number of clients");
-    let own = rules(rt);
+#[test]
+fn other_rules(rt: HostRuntime) {
+    let alloc = rt.alloc();
+    let bytes = bytes_with(&rt, alloc, [&HEAD, &[], &[]], None);
+    let three = ClientsMax::new(3).expect(&rt, "3 is a number of clients");
+    let own = rules(&rt);
     for (profile, clients_max) in [(Profile::Two, own.clients_max), (Profile::One, three)] {
         let other = Rules {
             profile,
             clients_max,
         };
-        expect_fault(
-            rt,
-            alloc,
-            file_with(rt, alloc, &HEAD, &[], &[])?,
-            other,
-            StartFault::OtherRules,
-        )?;
+        expect_fault(&rt, alloc, &bytes, other, StartFault::OtherRules);
     }
-    Ok(())
+}
+
+/// Of a file that is no journal.
+fn foreign() -> StartFault {
+    StartFault::Journal(OpenFault::Refused(Refusal::NotAJournal))
 }
 
 #[test]
-fn other_rules(rt: HostRuntime) -> Result<(), Fail> {
-    expect_other_rules(&rt, rt.alloc())
-}
-
-/// The bytes of a file of a head, of which one turned.
-fn damaged(rt: &impl Abort, alloc: Global) -> Result<Vec<u8>, Fail> {
-    let file = file_with(rt, alloc, &HEAD, &[], &[])?;
-    let copy = Vec::from_slice(alloc, file.bytes());
-    drop(file);
-    let mut bytes = copy?;
-    if let Some(byte) = bytes.get_mut(17) {
-        *byte = 0;
-    }
-    Ok(bytes)
-}
-
-/// Files that are no journal, or damaged: none is opened.
-fn expect_no_journal(rt: &impl Abort, alloc: Global) -> Result<(), Fail> {
-    let none = StartFault::Journal(OpenFault::Refused(Refusal::NotAJournal));
-    expect_fault(rt, alloc, file_of(alloc, b"a text")?, rules(rt), none)?;
-    let spoiled = StartFault::Journal(OpenFault::Refused(Refusal::Damaged { at: 8 }));
-    let bytes = damaged(rt, alloc)?;
-    expect_fault(rt, alloc, file_of(alloc, &bytes)?, rules(rt), spoiled)
-}
-
-#[test]
-fn files_that_are_no_journal(rt: HostRuntime) -> Result<(), Fail> {
-    expect_no_journal(&rt, rt.alloc())
+fn a_text_is_no_journal(rt: HostRuntime) {
+    expect_fault(&rt, rt.alloc(), b"a text", rules(&rt), foreign());
 }
 
 /// `start` opens what is there, and creates where nothing is.
-fn expect_start(
-    rt: &impl Abort,
-    alloc: Global,
-    bytes: &[u8],
-    want: Option<StartFault>,
-) -> Result<(), Fail> {
-    match Keeper::start(alloc, file_of(alloc, bytes)?, rules(rt)) {
-        Ok(keeper) => {
-            assert!(rt; want.is_none());
-            assert!(rt; is_new(keeper.journal().device().bytes()));
-            drop(keeper);
-        }
-        Err(failed) => {
-            assert!(rt; want == Some(failed.fault));
-            assert!(rt; failed.device.bytes() == bytes);
-        }
-    }
-    Ok(())
+fn expect_start(rt: &impl Abort, alloc: Global, bytes: &[u8], want: Option<StartFault>) {
+    let file = file_of(rt, alloc, bytes);
+    let (found, left) = outcome(rt, alloc, Keeper::start(alloc, file, rules(rt)));
+    expect(rt, found == want);
+    expect(
+        rt,
+        left.as_slice() == bytes || want.is_none() && is_new(&left),
+    );
 }
 
 /// Files that `start` opens, creates or refuses.
-fn expect_starts(rt: &impl Abort, alloc: Global) -> Result<(), Fail> {
-    let foreign = StartFault::Journal(OpenFault::Refused(Refusal::NotAJournal));
-    let whole = file_with(rt, alloc, &HEAD, &[], &[])?;
-    expect_start(rt, alloc, &[], None)?;
-    expect_start(rt, alloc, b"TBJRN\0\0", None)?;
-    expect_start(rt, alloc, b"TBJRNL01\0behind", None)?;
-    expect_start(rt, alloc, whole.bytes(), None)?;
-    expect_start(rt, alloc, b"a text", Some(foreign))
-}
-
 #[test]
-fn starts(rt: HostRuntime) -> Result<(), Fail> {
-    expect_starts(&rt, rt.alloc())
-}
-
-#[test]
-fn nothing_is_created_where_something_stands(rt: HostRuntime) -> Result<(), Fail> {
+fn starts(rt: HostRuntime) {
     let alloc = rt.alloc();
-    match create(alloc, file_of(alloc, b"a text")?, rules(&rt)) {
-        Ok(keeper) => {
-            drop(keeper);
-            assert!(&rt; false);
-        }
-        Err(failed) => {
-            assert!(&rt; failed.fault == StartFault::Journal(OpenFault::Device(Fault::NotEmpty)));
-            assert!(&rt; failed.device.bytes() == b"a text".as_slice());
-        }
+    let whole = bytes_with(&rt, alloc, [&HEAD, &[], &[]], None);
+    let rows: [(&[u8], Option<StartFault>); 5] = [
+        (&[], None),
+        (b"TBJRN\0\0", None),
+        (b"TBJRNL01\0behind", None),
+        (&whole, None),
+        (b"a text", Some(foreign())),
+    ];
+    for (bytes, want) in rows {
+        expect_start(&rt, alloc, bytes, want);
     }
-    Ok(())
+}
+
+#[test]
+fn nothing_is_created_where_something_stands(rt: HostRuntime) {
+    let alloc = rt.alloc();
+    let file = file_of(&rt, alloc, b"a text");
+    let (found, left) = outcome(&rt, alloc, create(alloc, file, rules(&rt)));
+    let not_empty = StartFault::Journal(OpenFault::Device(Fault::NotEmpty));
+    expect(&rt, found == Some(not_empty));
+    expect(&rt, left.as_slice() == b"a text".as_slice());
 }

@@ -3,11 +3,10 @@ ghost use Rattle.std.specs.Prelude.{IfOk};
 ghost use Rattle.tb_journal.specs.Memory.{memory_disk};
 ghost use Rattle.tb_keep.specs.Keeping.{IsFresh};
 
-use std::alloc::{AllocError, Global};
+use std::alloc::Global;
 use std::process::Abort;
-use std::test::Fail;
 use tb_journal::Memory;
-use tb_keep::{Keeper, NotKept, Rules, create, keep};
+use tb_keep::{Keeper, NotKept, Rules, StartFault, create, keep};
 use tb_machine::run;
 use tb_records::{ClientsMax, Counting, Profile};
 
@@ -15,7 +14,7 @@ use tb_records::{ClientsMax, Counting, Profile};
 pub type Line = u128;
 
 /// Client 7.
-const CLIENT: Line = 0x07000000000000000000000000000000;
+pub const CLIENT: Line = 0x07000000000000000000000000000000;
 
 const REGISTER: Line = 0x00000000000000000000000002000000;
 
@@ -23,7 +22,7 @@ const REGISTER: Line = 0x00000000000000000000000002000000;
 const END: Line = 0xbc0200000a0000000000000000000000;
 
 /// A moment of 10 nanoseconds.
-const TEN: [u8; 8] = [10, 0, 0, 0, 0, 0, 0, 0];
+pub const TEN: [u8; 8] = [10, 0, 0, 0, 0, 0, 0, 0];
 
 /// The requests of the script, each with the moment 10: a register, accounts 1 and 2, 128 moved from 1 to 2 as transfer 11,
 /// the same request again, the request before it, and a look-up of account 2.
@@ -84,31 +83,41 @@ pub const LOOK_UP: [Line; 4] = [
     2 << 120,
 ];
 
+/// The value of a call that fails for want of memory alone, which the tests have.
+pub fn sure<T: Drop, E: Drop>(rt: &impl Abort, answer: Result<T, E>) -> T {
+    answer.ok().expect(rt, "memory")
+}
+
+/// What a test wants to hold.
+pub fn expect(rt: &impl Abort, holds: bool) {
+    assert!(rt; holds);
+}
+
 /// Appends a moment and the lines of a frame.
-pub fn put_pair(out: &mut Vec<u8>, lines: &[Line]) -> Result<(), Fail> {
-    out.extend_from_slice(&TEN)?;
+pub fn put_pair(rt: &impl Abort, out: &mut Vec<u8>, lines: &[Line]) {
+    sure(rt, out.extend_from_slice(&TEN));
     for line in lines {
-        out.extend_from_slice(&line.to_be_bytes())?;
+        sure(rt, out.extend_from_slice(&line.to_be_bytes()));
     }
-    Ok(())
+}
+
+/// The first so many pairs of the script, from one on.
+fn pairs(rt: &impl Abort, alloc: Global, first: usize, end: usize) -> Vec<u8> {
+    let mut bytes = Vec::new(alloc);
+    for lines in SCRIPT.get(first..end).unwrap_or_default() {
+        put_pair(rt, &mut bytes, lines);
+    }
+    bytes
 }
 
 /// The first so many pairs of the script.
-pub fn script(alloc: Global, count: usize) -> Result<Vec<u8>, Fail> {
-    let mut bytes = Vec::new(alloc);
-    for lines in SCRIPT.iter().take(count) {
-        put_pair(&mut bytes, lines)?;
-    }
-    Ok(bytes)
+pub fn script(rt: &impl Abort, alloc: Global, count: usize) -> Vec<u8> {
+    pairs(rt, alloc, 0, count)
 }
 
 /// The pairs of the script from one on.
-pub fn script_from(alloc: Global, first: usize) -> Result<Vec<u8>, Fail> {
-    let mut bytes = Vec::new(alloc);
-    for lines in SCRIPT.iter().skip(first) {
-        put_pair(&mut bytes, lines)?;
-    }
-    Ok(bytes)
+pub fn script_from(rt: &impl Abort, alloc: Global, first: usize) -> Vec<u8> {
+    pairs(rt, alloc, first, SCRIPT.len())
 }
 
 /// Profile 1 and two clients.
@@ -120,8 +129,9 @@ pub fn rules(rt: &impl Abort) -> Rules {
 }
 
 /// A file in memory with these bytes.
-pub fn file_of(alloc: Global, bytes: &[u8]) -> Result<Memory, Fail> {
-    Ok(Memory::new(alloc, Vec::from_slice(alloc, bytes)?)?)
+pub fn file_of(rt: &impl Abort, alloc: Global, bytes: &[u8]) -> Memory {
+    let copy = sure(rt, Vec::from_slice(alloc, bytes));
+    sure(rt, Memory::new(alloc, copy))
 }
 
 /// The ledger that a call gives.
@@ -139,18 +149,36 @@ pub fn ledger(rt: &impl Abort, given: Result<Keeper<Memory>, NotKept<Memory>>) -
     keeper.expect(rt, "a ledger")
 }
 
-/// A ledger that is created in a file.
-pub fn created_in(rt: &impl Abort, alloc: Global, file: Memory) -> Keeper<Memory>
+/// A ledger that is created in a new file.
+pub fn created(rt: &impl Abort, alloc: Global) -> Keeper<Memory>
     ensures { IsFresh memory_disk result }
 {
+    let file = file_of(rt, alloc, &[]);
     ledger(rt, create(alloc, file, rules(rt)))
 }
 
 /// The bytes of a keeper's file. The keeper is let go.
-pub fn bytes_of(alloc: Global, keeper: Keeper<Memory>) -> Result<Vec<u8>, AllocError> {
+pub fn bytes_of(rt: &impl Abort, alloc: Global, keeper: Keeper<Memory>) -> Vec<u8> {
     let bytes = Vec::from_slice(alloc, keeper.journal().device().bytes());
     drop(keeper);
-    bytes
+    sure(rt, bytes)
+}
+
+/// Why a call gives no ledger, and the bytes of the file behind it.
+pub fn outcome(
+    rt: &impl Abort,
+    alloc: Global,
+    given: Result<Keeper<Memory>, NotKept<Memory>>,
+) -> (Option<StartFault>, Vec<u8>) {
+    match given {
+        Ok(keeper) => (None, bytes_of(rt, alloc, keeper)),
+        Err(failed) => {
+            let fault = failed.fault;
+            let bytes = Vec::from_slice(alloc, failed.device.bytes());
+            drop(failed);
+            (Some(fault), sure(rt, bytes))
+        }
+    }
 }
 
 /// What serving over a keeper answers, and the replies.
@@ -161,6 +189,14 @@ pub fn serve(alloc: Global, keeper: &mut Keeper<Memory>, script: &[u8]) -> (bool
     let mut writer = Counting::new(Vec::new(alloc));
     let result = keep(alloc, keeper, &mut reader, &mut writer);
     (result.is_ok(), writer.into_inner())
+}
+
+/// What serving a script over a new file tells, and the bytes of the file then.
+pub fn kept(rt: &impl Abort, alloc: Global, script: &[u8]) -> (Vec<u8>, Vec<u8>) {
+    let mut keeper = created(rt, alloc);
+    let (well, told) = serve(alloc, &mut keeper, script);
+    expect(rt, well);
+    (told, bytes_of(rt, alloc, keeper))
 }
 
 /// The replies that a server without a file gives.
@@ -175,6 +211,6 @@ pub fn replies(rt: &impl Abort, alloc: Global, script: &[u8]) -> Vec<u8> {
         &mut reader,
         &mut writer,
     );
-    assert!(rt; result.is_ok());
+    expect(rt, result.is_ok());
     writer.into_inner()
 }

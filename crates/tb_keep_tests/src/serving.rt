@@ -2,65 +2,48 @@
 ghost use Rattle.tb_journal.specs.Memory.{memory_disk};
 ghost use Rattle.tb_keep.specs.Keeping.{IsFresh};
 
+use crate::crashes::entries_in;
 use crate::scripts::{
-    LOOK_UP, TRANSFER, bytes_of, created_in, file_of, ledger, put_pair, replies, rules, script,
-    serve,
+    LOOK_UP, TRANSFER, bytes_of, created, expect, file_of, kept, ledger, put_pair, replies, rules,
+    script, serve, sure,
 };
 use std::alloc::Global;
 use std::io::BufReader;
 use std::process::Abort;
-use std::test::Fail;
 use tb_journal::Memory;
 use tb_keep::{HELD_BYTES_MAX, KeepFault, Keeper, keep};
 use tb_machine::RunFault;
 use tb_records::{Buffered, Counting, FrameFault, Source};
 
-/// Serves the script, and compares the replies with those of a server without a file.
-fn expect_replies(rt: &impl Abort, alloc: Global, keeper: &mut Keeper<Memory>, script: &[u8])
-    requires { IsFresh memory_disk keeper.old }
-{
-    let want = replies(rt, alloc, script);
-    let (well, told) = serve(alloc, keeper, script);
-    assert!(rt; well);
-    assert!(rt; told.as_slice() == want.as_slice());
+#[test]
+fn replies_are_those_of_run(rt: HostRuntime) {
+    let alloc = rt.alloc();
+    let script = script(&rt, alloc, 6);
+    let (told, bytes) = kept(&rt, alloc, &script);
+    let want = replies(&rt, alloc, &script);
+    expect(&rt, told.as_slice() == want.as_slice());
+    // The entries of four new requests.
+    expect(&rt, entries_in(&rt, alloc, &bytes) == 4);
 }
 
-/// Opens a copy of the file, sends the last two requests again, and compares their replies.
-fn expect_again(rt: &impl Abort, alloc: Global, bytes: &[u8], told: &[u8]) -> Result<(), Fail> {
+/// Opens a file, and sends the last request again.
+fn sent_again(rt: &impl Abort, alloc: Global, bytes: &[u8]) -> (Vec<u8>, Vec<u8>) {
     let mut last = Vec::new(alloc);
-    put_pair(&mut last, &LOOK_UP)?;
-    let mut again = ledger(rt, Keeper::open(alloc, file_of(alloc, bytes)?, rules(rt)));
-    let (well, replies) = serve(alloc, &mut again, &last);
-    let is_same = again.journal().device().bytes() == bytes;
-    drop(again);
-    assert!(rt; well && is_same);
-    assert!(rt; told.ends_with(&replies));
-    Ok(())
+    put_pair(rt, &mut last, &LOOK_UP);
+    let file = file_of(rt, alloc, bytes);
+    let mut again = ledger(rt, Keeper::open(alloc, file, rules(rt)));
+    let (well, told) = serve(alloc, &mut again, &last);
+    expect(rt, well);
+    (told, bytes_of(rt, alloc, again))
 }
 
 #[test]
-fn replies_are_those_of_run(rt: HostRuntime) -> Result<(), Fail> {
+fn a_repeat_after_an_opening_gets_its_first_reply(rt: HostRuntime) {
     let alloc = rt.alloc();
-    let script = script(alloc, 6)?;
-    let mut keeper = created_in(&rt, alloc, file_of(alloc, &[])?);
-    expect_replies(&rt, alloc, &mut keeper, &script);
-    let (records, entries) = (keeper.journal().count(), keeper.machine().commit());
-    drop(keeper);
-    // The head, and the entries of four new requests.
-    assert!(rt; records == 5);
-    assert!(rt; entries == 4);
-    Ok(())
-}
-
-#[test]
-fn a_repeat_after_an_opening_gets_its_first_reply(rt: HostRuntime) -> Result<(), Fail> {
-    let alloc = rt.alloc();
-    let script = script(alloc, 6)?;
-    let mut keeper = created_in(&rt, alloc, file_of(alloc, &[])?);
-    let (well, told) = serve(alloc, &mut keeper, &script);
-    assert!(rt; well);
-    let bytes = bytes_of(alloc, keeper)?;
-    expect_again(&rt, alloc, &bytes, &told)
+    let (told, bytes) = kept(&rt, alloc, &script(&rt, alloc, 6));
+    let (again, left) = sent_again(&rt, alloc, &bytes);
+    expect(&rt, left.as_slice() == bytes.as_slice());
+    expect(&rt, told.ends_with(&again));
 }
 
 /// What serving left.
@@ -94,94 +77,84 @@ fn served<R: Source>(alloc: Global, keeper: Keeper<Memory>, reader: &mut R) -> O
 }
 
 /// What serving a script over a new file leaves, where all of it is at hand.
-fn served_at_hand(rt: &impl Abort, alloc: Global, script: &[u8]) -> Result<Outcome, Fail> {
-    let mut reader = Buffered::new(BufReader::with_capacity(alloc, 4096, script)?);
-    let file = file_of(alloc, &[])?;
-    Ok(served(alloc, created_in(rt, alloc, file), &mut reader))
+fn served_at_hand(rt: &impl Abort, alloc: Global, script: &[u8]) -> Outcome {
+    let mut reader = Buffered::new(sure(rt, BufReader::with_capacity(alloc, 4096, script)));
+    served(alloc, created(rt, alloc), &mut reader)
 }
 
 /// What serving a script over a new file leaves, where one pair at a time is at hand.
-fn served_by_turns(rt: &impl Abort, alloc: Global, script: &[u8]) -> Result<Outcome, Fail> {
+fn served_by_turns(rt: &impl Abort, alloc: Global, script: &[u8]) -> Outcome {
     let mut reader = Counting::new(script);
-    let file = file_of(alloc, &[])?;
-    Ok(served(alloc, created_in(rt, alloc, file), &mut reader))
+    served(alloc, created(rt, alloc), &mut reader)
 }
 
-/// The moments of the file that serving six pairs took.
-fn moments_taken(rt: &impl Abort, served: &Outcome) -> usize {
-    assert!(rt; served.result == Ok(6));
-    served.moments
+/// Six pairs were served, by so many moments of the file, and stand behind the head.
+fn expect_six(rt: &impl Abort, served: &Outcome, moments: usize) {
+    expect(rt, served.result == Ok(6));
+    expect(rt, served.moments == moments && served.records == 5);
 }
 
 #[test]
-fn pairs_at_hand_share_a_commit(rt: HostRuntime) -> Result<(), Fail> {
+fn pairs_at_hand_share_a_commit(rt: HostRuntime) {
     let alloc = rt.alloc();
-    let script = script(alloc, 6)?;
+    let script = script(&rt, alloc, 6);
     // A commit is two writes, each with a sync: one for all entries, or one for each of the four.
-    let at_hand = served_at_hand(&rt, alloc, &script)?;
-    assert!(rt; moments_taken(&rt, &at_hand) == 4);
-    let by_turns = served_by_turns(&rt, alloc, &script)?;
-    assert!(rt; moments_taken(&rt, &by_turns) == 16);
-    assert!(rt; HELD_BYTES_MAX == 1048576);
-    Ok(())
+    expect_six(&rt, &served_at_hand(&rt, alloc, &script), 4);
+    expect_six(&rt, &served_by_turns(&rt, alloc, &script), 16);
+    expect(&rt, HELD_BYTES_MAX == 1048576);
 }
 
-/// The first two pairs of the script, and a third one without its last byte.
-fn cut_short(alloc: Global) -> Result<Vec<u8>, Fail> {
-    let mut bytes = script(alloc, 2)?;
-    put_pair(&mut bytes, &TRANSFER)?;
-    let whole = bytes.len();
-    bytes.truncate(whole.saturating_sub(1));
-    Ok(bytes)
+/// The first two pairs of the script, and a third one.
+fn three(rt: &impl Abort, alloc: Global) -> Vec<u8> {
+    let mut bytes = script(rt, alloc, 2);
+    put_pair(rt, &mut bytes, &TRANSFER);
+    bytes
 }
 
 #[test]
-fn a_frame_cut_short_ends_serving(rt: HostRuntime) -> Result<(), Fail> {
+fn a_frame_cut_short_ends_serving(rt: HostRuntime) {
     let alloc = rt.alloc();
-    let bytes = cut_short(alloc)?;
-    let served = served_by_turns(&rt, alloc, &bytes)?;
-    assert!(rt; served.result == Err(KeepFault::Serving(RunFault::Frame(FrameFault::Short))));
+    let mut bytes = three(&rt, alloc);
+    bytes.truncate(bytes.len().saturating_sub(1));
+    let served = served_by_turns(&rt, alloc, &bytes);
+    expect(
+        &rt,
+        served.result == Err(KeepFault::Serving(RunFault::Frame(FrameFault::Short))),
+    );
     // The replies to the register and the accounts, 48 bytes each.
-    assert!(rt; served.replies.len() == 96);
-    Ok(())
+    expect(&rt, served.replies.len() == 96);
 }
 
-/// The first two pairs of the script, and a third one with a byte changed.
-fn changed(alloc: Global, at: usize, value: u8) -> Result<Vec<u8>, Fail> {
-    let mut bytes = script(alloc, 2)?;
-    let whole = bytes.len();
-    put_pair(&mut bytes, &TRANSFER)?;
-    if let Some(byte) = bytes.get_mut(whole.saturating_add(at)) {
+/// The third pair, with a byte changed, ends serving, and the two before it were committed and told.
+fn expect_two(rt: &impl Abort, alloc: Global, at: usize, value: u8, fault: RunFault) {
+    let mut bytes = three(rt, alloc);
+    let first_two = script(rt, alloc, 2).len();
+    if let Some(byte) = bytes.get_mut(first_two.saturating_add(at)) {
         *byte = value;
     }
-    Ok(bytes)
-}
-
-/// The third pair ended serving, and the two before it were committed and told.
-fn expect_two(rt: &impl Abort, served: &Outcome, fault: RunFault) {
-    assert!(rt; served.result == Err(KeepFault::Serving(fault)));
+    let served = served_at_hand(rt, alloc, &bytes);
+    expect(rt, served.result == Err(KeepFault::Serving(fault)));
     // The replies to the register and the accounts, 48 bytes each, and their records behind the head, by one commit.
-    assert!(rt; served.replies.len() == 96);
-    assert!(rt; served.records == 3);
-    assert!(rt; served.moments == 4);
+    expect(
+        rt,
+        served.replies.len() == 96 && served.records == 3 && served.moments == 4,
+    );
 }
 
 #[test]
-fn a_wrong_frame_ends_serving_behind_those_before_it(rt: HostRuntime) -> Result<(), Fail> {
-    let alloc = rt.alloc();
+fn a_wrong_frame_ends_serving_behind_those_before_it(rt: HostRuntime) {
     // A reserved byte of the header, behind the moment.
-    let bytes = changed(alloc, 37, 1)?;
-    let served = served_at_hand(&rt, alloc, &bytes)?;
-    expect_two(&rt, &served, RunFault::Frame(FrameFault::Reserved));
-    Ok(())
+    expect_two(
+        &rt,
+        rt.alloc(),
+        37,
+        1,
+        RunFault::Frame(FrameFault::Reserved),
+    );
 }
 
 #[test]
-fn the_end_of_time_ends_serving_behind_those_before_it(rt: HostRuntime) -> Result<(), Fail> {
-    let alloc = rt.alloc();
+fn the_end_of_time_ends_serving_behind_those_before_it(rt: HostRuntime) {
     // The highest byte of the moment, which is 2^63 and 10 then.
-    let bytes = changed(alloc, 7, 128)?;
-    let served = served_at_hand(&rt, alloc, &bytes)?;
-    expect_two(&rt, &served, RunFault::TimeExhausted);
-    Ok(())
+    expect_two(&rt, rt.alloc(), 7, 128, RunFault::TimeExhausted);
 }

@@ -14,6 +14,8 @@ use Rattle.tb_machine.specs.declared.serving.RunFault.{RunFault}
 use Rattle.tb_machine.specs.declared.serving.RunFault.TheVariants as run
 use Rattle.tb_machine.specs.RunFaults.{run_fault_name}
 use Rattle.tb_machine.specs.Restoring.{unfit_name}
+use Rattle.tb_keep.specs.declared.faults.DumpFault.{DumpFault}
+use Rattle.tb_keep.specs.declared.faults.DumpFault.TheVariants as dump
 use Rattle.tb_keep.specs.declared.faults.KeepFault.{KeepFault}
 use Rattle.tb_keep.specs.declared.faults.KeepFault.TheVariants as keep
 use Rattle.tb_keep.specs.declared.faults.StartFault.{StartFault}
@@ -47,6 +49,10 @@ started_fault start.OtherRules = OtherRules
 started_fault (start.Record place fault) = Damaged (Record place fault)
 started_fault (start.Entry fault) = Damaged (Entry fault)
 started_fault start.NoMemory = NoMemory
+
+abbrev pub dumped_fault : DumpFault → Fault
+dumped_fault (dump.Journal fault) = opened_fault fault
+dumped_fault (dump.Writer fault) = Device
 
 abbrev pub read_fault : RunFault → Fault
 read_fault (run.Frame frame.Device) = Device

@@ -4,7 +4,6 @@ ghost use Rattle.tb_commands.specs.Orders.{clients_of, profile_of};
 ghost use Rattle.tbd.specs.Orders.{order_alone, order_of, order_over, run_by, run_order};
 
 use std::alloc::{AllocError, Global};
-use std::format;
 use tb_commands::number;
 use tb_records::{ClientsMax, Profile};
 
@@ -109,35 +108,50 @@ pub fn read_order(words: &[String]) -> Option<Order>
     }
 }
 
-/// What is wrong with words that are none of the program's forms.
-pub fn wrong_words(alloc: Global, words: &[String]) -> Result<String, AllocError> {
+/// What is wrong with words that begin with `run`, and how many of them are told before it.
+fn wrong_run(words: &[String]) -> (usize, &'static str) {
     match words {
-        [word] if word.as_str() == "run" => {
-            format!(in alloc; "run: FILE and CLIENTS_MAX are missing")
-        }
-        [word] if order_over(word.as_str()).is_some() => {
-            format!(in alloc; "{word}: FILE is missing")
-        }
-        [word, file] if word.as_str() == "run" => {
-            format!(in alloc; "run {file}: CLIENTS_MAX is missing, 1 to 64")
-        }
-        [word, file, clients_max] if word.as_str() == "run" => {
-            format!(in alloc; "run {file} {clients_max}: CLIENTS_MAX is 1 to 64")
-        }
-        [word, file, clients_max, profile] if word.as_str() == "run" => {
+        [_] => (1, "FILE and CLIENTS_MAX are missing"),
+        [_, _] => (2, "CLIENTS_MAX is missing, 1 to 64"),
+        [_, _, _] => (3, "CLIENTS_MAX is 1 to 64"),
+        [_, _, clients_max, _] => {
             if clients(clients_max.as_str().as_bytes()).is_none() {
-                format!(in alloc; "run {file} {clients_max} {profile}: CLIENTS_MAX is 1 to 64")
+                (4, "CLIENTS_MAX is 1 to 64")
             } else {
-                format!(in alloc; "run {file} {clients_max} {profile}: PROFILE is 1 or 2")
+                (4, "PROFILE is 1 or 2")
             }
         }
-        [word, ..]
-            if word.as_str() == "run"
-                || order_over(word.as_str()).is_some()
-                || order_alone(word.as_str()).is_some() => {
-            format!(in alloc; "{word}: too many words")
-        }
-        [word, ..] => format!(in alloc; "{word}: unknown; tbd --help shows the forms"),
-        [] => format!(in alloc; "no words"),
+        _ => (1, "too many words"),
     }
+}
+
+/// The same of words that are none of the program's forms.
+fn wrong(words: &[String]) -> (usize, &'static str) {
+    let [first, ..] = words else {
+        return (0, "no words");
+    };
+    let word = first.as_str();
+    if word == "run" {
+        return wrong_run(words);
+    }
+    match (order_over(word), order_alone(word), words.len()) {
+        (Some(_), _, 1) => (1, "FILE is missing"),
+        (None, None, _) => (1, "unknown; tbd --help shows the forms"),
+        _ => (1, "too many words"),
+    }
+}
+
+/// A line on words that are none of the program's forms: those that are wrong, and what is wrong with them.
+pub fn wrong_words(alloc: Global, words: &[String]) -> Result<String, AllocError> {
+    let (count, what) = wrong(words);
+    let mut line = String::new(alloc);
+    for word in words.iter().take(count) {
+        if !line.is_empty() {
+            line.push_str(" ")?;
+        }
+        line.push_str(word.as_str())?;
+    }
+    line.push_str(": ")?;
+    line.push_str(what)?;
+    Ok(line)
 }

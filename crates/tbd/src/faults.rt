@@ -1,10 +1,10 @@
 //! Why the program ends with a status other than 0, and the line that says so.
 ghost use Rattle.std.specs.Prelude.{◌≡◌, ◌<◌};
-ghost use Rattle.tbd.specs.Statuses.{fault_status, opened_fault, read_fault, refused_fault, disk_fault, started_fault, kept_fault};
+ghost use Rattle.tbd.specs.Statuses.{fault_status, opened_fault, read_fault, refused_fault, disk_fault, dumped_fault, started_fault, kept_fault};
 
 use std::fmt;
 use tb_journal::{OpenFault, Refusal};
-use tb_keep::{KeepFault, StartFault};
+use tb_keep::{DumpFault, KeepFault, StartFault};
 use tb_machine::{RestoreFault, RunFault};
 use tb_records::FrameFault;
 
@@ -47,7 +47,7 @@ pub enum Fault {
 }
 
 /// The fault of a call on a journal or its file.
-fn disk_fault(fault: tb_journal::Fault) -> Fault
+pub fn disk_fault(fault: tb_journal::Fault) -> Fault
     ensures { result ≡ disk_fault fault }
 {
     match fault {
@@ -70,7 +70,7 @@ fn refused_fault(why: Refusal) -> Fault
 }
 
 /// The fault of a journal that is not read or opened.
-pub fn opened_fault(fault: OpenFault) -> Fault
+fn opened_fault(fault: OpenFault) -> Fault
     ensures { result ≡ opened_fault fault }
 {
     match fault {
@@ -90,6 +90,16 @@ pub fn started_fault(fault: StartFault) -> Fault
         StartFault::Record { place, fault } => Fault::Damaged(Damage::Record { place, fault }),
         StartFault::Entry(fault) => Fault::Damaged(Damage::Entry(fault)),
         StartFault::NoMemory => Fault::NoMemory,
+    }
+}
+
+/// The fault of a dump that is not written.
+pub fn dumped_fault(fault: DumpFault) -> Fault
+    ensures { result ≡ dumped_fault fault }
+{
+    match fault {
+        DumpFault::Journal(fault) => opened_fault(fault),
+        DumpFault::Writer(_) => Fault::Device,
     }
 }
 

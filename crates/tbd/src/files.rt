@@ -1,9 +1,9 @@
 //! Files that are opened, and read without a write.
-use crate::faults::{Fault, opened_fault, started_fault};
+use crate::faults::{Fault, disk_fault, dumped_fault, started_fault};
 use crate::summaries::{Summary, summary_of};
 use std::alloc::Global;
 use std::io::{self, BufWriter, Write};
-use tb_journal::{FileFault, Real, Scanned, read_journal};
+use tb_journal::{Device, FileFault, Real};
 use tb_keep::{Rules, read_history, write_dump};
 use tb_records::Counting;
 
@@ -34,24 +34,18 @@ pub fn made(rt: &HostRuntime, path: &str) -> Result<Real, Fault> {
     }
 }
 
-/// Reads the journal of the file at a path. What was read is on the disk.
-fn read_file(rt: &HostRuntime, path: &str) -> Result<Scanned, Fault> {
-    let mut real = match Real::open(rt, path) {
-        Ok(real) => real,
-        Err(fault) => return Err(file_fault(&fault)),
-    };
-    let read = read_journal(rt.alloc(), &mut real);
-    drop(real);
-    match read {
-        Ok(file) => Ok(file),
-        Err(fault) => Err(opened_fault(fault)),
+/// The file at a path.
+fn opened(rt: &HostRuntime, path: &str) -> Result<Real, Fault> {
+    match Real::open(rt, path) {
+        Ok(real) => Ok(real),
+        Err(fault) => Err(file_fault(&fault)),
     }
 }
 
 /// The rules of a file whose entries are all those of one history.
-fn rules_of(alloc: Global, file: &Scanned) -> Result<Rules, Fault> {
-    match read_history(alloc, file) {
-        Ok((rules, machine)) => {
+fn rules_of(alloc: Global, real: &mut Real) -> Result<Rules, Fault> {
+    match read_history(alloc, real) {
+        Ok((rules, machine, _)) => {
             drop(machine);
             Ok(rules)
         }
@@ -59,32 +53,34 @@ fn rules_of(alloc: Global, file: &Scanned) -> Result<Rules, Fault> {
     }
 }
 
-/// Writes the history of a file to standard output, as a dump.
-fn dump_file(rt: &HostRuntime, file: &Scanned) -> Result<(), Fault> {
-    let rules = rules_of(rt.alloc(), file)?;
+/// Writes the history of a file to standard output, as a dump. The file is read twice: before anything is written all of it
+/// was read.
+fn dump_file(rt: &HostRuntime, real: &mut Real) -> Result<(), Fault> {
+    let rules = rules_of(rt.alloc(), real)?;
     let output = no_memory(BufWriter::with_capacity(rt.alloc(), BUFFER, rt.stdout()))?;
     let mut writer = Counting::new(output);
-    let written = write_dump(file, rules, &mut writer);
+    let written = write_dump(rt.alloc(), real, rules, &mut writer);
     let flushed = writer.into_inner().flush();
     match (written, flushed) {
         (Ok(()), Ok(())) => Ok(()),
+        (Err(fault), _) => Err(dumped_fault(fault)),
         _ => Err(Fault::Device),
     }
 }
 
 /// Writes the history of the file at a path to standard output, as a dump. Of a file that is refused nothing is written.
 pub fn dump(rt: &HostRuntime, path: &str) -> Result<(), Fault> {
-    let file = read_file(rt, path)?;
-    let dumped = dump_file(rt, &file);
-    drop(file);
+    let mut real = opened(rt, path)?;
+    let dumped = dump_file(rt, &mut real);
+    drop(real);
     dumped
 }
 
-/// What is in a file whose entries are all those of one history.
-fn summarized(alloc: Global, file: &Scanned) -> Result<Summary, Fault> {
-    match read_history(alloc, file) {
-        Ok((rules, machine)) => {
-            let summary = summary_of(file, rules, &machine);
+/// What is in a file of so many bytes whose entries are all those of one history.
+fn summarized(alloc: Global, real: &mut Real, len: usize) -> Result<Summary, Fault> {
+    match read_history(alloc, real) {
+        Ok((rules, machine, extent)) => {
+            let summary = summary_of(extent, len, rules, &machine);
             drop(machine);
             Ok(summary)
         }
@@ -92,12 +88,20 @@ fn summarized(alloc: Global, file: &Scanned) -> Result<Summary, Fault> {
     }
 }
 
+/// What is in a file. Nobody else writes to it, since it is locked.
+fn checked(alloc: Global, real: &mut Real) -> Result<Summary, Fault> {
+    match real.len() {
+        Ok(len) => summarized(alloc, real, len),
+        Err(fault) => Err(disk_fault(fault)),
+    }
+}
+
 /// Tells what is in the file at a path on standard output.
 pub fn check(rt: &HostRuntime, path: &str) -> Result<(), Fault> {
-    let file = read_file(rt, path)?;
-    let summary = summarized(rt.alloc(), &file);
-    drop(file);
-    let summary = summary?;
+    let mut real = opened(rt, path)?;
+    let checked = checked(rt.alloc(), &mut real);
+    drop(real);
+    let summary = checked?;
     match print!(rt; "{summary}") {
         Ok(()) => Ok(()),
         Err(_) => Err(Fault::Device),

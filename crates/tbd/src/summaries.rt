@@ -3,7 +3,7 @@ ghost use Rattle.std.specs.Prelude.{◌≡◌};
 
 use std::alloc::Global;
 use std::fmt;
-use tb_journal::{Extent, Scanned};
+use tb_journal::Extent;
 use tb_keep::Rules;
 use tb_machine::Machine;
 use tb_records::Profile;
@@ -27,15 +27,14 @@ fn profile_number(profile: Profile) -> u8 {
     }
 }
 
-/// What is in a file of these rules whose entries lead to a machine.
-pub fn summary_of(file: &Scanned, rules: Rules, machine: &Machine<Global>) -> Summary {
-    let Extent { end, count } = file.extent();
+/// What is in a file of so many bytes and these rules, which was read to this extent, and whose entries lead to a machine.
+pub fn summary_of(extent: Extent, len: usize, rules: Rules, machine: &Machine<Global>) -> Summary {
     Summary {
-        records: count,
+        records: extent.count,
         entries: machine.commit(),
         rules,
         time: machine.time(),
-        torn: file.bytes().len().saturating_sub(end).saturating_sub(1),
+        torn: len.saturating_sub(extent.end).saturating_sub(1),
     }
 }
 
@@ -43,11 +42,10 @@ impl fmt::Display for Summary {
     fn fmt<W: fmt::Write>(&self, f: &mut fmt::Formatter<W>) -> fmt::Result {
         let profile = profile_number(self.rules.profile);
         let clients_max = self.rules.clients_max.get();
-        writeln!(f, "records {}", self.records)?;
-        writeln!(f, "entries {}", self.entries)?;
-        writeln!(f, "profile {profile}")?;
-        writeln!(f, "clients_max {clients_max}")?;
-        writeln!(f, "last time {}", self.time)?;
-        writeln!(f, "torn bytes {}", self.torn)
+        write!(
+            f,
+            "records {}\nentries {}\nprofile {profile}\nclients_max {clients_max}\nlast time {}\ntorn bytes {}\n",
+            self.records, self.entries, self.time, self.torn
+        )
     }
 }

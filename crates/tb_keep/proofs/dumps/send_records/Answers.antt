@@ -1,39 +1,57 @@
-use Rattle.std.proofs.Common.{List, ℕ, Ok, [], ◌∷◌, ◌++◌, refl, sym, ap, ◌∙◌, subst, append-nil}
-use Rattle.std.proofs.lemmas.Result.{err_from_is_err_and}
-use Rattle.tb_records.specs.Transport.{Sent}
-use Rattle.tb_machine.proofs.Running.{sends_none}
-use Rattle.tb_keep.specs.Reading.{joined}
-use Rattle.tb_keep.proofs.Leading.{fewer}
-use Rattle.tb_keep.proofs.Dumping.{shifted, send_one, send_some}
+use Rattle.std.proofs.Common.{◌++◌, arith}
+use Rattle.tb_keep.proofs.Entered.{stays_none, stays_then, has_now}
+use Rattle.tb_keep.proofs.Dumping.{sending_none, sending_more, sending_done, sending_not}
 use Rattle.tb_keep.proofs.dumps.send_records.Goals as goal
 
-pub loop-bytes-init : goal.loop-bytes-init
-loop-bytes-init g c = ([], refl, sends_none (g.W.Sink.output c.args.writer.now))
+pub loop-fault-init : goal.loop-fault-init
+loop-fault-init g c = record {
+  stays = λ t. stays_none (g.D.Device.disk c.args.device.now) (g.met.D.Device.only_now c.args.device.now);
+  sending = λ t read has. sending_none read (g.D.Device.disk c.args.device.now).seen c.args.scan.now (g.W.Sink.output c.args.writer.now) has;
+}
 
-pub loop-bytes-smaller : goal.loop-bytes-smaller
-loop-bytes-smaller g c = fewer c.loop-bytes.left c.in-Some.bytes.now c.next.new.self c.in-Some.ensures.some
+pub loop-fault-smaller : goal.loop-fault-smaller
+loop-fault-smaller g c = let further = c.in-Ok-true.ensures.further c.in-Ok-true.field-0-test in omega (arith, further.0, further.1)
 
-pub loop-bytes-preserved : goal.loop-bytes-preserved
-loop-bytes-preserved g c =
-    let (front, all, sent) = c.loop-bytes.invariant in
-    let bytes = c.in-Some.bytes.now in
-    let rest = c.next.new.self in (
-      front ++ bytes ∷ [],
-      all ∙ ap (λ (r : List (List ℕ)). front ++ r) c.in-Some.ensures.some ∙ shifted front rest bytes,
-      send_one front bytes (g.W.Sink.output c.args.writer.now) (g.W.Sink.output c.loop-bytes.writer) (g.W.Sink.output c.put_all.new.sink) sent (Ok tt) c.in_ok-put_all.ensures,
-    )
+pub loop-fault-preserved : goal.loop-fault-preserved
+loop-fault-preserved g c = record {
+  stays = λ t. stays_then (g.D.Device.disk c.args.device.now) (g.D.Device.disk c.loop-fault.device) (g.D.Device.disk c.send_next.new.device) (g.met.D.Device.counts_now c.loop-fault.device)
+      (c.loop-fault.invariant.stays t) (c.send_next.ensures.stays t);
+  sending = λ t read has.
+      let same = (c.loop-fault.invariant.stays t).untouched.seen in
+      let file = (g.D.Device.disk c.args.device.now).seen in
+      let now = (g.D.Device.disk c.loop-fault.device).seen in
+      let (records, ahead, sent) = c.loop-fault.invariant.sending t read has in
+      let there = has_now (read ++ records) file now c.loop-fault.scan same ahead in
+      sending_more read records file now same c.loop-fault.scan c.send_next.new.scan (g.W.Sink.output c.args.writer.now) (g.W.Sink.output c.loop-fault.writer) (g.W.Sink.output c.send_next.new.writer)
+      there sent (rw c.in-Ok-true.field-0-test at (c.in-Ok-true.ensures.sends t (read ++ records) there));
+}
 
-pub returns-in_err-put_all : goal.returns-in_err-put_all
-returns-in_err-put_all g c =
-    let (front, all, sent) = c.loop-bytes.invariant in
-    let p = err_from_is_err_and c.from_residual.result c.from_residual.ensures.1 in
-    let bytes = c.in-Some.bytes.now in
-    let rest = c.next.new.self in
-    rw (p.1, p.2) (send_some front bytes (g.W.Sink.output c.args.writer.now) (g.W.Sink.output c.loop-bytes.writer) (g.W.Sink.output c.put_all.new.sink) c.in_err-put_all.field-0.0 rest c.args.records
-    (all ∙ ap (λ (r : List (List ℕ)). front ++ r) c.in-Some.ensures.some) sent c.in_err-put_all.ensures)
+pub returns-in-Ok-false-clause-sends : goal.returns-in-Ok-false-clause-sends
+returns-in-Ok-false-clause-sends g c t read has =
+    let same = (c.loop-fault.invariant.stays t).untouched.seen in
+    let file = (g.D.Device.disk c.args.device.now).seen in
+    let now = (g.D.Device.disk c.loop-fault.device).seen in
+    let (records, ahead, sent) = c.loop-fault.invariant.sending t read has in
+    let there = has_now (read ++ records) file now c.loop-fault.scan same ahead in
+    sending_done read records file now same c.loop-fault.scan c.send_next.new.scan (g.W.Sink.output c.args.writer.now) (g.W.Sink.output c.loop-fault.writer) (g.W.Sink.output c.send_next.new.writer)
+    there sent (rw c.in-Ok-false.field-0-test at (c.in-Ok-false.ensures.sends t (read ++ records) there))
 
-pub returns : goal.returns
-returns g c =
-    let (front, all, sent) = c.loop-bytes.invariant in
-    subst (λ (r : List (List ℕ)). Sent (joined r) (g.W.Sink.output c.args.writer.now) (g.W.Sink.output c.loop-bytes.writer))
-    (sym (all ∙ ap (λ (r : List (List ℕ)). front ++ r) c.in_default.ensures.none.0 ∙ append-nil front)) sent
+pub returns-in-Ok-false-clause-stays : goal.returns-in-Ok-false-clause-stays
+returns-in-Ok-false-clause-stays g c t =
+    stays_then (g.D.Device.disk c.args.device.now) (g.D.Device.disk c.loop-fault.device) (g.D.Device.disk c.send_next.new.device) (g.met.D.Device.counts_now c.loop-fault.device)
+    (c.loop-fault.invariant.stays t) (c.send_next.ensures.stays t)
+
+pub returns-in-Err-clause-sends : goal.returns-in-Err-clause-sends
+returns-in-Err-clause-sends g c t read has =
+    let same = (c.loop-fault.invariant.stays t).untouched.seen in
+    let file = (g.D.Device.disk c.args.device.now).seen in
+    let now = (g.D.Device.disk c.loop-fault.device).seen in
+    let (records, ahead, sent) = c.loop-fault.invariant.sending t read has in
+    let there = has_now (read ++ records) file now c.loop-fault.scan same ahead in
+    sending_not read records file now same c.loop-fault.scan c.send_next.new.scan (g.W.Sink.output c.args.writer.now) (g.W.Sink.output c.loop-fault.writer) (g.W.Sink.output c.send_next.new.writer)
+    there sent c.in-Err.fault (c.in-Err.ensures.sends t (read ++ records) there)
+
+pub returns-in-Err-clause-stays : goal.returns-in-Err-clause-stays
+returns-in-Err-clause-stays g c t =
+    stays_then (g.D.Device.disk c.args.device.now) (g.D.Device.disk c.loop-fault.device) (g.D.Device.disk c.send_next.new.device) (g.met.D.Device.counts_now c.loop-fault.device)
+    (c.loop-fault.invariant.stays t) (c.send_next.ensures.stays t)

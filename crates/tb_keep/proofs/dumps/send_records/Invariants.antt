@@ -1,12 +1,16 @@
-use Rattle.std.proofs.Common.{◌≡◌, ℕ, List, ◌++◌, length}
-use Rattle.tb_records.specs.Transport.{Sent}
-use Rattle.tb_keep.specs.Reading.{joined}
+use Rattle.std.proofs.Common.{ℕ, List, ◌-◌, ◌^◌}
+use Rattle.tb_journal.specs.Scans.{HasRead}
+use Rattle.tb_keep.specs.Entering.{StaysKept}
+use Rattle.tb_keep.proofs.Dumping.{Sending}
 use Rattle.tb_keep.proofs.dumps.send_records.Given as goal
 
--- the records so far were sent, and the others are left
-abbrev pub invariant-loop-bytes : goal.invariant-loop-bytes
-invariant-loop-bytes g l =
-    (front : List (List ℕ)) × (l.fn.records ≡ front ++ l.left) × Sent (joined front) (g.W.Sink.output l.fn.writer) (g.W.Sink.output l.writer)
+-- the records so far were sent
+abbrev pub invariant-loop-fault : goal.invariant-loop-fault
+invariant-loop-fault g l = record {
+  stays : g.D.Device.tells → StaysKept (g.D.Device.disk l.fn.device) (g.D.Device.disk l.device);
+  sending : g.D.Device.tells → (read : List (List ℕ)) → HasRead read (g.D.Device.disk l.fn.device).seen l.fn.scan
+      → Sending read (g.D.Device.disk l.fn.device).seen l.scan (g.W.Sink.output l.fn.writer) (g.W.Sink.output l.writer);
+}
 
-abbrev pub decreases-loop-bytes : goal.decreases-loop-bytes
-decreases-loop-bytes g l = length l.left
+abbrev pub decreases-loop-fault : goal.decreases-loop-fault
+decreases-loop-fault g l = 2 ^ 62 - l.scan.end

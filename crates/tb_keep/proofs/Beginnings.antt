@@ -1,0 +1,157 @@
+-- Records that a file begins with, and all of its records.
+use Rattle.std.proofs.Common.{ℕ, ◌≡◌, ◌⊎◌, inl, inr, List, [], ◌∷◌, ◌++◌, take, drop, refl, sym, ap, ◌∙◌, subst, append_assoc, append-nil, length-take, arith, Err, Ok}
+use Rattle.std.proofs.lemmas.List.{take_all, take-append-drop}
+use Rattle.tb_records.specs.declared.limits.Profile.{Profile}
+use Rattle.tb_records.specs.DumpBytes.{head_bytes}
+use Rattle.tb_records.proofs.Sendings.{sent_few}
+use Rattle.tb_journal.specs.declared.reading.Extent.{Extent}
+use Rattle.tb_journal.specs.Contents.{Contents, NotAJournal, Damaged, Records, contents, with_record, with_records, walk, records_of, recorded, records_end}
+use Rattle.tb_journal.specs.Reading.{extent_of}
+use Rattle.tb_journal.specs.Scans.{BeginsWith}
+use Rattle.tb_journal.proofs.Walks.{is_file}
+use Rattle.tb_machine.specs.Histories.{State, start as start_state}
+use Rattle.tb_keep.specs.declared.faults.StartFault.{StartFault}
+use Rattle.tb_keep.specs.declared.faults.StartFault.TheVariants as start
+use Rattle.tb_keep.specs.declared.heads.Rules.{Rules}
+use Rattle.tb_keep.specs.Keeping.{History, head_record, records_of as records_of_history}
+use Rattle.tb_keep.specs.Restoration.{RestoresAll, HeadAnswers, IsRestoredFrom, StopsFile, StopsReading, WholeStops}
+use Rattle.tb_keep.specs.Reading.{IsNoHead, HasRules, HasNoHead, RulesAnswer, IsHistory, IsNoHistory, behind_head, joined, dump_with, dump_of, WholeRules, WholeNoHead, WholeDumps}
+use Rattle.tb_keep.proofs.Dumping.{joined_join}
+use Rattle.tb_keep.proofs.Leading.{stops_file}
+
+-- a file that is read to its end has records
+
+is_records : (c : Contents) (extent : Extent) → extent_of c ≡ Ok extent → c ≡ Records (records_of c)
+is_records NotAJournal extent is = absurd (cc)
+is_records (Damaged at) extent is = absurd (cc)
+is_records (Records records) extent is = refl
+
+pub extent_reads : (file : List ℕ) (extent : Extent) → extent_of (contents file) ≡ Ok extent → contents file ≡ Records (recorded file)
+extent_reads file extent is = is_records (contents file) extent is
+
+-- they begin with those that the file begins with
+
+front_of : (records : List (List ℕ)) (others : Contents) (all : List (List ℕ)) → with_records records others ≡ Records all → (rest : List (List ℕ)) × (all ≡ records ++ rest)
+front_of [] others all is = (all, refl)
+front_of (r ∷ records) others all is = by (λ more e. front_of records others more e) (with_records records others) refl is
+  where
+    by : ((more : List (List ℕ)) → with_records records others ≡ Records more → (rest : List (List ℕ)) × (more ≡ records ++ rest))
+        → (c : Contents) → with_records records others ≡ c → with_record r c ≡ Records all → (rest : List (List ℕ)) × (all ≡ (r ∷ records) ++ rest)
+    by later NotAJournal e is = absurd (cc)
+    by later (Damaged at) e is = absurd (cc)
+    by later (Records more) e is =
+        let found = later more e in
+        (found.0, sym (ap records_of is) ∙ ap (λ (l : List (List ℕ)). r ∷ l) found.1)
+
+pub begins_rest : (records all : List (List ℕ)) (file : List ℕ) → BeginsWith records file → contents file ≡ Records all → (rest : List (List ℕ)) × (all ≡ records ++ rest)
+begins_rest records all file begins reads =
+    let end = records_end records in
+    let front = take end file in
+    let same : take end front ≡ front = take_all end front (omega (arith, length-take end file)) in
+    let whole : take end front ++ drop end file ≡ file = ap (λ (l : List ℕ). l ++ drop end file) same ∙ take-append-drop end file in
+    front_of records (walk 0 end (drop end file)) all (sym ((is_file front records begins).goes_on (drop end file)) ∙ ap contents whole ∙ reads)
+
+-- so what stops the first of them stops all
+
+longer : (fault : StartFault) (profile : Profile) (clients_max : ℕ) (head : List ℕ) (rest more : List (List ℕ))
+    → (HeadAnswers (Err fault) head profile clients_max ⊎ ((T : State) × RestoresAll (Err fault) (start_state profile clients_max) rest T))
+    → (HeadAnswers (Err fault) head profile clients_max ⊎ ((T : State) × RestoresAll (Err fault) (start_state profile clients_max) (rest ++ more) T))
+longer fault profile clients_max head rest more (inl why) = inl why
+longer fault profile clients_max head rest more (inr (T, (front, bytes, behind, is, leads, stops))) =
+    inr (T, (front, bytes, behind ++ more, ap (λ (l : List (List ℕ)). l ++ more) is ∙ append_assoc front (bytes ∷ behind) more, leads, stops))
+
+stops_more : (fault : StartFault) (profile : Profile) (clients_max : ℕ) (records more all : List (List ℕ)) → all ≡ records ++ more
+    → (head : List ℕ) × (rest : List (List ℕ)) × (records ≡ head ∷ rest) × (HeadAnswers (Err fault) head profile clients_max ⊎ ((T : State) × RestoresAll (Err fault) (start_state profile clients_max) rest T))
+    → StopsFile fault profile clients_max all
+stops_more fault profile clients_max records more all whole (head, rest, is, why) =
+    stops_file fault profile clients_max all head (rest ++ more) (whole ∙ ap (λ (l : List (List ℕ)). l ++ more) is) (longer fault profile clients_max head rest more why)
+
+stops_longer : (fault : StartFault) (profile : Profile) (clients_max : ℕ) (records more all : List (List ℕ)) → all ≡ records ++ more
+    → StopsFile fault profile clients_max records → StopsFile fault profile clients_max all
+stops_longer (start.Journal f) profile clients_max records more all whole stops = stops_more (start.Journal f) profile clients_max records more all whole stops
+stops_longer start.Head profile clients_max records more all whole stops = stops_more start.Head profile clients_max records more all whole stops
+stops_longer start.OtherRules profile clients_max records more all whole stops = stops_more start.OtherRules profile clients_max records more all whole stops
+stops_longer (start.Record place f) profile clients_max records more all whole stops = stops_more (start.Record place f) profile clients_max records more all whole stops
+stops_longer (start.Entry f) profile clients_max records more all whole stops = stops_more (start.Entry f) profile clients_max records more all whole stops
+stops_longer start.NoMemory profile clients_max records more all whole stops = tt
+
+pub whole_stops : WholeStops
+whole_stops fault profile clients_max file records all reads begins stops =
+    let found = begins_rest records all file begins reads in
+    stops_longer fault profile clients_max records found.0 all found.1 stops
+
+-- and what the first of them say all say
+
+pub whole_rules : WholeRules
+whole_rules rules file all reads has = begins_rest (head_record rules.profile rules.clients_max ∷ []) all file has reads
+
+abbrev first_of : List (List ℕ) → List ℕ
+first_of [] = []
+first_of (r ∷ records) = r
+
+pub whole_no_head : WholeNoHead
+whole_no_head file head rest reads (inl none) = let clash : Records [] ≡ Records (head ∷ rest) = sym none ∙ reads in absurd (cc)
+whole_no_head file head rest reads (inr (other, others, begins, is_none)) =
+    let found = begins_rest (other ∷ others) (head ∷ rest) file begins reads in
+    let same : other ≡ head = sym (ap first_of found.1) in
+    subst IsNoHead same is_none
+
+dump_more : (rules : Rules) (records more : List (List ℕ)) → (left : List ℕ) × (dump_with rules records ++ left ≡ dump_with rules (records ++ more))
+dump_more rules [] more = (joined (behind_head more), ap (λ (l : List ℕ). l ++ joined (behind_head more)) (append-nil (head_bytes rules.profile rules.clients_max)))
+dump_more rules (r ∷ records) more = (
+  joined more,
+  append_assoc (head_bytes rules.profile rules.clients_max) (joined records) (joined more)
+      ∙ ap (λ (l : List ℕ). head_bytes rules.profile rules.clients_max ++ l) (sym (joined_join records more)),
+)
+
+pub whole_dumps : WholeDumps
+whole_dumps rules file records before after reads begins cut =
+    let found = begins_rest records (recorded file) file begins reads in
+    let more = dump_more rules records found.0 in
+    sent_few (dump_with rules records) more.0 (dump_of rules file) before after (more.1 ∙ ap (dump_with rules) (sym found.1)) cut
+
+-- so where its first record is a head, and all are restored, it stands for their history
+
+pub is_history : (rules : Rules) (file : List ℕ) (S : State) (extent : Extent) → HasRules rules file → IsRestoredFrom rules.profile rules.clients_max file S extent → IsHistory rules S file
+is_history rules file S extent has found = by found.restored.spelled
+  where
+    reads : contents file ≡ Records (recorded file)
+    reads = extent_reads file extent found.extent_is
+
+    history : History
+    history = record { profile = rules.profile; clients_max = rules.clients_max; entries = found.restored.entries }
+
+    by : (recorded file ≡ records_of_history history) ⊎ ((recorded file ≡ []) × (found.restored.entries ≡ [])) → IsHistory rules S file
+    by (inl spelled) = record {
+      history = history;
+      stands = record { reads = reads ∙ ap Records spelled; keepable = found.restored.keepable };
+      profile = refl;
+      clients = refl;
+      state = found.restored.state;
+    }
+    by (inr none) =
+        let some = begins_rest (head_record rules.profile rules.clients_max ∷ []) (recorded file) file has reads in
+        let clash : [] ≡ head_record rules.profile rules.clients_max ∷ some.0 = sym none.0 ∙ some.1 in
+        absurd (cc)
+
+pub is_no_history : (fault : StartFault) (rules : Rules) (file : List ℕ) → HasRules rules file → StopsReading fault rules.profile rules.clients_max file → IsNoHistory fault file
+is_no_history (start.Journal f) rules file has stops = stops
+is_no_history start.Head rules file has stops = by stops.records stops.begins stops.stops
+  where
+    by : (records : List (List ℕ)) → BeginsWith records file → StopsFile start.Head rules.profile rules.clients_max records → HasNoHead file
+    by records begins (head, rest, is, inl none) = inr (head, rest, subst (λ (r : List (List ℕ)). BeginsWith r file) is begins, none)
+    by records begins (head, rest, is, inr (T, (front, bytes, behind, all, leads, never))) = absurd never
+is_no_history start.OtherRules rules file has stops = (rules, has, stops)
+is_no_history (start.Record place f) rules file has stops = (rules, has, stops)
+is_no_history (start.Entry f) rules file has stops = (rules, has, stops)
+is_no_history start.NoMemory rules file has stops = (rules, has, stops)
+
+-- and where it is refused before its records are read no history is told of it
+
+pub no_rules : (fault : StartFault) (file : List ℕ) → RulesAnswer (Err fault) file → IsNoHistory fault file
+no_rules (start.Journal f) file is = is
+no_rules start.Head file is = is
+no_rules start.OtherRules file is = absurd is
+no_rules (start.Record place f) file is = absurd is
+no_rules (start.Entry f) file is = absurd is
+no_rules start.NoMemory file is = absurd is
