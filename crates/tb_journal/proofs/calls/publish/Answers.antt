@@ -1,4 +1,4 @@
-use Rattle.std.proofs.Common.{arith}
+use Rattle.std.proofs.Common.{arith, rules}
 use Rattle.tb_journal.proofs.Publishing.{room, room_written, done_kept, stage_failed, gate_done}
 use Rattle.tb_journal.proofs.calls.publish.Goals as goal
 
@@ -22,13 +22,16 @@ write_kept-requires-in-Ok-clause-within g c t =
 
 pub returns-in-Ok : goal.returns-in-Ok
 returns-in-Ok g c t records fits spells some =
+    let staged = c.write_kept.ensures t in
+    let opened = c.write_kept-in-Ok.ensures t in
     gate_done (g.D.Device.disk c.args.device.now) (c.requires.at_rest t) c.args.batch.now c.split_at.result.1.now records
     fits spells some c.split_at.ensures.back c.args.end (c.requires.ends t)
-    (g.D.Device.disk c.write_kept.new.device) c.write_kept.result c.in-Ok.is (c.write_kept.ensures t)
-    (g.D.Device.disk c.write_kept-in-Ok.new.device) c.write_kept-in-Ok.result (c.write_kept-in-Ok.ensures t)
+    (g.D.Device.disk c.write_kept.new.device) c.write_kept.result c.in-Ok.is (search rules)
+    (g.D.Device.disk c.write_kept-in-Ok.new.device) c.write_kept-in-Ok.result (search rules)
 
 pub returns-in-Err : goal.returns-in-Err
 returns-in-Err g c t records fits spells some =
+    let staged = c.write_kept.ensures t in
     stage_failed (g.D.Device.disk c.args.device.now) (c.requires.at_rest t) c.args.batch.now c.split_at.result.1.now records
     fits spells some c.split_at.ensures.back c.args.end (c.requires.ends t)
-    (g.D.Device.disk c.write_kept.new.device) c.write_kept.result c.in-Err.fault c.in-Err.is (c.write_kept.ensures t)
+    (g.D.Device.disk c.write_kept.new.device) c.write_kept.result c.in-Err.fault c.in-Err.is (search rules)

@@ -19,4 +19,4 @@ pub returns-in-Ok-clause-ready : goal.returns-in-Ok-clause-ready
 returns-in-Ok-clause-ready g c t =
     let ready = subst (λ (j : Kept g.row.D.Denot). IsReady g.D.Device.disk j) (sym c.self.view_is) (c.requires t) in
     let done = (c.in-Ok.ensures t c.self.inside.batch c.bytes.ensures.fits c.bytes.ensures.spells (omega (arith, c.count.ensures, c.if-count-eq0.false))).ok in
-    next_ready g.D.Device.disk _ c.publish.new.device _ _ c.clear.new.self ready done.0 done.1 (ap length c.bytes-in-Ok.ensures.spells) c.count-in-Ok.ensures
+    next_ready g.D.Device.disk _ c.publish.new.device _ _ c.clear.new.self ready done.0 done.1 (omega (arith, ap length c.bytes-in-Ok.ensures.spells)) (omega (arith, c.count-in-Ok.ensures))

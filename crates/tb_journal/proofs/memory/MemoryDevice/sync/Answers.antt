@@ -1,4 +1,4 @@
-use Rattle.std.proofs.Common.{sym, ◌∙◌}
+use Rattle.std.proofs.Common.{rules, sym, ◌∙◌}
 use Rattle.tb_journal.proofs.Past.{sync_failed, sync_done}
 use Rattle.tb_journal.proofs.memory.MemoryDevice.sync.Goals as goal
 
@@ -9,4 +9,4 @@ returns-then-trips c t =
 pub returns : goal.returns
 returns c t =
     sync_done c.args.self.now.first.items c.args.self.now.calls.items c.push.new.self.items c.args.self.now.bytes.items c.args.self.now.fuse c.trips.new.fuse c.trips.ensures.counted
-    c.in_ok-file.file (c.in_ok-file.ensures.items ∙ c.deref.ensures.value) c.in_ok-push.ensures.items
+    c.in_ok-file.file (search rules) c.in_ok-push.ensures.items

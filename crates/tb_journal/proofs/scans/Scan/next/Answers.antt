@@ -1,4 +1,4 @@
-use Rattle.std.proofs.Common.{◌≡◌, ◌+◌, ◌∙◌, ap, arith, drop, refl, subst, sym, take}
+use Rattle.std.proofs.Common.{◌≡◌, ◌+◌, ◌∙◌, ap, arith, drop, refl, rules, subst, sym, take}
 use Rattle.tb_journal.specs.Scans.{Place, HasRead}
 use Rattle.tb_journal.proofs.Nexts.{block_within, step_ends, step_stays, step_spoiled, step_whole, too_far}
 use Rattle.tb_journal.proofs.scans.Scan.next.Goals as goal
@@ -37,16 +37,15 @@ pub returns-in-Ok-Spoiled-clause-reads : goal.returns-in-Ok-Spoiled-clause-reads
 returns-in-Ok-Spoiled-clause-reads g c t records read =
     let file = (g.D.Device.disk c.args.device.now).seen in
     let old = subst (HasRead records file) (sym c.self.view_is) read in
-    step_spoiled records file _ old c.head_at.new.window.ahead (c.in-Ok-Spoiled.ensures.finds t old.ahead) c.in-Ok-Spoiled.field-0 c.in-Ok-Spoiled.ensures.head c.in-Ok-Spoiled.field-0-is
+    let damaged = step_spoiled records file _ old c.head_at.new.window.ahead (c.in-Ok-Spoiled.ensures.finds t old.ahead) c.in-Ok-Spoiled.field-0 c.in-Ok-Spoiled.ensures.head c.in-Ok-Spoiled.field-0-is in
+    search rules
 
 pub returns-in-Ok-Spoiled-clause-cause : goal.returns-in-Ok-Spoiled-clause-cause
 returns-in-Ok-Spoiled-clause-cause g c t records read =
     let file = (g.D.Device.disk c.args.device.now).seen in
     let old = subst (HasRead records file) (sym c.self.view_is) read in
-    record {
-      later = (c.head_at.ensures.looks t).cause.later;
-      cause = step_spoiled records file _ old c.head_at.new.window.ahead (c.in-Ok-Spoiled.ensures.finds t old.ahead) c.in-Ok-Spoiled.field-0 c.in-Ok-Spoiled.ensures.head c.in-Ok-Spoiled.field-0-is;
-    }
+    let damaged = step_spoiled records file _ old c.head_at.new.window.ahead (c.in-Ok-Spoiled.ensures.finds t old.ahead) c.in-Ok-Spoiled.field-0 c.in-Ok-Spoiled.ensures.head c.in-Ok-Spoiled.field-0-is in
+    record { later = search rules; cause = search rules }
 
 pub returns-in-Ok-Whole-clause-reads : goal.returns-in-Ok-Whole-clause-reads
 returns-in-Ok-Whole-clause-reads g c t records read =
