@@ -23,7 +23,7 @@ from tb_client import HEADER, Account, Operation, Reply, Status, Transfer, reply
 
 CLIENTS = 24
 CASH, SALES = 1, 2
-EIO, ENOSPC = 5, 28
+EINTR, EIO, ENOSPC = 4, 5, 28
 passed, failed = 0, 0
 
 
@@ -177,9 +177,12 @@ class Ledger:
         case(name, well, f"status {status}, {made} acknowledged, {sales.credits_posted} posted, {entries} entries, {told}, {self.wrong[:3]}")
 
 
-def check(tbd, file):
+def check(tbd, file, shim=None, fault=""):
     """What `tbd check` tells, and its status."""
-    ran = subprocess.run([tbd, "check", file], capture_output=True, text=True)
+    env = dict(os.environ)
+    if shim:
+        env.update(LD_PRELOAD=shim, KEEP_FILE=file, KEEP_FAULT=fault)
+    ran = subprocess.run([tbd, "check", file], capture_output=True, text=True, env=env)
     told = {line.rpartition(" ")[0]: int(line.rpartition(" ")[2]) for line in ran.stdout.splitlines()}
     return {"status": ran.returncode, "said": ran.stderr.strip(), **told}
 
@@ -242,6 +245,26 @@ def faults(tbd, folder, shim):
             faulty(tbd, folder, shim, f"short {number} {part}", 0, f"write {number} takes {part} bytes first")
     for limit in (2000, 5000, 5001, 20000):
         faulty(tbd, folder, shim, f"full {limit}", 8, f"the disk is full at {limit} bytes")
+
+
+def reads(tbd, folder, shim, data):
+    """Reads of the file that fail once, are interrupted once, or give few bytes."""
+    path = os.path.join(folder, "read.tbk")
+    with open(path, "wb") as file:
+        file.write(data)
+    sound = check(tbd, path)
+    number = 1
+    while (told := check(tbd, path, shim, f"read {number} {EIO}"))["status"]:
+        case(f"read {number} fails: Device", told["status"] == 1 and told["said"] == "tbd: Device", told)
+        case(f"read {number} is interrupted: read again", check(tbd, path, shim, f"read {number} {EINTR}") == sound)
+        number += 1
+    case("reads that failed were some", number > 3, f"{number - 1}")
+    for count in (1, 7, 100, 4096):
+        case(f"reads that give {count} bytes at most", check(tbd, path, shim, f"few {count}") == sound)
+    for number in (1, 2, 3):
+        faulty(tbd, folder, shim, f"read {number} {EIO}", 1, f"read {number} of a start fails")
+    for count in (1, 100):
+        faulty(tbd, folder, shim, f"few {count}", 0, f"a start whose reads give {count} bytes at most")
 
 
 def told_early(log):
@@ -357,6 +380,7 @@ def main():
         cuts(asked.tbd, folder, data, gates, entries)
         flips(asked.tbd, folder, data, gates, entries, asked.flips, rng)
         faults(asked.tbd, folder, shim)
+        reads(asked.tbd, folder, shim, data)
         kills(asked.tbd, folder, asked.kills, rng)
     print(f"{passed} passed, {failed} failed")
     sys.exit(failed > 0)

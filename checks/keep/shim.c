@@ -10,6 +10,8 @@
               short N K      the Nth write takes K bytes, and all else goes on
               die N K        the Nth write takes K bytes, and the process is killed
               sync N E       the Nth sync fails with E, and does nothing
+              read N E       the Nth read of the file fails with errno E
+              few K          each read of the file gives K bytes at most
               full L         no write makes the file longer than L bytes: what does not fit fails with ENOSPC
               nosync         syncs answer, and do nothing
               early MS       writes and syncs of the file answer at once, and are done MS milliseconds after the next write to standard output
@@ -29,7 +31,7 @@
 #include <time.h>
 #include <unistd.h>
 
-static long calls, syncs, first, second, third;
+static long calls, syncs, reads, first, second, third;
 static char fault[16];
 static int failing, log_fd = -1, ready;
 
@@ -113,6 +115,12 @@ static ssize_t write_file(int fd, const void *bytes, size_t len, off_t at) {
     return done;
 }
 
+static ssize_t read_file(int fd, void *into, size_t len, off_t at) {
+    if (is("read") && ++reads == first) return fail(second);
+    if (is("few") && first < (long)len) len = first;
+    return syscall(SYS_pread64, fd, into, len, at);
+}
+
 static int cut_file(int fd, off_t len) {
     long n = ++calls;
     if (failing) return fail(third);
@@ -135,6 +143,8 @@ static int sync_file(int fd, long call) {
 
 ssize_t pwrite64(int fd, const void *bytes, size_t len, off_t at) { return is_file(fd) ? write_file(fd, bytes, len, at) : syscall(SYS_pwrite64, fd, bytes, len, at); }
 ssize_t pwrite(int fd, const void *bytes, size_t len, off_t at) { return pwrite64(fd, bytes, len, at); }
+ssize_t pread64(int fd, void *into, size_t len, off_t at) { return is_file(fd) ? read_file(fd, into, len, at) : syscall(SYS_pread64, fd, into, len, at); }
+ssize_t pread(int fd, void *into, size_t len, off_t at) { return pread64(fd, into, len, at); }
 int ftruncate64(int fd, off_t len) { return is_file(fd) ? cut_file(fd, len) : syscall(SYS_ftruncate, fd, len); }
 int ftruncate(int fd, off_t len) { return ftruncate64(fd, len); }
 int fsync(int fd) { return sync_file(fd, SYS_fsync); }

@@ -221,7 +221,7 @@ fn expect_no_second_try(rt: &impl Abort, alloc: Global, form: Form, input: &[u8]
     holds(rt, (19..100).contains(&good), &good);
     for fails in [true, false] {
         let good = writes(rt, alloc, form, input, fails);
-        holds(rt, (14..100).contains(&good), &good);
+        holds(rt, (13..100).contains(&good), &good);
     }
 }
 

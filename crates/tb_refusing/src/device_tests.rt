@@ -371,7 +371,7 @@ fn each_read_fails(rt: HostRuntime) -> Result<(), Fail> {
 /// Each of the writes fails in turn, and takes nothing in turn.
 #[test]
 fn each_write_stops(rt: HostRuntime) -> Result<(), Fail> {
-    for (form, least) in [(Form::Run, 14), (Form::Dump, 19), (Form::Replay, 14)] {
+    for (form, least) in [(Form::Run, 13), (Form::Dump, 19), (Form::Replay, 13)] {
         let failed = stop_writes(&rt, rt.alloc(), form, true)?;
         let stalled = stop_writes(&rt, rt.alloc(), form, false)?;
         assert!(&rt; failed >= least, "only {failed} writes failed");
