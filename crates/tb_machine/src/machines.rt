@@ -15,12 +15,10 @@ use std::alloc::{AllocError, Allocator, Global};
 use std::marker::Model;
 use tb_ledger::Ledger;
 use tb_records::{
-    Account, ClientsMax, FrameFault, Profile, Reply, Request, Sink, Transfer, send_reply,
+    Account, ClientsMax, FrameFault, LAST_MOMENT, Profile, Reply, Request, Sink, Transfer,
+    send_reply,
 };
 use tb_sessions::{Class, Row, Sessions};
-
-/// The last moment that there is, in nanoseconds: `2^63 - 1`.
-pub(crate) const MAX_TIME: u64 = 9_223_372_036_854_775_807;
 
 /// A ledger and the sessions of its clients, after a history. Requests, replies and the rows of the sessions take their
 /// memory of the global allocator, the records of `A`.
@@ -83,7 +81,7 @@ impl<A: Allocator + Clone> Machine<A> {
     {
         let least = self.ledger.time().checked_add(n.max(1))?;
         let time = now.max(least);
-        if time > MAX_TIME {
+        if time > LAST_MOMENT {
             return None;
         }
         Some(time)
@@ -189,7 +187,7 @@ impl<A: Allocator + Clone> Machine<A> {
     {
         entry.commit == self.commit + 1
             && self.least_time(&entry.request) <= entry.time
-            && entry.time <= MAX_TIME
+            && entry.time <= LAST_MOMENT
             && matches!(self.class(&entry.request), Class::New)
     }
 

@@ -3,9 +3,10 @@ ghost use Rattle.std.specs.Prelude.{◌≡◌};
 ghost use Rattle.tb_machine.specs.Restoring.{cause_of, unfit_name, Restores};
 
 use crate::entries::Entry;
-use crate::machines::{MAX_TIME, Machine};
+use crate::machines::Machine;
 use std::alloc::Allocator;
 use std::fmt;
+use tb_records::LAST_MOMENT;
 use tb_sessions::Class;
 use thiserror::Error;
 
@@ -64,7 +65,7 @@ fn cause_of<A: Allocator + Clone>(machine: &Machine<A>, entry: &Entry) -> Option
     let least = machine.least_time(&entry.request);
     if entry.commit != machine.commit() + 1 {
         Some(Unfit::Commit)
-    } else if entry.time < least || entry.time > MAX_TIME {
+    } else if entry.time < least || entry.time > LAST_MOMENT {
         Some(Unfit::Time)
     } else if !matches!(machine.class(&entry.request), Class::New) {
         Some(Unfit::NotNew)

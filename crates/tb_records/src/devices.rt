@@ -338,6 +338,7 @@ pub(crate) fn items_from<S: Source, T: Item>(
 /// Writes the bytes of items one behind another, from the first byte of the block on, and answers how many they are.
 fn spell_items<T: Item>(items: &[T], block: &mut [u8]) -> usize
     requires room { length items.now * T.SIZE ≤ length block.old }
+    ensures long { length block.new ≡ length block.old }
     ensures within { result ≤ length block.new }
     ensures spelled { take result block.new ≡ flat_map T.spelling items.now }
     ensures fit { All T.Fits items.now }
@@ -353,7 +354,34 @@ fn spell_items<T: Item>(items: &[T], block: &mut [u8]) -> usize
     at
 }
 
-/// Writes a row of items, eight at a time, or stops where the writer fails or takes nothing.
+/// Writes a row of items through a block, so many at a time, or stops where the writer fails or takes nothing.
+fn put_blocks<W: Sink, T: Item>(
+    sink: &mut W,
+    block: &mut [u8],
+    at_once: usize,
+    items: &[T],
+) -> Result<(), FrameFault>
+    requires some { 0 < at_once }
+    requires room { at_once * T.SIZE ≤ length block.old }
+    ensures sent { MatchResult result
+        (λ _. Sent (flat_map T.spelling items.now) (W.output sink.old) (W.output sink.new))
+        (λ f.
+        (f ≡ FrameFault.Device)
+        × CutOff (flat_map T.spelling items.now) (W.output sink.old) (W.output sink.new)) }
+    ensures fit { OnOk result (All T.Fits items.now) }
+{
+    let mut left = items;
+    while !left.is_empty() {
+        let (part, rest) = left.split_at(left.len().min(at_once));
+        let count = spell_items(part, block);
+        put_all(sink, &block[..count])?;
+        left = rest;
+    }
+    Ok(())
+}
+
+/// Writes a row of items, eight at a time where they are small or so many, or stops where the writer fails or takes
+/// nothing. A short row wants no more than a small block.
 pub(crate) fn put_items<W: Sink, T: Item>(sink: &mut W, items: &[T]) -> Result<(), FrameFault>
     ensures sent { MatchResult result
         (λ _. Sent (flat_map T.spelling items.now) (W.output sink.old) (W.output sink.new))
@@ -362,14 +390,11 @@ pub(crate) fn put_items<W: Sink, T: Item>(sink: &mut W, items: &[T]) -> Result<(
         × CutOff (flat_map T.spelling items.now) (W.output sink.old) (W.output sink.new)) }
     ensures fit { OnOk result (All T.Fits items.now) }
 {
-    let mut block = [0; 1024];
-    let mut left = items;
-    while !left.is_empty() {
-        let (part, rest) = left.split_at(left.len().min(8));
-        let count = spell_items(part, &mut block);
-        let bytes: &[u8] = &block;
-        put_all(sink, &bytes[..count])?;
-        left = rest;
+    if items.len() >= 8 {
+        put_blocks(sink, &mut [0; 1024], 8, items)
+    } else if T::SIZE <= 16 {
+        put_blocks(sink, &mut [0; 128], 8, items)
+    } else {
+        put_blocks(sink, &mut [0; 128], 1, items)
     }
-    Ok(())
 }

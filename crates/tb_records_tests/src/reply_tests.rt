@@ -484,8 +484,9 @@ fn largest_reply(rt: HostRuntime) {
     let bytes = frame_of(rt.alloc(), &most).expect(&rt, "memory");
     let sizes = (most.body().len(), bytes.len());
     let read = is_read(rt.alloc(), &most, bytes.as_slice());
+    let sent = is_sent(rt.alloc(), &most, bytes.as_slice());
     drop(bytes);
     drop(most);
-    assert!(rt; read && sizes == (ITEMS_MAX, 65568));
+    assert!(rt; read && sent && sizes == (ITEMS_MAX, 65568));
     assert!(rt; many(rt.alloc(), ITEMS_MAX + 1).err() == Some(FrameFault::TooMany));
 }

@@ -12,11 +12,11 @@ returns-in-New g c =
         | then-entry-self v ↦ sym (comes c.args.self.now c.args.entry.now (record {
           commit = omega (arith, v.if-entry-self.true, ap (λ (S : State). S.commit) c.self.view_is);
           late_enough = omega (arith, v.least_time.ensures.time, leb-true _ _ (sym v.value-is ∙ w.if-least_time-entry.true));
-          in_range = leb-true _ _ (sym w.value-is ∙ c.if-entry-le-MAX_TIME.true);
+          in_range = leb-true _ _ (sym w.value-is ∙ c.if-entry-le-LAST_MOMENT.true);
           lawful = ap is_none v.least_time.ensures.lawful;
           new = sym c.in-New.ensures;
         }))
         | else-entry-self v ↦ absurd (v.if-entry-self.false (eqb-true _ _ (sym v.value-is ∙ w.if-least_time-entry.true)))
       ]
-      | else-least_time-entry w ↦ absurd (let both : false ≡ true = sym w.if-least_time-entry.false ∙ sym w.value-is ∙ c.if-entry-le-MAX_TIME.true in cc)
+      | else-least_time-entry w ↦ absurd (let both : false ≡ true = sym w.if-least_time-entry.false ∙ sym w.value-is ∙ c.if-entry-le-LAST_MOMENT.true in cc)
     ]

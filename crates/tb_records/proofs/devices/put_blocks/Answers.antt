@@ -6,10 +6,10 @@ use Rattle.std.proofs.KnownBytes.{Appends-trans}
 use Rattle.std.specs.Io.KnownBytes.{Appends}
 use Rattle.tb_records.proofs.Pieces.{cut_off_in, spellings_in, rejoined, none_left}
 use Rattle.std.proofs.lemmas.Grind.{flat_map-append}
-use Rattle.tb_records.proofs.devices.put_items.Goals as goal
+use Rattle.tb_records.proofs.devices.put_blocks.Goals as goal
 
 pub loop-left-init : goal.loop-left-init
-loop-left-init g c = ([], refl, search rules, refl, refl, All-nil g.T.Item.Fits)
+loop-left-init g c = ([], refl, search rules, refl, refl, All-nil g.T.Item.Fits, c.requires.room)
 
 pub returns-in_err-put_all-clause-sent : goal.returns-in_err-put_all-clause-sent
 returns-in_err-put_all-clause-sent g c =
@@ -42,6 +42,7 @@ loop-left-preserved g c =
       sent.counted ∙ inv.3,
       sent.flowed ∙ inv.4,
       All-append g.T.Item.Fits inv.0 part inv.5 c.spell_items-count.ensures.fit,
+      search c.spell_items-count.ensures.long,
     )
 
 pub returns-clause-sent : goal.returns-clause-sent
