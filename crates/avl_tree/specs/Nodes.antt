@@ -77,6 +77,10 @@ IsBare n = (n.left ≡ Empty) × (n.right ≡ Empty)
 abbrev pub IsOrdered : {K V : Type 0} → (K → K → Ordering) → List (K × V) → Type 0
 IsOrdered cmp es = IsStrictlySortedBy cmp (keys_of es)
 
+-- a balanced tree whose keys rise
+abbrev pub IsSearchTree : {K V A : Type 0} → (K → K → Ordering) → Tree K V A → Type 0
+IsSearchTree cmp t = IsAvl t × IsOrdered cmp (entries t)
+
 -- a search for k in t may go on in u
 pub record LeadsTo {K V A : Type 0} (cmp : K → K → Ordering) (k : K) (t u : Tree K V A) : Type 0 where
   pub balanced : IsAvl u
@@ -99,6 +103,14 @@ IsShrunk h h' = (h' ≤ h) × (h ≤ h' + 1)
 -- a change of the height is told, and nothing else
 abbrev pub IsTold : Bool → ℕ → ℕ → Type 0
 IsTold told h h' = (told ≡ false → h' ≡ h) × (told ≡ true → h' ≡ h → ⊥)
+
+-- after an insert the height is the same or one more, as told
+abbrev pub IsGrownAsTold : Bool → ℕ → ℕ → Type 0
+IsGrownAsTold told h h' = IsGrown h h' × IsTold told h h'
+
+-- after a removal the height is the same or one less, as told
+abbrev pub IsShrunkAsTold : Bool → ℕ → ℕ → Type 0
+IsShrunkAsTold told h h' = IsShrunk h h' × IsTold told h h'
 
 -- the root has no left side
 abbrev pub HasNoLeft : {K V A : Type 0} → Tree K V A → Type 0

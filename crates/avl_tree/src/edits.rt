@@ -3,7 +3,7 @@ ghost use Rattle.std.specs.Prelude.{◌≡◌, ◌≢◌, ◌+◌, ◌<◌, ◌�
 ghost use Rattle.std.specs.Option.{option_map, is_some};
 ghost use Rattle.std.specs.Map.{lookup, remove_entry};
 ghost use Rattle.std.specs.BTreeMap.{is_at, insert_entry};
-ghost use Rattle.avl_tree.specs.Nodes.{entries, entry, with_first, stored_height, IsAvl, IsNearlyAvl, SettlesTo, IsOrdered, IsBare, HasLeft, HasNoLeft, beside_root, root_entry, IsGrown, IsShrunk, IsTold, Exchanges};
+ghost use Rattle.avl_tree.specs.Nodes.{entries, entry, with_first, stored_height, IsAvl, IsNearlyAvl, SettlesTo, IsOrdered, IsBare, HasLeft, HasNoLeft, beside_root, root_entry, IsSearchTree, IsShrunk, IsTold, IsGrownAsTold, IsShrunkAsTold, Exchanges};
 ghost use Rattle.avl_tree.specs.Map.{first_to};
 ghost use Rattle.avl_tree.specs.declared.tree.Tree.TheVariants.{Empty};
 
@@ -60,16 +60,14 @@ pub fn insert<K: Ord, V, A: Allocator>(
     key: &K,
     fresh: Box<Node<K, V, A>, A>,
 ) -> bool
-    requires balanced { IsAvl tree.old }
-    requires sorted { IsOrdered K.cmp (entries tree.old) }
+    requires searched { IsSearchTree K.cmp tree.old }
     requires height_fits { stored_height tree.old < 200 }
     requires absent { lookup (is_at (K.cmp key.now)) (entries tree.old) ≡ None }
     requires bare { IsBare fresh.value }
     requires key { fresh.value.key ≡ key.now }
     ensures balanced { IsAvl tree.new }
     ensures entries { entries tree.new ≡ insert_entry K.cmp (entries tree.old) key.now fresh.value.value }
-    ensures height { IsGrown (stored_height tree.old) (stored_height tree.new) }
-    ensures told { IsTold result (stored_height tree.old) (stored_height tree.new) }
+    ensures height { IsGrownAsTold result (stored_height tree.old) (stored_height tree.new) }
 {
     let grew = match tree {
         Tree::Empty => {
@@ -125,8 +123,7 @@ pub fn take_first<K, V, A: Allocator>(
         ≡ with_first (option_map (λ b. entry b.value) result) (entries tree.new) }
     ensures taken { MatchOption result ((tree.old ≡ Empty) × (tree.new ≡ Empty))
         (λ b. IsBare b.value) }
-    ensures height { IsShrunk (stored_height tree.old) (stored_height tree.new) }
-    ensures told { IsTold lower.new (stored_height tree.old) (stored_height tree.new) }
+    ensures height { IsShrunkAsTold lower.new (stored_height tree.old) (stored_height tree.new) }
 {
     let taken = match tree {
         Tree::Empty => return None,
@@ -188,8 +185,7 @@ fn take_top_to<K: Ord, V, A: Allocator>(
         ≡ with_first (option_map (λ b. entry b.value) result) (entries tree.new) }
     ensures taken { MatchOption result ((tree.new ≡ tree.old) × (lower.new ≡ false))
         (λ b. IsBare b.value) }
-    ensures height { IsShrunk (stored_height tree.old) (stored_height tree.new) }
-    ensures told { IsTold lower.new (stored_height tree.old) (stored_height tree.new) }
+    ensures height { IsShrunkAsTold lower.new (stored_height tree.old) (stored_height tree.new) }
 {
     if !is_top_to(tree, bound) {
         return None;
@@ -214,8 +210,7 @@ pub fn take_first_to<K: Ord, V, A: Allocator>(
         ≡ with_first (option_map (λ b. entry b.value) result) (entries tree.new) }
     ensures taken { MatchOption result ((tree.new ≡ tree.old) × (lower.new ≡ false))
         (λ b. IsBare b.value) }
-    ensures height { IsShrunk (stored_height tree.old) (stored_height tree.new) }
-    ensures told { IsTold lower.new (stored_height tree.old) (stored_height tree.new) }
+    ensures height { IsShrunkAsTold lower.new (stored_height tree.old) (stored_height tree.new) }
 {
     if !has_left(tree) {
         return take_top_to(tree, bound, lower);
@@ -268,8 +263,7 @@ fn take_root_off<K, V, A: Allocator>(
     ensures entries { entries tree.new ≡ beside_root tree.old }
     ensures root { option_map (λ b. entry b.value) result ≡ root_entry tree.old }
     ensures taken { IfSome result (λ b. IsBare b.value) }
-    ensures height { IsShrunk (stored_height tree.old) (stored_height tree.new) }
-    ensures told { IsTold lower.new (stored_height tree.old) (stored_height tree.new) }
+    ensures height { IsShrunkAsTold lower.new (stored_height tree.old) (stored_height tree.new) }
 {
     let before = height(tree);
     let taken = take_root(tree);
@@ -284,8 +278,7 @@ pub fn remove<K: Ord, V, A: Allocator>(
     key: &K,
     lower: &mut bool,
 ) -> Option<Box<Node<K, V, A>, A>>
-    requires balanced { IsAvl tree.old }
-    requires sorted { IsOrdered K.cmp (entries tree.old) }
+    requires searched { IsSearchTree K.cmp tree.old }
     requires height_fits { stored_height tree.old < 200 }
     requires not_lower { lower.old ≡ false }
     ensures balanced { IsAvl tree.new }
@@ -293,8 +286,7 @@ pub fn remove<K: Ord, V, A: Allocator>(
     ensures value { option_map (λ b. b.value.value) result
         ≡ lookup (is_at (K.cmp key.now)) (entries tree.old) }
     ensures taken { IfSome result (λ b. IsBare b.value) }
-    ensures height { IsShrunk (stored_height tree.old) (stored_height tree.new) }
-    ensures told { IsTold lower.new (stored_height tree.old) (stored_height tree.new) }
+    ensures height { IsShrunkAsTold lower.new (stored_height tree.old) (stored_height tree.new) }
 {
     let taken = match tree {
         Tree::Empty => return None,

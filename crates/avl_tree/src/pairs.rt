@@ -2,7 +2,7 @@
 ghost use Rattle.std.specs.Prelude.{◌≡◌, None, Some, IsSome, IfSome};
 ghost use Rattle.std.specs.BTreeMap.{is_at};
 ghost use Rattle.std.specs.declared.cmp.Ordering.TheVariants.{Less};
-ghost use Rattle.avl_tree.specs.Nodes.{entries, entry, IsAvl, IsOrdered};
+ghost use Rattle.avl_tree.specs.Nodes.{entries, entry, IsAvl, IsOrdered, IsSearchTree};
 ghost use Rattle.avl_tree.specs.Pairs.{CalledAtBoth, ChangesBeside, ChangesApart, ChangesBoth};
 
 use crate::tree::{Node, Tree};
@@ -175,10 +175,8 @@ fn apart_at<K: Ord, V, A: Allocator, R, F: FnMut(&mut V, &mut V) -> R>(
     f: &mut F,
     out: &mut Option<R>,
 )
-    requires left_balanced { IsAvl node.old.left }
-    requires left_sorted { IsOrdered K.cmp (entries node.old.left) }
-    requires right_balanced { IsAvl node.old.right }
-    requires right_sorted { IsOrdered K.cmp (entries node.old.right) }
+    requires left { IsSearchTree K.cmp node.old.left }
+    requires right { IsSearchTree K.cmp node.old.right }
     requires callable { F.IsAlwaysCallable f.old }
     requires empty { out.old ≡ None }
     ensures callable { F.IsAlwaysCallable f.new }

@@ -1,6 +1,6 @@
 // The nodes of the tree, and how their links turn.
 ghost use Rattle.std.specs.Prelude.{◌≡◌, ◌+◌, ◌<◌, ◌≤◌, max, ◌∷◌, ◌++◌, IfSome};
-ghost use Rattle.avl_tree.specs.Nodes.{entries, entry, stored_height, IsAvl, IsNearlyAvl, SettlesTo, IsBare, IsHeightOver, IsLevelAt, DifferByAtMost};
+ghost use Rattle.avl_tree.specs.Nodes.{entries, entry, stored_height, IsAvl, IsNearlyAvl, SettlesTo, IsBare, IsHeightOver, IsLevelAt, IsGrown, DifferByAtMost};
 ghost use Rattle.avl_tree.specs.declared.tree.Tree.TheVariants.{Empty};
 
 use std::alloc::Allocator;
@@ -106,8 +106,7 @@ fn lean_left<K, V, A: Allocator>(
     requires height_fits { stored_height left < 250 }
     ensures balanced { IsAvl result }
     ensures entries { entries result ≡ entries left ++ entry node.value ∷ entries right }
-    ensures not_lower { stored_height left ≤ stored_height result }
-    ensures at_most_one_higher { stored_height result ≤ stored_height left + 1 }
+    ensures height { IsGrown (stored_height left) (stored_height result) }
 {
     let Tree::Fork(_, top) = left else {
         unreachable!()
@@ -137,8 +136,7 @@ fn lean_right<K, V, A: Allocator>(
     requires height_fits { stored_height right < 250 }
     ensures balanced { IsAvl result }
     ensures entries { entries result ≡ entries left ++ entry node.value ∷ entries right }
-    ensures not_lower { stored_height right ≤ stored_height result }
-    ensures at_most_one_higher { stored_height result ≤ stored_height right + 1 }
+    ensures height { IsGrown (stored_height right) (stored_height result) }
 {
     let Tree::Fork(_, top) = right else {
         unreachable!()

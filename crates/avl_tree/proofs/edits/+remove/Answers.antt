@@ -11,34 +11,34 @@ map_map f v (Some b) = refl
 
 pub remove-requires : goal.remove-requires
 remove-requires g t c κs within =
-    let avl = subst IsAvl c.in-Fork.is c.requires.balanced in
+    let avl = subst IsAvl c.in-Fork.is c.requires.searched.0 in
     let n = c.in-Fork.node.value in
-    let s = subst (λ t. IsOrdered g.K.Ord.cmp (entries t)) c.in-Fork.is c.requires.sorted in
+    let s = subst (λ t. IsOrdered g.K.Ord.cmp (entries t)) c.in-Fork.is c.requires.searched.1 in
     let fits = rw c.in-Fork.is at c.requires.height_fits in
     let falls = rw c.in-Fork.is at c.decreases in
     let p = rw c.deref.ensures at c.in-Less.ensures in
     let w = goes_left g.met.K.Ord.total c.args.key.now (entries n.left) (entry n) (entries n.right) p s in
     let lower : stored_height c.in-Fork.node.value.left < t = omega (arith, falls, avl.2) in
     let below : stored_height c.in-Fork.node.value.left < 200 = omega (arith, fits, avl.2) in
-    rw c.deref_mut.ensures.value (lower, (within.0, (within.1.0, (within.1.1, (avl.0, (w.sorted, (below, c.requires.not_lower)))))))
+    rw c.deref_mut.ensures.value (lower, (within.0, (within.1.0, (within.1.1, ((avl.0, w.sorted), (below, c.requires.not_lower))))))
 
 pub remove-requires-in-Greater : goal.remove-requires-in-Greater
 remove-requires-in-Greater g t c κs within =
-    let avl = subst IsAvl c.in-Fork.is c.requires.balanced in
+    let avl = subst IsAvl c.in-Fork.is c.requires.searched.0 in
     let n = c.in-Fork.node.value in
-    let s = subst (λ t. IsOrdered g.K.Ord.cmp (entries t)) c.in-Fork.is c.requires.sorted in
+    let s = subst (λ t. IsOrdered g.K.Ord.cmp (entries t)) c.in-Fork.is c.requires.searched.1 in
     let fits = rw c.in-Fork.is at c.requires.height_fits in
     let falls = rw c.in-Fork.is at c.decreases in
     let p = rw c.deref.ensures at c.in-Greater.ensures in
     let w = goes_right g.met.K.Ord.total c.args.key.now (entries n.left) (entry n) (entries n.right) p s in
     let lower : stored_height c.in-Fork.node.value.right < t = omega (arith, falls, avl.2) in
     let below : stored_height c.in-Fork.node.value.right < 200 = omega (arith, fits, avl.2) in
-    rw c.deref_mut-in-Greater.ensures.value (lower, (within.0, (within.1.0, (within.1.1, (avl.1, (w.sorted, (below, c.requires.not_lower)))))))
+    rw c.deref_mut-in-Greater.ensures.value (lower, (within.0, (within.1.0, (within.1.1, ((avl.1, w.sorted), (below, c.requires.not_lower))))))
 
 pub returns-in-Equal-clause-entries : goal.returns-in-Equal-clause-entries
 returns-in-Equal-clause-entries g t c =
     let n = c.in-Fork.node.value in
-    let s = subst (λ t. IsOrdered g.K.Ord.cmp (entries t)) c.in-Fork.is c.requires.sorted in
+    let s = subst (λ t. IsOrdered g.K.Ord.cmp (entries t)) c.in-Fork.is c.requires.searched.1 in
     let p = rw c.deref.ensures at c.in-Equal.ensures in
     let w = stands_here g.met.K.Ord.total c.args.key.now (entries n.left) (entry n) (entries n.right) p s in
     rw c.in-Fork.is (c.take_root_off.ensures.entries ∙ sym w.removed)
@@ -46,7 +46,7 @@ returns-in-Equal-clause-entries g t c =
 pub returns-in-Equal-clause-value : goal.returns-in-Equal-clause-value
 returns-in-Equal-clause-value g t c =
     let n = c.in-Fork.node.value in
-    let s = subst (λ t. IsOrdered g.K.Ord.cmp (entries t)) c.in-Fork.is c.requires.sorted in
+    let s = subst (λ t. IsOrdered g.K.Ord.cmp (entries t)) c.in-Fork.is c.requires.searched.1 in
     let p = rw c.deref.ensures at c.in-Equal.ensures in
     let w = stands_here g.met.K.Ord.total c.args.key.now (entries n.left) (entry n) (entries n.right) p s in
     rw c.in-Fork.is (map_map (λ b. entry b.value) (λ e. e.1) c.take_root_off.result ∙ ap (λ e. option_map (λ f. f.1) e) c.take_root_off.ensures.root ∙ sym w.found)
@@ -54,7 +54,7 @@ returns-in-Equal-clause-value g t c =
 pub returns-clause-entries : goal.returns-clause-entries
 returns-clause-entries g t c =
     let n = c.in-Fork.node.value in
-    let s = subst (λ t. IsOrdered g.K.Ord.cmp (entries t)) c.in-Fork.is c.requires.sorted in
+    let s = subst (λ t. IsOrdered g.K.Ord.cmp (entries t)) c.in-Fork.is c.requires.searched.1 in
     elim c.match-compare.branch [
       | in-Less b ↦
           let p = rw c.deref.ensures at b.in-Less.ensures in
@@ -73,7 +73,7 @@ returns-clause-entries g t c =
 pub returns-clause-value : goal.returns-clause-value
 returns-clause-value g t c =
     let n = c.in-Fork.node.value in
-    let s = subst (λ t. IsOrdered g.K.Ord.cmp (entries t)) c.in-Fork.is c.requires.sorted in
+    let s = subst (λ t. IsOrdered g.K.Ord.cmp (entries t)) c.in-Fork.is c.requires.searched.1 in
     elim c.match-compare.branch [
       | in-Less b ↦
           let p = rw c.deref.ensures at b.in-Less.ensures in
@@ -90,7 +90,7 @@ returns-clause-value g t c =
 pub returns-then-not-lower-clause-entries : goal.returns-then-not-lower-clause-entries
 returns-then-not-lower-clause-entries g t c =
     let n = c.in-Fork.node.value in
-    let s = subst (λ t. IsOrdered g.K.Ord.cmp (entries t)) c.in-Fork.is c.requires.sorted in
+    let s = subst (λ t. IsOrdered g.K.Ord.cmp (entries t)) c.in-Fork.is c.requires.searched.1 in
     elim c.match-compare.branch [
       | in-Less b ↦
           let p = rw c.deref.ensures at b.in-Less.ensures in
@@ -109,7 +109,7 @@ returns-then-not-lower-clause-entries g t c =
 pub returns-then-not-lower-clause-value : goal.returns-then-not-lower-clause-value
 returns-then-not-lower-clause-value g t c =
     let n = c.in-Fork.node.value in
-    let s = subst (λ t. IsOrdered g.K.Ord.cmp (entries t)) c.in-Fork.is c.requires.sorted in
+    let s = subst (λ t. IsOrdered g.K.Ord.cmp (entries t)) c.in-Fork.is c.requires.searched.1 in
     elim c.match-compare.branch [
       | in-Less b ↦
           let p = rw c.deref.ensures at b.in-Less.ensures in

@@ -41,19 +41,19 @@ beside_left-requires-clause-sorted g t c =
     let p = rw c.deref.ensures at c.in-Less.ensures in
     rw c.deref_mut-in-Equal-compare.ensures.value (goes_left g.met.K.Ord.total c.args.low.now (entries n.left) (entry n) (entries n.right) p s).sorted
 
-pub apart_at-requires-clause-left_sorted : goal.apart_at-requires-clause-left_sorted
-apart_at-requires-clause-left_sorted g t c =
+pub apart_at-requires-clause-left : goal.apart_at-requires-clause-left
+apart_at-requires-clause-left g t c =
     let n = c.in-Fork.node.value in
     let s = subst (λ t. IsOrdered g.K.Ord.cmp (entries t)) c.in-Fork.is c.requires.sorted in
     let p = rw c.deref.ensures at c.in-Less.ensures in
-    rw c.deref_mut-in-Greater-compare.ensures.value (goes_left g.met.K.Ord.total c.args.low.now (entries n.left) (entry n) (entries n.right) p s).sorted
+    rw c.deref_mut-in-Greater-compare.ensures.value ((subst IsAvl c.in-Fork.is c.requires.balanced).0, (goes_left g.met.K.Ord.total c.args.low.now (entries n.left) (entry n) (entries n.right) p s).sorted)
 
-pub apart_at-requires-clause-right_sorted : goal.apart_at-requires-clause-right_sorted
-apart_at-requires-clause-right_sorted g t c =
+pub apart_at-requires-clause-right : goal.apart_at-requires-clause-right
+apart_at-requires-clause-right g t c =
     let n = c.in-Fork.node.value in
     let s = subst (λ t. IsOrdered g.K.Ord.cmp (entries t)) c.in-Fork.is c.requires.sorted in
     let q = rw c.deref-in-Less.ensures at c.in-Greater-compare.ensures in
-    rw c.deref_mut-in-Greater-compare.ensures.value (goes_right g.met.K.Ord.total c.args.high.now (entries n.left) (entry n) (entries n.right) q s).sorted
+    rw c.deref_mut-in-Greater-compare.ensures.value ((subst IsAvl c.in-Fork.is c.requires.balanced).1, (goes_right g.met.K.Ord.total c.args.high.now (entries n.left) (entry n) (entries n.right) q s).sorted)
 
 pub returns-in-Greater-clause-changes : goal.returns-in-Greater-clause-changes
 returns-in-Greater-clause-changes g t c =

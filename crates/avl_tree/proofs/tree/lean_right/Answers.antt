@@ -21,13 +21,13 @@ pub returns-then-height-clause-entries : goal.returns-then-height-clause-entries
 returns-then-height-clause-entries g c =
     rw (c.join-then-height.ensures.entries, c.join.ensures.entries, c.in-Fork.is, c.split-inner.ensures.left, c.split-inner.ensures.entry, c.split-inner.ensures.right) (simp (append_assoc))
 
-pub returns-then-height-clause-not_lower : goal.returns-then-height-clause-not_lower
-returns-then-height-clause-not_lower g c =
+pub returns-then-height-clause-height : goal.returns-then-height-clause-height
+returns-then-height-clause-height g c =
     let a = subst IsAvl c.in-Fork.is c.requires.right in
     let top = ap stored_height c.in-Fork.is in
     let l = ap stored_height c.split-inner.ensures.left in
     let r = ap stored_height c.split-inner.ensures.right in
-    omega (arith, a.2, top, c.requires.two_higher, l, r, c.height.ensures, c.height-2.ensures, c.if-height.true, c.join-then-height.ensures.height, c.join.ensures.height)
+    (omega (arith, a.2, top, c.requires.two_higher, l, r, c.height.ensures, c.height-2.ensures, c.if-height.true, c.join-then-height.ensures.height, c.join.ensures.height), omega (arith, a.2, top, c.requires.two_higher, l, r, c.height.ensures, c.height-2.ensures, c.if-height.true, c.join-then-height.ensures.height, c.join.ensures.height))
 
 pub returns-clause-entries : goal.returns-clause-entries
 returns-clause-entries g c =
