@@ -10,18 +10,9 @@ const ACCOUNTS: u32 = 1000;
 fn account(id: u128) -> Account {
     Account {
         id,
-        debits_pending: 0,
-        debits_posted: 0,
-        credits_pending: 0,
-        credits_posted: 0,
-        user_data_128: 0,
-        user_data_64: 0,
-        user_data_32: 0,
-        reserved: 0,
         ledger: 700,
         code: 10,
-        flags: 0,
-        timestamp: 0,
+        ..Account::default()
     }
 }
 
@@ -32,15 +23,9 @@ fn transfer(id: u64) -> Transfer {
         debit_account_id: u128::from(debit) + 1,
         credit_account_id: u128::from(u64::from(ACCOUNTS) - debit),
         amount: 1,
-        pending_id: 0,
-        user_data_128: 0,
-        user_data_64: 0,
-        user_data_32: 0,
-        timeout: 0,
         ledger: 700,
         code: 10,
-        flags: 0,
-        timestamp: 0,
+        ..Transfer::default()
     }
 }
 

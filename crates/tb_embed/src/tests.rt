@@ -122,18 +122,9 @@ fn first_register(rt: HostRuntime) -> Result<(), Fail> {
 fn account_of(id: u128) -> Account {
     Account {
         id,
-        debits_pending: 0,
-        debits_posted: 0,
-        credits_pending: 0,
-        credits_posted: 0,
-        user_data_128: 0,
-        user_data_64: 0,
-        user_data_32: 0,
-        reserved: 0,
         ledger: 700,
         code: 10,
-        flags: 0,
-        timestamp: 0,
+        ..Account::default()
     }
 }
 

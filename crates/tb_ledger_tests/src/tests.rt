@@ -42,18 +42,9 @@ struct Run {
 fn account(id: u128) -> Account {
     Account {
         id,
-        debits_pending: 0,
-        debits_posted: 0,
-        credits_pending: 0,
-        credits_posted: 0,
-        user_data_128: 0,
-        user_data_64: 0,
-        user_data_32: 0,
-        reserved: 0,
         ledger: 700,
         code: 10,
-        flags: 0,
-        timestamp: 0,
+        ..Account::default()
     }
 }
 
@@ -72,15 +63,9 @@ fn transfer(id: u128, debit: u128, credit: u128, amount: u128) -> Transfer {
         debit_account_id: debit,
         credit_account_id: credit,
         amount,
-        pending_id: 0,
-        user_data_128: 0,
-        user_data_64: 0,
-        user_data_32: 0,
-        timeout: 0,
         ledger: 700,
         code: 10,
-        flags: 0,
-        timestamp: 0,
+        ..Transfer::default()
     }
 }
 

@@ -32,18 +32,10 @@ fn account(chances: &mut Chances) -> Account {
     let linked: u16 = if chances.below(9) == 0 { 1 } else { 0 };
     Account {
         id: u128::from(chances.below(ACCOUNTS)) + 1,
-        debits_pending: 0,
-        debits_posted: 0,
-        credits_pending: 0,
-        credits_posted: 0,
-        user_data_128: 0,
-        user_data_64: 0,
-        user_data_32: 0,
-        reserved: 0,
         ledger: 700,
         code: 10,
         flags: limits | linked,
-        timestamp: 0,
+        ..Account::default()
     }
 }
 

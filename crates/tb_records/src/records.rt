@@ -10,7 +10,7 @@ use crate::layout::Item;
 use crate::transfer_flags::TransferFlag;
 
 /// An account. Of a record that a client sends, the four sums and the timestamp are to be 0.
-#[derive(Clone, Copy, Debug, PartialEq, Eq)]
+#[derive(Clone, Copy, Debug, Default, PartialEq, Eq)]
 pub struct Account {
     /// Names the account: neither 0 nor the largest number.
     pub id: u128,
@@ -81,7 +81,7 @@ impl Account {
 }
 
 /// A transfer of an amount from a debit account to a credit account.
-#[derive(Clone, Copy, Debug, PartialEq, Eq)]
+#[derive(Clone, Copy, Debug, Default, PartialEq, Eq)]
 pub struct Transfer {
     /// Names the transfer: neither 0 nor the largest number.
     pub id: u128,

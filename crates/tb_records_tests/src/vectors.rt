@@ -60,18 +60,10 @@ pub(crate) fn record(id: u8, time: u8) -> [u8; 128] {
 pub(crate) fn account(id: u128, timestamp: u64) -> Account {
     Account {
         id,
-        debits_pending: 0,
-        debits_posted: 0,
-        credits_pending: 0,
-        credits_posted: 0,
-        user_data_128: 0,
-        user_data_64: 0,
-        user_data_32: 0,
-        reserved: 0,
         ledger: 700,
         code: 10,
-        flags: 0,
         timestamp,
+        ..Account::default()
     }
 }
 
@@ -91,15 +83,10 @@ pub(crate) fn transfer(id: u128) -> Transfer {
         debit_account_id: 1,
         credit_account_id: 2,
         amount: 30,
-        pending_id: 0,
-        user_data_128: 0,
-        user_data_64: 0,
-        user_data_32: 0,
-        timeout: 0,
         ledger: 700,
         code: 10,
-        flags: 0,
         timestamp: 20,
+        ..Transfer::default()
     }
 }
 

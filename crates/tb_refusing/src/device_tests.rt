@@ -143,18 +143,9 @@ fn put_pair(out: &mut Vec<u8>, request: &Request) -> Result<(), Fail> {
 fn account(id: u128) -> Account {
     Account {
         id,
-        debits_pending: 0,
-        debits_posted: 0,
-        credits_pending: 0,
-        credits_posted: 0,
-        user_data_128: 0,
-        user_data_64: 0,
-        user_data_32: 0,
-        reserved: 0,
         ledger: 700,
         code: 10,
-        flags: 0,
-        timestamp: 0,
+        ..Account::default()
     }
 }
 

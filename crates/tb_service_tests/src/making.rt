@@ -40,18 +40,9 @@ pub(crate) type Started<'a, J, R> = Server<J, &'a R, Every, Open>;
 fn account(id: u128) -> Account {
     Account {
         id,
-        debits_pending: 0,
-        debits_posted: 0,
-        credits_pending: 0,
-        credits_posted: 0,
-        user_data_128: 0,
-        user_data_64: 0,
-        user_data_32: 0,
-        reserved: 0,
         ledger: 700,
         code: 10,
-        flags: 0,
-        timestamp: 0,
+        ..Account::default()
     }
 }
 
@@ -62,15 +53,9 @@ pub(crate) fn transfer(id: u128, amount: u128) -> Transfer {
         debit_account_id: 1,
         credit_account_id: 2,
         amount,
-        pending_id: 0,
-        user_data_128: 0,
-        user_data_64: 0,
-        user_data_32: 0,
-        timeout: 0,
         ledger: 700,
         code: 10,
-        flags: 0,
-        timestamp: 0,
+        ..Transfer::default()
     }
 }
 

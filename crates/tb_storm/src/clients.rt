@@ -21,18 +21,9 @@ const BANK: u128 = 1000;
 fn account(id: u128) -> Account {
     Account {
         id,
-        debits_pending: 0,
-        debits_posted: 0,
-        credits_pending: 0,
-        credits_posted: 0,
-        user_data_128: 0,
-        user_data_64: 0,
-        user_data_32: 0,
-        reserved: 0,
         ledger: 700,
         code: 10,
-        flags: 0,
-        timestamp: 0,
+        ..Account::default()
     }
 }
 
@@ -43,15 +34,9 @@ fn transfer(client: u32, k: u32) -> Transfer {
         debit_account_id: u128::from(client),
         credit_account_id: BANK,
         amount: u128::from(k),
-        pending_id: 0,
-        user_data_128: 0,
-        user_data_64: 0,
-        user_data_32: 0,
-        timeout: 0,
         ledger: 700,
         code: 10,
-        flags: 0,
-        timestamp: 0,
+        ..Transfer::default()
     }
 }
 
