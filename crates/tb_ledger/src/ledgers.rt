@@ -295,7 +295,7 @@ impl<A: Allocator + Clone> Ledger<A> {
         ensures items { out.new.items ≡ out.old.items ++ found_accounts self.now ids.now }
         ensures capacity { vec_capacity out.new ≡ vec_capacity out.old }
     {
-        lookups::fill_accounts(&self.rows.accounts, ids, out);
+        lookups::fill(&self.rows.accounts, ids, out);
     }
 
     /// Appends what [`Ledger::lookup_transfers`] answers, to a vector with room for as many transfers as there are ids.
@@ -304,6 +304,6 @@ impl<A: Allocator + Clone> Ledger<A> {
         ensures items { out.new.items ≡ out.old.items ++ found_transfers self.now ids.now }
         ensures capacity { vec_capacity out.new ≡ vec_capacity out.old }
     {
-        lookups::fill_transfers(&self.rows.transfers, ids, out);
+        lookups::fill(&self.rows.transfers, ids, out);
     }
 }

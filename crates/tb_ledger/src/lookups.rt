@@ -2,143 +2,112 @@
 ghost use Rattle.std.specs.Prelude.{◌≡◌, ◌+◌, ◌≤◌, ◌++◌, length, vec_len, vec_capacity};
 ghost use Rattle.std.specs.List.{filter_map};
 ghost use Rattle.std.specs.Option.{option_copied, option_map};
-ghost use Rattle.tb_ledger.specs.Kept.{row_now};
-ghost use Rattle.tb_ledger.specs.Lookups.{account_in, transfer_in};
+ghost use Rattle.tb_ledger.specs.Lookups.{found_in};
 
 use crate::tables::accounts::AccountRow;
-use crate::tables::map::Table;
+use crate::tables::map::{Keyed, Table};
 use crate::tables::transfers::TransferRow;
 use std::alloc::Allocator;
 use tb_records::{Account, Transfer};
 
-/// Appends the accounts of the rows that are there.
-fn push_accounts(rows: &[Option<&AccountRow>], out: &mut Vec<Account>)
+/// A row that a look-up gives as a record.
+pub trait Found: Keyed {
+    type Record;
+
+    ghost record_now: { Self → Self.Record };
+
+    fn found(&self) -> Self::Record
+        ensures { result ≡ record_now self.now };
+}
+
+/// An account is found as it stands.
+impl Found for AccountRow {
+    ghost use Rattle.tb_ledger.specs.Kept.{row_now};
+
+    type Record = Account;
+
+    ghost record_now = { row_now };
+
+    fn found(&self) -> Account {
+        self.as_it_stands()
+    }
+}
+
+/// A transfer is found as it was recorded.
+impl Found for TransferRow {
+    type Record = Transfer;
+
+    ghost record_now = { λ t. t.recorded };
+
+    fn found(&self) -> Transfer {
+        self.recorded()
+    }
+}
+
+/// Appends the records of the rows that are there.
+fn push_found<V: Found>(rows: &[Option<&V>], out: &mut Vec<V::Record>)
     requires { vec_len out.old + length rows.now ≤ vec_capacity out.old }
     ensures items { out.new.items
-        ≡ out.old.items ++ filter_map (λ r. option_map row_now (option_copied r)) rows.now }
+        ≡ out.old.items ++ filter_map (λ r. option_map V.record_now (option_copied r)) rows.now }
     ensures len { vec_len out.new ≤ vec_len out.old + length rows.now }
     ensures capacity { vec_capacity out.new ≡ vec_capacity out.old }
 {
     for row in rows {
         if let Some(row) = row {
-            out.push_reserved(row.as_it_stands());
+            out.push_reserved(row.found());
         }
     }
 }
 
-/// Appends the accounts of the ids by eights, and answers the ids that are left, fewer than eight.
-fn fill_eights_of_accounts<'a, A: Allocator + Clone>(
-    table: &Table<AccountRow, A>,
+/// Appends the records of the ids by eights, and answers the ids that are left, fewer than eight.
+fn fill_eights<'a, V: Found, A: Allocator + Clone>(
+    table: &Table<V, A>,
     ids: &'a [u128],
-    out: &mut Vec<Account>,
+    out: &mut Vec<V::Record>,
 ) -> &'a [u128]
     requires { vec_len out.old + length ids.now ≤ vec_capacity out.old }
-    ensures items { out.new.items ++ filter_map (account_in table.now.items) result.now
-        ≡ out.old.items ++ filter_map (account_in table.now.items) ids.now }
+    ensures items { out.new.items ++ filter_map (found_in V.key V.record_now table.now.items) result.now
+        ≡ out.old.items ++ filter_map (found_in V.key V.record_now table.now.items) ids.now }
     ensures room { vec_len out.new + length result.now ≤ vec_capacity out.new }
     ensures capacity { vec_capacity out.new ≡ vec_capacity out.old }
 {
     let mut rest = ids;
     while let Some((eight, later)) = rest.split_first_chunk::<8>() {
-        push_accounts(&table.get_many(eight), out);
+        push_found(&table.get_many(eight), out);
         rest = later;
     }
     rest
 }
 
-/// Appends the accounts of the ids one at a time.
-fn fill_each_of_accounts<A: Allocator + Clone>(
-    table: &Table<AccountRow, A>,
+/// Appends the records of the ids one at a time.
+fn fill_each<V: Found, A: Allocator + Clone>(
+    table: &Table<V, A>,
     ids: &[u128],
-    out: &mut Vec<Account>,
+    out: &mut Vec<V::Record>,
 )
     requires { vec_len out.old + length ids.now ≤ vec_capacity out.old }
-    ensures items { out.new.items ≡ out.old.items ++ filter_map (account_in table.now.items) ids.now }
-    ensures capacity { vec_capacity out.new ≡ vec_capacity out.old }
-{
-    for id in ids {
-        if let Some(row) = table.get(*id) {
-            out.push_reserved(row.as_it_stands());
-        }
-    }
-}
-
-/// Appends the accounts of the ids, in their order: one that isn't there is left out.
-pub(crate) fn fill_accounts<A: Allocator + Clone>(
-    table: &Table<AccountRow, A>,
-    ids: &[u128],
-    out: &mut Vec<Account>,
-)
-    requires { vec_len out.old + length ids.now ≤ vec_capacity out.old }
-    ensures items { out.new.items ≡ out.old.items ++ filter_map (account_in table.now.items) ids.now }
-    ensures capacity { vec_capacity out.new ≡ vec_capacity out.old }
-{
-    let rest = fill_eights_of_accounts(table, ids, out);
-    fill_each_of_accounts(table, rest, out);
-}
-
-/// Appends the transfers of the rows that are there.
-fn push_transfers(rows: &[Option<&TransferRow>], out: &mut Vec<Transfer>)
-    requires { vec_len out.old + length rows.now ≤ vec_capacity out.old }
     ensures items { out.new.items
-        ≡ out.old.items ++ filter_map (λ r. option_map (λ t. t.recorded) (option_copied r)) rows.now }
-    ensures len { vec_len out.new ≤ vec_len out.old + length rows.now }
-    ensures capacity { vec_capacity out.new ≡ vec_capacity out.old }
-{
-    for row in rows {
-        if let Some(row) = row {
-            out.push_reserved(row.recorded());
-        }
-    }
-}
-
-/// Appends the transfers of the ids by eights, and answers the ids that are left, fewer than eight.
-fn fill_eights_of_transfers<'a, A: Allocator + Clone>(
-    table: &Table<TransferRow, A>,
-    ids: &'a [u128],
-    out: &mut Vec<Transfer>,
-) -> &'a [u128]
-    requires { vec_len out.old + length ids.now ≤ vec_capacity out.old }
-    ensures items { out.new.items ++ filter_map (transfer_in table.now.items) result.now
-        ≡ out.old.items ++ filter_map (transfer_in table.now.items) ids.now }
-    ensures room { vec_len out.new + length result.now ≤ vec_capacity out.new }
-    ensures capacity { vec_capacity out.new ≡ vec_capacity out.old }
-{
-    let mut rest = ids;
-    while let Some((eight, later)) = rest.split_first_chunk::<8>() {
-        push_transfers(&table.get_many(eight), out);
-        rest = later;
-    }
-    rest
-}
-
-/// Appends the transfers of the ids one at a time.
-fn fill_each_of_transfers<A: Allocator + Clone>(
-    table: &Table<TransferRow, A>,
-    ids: &[u128],
-    out: &mut Vec<Transfer>,
-)
-    requires { vec_len out.old + length ids.now ≤ vec_capacity out.old }
-    ensures items { out.new.items ≡ out.old.items ++ filter_map (transfer_in table.now.items) ids.now }
+        ≡ out.old.items ++ filter_map (found_in V.key V.record_now table.now.items) ids.now }
     ensures capacity { vec_capacity out.new ≡ vec_capacity out.old }
 {
     for id in ids {
         if let Some(row) = table.get(*id) {
-            out.push_reserved(row.recorded());
+            out.push_reserved(row.found());
         }
     }
 }
 
-/// Appends the transfers of the ids, in their order: one that isn't there is left out.
-pub(crate) fn fill_transfers<A: Allocator + Clone>(
-    table: &Table<TransferRow, A>,
+/// Appends the records of the ids, in their order: one that isn't there is left out.
+pub(crate) fn fill<V: Found, A: Allocator + Clone>(
+    table: &Table<V, A>,
     ids: &[u128],
-    out: &mut Vec<Transfer>,
+    out: &mut Vec<V::Record>,
 )
     requires { vec_len out.old + length ids.now ≤ vec_capacity out.old }
-    ensures items { out.new.items ≡ out.old.items ++ filter_map (transfer_in table.now.items) ids.now }
+    ensures items { out.new.items
+        ≡ out.old.items ++ filter_map (found_in V.key V.record_now table.now.items) ids.now }
     ensures capacity { vec_capacity out.new ≡ vec_capacity out.old }
 {
-    let rest = fill_eights_of_transfers(table, ids, out);
-    fill_each_of_transfers(table, rest, out);
+    let rest = fill_eights(table, ids, out);
+    fill_each(table, rest, out);
 }

@@ -11,7 +11,7 @@ use Rattle.tb_records.specs.declared.limits.Profile.TheVariants.{One, Two}
 use Rattle.tb_records.specs.DumpBytes.{HeadAnswers, HeadCounts, ItemAnswers, ItemCounts}
 use Rattle.tb_records.specs.Ordered.{Each}
 use Rattle.tb_records.specs.ReplyFrames.{reply_bytes, IsReply}
-use Rattle.tb_records.specs.Transport.{Input, Output, Sent, CutOff}
+use Rattle.tb_records.specs.Transport.{Input, Output, IsOfBytes, Sent, CutOff}
 use Rattle.tb_ledger.specs.Books.{profile_of}
 use Rattle.tb_machine.specs.declared.entries.Entry.{Entry}
 use Rattle.tb_machine.specs.Histories.{State, fits, reply_at, step, to_two}
@@ -75,9 +75,8 @@ ReplaysOn (Err f) S T before after start written = ReplayStops f S T before afte
 
 -- the bytes of a dump were read
 abbrev pub ReadsDump : Profile → ℕ → List Entry → Option ℕ → Option (List ℕ) → Option (List ℕ) → Type 0
-ReadsDump profile clients_max h place None after = Unit {0}
-ReadsDump profile clients_max h place (Some before) None = ⊥
-ReadsDump profile clients_max h place (Some before) (Some after) = (bytes : List ℕ) × DumpSpells bytes profile clients_max h place × (before ≡ bytes ++ after)
+ReadsDump profile clients_max h place before after =
+    IsOfBytes (λ left rest. (bytes : List ℕ) × DumpSpells bytes profile clients_max h place × (left ≡ bytes ++ rest)) before after
 
 -- a legal history was read, with its mark, if there is one; the replies were written, and nothing else; what was written
 -- spells them

@@ -8,7 +8,7 @@ use Rattle.tb_records.specs.Ordered.{Each}
 use Rattle.tb_records.specs.Frames.{IsRequest}
 use Rattle.tb_records.specs.ReplyFrames.{reply_bytes, IsReply}
 use Rattle.tb_records.specs.Inputs.{timed_bytes, TimedAnswers}
-use Rattle.tb_records.specs.Transport.{Input, Output, FaultCounts, Sent, CutOff}
+use Rattle.tb_records.specs.Transport.{Input, Output, IsOfBytes, FaultCounts, Sent, CutOff}
 use Rattle.tb_sessions.specs.Judged.{class_of}
 use Rattle.tb_machine.specs.declared.entries.Entry.{Entry}
 use Rattle.tb_machine.specs.declared.serving.RunFault.{RunFault}
@@ -21,9 +21,7 @@ abbrev pub IsPair : Pair → Type 0
 IsPair p = (p.0 < 2 ^ 64) × IsRequest p.1
 
 abbrev pub Spell : List Pair → Option (List ℕ) → Option (List ℕ) → Type 0
-Spell ps None after = Unit {0}
-Spell ps (Some before) None = ⊥
-Spell ps (Some before) (Some after) = (before ≡ flat_map timed_bytes ps ++ after) × Each IsPair ps
+Spell ps before after = IsOfBytes (λ bytes rest. (bytes ≡ flat_map timed_bytes ps ++ rest) × Each IsPair ps) before after
 
 -- the pairs were read, and no error was counted
 pub record Reads (ps : List Pair) (before after : Input) : Type 0 where

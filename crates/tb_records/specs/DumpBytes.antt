@@ -13,7 +13,7 @@ use Rattle.tb_records.specs.Frames.{request_bytes, request_fault, length_at, IsR
 use Rattle.tb_records.specs.Inputs.{Faulted}
 use Rattle.tb_records.specs.Messages.{Message}
 use Rattle.tb_records.specs.Numbers.{le_bytes}
-use Rattle.tb_records.specs.Transport.{Input, Fails, FaultCounts}
+use Rattle.tb_records.specs.Transport.{Input, IsOfBytes, Fails, FaultCounts}
 
 -- TBSDUMP1
 abbrev pub signature : List ℕ
@@ -63,9 +63,7 @@ HeadAnswered (Err fault) before after = ⊥
 
 -- the same of a reader that may not tell its bytes
 abbrev pub HeadAnswers : Result DumpHead DumpFault → Option (List ℕ) → Option (List ℕ) → Type 0
-HeadAnswers result None after = Unit {0}
-HeadAnswers result (Some before) None = ⊥
-HeadAnswers result (Some before) (Some after) = HeadAnswered result before after
+HeadAnswers result before after = IsOfBytes (HeadAnswered result) before after
 
 -- the first 16 bytes are those of an entry
 pub record Begins (before rest : List ℕ) : Type 0 where
@@ -100,9 +98,7 @@ ItemAnswered (Err fault) before after = ItemFaulted fault before after
 
 -- the same of a reader that may not tell its bytes
 abbrev pub ItemAnswers : Result (Option DumpItem) DumpFault → Option (List ℕ) → Option (List ℕ) → Type 0
-ItemAnswers result None after = Unit {0}
-ItemAnswers result (Some before) None = ⊥
-ItemAnswers result (Some before) (Some after) = ItemAnswered result before after
+ItemAnswers result before after = IsOfBytes (ItemAnswered result) before after
 
 -- what an answer says of the reader's errors, and which faults it can be
 

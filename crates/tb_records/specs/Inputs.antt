@@ -5,6 +5,7 @@ use Rattle.tb_records.specs.declared.faults.FrameFault.TheVariants.{Short, Devic
 use Rattle.tb_records.specs.Frames.{Spells, IsRequest, request_bytes, request_fault, header_fault, length_at}
 use Rattle.tb_records.specs.Messages.{Message}
 use Rattle.tb_records.specs.Numbers.{le_bytes}
+use Rattle.tb_records.specs.Transport.{IsOfBytes}
 
 -- what a slice answers: the request that its first n bytes spell, or the first fault; want of memory only where there is none
 abbrev pub Found : Result (Message × ℕ) FrameFault → List ℕ → Type 0
@@ -49,9 +50,7 @@ Answered (Err fault) before after = Faulted fault before after
 
 -- the same of a reader that may not tell its bytes
 abbrev pub Answers : Result (Option Message) FrameFault → Option (List ℕ) → Option (List ℕ) → Type 0
-Answers result None after = Unit {0}
-Answers result (Some before) None = ⊥
-Answers result (Some before) (Some after) = Answered result before after
+Answers result before after = IsOfBytes (Answered result) before after
 
 -- a fault of a moment of 8 bytes and a frame behind it
 abbrev pub TimedFaulted : FrameFault → List ℕ → List ℕ → Type 0
@@ -75,6 +74,4 @@ TimedAnswered (Err fault) before after = TimedFaulted fault before after
 
 -- the same of a reader that may not tell its bytes
 abbrev pub TimedAnswers : Result (Option (ℕ × Message)) FrameFault → Option (List ℕ) → Option (List ℕ) → Type 0
-TimedAnswers result None after = Unit {0}
-TimedAnswers result (Some before) None = ⊥
-TimedAnswers result (Some before) (Some after) = TimedAnswered result before after
+TimedAnswers result before after = IsOfBytes (TimedAnswered result) before after

@@ -1,5 +1,5 @@
 -- What readers and writers tell of their bytes, and how their failures are counted.
-use Rattle.std.specs.Prelude.{ℕ, Bool, true, false, ◌≡◌, ◌+◌, ◌-◌, ◌^◌, ◌⊎◌, ◌&&◌, ◌==◌, not, min, List, length, take, Option, Result, Ok, Err, if◌then◌else◌}
+use Rattle.std.specs.Prelude.{ℕ, Bool, true, false, ◌≡◌, ◌+◌, ◌-◌, ◌^◌, ◌⊎◌, ◌&&◌, ◌==◌, not, min, List, length, take, Option, None, Some, Result, Ok, Err, if◌then◌else◌}
 use Rattle.std.specs.Io.KnownBytes.{Appends}
 use Rattle.tb_records.specs.declared.faults.FrameFault.{FrameFault}
 use Rattle.tb_records.specs.declared.faults.FrameFault.TheVariants.{Device}
@@ -39,6 +39,12 @@ abbrev pub risen : ℕ → ℕ
 risen n = min (n + 1) (2 ^ 64 - 1)
 
 -- readers
+
+-- what holds of the bytes left before and after, of a reader that tells them; of one that does not, nothing is said
+abbrev pub IsOfBytes : (List ℕ → List ℕ → Type 0) → Option (List ℕ) → Option (List ℕ) → Type 0
+IsOfBytes Holds None after = Unit {0}
+IsOfBytes Holds (Some before) None = ⊥
+IsOfBytes Holds (Some before) (Some after) = Holds before after
 
 -- one error was counted, and the reader was not asked again: it is as it was when the count rose
 pub record Fails (before after : Input) : Type 0 where

@@ -23,10 +23,11 @@ use Rattle.tb_text.specs.Steps.{Begins, Scans}
 use Rattle.tb_text.specs.Awaited.{GoesOn, Awaits, AwaitsBehind, MayStand, OnNextLine, awaits_equals, awaits_bar, is_given_place, is_opened_place, has_operation, awaits_comma, awaits_semicolon}
 use Rattle.tb_text.proofs.EachWord.{all_word_bytes, begins_with_letter, letter_first, word_bytes, named_by_text, word_place, stands_at, place_below}
 use Rattle.tb_text.proofs.Runs.{run_append, run_behind}
-use Rattle.tb_text.proofs.Tokens.{one_step, at_gap, line_end, and_left, and_right, stands_spelling, taken_between, word_through, gap_letter}
+use Rattle.tb_text.proofs.Tokens.{one_step, at_gap, line_end, stands_spelling, taken_between, word_through, gap_letter}
 use Rattle.tb_text.proofs.Ongoing.{Each, Within, IsClear, IsOngoing, Stands, read_goes_on}
 use Rattle.tb_text.proofs.Endings.{Rests, read_begins, decimal_one, finished_rests, pushed_rests, step_is}
 use Rattle.tb_text.proofs.Faults.{stopped}
+use Rattle.tb_text.proofs.Facts.{and_left, and_right}
 
 -- these bytes are taken
 abbrev Runs : Scan → List ℕ → Type 0
@@ -34,9 +35,6 @@ Runs s bytes = (t : Scan) × (run s bytes ≡ Some t)
 
 some_none : (s : Scan) → None ≡ Some s → ⊥
 some_none s e = absurd cc
-
-true_false : (b : Bool) → b ≡ true → b ≡ false → ⊥
-true_false b h k = absurd cc
 
 -- a text of statements begins so where the bytes are taken
 

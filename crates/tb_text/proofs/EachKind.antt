@@ -15,11 +15,13 @@ use Rattle.tb_text.specs.declared.places.Place.{Place}
 use Rattle.tb_text.specs.declared.places.Place.TheVariants.{Opened, Parted}
 use Rattle.tb_text.specs.Scan.{Entry, Scan, run, awaits_field, may_have, finished}
 use Rattle.tb_text.specs.Printed.{entries_text, entry_text, account_entries, transfer_entries, account_text, transfer_text, id_text}
-use Rattle.tb_text.proofs.Tokens.{IsBetween, IsEnd, at_gap, if_true}
+use Rattle.tb_text.proofs.Tokens.{IsBetween, IsEnd, at_gap}
 use Rattle.tb_text.proofs.Flags.{at, SameBits}
 use Rattle.tb_text.proofs.Entries.{told, InOrder, all_at, entries_through, none_or}
 use Rattle.tb_text.proofs.Orders.{small_128, accounts_in_order, transfers_in_order}
 use Rattle.tb_text.proofs.Items.{mid, IsKind, account_back, transfer_back}
+use Rattle.tb_text.proofs.Facts.{if_true}
+use Rattle.std.proofs.lemmas.List.{append-nil}
 
 -- an id and further fields, behind a mark or an operation
 event_through : (q : Operation) (s : Scan) (id : ℕ) (es : List Entry) (tail : List ℕ) → IsEnd tail → IsBetween s → SameBits s.operation q → awaits_field s.place ≡ true → s.given ≡ [] → may_have s.operation field.Id ≡ true → id < 2 ^ 128
@@ -38,10 +40,6 @@ event_through q s id es tail e b bits a n m fits o =
         by : (c : Bool) → (c && false) ≡ false
         by true = refl
         by false = refl
-
-no_further : (text : List ℕ) → text ++ [] ≡ text
-no_further [] = refl
-no_further (b ∷ bs) = ap (λ (ys : List ℕ). b ∷ ys) (no_further bs)
 
 room : (n : ℕ) → n + 1 < 8190 → nat_lt (n + 1) 8190 ≡ true
 room n h = grind (arith, nat_tests)
@@ -111,7 +109,7 @@ sought_accounts_kind pairs header = record {
       let through = event_through Register s x [] tail end (record { lexeme = refl; spelled = refl }) (λ f. refl) awaits refl refl h tt in
       let g = (field.Id, x) ∷ told Register [] in (
         at s through.0 g,
-        ap (λ (t : List ℕ). run s (t ++ tail)) (sym (no_further (entry_text Register (field.Id, x)))) ∙ through.1,
+        ap (λ (t : List ℕ). run s (t ++ tail)) (sym (append-nil (entry_text Register (field.Id, x)))) ∙ through.1,
         record {
           parts = λ few. at_gap (at s through.0 g) 44 refl ∙ (if_true (nat_lt (0 + 0 + length xs + 1) 8190) _ _ (room (0 + 0 + length xs) (omega arith)) ∙ ap (λ (y : ℕ). Some (sought_accounts_state pairs header (xs ++ y ∷ []) Parted)) (none_or x));
           ends = at_gap (at s through.0 g) 59 refl ∙ ap (λ (y : ℕ). sought_accounts_ended pairs header (xs ++ y ∷ [])) (none_or x);
@@ -136,7 +134,7 @@ sought_transfers_kind pairs header = record {
       let through = event_through Register s x [] tail end (record { lexeme = refl; spelled = refl }) (λ f. refl) awaits refl refl h tt in
       let g = (field.Id, x) ∷ told Register [] in (
         at s through.0 g,
-        ap (λ (t : List ℕ). run s (t ++ tail)) (sym (no_further (entry_text Register (field.Id, x)))) ∙ through.1,
+        ap (λ (t : List ℕ). run s (t ++ tail)) (sym (append-nil (entry_text Register (field.Id, x)))) ∙ through.1,
         record {
           parts = λ few. at_gap (at s through.0 g) 44 refl ∙ (if_true (nat_lt (0 + 0 + length xs + 1) 8190) _ _ (room (0 + 0 + length xs) (omega arith)) ∙ ap (λ (y : ℕ). Some (sought_transfers_state pairs header (xs ++ y ∷ []) Parted)) (none_or x));
           ends = at_gap (at s through.0 g) 59 refl ∙ ap (λ (y : ℕ). sought_transfers_ended pairs header (xs ++ y ∷ [])) (none_or x);

@@ -21,10 +21,12 @@ use Rattle.tb_text.specs.Steps.{Begins}
 use Rattle.std.specs.Fmt.{decimal}
 use Rattle.tb_text.proofs.EachWord.{all_word_bytes, word_bytes}
 use Rattle.tb_text.proofs.Runs.{run_behind}
-use Rattle.tb_text.proofs.Tokens.{IsBetween, one_step, at_gap, space, and_both, and_left, and_right, word_on, word_through, taken_between}
+use Rattle.tb_text.proofs.Tokens.{IsBetween, one_step, at_gap, space, word_on, word_through, taken_between}
 use Rattle.tb_text.proofs.Numbers.{entry_through}
 use Rattle.tb_text.proofs.Items.{low_32}
 use Rattle.tb_text.proofs.Ongoing.{HeaderNumbers, is_new, given_more, IsChosen, Stands, IsBegun, Within, IsOngoing, IsClear, number_stands, wanted_stands, wanted_here, taken_clear, read_goes_on}
+use Rattle.tb_text.proofs.Facts.{and_both, and_left, and_right, equal, at_most}
+use Rattle.std.proofs.lemmas.Bool.{not-true}
 
 -- bytes that go on to the end of a statement
 record CanEnd (s : Scan) : Type 0 where
@@ -50,22 +52,15 @@ number_lawful : (m : Message) → (m.client == 0) ≡ false → (is_register m.b
     → number_fault m ≡ None
 number_lawful m a b c d = rw (a, b, c, d) refl
 
-not_so : (b : Bool) → not b ≡ true → b ≡ false
-not_so true h = absurd cc
-not_so false h = refl
-
-equal : (m n : ℕ) → (m == n) ≡ true → m ≡ n
-equal m n h = grind (arith, nat_tests)
-
 no_more : (n m : ℕ) → n ≤ m → m ≤ 8190 → nat_lt 8190 n ≡ false
 no_more n m h k = grind (arith, nat_tests)
 
 -- the numbers of a request that is no register
 client_of : (c r : Bool) → (not c && not r) ≡ true → c ≡ false
-client_of c r h = not_so c (and_left (not c) (not r) h)
+client_of c r h = not-true c (and_left (not c) (not r) h)
 
 number_of : (c r : Bool) → (not c && not r) ≡ true → r ≡ false
-number_of c r h = not_so r (and_right (not c) (not r) h)
+number_of c r h = not-true r (and_right (not c) (not r) h)
 
 low_number : (n : ℕ) → n < 2 ^ 32 → (n == 0) ≡ false → (n % 2 ^ 32 == 0) ≡ false
 low_number n lt h = ap (λ (m : ℕ). m == 0) (low_32 n lt) ∙ h
@@ -76,7 +71,7 @@ no_session m n h k = rw (equal m 0 h, equal n 0 k) refl
 request_lawful : (s : Scan) (o : Operation) → IsChosen o s.header → item_count s ≤ 8190 → number_fault (request_of s o) ≡ None
 request_lawful s Register h few =
     let front = and_left (not (value_of field.Client s.header == 0) && value_of field.Session s.header == 0) (value_of field.Request s.header == 0) h.suited in
-    number_lawful (request_of s Register) (not_so (value_of field.Client s.header == 0) (and_left (not (value_of field.Client s.header == 0)) (value_of field.Session s.header == 0) front))
+    number_lawful (request_of s Register) (not-true (value_of field.Client s.header == 0) (and_left (not (value_of field.Client s.header == 0)) (value_of field.Session s.header == 0) front))
     (no_session (value_of field.Session s.header) (value_of field.Request s.header) (and_right (not (value_of field.Client s.header == 0)) (value_of field.Session s.header == 0) front)
     (and_right (not (value_of field.Client s.header == 0) && value_of field.Session s.header == 0) (value_of field.Request s.header == 0) h.suited)) refl refl
 request_lawful s CreateAccounts h few =
@@ -215,9 +210,6 @@ max_positive field.Ledger = refl
 max_positive field.Code = refl
 max_positive field.Flags = refl
 max_positive field.Timestamp = refl
-
-at_most : (a b : ℕ) → nat_le a b ≡ true → a ≤ b
-at_most a b h = grind (arith, nat_tests)
 
 pub decimal_one : (s : Scan) (f : Field) → wanted s.place ≡ Some f → decimal_grown s 0 1 ≡ Some (within s (Decimal 1))
 decimal_one s f w =

@@ -15,6 +15,7 @@ use Rattle.tb_text.specs.Printed.{entry_text, further_text, entries_text, flags_
 use Rattle.tb_text.proofs.Tokens.{IsBetween, IsEnd, space}
 use Rattle.tb_text.proofs.Numbers.{entry_through}
 use Rattle.tb_text.proofs.Flags.{at, flag_entries, SameBits, flags_through, flags_make}
+use Rattle.std.proofs.lemmas.List.{append-nil}
 
 -- the entries that a printed one is read as
 abbrev pub entries_of : Operation → Entry → List Entry
@@ -33,10 +34,6 @@ entered_one o s e = at s e.0 (s.given ++ entries_of o e)
 abbrev pub entered_all : Operation → Scan → List Entry → Scan
 entered_all o s [] = s
 entered_all o s (e ∷ es) = cond (e.1 == 0) (entered_all o s es) (entered_all o (entered_one o s e) es)
-
-append_nil : {X : Type 0} (xs : List X) → xs ++ [] ≡ xs
-append_nil [] = refl
-append_nil {X} (x ∷ xs) = ap (λ (ys : List X). x ∷ ys) (append_nil xs)
 
 -- each is a field of the operation whose number fits, in the order of the fields from a place on
 abbrev pub InOrder : Option Operation → ℕ → List Entry → Type 0
@@ -182,7 +179,7 @@ entries_through q first es s text h between bits a none m le small p o =
 
 -- all in all, the last field given and all entries
 pub all_at : (q : Operation) (es : List Entry) (s : Scan) (f : Field) (g : List Entry) → (h : Field) × (entered_all q (at s f g) es ≡ at s h (g ++ told q es))
-all_at q [] s f g = (f, ap (at s f) (sym (append_nil g)))
+all_at q [] s f g = (f, ap (at s f) (sym (append-nil g)))
 all_at q (e ∷ es) s f g = by (e.1 == 0) (all_at q es s f g) (all_at q es s e.0 (g ++ entries_of q e))
   where
     by : (b : Bool) → (h : Field) × (entered_all q (at s f g) es ≡ at s h (g ++ told q es)) → (h : Field) × (entered_all q (at s e.0 (g ++ entries_of q e)) es ≡ at s h ((g ++ entries_of q e) ++ told q es))

@@ -7,6 +7,8 @@ use Rattle.tb_text.specs.Scan.{Scan, behind, step, run, is_at_rest}
 use Rattle.tb_text.specs.Steps.{BeginsUpTo, Means, Reads, Stops}
 use Rattle.tb_text.proofs.Runs.{run_append, run_behind}
 use Rattle.tb_text.proofs.Endings.{read_begins}
+use Rattle.tb_text.proofs.Facts.{true_false, same_some}
+use Rattle.std.proofs.lemmas.List.{append-nil}
 
 -- no run goes through the byte at the place
 pub stopped : (text : List ℕ) (place : ℕ) (last : Scan) (more : List ℕ) → place < length text → run (behind []) (take place text) ≡ Some last → step last (get_or text place 0) ≡ None
@@ -27,12 +29,6 @@ nothing_goes_on text pairs others place more lt stops means = by stops.why
     by (inl here) = some_none means.last (sym means.taken ∙ stopped text place stops.last more here.0 stops.taken here.1)
     by (inr over) = absurd (omega arith)
 
-same_scan : (a b : Scan) → Some a ≡ Some b → a ≡ b
-same_scan a b e = cc
-
-true_false : (b : Bool) → b ≡ true → b ≡ false → ⊥
-true_false b h k = absurd cc
-
 take_whole : (text : List ℕ) → take (length text) text ≡ text
 take_whole [] = refl
 take_whole (b ∷ bs) = ap (λ (t : List ℕ). b ∷ t) (take_whole bs)
@@ -46,12 +42,8 @@ no_meaning text pairs others place stops means = by stops.why
         (subst (λ (t : List ℕ). Means t others) (sym (take-append-drop (place + 1) text)) means)
     by (inr over) =
         let whole : take place text ≡ text = ap (λ (n : ℕ). take n text) over.0 ∙ take_whole text in
-        let same = same_scan stops.last means.last (sym stops.taken ∙ (ap (run (behind [])) whole ∙ means.taken)) in
+        let same = same_some stops.last means.last (sym stops.taken ∙ (ap (run (behind [])) whole ∙ means.taken)) in
         true_false (is_at_rest stops.last) (ap is_at_rest same ∙ means.whole) over.1
-
-append_none : (text : List ℕ) → text ++ [] ≡ text
-append_none [] = refl
-append_none (b ∷ bs) = ap (λ (t : List ℕ). b ∷ t) (append_none bs)
 
 not_past : (text : List ℕ) (pairs : List (ℕ × Message)) (place : ℕ) → Stops text pairs place → place ≤ length text
 not_past text pairs place stops = by stops.why
@@ -61,7 +53,7 @@ not_past text pairs place stops = by stops.why
     by (inr over) = omega (arith, over.0)
 
 pub begins_up_to : (text : List ℕ) (pairs : List (ℕ × Message)) (place : Option ℕ) → Reads text pairs place → BeginsUpTo text place
-begins_up_to text pairs None means = ([], pairs, subst (λ (t : List ℕ). Means t pairs) (sym (append_none text)) means)
+begins_up_to text pairs None means = ([], pairs, subst (λ (t : List ℕ). Means t pairs) (sym (append-nil text)) means)
 begins_up_to text pairs (Some place) stops = (
   not_past text pairs place stops,
   read_begins stops.last (take place text) stops.taken,

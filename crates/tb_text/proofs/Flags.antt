@@ -21,6 +21,7 @@ use Rattle.tb_text.specs.Scan.{Entry, Scan, bit_of, may_stand, run, step, value_
 use Rattle.tb_text.specs.Printed.{barred, flags_text, has_flag, unnamed, with_unnamed}
 use Rattle.tb_text.proofs.Tokens.{IsBetween, IsEnd, at_gap, one_step, word_through}
 use Rattle.tb_text.proofs.Numbers.{number_through}
+use Rattle.std.proofs.lemmas.List.{append-nil}
 
 -- the flags as they are printed one by one: behind a mark each, what has no name behind them
 abbrev pub flags_from : List Flag → ℕ → ℕ → ℕ → List ℕ
@@ -67,10 +68,6 @@ has_flags CreateAccounts = (refl, (refl, (refl, (refl, (refl, (refl, tt))))))
 has_flags CreateTransfers = (refl, (refl, (refl, (refl, (refl, (refl, (refl, (refl, (refl, tt)))))))))
 has_flags LookupAccounts = tt
 has_flags LookupTransfers = tt
-
-append_nil : {X : Type 0} (xs : List X) → xs ++ [] ≡ xs
-append_nil [] = refl
-append_nil {X} (x ∷ xs) = ap (λ (ys : List X). x ∷ ys) (append_nil xs)
 
 between : (s : Scan) (place : Place) (g : List Entry) → IsBetween (placed s place g)
 between s place g = record { lexeme = refl; spelled = refl }
@@ -130,7 +127,7 @@ more_through : (fs : List Flag) (s : Scan) (o : Operation) (rest n : ℕ) (g : L
 more_through [] s o rest n g text bits flags few e = by (rest == 0)
   where
     by : (b : Bool) → run (at s field.Flags g) (cond b [] (124 ∷ decimal rest) ++ text) ≡ run (at s field.Flags (g ++ cond b [] ((field.Flags, rest) ∷ []))) text
-    by true = ap (λ (h : List Entry). run (at s field.Flags h) text) (sym (append_nil g))
+    by true = ap (λ (h : List Entry). run (at s field.Flags h) text) (sym (append-nil g))
     by false = one_number s (at s field.Flags g) 124 rest g text few (at_gap (at s field.Flags g) 124 refl) e
 more_through (f ∷ fs) s o rest n g text bits flags few e =
     by (n % 2 == 0) (more_through fs s o rest (n / 2) g text bits flags.1 few e) (more_through fs s o rest (n / 2) (g ++ (field.Flags, flag_bit o f) ∷ []) text bits flags.1 few e)
@@ -212,7 +209,7 @@ names_behind [] o k n rest bits = by (rest == 0)
   where
     by : (b : Bool) → cond b [] (124 ∷ decimal rest) ≡ flat_map (λ (t : List ℕ). 124 ∷ t) (cond b [] (decimal rest ∷ []))
     by true = refl
-    by false = ap (λ (ds : List ℕ). 124 ∷ ds) (sym (append_nil (decimal rest)))
+    by false = ap (λ (ds : List ℕ). 124 ∷ ds) (sym (append-nil (decimal rest)))
 names_behind (f ∷ fs) o k n rest bits =
     by (n / 2 ^ k % 2 == 0) (ap (λ (m : ℕ). flags_from fs 124 rest m) (halved n k) ∙ names_behind fs o (k + 1) n rest bits.1)
     ∙ ap (λ (bit : ℕ). flat_map (λ (t : List ℕ). 124 ∷ t) (map flag_name (cond (not (n / bit % 2 == 0)) (f ∷ filter (has_flag o n) fs) (filter (has_flag o n) fs)) ++ cond (rest == 0) [] (decimal rest ∷ []))) (sym bits.0)
@@ -225,7 +222,7 @@ names_behind (f ∷ fs) o k n rest bits =
 
 -- behind `=`
 names_first : (fs : List Flag) (o : Operation) (k n rest : ℕ) → HasBits o k fs → flags_from fs 61 rest (n / 2 ^ k) ≡ 61 ∷ barred (with_unnamed (map flag_name (filter (has_flag o n) fs)) rest)
-names_first [] o k n rest bits = ap (λ (ds : List ℕ). 61 ∷ ds) (sym (append_nil (decimal rest)))
+names_first [] o k n rest bits = ap (λ (ds : List ℕ). 61 ∷ ds) (sym (append-nil (decimal rest)))
 names_first (f ∷ fs) o k n rest bits =
     by (n / 2 ^ k % 2 == 0) (ap (λ (m : ℕ). flags_from fs 61 rest m) (halved n k) ∙ names_first fs o (k + 1) n rest bits.1)
     (ap (λ (m : ℕ). flags_from fs 124 rest m) (halved n k) ∙ names_behind fs o (k + 1) n rest bits.1)

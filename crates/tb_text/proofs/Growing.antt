@@ -17,16 +17,14 @@ use Rattle.tb_text.specs.Scan.{Scan, behind, step, step_at, run, gap, is_space, 
 use Rattle.tb_text.specs.Steps.{StandFirst, Means, Stops}
 use Rattle.tb_text.proofs.Runs.{run_behind, pairs_of, word_keeps, number_keeps}
 use Rattle.tb_text.proofs.Ongoing.{Each, each_if, each_then}
-
-append_none : {X : Type 0} (xs : List X) → xs ++ [] ≡ xs
-append_none [] = refl
-append_none {X} (x ∷ xs) = ap (λ (ys : List X). x ∷ ys) (append_none xs)
+use Rattle.tb_text.proofs.Facts.{same_some}
+use Rattle.std.proofs.lemmas.List.{append-nil}
 
 abbrev Grown : List (ℕ × Message) → Scan → Type 0
 Grown pairs t = StandFirst pairs t.pairs
 
 alike : (pairs : List (ℕ × Message)) (t : Scan) → t.pairs ≡ pairs → Grown pairs t
-alike pairs t e = ([], e ∙ sym (append_none pairs))
+alike pairs t e = ([], e ∙ sym (append-nil pairs))
 
 word_grows : (s : Scan) (text : List ℕ) → Each (Grown s.pairs) (word_grown s text)
 word_grows s text = each_if (Grown s.pairs) (begins_word s text) (Some (spelling s text)) None (λ e. alike s.pairs s refl) (λ e. tt)
@@ -138,14 +136,11 @@ step_grows : (s : Scan) (b : ℕ) → Each (Grown s.pairs) (step s b)
 unfolding step
 step_grows s b = step_at_grows s b s.lexeme
 
-same_scan : (s t : Scan) → Some s ≡ Some t → s ≡ t
-same_scan s t h = cc
-
 joined : (a b c : List (ℕ × Message)) → StandFirst a b → StandFirst b c → StandFirst a c
 joined a b c h k = (h.0 ++ k.0, k.1 ∙ (ap (λ (ps : List (ℕ × Message)). ps ++ k.0) h.1 ∙ append_assoc a h.0 k.0))
 
 run_grows : (s t : Scan) (text : List ℕ) → run s text ≡ Some t → StandFirst s.pairs t.pairs
-run_grows s t [] e = alike s.pairs t (ap (λ (u : Scan). u.pairs) (sym (same_scan s t e)))
+run_grows s t [] e = alike s.pairs t (ap (λ (u : Scan). u.pairs) (sym (same_some s t e)))
 run_grows s t (b ∷ bs) e = by (step s b) (step_grows s b) (λ u. run_grows u t bs) e
   where
     by : (o : Option Scan) → Each (Grown s.pairs) o → ((u : Scan) → run u bs ≡ Some t → StandFirst u.pairs t.pairs) → option_and_then (λ u. run u bs) o ≡ Some t → StandFirst s.pairs t.pairs

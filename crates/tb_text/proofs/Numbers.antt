@@ -12,7 +12,8 @@ use Rattle.tb_text.specs.declared.places.Lexeme.TheVariants.{Zero, Decimal}
 use Rattle.tb_text.specs.declared.places.Place.TheVariants.{Wanted, Named}
 use Rattle.tb_text.specs.Words.{field_max, field_name}
 use Rattle.tb_text.specs.Scan.{Scan, step, run, gap, is_space, is_digit, is_word_byte, may_stand, within, moved, entered, is_positive, wanted, appended, decimal_grown, number_ended, number_left}
-use Rattle.tb_text.proofs.Tokens.{IsBetween, one_step, same_step, at_gap, word_through, if_false}
+use Rattle.tb_text.proofs.Tokens.{IsBetween, one_step, same_step, at_gap, word_through}
+use Rattle.tb_text.proofs.Facts.{if_false}
 
 -- as much as is read where the digits of n have been
 abbrev digits_read : Scan → ℕ → Scan

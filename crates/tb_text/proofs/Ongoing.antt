@@ -22,8 +22,10 @@ use Rattle.tb_text.specs.declared.places.Place.TheVariants.{Head, Named, Wanted,
 use Rattle.tb_text.specs.Words.{word_text, all_words, field_index, field_max, same_field, has_field}
 use Rattle.tb_text.specs.Scan.{Entry, Scan, behind, step, step_at, run, gap, is_space, is_digit, is_word_byte, digit_of, is_given, value_from, value_of, account_of, transfer_of, wanted, is_field, awaits_field, awaits_operation, may_have, may_stand, suits, bit_of, begins_word, word_named, is_positive, entered, moved, within, spelling, taken}
 use Rattle.tb_text.specs.Scan.{word_ended, number_ended, item_count, pushed, when_lawful, request_of, closed_at, parted_at, valued_at, joined_at, mark, word_grown, appended, decimal_grown, hexadecimal_grown, zero_begun, word_left, number_left, hexadecimal_at}
-use Rattle.tb_text.proofs.Tokens.{and_left, and_right, stands_spelling}
+use Rattle.tb_text.proofs.Tokens.{stands_spelling}
 use Rattle.tb_text.proofs.Entries.{none_or, value_append}
+use Rattle.tb_text.proofs.Facts.{and_left, and_right, or_left, or_right, true_false, equal, at_most, same_some}
+use Rattle.std.proofs.lemmas.Bool.{not-true}
 
 -- the numbers that stand before an operation
 pub record HeaderNumbers (given : List Entry) : Type 0 where
@@ -115,21 +117,6 @@ each_chain P Q k None h more = tt
 each_chain P Q k (Some t) h more = more t h
 
 -- numbers of entries
-
-or_left : (a b : Bool) → (a || b) ≡ false → a ≡ false
-or_left true b h = absurd cc
-or_left false b h = refl
-
-or_right : (a b : Bool) → (a || b) ≡ false → b ≡ false
-or_right true b h = absurd cc
-or_right false b h = h
-
-not_so : (b : Bool) → not b ≡ true → b ≡ false
-not_so true h = absurd cc
-not_so false h = refl
-
-equal : (m n : ℕ) → (m == n) ≡ true → m ≡ n
-equal m n h = grind (arith, nat_tests)
 
 -- a field that is not given adds nothing
 not_valued : (g f : Field) → field_index g ≡ field_index f → (n : ℕ) (es : List Entry) → is_given f es ≡ false → value_from n g es ≡ n
@@ -233,9 +220,6 @@ number_stands None f n given header count positive most h = (
 )
 number_stands (Some o) f n given header count positive most h = h
 
-true_false : (b : Bool) → b ≡ true → b ≡ false → ⊥
-true_false b h k = absurd cc
-
 -- behind a word that stands for a number, which is of no client and no request
 named_number_stands : (o : Option Operation) (f g : Field) (n : ℕ) (given header : List Entry) (count : ℕ) → same_field field.Client f ≡ false → same_field field.Request f ≡ false
     → Stands o (Wanted g) given header count → Stands o (Given f) (given ++ (f, n) ∷ []) header count
@@ -314,7 +298,7 @@ taken_clear s (word.Field f) may h = record {
   gap = refl;
   spelled = refl;
   stands = name_stands s.operation s.place f s.given s.header (item_count s) (and_right (awaits_field s.place) (may_have s.operation f) (and_left (awaits_field s.place && may_have s.operation f) (not (is_given f s.given)) may))
-      (not_so (is_given f s.given) (and_right (awaits_field s.place && may_have s.operation f) (not (is_given f s.given)) may)) h;
+      (not-true (is_given f s.given) (and_right (awaits_field s.place && may_have s.operation f) (not (is_given f s.given)) may)) h;
 }
 taken_clear s (word.Operation o) may h =
     let front = and_left (awaits_operation s.place && is_none s.operation) (suits o s.given) may in
@@ -353,9 +337,6 @@ word_goes s text h =
     each_if IsOngoing (begins_word s text) (Some (spelling s text)) None (λ e. record { lexeme = spelling_begun s text (begun_among s text all_words e); stands = h }) (λ e. tt)
 
 -- numbers
-
-at_most : (a b : ℕ) → nat_le a b ≡ true → a ≤ b
-at_most a b h = grind (arith, nat_tests)
 
 same_number : (a b : ℕ) → Some a ≡ Some b → a ≡ b
 same_number a b h = cc
@@ -523,11 +504,8 @@ step_goes : (s : Scan) (b : ℕ) → IsOngoing s → Each IsOngoing (step s b)
 unfolding step
 step_goes s b h = step_at_goes s b s.lexeme refl h.lexeme h
 
-same_scan : (s t : Scan) → Some s ≡ Some t → s ≡ t
-same_scan s t h = cc
-
 run_goes : (s t : Scan) (text : List ℕ) → IsOngoing s → run s text ≡ Some t → IsOngoing t
-run_goes s t [] h e = subst IsOngoing (same_scan s t e) h
+run_goes s t [] h e = subst IsOngoing (same_some s t e) h
 run_goes s t (b ∷ bs) h e = by (step s b) (step_goes s b h) (λ u. run_goes u t bs) e
   where
     by : (o : Option Scan) → Each IsOngoing o → ((u : Scan) → IsOngoing u → run u bs ≡ Some t → IsOngoing t) → option_and_then (λ u. run u bs) o ≡ Some t → IsOngoing t

@@ -28,6 +28,8 @@ use Rattle.tb_text.proofs.Entries.{told, InOrder, all_at, entries_through, value
 use Rattle.tb_text.proofs.Orders.{small_64, small_32, small_128}
 use Rattle.tb_text.proofs.Items.{mid, items_through, low, low_32}
 use Rattle.tb_text.proofs.EachKind.{accounts_state, accounts_ended, accounts_kind, transfers_state, transfers_ended, transfers_kind, sought_accounts_state, sought_accounts_ended, sought_accounts_kind, sought_transfers_state, sought_transfers_ended, sought_transfers_kind}
+use Rattle.tb_text.proofs.Facts.{same_some}
+use Rattle.std.proofs.lemmas.List.{append-nil}
 
 -- the entries of a header
 abbrev header_of : ℕ → Message → List Entry
@@ -205,12 +207,8 @@ statement_through pairs pair tail h =
     ∙ (body_through pairs moment r through.0 (10 ∷ tail) r.body refl h h.1.items
     ∙ line_end (behind (pairs ++ pair ∷ [])) tail refl))
 
-append_none : {X : Type 0} (xs : List X) → xs ++ [] ≡ xs
-append_none [] = refl
-append_none {X} (x ∷ xs) = ap (λ (ys : List X). x ∷ ys) (append_none xs)
-
 statements_through : (before pairs : List (ℕ × Message)) → AllByRecursion IsTimed pairs → run (behind before) (printed pairs) ≡ Some (behind (before ++ pairs))
-statements_through before [] h = ap (λ (ps : List (ℕ × Message)). Some (behind ps)) (sym (append_none before))
+statements_through before [] h = ap (λ (ps : List (ℕ × Message)). Some (behind ps)) (sym (append-nil before))
 statements_through before (pair ∷ pairs) h =
     statement_through before pair (printed pairs) h.0
     ∙ (statements_through (before ++ pair ∷ []) pairs h.1 ∙ ap (λ (ps : List (ℕ × Message)). Some (behind ps)) (append_assoc before (pair ∷ []) pairs))
@@ -223,9 +221,6 @@ read_back pairs h = record {
   pairs_are = refl;
 }
 
-means_one : (a b : Scan) → Some a ≡ Some b → a ≡ b
-means_one a b e = cc
-
 -- a text has one meaning
 pub one_meaning : (text : List ℕ) (ps qs : List (ℕ × Message)) → Means text ps → Means text qs → ps ≡ qs
-one_meaning text ps qs a b = sym a.pairs_are ∙ (ap (λ (s : Scan). s.pairs) (means_one a.last b.last (sym a.taken ∙ b.taken)) ∙ b.pairs_are)
+one_meaning text ps qs a b = sym a.pairs_are ∙ (ap (λ (s : Scan). s.pairs) (same_some a.last b.last (sym a.taken ∙ b.taken)) ∙ b.pairs_are)

@@ -13,6 +13,7 @@ use Rattle.tb_text.specs.declared.places.Lexeme.TheVariants.{Gap}
 use Rattle.tb_text.specs.Words.{word_text, all_words}
 use Rattle.tb_text.specs.Scan.{Scan, step, run, gap, is_space, is_digit, is_word_byte, may_stand, taken, spelling, word_named, word_grown, begins_word}
 use Rattle.tb_text.proofs.EachWord.{is_letter, all_word_bytes, begins_with_letter, letter_first, word_bytes, named_by_text, word_place, stands_at, place_below}
+use Rattle.tb_text.proofs.Facts.{if_false, if_true, and_both, and_left, and_right}
 
 -- between words, numbers and marks
 pub record IsBetween (s : Scan) : Type 0 where
@@ -41,23 +42,6 @@ space s bs h = one_step s s 32 bs (at_gap s 32 h)
 
 pub line_end : (s : Scan) (bs : List ℕ) → s.lexeme ≡ Gap → run s (10 ∷ bs) ≡ run s bs
 line_end s bs h = one_step s s 10 bs (at_gap s 10 h)
-
-pub if_false : {A : Type 0} (b : Bool) (x y : A) → b ≡ false → cond b x y ≡ y
-if_false b x y h = ap (λ (c : Bool). cond c x y) h
-
-pub if_true : {A : Type 0} (b : Bool) (x y : A) → b ≡ true → cond b x y ≡ x
-if_true b x y h = ap (λ (c : Bool). cond c x y) h
-
-pub and_both : (a b : Bool) → a ≡ true → b ≡ true → (a && b) ≡ true
-and_both a b h k = rw (h, k) refl
-
-pub and_left : (a b : Bool) → (a && b) ≡ true → a ≡ true
-and_left true b h = refl
-and_left false b h = absurd cc
-
-pub and_right : (a b : Bool) → (a && b) ≡ true → b ≡ true
-and_right true b h = h
-and_right false b h = absurd cc
 
 -- words
 

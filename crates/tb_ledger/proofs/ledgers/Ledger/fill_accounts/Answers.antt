@@ -1,10 +1,11 @@
 use Rattle.std.proofs.Common.{◌++◌, refl, ap, ◌∙◌}
 use Rattle.tb_ledger.specs.Books.{account_now}
-use Rattle.tb_ledger.specs.Lookups.{account_in}
+use Rattle.tb_ledger.specs.Kept.{row_now}
+use Rattle.tb_ledger.specs.Lookups.{found_in}
 use Rattle.tb_ledger.proofs.Many.{shown-same}
 use Rattle.tb_ledger.proofs.ReadLaws.{account_of}
 use Rattle.tb_ledger.proofs.ledgers.Ledger.fill_accounts.Goals as goal
 
 pub returns-clause-items : goal.returns-clause-items
 returns-clause-items g c =
-    c.fill_accounts.ensures.items ∙ ap (λ xs. c.args.out.now.items ++ xs) (shown-same (account_in c.self.inside.rows.accounts.items) (account_now c.args.self.now) (λ id. account_of _ _ _ _ _ _ c.self.invariant c.args.self.now id _ c.self.view_is refl) c.args.ids.now)
+    c.fill.ensures.items ∙ ap (λ xs. c.args.out.now.items ++ xs) (shown-same (found_in (λ a. a.created.id) row_now c.self.inside.rows.accounts.items) (account_now c.args.self.now) (λ id. account_of _ _ _ _ _ _ c.self.invariant c.args.self.now id _ c.self.view_is refl) c.args.ids.now)

@@ -1,11 +1,11 @@
 use Rattle.std.proofs.Common.{◌≡◌, ◌+◌, ◌≤◌, ◌++◌, length, drop, vec_len, vec_capacity}
 use Rattle.std.specs.List.{filter_map}
-use Rattle.tb_ledger.specs.Lookups.{transfer_in}
-use Rattle.tb_ledger.proofs.lookups.fill_each_of_transfers.Given as goal
+use Rattle.tb_ledger.specs.Lookups.{found_in}
+use Rattle.tb_ledger.proofs.lookups.fill_each.Given as goal
 
 abbrev pub invariant-loop-id : goal.invariant-loop-id
 invariant-loop-id g l = record {
-  items : l.out.items ++ filter_map (transfer_in l.table.items) (drop l.id-index l.ids) ≡ l.initial.out.items ++ filter_map (transfer_in l.table.items) l.ids;
+  items : l.out.items ++ filter_map (found_in g.V.Keyed.key g.V.Found.record_now l.table.items) (drop l.id-index l.ids) ≡ l.initial.out.items ++ filter_map (found_in g.V.Keyed.key g.V.Found.record_now l.table.items) l.ids;
   room : vec_len l.out + length (drop l.id-index l.ids) ≤ vec_capacity l.out;
   capacity : vec_capacity l.out ≡ vec_capacity l.initial.out;
 }
