@@ -1,12 +1,13 @@
 //! The machine: a ledger and the sessions of its clients, which entries move on.
-ghost use Rattle.std.specs.Prelude.{◌≡◌, ◌+◌, ◌≤◌, ◌<◌, max, IfOk, MatchOption, MatchResult, OnOk, IsTrue, None, Some};
+ghost use Rattle.std.specs.Prelude.{◌≡◌, ◌+◌, ◌≤◌, ◌<◌, max, true, false, IfOk, MatchOption, MatchResult, OnOk, IsTrue, None, Some};
 ghost use Rattle.std.specs.Option.{option_map};
 ghost use Rattle.tb_records.specs.Messages.{IsLawful};
 ghost use Rattle.tb_ledger.specs.Books.{account_now, profile_of, transfer_at, found_accounts, found_transfers};
 ghost use Rattle.tb_ledger.specs.Verdicts.{max_time};
 ghost use Rattle.tb_sessions.specs.Judged.{class_of, row_of};
 ghost use Rattle.tb_records.specs.ReplyFrames.{reply_bytes, IsReply};
-ghost use Rattle.tb_machine.specs.Histories.{start, step, reply_at, to_two, fits, least_time};
+ghost use Rattle.tb_machine.specs.Histories.{start, step, reply_at, to_two, fits, is_new, least_time};
+ghost use Rattle.tb_machine.specs.Scripts.{entry_of, has_time};
 ghost use Rattle.tb_machine.specs.Serving.{Told};
 
 use crate::entries::Entry;
@@ -85,6 +86,25 @@ impl<A: Allocator + Clone> Machine<A> {
             return None;
         }
         Some(time)
+    }
+
+    /// The entry that a request makes which comes at a moment: of the next commit number, at its [`Machine::next_time`]. None
+    /// where there is no time for it. That of a new request may come next.
+    pub fn next_entry(&self, request: Request, now: u64) -> Option<Entry>
+        ensures entry { MatchOption result (has_time self.now (now, request) ≡ false)
+            (λ entry.
+            (has_time self.now (now, request) ≡ true)
+            × (entry ≡ entry_of self.now (now, request))
+            × (is_new (class_of self.now.rows request) ≡ true → IsTrue (fits self.now entry))) }
+        ensures lawful { IsLawful request }
+    {
+        let events = request.body().event_count() as u64;
+        let time = self.next_time(now, events)?;
+        Some(Entry {
+            commit: self.commit + 1,
+            time,
+            request,
+        })
     }
 
     /// The profile that it goes by.

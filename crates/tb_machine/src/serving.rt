@@ -108,29 +108,6 @@ pub fn status_of(class: Class) -> Status
     }
 }
 
-/// The entry of a new request that comes at a moment, where there is a time for it.
-fn next_entry(machine: &Machine<Global>, moment: u64, request: Request) -> Result<Entry, RunFault>
-    requires { is_new_in machine.now (moment, request) ≡ true }
-    ensures timed { MatchResult result
-        (λ entry.
-        (has_time machine.now (moment, request) ≡ true)
-        × (entry ≡ entry_of machine.now (moment, request))
-        × IsTrue (fits machine.now entry))
-        (λ f. (f ≡ RunFault.TimeExhausted) × (has_time machine.now (moment, request) ≡ false)) }
-    ensures lawful { IsLawful request }
-{
-    let events = request.body().event_count() as u64;
-    let Some(time) = machine.next_time(moment, events) else {
-        return Err(RunFault::TimeExhausted)
-    };
-    let commit = machine.commit() + 1;
-    Ok(Entry {
-        commit,
-        time,
-        request,
-    })
-}
-
 /// Enters a new request that comes at a moment. The time is found before any room is made.
 pub(crate) fn enter(
     machine: &mut Machine<Global>,
@@ -141,7 +118,9 @@ pub(crate) fn enter(
     ensures entered { Enters result machine.old machine.new (moment, request) }
     ensures lawful { IsLawful request }
 {
-    let entry = next_entry(machine, moment, request)?;
+    let entry = machine
+        .next_entry(request, moment)
+        .ok_or(RunFault::TimeExhausted)?;
     machine.enter(entry).map_err(|_| RunFault::NoMemory)
 }
 
@@ -176,7 +155,9 @@ fn answer_new<W: Sink>(
     ensures { Turns result machine.old machine.new (moment, request) (W.output writer.old)
         (W.output writer.new) }
 {
-    let entry = next_entry(machine, moment, request)?;
+    let entry = machine
+        .next_entry(request, moment)
+        .ok_or(RunFault::TimeExhausted)?;
     match machine.enter_and_tell(writer, entry) {
         Ok(Ok(())) => Ok(()),
         Ok(Err(fault)) => Err(RunFault::Frame(fault)),

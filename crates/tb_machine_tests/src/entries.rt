@@ -22,17 +22,19 @@ fn expect_last(rt: &impl Abort, machine: &mut Machine<Global>, register: &Entry)
     holds(rt, machine.next_time(0, 0).is_none(), &"a second time");
 }
 
-/// A register's entry at the last moment.
+/// A register's entry at the last moment, and none behind it.
 #[test]
 fn time_runs_out(rt: HostRuntime) {
     let mut machine = machine(&rt, rt.alloc(), 2);
-    let register = Entry {
-        commit: 1,
-        time: LAST,
-        request: request_of(&rt, rt.alloc(), (7, 0, 0), Ask::Register),
-    };
+    let early = request_of(&rt, rt.alloc(), (7, 0, 0), Ask::Register);
+    let register = machine.next_entry(early, LAST).expect(&rt, "an entry");
+    holds(&rt, (register.commit, register.time) == (1, LAST), &"numbers");
     expect_last(&rt, &mut machine, &register);
     drop(register);
+    let late = request_of(&rt, rt.alloc(), (8, 0, 0), Ask::Register);
+    let none = machine.next_entry(late, LAST);
+    holds(&rt, none.is_none(), &"an entry behind the last moment");
+    drop(none);
     drop(machine);
 }
 

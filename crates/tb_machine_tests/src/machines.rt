@@ -101,13 +101,7 @@ pub fn entry_of(
     ask: Ask,
 ) -> Entry {
     let request = request_of(rt, alloc, numbers, ask);
-    let events = request.body().event_count() as u64;
-    let time = machine.next_time(10, events).expect(rt, "a time");
-    Entry {
-        commit: machine.commit() + 1,
-        time,
-        request,
-    }
+    machine.next_entry(request, 10).expect(rt, "a time")
 }
 
 /// Enters a request at moment 10, and answers its commit number and time.

@@ -5,7 +5,7 @@ use crate::scripts::Script;
 use crate::steps::{Step, begin, put_steps};
 use std::alloc::Global;
 use std::process::Abort;
-use tb_machine::{Entry, Machine, RunFault, run, status_of};
+use tb_machine::{Machine, RunFault, run, status_of};
 use tb_records::{ClientsMax, Counting, Profile, Reply, Request, RequestStream, write_reply};
 use tb_sessions::Class;
 
@@ -60,13 +60,7 @@ pub fn expect(
 
 /// Applies the entry of a request that comes at a moment.
 fn apply(rt: &impl Abort, machine: &mut Machine<Global>, moment: u64, request: Request) {
-    let events = request.body().event_count() as u64;
-    let time = machine.next_time(moment, events).expect(rt, "a time");
-    let entry = Entry {
-        commit: machine.commit() + 1,
-        time,
-        request,
-    };
+    let entry = machine.next_entry(request, moment).expect(rt, "a time");
     apply_entry(rt, machine, &entry);
     drop(entry);
 }

@@ -14,7 +14,7 @@ use crate::scripts::put_line;
 use crate::statements::next_statement;
 use std::alloc::{AllocError, Global};
 use std::time::Clock;
-use tb_machine::{Entry, Machine, status_of};
+use tb_machine::{Machine, status_of};
 use tb_records::{ClientsMax, Profile, Reply, Request, Sink, Source};
 use tb_sessions::Class;
 
@@ -59,14 +59,8 @@ fn enter(machine: &mut Machine<Global>, moment: u64, request: Request) -> Result
     requires { class_of machine.old.rows request ≡ Class.New }
     ensures { IfErr result IsOfInput }
 {
-    let events = request.body().event_count() as u64;
-    let Some(time) = machine.next_time(moment, events) else {
+    let Some(entry) = machine.next_entry(request, moment) else {
         return Err(Fault::TimeExhausted);
-    };
-    let entry = Entry {
-        commit: machine.commit() + 1,
-        time,
-        request,
     };
     match machine.enter(entry) {
         Ok(()) => Ok(()),

@@ -6,7 +6,7 @@ ghost use Rattle.tb_machine.specs.Histories.{reply_at, step};
 ghost use Rattle.tb_machine.specs.Scripts.{entry_of, has_time, after_pair};
 
 use std::alloc::Allocator;
-use tb_machine::{Entry, Machine};
+use tb_machine::Machine;
 use tb_records::Request;
 use tb_sessions::Class;
 
@@ -34,16 +34,8 @@ pub fn enter_once<A: Allocator + Clone>(
         drop(request);
         return Err(Left::NotNew);
     }
-    let events = request.body().event_count() as u64;
-    let Some(time) = machine.next_time(now, events) else {
-        drop(request);
+    let Some(entry) = machine.next_entry(request, now) else {
         return Err(Left::NoTime);
-    };
-    let commit = machine.commit() + 1;
-    let entry = Entry {
-        commit,
-        time,
-        request,
     };
     match machine.enter(entry) {
         Ok(()) => Ok(()),
