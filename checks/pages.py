@@ -3,6 +3,7 @@
 
 - Each Rust example of a page CALLING.md stands word for word, but for its imports, in a crate that the gate proves.
 - The head of each crate's lib.rt or main.rt lists the modules of that crate, all of them and no other.
+- The first statements of README.md are those of examples/retry.text, which its first command reads.
 - Each name that a walk of docs/ARCHITECTURE.md gives as `module::function` or `Type::call` is there, in the crate that stands before it; so is each file
   that docs/ARCHITECTURE.md names.
 
@@ -99,9 +100,17 @@ def named_files():
         yield page.relative_to(ROOT), None if found else f"{name} is not there"
 
 
+def first_statements():
+    """The statements that a reader of README.md meets first, and the file that they are run from."""
+    shown = re.search(r"```text\n(.*?)```", (ROOT / "README.md").read_text(), re.S)
+    lines = (ROOT / "examples" / "retry.text").read_text().splitlines(keepends=True)
+    same = shown is not None and shown[1] == "".join(line for line in lines if not line.startswith("#"))
+    yield "README.md", None if same else "the first statements are not those of examples/retry.text"
+
+
 def main() -> int:
     passed = failed = 0
-    for check in (examples, heads, walks, named_files):
+    for check in (examples, heads, first_statements, walks, named_files):
         for place, wrong in check():
             if wrong is None:
                 passed += 1
