@@ -1,7 +1,13 @@
 #!/usr/bin/env python3
-"""Checks that each Rust example of a page CALLING.md stands word for word, but for its imports, in a crate that the gate proves.
+"""Checks what pages say of the code, as far as a search can tell.
 
-Usage: checks/pages.py. Ends in 'N passed, 0 failed'. checks/blocks.py does the same among other things.
+- Each Rust example of a page CALLING.md stands word for word, but for its imports, in a crate that the gate proves.
+- The head of each crate's lib.rt or main.rt lists the modules of that crate, all of them and no other.
+- The first statements of README.md are those of examples/retry.text, which its first command reads.
+- Each name that a walk of docs/ARCHITECTURE.md gives as `module::function` or `Type::call` is there, in the crate that stands before it; so is each file
+  that docs/ARCHITECTURE.md names.
+
+Usage: checks/pages.py. Ends in 'N passed, 0 failed'. checks/blocks.py looks at the examples too.
 """
 
 import functools
@@ -10,7 +16,10 @@ import re
 import sys
 
 ROOT = pathlib.Path(__file__).resolve().parent.parent
+CRATES = ROOT / "crates"
 BLOCK = re.compile(r"```rust\n(.*?)```", re.S)
+NAME = re.compile(r"`([A-Za-z_]+(?:::[A-Za-z_]+)+)`|\b(tb_\w+|avl_tree|tbs|tbd|tbt)\b")
+FILE = re.compile(r"`([\w./-]+\.(?:antt|rt|py|rs|h|md|txt))`")
 
 
 def without_imports(block: str) -> str:
@@ -31,15 +40,83 @@ def stands(block: str) -> bool:
     return without_imports(block) in code()
 
 
-def main() -> int:
-    passed = failed = 0
+def examples():
+    """Each example: where it stands, and what is wrong with it."""
     for page in sorted(ROOT.glob("crates/*/CALLING.md")):
         for block in BLOCK.findall(page.read_text()):
-            if stands(block):
+            yield page.relative_to(ROOT), None if stands(block) else f"stands in no caller: {block.splitlines()[0]}"
+
+
+def heads():
+    """The head of each crate, and the modules that it does not list, or that are not there."""
+    for crate in sorted(CRATES.iterdir()):
+        for root in ("lib.rt", "main.rt"):
+            path = crate / "src" / root
+            if path.exists():
+                text = path.read_text()
+                there = set(re.findall(r"^(?:pub )?mod (\w+);", text, re.M))
+                listed = set(re.findall(r"^//! - `(\w+)`:", text, re.M))
+                wrong = sorted(there ^ listed)
+                yield path.relative_to(ROOT), f"not listed, or not there: {' '.join(wrong)}" if wrong else None
+
+
+@functools.cache
+def sources(crate: str) -> str:
+    """The source files of a crate."""
+    return "\n".join(path.read_text() for path in sorted((CRATES / crate / "src").rglob("*.rt")))
+
+
+def is_there(crate: str, name: str) -> bool:
+    """Says that a crate has a call of a type, or an item in a module."""
+    *place, item = name.split("::")
+    if place[0][0].isupper():
+        text = sources(crate) if re.search(rf"\b(?:struct|enum|trait) {place[0]}\b", sources(crate)) else ""
+    else:
+        path = CRATES.joinpath(crate, "src", *place).with_suffix(".rt")
+        text = path.read_text() if path.exists() else ""
+    return re.search(rf"\b(?:fn|struct|enum|trait|const|type) {item}\b", text) is not None
+
+
+def walks():
+    """Each name of a walk, where it is not in the crate that stands before it."""
+    page = ROOT / "docs" / "ARCHITECTURE.md"
+    text = page.read_text()
+    walked = text[text.index("\n## Walks\n"):]
+    walked = walked[:walked.index("\n## ", 1)]
+    for step in re.split(r"\n(?=\d+\. |#)", walked):
+        crate = None
+        for name, named in NAME.findall(step):
+            if named:
+                crate = named
+            elif "module::" not in name and "Type::" not in name:
+                yield page.relative_to(ROOT), None if crate and is_there(crate, name) else f"{name} is not in {crate}"
+
+
+def named_files():
+    """Each file that the page of the architecture names."""
+    page = ROOT / "docs" / "ARCHITECTURE.md"
+    for name in FILE.findall(page.read_text()):
+        found = (ROOT / name).exists() or (CRATES / name).exists()
+        yield page.relative_to(ROOT), None if found else f"{name} is not there"
+
+
+def first_statements():
+    """The statements that a reader of README.md meets first, and the file that they are run from."""
+    shown = re.search(r"```text\n(.*?)```", (ROOT / "README.md").read_text(), re.S)
+    lines = (ROOT / "examples" / "retry.text").read_text().splitlines(keepends=True)
+    same = shown is not None and shown[1] == "".join(line for line in lines if not line.startswith("#"))
+    yield "README.md", None if same else "the first statements are not those of examples/retry.text"
+
+
+def main() -> int:
+    passed = failed = 0
+    for check in (examples, heads, first_statements, walks, named_files):
+        for place, wrong in check():
+            if wrong is None:
                 passed += 1
             else:
                 failed += 1
-                print(f"{page.relative_to(ROOT)}: stands in no caller: {block.splitlines()[0]}")
+                print(f"{place}: {wrong}")
     print(f"{passed} passed, {failed} failed")
     return failed != 0
 

@@ -19,9 +19,9 @@ use Rattle.avl_tree.proofs.InPlace.{keeps, same}
 use Rattle.avl_tree.proofs.Steps.{GoesLeft, GoesRight, StandsHere, goes_left, goes_right, stands_here}
 
 -- a call at y and x in the other order
-pub turned : {F V R : Type 0} (c : Taking F V R) (b : Bool) (f f' : F) (x y x' y' : V) (r : R) → CalledAtBoth c (not b) f y x r f' y' x' → CalledAtBoth c b f x y r f' x' y'
-turned c true f f' x y x' y' r p = p
-turned c false f f' x y x' y' r p = p
+pub other_way : {F V R : Type 0} (c : Taking F V R) (b : Bool) (f f' : F) (x y x' y' : V) (r : R) → CalledAtBoth c (not b) f y x r f' y' x' → CalledAtBoth c b f x y r f' x' y'
+other_way c true f f' x y x' y' r p = p
+other_way c false f f' x y x' y' r p = p
 
 module _ {F K V A R : Type 0} (c : Taking F V R) (b : Bool) {cmp : K → K → Ordering} {k : K} {h : ℕ} {p : _} {t l r : Tree K V A} {a : K} {z : V} where
   pub beside_left : (d : V) → t ≡ Fork' h p l r a z → GoesLeft cmp k (entries l) (a, z) (entries r) → IsAvl (Fork' h p l r a z) → (o : Option R) (l' : Tree K V A) (f f' : F) (d' : V) → ChangesBeside c b (is_at (cmp k)) d l f o f' d' l' → ChangesBeside c b (is_at (cmp k)) d t f o f' d' (Fork' h p l' r a z)
@@ -79,7 +79,7 @@ module _ {F K V A R : Type 0} (c : Taking F V R) (b : Bool) {cmp : K → K → O
           other_left = y.left;
           found = w.found ∙ y.other_found;
           other_found = y.found;
-          called = turned c b f f' y.other y.value y.other_left y.left v y.called;
+          called = other_way c b f f' y.other y.value y.other_left y.left v y.called;
           written = ap (λ es. es ++ (a, z) ∷ entries r) y.other_written ∙ sym (w.written y.other_left);
           other_written = y.written;
         },
@@ -100,7 +100,7 @@ module _ {F K V A R : Type 0} (c : Taking F V R) (b : Bool) {cmp : K → K → O
           other_left = y.left;
           found = w.found ∙ y.other_found;
           other_found = y.found;
-          called = turned c b f f' y.other y.value y.other_left y.left v y.called;
+          called = other_way c b f f' y.other y.value y.other_left y.left v y.called;
           written = ap (λ es. entries l ++ (a, z) ∷ es) y.other_written ∙ sym (w.written y.other_left);
           other_written = y.written;
         },
@@ -287,7 +287,7 @@ module _ {F K V A R : Type 0} (c : Taking F V R) (b : Bool) {cmp : K → K → O
           other_left = z';
           found = (goes_left o low (entries l) (a, z) (entries r) m s).found ∙ y.found;
           other_found = (stands_here o high (entries l) (a, z) (entries r) n s).found;
-          called = turned c b f f' y.value z y.left z' v y.called;
+          called = other_way c b f f' y.value z y.left z' v y.called;
           written = ap (λ es. es ++ (a, z') ∷ entries r) y.written ∙ sym (written_left_here o low high (entries l) (entries r) (a, z) s y.left z' m n);
         },
         keeps avl x.1 (same avl.1),
@@ -303,9 +303,9 @@ module _ {K : Type 0} {cmp : K → K → Ordering} (o : IsTotalOrder cmp) (low h
       let same = o.congr low x high ((Equal-is (cmp low x)).0 a) ∙ at in
       cc
 
-  set_value-turned : {V : Type 0} (v w : V) (es : List (K × V)) → set_value (is_at (cmp high)) (set_value (is_at (cmp low)) es v) w ≡ set_value (is_at (cmp low)) (set_value (is_at (cmp high)) es w) v
-  set_value-turned v w [] = refl
-  set_value-turned v w (x ∷ es) = by (is_at (cmp low) x.0) (is_at (cmp high) x.0) refl refl (set_value-turned v w es)
+  set_value-other_way : {V : Type 0} (v w : V) (es : List (K × V)) → set_value (is_at (cmp high)) (set_value (is_at (cmp low)) es v) w ≡ set_value (is_at (cmp low)) (set_value (is_at (cmp high)) es w) v
+  set_value-other_way v w [] = refl
+  set_value-other_way v w (x ∷ es) = by (is_at (cmp low) x.0) (is_at (cmp high) x.0) refl refl (set_value-other_way v w es)
     where
       by : (a b : Bool) → is_at (cmp low) x.0 ≡ a → is_at (cmp high) x.0 ≡ b → set_value (is_at (cmp high)) (set_value (is_at (cmp low)) es v) w ≡ set_value (is_at (cmp low)) (set_value (is_at (cmp high)) es w) v → set_value (is_at (cmp high)) (cond a ((x.0, v) ∷ es) (x ∷ set_value (is_at (cmp low)) es v)) w ≡ set_value (is_at (cmp low)) (cond b ((x.0, w) ∷ es) (x ∷ set_value (is_at (cmp high)) es w)) v
       by true true a b rest = absurd (not_both x.0 a b)
@@ -330,9 +330,9 @@ module _ {F K V A R : Type 0} (c : Taking F V R) {cmp : K → K → Ordering} (o
         written = y.written;
       }
 
-  pub changed_two_turned : cmp low high ≡ Less → (v : Option R) → ChangesBoth c false (is_at (cmp low)) (is_at (cmp high)) t f v f' t' → IfSome v (λ r. ChangedTwo c (is_at (cmp high)) (is_at (cmp low)) (entries t) f r f' (entries t'))
-  changed_two_turned q None x = tt
-  changed_two_turned q (Some r) x =
+  pub changed_two_other_way : cmp low high ≡ Less → (v : Option R) → ChangesBoth c false (is_at (cmp low)) (is_at (cmp high)) t f v f' t' → IfSome v (λ r. ChangedTwo c (is_at (cmp high)) (is_at (cmp low)) (entries t) f r f' (entries t'))
+  changed_two_other_way q None x = tt
+  changed_two_other_way q (Some r) x =
       let y = x.0 in
       record {
         value = y.other;
@@ -342,7 +342,7 @@ module _ {F K V A R : Type 0} (c : Taking F V R) {cmp : K → K → Ordering} (o
         found = y.other_found;
         other_found = y.found;
         called = y.called;
-        written = y.written ∙ set_value-turned o low high q y.left y.other_left (entries t);
+        written = y.written ∙ set_value-other_way o low high q y.left y.other_left (entries t);
       }
 
 pub unchanged_two : {F K V A R P : Type 0} (c : Taking F V R) (b : Bool) (low high : K → Bool) (t t' : Tree K V A) (f f' : F) (v : Option R) → ChangesBoth c b low high t f v f' t' → (((lookup low (entries t) ≡ None) ⊎ (lookup high (entries t) ≡ None)) × (f' ≡ f) × (t' ≡ t) → P) → IfNone v P

@@ -1,4 +1,4 @@
-// Eight searches down the tree, a level of each by turns.
+// Eight searches down the tree, interleaved, a level of each.
 ghost use Rattle.std.specs.Prelude.{◌≡◌, map};
 ghost use Rattle.std.specs.Option.{option_copied};
 ghost use Rattle.std.specs.Map.{lookup};
@@ -37,7 +37,7 @@ fn step<'a, K: Ord, V, A: Allocator>(tree: &'a Tree<K, V, A>, key: &K) -> &'a Tr
 
 /// The values at eight keys, each as `find` gives it.
 ///
-/// A level of each search is taken by turns, so that their waits for memory overlap.
+/// The searches are interleaved, a level of each, so that their waits for memory overlap.
 pub fn find_eight<'a, K: Ord, V, A: Allocator>(
     tree: &'a Tree<K, V, A>,
     keys: &[K; 8],

@@ -1,4 +1,17 @@
 //! An ordered map whose nodes are boxed, balanced and reserved before they are used.
+//!
+//! Modules, each over those before it:
+//!
+//! - `tree`: a tree and its nodes, stored heights, rotations.
+//! - `walks`: searches from the root: a key, the first entry, the nodes that a search visits.
+//! - `eight`: eight searches, interleaved, so that their waits for memory overlap.
+//! - `range`: the entries from one key to another.
+//! - `updates`: a value changed where it stands.
+//! - `pairs`: the values of two keys changed by one walk.
+//! - `edits`: a value exchanged, an entry inserted or removed, and the way back up balanced.
+//! - `spare`: nodes that have memory and no entry yet.
+//! - `map`: `AvlMap`, all that callers use.
+//! - `worked_rows`: the fewest nodes of a tree by its height, for the first heights (public).
 #![tactic(auto)]
 
 mod edits;

@@ -134,7 +134,7 @@ impl<K: Ord + Copy, V, A: Allocator + Clone> AvlMap<K, V, A> {
         walks::find(&self.root, key)
     }
 
-    /// The values of eight keys, each as `get` gives it. The eight searches go on by turns, a level of each, so that
+    /// The values of eight keys, each as `get` gives it. The eight searches are interleaved, a level of each, so that
     /// their waits for memory overlap.
     pub fn get_many(&self, keys: &[K; 8]) -> [Option<&V>; 8]
         ensures { map option_copied result ≡ map (get K.cmp self.now) keys.now }

@@ -129,7 +129,7 @@ fn beside_right<K: Ord, V, A: Allocator, R, F: FnMut(&mut V, &mut V) -> R>(
     beside(&mut node.right, key, &mut node.value, in_order, f, out)
 }
 
-/// Looks for one key in each of two trees, a level of either by turns, so that their waits for memory overlap.
+/// Looks for one key in each of two trees, a level of either, interleaved, so that their waits for memory overlap.
 ///
 /// The end is tested first, so that which side comes next is a choice between two addresses, and not a jump that can't be foretold.
 fn apart<K: Ord, V, A: Allocator, R, F: FnMut(&mut V, &mut V) -> R>(

@@ -1,4 +1,4 @@
-// The nodes of the tree, and how their links turn.
+// The nodes of the tree, and their rotations.
 ghost use Rattle.std.specs.Prelude.{◌≡◌, ◌+◌, ◌<◌, ◌≤◌, max, ◌∷◌, ◌++◌, IfSome};
 ghost use Rattle.avl_tree.specs.Nodes.{entries, entry, stored_height, IsAvl, IsNearlyAvl, SettlesTo, IsBare, IsHeightOver, IsLevelAt, IsGrown, DifferByAtMost};
 ghost use Rattle.avl_tree.specs.declared.tree.Tree.TheVariants.{Empty};
@@ -203,11 +203,11 @@ fn set_height<K, V, A: Allocator>(tree: &mut Tree<K, V, A>, height: u8)
     }
 }
 
-/// Turns the root's sides, where one of them has become two levels higher than the other.
+/// Rotates the root, where one of its sides has become two levels higher than the other.
 ///
-/// It stands apart, so that a level of an insert or a removal saves few registers where nothing is turned.
+/// It stands apart, so that a level of an insert or a removal saves few registers where no rotation is due.
 #[inline(never)]
-fn turn<K, V, A: Allocator>(tree: &mut Tree<K, V, A>)
+fn rotate<K, V, A: Allocator>(tree: &mut Tree<K, V, A>)
     requires { IsNearlyAvl tree.old }
     ensures { SettlesTo tree.old tree.new }
 {
@@ -227,6 +227,6 @@ pub fn settle<K, V, A: Allocator>(tree: &mut Tree<K, V, A>)
 {
     match level_height(tree) {
         Some(height) => set_height(tree, height),
-        None => turn(tree),
+        None => rotate(tree),
     }
 }

@@ -5,6 +5,14 @@
 //! the same with one show for eight, `memory SIZE` applies the batches to a machine alone, `reads THREADS N` reads N times in
 //! each of 1, 2 or 4 threads beside a busy writer, `calm THREADS N` the same beside none, and `ports PORTS N EACH` hands N
 //! orders of 1 to 8 transfers to a server from each of 1 to 32 ports.
+//!
+//! Modules, each over those before it:
+//!
+//! - `telling`: what is printed.
+//! - `requests`: the requests that are measured.
+//! - `taking`: takes beside the one-thread machine.
+//! - `reading`: reads of seats beside a busy writer.
+//! - `offering`: ports that hand orders to a server.
 #![tactic(auto)]
 
 ghost use Rattle.std.specs.Prelude.{◌≡◌};

@@ -1,5 +1,12 @@
 //! What the server's programs share: the words of their forms `run`, `dump` and `replay`, what each form does from a reader
 //! to a writer, the exit status and the line of each fault, and the way from the system's input and output to them.
+//!
+//! Modules, each over those before it:
+//!
+//! - `arguments`: `read_order`, what the words of the command line ask for.
+//! - `lines`: the line that a fault is told by.
+//! - `commands`: `command`, each form over any reader and writer, and the exit status of each outcome.
+//! - `host`: `serve`, the way from arguments, input and output to `command`.
 #![tactic(auto)]
 
 mod arguments;

@@ -1,5 +1,20 @@
 //! The server inside another program: calls for C, and for what calls C, over a handle that the caller keeps. embed/tb_embed.h
 //! declares them.
+//!
+//! Modules, each over those before it:
+//!
+//! - `outcomes`: `Outcome`, how a call fared, and its status.
+//! - `loose`: a box as its pointer, and back.
+//! - `held`: a server behind a pointer that the caller keeps, or none.
+//! - `servers`: `TbServer`, the handle.
+//! - `rooms`: the caller's buffer, as a writer.
+//! - `replies`: how long a reply is, and that its numbers fit.
+//! - `opening`: a handle opened.
+//! - `serving`: one frame read, served and answered.
+//! - `showing`: accounts and transfers shown outside sessions.
+//! - `calls`: what C calls.
+//! - `laws`: laws of the calls: functions that do nothing.
+//! - `tests`: the calls, made as C makes them.
 #![tactic(auto)]
 
 pub mod calls;

@@ -1,4 +1,24 @@
 //! A journal: records in a file, each on the disk before it counts, and read again after a crash at any moment.
+//!
+//! Modules:
+//!
+//! - `faults`: why a call on a device or a journal failed.
+//! - `devices`: `Device`, what a read returns, and what a crash may leave.
+//! - `memory`: a file in memory that tears and fails, and tells what a crash may leave of it.
+//! - `real`: a file of the system, locked, of which nothing is told.
+//! - `tables`: the remainders that CRC-32C looks up.
+//! - `checksums`: CRC-32C, sixteen bytes at a time.
+//! - `batches`: records that wait, as the bytes that a commit writes.
+//! - `calls`: a write and a sync; blocks written behind the closed gate, and then the gate opened.
+//! - `journals`: `Journal`, with `append` and `commit`.
+//! - `reading`: what stands at the head of some bytes: the end, a whole block, or damage.
+//! - `windows`: the part of a file that was read ahead, a piece of 64 KiB or one whole block.
+//! - `scans`: `Scan`, a file read record by record; `read_journal`, to its end.
+//! - `opening`: `Journal::open` and `recover`, which cut off what stands behind the records.
+//! - `creating`: `create`, a journal in an empty file.
+//!
+//! specs/Contents is what a file's bytes stand for, specs/Device what each call of a device does, specs/Steps, Opening
+//! and Creating what the journal's calls leave.
 #![tactic(auto)]
 
 mod batches;

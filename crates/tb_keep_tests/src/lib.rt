@@ -1,4 +1,13 @@
 //! Kept ledgers over a file in memory: what is told, what a crash leaves, and what is opened again.
+//!
+//! Modules, each over those before it:
+//!
+//! - `scripts`: scripts by the bytes of the formats.
+//! - `openings`: files opened, created or refused.
+//! - `dumps`: the history of a file, read without a write.
+//! - `crashes`: crashes at each moment, and each call that fails.
+//! - `serving`: what is served over a file.
+//! - `pieces`: files longer than a piece.
 #![tactic(auto)]
 
 #[cfg(test)]

@@ -1,4 +1,45 @@
 //! The state machine behind the sessions: accounts, transfers, chains and expiry.
+//!
+//! Modules, in layers, each over those before it. All are private but `laws` and `worked_rows`.
+//!
+//! - `tables`: what a ledger keeps.
+//!   - `known`: what a table knows of its keys without a search: the greatest, and absent ids.
+//!   - `map`: rows by rising key over an `AvlMap`; a finite map for all that stands above.
+//!   - `accounts`: the row of an account, 128 bytes.
+//!   - `transfers`: the row of a transfer, 128 bytes.
+//!   - `timeouts`: those of open pending transfers, by the moment at which they end.
+//!   - `rows`: all tables.
+//!   - `index`: how the timeouts follow the rows.
+//!   - `trail`: the undo log of a chain.
+//! - `verdicts`: the result of an event, by the tables as they stand.
+//!   - `lines`: the first test that holds.
+//!   - `blanks`: what a post or void takes over from the pending transfer that it names.
+//!   - `account`: what is wrong with an account.
+//!   - `transfer`: with a transfer of either kind, or with its id.
+//!   - `single`: with a transfer between two accounts.
+//!   - `resolving`: with a post or void.
+//! - `changes`: what an accepted event does to the tables, and what expiry does.
+//!   - `sides`: the sums of one side of an account.
+//!   - `records`: the row of a new transfer.
+//!   - `account`: an account.
+//!   - `single`: a transfer between two accounts.
+//!   - `resolving`: a post or void.
+//!   - `transfer`: a transfer of either kind; failed ids.
+//!   - `expiry`: pending transfers whose timeout has passed.
+//! - `batches`: the events of one request, chain by chain.
+//!   - `events`: what a batch asks of its events.
+//!   - `results`: the results of a broken chain.
+//!   - `chains`: all of a chain, or nothing of it.
+//!   - `room`: memory for the undo log and the results, kept from one small batch to the next.
+//! - `lookups`: look-ups of many ids, eight at a time.
+//! - `ledgers`: `Ledger`, all that the crates above call.
+//! - `laws`: laws of the definitions: functions that do nothing.
+//! - `worked_rows`: requests and the results that the definitions give to them.
+//!
+//! Memory for a batch is reserved first: rows, failed ids, timeouts, undo log, results. Undoing a chain gives nodes back
+//! as spare ones, and cannot fail. specs/Verdicts stands in the order in which an event meets its tests, each test once:
+//! an account's own, exists, new; a transfer's own, exists, failed id; then a post or void (its own, those of the pending
+//! transfer that it names, the closed accounts), or any other (its own, the pair of accounts, the amounts).
 #![tactic(auto)]
 
 mod batches;

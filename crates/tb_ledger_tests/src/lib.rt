@@ -1,4 +1,8 @@
 //! Worked rows of the ledger, run: each by both profiles.
+//!
+//! Module:
+//!
+//! - `tests`: worked rows, each by both profiles: `accounts`, `balancing`, `chains`, `closing`, `lookups`, `pending`.
 #![tactic(auto)]
 
 #[cfg(test)]

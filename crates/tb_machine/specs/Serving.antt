@@ -18,20 +18,20 @@ abbrev pub IsPromptForItem : Input → Output → Type 0
 IsPromptForItem input output = holds_item input.at_hand ≡ false → output.held ≡ false
 
 -- the bytes were written, or the device failed and left a beginning of them
-abbrev pub Told : Result (Unit {0}) FrameFault → List ℕ → Output → Output → Type 0
-Told result bytes before after = MatchResult result (λ _. Sent bytes before after) (λ f. (f ≡ Device) × CutOff bytes before after)
+abbrev pub IsSent : Result (Unit {0}) FrameFault → List ℕ → Output → Output → Type 0
+IsSent result bytes before after = MatchResult result (λ _. Sent bytes before after) (λ f. (f ≡ Device) × CutOff bytes before after)
 
 -- the bytes were written, or the writer's fault left a beginning of them
 abbrev pub Delivers : Result (Unit {0}) RunFault → List ℕ → Output → Output → Type 0
 Delivers result bytes before after = MatchResult result (λ _. Sent bytes before after) (λ f. (f ≡ fault.Frame Device) × CutOff bytes before after)
 
 -- a new pair is entered: the machine moves on by its entry, or stays
-abbrev pub Enters : Result (Unit {0}) RunFault → State → State → Pair → Type 0
-Enters (Ok done) S T p = (has_time S p ≡ true) × (T ≡ step S (entry_of S p))
-Enters (Err fault.NoMemory) S T p = (has_time S p ≡ true) × (T ≡ S)
-Enters (Err fault.TimeExhausted) S T p = (has_time S p ≡ false) × (T ≡ S)
-Enters (Err fault.TooLong) S T p = ⊥
-Enters (Err (fault.Frame f)) S T p = ⊥
+abbrev pub EntersPair : Result (Unit {0}) RunFault → State → State → Pair → Type 0
+EntersPair (Ok done) S T p = (has_time S p ≡ true) × (T ≡ step S (entry_of S p))
+EntersPair (Err fault.NoMemory) S T p = (has_time S p ≡ true) × (T ≡ S)
+EntersPair (Err fault.TimeExhausted) S T p = (has_time S p ≡ false) × (T ≡ S)
+EntersPair (Err fault.TooLong) S T p = ⊥
+EntersPair (Err (fault.Frame f)) S T p = ⊥
 
 -- the next pair is read and answered, where there is one
 pub record Next (result : Result (Unit {0}) RunFault) (S T : State) (before middle : Input) (start written : Output) : Type 0 where
@@ -40,8 +40,8 @@ pub record Next (result : Result (Unit {0}) RunFault) (S T : State) (before midd
   pub turn : Turns result S T pair start written
 
 -- the next pair was served, or there is none, or a fault came
-abbrev pub Serves : Result Bool RunFault → State → State → Input → Input → Output → Output → Type 0
-Serves (Ok true) S T before after start written = Next (Ok tt) S T before after start written
-Serves (Ok false) S T before after start written = Ends before after start written
-Serves (Err (fault.Frame f)) S T before after start written = Unread f before after start written ⊎ Next (Err (fault.Frame f)) S T before after start written
-Serves (Err f) S T before after start written = Next (Err f) S T before after start written
+abbrev pub RunsOn : Result Bool RunFault → State → State → Input → Input → Output → Output → Type 0
+RunsOn (Ok true) S T before after start written = Next (Ok tt) S T before after start written
+RunsOn (Ok false) S T before after start written = Ends before after start written
+RunsOn (Err (fault.Frame f)) S T before after start written = Unread f before after start written ⊎ Next (Err (fault.Frame f)) S T before after start written
+RunsOn (Err f) S T before after start written = Next (Err f) S T before after start written

@@ -1,5 +1,24 @@
 //! A ledger with sessions as one machine: entries, the state that they lead to, the laws of its histories, the serving of
 //! a script, and the dump of a history and its replay.
+//!
+//! Modules, each over those before it:
+//!
+//! - `entries`: `Entry`, a commit number, a time and a request.
+//! - `executing`: what a request does to the ledger, the reply to it, the row that it leaves.
+//! - `machines`: `Machine`, a ledger and its sessions, which entries move on.
+//! - `serving`: `run`, a script read, executed and answered; `serve_pair`, one pair of it.
+//! - `answering`: the answer to a request from a machine that stays as it is.
+//! - `dumping`: `dump`, a script executed, and its history written.
+//! - `replaying`: `replay`, a dump read, each entry tested and entered, each reply written.
+//! - `recording`: one entry as the record of a journal.
+//! - `restoring`: a machine from entries, each tested first, with the cause of a refusal.
+//! - `laws`: laws of legal histories: functions that do nothing.
+//! - `worked_rows`: scripts and the replies that the definitions give to them.
+//!
+//! specs/Histories has `step`, legal histories and what an answer is; specs/Serving what the steps of `run` do with one
+//! pair; specs/ScriptLaws what joins `run` to the laws. `dump` and `run` share the making of an entry (`next_entry`),
+//! `replay` tests it by `Machine::fits`, `restore` by its causes; `dump`, `replay` and `restore` enter it by
+//! `Machine::enter`, `run` by `enter_and_tell`, which writes the reply before the row that keeps it goes to the others.
 #![tactic(auto)]
 
 mod answering;

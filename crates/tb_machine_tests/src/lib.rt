@@ -1,4 +1,27 @@
 //! What machines, scripts and dumps do, by public calls alone: worked rows, value for value and byte for byte.
+//!
+//! Modules, each over those before it:
+//!
+//! - `scripts`: scripts and wanted replies, put together field by field.
+//! - `fixtures`: the accounts and transfers of the rows.
+//! - `steps`: a script as data: each step with its answer.
+//! - `comparing`: what is compared, in one place.
+//! - `frames`: frames in hexadecimal.
+//! - `machines`: what machines are asked.
+//! - `records`: what lookups find.
+//! - `classes`: sessions by the machine's own calls.
+//! - `serving`: scripts served.
+//! - `accounts`: accounts that are created or refused.
+//! - `amounts`: balancing, and sums that would pass 128 bits.
+//! - `chains`: chains undone or left open, and failed ids.
+//! - `pending`: posts, voids, closing and expiry.
+//! - `sessions`: registers, repeats, refusals and evictions, by scripts.
+//! - `conversations`: replies leave before the program waits.
+//! - `asking`: nothing is asked again.
+//! - `faults`: scripts that end before their time.
+//! - `entries`: entries by themselves.
+//! - `dumps`: scripts dumped, dumps replayed.
+//! - `restoring`: records of a journal, and machines restored from them.
 #![tactic(auto)]
 
 #[cfg(test)]

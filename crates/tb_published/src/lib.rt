@@ -1,5 +1,25 @@
 //! Published copies of a machine: one writer enters requests into a history, and client threads read replies and records
 //! from two copies of what follows it, each through a seat of its own, without a lock.
+//!
+//! Modules:
+//!
+//! - `naming`: `Naming`, the name of an opening, a type parameter.
+//! - `limits`: `SeatCount`.
+//! - `faults`: what became of a request that was taken, why a call is refused.
+//! - `front`: `Front`, a prefix of the history as a token over a book that counts entries; `Chronicle`, the head of the
+//!   history, which alone adds to it; `Opening`.
+//! - `replica`: `Replica`, a copy, which is a machine and a front; `Posted`, what the writer hands to the copies.
+//! - `rule`: the rule of the copies: all that any reader has seen is a prefix of what is shown.
+//! - `looking`: how a reader looks at the copy that is shown.
+//! - `entering`: how the writer judges a request by its own machine, and enters it.
+//! - `offering`: the next entry, made ready for the copies.
+//! - `turning`: how the copies begin, take in what was offered, and are swapped.
+//! - `seat`: `Seat`, what a client thread reads through.
+//! - `told`: `Told`, what the publisher tells seats.
+//! - `publisher`: `Publisher`, the one writer.
+//! - `holder`: `Held`, a publisher that closes when it is dropped.
+//! - `opening`: `open`, a publisher and its seats.
+//! - `laws`: what follows of what seats have seen: functions that do nothing.
 #![tactic(auto)]
 
 mod entering;

@@ -1,4 +1,16 @@
 //! Worked rows through `take` and seats, by public calls of tb_published alone.
+//!
+//! Modules, each over those before it:
+//!
+//! - `making`: what the rows are made of.
+//! - `frames`: reply frames in hexadecimal.
+//! - `comparing`: what is compared, in one place.
+//! - `rows`: the first requests, their bytes, and what the seat looks up.
+//! - `showing`: what is entered and not yet shown.
+//! - `learning`: two seats, and what a seat learns.
+//! - `refusals`: what earlier requests have refused.
+//! - `times`: no time is left.
+//! - `threads`: seats beside the writer, in threads.
 #![tactic(auto)]
 
 #[cfg(test)]

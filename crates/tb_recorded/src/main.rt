@@ -3,6 +3,21 @@
 //!
 //! Standard output has what does not depend on the schedule: the clients, the seed, the answers that were checked, and
 //! how many were wrong. Standard error tells the commits, the requests handed over, and the answers by status.
+//!
+//! Modules, each over those before it:
+//!
+//! - `chances`: numbers drawn from a seed.
+//! - `rules`: the rules of a run's ledger.
+//! - `keys`: client, session and number of entries.
+//! - `faults`: why a run does not come to its audit's end.
+//! - `asked`: requests in so few numbers that the auditor makes them again.
+//! - `notes`: what each client lets its neighbours know.
+//! - `records`: what a client's thread writes down.
+//! - `clients`: the hostile clients, a thread each.
+//! - `places`: what was offered, by place, makes the history again.
+//! - `answers`: each answer against a machine of one thread.
+//! - `auditing`: the audit of a run.
+//! - `running`: a run: the server's thread and the clients' threads.
 #![tactic(auto)]
 
 ghost use Rattle.std.specs.Prelude.{◌≡◌};

@@ -1,4 +1,30 @@
 //! Accounts, transfers, requests and replies of the ledger, as values and as bytes.
+//!
+//! Modules. `dumps`, `streams`, `laws` and `reply_laws` are public; all other public names are exported from here.
+//!
+//! - `limits`: `Profile`, `ClientsMax`, the most items of a body, the last moment.
+//! - `operations`: the operations, by TigerBeetle's names and numbers.
+//! - `account_flags`: the flags of accounts, by name and bit.
+//! - `transfer_flags`: the flags of transfers.
+//! - `account_results`: the result codes of accounts, by name and number.
+//! - `transfer_results`: the result codes of transfers.
+//! - `lists`: `Items`, a list in a public type, over a vector.
+//! - `faults`: `FrameFault`, why bytes are no frame.
+//! - `encoding`: numbers in bytes, the lowest byte first.
+//! - `headers`: the header of a request's frame, and its tests in their order.
+//! - `records`: `Account`, `Transfer` and `EventResult`, and their bytes.
+//! - `bodies`: what a request asks for, what a reply answers.
+//! - `requests`: `Request`, one whose numbers keep the rules of sessions.
+//! - `replies`: `Reply`, one whose numbers and body go together; `Status`.
+//! - `layout`: how each item of a body is written and read.
+//! - `reply_reading`: a reply from bytes.
+//! - `devices`: readers and writers that count their failures (`Source`, `Sink`), each seen as one ghost value.
+//! - `streams`: requests and moments from a reader, one by one.
+//! - `reading`: a request from bytes.
+//! - `writing`: frames to a vector or to a writer.
+//! - `dumps`: the head, the mark and the entries of a dump, read and written.
+//! - `laws`: laws of the frames of requests: spelled whole, one reading, one fault.
+//! - `reply_laws`: the same laws of replies.
 #![tactic(auto)]
 
 mod account_flags;

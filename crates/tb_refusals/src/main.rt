@@ -4,6 +4,17 @@
 //! The forms `apply`, `take`, `offer` and `call` look at what a refused call left behind; `run`, `dump` and `replay` (which
 //! reads a dump) end at their first fault, and tell of which kind it is. What was answered goes to standard output, a line for
 //! each refusal to standard error; Trouble::status tells the statuses.
+//!
+//! Modules, each over those before it:
+//!
+//! - `troubles`: statuses, and the line of a refusal.
+//! - `scripts`: the pairs of a script, and what is written of a history.
+//! - `openings`: openings that may be refused.
+//! - `applying`: `apply`, one machine.
+//! - `taking`: `take`, a publisher and a seat.
+//! - `offering`: `offer`, ports that are closed before the server runs.
+//! - `calling`: `call`, a port's calls beside the server.
+//! - `running`: `run`, `dump` and `replay`.
 #![tactic(auto)]
 
 ghost use Rattle.std.specs.Prelude.{◌≡◌};

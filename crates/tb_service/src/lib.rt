@@ -1,4 +1,22 @@
 //! Ports, one server thread, and the queue between them.
+//!
+//! Modules, each over those before it:
+//!
+//! - `limits`: `PortCount`.
+//! - `batches`: `Batch`, one to eight requests that go together.
+//! - `orders`: `Order`, what a port sends in one step.
+//! - `rule`: what the holders of passes know, and the steps of the queue.
+//! - `sending`: how a port sends an order; where the queue is full it naps first.
+//! - `calling`: a seat asked again until it has the reply.
+//! - `ports`: `Port`, `Closed`, what a client thread hands its requests over by.
+//! - `gates`: `Moments`, where moments come from; `Gate`, what each request passes; `Open`, a gate that lets all pass.
+//! - `inbox`: the server's end of the queue.
+//! - `clerk`: what the requests of an order do to the history, each in its turn.
+//! - `ends`: `Ended`, why a run ends.
+//! - `finished`: `Finished`, a run that has ended, and its audit.
+//! - `server`: `Server`, the loop over orders.
+//! - `starting`: `service`, a server and its ports.
+//! - `laws`: what follows of a run and its audits: functions that do nothing.
 #![tactic(auto)]
 
 mod batches;

@@ -1,4 +1,13 @@
 //! Worked rows through ports and a server, by public calls of tb_service alone.
+//!
+//! Modules, each over those before it:
+//!
+//! - `making`: what the rows are made of.
+//! - `handovers`: one port.
+//! - `audits`: places that audits name.
+//! - `gates`: a gate passed before a request has its moment.
+//! - `seats`: seats beside a server.
+//! - `threads`: ports, a server and seats in threads.
 #![tactic(auto)]
 
 #[cfg(test)]

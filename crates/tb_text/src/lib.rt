@@ -1,4 +1,20 @@
 //! Requests as text: statements in the words of TigerBeetle's clients, read, printed, and told where they go wrong.
+//!
+//! Modules, each over those before it:
+//!
+//! - `words`: fields, operations and flags, by name.
+//! - `places`: where a reader stands: in a word or number, and among the parts of a statement.
+//! - `scanner`: the reader, a byte at a time.
+//! - `reading`: `read_text`, a text as requests, or its fault's place, line and column.
+//! - `awaited`: what could stand next.
+//! - `nearest`: the known word that is nearest to a written one.
+//! - `messages`: `explain_fault`, a fault in words.
+//! - `printing`: requests, printed as statements.
+//! - `text_laws`: what holds of every text of statements: functions that do nothing.
+//!
+//! specs/Scan is what a byte makes of what was read (each lexeme, word, mark), specs/Steps what a text means,
+//! specs/Printed the one printed text. proofs/Ongoing is what holds of whatever was read, proofs/Endings how each state
+//! of the reader goes on to the end of a statement.
 #![tactic(auto)]
 
 mod awaited;

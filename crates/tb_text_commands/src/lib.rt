@@ -1,5 +1,30 @@
 //! The forms of `tbt` over any reader and writer: statements to scripts and back, replies and dumps to JSON, a server for
 //! statements, the audit of a dump, and what is wrong with a script.
+//!
+//! Modules, each over those before it:
+//!
+//! - `arguments`: `read_order`, what the words of the command line ask for.
+//! - `help`: the page of usage.
+//! - `faults`: why the program ends with a status other than 0, and its line.
+//! - `intake`: bytes that were read and wait to be taken.
+//! - `heads`: what stands before the operation of a statement.
+//! - `completing`: what a statement leaves out, and what stands for it.
+//! - `told`: what the statements before tell of clients.
+//! - `statements`: statements, read one by one.
+//! - `objects`: records, ids and results as JSON objects.
+//! - `results`: what became of the events of the last entry.
+//! - `lists`: lists of records, ids and results, each item an object.
+//! - `lines`: replies and entries as lines of JSON.
+//! - `scripts`: `script`, `requests`, `replies`, `dump`, `pairs`, the forms between statements, scripts, replies and
+//!   dumps.
+//! - `running`: `run`, statements served and answered as they come.
+//! - `auditing`: `audit`, a dump joined with what its replay gives.
+//! - `explaining`: `explain`, where and why `tbs` stops in a script or a dump.
+//! - `commands`: `command`, each form over any reader and writer.
+//! - `completing_laws`: what holds of every statement that is completed, and rows of it.
+//! - `whole_laws`: rows of what is whole.
+//!
+//! specs/Whole is what each form has read where it is done; specs/Completed what stands for what a statement leaves out.
 #![tactic(auto)]
 
 mod arguments;

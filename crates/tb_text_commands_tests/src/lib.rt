@@ -1,4 +1,12 @@
 //! Tests of the forms of `tbt`, over bytes in memory.
+//!
+//! Modules, each over those before it:
+//!
+//! - `forms`: a form over bytes in memory.
+//! - `served`: statements, their scripts and replies.
+//! - `objects`: records, replies and results as JSON.
+//! - `dumps`: dumps as objects, as scripts, audited and explained.
+//! - `devices`: readers and writers that fail.
 #![tactic(auto)]
 
 #[cfg(test)]

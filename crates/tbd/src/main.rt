@@ -1,5 +1,14 @@
 //! `tbd`: a ledger server whose history is in a file. It serves requests from standard input to standard output, each reply
 //! told when the entry that it rests on is on the disk; writes the history of a file as a dump; and tells what is in a file.
+//!
+//! Modules, each over those before it:
+//!
+//! - `arguments`: what the words of the command line ask for.
+//! - `help`: the page of usage.
+//! - `faults`: why the program ends with a status other than 0, and its line.
+//! - `summaries`: what `check` tells of a file.
+//! - `files`: `dump` and `check`, a file read without a write.
+//! - `serving`: `run`, a ledger over a file served.
 #![tactic(auto)]
 
 mod arguments;

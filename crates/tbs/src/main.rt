@@ -1,5 +1,9 @@
 //! `tbs`: serves scripts of request frames, dumps the histories that they make, and replays dumps, from standard input to
 //! standard output; and runs storms of client threads.
+//!
+//! Module:
+//!
+//! - `arguments`: the words that ask for a storm; tb_commands reads all others.
 #![tactic(auto)]
 
 mod arguments;

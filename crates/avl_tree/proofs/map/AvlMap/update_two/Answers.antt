@@ -3,7 +3,7 @@ use Rattle.std.proofs.Math.Logic.{⊎_swap}
 use Rattle.std.specs.BTreeMap.{is_at}
 use Rattle.avl_tree.proofs.Around.{reversed_Greater}
 use Rattle.avl_tree.proofs.Shape.{entries-search_of}
-use Rattle.avl_tree.proofs.TwoInPlace.{changed_two, changed_two_turned, unchanged_two}
+use Rattle.avl_tree.proofs.TwoInPlace.{changed_two, changed_two_other_way, unchanged_two}
 use Rattle.avl_tree.proofs.Whole.{whole_changes_two}
 use Rattle.avl_tree.proofs.map.AvlMap.update_two.Goals as goal
 
@@ -29,7 +29,7 @@ returns-in-Greater-clause-changed g c =
     let e = entries-search_of c.self.inside.root in
     let n = entries-search_of c.update_two-in-Greater.new.tree in
     let below = reversed_Greater (g.K.Ord.cmp c.args.b.now c.args.a.now) (sym (g.met.K.Ord.total.antisymm c.args.a.now c.args.b.now) ∙ sym c.in-Greater.ensures) in
-    rw (← c.self.view_is, e, n) (changed_two_turned g.F.FnMut g.met.K.Ord.total c.args.b.now c.args.a.now c.self.inside.root c.update_two-in-Greater.new.tree c.args.f.now c.update_two-in-Greater.new.f below c.update_two-in-Greater.result c.update_two-in-Greater.ensures.changes)
+    rw (← c.self.view_is, e, n) (changed_two_other_way g.F.FnMut g.met.K.Ord.total c.args.b.now c.args.a.now c.self.inside.root c.update_two-in-Greater.new.tree c.args.f.now c.update_two-in-Greater.new.f below c.update_two-in-Greater.result c.update_two-in-Greater.ensures.changes)
 
 pub returns-in-Greater-clause-absent : goal.returns-in-Greater-clause-absent
 returns-in-Greater-clause-absent g c =
