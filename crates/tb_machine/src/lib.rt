@@ -16,8 +16,8 @@
 //! - `worked_rows`: scripts and the replies that the definitions give to them.
 //!
 //! specs/Histories has `step`, legal histories and what an answer is; specs/Serving what the steps of `run` do with one
-//! pair; specs/ScriptLaws what joins `run` to the laws. `dump` and `run` share the making of an entry (`next_entry`),
-//! `replay` tests it by `Machine::fits`, `restore` by its causes; `dump`, `replay` and `restore` enter it by
+//! pair; specs/ScriptLaws what joins `run` to the laws. Whoever enters a request has its entry by `Machine::next_entry`;
+//! `replay` tests one by `Machine::fits`, `restore` by its causes; `dump`, `replay` and `restore` enter it by
 //! `Machine::enter`, `run` by `enter_and_tell`, which writes the reply before the row that keeps it goes to the others.
 #![tactic(auto)]
 
