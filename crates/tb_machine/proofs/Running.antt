@@ -13,12 +13,12 @@ use Rattle.tb_machine.specs.declared.serving.RunFault.TheVariants as fault
 use Rattle.tb_machine.specs.Histories.{State, start, step, after, answer_to}
 use Rattle.tb_machine.specs.Scripts.{Pair, entry_of, is_entered, after_pair, with_pair, accepted, replies_from, replies_to}
 use Rattle.tb_machine.specs.Runs.{IsPair, Spell, Reads, IsTimely, answer_bytes, Turns, HasTimes, state_after, Served, EndsBy, Ran}
-use Rattle.tb_machine.specs.Serving.{Serves}
+use Rattle.tb_machine.specs.Serving.{RunsOn}
 use Rattle.tb_machine.proofs.Rows.{each_snoc}
 use Rattle.tb_machine.proofs.Legal.{fold_snoc, after_snoc}
 
 -- a pair that was read, and a fault in answering it
-pub served_fault : (f : RunFault) (S T : State) (p : Pair) (before after : Input) (start written : Output) → Reads (p ∷ []) before after → Turns (Err f) S T p start written → Serves (Err f) S T before after start written
+pub served_fault : (f : RunFault) (S T : State) (p : Pair) (before after : Input) (start written : Output) → Reads (p ∷ []) before after → Turns (Err f) S T p start written → RunsOn (Err f) S T before after start written
 served_fault (fault.Frame f) S T p before after start written read turn = inr (record { pair = p; read = read; turn = turn })
 served_fault fault.NoMemory S T p before after start written read turn = record { pair = p; read = read; turn = turn }
 served_fault fault.TimeExhausted S T p before after start written read turn = record { pair = p; read = read; turn = turn }
@@ -123,7 +123,7 @@ module _ (profile : Profile) (clients_max : ℕ) where
   pub serving_none : (S : State) (i : Input) (o : Output) → S ≡ start profile clients_max → Serving 0 S i i o o
   serving_none S i o is = record { pairs = []; long = refl; state = is; served = record { read = reads_none i; times = tt; replied = sends_none o; spelled = tt } }
 
-  pub serving_on : (k : ℕ) (S T : State) (before middle after : Input) (first written next : Output) → Serving k S before middle first written → Serves (Ok true) S T middle after written next → Serving (k + 1) T before after first next
+  pub serving_on : (k : ℕ) (S T : State) (before middle after : Input) (first written next : Output) → Serving k S before middle first written → RunsOn (Ok true) S T middle after written next → Serving (k + 1) T before after first next
   serving_on k S T before middle after first written next s n =
       let turn = subst (λ (U : State). IsTimely U n.pair × (T ≡ after_pair U n.pair) × Sent (answer_bytes U n.pair) written next × IsReply (answer_to (after_pair U n.pair) n.pair.1)) s.state n.turn in
       record {
@@ -157,25 +157,25 @@ module _ (profile : Profile) (clients_max : ℕ) where
   -- what ends a run
 
   -- at the end nothing more was written, and what was written was passed on
-  pub ran_out : (k : ℕ) (S T : State) (before middle after : Input) (first written next passed : Output) → Serving k S before middle first written → Serves (Ok false) S T middle after written next → Sent [] next passed → Ran profile clients_max (Ok k) before after first passed
+  pub ran_out : (k : ℕ) (S T : State) (before middle after : Input) (first written next passed : Output) → Serving k S before middle first written → RunsOn (Ok false) S T middle after written next → Sent [] next passed → Ran profile clients_max (Ok k) before after first passed
   ran_out k S T before middle after first written next passed s e on =
       let all = serving_passed k S before middle first written passed s (subst (λ (o : Output). Sent [] o passed) e.silent on) in
       record { pairs = all.pairs; middle = middle; replied = passed; served = all.served; ended = (all.long, record { answer = e.answer; counted = e.counted; silent = refl }) }
 
-  ends_by : (f : RunFault) (ps : List Pair) (T : State) (middle after : Input) (written next : Output) → Serves (Err f) (state_after profile clients_max ps) T middle after written next → EndsBy profile clients_max f ps middle after written next
+  ends_by : (f : RunFault) (ps : List Pair) (T : State) (middle after : Input) (written next : Output) → RunsOn (Err f) (state_after profile clients_max ps) T middle after written next → EndsBy profile clients_max f ps middle after written next
   ends_by (fault.Frame f) ps T middle after written next (inl unread) = inl unread
   ends_by (fault.Frame f) ps T middle after written next (inr n) = inr (n.turn.2, record { pair = n.pair; read = n.read; timely = n.turn.0; cut = n.turn.3 })
   ends_by fault.NoMemory ps T middle after written next n = inr (record { pair = n.pair; read = n.read; new = n.turn.0; time = n.turn.1; silent = n.turn.3 })
   ends_by fault.TimeExhausted ps T middle after written next n = record { pair = n.pair; read = n.read; new = n.turn.0; time = n.turn.1; silent = n.turn.3 }
   ends_by fault.TooLong ps T middle after written next n = absurd n.turn
 
-  pub ran_into : (f : RunFault) (k : ℕ) (S T : State) (before middle after : Input) (first written next : Output) → Serving k S before middle first written → Serves (Err f) S T middle after written next → Ran profile clients_max (Err f) before after first next
+  pub ran_into : (f : RunFault) (k : ℕ) (S T : State) (before middle after : Input) (first written next : Output) → Serving k S before middle first written → RunsOn (Err f) S T middle after written next → Ran profile clients_max (Err f) before after first next
   ran_into f k S T before middle after first written next s e = record {
     pairs = s.pairs;
     middle = middle;
     replied = written;
     served = s.served;
-    ended = ends_by f s.pairs T middle after written next (subst (λ (U : State). Serves (Err f) U T middle after written next) s.state e);
+    ended = ends_by f s.pairs T middle after written next (subst (λ (U : State). RunsOn (Err f) U T middle after written next) s.state e);
   }
 
   pub ran_too_long : (S : State) (before middle : Input) (first written : Output) → Serving (2 ^ 64 - 1) S before middle first written → Ran profile clients_max (Err fault.TooLong) before middle first written

@@ -40,8 +40,8 @@ pub record Next (result : Result (Unit {0}) RunFault) (S T : State) (before midd
   pub turn : Turns result S T pair start written
 
 -- the next pair was served, or there is none, or a fault came
-abbrev pub Serves : Result Bool RunFault → State → State → Input → Input → Output → Output → Type 0
-Serves (Ok true) S T before after start written = Next (Ok tt) S T before after start written
-Serves (Ok false) S T before after start written = Ends before after start written
-Serves (Err (fault.Frame f)) S T before after start written = Unread f before after start written ⊎ Next (Err (fault.Frame f)) S T before after start written
-Serves (Err f) S T before after start written = Next (Err f) S T before after start written
+abbrev pub RunsOn : Result Bool RunFault → State → State → Input → Input → Output → Output → Type 0
+RunsOn (Ok true) S T before after start written = Next (Ok tt) S T before after start written
+RunsOn (Ok false) S T before after start written = Ends before after start written
+RunsOn (Err (fault.Frame f)) S T before after start written = Unread f before after start written ⊎ Next (Err (fault.Frame f)) S T before after start written
+RunsOn (Err f) S T before after start written = Next (Err f) S T before after start written

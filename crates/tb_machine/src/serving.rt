@@ -9,7 +9,7 @@ ghost use Rattle.tb_machine.specs.Histories.{status_of, answer_to, fits};
 ghost use Rattle.tb_machine.specs.RunFaults.{run_fault_number, run_fault_name};
 ghost use Rattle.tb_machine.specs.Runs.{is_new_in, Turns, Ran};
 ghost use Rattle.tb_machine.specs.Scripts.{entry_of, has_time};
-ghost use Rattle.tb_machine.specs.Serving.{Enters, Delivers, IsPromptForPair, Serves};
+ghost use Rattle.tb_machine.specs.Serving.{Enters, Delivers, IsPromptForPair, RunsOn};
 
 use crate::entries::Entry;
 use crate::machines::Machine;
@@ -230,7 +230,7 @@ fn serve_next<R: Source, W: Sink>(
     writer: &mut W,
 ) -> Result<bool, RunFault>
     requires { IsPromptForPair (R.input reader.old) (W.output writer.old) }
-    ensures { Serves result machine.old machine.new (R.input reader.old) (R.input reader.new)
+    ensures { RunsOn result machine.old machine.new (R.input reader.old) (R.input reader.new)
         (W.output writer.old) (W.output writer.new) }
 {
     let Some((moment, request)) = read_timed_from(alloc, reader)? else {
