@@ -14,7 +14,7 @@ use Rattle.tb_machine.specs.declared.serving.RunFault.TheVariants as fault
 use Rattle.tb_machine.specs.Histories.{State, start, step, to_two, row_at}
 use Rattle.tb_machine.specs.Scripts.{Pair, entry_of, has_time}
 use Rattle.tb_machine.specs.Runs.{IsPair, Reads, is_new_in, IsTimely}
-use Rattle.tb_machine.specs.Serving.{Enters}
+use Rattle.tb_machine.specs.Serving.{EntersPair}
 use Rattle.tb_machine.specs.Dumps.{dumped, history_bytes, IsDumpedEntry, IsPlace, DumpSpells, after_with, place_in, after_at, with_pair_at, accepted_at, HasTimesAt}
 use Rattle.tb_machine.specs.DumpRuns.{marks_at, mark_before, turned, added_bytes, DumpsPair, DumpStops, DumpsOn, history_of, HasDumped, DumpedTo, DumpRan}
 use Rattle.tb_machine.proofs.Rows.{some_one, each_snoc}
@@ -42,7 +42,7 @@ pub record Made (at : Option ℕ) (S T : State) (p : Pair) (bytes : List ℕ) : 
   pub stepped : T ≡ step (turned (marks_at at S.commit) S) (entry_of S p)
   pub bytes_are : bytes ≡ added_bytes at S p
 
-module _ (at : Option ℕ) (S U T : State) (p : Pair) (due : Bool) (due_is : due ≡ marks_at at S.commit) (turns : U ≡ turned due S) (entered : Enters (Ok tt) U T p) where
+module _ (at : Option ℕ) (S U T : State) (p : Pair) (due : Bool) (due_is : due ≡ marks_at at S.commit) (turns : U ≡ turned due S) (entered : EntersPair (Ok tt) U T p) where
   stepped_by : T ≡ step (turned due S) (entry_of S p)
   stepped_by = entered.1 ∙ ap (λ (V : State). step V (entry_of V p)) turns ∙ ap (step (turned due S)) (turned_entry due S p)
 

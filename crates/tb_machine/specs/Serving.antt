@@ -26,12 +26,12 @@ abbrev pub Delivers : Result (Unit {0}) RunFault → List ℕ → Output → Out
 Delivers result bytes before after = MatchResult result (λ _. Sent bytes before after) (λ f. (f ≡ fault.Frame Device) × CutOff bytes before after)
 
 -- a new pair is entered: the machine moves on by its entry, or stays
-abbrev pub Enters : Result (Unit {0}) RunFault → State → State → Pair → Type 0
-Enters (Ok done) S T p = (has_time S p ≡ true) × (T ≡ step S (entry_of S p))
-Enters (Err fault.NoMemory) S T p = (has_time S p ≡ true) × (T ≡ S)
-Enters (Err fault.TimeExhausted) S T p = (has_time S p ≡ false) × (T ≡ S)
-Enters (Err fault.TooLong) S T p = ⊥
-Enters (Err (fault.Frame f)) S T p = ⊥
+abbrev pub EntersPair : Result (Unit {0}) RunFault → State → State → Pair → Type 0
+EntersPair (Ok done) S T p = (has_time S p ≡ true) × (T ≡ step S (entry_of S p))
+EntersPair (Err fault.NoMemory) S T p = (has_time S p ≡ true) × (T ≡ S)
+EntersPair (Err fault.TimeExhausted) S T p = (has_time S p ≡ false) × (T ≡ S)
+EntersPair (Err fault.TooLong) S T p = ⊥
+EntersPair (Err (fault.Frame f)) S T p = ⊥
 
 -- the next pair is read and answered, where there is one
 pub record Next (result : Result (Unit {0}) RunFault) (S T : State) (before middle : Input) (start written : Output) : Type 0 where

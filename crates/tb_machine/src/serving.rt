@@ -9,7 +9,7 @@ ghost use Rattle.tb_machine.specs.Histories.{status_of, answer_to, fits};
 ghost use Rattle.tb_machine.specs.RunFaults.{run_fault_number, run_fault_name};
 ghost use Rattle.tb_machine.specs.Runs.{is_new_in, Turns, Ran};
 ghost use Rattle.tb_machine.specs.Scripts.{entry_of, has_time};
-ghost use Rattle.tb_machine.specs.Serving.{Enters, Delivers, IsPromptForPair, RunsOn};
+ghost use Rattle.tb_machine.specs.Serving.{EntersPair, Delivers, IsPromptForPair, RunsOn};
 
 use crate::entries::Entry;
 use crate::machines::Machine;
@@ -138,7 +138,7 @@ pub(crate) fn enter(
     request: Request,
 ) -> Result<(), RunFault>
     requires { is_new_in machine.old (moment, request) ≡ true }
-    ensures entered { Enters result machine.old machine.new (moment, request) }
+    ensures entered { EntersPair result machine.old machine.new (moment, request) }
     ensures lawful { IsLawful request }
 {
     let entry = next_entry(machine, moment, request)?;
