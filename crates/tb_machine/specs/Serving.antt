@@ -18,8 +18,8 @@ abbrev pub IsPromptForItem : Input → Output → Type 0
 IsPromptForItem input output = holds_item input.at_hand ≡ false → output.held ≡ false
 
 -- the bytes were written, or the device failed and left a beginning of them
-abbrev pub Told : Result (Unit {0}) FrameFault → List ℕ → Output → Output → Type 0
-Told result bytes before after = MatchResult result (λ _. Sent bytes before after) (λ f. (f ≡ Device) × CutOff bytes before after)
+abbrev pub IsSent : Result (Unit {0}) FrameFault → List ℕ → Output → Output → Type 0
+IsSent result bytes before after = MatchResult result (λ _. Sent bytes before after) (λ f. (f ≡ Device) × CutOff bytes before after)
 
 -- the bytes were written, or the writer's fault left a beginning of them
 abbrev pub Delivers : Result (Unit {0}) RunFault → List ℕ → Output → Output → Type 0

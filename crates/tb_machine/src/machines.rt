@@ -7,7 +7,7 @@ ghost use Rattle.tb_ledger.specs.Verdicts.{max_time};
 ghost use Rattle.tb_sessions.specs.Judged.{class_of, row_of};
 ghost use Rattle.tb_records.specs.ReplyFrames.{reply_bytes, IsReply};
 ghost use Rattle.tb_machine.specs.Histories.{start, step, reply_at, to_two, fits, least_time};
-ghost use Rattle.tb_machine.specs.Serving.{Told};
+ghost use Rattle.tb_machine.specs.Serving.{IsSent};
 
 use crate::entries::Entry;
 use crate::executing::row_for;
@@ -231,7 +231,7 @@ impl<A: Allocator + Clone> Machine<A> {
         ensures { MatchResult result
             (λ told.
             (self.new ≡ step self.old entry)
-            × Told told (reply_bytes (reply_at self.old entry)) (W.output writer.old)
+            × IsSent told (reply_bytes (reply_at self.old entry)) (W.output writer.old)
             (W.output writer.new)
             × OnOk told (IsReply (reply_at self.old entry)))
             (λ back. (back ≡ entry) × (self.new ≡ self.old) × (writer.new ≡ writer.old)) }
