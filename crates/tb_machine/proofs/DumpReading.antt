@@ -158,17 +158,17 @@ module _ (profile : Profile) (clients_max k : ℕ) (S T : State) (before middle 
       }
 
   replayed_mark : (profile_of S.books ≡ One) × (T ≡ to_two S) × TakesMark middle after written next → Replaying profile clients_max (k + 1) T before after first next
-  replayed_mark (by_one, turned, taken) =
+  replayed_mark (by_one, moved, taken) =
       let h = r.history in
       let none = unmarked profile r.place (sym r.profile_is ∙ by_one) in
       let few : k ≤ length h + 0 = subst (λ place. k ≤ length h + marks place) none.0 r.few in
       record {
         history = h;
         place = Some (length h);
-        state = turned ∙ ap to_two (r.state ∙ ap (λ place. after_with profile clients_max place h) none.0) ∙ sym (with_marked profile clients_max h);
-        count = ap (λ (V : State). V.commit) turned ∙ r.count;
+        state = moved ∙ ap to_two (r.state ∙ ap (λ place. after_with profile clients_max place h) none.0) ∙ sym (with_marked profile clients_max h);
+        count = ap (λ (V : State). V.commit) moved ∙ r.count;
         few = omega (arith, few);
-        profile_is = ap (λ (V : State). profile_of V.books) turned;
+        profile_is = ap (λ (V : State). profile_of V.books) moved;
         marked = (none.1, omega arith);
         has_replayed = record {
           read = read_mark profile clients_max h before.left middle.left after.left none.1 (subst (λ place. ReadsDump profile clients_max h place before.left middle.left) none.0 r.has_replayed.read) taken.read.answers;

@@ -16,7 +16,7 @@ use Rattle.tb_machine.specs.Scripts.{Pair, entry_of, has_time}
 use Rattle.tb_machine.specs.Runs.{IsPair, Reads, is_new_in, IsTimely}
 use Rattle.tb_machine.specs.Serving.{EntersPair}
 use Rattle.tb_machine.specs.Dumps.{dumped, history_bytes, IsDumpedEntry, IsPlace, DumpSpells, after_with, place_in, after_at, with_pair_at, accepted_at, HasTimesAt}
-use Rattle.tb_machine.specs.DumpRuns.{marks_at, mark_before, turned, added_bytes, DumpsPair, DumpStops, DumpsOn, history_of, HasDumped, DumpedTo, DumpRan}
+use Rattle.tb_machine.specs.DumpRuns.{marks_at, mark_before, changed_profile, added_bytes, DumpsPair, DumpStops, DumpsOn, history_of, HasDumped, DumpedTo, DumpRan}
 use Rattle.tb_machine.proofs.Rows.{some_one, each_snoc}
 use Rattle.tb_machine.proofs.Legal.{fold_snoc}
 use Rattle.tb_machine.proofs.Lawful.{executed_time}
@@ -28,36 +28,36 @@ use Rattle.tb_machine.proofs.DumpReading.{entry_stored}
 
 -- whether profile 1 or 2 serves, a pair is as new and has the same time and entry
 
-turned_time : (due : Bool) (S : State) (p : Pair) → has_time (turned due S) p ≡ has_time S p
-turned_time true S p = refl
-turned_time false S p = refl
+changed_time : (due : Bool) (S : State) (p : Pair) → has_time (changed_profile due S) p ≡ has_time S p
+changed_time true S p = refl
+changed_time false S p = refl
 
-turned_entry : (due : Bool) (S : State) (p : Pair) → entry_of (turned due S) p ≡ entry_of S p
-turned_entry true S p = refl
-turned_entry false S p = refl
+changed_entry : (due : Bool) (S : State) (p : Pair) → entry_of (changed_profile due S) p ≡ entry_of S p
+changed_entry true S p = refl
+changed_entry false S p = refl
 
 -- the entry that a new pair made, and what is written of it
 pub record Made (at : Option ℕ) (S T : State) (p : Pair) (bytes : List ℕ) : Type 0 where
   pub timely : has_time S p ≡ true
-  pub stepped : T ≡ step (turned (marks_at at S.commit) S) (entry_of S p)
+  pub stepped : T ≡ step (changed_profile (marks_at at S.commit) S) (entry_of S p)
   pub bytes_are : bytes ≡ added_bytes at S p
 
-module _ (at : Option ℕ) (S U T : State) (p : Pair) (due : Bool) (due_is : due ≡ marks_at at S.commit) (turns : U ≡ turned due S) (entered : EntersPair (Ok tt) U T p) where
-  stepped_by : T ≡ step (turned due S) (entry_of S p)
-  stepped_by = entered.1 ∙ ap (λ (V : State). step V (entry_of V p)) turns ∙ ap (step (turned due S)) (turned_entry due S p)
+module _ (at : Option ℕ) (S U T : State) (p : Pair) (due : Bool) (due_is : due ≡ marks_at at S.commit) (changes : U ≡ changed_profile due S) (entered : EntersPair (Ok tt) U T p) where
+  stepped_by : T ≡ step (changed_profile due S) (entry_of S p)
+  stepped_by = entered.1 ∙ ap (λ (V : State). step V (entry_of V p)) changes ∙ ap (step (changed_profile due S)) (changed_entry due S p)
 
-  pub made_stored : (client : ℕ) → client ≡ p.1.client → row_of T.rows client ≡ Some (row_at (turned due S) (entry_of S p))
-  made_stored client is = entry_stored (turned due S) T (entry_of S p) client stepped_by is
+  pub made_stored : (client : ℕ) → client ≡ p.1.client → row_of T.rows client ≡ Some (row_at (changed_profile due S) (entry_of S p))
+  made_stored client is = entry_stored (changed_profile due S) T (entry_of S p) client stepped_by is
 
   pub made : (client commit time : ℕ) (row : Row) → client ≡ p.1.client → row_of T.rows client ≡ Some row → commit ≡ T.commit → time ≡ T.books.time → Made at S T p (mark_before due ++ entry_bytes commit time row.request)
   made client commit time row is found commit_is time_is =
-      let row_is : row ≡ row_at (turned due S) (entry_of S p) = some_one (sym found ∙ made_stored client is) in
+      let row_is : row ≡ row_at (changed_profile due S) (entry_of S p) = some_one (sym found ∙ made_stored client is) in
       let commit_of : commit ≡ S.commit + 1 = commit_is ∙ ap (λ (V : State). V.commit) stepped_by in
-      let time_of_it : time ≡ (entry_of S p).time = time_is ∙ ap (λ (V : State). V.books.time) stepped_by ∙ executed_time (turned due S).books p.1.body (entry_of S p).time in
+      let time_of_it : time ≡ (entry_of S p).time = time_is ∙ ap (λ (V : State). V.books.time) stepped_by ∙ executed_time (changed_profile due S).books p.1.body (entry_of S p).time in
       let request_is : row.request ≡ p.1 = ap (λ (r : Row). r.request) row_is in
       record {
-        timely = sym (turned_time due S p) ∙ ap (λ (V : State). has_time V p) (sym turns) ∙ entered.0;
-        stepped = stepped_by ∙ ap (λ (b : Bool). step (turned b S) (entry_of S p)) due_is;
+        timely = sym (changed_time due S p) ∙ ap (λ (V : State). has_time V p) (sym changes) ∙ entered.0;
+        stepped = stepped_by ∙ ap (λ (b : Bool). step (changed_profile b S) (entry_of S p)) due_is;
         bytes_are = λ i. mark_before (due_is i) ++ entry_bytes (commit_of i) (time_of_it i) (request_is i);
       }
 
@@ -116,17 +116,17 @@ placed (Some a) h = by (ltb a (length h)) refl
 
 module _ (clients_max : ℕ) (at : Option ℕ) (h : List Entry) (e : Entry) where
   -- the state behind one entry more
-  pub at_snoc : after_at One clients_max at (h ++ e ∷ []) ≡ step (turned (marks_at at (length h)) (after_at One clients_max at h)) e
+  pub at_snoc : after_at One clients_max at (h ++ e ∷ []) ≡ step (changed_profile (marks_at at (length h)) (after_at One clients_max at h)) e
   at_snoc = elim (place_cases at h e) [
     | inl stays ↦
         ap (λ place. after_with One clients_max place (h ++ e ∷ [])) stays.same
         ∙ with_snoc One clients_max (place_in at h) h e (placed at h)
-        ∙ ap (λ b. step (turned b (after_at One clients_max at h)) e) (sym stays.unmarked)
+        ∙ ap (λ b. step (changed_profile b (after_at One clients_max at h)) e) (sym stays.unmarked)
     | inr comes ↦
         ap (λ place. after_with One clients_max place (h ++ e ∷ [])) comes.here
         ∙ with_snoc One clients_max (Some (length h)) h e (refl, omega arith)
         ∙ ap (λ (V : State). step V e) (with_marked One clients_max h ∙ ap (λ place. to_two (after_with One clients_max place h)) (sym comes.none))
-        ∙ ap (λ b. step (turned b (after_at One clients_max at h)) e) (sym comes.marked)
+        ∙ ap (λ b. step (changed_profile b (after_at One clients_max at h)) e) (sym comes.marked)
   ]
 
   -- and its bytes
@@ -232,16 +232,16 @@ module _ (clients_max : ℕ) (at : Option ℕ) where
         }
 
     -- a new one
-    dumped_new : IsPair p → is_new_in S p ≡ true → has_time S p ≡ true → T ≡ step (turned (marks_at at S.commit) S) (entry_of S p) → Sent (added_bytes at S p) written next → Dumping (k + 1) T before after first next
+    dumped_new : IsPair p → is_new_in S p ≡ true → has_time S p ≡ true → T ≡ step (changed_profile (marks_at at S.commit) S) (entry_of S p) → Sent (added_bytes at S p) written next → Dumping (k + 1) T before after first next
     dumped_new fits new timely stepped sent =
         let new_there : is_new_in U p ≡ true = ap (λ (V : State). is_new_in V p) (sym d.state) ∙ new in
         let timely_there : has_time U p ≡ true = ap (λ (V : State). has_time V p) (sym d.state) ∙ timely in
         let e : Entry = entry_of U p in
         let same : history_of clients_max at (d.pairs ++ p ∷ []) ≡ h ++ e ∷ [] = history_snoc d.pairs p ∙ entered_pair h p new_there timely_there in
         let count_there : U.commit ≡ length h = ap (λ (V : State). V.commit) (sym d.state) ∙ d.count in
-        let stepped_there : T ≡ step (turned (marks_at at (length h)) U) e = stepped ∙ (λ i. step (turned (marks_at at (d.count i)) (d.state i)) (entry_of (d.state i) p)) in
+        let stepped_there : T ≡ step (changed_profile (marks_at at (length h)) U) e = stepped ∙ (λ i. step (changed_profile (marks_at at (d.count i)) (d.state i)) (entry_of (d.state i) p)) in
         let added : added_bytes at S p ≡ mark_before (marks_at at (length h)) ++ dumped e = λ i. mark_before (marks_at at (d.count i)) ++ dumped (entry_of (d.state i) p) in
-        let time_is : T.books.time ≡ e.time = ap (λ (V : State). V.books.time) stepped_there ∙ executed_time (turned (marks_at at (length h)) U).books p.1.body e.time in
+        let time_is : T.books.time ≡ e.time = ap (λ (V : State). V.books.time) stepped_there ∙ executed_time (changed_profile (marks_at at (length h)) U).books p.1.body e.time in
         let late_there : U.commit ≤ U.books.time = subst (λ (V : State). V.commit ≤ V.books.time) d.state d.late in
         let in_range : e.time ≤ max_time = leb-true e.time max_time timely_there in
         record {
@@ -267,10 +267,10 @@ module _ (clients_max : ℕ) (at : Option ℕ) where
           };
         }
       where
-        by_profile : T ≡ step (turned (marks_at at (length h)) U) (entry_of U p) → place_in at (h ++ entry_of U p ∷ []) ≡ None → profile_of T.books ≡ One
+        by_profile : T ≡ step (changed_profile (marks_at at (length h)) U) (entry_of U p) → place_in at (h ++ entry_of U p ∷ []) ≡ None → profile_of T.books ≡ One
         by_profile is none = elim (place_cases at h (entry_of U p)) [
           | inl stays ↦
-              ap (λ (V : State). profile_of V.books) (is ∙ ap (λ b. step (turned b U) (entry_of U p)) stays.unmarked)
+              ap (λ (V : State). profile_of V.books) (is ∙ ap (λ b. step (changed_profile b U) (entry_of U p)) stays.unmarked)
               ∙ profile_step U (entry_of U p)
               ∙ ap (λ (V : State). profile_of V.books) (sym d.state)
               ∙ d.by_one (sym stays.same ∙ none)

@@ -25,8 +25,8 @@ abbrev pub mark_before : Bool → List ℕ
 mark_before due = if due then mark_bytes else []
 
 -- the state in which that entry is executed
-abbrev pub turned : Bool → State → State
-turned due S = if due then to_two S else S
+abbrev pub changed_profile : Bool → State → State
+changed_profile due S = if due then to_two S else S
 
 -- what the entry of a new pair adds to a dump
 abbrev pub added_bytes : Option ℕ → State → Pair → List ℕ
@@ -40,7 +40,7 @@ Written result bytes before after = MatchResult result (λ _. Sent bytes before 
 abbrev pub DumpsPair : Result (Unit {0}) RunFault → Option ℕ → State → State → Pair → Output → Output → Type 0
 DumpsPair (Ok done) at S T p before after =
     ((is_new_in S p ≡ false) × (T ≡ S) × (after ≡ before))
-    ⊎ ((is_new_in S p ≡ true) × (has_time S p ≡ true) × (T ≡ step (turned (marks_at at S.commit) S) (entry_of S p)) × Sent (added_bytes at S p) before after)
+    ⊎ ((is_new_in S p ≡ true) × (has_time S p ≡ true) × (T ≡ step (changed_profile (marks_at at S.commit) S) (entry_of S p)) × Sent (added_bytes at S p) before after)
 DumpsPair (Err (fault.Frame f)) at S T p before after = (is_new_in S p ≡ true) × (has_time S p ≡ true) × (f ≡ Device) × CutOff (added_bytes at S p) before after
 DumpsPair (Err fault.NoMemory) at S T p before after = (is_new_in S p ≡ true) × (has_time S p ≡ true) × (after ≡ before)
 DumpsPair (Err fault.TimeExhausted) at S T p before after = (is_new_in S p ≡ true) × (has_time S p ≡ false) × (after ≡ before)

@@ -6,7 +6,7 @@ ghost use Rattle.tb_records.specs.DumpBytes.{head_bytes, entry_bytes, IsClients}
 ghost use Rattle.tb_records.specs.Transport.{Sent, CutOff};
 ghost use Rattle.tb_ledger.specs.Books.{profile_of};
 ghost use Rattle.tb_sessions.specs.Judged.{class_of, row_of};
-ghost use Rattle.tb_machine.specs.DumpRuns.{mark_before, marks_at, turned, DumpRan, DumpsOn, DumpsPair, Written};
+ghost use Rattle.tb_machine.specs.DumpRuns.{mark_before, marks_at, changed_profile, DumpRan, DumpsOn, DumpsPair, Written};
 ghost use Rattle.tb_machine.specs.Serving.{IsPromptForPair};
 
 use crate::machines::Machine;
@@ -28,9 +28,9 @@ fn marks_at(at: Option<u64>, commit: u64) -> bool
 }
 
 /// Goes over to profile 2 where a mark is due.
-fn turn(machine: &mut Machine<Global>, due: bool)
+fn change_profile(machine: &mut Machine<Global>, due: bool)
     requires { due ≡ true → profile_of machine.old.books ≡ Profile.One }
-    ensures { machine.new ≡ turned due machine.old }
+    ensures { machine.new ≡ changed_profile due machine.old }
 {
     if due {
         machine.move_to_two();
@@ -105,7 +105,7 @@ fn dump_new<W: Sink>(
 {
     let client = request.client();
     let due = marks_at(at, machine.commit());
-    turn(machine, due);
+    change_profile(machine, due);
     enter(machine, moment, request)?;
     let row = row_of(machine, client);
     write_entry(writer, due, machine.commit(), machine.time(), &row.request)?;
