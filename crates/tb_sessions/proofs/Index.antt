@@ -18,7 +18,7 @@ use Rattle.tb_records.proofs.Entries.{found-row, own-replaced, own-inserted, own
 use Rattle.tb_sessions.specs.declared.rows.Row.{Row}
 use Rattle.tb_sessions.specs.Judged.{client_of}
 use Rattle.tb_sessions.specs.Admission.{oldest, driven_out}
-use Rattle.tb_sessions.specs.Indexed.{row_at, client_at, IsLinked, IsIndexed, IsFirstBehind, IsReady}
+use Rattle.tb_sessions.specs.Indexed.{kept_row, client_at, IsLinked, IsIndexed, IsFirstBehind, IsReady}
 use Rattle.tb_sessions.proofs.LookUps.{decide, at_itself, removed_here, removed_other, set_here, set_other, put_here, put_other, first_least, each_found}
 
 pub inside : {X : Type 0} {x y : X} → Some x ≡ Some y → x ≡ y
@@ -189,7 +189,7 @@ first_found (e ∷ es) c k is =
 
 module _ {n : ℕ} {rows : Map ℕ Row} {clients : Map ℕ ℕ} (i : IsIndexed n rows clients) where
   -- each row found is of an earlier commit, and no client stands at a later one
-  earlier : (commit : ℕ) → Each (λ (other : Row). other.commit < commit) (values_of (entries rows)) → (q : ℕ) (x : Row) → row_at rows q ≡ Some x → x.commit < commit
+  earlier : (commit : ℕ) → Each (λ (other : Row). other.commit < commit) (values_of (entries rows)) → (q : ℕ) (x : Row) → kept_row rows q ≡ Some x → x.commit < commit
   earlier commit later q x is = each-find (λ (other : Row). other.commit < commit) (λ row. client_of row == q) x (values_of (entries rows)) later (sym (found-row client_of q (entries rows) i.own) ∙ is)
 
   pub fresh : (commit : ℕ) → Each (λ (other : Row). other.commit < commit) (values_of (entries rows)) → client_at clients commit ≡ None
@@ -203,7 +203,7 @@ module _ {n : ℕ} {rows : Map ℕ Row} {clients : Map ℕ ℕ} (i : IsIndexed n
           let low = kept.2 in
           absurd (omega (arith, less, low))
 
-  pub index_out : (r : Row) (k d : ℕ) {rows' : Map ℕ Row} {clients' : Map ℕ ℕ} → row_at rows k ≡ Some r → client_at clients d ≡ Some k
+  pub index_out : (r : Row) (k d : ℕ) {rows' : Map ℕ Row} {clients' : Map ℕ ℕ} → kept_row rows k ≡ Some r → client_at clients d ≡ Some k
       → entries rows' ≡ remove_entry (is_at (nat_cmp k)) (entries rows) → entries clients' ≡ remove_entry (is_at (nat_cmp d)) (entries clients)
       → rows'.spare ≡ rows.spare + 1 → clients'.spare ≡ clients.spare + 1 → IsReady n rows' clients'
   index_out r k d {rows'} {clients'} here stood is is_clients spare clients_spare =
@@ -230,7 +230,7 @@ module _ {n : ℕ} {rows : Map ℕ Row} {clients : Map ℕ ℕ} (i : IsIndexed n
         first = λ full. absurd (omega (arith, a, la, full, i.not_over));
       }
 
-  pub index_in : (r : Row) {rows' : Map ℕ Row} {clients' : Map ℕ ℕ} → row_at rows r.client ≡ None → Each (λ (other : Row). other.commit < r.commit) (values_of (entries rows))
+  pub index_in : (r : Row) {rows' : Map ℕ Row} {clients' : Map ℕ ℕ} → kept_row rows r.client ≡ None → Each (λ (other : Row). other.commit < r.commit) (values_of (entries rows))
       → entries rows' ≡ insert_entry nat_cmp (entries rows) r.client r → entries clients' ≡ insert_entry nat_cmp (entries clients) r.commit r.client
       → rows'.spare + 1 ≡ rows.spare → clients'.spare + 1 ≡ clients.spare → length (entries rows) < n → IsIndexed n rows' clients'
   index_in r {rows'} {clients'} absent later is is_clients spare clients_spare room =
@@ -257,7 +257,7 @@ module _ {n : ℕ} {rows : Map ℕ Row} {clients : Map ℕ ℕ} (i : IsIndexed n
       }
 
   -- a row in place of the client's, which was of an earlier commit
-  pub index_renewed : (r old : Row) {rows' : Map ℕ Row} → row_at rows r.client ≡ Some old → Each (λ (other : Row). other.commit < r.commit) (values_of (entries rows))
+  pub index_renewed : (r old : Row) {rows' : Map ℕ Row} → kept_row rows r.client ≡ Some old → Each (λ (other : Row). other.commit < r.commit) (values_of (entries rows))
       → entries rows' ≡ set_value (is_at (nat_cmp r.client)) (entries rows) r → rows'.spare ≡ rows.spare → IsIndexed n rows' clients
   index_renewed r old {rows'} found later is spare =
       let a = length-set_value (is_at (nat_cmp r.client)) (entries rows) r in
@@ -279,7 +279,7 @@ module _ {n : ℕ} {rows : Map ℕ Row} {clients : Map ℕ ℕ} (i : IsIndexed n
       }
 
   -- no client stands at the commit of a row that is not at the commit where its client stands
-  moved_fresh : (k d : ℕ) (r : Row) → client_at clients d ≡ Some k → row_at rows k ≡ Some r → r.commit ≢ d → client_at clients r.commit ≡ None
+  moved_fresh : (k d : ℕ) (r : Row) → client_at clients d ≡ Some k → kept_row rows k ≡ Some r → r.commit ≢ d → client_at clients r.commit ≡ None
   moved_fresh k d r stood here behind = by (client_at clients r.commit) refl
     where
       by : (o : Option ℕ) → client_at clients r.commit ≡ o → o ≡ None
@@ -345,7 +345,7 @@ find_only p key k r (x ∷ xs) each found passes = by (key x == k) refl (p x) re
     by false at false is found later = later found
 
 -- the client at the first commit has the row of least commit, where that is the row's
-pub oldest_first : {n : ℕ} {rows : Map ℕ Row} {clients : Map ℕ ℕ} → IsIndexed n rows clients → (c k : ℕ) (r : Row) → slice_get (entries clients) 0 ≡ Some (c, k) → row_at rows k ≡ Some r → r.commit ≡ c → oldest (values_of (entries rows)) ≡ Some r
+pub oldest_first : {n : ℕ} {rows : Map ℕ Row} {clients : Map ℕ ℕ} → IsIndexed n rows clients → (c k : ℕ) (r : Row) → slice_get (entries clients) 0 ≡ Some (c, k) → kept_row rows k ≡ Some r → r.commit ≡ c → oldest (values_of (entries rows)) ≡ Some r
 oldest_first {n} {rows} {clients} i c k r first here commit =
     let found = sym (found-row client_of k (entries rows) i.own) ∙ here in
     let stood = first_found (entries clients) c k first in
@@ -364,7 +364,7 @@ oldest_first {n} {rows} {clients} i c k r first here commit =
         let low = first_least e es d j rise at in
         subst (λ m. m ≤ d) (ap (λ p. p.0) same) low
 
-    reached : (q : ℕ) (x : Row) → row_at rows q ≡ Some x → r.commit ≤ x.commit
+    reached : (q : ℕ) (x : Row) → kept_row rows q ≡ Some x → r.commit ≤ x.commit
     reached q x is =
         let noted = i.linked.noted q x is in
         let low = first_at (entries clients) i.commits_rise first noted.0 q noted.2 in
@@ -372,7 +372,7 @@ oldest_first {n} {rows} {clients} i c k r first here commit =
         omega (arith, low, most, commit)
 
 -- the first of the clients in a full table: it has a row of its commit
-pub first_row : {n : ℕ} {rows : Map ℕ Row} {clients : Map ℕ ℕ} → IsReady n rows clients → n ≤ length (entries rows) → (c k : ℕ) → slice_get (entries clients) 0 ≡ Some (c, k) → (r : Row) × (row_at rows k ≡ Some r) × (r.commit ≡ c)
+pub first_row : {n : ℕ} {rows : Map ℕ Row} {clients : Map ℕ ℕ} → IsReady n rows clients → n ≤ length (entries rows) → (c k : ℕ) → slice_get (entries clients) 0 ≡ Some (c, k) → (r : Row) × (kept_row rows k ≡ Some r) × (r.commit ≡ c)
 first_row {clients = clients} i full c k is =
     let kept = i.indexed.linked.kept c k (first_found (entries clients) c k is) in
     (kept.0, kept.1, i.first full c k kept.0 is kept.1)
@@ -423,7 +423,7 @@ index_empty {n} {rows} {clients} no_rows no_clients some rows_room clients_room 
       first = λ full. absurd (omega (arith, a, full, some));
     }
   where
-    no_row : (client : ℕ) → row_at rows client ≡ None
+    no_row : (client : ℕ) → kept_row rows client ≡ None
     no_row client = ap (λ es. lookup (is_at (nat_cmp client)) es) no_rows
 
     no_client : (commit : ℕ) → client_at clients commit ≡ None

@@ -13,7 +13,7 @@ use Rattle.tb_records.proofs.ByKey.{each-map, each-find}
 use Rattle.tb_records.proofs.Entries.{found-row}
 use Rattle.tb_sessions.specs.declared.rows.Row.{Row}
 use Rattle.tb_sessions.specs.Judged.{client_of}
-use Rattle.tb_sessions.specs.Indexed.{row_at, IsIndexed, IsFirstBehind}
+use Rattle.tb_sessions.specs.Indexed.{kept_row, IsIndexed, IsFirstBehind}
 use Rattle.tb_sessions.proofs.LookUps.{less_is}
 use Rattle.tb_sessions.proofs.Index.{inside, first_found}
 
@@ -26,7 +26,7 @@ each_latest : (rows : List Row) → Each (λ (row : Row). row.commit ≤ latest 
 each_latest [] = tt
 each_latest (row ∷ rows) = (omega arith, each-map (λ (x : Row). x.commit ≤ latest rows) (λ (x : Row). x.commit ≤ max row.commit (latest rows)) rows (λ x low. omega (arith, low)) (each_latest rows))
 
-pub no_later : {n : ℕ} {rows : Map ℕ Row} {clients : Map ℕ ℕ} → IsIndexed n rows clients → (k : ℕ) (row : Row) → row_at rows k ≡ Some row → row.commit ≤ latest (values_of (entries rows))
+pub no_later : {n : ℕ} {rows : Map ℕ Row} {clients : Map ℕ ℕ} → IsIndexed n rows clients → (k : ℕ) (row : Row) → kept_row rows k ≡ Some row → row.commit ≤ latest (values_of (entries rows))
 no_later {rows = rows} i k row here = each-find (λ (x : Row). x.commit ≤ latest (values_of (entries rows))) (λ x. client_of x == k) row (values_of (entries rows)) (each_latest (values_of (entries rows))) (sym (found-row client_of k (entries rows) i.own) ∙ here)
 
 -- the first commit; 0 where no client stands

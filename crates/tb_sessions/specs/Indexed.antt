@@ -11,27 +11,27 @@ use Rattle.tb_sessions.specs.declared.rows.Row.{Row}
 use Rattle.tb_sessions.specs.Judged.{client_of}
 
 -- the row of a client
-abbrev pub row_at : Map ℕ Row → ℕ → Option Row
-row_at rows client = lookup (is_at (nat_cmp client)) (entries rows)
+abbrev pub kept_row : Map ℕ Row → ℕ → Option Row
+kept_row rows client = lookup (is_at (nat_cmp client)) (entries rows)
 
 -- the client that stands at a commit
 abbrev pub client_at : Map ℕ ℕ → ℕ → Option ℕ
 client_at clients commit = lookup (is_at (nat_cmp commit)) (entries clients)
 
 -- each client with a row stands at one commit, no later than its row's; and what one client stands at, or has in its row, is no other's commit
-pub record IsLinked (row_at : ℕ → Option Row) (client_at : ℕ → Option ℕ) : Type 0 where
-  pub noted : (client : ℕ) (row : Row) → row_at client ≡ Some row → (commit : ℕ) × (commit ≤ row.commit) × (client_at commit ≡ Some client)
-  pub kept : (commit client : ℕ) → client_at commit ≡ Some client → (row : Row) × (row_at client ≡ Some row) × (commit ≤ row.commit)
+pub record IsLinked (kept_row : ℕ → Option Row) (client_at : ℕ → Option ℕ) : Type 0 where
+  pub noted : (client : ℕ) (row : Row) → kept_row client ≡ Some row → (commit : ℕ) × (commit ≤ row.commit) × (client_at commit ≡ Some client)
+  pub kept : (commit client : ℕ) → client_at commit ≡ Some client → (row : Row) × (kept_row client ≡ Some row) × (commit ≤ row.commit)
   pub once : (commit other client : ℕ) → client_at commit ≡ Some client → client_at other ≡ Some client → commit ≡ other
-  pub apart : (client other : ℕ) (row : Row) → row_at client ≡ Some row → client_at row.commit ≡ Some other → other ≡ client
-  pub differ : (client other : ℕ) (row beside : Row) → row_at client ≡ Some row → row_at other ≡ Some beside → row.commit ≡ beside.commit → client ≡ other
+  pub apart : (client other : ℕ) (row : Row) → kept_row client ≡ Some row → client_at row.commit ≡ Some other → other ≡ client
+  pub differ : (client other : ℕ) (row beside : Row) → kept_row client ≡ Some row → kept_row other ≡ Some beside → row.commit ≡ beside.commit → client ≡ other
 
 -- what the table's two maps keep: rows under their own clients, linked with the clients by commit, and room in both
 pub record IsIndexed (clients_max : ℕ) (rows : Map ℕ Row) (clients : Map ℕ ℕ) : Type 0 where
   pub own : Each (λ e. client_of e.1 ≡ e.0) (entries rows)
   pub rows_rise : IsStrictlySortedBy nat_cmp (keys_of (entries rows))
   pub commits_rise : IsStrictlySortedBy nat_cmp (keys_of (entries clients))
-  pub linked : IsLinked (row_at rows) (client_at clients)
+  pub linked : IsLinked (kept_row rows) (client_at clients)
   pub even : length (entries clients) ≡ length (entries rows)
   pub some_room : 0 < clients_max
   pub not_over : length (entries rows) ≤ clients_max
@@ -40,7 +40,7 @@ pub record IsIndexed (clients_max : ℕ) (rows : Map ℕ Row) (clients : Map ℕ
 
 -- the first of the clients stands at its row's commit
 abbrev pub IsFirstDue : Map ℕ Row → Map ℕ ℕ → Type 0
-IsFirstDue rows clients = (commit client : ℕ) (row : Row) → slice_get (entries clients) 0 ≡ Some (commit, client) → row_at rows client ≡ Some row → row.commit ≡ commit
+IsFirstDue rows clients = (commit client : ℕ) (row : Row) → slice_get (entries clients) 0 ≡ Some (commit, client) → kept_row rows client ≡ Some row → row.commit ≡ commit
 
 -- the first of the clients stands at an earlier commit than its row's
 pub record IsFirstBehind (rows : Map ℕ Row) (clients : Map ℕ ℕ) (later : ℕ) : Type 0 where
@@ -48,7 +48,7 @@ pub record IsFirstBehind (rows : Map ℕ Row) (clients : Map ℕ ℕ) (later : �
   pub client : ℕ
   pub row : Row
   pub first : slice_get (entries clients) 0 ≡ Some (commit, client)
-  pub here : row_at rows client ≡ Some row
+  pub here : kept_row rows client ≡ Some row
   pub is : row.commit ≡ later
   pub behind : later ≢ commit
 
