@@ -5,7 +5,7 @@
 //!
 //! - `classes`: `Class`, how a request stands to its client's session.
 //! - `rows`: `Row`, what is kept of a client; the class of a request beside it.
-//! - `order`: who is evicted next: the client whose place in the second map comes first, brought up to its row's commit
+//! - `eviction`: who is evicted next: the client whose place in the second map comes first, brought up to its row's commit
 //!   number where it lags behind.
 //! - `table`: `Sessions`, rows by client in one `AvlMap`, and a second from a commit number to its client.
 //! - `tests`: worked rows, by the crate's public calls.
@@ -15,7 +15,7 @@
 #![tactic(auto)]
 
 mod classes;
-mod order;
+mod eviction;
 mod rows;
 mod table;
 

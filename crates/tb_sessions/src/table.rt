@@ -6,7 +6,7 @@ ghost use Rattle.tb_sessions.specs.Judged.{class_of, client_of, row_of};
 ghost use Rattle.tb_sessions.specs.Admission.{admitted, driven_out, leaving, oldest};
 
 use crate::classes::Class;
-use crate::order::bring_up;
+use crate::eviction::bring_up;
 use crate::rows::Row;
 use avl_tree::AvlMap;
 use std::alloc::{AllocError, Global};

@@ -5,7 +5,7 @@ use Rattle.std.specs.Map.{values_of}
 use Rattle.avl_tree.specs.Map.{entries}
 use Rattle.tb_sessions.proofs.Index.{inside, first_out, index_moved, moved_absent}
 use Rattle.tb_sessions.proofs.Rising.{latest, first_commit, first_later, no_later, first_rises}
-use Rattle.tb_sessions.proofs.order.bring_up.Goals as goal
+use Rattle.tb_sessions.proofs.eviction.bring_up.Goals as goal
 
 pub insert_reserved-requires-clause-absent : goal.insert_reserved-requires-clause-absent
 insert_reserved-requires-clause-absent c =

@@ -1,5 +1,5 @@
 use Rattle.std.proofs.Common.{refl, sym}
-use Rattle.tb_sessions.proofs.order.first_behind.Goals as goal
+use Rattle.tb_sessions.proofs.eviction.first_behind.Goals as goal
 
 pub returns-else-row-commit-clause-behind : goal.returns-else-row-commit-clause-behind
 returns-else-row-commit-clause-behind c = record {

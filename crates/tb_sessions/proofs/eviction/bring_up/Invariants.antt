@@ -3,7 +3,7 @@ use Rattle.std.specs.Map.{values_of}
 use Rattle.avl_tree.specs.Map.{entries}
 use Rattle.tb_sessions.specs.Indexed.{IsIndexed}
 use Rattle.tb_sessions.proofs.Rising.{latest, first_commit}
-use Rattle.tb_sessions.proofs.order.bring_up.Given as goal
+use Rattle.tb_sessions.proofs.eviction.bring_up.Given as goal
 
 abbrev pub invariant-loop-commit : goal.invariant-loop-commit
 invariant-loop-commit l = IsIndexed l.clients_max l.rows l.clients
