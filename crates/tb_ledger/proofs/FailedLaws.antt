@@ -1,11 +1,14 @@
 -- The ids that failed for good.
-use Rattle.std.proofs.Common.{◌≡◌, ℕ, ◌==◌, ◌&&◌, Bool, true, false, not, List, [], ◌∷◌, find, is_some, Option, Some, None, if◌then◌else◌, refl, sym, ap, ◌∙◌}
+use Rattle.std.proofs.Common.{◌≡◌, ℕ, ◌==◌, ◌&&◌, Bool, true, false, not, List, [], ◌∷◌, find, is_some, Option, Some, None, Result, Ok, Err, IfErr, if◌then◌else◌, refl, sym, ap, ◌∙◌}
 use Rattle.std.specs.List.{list_any}
 use Rattle.std.specs.Option.{option_map_or}
 use Rattle.std.proofs.lemmas.Bool.{and_parts}
 use Rattle.tb_records.specs.declared.records.Transfer.{Transfer}
 use Rattle.tb_ledger.specs.Books.{Books, resolves, transfer_at}
+use Rattle.tb_records.specs.declared.transfer_results.CreateTransferResult.{CreateTransferResult}
+use Rattle.tb_records.specs.TransferResults.{transfer_result_code}
 use Rattle.tb_ledger.specs.Batches.{is_final}
+use Rattle.tb_ledger.specs.Found.{Judges}
 use Rattle.tb_ledger.specs.Verdicts.{Line, first_of, first_code, transfer_own_lines, transfer_exists_lines, filled, resolve_code, single_code, transfer_verdict}
 use Rattle.tb_ledger.proofs.VerdictLaws.{any-found}
 
@@ -49,6 +52,12 @@ final_is_new B t time code code_is final = by (option_map_or (list_any (λ id. i
         let free = before (first_of (transfer_own_lines t)) (first_of (transfer_exists_lines (transfer_at B t.id) (filled B t))) (if resolves t then resolve_code B t else single_code B t time)
         (never_final (transfer_own_lines t) refl) (there_final (transfer_at B t.id) (filled B t)) in
         absurd (cc)
+
+-- as a function answers it
+pub refusal_is_new : {X : Type 0} (B : Books) (t : Transfer) (time : ℕ) (r : Result X CreateTransferResult) → Judges transfer_result_code r (transfer_verdict B t time)
+    → IfErr r (λ refusal. is_final (transfer_result_code refusal) ≡ true → option_map_or (list_any (λ id. id == t.id)) B.failed false ≡ false)
+refusal_is_new B t time (Ok x) is = tt
+refusal_is_new B t time (Err refusal) is = final_is_new B t time (transfer_result_code refusal) (sym is.0)
 
 -- an id that is none of some ids isn't found among them
 pub absent : (ids : List ℕ) (keeps : Bool) (id : ℕ) → keeps ≡ true → option_map_or (list_any (λ k. k == id)) (if keeps then Some ids else None) false ≡ false → find (λ k. k == id) ids ≡ None

@@ -20,6 +20,7 @@ pub mod Expiries
 pub mod CodeLaws
 pub mod BlockLaws
 pub mod ResultLaws
+pub mod Refusals
 pub mod RowLaws
 pub mod VerdictLaws
 pub mod ReadLaws

@@ -1,6 +1,8 @@
 -- What passes between two accounts, or is settled there, changes their rows as the books say.
 use Rattle.std.proofs.Common.{◌≡◌, ◌≢◌, ℕ, Bool, true, false, cond, eqb, ◌==◌, List, [], ◌∷◌, ◌++◌, find, Some, Result, Ok, Err, option_map, refl, sym, subst, ap, ◌∙◌}
 use Rattle.tb_records.specs.declared.records.Transfer.{Transfer}
+use Rattle.tb_records.specs.declared.transfer_results.CreateTransferResult.{CreateTransferResult}
+use Rattle.tb_records.specs.TransferResults.{transfer_result_code}
 use Rattle.tb_records.specs.Ordered.{replaced, changed}
 use Rattle.tb_records.proofs.ByKey.{changed_found, replaced-changed}
 use Rattle.tb_ledger.specs.declared.tables.accounts.AccountRow.{AccountRow}
@@ -28,7 +30,7 @@ replaced_same key x (y ∷ ys) found = by (eqb (key y) (key x)) (replaced_same k
     by true later is = let same : x ≡ y = cc in ap (λ z. z ∷ ys) same
     by false later is = ap (λ zs. y ∷ zs) (later is)
 
-pub passed_in : (t : Transfer) (time : ℕ) (trail grown : Noted) (accounts later : List AccountRow) (d c d' c' : AccountRow) (r : Result ℕ ℕ) → t.debit_account_id ≢ t.credit_account_id
+pub passed_in : (t : Transfer) (time : ℕ) (trail grown : Noted) (accounts later : List AccountRow) (d c d' c' : AccountRow) (r : Result ℕ CreateTransferResult) → t.debit_account_id ≢ t.credit_account_id
     → row_at accounts t.debit_account_id ≡ Some d → row_at accounts t.credit_account_id ≡ Some c → Exchanges t time trail d c r d' c' grown → later ≡ replaced account_row_key c' (replaced account_row_key d' accounts)
     → ExchangesIn t time trail accounts r later grown
 passed_in t time trail grown accounts later d c d' c' (Ok amount) apart d_is c_is passes wrote =
@@ -52,13 +54,13 @@ passed_in t time trail grown accounts later d c d' c' (Ok amount) apart d_is c_i
         notes = passes.1.3;
       },
     )
-passed_in t time trail grown accounts later d c d' c' (Err code) apart d_is c_is refused wrote =
+passed_in t time trail grown accounts later d c d' c' (Err refusal) apart d_is c_is refused wrote =
     let first : replaced account_row_key d' accounts ≡ accounts = rw refused.1.0 (replaced_same account_row_key d accounts (refound account_row_key t.debit_account_id d accounts d_is)) in
     let second : replaced account_row_key c' accounts ≡ accounts = rw refused.1.1 (replaced_same account_row_key c accounts (refound account_row_key t.credit_account_id c accounts c_is)) in
-    let is : pair_code (option_map row_now (row_at accounts t.debit_account_id)) (option_map row_now (row_at accounts t.credit_account_id)) t time ≡ code = rw (d_is, c_is) refused.0.0 in
+    let is : pair_code (option_map row_now (row_at accounts t.debit_account_id)) (option_map row_now (row_at accounts t.credit_account_id)) t time ≡ transfer_result_code refusal = rw (d_is, c_is) refused.0.0 in
     ((is, refused.0.1), (wrote ∙ ap (replaced account_row_key c') first ∙ second, refused.1.2))
 
-pub settled_in : (p r : Transfer) (trail grown : Noted) (accounts later : List AccountRow) (d c d' c' : AccountRow) (x : Result (Unit {0}) ℕ) → r.debit_account_id ≢ r.credit_account_id
+pub settled_in : (p r : Transfer) (trail grown : Noted) (accounts later : List AccountRow) (d c d' c' : AccountRow) (x : Result (Unit {0}) CreateTransferResult) → r.debit_account_id ≢ r.credit_account_id
     → row_at accounts r.debit_account_id ≡ Some d → row_at accounts r.credit_account_id ≡ Some c → CanSettle p r d.debits → CanSettle p r c.credits → Settles p r trail d c x d' c' grown → later ≡ replaced account_row_key c' (replaced account_row_key d' accounts)
     → SettlesIn p r trail accounts x later grown
 settled_in p r trail grown accounts later d c d' c' (Ok x) apart d_is c_is can_d can_c passes wrote = record {

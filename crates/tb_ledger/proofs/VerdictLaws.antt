@@ -5,8 +5,13 @@ use Rattle.std.specs.List.{list_any}
 use Rattle.std.specs.Option.{option_map_or, option_copied}
 use Rattle.tb_records.specs.declared.records.Account.{Account}
 use Rattle.tb_records.specs.declared.records.Transfer.{Transfer}
+use Rattle.tb_records.specs.declared.account_results.CreateAccountResult.{CreateAccountResult}
+use Rattle.tb_records.specs.declared.transfer_results.CreateTransferResult.{CreateTransferResult}
+use Rattle.tb_records.specs.declared.transfer_results.CreateTransferResult.TheVariants.{PendingTransferNotFound}
+use Rattle.tb_records.specs.AccountResults.{account_result_code}
+use Rattle.tb_records.specs.TransferResults.{transfer_result_code}
 use Rattle.tb_ledger.specs.Books.{Books, has, closed, posts, resolves, pending, transfer_at, account_now, as_it_stands, state_of, debit, credit}
-use Rattle.tb_ledger.specs.Verdicts.{recorded_transfer, Line, closed_lines, closed_at, named_lines, named_code, resolve_own_lines, resolve_code, transfer_verdict, first_of, first_code, account_own_lines, account_exists_lines, account_new_lines, account_verdict, transfer_own_lines, transfer_exists_lines, failed_lines, filled, filled_from, single_own_lines, pair_lines, amount_lines, balanced_amount, balanced_between, single_code, pair_code, id_code, closed_lines}
+use Rattle.tb_ledger.specs.Verdicts.{recorded_transfer, Line, closed_lines, closed_at, named_lines, named_code, resolve_own_lines, resolve_code, transfer_verdict, first_of, first_code, account_own_lines, account_exists_lines, account_new_lines, account_verdict, transfer_own_lines, transfer_exists_lines, failed_lines, filled, filled_from, single_own_lines, balanced_amount, balanced_between, single_code, pair_code, id_code, closed_lines}
 use Rattle.tb_ledger.specs.declared.tables.rows.Rows.{Rows}
 use Rattle.tb_ledger.specs.Kept.{books_in, IsKept, row_now, row_closed, HasSums, HasState}
 use Rattle.tb_records.proofs.ByKey.{find-map, each-find}
@@ -46,8 +51,13 @@ account_refused a e is = let there : true ≡ false = (fail (account_exists_line
 transfer_refused : (f e : Transfer) → first_of (transfer_exists_lines (Some e) f) ≡ 0 → ⊥
 transfer_refused f e is = let there : true ≡ false = (fail (transfer_exists_lines (Some e) f) refl is).1.1.1.1.1.1.1.1.1.1.1.0 in absurd (cc)
 
-pub account_there_code : (B : Books) (a e : Account) → first_of (account_own_lines a) ≡ 0 → account_now B a.id ≡ Some e → first_of (account_exists_lines (Some e) a) ≡ account_verdict B a
+account_there_code : (B : Books) (a e : Account) → first_of (account_own_lines a) ≡ 0 → account_now B a.id ≡ Some e → first_of (account_exists_lines (Some e) a) ≡ account_verdict B a
 account_there_code B a e own found = rw found (sym (second_code _ _ (first_of (account_new_lines a)) own (account_refused a e)))
+
+-- an account whose id is there is refused
+pub account_there_judged : (B : Books) (a e : Account) (refusal : CreateAccountResult) → first_of (account_own_lines a) ≡ 0 → account_now B a.id ≡ Some e → account_result_code refusal ≡ first_of (account_exists_lines (Some e) a)
+    → (account_verdict B a ≡ account_result_code refusal) × (account_result_code refusal ≢ 0)
+account_there_judged B a e refusal own found is = (sym (is ∙ account_there_code B a e own found), λ none. account_refused a e (sym is ∙ none))
 
 pub account_new_code : (B : Books) (a : Account) → first_of (account_own_lines a) ≡ 0 → account_now B a.id ≡ None → first_of (account_new_lines a) ≡ account_verdict B a
 account_new_code B a own found = rw (found, own) (sym (only (first_of (account_new_lines a))))
@@ -57,22 +67,18 @@ pub filled_missing : (B : Books) (t : Transfer) → resolves t ≡ true → tran
 filled_missing B t is found = rw (is, found) refl
 
 -- a transfer whose id is there
-pub id_there : (B : Books) (t e : Transfer) → first_of (transfer_own_lines t) ≡ 0 → transfer_at B t.id ≡ Some e
+id_there : (B : Books) (t e : Transfer) → first_of (transfer_own_lines t) ≡ 0 → transfer_at B t.id ≡ Some e
     → first_of (transfer_exists_lines (Some e) (filled B t)) ≡ id_code B t
 id_there B t e own found = rw found (sym (second_code _ _ (first_of (failed_lines B.failed t)) own (transfer_refused (filled B t) e)))
+
+pub id_there_judged : (B : Books) (t e : Transfer) (refusal : CreateTransferResult) → first_of (transfer_own_lines t) ≡ 0 → transfer_at B t.id ≡ Some e → transfer_result_code refusal ≡ first_of (transfer_exists_lines (Some e) (filled B t))
+    → (id_code B t ≡ transfer_result_code refusal) × (transfer_result_code refusal ≢ 0)
+id_there_judged B t e refusal own found is = (sym (is ∙ id_there B t e own found), λ none. transfer_refused (filled B t) e (sym is ∙ none))
 
 -- a transfer whose id isn't there
 pub id_free : (B : Books) (t : Transfer) → first_of (transfer_own_lines t) ≡ 0 → transfer_at B t.id ≡ None
     → first_of (failed_lines B.failed t) ≡ id_code B t
 id_free B t own found = rw (own, found) (sym (only (first_of (failed_lines B.failed t))))
-
--- two accounts that can't exchange the amount, and two that may
-pub pair_refused : (d c : Account) (t : Transfer) (time pair : ℕ) → pair ≡ first_of (pair_lines d c t) → (pair ≡ 0 → ⊥) → pair_code (Some d) (Some c) t time ≡ pair
-pair_refused d c t time pair is refused = let e : (pair == 0) ≡ false = grind (arith, nat_tests) in rw (sym is, e) refl
-
-pub pair_judged : (d c : Account) (t : Transfer) (time pair amount code : ℕ) → pair ≡ first_of (pair_lines d c t) → pair ≡ 0 → amount ≡ balanced_amount d c t → code ≡ first_of (amount_lines d c t amount time)
-    → pair_code (Some d) (Some c) t time ≡ code
-pair_judged d c t time pair amount code is passed amount_is code_is = rw (sym is, passed, sym amount_is, sym code_is) (only code)
 
 pub balanced_found : (B : Books) (t : Transfer) (d c : Account) → account_now B t.debit_account_id ≡ Some d → account_now B t.credit_account_id ≡ Some c
     → balanced_amount d c t ≡ balanced_between (account_now B t.debit_account_id) (account_now B t.credit_account_id) t
@@ -164,13 +170,13 @@ named_row rows kept id p found t named closed_code named_is closed_is =
     ap (λ n. first_code (n ∷ first_of (closed_lines t (closed_at B p.recorded.debit_account_id) (closed_at B p.recorded.credit_account_id)) ∷ [])) (sym same) ∙ ap (λ n. first_code (named ∷ n ∷ [])) (sym closed_is)
 
 -- a post or void that fits its pending transfer has found it
-pub pending_fits : {A : Type 0} (rows : Rows A) → IsKept rows → (p : TransferRow) (t : Transfer) → find (λ row. row.recorded.id == t.pending_id) rows.transfers.items ≡ Some p → resolves t ≡ true → (own named : ℕ)
-    → own ≡ first_of (resolve_own_lines t) → own ≡ 0 → named ≡ first_of (named_lines t p.recorded p.state) → named ≡ 0 → FoundPending (books_in rows) (filled_from p.recorded t)
-pending_fits rows kept p t found resolving own named own_is no_own named_is fits =
+pub pending_fits : {A : Type 0} (rows : Rows A) → IsKept rows → (p : TransferRow) (t : Transfer) → find (λ row. row.recorded.id == t.pending_id) rows.transfers.items ≡ Some p → resolves t ≡ true
+    → first_of (resolve_own_lines t) ≡ 0 → first_of (named_lines t p.recorded p.state) ≡ 0 → FoundPending (books_in rows) (filled_from p.recorded t)
+pending_fits rows kept p t found resolving own named =
     let B = books_in rows in
     let has = each-find (HasState rows.transfers.items rows.time) (λ row. row.recorded.id == t.pending_id) p rows.transfers.items kept.kept.states found in
     let stands = transfer_stands rows t.pending_id ∙ ap (option_map (λ t. t.recorded)) found in
-    found_from B t p.recorded stands (sym own_is ∙ no_own) (sym (named_is ∙ named_same t p.recorded p.state (state_of B p.recorded) has.state_is) ∙ fits)
+    found_from B t p.recorded stands own (sym (named_same t p.recorded p.state (state_of B p.recorded) has.state_is) ∙ named)
 
 pub pair_first : (x y : ℕ) → (x ≡ 0 → ⊥) → first_code (x ∷ y ∷ []) ≡ x
 pair_first x y refused = let e : (x == 0) ≡ false = grind (arith, nat_tests) in rw e refl
@@ -178,15 +184,12 @@ pair_first x y refused = let e : (x == 0) ≡ false = grind (arith, nat_tests) i
 pub pair_second : (x y : ℕ) → x ≡ 0 → first_code (x ∷ y ∷ []) ≡ y
 pair_second x y passed = rw passed (only y)
 
--- a post or void that is wrong by itself, one that names no transfer, and one that does
-pub resolve_refused : (B : Books) (t : Transfer) (own : ℕ) → own ≡ first_of (resolve_own_lines t) → (own ≡ 0 → ⊥) → resolve_code B t ≡ own
-resolve_refused B t own is refused = ap (λ n. first_code (n ∷ named_code B t (transfer_at B t.pending_id) ∷ [])) (sym is) ∙ pair_first own (named_code B t (transfer_at B t.pending_id)) refused
+-- a post or void that is right by itself: one that names no transfer, and one that does
+pub resolve_missing : (B : Books) (t : Transfer) → first_of (resolve_own_lines t) ≡ 0 → transfer_at B t.pending_id ≡ None → resolve_code B t ≡ transfer_result_code PendingTransferNotFound
+resolve_missing B t own none = rw (own, none) refl
 
-pub resolve_missing : (B : Books) (t : Transfer) (own : ℕ) → own ≡ first_of (resolve_own_lines t) → own ≡ 0 → transfer_at B t.pending_id ≡ None → resolve_code B t ≡ 25
-resolve_missing B t own is passed none = let none_own : first_of (resolve_own_lines t) ≡ 0 = sym is ∙ passed in rw (none_own, none) refl
-
-pub resolve_found : (B : Books) (t p : Transfer) (own : ℕ) → own ≡ first_of (resolve_own_lines t) → own ≡ 0 → transfer_at B t.pending_id ≡ Some p → resolve_code B t ≡ named_code B t (Some p)
-resolve_found B t p own is passed found = let none_own : first_of (resolve_own_lines t) ≡ 0 = sym is ∙ passed in rw (none_own, found) (only (named_code B t (Some p)))
+pub resolve_found : (B : Books) (t p : Transfer) → first_of (resolve_own_lines t) ≡ 0 → transfer_at B t.pending_id ≡ Some p → resolve_code B t ≡ named_code B t (Some p)
+resolve_found B t p own found = rw (own, found) (only (named_code B t (Some p)))
 
 -- a transfer whose id is free has the verdict of its kind
 verdict_of : (B : Books) (t : Transfer) (time : ℕ) → id_code B t ≡ 0 → transfer_verdict B t time ≡ (if resolves t then resolve_code B t else single_code B t time)

@@ -5,6 +5,9 @@ use Rattle.std.specs.Option.{option_map}
 use Rattle.tb_records.specs.declared.records.Account.{Account}
 use Rattle.tb_records.specs.declared.records.Transfer.{Transfer}
 use Rattle.tb_records.specs.declared.records.EventResult.{EventResult}
+use Rattle.tb_records.specs.declared.transfer_results.CreateTransferResult.{CreateTransferResult}
+use Rattle.tb_records.specs.declared.transfer_results.CreateTransferResult.TheVariants.{DebitAccountNotFound, CreditAccountNotFound, PendingTransferNotFound, ExceedsCredits, ExceedsDebits, DebitAccountAlreadyClosed, CreditAccountAlreadyClosed}
+use Rattle.tb_records.specs.TransferResults.{transfer_result_code}
 use Rattle.tb_records.specs.Ordered.{put}
 use Rattle.tb_ledger.specs.Books.{Books, has}
 use Rattle.tb_ledger.specs.Verdicts.{account_verdict, recorded_account, transfer_verdict, recorded_transfer}
@@ -25,8 +28,19 @@ account_events = record {
 }
 
 -- verdicts that a transfer's id doesn't outlive, by profile 2
+abbrev pub final_results : List CreateTransferResult
+final_results =
+    DebitAccountNotFound
+    ∷ CreditAccountNotFound
+    ∷ PendingTransferNotFound
+    ∷ ExceedsCredits
+    ∷ ExceedsDebits
+    ∷ DebitAccountAlreadyClosed
+    ∷ CreditAccountAlreadyClosed
+    ∷ []
+
 abbrev pub is_final : ℕ → Bool
-is_final code = list_any (λ c. c == code) (21 ∷ 22 ∷ 25 ∷ 54 ∷ 55 ∷ 65 ∷ 66 ∷ [])
+is_final code = list_any (λ result. transfer_result_code result == code) final_results
 
 abbrev pub transfer_events : Kind Transfer
 transfer_events = record {

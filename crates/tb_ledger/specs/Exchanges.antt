@@ -2,6 +2,8 @@
 use Rattle.std.specs.Prelude.{ℕ, ◌≡◌, ◌==◌, List, find, Option, Some, Result, MatchResult}
 use Rattle.std.specs.Option.{option_map}
 use Rattle.tb_records.specs.declared.records.Transfer.{Transfer}
+use Rattle.tb_records.specs.declared.transfer_results.CreateTransferResult.{CreateTransferResult}
+use Rattle.tb_records.specs.TransferResults.{transfer_result_code}
 use Rattle.tb_ledger.specs.declared.tables.accounts.AccountRow.{AccountRow}
 use Rattle.tb_ledger.specs.Noted.{Noted, NotesPair}
 use Rattle.tb_ledger.specs.Books.{closing_debit, closing_credit}
@@ -22,9 +24,9 @@ Passes t time trail d c amount d' c' grown =
     × NotesPair d c trail grown
 
 -- t is judged by both rows: it passes, or it is refused and all stays
-abbrev pub Exchanges : Transfer → ℕ → Noted → AccountRow → AccountRow → Result ℕ ℕ → AccountRow → AccountRow → Noted → Type 0
+abbrev pub Exchanges : Transfer → ℕ → Noted → AccountRow → AccountRow → Result ℕ CreateTransferResult → AccountRow → AccountRow → Noted → Type 0
 Exchanges t time trail d c result d' c' grown =
-    Judges result (pair_code (Some (row_now d)) (Some (row_now c)) t time)
+    Judges transfer_result_code result (pair_code (Some (row_now d)) (Some (row_now c)) t time)
     × MatchResult result (λ amount. Passes t time trail d c amount d' c' grown) (λ _. (d' ≡ d) × (c' ≡ c) × (grown ≡ trail))
 
 -- the row of an id
@@ -42,7 +44,7 @@ pub record PassesIn (t : Transfer) (time : ℕ) (trail : Noted) (accounts : List
   pub notes : NotesPair debit credit trail grown
 
 -- t is judged by the table, where an account may not be there
-abbrev pub ExchangesIn : Transfer → ℕ → Noted → List AccountRow → Result ℕ ℕ → List AccountRow → Noted → Type 0
+abbrev pub ExchangesIn : Transfer → ℕ → Noted → List AccountRow → Result ℕ CreateTransferResult → List AccountRow → Noted → Type 0
 ExchangesIn t time trail accounts result later grown =
-    Judges result (pair_code (option_map row_now (row_at accounts t.debit_account_id)) (option_map row_now (row_at accounts t.credit_account_id)) t time)
+    Judges transfer_result_code result (pair_code (option_map row_now (row_at accounts t.debit_account_id)) (option_map row_now (row_at accounts t.credit_account_id)) t time)
     × MatchResult result (λ amount. PassesIn t time trail accounts amount later grown) (λ _. (later ≡ accounts) × (grown ≡ trail))

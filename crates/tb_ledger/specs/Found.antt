@@ -3,10 +3,10 @@ use Rattle.std.specs.Prelude.{◌≡◌, ◌≢◌, ℕ, true, false, ◌&&◌, 
 use Rattle.tb_records.specs.declared.records.Transfer.{Transfer}
 use Rattle.tb_ledger.specs.Books.{Books, pending, posts, voids, holds, transfer_at}
 
--- the verdict is the code: what passes has 0, and what is refused is refused by another
-abbrev pub Judges : {X : Type 0} → Result X ℕ → ℕ → Type 0
-Judges (Ok x) code = code ≡ 0
-Judges (Err refusal) code = (code ≡ refusal) × (refusal ≢ 0)
+-- the verdict is the code: what passes has 0, and what is refused has the code of its refusal, which is another
+abbrev pub Judges : {X R : Type 0} → (R → ℕ) → Result X R → ℕ → Type 0
+Judges code_of (Ok x) code = code ≡ 0
+Judges code_of (Err refusal) code = (code ≡ code_of refusal) × (code_of refusal ≢ 0)
 
 -- f is the event, filled, and p the pending transfer that it resolves
 pub record FoundPending (B : Books) (f : Transfer) : Type 0 where

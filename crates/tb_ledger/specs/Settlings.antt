@@ -1,6 +1,8 @@
 -- A post or void, by the rows of the accounts of its pending transfer.
 use Rattle.std.specs.Prelude.{ℕ, ◌≡◌, ◌+◌, ◌≤◌, List, Some, Result, MatchResult}
 use Rattle.tb_records.specs.declared.records.Transfer.{Transfer}
+use Rattle.tb_records.specs.declared.transfer_results.CreateTransferResult.{CreateTransferResult}
+use Rattle.tb_records.specs.TransferResults.{transfer_result_code}
 use Rattle.tb_ledger.specs.declared.tables.accounts.Side.{Side}
 use Rattle.tb_ledger.specs.declared.tables.accounts.AccountRow.{AccountRow}
 use Rattle.tb_ledger.specs.Books.{Books, closing_debit, closing_credit}
@@ -28,16 +30,16 @@ BothSettled p r trail d c d' c' grown =
     × NotesPair d c trail grown
 
 -- r is judged by both rows: it settles them, or it is refused and all stays
-abbrev pub Settles : Transfer → Transfer → Noted → AccountRow → AccountRow → Result (Unit {0}) ℕ → AccountRow → AccountRow → Noted → Type 0
+abbrev pub Settles : Transfer → Transfer → Noted → AccountRow → AccountRow → Result (Unit {0}) CreateTransferResult → AccountRow → AccountRow → Noted → Type 0
 Settles p r trail d c result d' c' grown =
-    Judges result (first_of (closed_lines r (row_closed d) (row_closed c)))
+    Judges transfer_result_code result (first_of (closed_lines r (row_closed d) (row_closed c)))
     × MatchResult result (λ _. BothSettled p r trail d c d' c' grown) (λ _. (d' ≡ d) × (c' ≡ c) × (grown ≡ trail))
 
 -- the same of a table of accounts, where both stand
-pub record SettlesIn (p r : Transfer) (trail : Noted) (accounts : List AccountRow) (result : Result (Unit {0}) ℕ) (later : List AccountRow) (grown : Noted) : Type 0 where
+pub record SettlesIn (p r : Transfer) (trail : Noted) (accounts : List AccountRow) (result : Result (Unit {0}) CreateTransferResult) (later : List AccountRow) (grown : Noted) : Type 0 where
   pub debit : AccountRow
   pub credit : AccountRow
   pub debit_there : row_at accounts r.debit_account_id ≡ Some debit
   pub credit_there : row_at accounts r.credit_account_id ≡ Some credit
-  pub judged : Judges result (first_of (closed_lines r (row_closed debit) (row_closed credit)))
+  pub judged : Judges transfer_result_code result (first_of (closed_lines r (row_closed debit) (row_closed credit)))
   pub leaves : MatchResult result (λ _. (later ≡ accounts_released_and_gained p r accounts) × NotesPair debit credit trail grown) (λ _. (later ≡ accounts) × (grown ≡ trail))

@@ -5,12 +5,25 @@ use Rattle.std.specs.List.{list_any}
 use Rattle.std.specs.Option.{option_map_or}
 use Rattle.tb_records.specs.declared.records.Account.{Account}
 use Rattle.tb_records.specs.declared.records.Transfer.{Transfer}
+use Rattle.tb_records.specs.declared.account_results.CreateAccountResult.{CreateAccountResult}
+use Rattle.tb_records.specs.declared.account_results.CreateAccountResult.TheVariants as account
+use Rattle.tb_records.specs.declared.transfer_results.CreateTransferResult.{CreateTransferResult}
+use Rattle.tb_records.specs.declared.transfer_results.CreateTransferResult.TheVariants as transfer
+use Rattle.tb_records.specs.AccountResults.{account_result_code}
+use Rattle.tb_records.specs.TransferResults.{transfer_result_code}
 use Rattle.tb_ledger.specs.declared.tables.transfers.State.{State}
 use Rattle.tb_ledger.specs.Books.{Books, has, closed, debits_limited, credits_limited, pending, posts, voids, resolves, balancing_debit, balancing_credit, balancing, closing, transfer_at, state_of, is_posted, is_voided, is_expired, account_now}
 
 -- a line of a table: its code, and whether it holds
 abbrev pub Line : Type 0
 Line = ℕ × Bool
+
+-- a line of an account, and one of a transfer: the code is that of a result
+abbrev pub account_line : CreateAccountResult → Bool → Line
+account_line result holds = (account_result_code result, holds)
+
+abbrev pub transfer_line : CreateTransferResult → Bool → Line
+transfer_line result holds = (transfer_result_code result, holds)
 
 abbrev pub first_of : List Line → ℕ
 first_of [] = 0
@@ -35,35 +48,35 @@ is_not x y = not (x == y)
 
 abbrev pub account_own_lines : Account → List Line
 account_own_lines a =
-    (3, is_not a.timestamp 0)  -- timestamp_must_be_zero
-    ∷ (4, is_not a.reserved 0)  -- reserved_field
-    ∷ (5, has 0xFFD0 a.flags)  -- reserved_flag
-    ∷ (6, a.id == 0)  -- id_must_not_be_zero
-    ∷ (7, a.id == int_max)  -- id_must_not_be_int_max
+    account_line account.TimestampMustBeZero (is_not a.timestamp 0)
+    ∷ account_line account.ReservedField (is_not a.reserved 0)
+    ∷ account_line account.ReservedFlag (has 0xFFD0 a.flags)
+    ∷ account_line account.IdMustNotBeZero (a.id == 0)
+    ∷ account_line account.IdMustNotBeIntMax (a.id == int_max)
     ∷ []
 
 -- where the id is there, e is the account as it stands
 abbrev pub account_exists_lines : Option Account → Account → List Line
 account_exists_lines None a = []
 account_exists_lines (Some e) a =
-    (15, is_not a.flags e.flags)  -- exists_with_different_flags
-    ∷ (16, is_not a.user_data_128 e.user_data_128)  -- exists_with_different_user_data_128
-    ∷ (17, is_not a.user_data_64 e.user_data_64)  -- exists_with_different_user_data_64
-    ∷ (18, is_not a.user_data_32 e.user_data_32)  -- exists_with_different_user_data_32
-    ∷ (19, is_not a.ledger e.ledger)  -- exists_with_different_ledger
-    ∷ (20, is_not a.code e.code)  -- exists_with_different_code
-    ∷ (21, true)  -- exists
+    account_line account.ExistsWithDifferentFlags (is_not a.flags e.flags)
+    ∷ account_line account.ExistsWithDifferentUserData128 (is_not a.user_data_128 e.user_data_128)
+    ∷ account_line account.ExistsWithDifferentUserData64 (is_not a.user_data_64 e.user_data_64)
+    ∷ account_line account.ExistsWithDifferentUserData32 (is_not a.user_data_32 e.user_data_32)
+    ∷ account_line account.ExistsWithDifferentLedger (is_not a.ledger e.ledger)
+    ∷ account_line account.ExistsWithDifferentCode (is_not a.code e.code)
+    ∷ account_line account.Exists true
     ∷ []
 
 abbrev pub account_new_lines : Account → List Line
 account_new_lines a =
-    (8, has 2 a.flags && has 4 a.flags)  -- flags_are_mutually_exclusive
-    ∷ (9, is_not a.debits_pending 0)  -- debits_pending_must_be_zero
-    ∷ (10, is_not a.debits_posted 0)  -- debits_posted_must_be_zero
-    ∷ (11, is_not a.credits_pending 0)  -- credits_pending_must_be_zero
-    ∷ (12, is_not a.credits_posted 0)  -- credits_posted_must_be_zero
-    ∷ (13, a.ledger == 0)  -- ledger_must_not_be_zero
-    ∷ (14, a.code == 0)  -- code_must_not_be_zero
+    account_line account.FlagsAreMutuallyExclusive (has 2 a.flags && has 4 a.flags)
+    ∷ account_line account.DebitsPendingMustBeZero (is_not a.debits_pending 0)
+    ∷ account_line account.DebitsPostedMustBeZero (is_not a.debits_posted 0)
+    ∷ account_line account.CreditsPendingMustBeZero (is_not a.credits_pending 0)
+    ∷ account_line account.CreditsPostedMustBeZero (is_not a.credits_posted 0)
+    ∷ account_line account.LedgerMustNotBeZero (a.ledger == 0)
+    ∷ account_line account.CodeMustNotBeZero (a.code == 0)
     ∷ []
 
 -- present: the account of that id as it stands, if there is one
@@ -81,10 +94,10 @@ recorded_account a time = record a { timestamp = time }
 
 abbrev pub transfer_own_lines : Transfer → List Line
 transfer_own_lines t =
-    (3, is_not t.timestamp 0)  -- timestamp_must_be_zero
-    ∷ (4, has 0xFF00 t.flags)  -- reserved_flag
-    ∷ (5, t.id == 0)  -- id_must_not_be_zero
-    ∷ (6, t.id == int_max)  -- id_must_not_be_int_max
+    transfer_line transfer.TimestampMustBeZero (is_not t.timestamp 0)
+    ∷ transfer_line transfer.ReservedFlag (has 0xFF00 t.flags)
+    ∷ transfer_line transfer.IdMustNotBeZero (t.id == 0)
+    ∷ transfer_line transfer.IdMustNotBeIntMax (t.id == int_max)
     ∷ []
 
 -- a post or void takes the value of p, the pending transfer that it names, where its own is 0
@@ -116,23 +129,23 @@ filled B t = if resolves t then option_map_or (λ p. filled_from p t) (transfer_
 abbrev pub transfer_exists_lines : Option Transfer → Transfer → List Line
 transfer_exists_lines None f = []
 transfer_exists_lines (Some e) f =
-    (36, is_not f.flags e.flags)  -- exists_with_different_flags
-    ∷ (40, is_not f.pending_id e.pending_id)  -- exists_with_different_pending_id
-    ∷ (44, is_not f.timeout e.timeout)  -- exists_with_different_timeout
-    ∷ (37, is_not f.debit_account_id e.debit_account_id)  -- exists_with_different_debit_account_id
-    ∷ (38, is_not f.credit_account_id e.credit_account_id)  -- exists_with_different_credit_account_id
-    ∷ (39, if balancing f then nat_lt f.amount e.amount else is_not f.amount e.amount)  -- exists_with_different_amount
-    ∷ (41, is_not f.user_data_128 e.user_data_128)  -- exists_with_different_user_data_128
-    ∷ (42, is_not f.user_data_64 e.user_data_64)  -- exists_with_different_user_data_64
-    ∷ (43, is_not f.user_data_32 e.user_data_32)  -- exists_with_different_user_data_32
-    ∷ (67, is_not f.ledger e.ledger)  -- exists_with_different_ledger
-    ∷ (45, is_not f.code e.code)  -- exists_with_different_code
-    ∷ (46, true)  -- exists
+    transfer_line transfer.ExistsWithDifferentFlags (is_not f.flags e.flags)
+    ∷ transfer_line transfer.ExistsWithDifferentPendingId (is_not f.pending_id e.pending_id)
+    ∷ transfer_line transfer.ExistsWithDifferentTimeout (is_not f.timeout e.timeout)
+    ∷ transfer_line transfer.ExistsWithDifferentDebitAccountId (is_not f.debit_account_id e.debit_account_id)
+    ∷ transfer_line transfer.ExistsWithDifferentCreditAccountId (is_not f.credit_account_id e.credit_account_id)
+    ∷ transfer_line transfer.ExistsWithDifferentAmount (if balancing f then nat_lt f.amount e.amount else is_not f.amount e.amount)
+    ∷ transfer_line transfer.ExistsWithDifferentUserData128 (is_not f.user_data_128 e.user_data_128)
+    ∷ transfer_line transfer.ExistsWithDifferentUserData64 (is_not f.user_data_64 e.user_data_64)
+    ∷ transfer_line transfer.ExistsWithDifferentUserData32 (is_not f.user_data_32 e.user_data_32)
+    ∷ transfer_line transfer.ExistsWithDifferentLedger (is_not f.ledger e.ledger)
+    ∷ transfer_line transfer.ExistsWithDifferentCode (is_not f.code e.code)
+    ∷ transfer_line transfer.Exists true
     ∷ []
 
 -- by profile 2, an id that failed for good
 abbrev pub failed_lines : Option (List ℕ) → Transfer → List Line
-failed_lines failed t = (68, option_map_or (list_any (λ id. id == t.id)) failed false) ∷ []  -- id_already_failed
+failed_lines failed t = transfer_line transfer.IdAlreadyFailed (option_map_or (list_any (λ id. id == t.id)) failed false) ∷ []
 
 abbrev pub id_code : Books → Transfer → ℕ
 id_code B t = first_code (first_of (transfer_own_lines t) ∷ first_of (transfer_exists_lines (transfer_at B t.id) (filled B t)) ∷ first_of (failed_lines B.failed t) ∷ [])
@@ -141,14 +154,14 @@ id_code B t = first_code (first_of (transfer_own_lines t) ∷ first_of (transfer
 
 abbrev pub resolve_own_lines : Transfer → List Line
 resolve_own_lines t =
-    (7, posts t && voids t)  -- flags_are_mutually_exclusive
-    ∷ (7, pending t)  -- flags_are_mutually_exclusive
-    ∷ (7, balancing t)  -- flags_are_mutually_exclusive
-    ∷ (7, closing t)  -- flags_are_mutually_exclusive
-    ∷ (14, t.pending_id == 0)  -- pending_id_must_not_be_zero
-    ∷ (15, t.pending_id == int_max)  -- pending_id_must_not_be_int_max
-    ∷ (16, t.pending_id == t.id)  -- pending_id_must_be_different
-    ∷ (17, is_not t.timeout 0)  -- timeout_reserved_for_pending_transfer
+    transfer_line transfer.FlagsAreMutuallyExclusive (posts t && voids t)
+    ∷ transfer_line transfer.FlagsAreMutuallyExclusive (pending t)
+    ∷ transfer_line transfer.FlagsAreMutuallyExclusive (balancing t)
+    ∷ transfer_line transfer.FlagsAreMutuallyExclusive (closing t)
+    ∷ transfer_line transfer.PendingIdMustNotBeZero (t.pending_id == 0)
+    ∷ transfer_line transfer.PendingIdMustNotBeIntMax (t.pending_id == int_max)
+    ∷ transfer_line transfer.PendingIdMustBeDifferent (t.pending_id == t.id)
+    ∷ transfer_line transfer.TimeoutReservedForPendingTransfer (is_not t.timeout 0)
     ∷ []
 
 -- x is given, and it isn't y
@@ -158,30 +171,30 @@ differs x y = is_not x 0 && is_not x y
 -- p is the pending transfer that t names, and s its state; the amount is the filled one
 abbrev pub named_lines : Transfer → Transfer → State → List Line
 named_lines t p s =
-    (26, not (pending p))  -- pending_transfer_not_pending
-    ∷ (27, differs t.debit_account_id p.debit_account_id)  -- pending_transfer_has_different_debit_account_id
-    ∷ (28, differs t.credit_account_id p.credit_account_id)  -- pending_transfer_has_different_credit_account_id
-    ∷ (29, differs t.ledger p.ledger)  -- pending_transfer_has_different_ledger
-    ∷ (30, differs t.code p.code)  -- pending_transfer_has_different_code
-    ∷ (31, nat_lt p.amount (filled_amount p t))  -- exceeds_pending_transfer_amount
-    ∷ (32, voids t && nat_lt (filled_amount p t) p.amount)  -- pending_transfer_has_different_amount
-    ∷ (33, is_posted s)  -- pending_transfer_already_posted
-    ∷ (34, is_voided s)  -- pending_transfer_already_voided
-    ∷ (35, is_expired s)  -- pending_transfer_expired
+    transfer_line transfer.PendingTransferNotPending (not (pending p))
+    ∷ transfer_line transfer.PendingTransferHasDifferentDebitAccountId (differs t.debit_account_id p.debit_account_id)
+    ∷ transfer_line transfer.PendingTransferHasDifferentCreditAccountId (differs t.credit_account_id p.credit_account_id)
+    ∷ transfer_line transfer.PendingTransferHasDifferentLedger (differs t.ledger p.ledger)
+    ∷ transfer_line transfer.PendingTransferHasDifferentCode (differs t.code p.code)
+    ∷ transfer_line transfer.ExceedsPendingTransferAmount (nat_lt p.amount (filled_amount p t))
+    ∷ transfer_line transfer.PendingTransferHasDifferentAmount (voids t && nat_lt (filled_amount p t) p.amount)
+    ∷ transfer_line transfer.PendingTransferAlreadyPosted (is_posted s)
+    ∷ transfer_line transfer.PendingTransferAlreadyVoided (is_voided s)
+    ∷ transfer_line transfer.PendingTransferExpired (is_expired s)
     ∷ []
 
 -- whether the accounts of p, as they stand, are closed
 abbrev pub closed_lines : Transfer → Bool → Bool → List Line
 closed_lines t debit_closed credit_closed =
-    (65, posts t && debit_closed)  -- debit_account_already_closed
-    ∷ (66, posts t && credit_closed)  -- credit_account_already_closed
+    transfer_line transfer.DebitAccountAlreadyClosed (posts t && debit_closed)
+    ∷ transfer_line transfer.CreditAccountAlreadyClosed (posts t && credit_closed)
     ∷ []
 
 abbrev pub closed_at : Books → ℕ → Bool
 closed_at B id = option_map_or closed (account_now B id) false
 
 abbrev pub named_code : Books → Transfer → Option Transfer → ℕ
-named_code B t None = 25  -- pending_transfer_not_found
+named_code B t None = transfer_result_code transfer.PendingTransferNotFound
 named_code B t (Some p) = first_code (
     first_of (named_lines t p (state_of B p))
     ∷ first_of (closed_lines t (closed_at B p.debit_account_id) (closed_at B p.credit_account_id))
@@ -194,25 +207,25 @@ resolve_code B t = first_code (first_of (resolve_own_lines t) ∷ named_code B t
 
 abbrev pub single_own_lines : Transfer → List Line
 single_own_lines t =
-    (8, t.debit_account_id == 0)  -- debit_account_id_must_not_be_zero
-    ∷ (9, t.debit_account_id == int_max)  -- debit_account_id_must_not_be_int_max
-    ∷ (10, t.credit_account_id == 0)  -- credit_account_id_must_not_be_zero
-    ∷ (11, t.credit_account_id == int_max)  -- credit_account_id_must_not_be_int_max
-    ∷ (12, t.debit_account_id == t.credit_account_id)  -- accounts_must_be_different
-    ∷ (13, is_not t.pending_id 0)  -- pending_id_must_be_zero
-    ∷ (17, not (pending t) && is_not t.timeout 0)  -- timeout_reserved_for_pending_transfer
-    ∷ (64, not (pending t) && closing t)  -- closing_transfer_must_be_pending
-    ∷ (19, t.ledger == 0)  -- ledger_must_not_be_zero
-    ∷ (20, t.code == 0)  -- code_must_not_be_zero
+    transfer_line transfer.DebitAccountIdMustNotBeZero (t.debit_account_id == 0)
+    ∷ transfer_line transfer.DebitAccountIdMustNotBeIntMax (t.debit_account_id == int_max)
+    ∷ transfer_line transfer.CreditAccountIdMustNotBeZero (t.credit_account_id == 0)
+    ∷ transfer_line transfer.CreditAccountIdMustNotBeIntMax (t.credit_account_id == int_max)
+    ∷ transfer_line transfer.AccountsMustBeDifferent (t.debit_account_id == t.credit_account_id)
+    ∷ transfer_line transfer.PendingIdMustBeZero (is_not t.pending_id 0)
+    ∷ transfer_line transfer.TimeoutReservedForPendingTransfer (not (pending t) && is_not t.timeout 0)
+    ∷ transfer_line transfer.ClosingTransferMustBePending (not (pending t) && closing t)
+    ∷ transfer_line transfer.LedgerMustNotBeZero (t.ledger == 0)
+    ∷ transfer_line transfer.CodeMustNotBeZero (t.code == 0)
     ∷ []
 
 -- the two accounts as they stand
 abbrev pub pair_lines : Account → Account → Transfer → List Line
 pair_lines d c t =
-    (23, is_not d.ledger c.ledger)  -- accounts_must_have_the_same_ledger
-    ∷ (24, is_not t.ledger d.ledger)  -- transfer_must_have_the_same_ledger_as_accounts
-    ∷ (65, closed d)  -- debit_account_already_closed
-    ∷ (66, closed c)  -- credit_account_already_closed
+    transfer_line transfer.AccountsMustHaveTheSameLedger (is_not d.ledger c.ledger)
+    ∷ transfer_line transfer.TransferMustHaveTheSameLedgerAsAccounts (is_not t.ledger d.ledger)
+    ∷ transfer_line transfer.DebitAccountAlreadyClosed (closed d)
+    ∷ transfer_line transfer.CreditAccountAlreadyClosed (closed c)
     ∷ []
 
 -- what a balancing transfer may move at most
@@ -231,20 +244,20 @@ balanced_amount d c t = if balancing_credit t then min (balanced_debit d t) (cre
 -- the two accounts as they stand, and the amount, balanced
 abbrev pub amount_lines : Account → Account → Transfer → ℕ → ℕ → List Line
 amount_lines d c t amount time =
-    (47, pending t && nat_lt int_max (d.debits_pending + amount))  -- overflows_debits_pending
-    ∷ (48, pending t && nat_lt int_max (c.credits_pending + amount))  -- overflows_credits_pending
-    ∷ (49, nat_lt int_max (d.debits_posted + amount))  -- overflows_debits_posted
-    ∷ (50, nat_lt int_max (c.credits_posted + amount))  -- overflows_credits_posted
-    ∷ (51, nat_lt int_max (d.debits_pending + d.debits_posted + amount))  -- overflows_debits
-    ∷ (52, nat_lt int_max (c.credits_pending + c.credits_posted + amount))  -- overflows_credits
-    ∷ (53, nat_lt max_time (time + t.timeout * 1000000000))  -- overflows_timeout
-    ∷ (54, debits_limited d && nat_lt d.credits_posted (d.debits_pending + d.debits_posted + amount))  -- exceeds_credits
-    ∷ (55, credits_limited c && nat_lt c.debits_posted (c.credits_pending + c.credits_posted + amount))  -- exceeds_debits
+    transfer_line transfer.OverflowsDebitsPending (pending t && nat_lt int_max (d.debits_pending + amount))
+    ∷ transfer_line transfer.OverflowsCreditsPending (pending t && nat_lt int_max (c.credits_pending + amount))
+    ∷ transfer_line transfer.OverflowsDebitsPosted (nat_lt int_max (d.debits_posted + amount))
+    ∷ transfer_line transfer.OverflowsCreditsPosted (nat_lt int_max (c.credits_posted + amount))
+    ∷ transfer_line transfer.OverflowsDebits (nat_lt int_max (d.debits_pending + d.debits_posted + amount))
+    ∷ transfer_line transfer.OverflowsCredits (nat_lt int_max (c.credits_pending + c.credits_posted + amount))
+    ∷ transfer_line transfer.OverflowsTimeout (nat_lt max_time (time + t.timeout * 1000000000))
+    ∷ transfer_line transfer.ExceedsCredits (debits_limited d && nat_lt d.credits_posted (d.debits_pending + d.debits_posted + amount))
+    ∷ transfer_line transfer.ExceedsDebits (credits_limited c && nat_lt c.debits_posted (c.credits_pending + c.credits_posted + amount))
     ∷ []
 
 abbrev pub pair_code : Option Account → Option Account → Transfer → ℕ → ℕ
-pair_code None c t time = 21  -- debit_account_not_found
-pair_code (Some d) None t time = 22  -- credit_account_not_found
+pair_code None c t time = transfer_result_code transfer.DebitAccountNotFound
+pair_code (Some d) None t time = transfer_result_code transfer.CreditAccountNotFound
 pair_code (Some d) (Some c) t time = first_code (first_of (pair_lines d c t) ∷ first_of (amount_lines d c t (balanced_amount d c t) time) ∷ [])
 
 abbrev pub single_code : Books → Transfer → ℕ → ℕ

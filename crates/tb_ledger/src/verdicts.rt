@@ -2,7 +2,6 @@
 
 pub(crate) mod account;
 mod blanks;
-mod lines;
 pub(crate) mod resolving;
 pub(crate) mod single;
 pub(crate) mod transfer;

@@ -1,12 +1,13 @@
 //! Chains: all of one, or nothing of it.
-ghost use Rattle.std.specs.Prelude.{◌≡◌, ◌≢◌, ℕ, ◌+◌, ◌*◌, ◌^◌, ◌<◌, ◌≤◌, ◌&&◌, ◌++◌, length, if◌then◌else◌, vec_len, vec_capacity};
+ghost use Rattle.std.specs.Prelude.{◌≡◌, ℕ, ◌+◌, ◌*◌, ◌^◌, ◌<◌, ◌≤◌, ◌&&◌, ◌++◌, length, if◌then◌else◌, IfErr, OnOk, OnErr, vec_len, vec_capacity};
 ghost use Rattle.tb_ledger.specs.Batches.{block_length, block_after, timed_from, results_from};
+ghost use Rattle.tb_ledger.specs.Found.{Judges};
 ghost use Rattle.tb_ledger.specs.Kept.{books_in, IsKept, PrecedesTimeouts};
 ghost use Rattle.tb_ledger.specs.Trail.{Stays, IsStep};
 ghost use Rattle.tb_ledger.specs.Noted.{HasRoomFor};
 
 use crate::batches::events::Event;
-use crate::batches::results::{LINKED_EVENT_CHAIN_OPEN, break_off};
+use crate::batches::results::break_off;
 use crate::tables::rows::Rows;
 use crate::tables::trail::{TRAIL_PER_EVENT, Trail, unwind};
 use std::alloc::Allocator;
@@ -71,40 +72,44 @@ pub(crate) fn run_block<E: Event, A: Allocator + Clone, R: Allocator>(
     let mut stamp = time;
     while i < block.len() {
         let event = &block[i];
-        let code = take_in_chain(event, i + 1 == block.len(), rows, trail, stamp);
-        if code != 0 {
-            unwind(rows, trail);
-            event.refuse(rows, code);
-            break_off(results, block, index, i, code);
-            return;
+        match take_in_chain(event, i + 1 == block.len(), rows, trail, stamp) {
+            Ok(()) => {
+                i += 1;
+                stamp += 1;
+            }
+            Err(refusal) => {
+                unwind(rows, trail);
+                event.refuse(rows, refusal);
+                break_off(results, block, index, i, refusal);
+                return;
+            }
         }
-        i += 1;
-        stamp += 1;
     }
 }
 
-/// Takes an event of a chain. Linked with nothing after it, the chain is open: 2.
+/// Takes an event of a chain. Linked with nothing after it, the chain is open.
 fn take_in_chain<E: Event, A: Allocator + Clone>(
     event: &E,
     last: bool,
     rows: &mut Rows<A>,
     trail: &mut Trail<A>,
     time: u64,
-) -> u32
+) -> Result<(), E::Refusal>
     requires kept { IsKept rows.old }
     requires room { 0 < E.room rows.old.accounts.spare rows.old.transfers.spare }
     requires timeouts_room { E.HasTimeoutRoom 1 rows.old.timeouts.spare }
     requires stamped { PrecedesTimeouts rows.old time }
     requires trail_room { HasRoomFor TRAIL_PER_EVENT trail.old }
-    ensures code { result
-        ≡ (if last && E.kind.linked event.now then
+    ensures judged { Judges E.code_of result
+        (if last && E.kind.linked event.now then
         2
         else
         E.kind.verdict (books_in rows.old) event.now time) }
-    ensures done { result ≡ 0 → books_in rows.new ≡ E.kind.recorded (books_in rows.old) event.now time }
-    ensures fresh { result ≢ 0 → E.IsNew (books_in rows.old).failed event.now result }
+    ensures done { OnOk result (books_in rows.new ≡ E.kind.recorded (books_in rows.old) event.now time) }
+    ensures fresh { IfErr result
+        (λ refusal. E.IsNew (books_in rows.old).failed event.now (E.code_of refusal)) }
     ensures kept { IsKept rows.new }
-    ensures refused { result ≢ 0 → Stays rows.old rows.new trail.old trail.new }
+    ensures refused { OnErr result (Stays rows.old rows.new trail.old trail.new) }
     ensures step { IsStep TRAIL_PER_EVENT rows.old rows.new trail.old trail.new }
     ensures room { E.room rows.old.accounts.spare rows.old.transfers.spare
         ≤ E.room rows.new.accounts.spare rows.new.transfers.spare + 1 }
@@ -112,7 +117,7 @@ fn take_in_chain<E: Event, A: Allocator + Clone>(
         → E.HasTimeoutRoom n rows.new.timeouts.spare }
 {
     if last && event.linked() {
-        LINKED_EVENT_CHAIN_OPEN
+        Err(E::chain_open())
     } else {
         event.take(rows, trail, time)
     }

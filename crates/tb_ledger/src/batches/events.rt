@@ -1,5 +1,6 @@
 //! What a batch asks of its events.
-ghost use Rattle.std.specs.Prelude.{◌≡◌, ◌≢◌, ℕ, ◌+◌, ◌<◌, ◌≤◌, ◌==◌, true, false};
+ghost use Rattle.std.specs.Prelude.{◌≡◌, ℕ, ◌+◌, ◌<◌, ◌≤◌, ◌==◌, true, false, IfErr, OnOk, OnErr};
+ghost use Rattle.tb_ledger.specs.Found.{Judges};
 ghost use Rattle.tb_ledger.specs.Kept.{books_in, IsKept, PrecedesTimeouts};
 ghost use Rattle.tb_ledger.specs.Trail.{Stays, IsStep};
 ghost use Rattle.tb_ledger.specs.Noted.{HasRoomFor};
@@ -9,14 +10,20 @@ use crate::changes::transfer::{note_failed, take_transfer};
 use crate::tables::rows::Rows;
 use crate::tables::trail::{TRAIL_PER_EVENT, Trail};
 use std::alloc::Allocator;
-use tb_records::{Account, Transfer};
+use tb_records::{Account, CreateAccountResult, CreateTransferResult, Transfer};
 
 /// An event of a batch.
 pub trait Event: Copy {
     ghost use Rattle.std.specs.Prelude.{ℕ, Bool, List, Option};
     ghost use Rattle.tb_ledger.specs.Batches.{Kind};
 
+    /// Why an event isn't accepted.
+    type Refusal: Copy;
+
     ghost kind: { Kind Self };
+
+    // the result code of a refusal
+    ghost code_of: { Self.Refusal → ℕ };
 
     // the room that counts for it, of that of accounts and of transfers
     ghost room: { ℕ → ℕ → ℕ };
@@ -34,22 +41,40 @@ pub trait Event: Copy {
     fn linked(&self) -> bool
         ensures { result ≡ kind.linked self.now };
 
+    /// The result code of a refusal.
+    fn code(refusal: Self::Refusal) -> u32
+        ensures { result ≡ code_of refusal };
+
+    /// The refusal of an event that another one's failure undoes.
+    fn undone() -> Self::Refusal
+        ensures { code_of result ≡ 1 };
+
+    /// The refusal of the last event of an open chain.
+    fn chain_open() -> Self::Refusal
+        ensures { code_of result ≡ 2 };
+
     /// Looks for the ids of the first eight events by turns, where there are so many. The rows stay.
     fn look_ahead<A: Allocator + Clone>(events: &[Self], rows: &mut Rows<A>)
         ensures { rows.new ≡ rows.old };
 
-    /// Judges the event as of its timestamp, and records it where the verdict is 0. The trail leads back to before it.
-    fn take<A: Allocator + Clone>(&self, rows: &mut Rows<A>, trail: &mut Trail<A>, time: u64) -> u32
+    /// Judges the event as of its timestamp, and records it where it passes. The trail leads back to before it.
+    fn take<A: Allocator + Clone>(
+        &self,
+        rows: &mut Rows<A>,
+        trail: &mut Trail<A>,
+        time: u64,
+    ) -> Result<(), Self::Refusal>
         requires kept { IsKept rows.old }
         requires room { 0 < room rows.old.accounts.spare rows.old.transfers.spare }
         requires timeouts_room { HasTimeoutRoom 1 rows.old.timeouts.spare }
         requires stamped { PrecedesTimeouts rows.old time }
         requires trail_room { HasRoomFor TRAIL_PER_EVENT trail.old }
-        ensures code { result ≡ kind.verdict (books_in rows.old) self.now time }
-        ensures done { result ≡ 0 → books_in rows.new ≡ kind.recorded (books_in rows.old) self.now time }
-        ensures fresh { result ≢ 0 → IsNew (books_in rows.old).failed self.now result }
+        ensures judged { Judges code_of result (kind.verdict (books_in rows.old) self.now time) }
+        ensures done { OnOk result (books_in rows.new ≡ kind.recorded (books_in rows.old) self.now time) }
+        ensures fresh { IfErr result
+            (λ refusal. IsNew (books_in rows.old).failed self.now (code_of refusal)) }
         ensures kept { IsKept rows.new }
-        ensures refused { result ≢ 0 → Stays rows.old rows.new trail.old trail.new }
+        ensures refused { OnErr result (Stays rows.old rows.new trail.old trail.new) }
         ensures step { IsStep TRAIL_PER_EVENT rows.old rows.new trail.old trail.new }
         ensures room { room rows.old.accounts.spare rows.old.transfers.spare
             ≤ room rows.new.accounts.spare rows.new.transfers.spare + 1 }
@@ -57,11 +82,11 @@ pub trait Event: Copy {
             → HasTimeoutRoom n rows.new.timeouts.spare };
 
     /// Notes what the event's refusal leaves behind.
-    fn refuse<A: Allocator + Clone>(&self, rows: &mut Rows<A>, code: u32)
+    fn refuse<A: Allocator + Clone>(&self, rows: &mut Rows<A>, refusal: Self::Refusal)
         requires kept { IsKept rows.old }
         requires ids { HasIdRoom 1 rows.old.keeps_failed rows.old.failed.spare }
-        requires fresh { IsNew (books_in rows.old).failed self.now code }
-        ensures books { books_in rows.new ≡ kind.refused (books_in rows.old) self.now code }
+        requires fresh { IsNew (books_in rows.old).failed self.now (code_of refusal) }
+        ensures books { books_in rows.new ≡ kind.refused (books_in rows.old) self.now (code_of refusal) }
         ensures kept { IsKept rows.new }
         ensures accounts { rows.new.accounts ≡ rows.old.accounts }
         ensures transfers { rows.new.transfers ≡ rows.old.transfers }
@@ -80,9 +105,14 @@ pub trait Event: Copy {
 }
 
 impl Event for Account {
+    ghost use Rattle.tb_records.specs.AccountResults.{account_result_code};
     ghost use Rattle.tb_ledger.specs.Batches.{account_events};
 
+    type Refusal = CreateAccountResult;
+
     ghost kind = { account_events };
+
+    ghost code_of = { account_result_code };
 
     ghost room = { λ accounts transfers. accounts };
 
@@ -96,6 +126,18 @@ impl Event for Account {
         self.is_linked()
     }
 
+    fn code(refusal: CreateAccountResult) -> u32 {
+        refusal.code()
+    }
+
+    fn undone() -> CreateAccountResult {
+        CreateAccountResult::LinkedEventFailed
+    }
+
+    fn chain_open() -> CreateAccountResult {
+        CreateAccountResult::LinkedEventChainOpen
+    }
+
     // accounts are few: their ids are looked for one at a time
     fn look_ahead<A: Allocator + Clone>(events: &[Account], rows: &mut Rows<A>) {
         let _ = events.len();
@@ -107,13 +149,13 @@ impl Event for Account {
         rows: &mut Rows<A>,
         trail: &mut Trail<A>,
         time: u64,
-    ) -> u32 {
+    ) -> Result<(), CreateAccountResult> {
         take_account(rows, trail, self, time)
     }
 
-    fn refuse<A: Allocator + Clone>(&self, rows: &mut Rows<A>, code: u32) {
+    fn refuse<A: Allocator + Clone>(&self, rows: &mut Rows<A>, refusal: CreateAccountResult) {
         let _ = rows.time;
-        let _ = code;
+        let _ = refusal;
     }
 
     ghost more_room = { λ a b c d accounts transfers. accounts };
@@ -136,9 +178,14 @@ impl Event for Transfer {
     ghost use Rattle.std.specs.Option.{option_map_or};
     ghost use Rattle.std.proofs.Math.Nat.{le_trans};
     ghost use Rattle.std.proofs.lemmas.Bool.{false≢true};
+    ghost use Rattle.tb_records.specs.TransferResults.{transfer_result_code};
     ghost use Rattle.tb_ledger.specs.Batches.{transfer_events, is_final};
 
+    type Refusal = CreateTransferResult;
+
     ghost kind = { transfer_events };
+
+    ghost code_of = { transfer_result_code };
 
     ghost room = { λ accounts transfers. transfers };
 
@@ -153,6 +200,18 @@ impl Event for Transfer {
         self.is_linked()
     }
 
+    fn code(refusal: CreateTransferResult) -> u32 {
+        refusal.code()
+    }
+
+    fn undone() -> CreateTransferResult {
+        CreateTransferResult::LinkedEventFailed
+    }
+
+    fn chain_open() -> CreateTransferResult {
+        CreateTransferResult::LinkedEventChainOpen
+    }
+
     fn look_ahead<A: Allocator + Clone>(events: &[Transfer], rows: &mut Rows<A>) {
         if let Some((eight, _)) = events.split_first_chunk::<8>() {
             rows.transfers.seek(&ids_of(eight));
@@ -164,12 +223,12 @@ impl Event for Transfer {
         rows: &mut Rows<A>,
         trail: &mut Trail<A>,
         time: u64,
-    ) -> u32 {
+    ) -> Result<(), CreateTransferResult> {
         take_transfer(rows, trail, self, time)
     }
 
-    fn refuse<A: Allocator + Clone>(&self, rows: &mut Rows<A>, code: u32) {
-        note_failed(rows, self, code)
+    fn refuse<A: Allocator + Clone>(&self, rows: &mut Rows<A>, refusal: CreateTransferResult) {
+        note_failed(rows, self, refusal)
     }
 
     ghost more_room = { λ a b c d accounts transfers. transfers };

@@ -1,47 +1,57 @@
 //! The results of a chain that breaks.
-ghost use Rattle.std.specs.Prelude.{◌≡◌, ◌≢◌, ◌+◌, ◌^◌, ◌<◌, ◌≤◌, ◌&&◌, ◌++◌, ◌∷◌, length, drop, replicate, if◌then◌else◌, vec_len, vec_capacity};
+ghost use Rattle.std.specs.Prelude.{◌≡◌, ◌≢◌, ◌+◌, ◌^◌, ◌<◌, ◌≤◌, ◌&&◌, ◌++◌, [], ◌∷◌, length, drop, replicate, if◌then◌else◌, vec_len, vec_capacity};
 ghost use Rattle.tb_ledger.specs.Batches.{timed_from, undone, results_from};
 
 use crate::batches::events::Event;
 use std::alloc::Allocator;
-use tb_records::{CreateTransferResult, EventResult};
+use tb_records::EventResult;
 
-/// Of accounts and of transfers: the code of an event that another one undoes, and of the last one where the chain is open.
-const LINKED_EVENT_FAILED: u32 = CreateTransferResult::LinkedEventFailed as u32;
+/// Adds the result of one event.
+fn push_result<E: Event, A: Allocator>(
+    results: &mut Vec<EventResult, A>,
+    index: u32,
+    refusal: E::Refusal,
+)
+    requires { vec_len results.old < vec_capacity results.old }
+    ensures items { results.new.items
+        ≡ results.old.items ++ (record { index = index; result = E.code_of refusal } ∷ []) }
+    ensures len { vec_len results.new ≡ vec_len results.old + 1 }
+    ensures capacity { vec_capacity results.new ≡ vec_capacity results.old }
+{
+    results.push_reserved(EventResult {
+        index,
+        result: E::code(refusal),
+    });
+}
 
-pub(crate) const LINKED_EVENT_CHAIN_OPEN: u32 = CreateTransferResult::LinkedEventChainOpen as u32;
-
-/// Adds the results of a broken chain, whose event at `place` has failed by the code.
+/// Adds the results of a broken chain, whose event at `place` has failed by the refusal.
 pub(crate) fn break_off<E: Event, A: Allocator>(
     results: &mut Vec<EventResult, A>,
     block: &[E],
     index: u32,
     place: usize,
-    code: u32,
+    refusal: E::Refusal,
 )
     requires room { vec_len results.old + length block.now ≤ vec_capacity results.old }
     requires fits { index + length block.now < 2 ^ 32 }
     requires within { place < length block.now }
-    requires refused { code ≢ 0 }
+    requires refused { E.code_of refusal ≢ 0 }
     ensures items { results.new.items
         ≡ results.old.items
         ++ results_from index
         (replicate place 1
-        ++ code
+        ++ E.code_of refusal
         ∷ undone E.kind (timed_from 0 (drop (place + 1) block.now))) }
     ensures len { vec_len results.new ≡ vec_len results.old + length block.now }
     ensures capacity { vec_capacity results.new ≡ vec_capacity results.old }
 {
-    push_failed(results, index, place);
-    results.push_reserved(EventResult {
-        index: index + place as u32,
-        result: code,
-    });
+    push_failed::<E, A>(results, index, place);
+    push_result::<E, A>(results, index + place as u32, refusal);
     push_undone(results, &block[place + 1..], index + place as u32 + 1);
 }
 
 /// Adds the results of `n` events that another one's failure undoes.
-fn push_failed<A: Allocator>(results: &mut Vec<EventResult, A>, index: u32, n: usize)
+fn push_failed<E: Event, A: Allocator>(results: &mut Vec<EventResult, A>, index: u32, n: usize)
     requires room { vec_len results.old + n ≤ vec_capacity results.old }
     requires fits { index + n < 2 ^ 32 }
     ensures items { results.new.items ≡ results.old.items ++ results_from index (replicate n 1) }
@@ -49,10 +59,7 @@ fn push_failed<A: Allocator>(results: &mut Vec<EventResult, A>, index: u32, n: u
     ensures capacity { vec_capacity results.new ≡ vec_capacity results.old }
 {
     for i in 0..n {
-        results.push_reserved(EventResult {
-            index: index + i as u32,
-            result: LINKED_EVENT_FAILED,
-        });
+        push_result::<E, A>(results, index + i as u32, E::undone());
     }
 }
 
@@ -66,21 +73,18 @@ fn push_undone<E: Event, A: Allocator>(results: &mut Vec<EventResult, A>, rest: 
     ensures capacity { vec_capacity results.new ≡ vec_capacity results.old }
 {
     for i in 0..rest.len() {
-        let result = code_undone(&rest[i], i + 1 == rest.len());
-        results.push_reserved(EventResult {
-            index: index + i as u32,
-            result,
-        });
+        let refusal = undone_by(&rest[i], i + 1 == rest.len());
+        push_result::<E, A>(results, index + i as u32, refusal);
     }
 }
 
-/// The code of an event that another one's failure undoes.
-fn code_undone<E: Event>(event: &E, last: bool) -> u32
-    ensures { result ≡ (if last && E.kind.linked event.now then 2 else 1) }
+/// The refusal of an event that another one's failure undoes.
+fn undone_by<E: Event>(event: &E, last: bool) -> E::Refusal
+    ensures { E.code_of result ≡ (if last && E.kind.linked event.now then 2 else 1) }
 {
     if last && event.linked() {
-        LINKED_EVENT_CHAIN_OPEN
+        E::chain_open()
     } else {
-        LINKED_EVENT_FAILED
+        E::undone()
     }
 }

@@ -1,7 +1,9 @@
 //! An account is judged, and added where it is accepted.
-ghost use Rattle.std.specs.Prelude.{◌≡◌, ◌≢◌, ◌+◌, ◌<◌, ◌≤◌, ◌==◌, length, ◌-◌, find, None};
+ghost use Rattle.std.specs.Prelude.{◌≡◌, ◌+◌, ◌<◌, ◌≤◌, ◌==◌, length, ◌-◌, find, None, OnOk, OnErr};
 ghost use Rattle.tb_ledger.specs.Batches.{account_events};
 ghost use Rattle.tb_ledger.specs.Books.{account_at};
+ghost use Rattle.tb_records.specs.AccountResults.{account_result_code};
+ghost use Rattle.tb_ledger.specs.Found.{Judges};
 ghost use Rattle.tb_ledger.specs.Kept.{books_in, IsKept, account_row_key, blank, new_row};
 ghost use Rattle.tb_ledger.specs.Trail.{Stays, IsStep, IsNoted};
 ghost use Rattle.tb_ledger.specs.Noted.{HasRoomFor};
@@ -12,35 +14,34 @@ use crate::tables::accounts::AccountRow;
 use crate::tables::map::Table;
 use crate::tables::rows::Rows;
 use crate::tables::trail::{TRAIL_PER_EVENT, Trail, Undo};
-use crate::verdicts::account::account_code;
+use crate::verdicts::account::judge_account;
 use std::alloc::Allocator;
-use tb_records::Account;
+use tb_records::{Account, CreateAccountResult};
 
-/// Judges an account, and records it with its timestamp where the verdict is 0.
+/// Judges an account, and records it with its timestamp where it passes.
 pub(crate) fn take_account<A: Allocator + Clone>(
     rows: &mut Rows<A>,
     trail: &mut Trail<A>,
     a: &Account,
     time: u64,
-) -> u32
+) -> Result<(), CreateAccountResult>
     requires kept { IsKept rows.old }
     requires room { 0 < rows.old.accounts.spare }
     requires trail_room { HasRoomFor TRAIL_PER_EVENT trail.old }
-    ensures code { result ≡ account_events.verdict (books_in rows.old) a.now time }
-    ensures done { result ≡ 0 → books_in rows.new ≡ account_events.recorded (books_in rows.old) a.now time }
+    ensures judged { Judges account_result_code result
+        (account_events.verdict (books_in rows.old) a.now time) }
+    ensures done { OnOk result
+        (books_in rows.new ≡ account_events.recorded (books_in rows.old) a.now time) }
     ensures kept { IsKept rows.new }
-    ensures refused { result ≢ 0 → Stays rows.old rows.new trail.old trail.new }
+    ensures refused { OnErr result (Stays rows.old rows.new trail.old trail.new) }
     ensures step { IsStep TRAIL_PER_EVENT rows.old rows.new trail.old trail.new }
     ensures room { rows.old.accounts.spare ≤ rows.new.accounts.spare + 1 }
 {
-    let code = account_code(rows, a);
-    if code != 0 {
-        return code;
-    }
+    judge_account(rows, a)?;
     let mut recorded = *a;
     recorded.timestamp = time;
     record_account(rows, trail, &recorded);
-    0
+    Ok(())
 }
 
 /// Adds an account as it is recorded.

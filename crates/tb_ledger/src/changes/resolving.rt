@@ -1,5 +1,5 @@
 //! A post or void: the pending transfer that it names is closed, and the sums of both accounts settled.
-ghost use Rattle.std.specs.Prelude.{◌≡◌, ◌≢◌, ◌+◌, ◌^◌, ◌<◌, ◌≤◌, ◌==◌, true, length, find, Some, None, IsSome};
+ghost use Rattle.std.specs.Prelude.{◌≡◌, ◌≢◌, ◌+◌, ◌^◌, ◌<◌, ◌≤◌, ◌==◌, true, length, find, Some, None, IsSome, OnOk, OnErr};
 ghost use Rattle.tb_ledger.specs.Batches.{transfer_events};
 ghost use Rattle.tb_ledger.specs.Books.{resolves, transfer_at};
 ghost use Rattle.tb_ledger.specs.Exchanges.{row_at};
@@ -11,7 +11,8 @@ ghost use Rattle.tb_ledger.specs.Verdicts.{id_code};
 ghost use Rattle.tb_records.specs.Ordered.{put, replaced, Rising};
 ghost use Rattle.tb_ledger.specs.Sound.{transfer_key};
 ghost use Rattle.tb_ledger.specs.Timeouts.{AreTimeouts};
-ghost use Rattle.tb_ledger.specs.Found.{FoundPending};
+ghost use Rattle.tb_records.specs.TransferResults.{transfer_result_code};
+ghost use Rattle.tb_ledger.specs.Found.{FoundPending, Judges};
 
 use crate::changes::records::{add_row, row_of};
 use crate::changes::sides::settle_side;
@@ -22,53 +23,48 @@ use crate::tables::rows::Rows;
 use crate::tables::timeouts::Timeouts;
 use crate::tables::trail::{TRAIL_PER_EVENT, Trail};
 use crate::tables::transfers::{State, TransferRow};
-use crate::verdicts::resolving::{Resolution, closed_code, judge_resolving};
+use crate::verdicts::resolving::{Resolution, judge_closed, judge_resolving};
 use std::alloc::Allocator;
-use tb_records::{Transfer, TransferFlag};
+use tb_records::{CreateTransferResult, Transfer, TransferFlag};
 
-/// Judges a post or void whose id is free, and records it, filled and stamped, where the verdict is 0.
+/// Judges a post or void whose id is free, and records it, filled and stamped, where it passes.
 pub(crate) fn take_resolving<A: Allocator + Clone>(
     rows: &mut Rows<A>,
     trail: &mut Trail<A>,
     t: &Transfer,
     time: u64,
-) -> u32
+) -> Result<(), CreateTransferResult>
     requires kept { IsKept rows.old }
     requires room { 0 < rows.old.transfers.spare }
     requires trail_room { HasRoomFor TRAIL_PER_EVENT trail.old }
     requires free { id_code (books_in rows.old) t.now ≡ 0 }
     requires resolving { resolves t.now ≡ true }
     requires plain { t.now.flags < 2 ^ 8 }
-    ensures code { result ≡ transfer_events.verdict (books_in rows.old) t.now time }
-    ensures done { result ≡ 0 → books_in rows.new ≡ transfer_events.recorded (books_in rows.old) t.now time }
+    ensures judged { Judges transfer_result_code result
+        (transfer_events.verdict (books_in rows.old) t.now time) }
+    ensures done { OnOk result
+        (books_in rows.new ≡ transfer_events.recorded (books_in rows.old) t.now time) }
     ensures kept { IsKept rows.new }
-    ensures refused { result ≢ 0 → Stays rows.old rows.new trail.old trail.new }
+    ensures refused { OnErr result (Stays rows.old rows.new trail.old trail.new) }
     ensures step { IsStep TRAIL_PER_EVENT rows.old rows.new trail.old trail.new }
     ensures room { rows.old.transfers.spare ≤ rows.new.transfers.spare + 1 }
     ensures timeouts_room { rows.old.timeouts.spare ≤ rows.new.timeouts.spare + 1 }
 {
-    match judge_resolving(rows, t) {
-        Ok(found) => {
-            let Resolution {
-                pending,
-                mut record,
-            } = found;
-            let pending = *pending;
-            record.timestamp = time;
-            settle(rows, trail, &pending, &record)
-        }
-        Err(code) => code,
-    }
+    let Resolution { pending, filled } = judge_resolving(rows, t)?;
+    let pending = *pending;
+    let mut recorded = filled;
+    recorded.timestamp = time;
+    settle(rows, trail, &pending, &recorded)
 }
 
-/// Judges a post or void, filled and stamped, of the pending transfer `p` by the accounts, and records it where it passes: a code,
-/// or 0. A void passes closed accounts too.
+/// Judges a post or void, filled and stamped, of the pending transfer `p` by the accounts, and records it where it passes. A void
+/// passes closed accounts too.
 fn settle<A: Allocator + Clone>(
     rows: &mut Rows<A>,
     trail: &mut Trail<A>,
     p: &TransferRow,
     r: &Transfer,
-) -> u32
+) -> Result<(), CreateTransferResult>
     requires kept { IsKept rows.old }
     requires room { 0 < rows.old.transfers.spare }
     requires trail_room { HasRoomFor TRAIL_PER_EVENT trail.old }
@@ -77,37 +73,34 @@ fn settle<A: Allocator + Clone>(
     requires plain { r.now.flags < 2 ^ 8 }
     requires is_resolver { resolves r.now ≡ true }
     requires resolves { FoundPending (books_in rows.old) r.now }
-    ensures code { result ≡ closed_code (books_in rows.old) r.now p.now.recorded }
+    ensures judged { Judges transfer_result_code result
+        (closed_code (books_in rows.old) r.now p.now.recorded) }
     ensures kept { IsKept rows.new }
-    ensures books { result ≡ 0
-        → books_in rows.new
+    ensures books { OnOk result
+        (books_in rows.new
         ≡ record (books_in rows.old)
-        { transfers = put transfer_key r.now (books_in rows.old).transfers } }
-    ensures refused { result ≢ 0 → Stays rows.old rows.new trail.old trail.new }
+        { transfers = put transfer_key r.now (books_in rows.old).transfers }) }
+    ensures refused { OnErr result (Stays rows.old rows.new trail.old trail.new) }
     ensures step { IsStep TRAIL_PER_EVENT rows.old rows.new trail.old trail.new }
     ensures transfers_room { rows.old.transfers.spare ≤ rows.new.transfers.spare + 1 }
     ensures timeouts_room { rows.old.timeouts.spare ≤ rows.new.timeouts.spare + 1 }
 {
-    match settle_accounts(&mut rows.accounts, trail, &p.recorded(), r) {
-        Ok(()) => {
-            let state = state_given(r);
-            close_row(&mut rows.transfers, &mut rows.timeouts, trail, p, state);
-            let row = row_of(*r);
-            add_row(&mut rows.transfers, &mut rows.timeouts, trail, &row);
-            0
-        }
-        Err(code) => code,
-    }
+    settle_accounts(&mut rows.accounts, trail, &p.recorded(), r)?;
+    let state = state_given(r);
+    close_row(&mut rows.transfers, &mut rows.timeouts, trail, p, state);
+    let row = row_of(*r);
+    add_row(&mut rows.transfers, &mut rows.timeouts, trail, &row);
+    Ok(())
 }
 
-/// Judges a post or void by its accounts, and settles both where it passes, or answers a code. Where changes are noted the trail gets
-/// both rows from before.
+/// Judges a post or void by its accounts, and settles both where it passes. Where changes are noted the trail gets both rows from
+/// before.
 fn settle_accounts<A: Allocator + Clone>(
     accounts: &mut Table<AccountRow, A>,
     trail: &mut Trail<A>,
     p: &Transfer,
     r: &Transfer,
-) -> Result<(), u32>
+) -> Result<(), CreateTransferResult>
     requires apart { r.now.debit_account_id ≢ r.now.credit_account_id }
     requires debit { IsSome (row_at accounts.old.items r.now.debit_account_id) }
     requires credit { IsSome (row_at accounts.old.items r.now.credit_account_id) }
@@ -131,23 +124,20 @@ fn settle_accounts<A: Allocator + Clone>(
     }
 }
 
-/// Judges a post or void by the rows of its accounts, and settles both where it passes, or answers a code. The rows from before go
-/// to the trail from here, and not through the search that calls this.
+/// Judges a post or void by the rows of its accounts, and settles both where it passes. The rows from before go to the trail from
+/// here, and not through the search that calls this.
 fn settle_rows<A: Allocator + Clone>(
     debit: &mut AccountRow,
     credit: &mut AccountRow,
     p: &Transfer,
     r: &Transfer,
     trail: &mut Trail<A>,
-) -> Result<(), u32>
+) -> Result<(), CreateTransferResult>
     ensures settled { Settles p.now r.now trail.old debit.old credit.old result debit.new credit.new trail.new }
     ensures same_debit { debit.new.created ≡ debit.old.created }
     ensures same_credit { credit.new.created ≡ credit.old.created }
 {
-    let code = closed_code(r, debit, credit);
-    if code != 0 {
-        return Err(code);
-    }
+    judge_closed(r, debit, credit)?;
     trail.note_pair(debit, credit);
     debit.set_debits(settle_side(
         debit.debits(),

@@ -1,8 +1,10 @@
 //! A transfer between two accounts: both rows are found by one walk, judged, and changed where they stand.
-ghost use Rattle.std.specs.Prelude.{◌≡◌, ◌+◌, ◌^◌, ◌<◌, ◌≤◌, false, ◌≢◌, if◌then◌else◌};
+ghost use Rattle.std.specs.Prelude.{◌≡◌, ◌+◌, ◌^◌, ◌<◌, ◌≤◌, false, ◌≢◌, if◌then◌else◌, OnOk, OnErr};
 ghost use Rattle.std.specs.Option.{is_some};
 ghost use Rattle.tb_ledger.specs.Batches.{transfer_events};
 ghost use Rattle.tb_ledger.specs.Books.{resolves};
+ghost use Rattle.tb_records.specs.TransferResults.{transfer_result_code};
+ghost use Rattle.tb_ledger.specs.Found.{Judges};
 ghost use Rattle.tb_ledger.specs.Kept.{books_in, IsKept, PrecedesTimeouts};
 ghost use Rattle.tb_ledger.specs.Trail.{Stays, IsStep};
 ghost use Rattle.tb_ledger.specs.Noted.{HasRoomFor};
@@ -19,13 +21,13 @@ use crate::verdicts::single::{between, single_own};
 use std::alloc::Allocator;
 use tb_records::{CreateTransferResult, Transfer, TransferFlag};
 
-/// Judges a transfer between two accounts whose id is free, and records it, balanced and stamped, where the verdict is 0.
+/// Judges a transfer between two accounts whose id is free, and records it, balanced and stamped, where it passes.
 pub(crate) fn take_single<A: Allocator + Clone>(
     rows: &mut Rows<A>,
     trail: &mut Trail<A>,
     t: &Transfer,
     time: u64,
-) -> u32
+) -> Result<(), CreateTransferResult>
     requires kept { IsKept rows.old }
     requires room { 0 < rows.old.transfers.spare }
     requires timeouts_room { 0 < rows.old.timeouts.spare }
@@ -34,40 +36,35 @@ pub(crate) fn take_single<A: Allocator + Clone>(
     requires free { id_code (books_in rows.old) t.now ≡ 0 }
     requires single { resolves t.now ≡ false }
     requires plain { t.now.flags < 2 ^ 8 }
-    ensures code { result ≡ transfer_events.verdict (books_in rows.old) t.now time }
-    ensures done { result ≡ 0 → books_in rows.new ≡ transfer_events.recorded (books_in rows.old) t.now time }
+    ensures judged { Judges transfer_result_code result
+        (transfer_events.verdict (books_in rows.old) t.now time) }
+    ensures done { OnOk result
+        (books_in rows.new ≡ transfer_events.recorded (books_in rows.old) t.now time) }
     ensures kept { IsKept rows.new }
-    ensures refused { result ≢ 0 → Stays rows.old rows.new trail.old trail.new }
+    ensures refused { OnErr result (Stays rows.old rows.new trail.old trail.new) }
     ensures step { IsStep TRAIL_PER_EVENT rows.old rows.new trail.old trail.new }
     ensures room { rows.old.transfers.spare ≤ rows.new.transfers.spare + 1 }
     ensures timeouts_room { rows.old.timeouts.spare ≤ rows.new.timeouts.spare + 1 }
 {
-    let code = single_own(t);
-    if code != 0 {
-        return code;
-    }
-    match exchange(&mut rows.accounts, trail, t, time) {
-        Ok(amount) => {
-            let mut recorded = *t;
-            recorded.amount = amount;
-            recorded.timestamp = time;
-            rows.timeouts.ordered();
-            let row = row_of(recorded);
-            add_row(&mut rows.transfers, &mut rows.timeouts, trail, &row);
-            0
-        }
-        Err(code) => code,
-    }
+    single_own(t)?;
+    let amount = exchange(&mut rows.accounts, trail, t, time)?;
+    let mut recorded = *t;
+    recorded.amount = amount;
+    recorded.timestamp = time;
+    rows.timeouts.ordered();
+    let row = row_of(recorded);
+    add_row(&mut rows.transfers, &mut rows.timeouts, trail, &row);
+    Ok(())
 }
 
-/// Judges a transfer between two accounts, and changes their rows where it passes: the amount that it moves, or a code. Where
-/// changes are noted the trail gets both rows from before.
+/// Judges a transfer between two accounts, and changes their rows where it passes: the amount that it moves. Where changes are noted
+/// the trail gets both rows from before.
 fn exchange<A: Allocator + Clone>(
     accounts: &mut Table<AccountRow, A>,
     trail: &mut Trail<A>,
     t: &Transfer,
     time: u64,
-) -> Result<u128, u32>
+) -> Result<u128, CreateTransferResult>
     requires { t.now.debit_account_id ≢ t.now.credit_account_id }
     ensures exchanged { ExchangesIn t.now time trail.old accounts.old.items result accounts.new.items trail.new }
     ensures room { accounts.new.spare ≡ accounts.old.spare }
@@ -85,15 +82,15 @@ fn exchange<A: Allocator + Clone>(
     }
 }
 
-/// Judges a transfer by the rows of its accounts, and changes both where it passes: the amount that it moves, or a code. The rows
-/// from before go to the trail from here, and not through the search that calls this.
+/// Judges a transfer by the rows of its accounts, and changes both where it passes: the amount that it moves. The rows from before go
+/// to the trail from here, and not through the search that calls this.
 fn exchange_rows<A: Allocator + Clone>(
     debit: &mut AccountRow,
     credit: &mut AccountRow,
     t: &Transfer,
     time: u64,
     trail: &mut Trail<A>,
-) -> Result<u128, u32>
+) -> Result<u128, CreateTransferResult>
     ensures exchanged { Exchanges t.now time trail.old debit.old credit.old result debit.new credit.new trail.new }
     ensures same_debit { debit.new.created ≡ debit.old.created }
     ensures same_credit { credit.new.created ≡ credit.old.created }
@@ -113,12 +110,19 @@ fn exchange_rows<A: Allocator + Clone>(
 }
 
 /// Which account isn't there.
-fn missing<A: Allocator + Clone>(accounts: &Table<AccountRow, A>, t: &Transfer) -> u32
-    ensures { result ≡ (if is_some (row_at accounts.now.items t.now.debit_account_id) then 22 else 21) }
+fn missing<A: Allocator + Clone>(
+    accounts: &Table<AccountRow, A>,
+    t: &Transfer,
+) -> CreateTransferResult
+    ensures { result
+        ≡ (if is_some (row_at accounts.now.items t.now.debit_account_id) then
+        CreateTransferResult.CreditAccountNotFound
+        else
+        CreateTransferResult.DebitAccountNotFound) }
 {
     if accounts.get(t.debit_account_id).is_some() {
-        CreateTransferResult::CreditAccountNotFound as u32
+        CreateTransferResult::CreditAccountNotFound
     } else {
-        CreateTransferResult::DebitAccountNotFound as u32
+        CreateTransferResult::DebitAccountNotFound
     }
 }

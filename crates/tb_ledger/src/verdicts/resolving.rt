@@ -1,7 +1,8 @@
 //! The verdict on a post or void: its own lines, those of the pending transfer that it names, the closed accounts.
 ghost use Rattle.std.specs.Prelude.{◌≡◌, ◌≢◌, ◌==◌, true, Some, find, IfOk, IfErr};
 ghost use Rattle.tb_ledger.specs.Books.{resolves};
-ghost use Rattle.tb_ledger.specs.Found.{FoundPending};
+ghost use Rattle.tb_records.specs.TransferResults.{transfer_result_code};
+ghost use Rattle.tb_ledger.specs.Found.{FoundPending, Judges};
 ghost use Rattle.tb_ledger.specs.Kept.{books_in, row_closed, IsKept};
 ghost use Rattle.tb_ledger.specs.Settlings.{closed_code};
 ghost use Rattle.tb_ledger.specs.Verdicts.{closed_lines, filled, first_of, resolve_code, resolve_own_lines, differs, named_lines};
@@ -10,7 +11,6 @@ use crate::tables::accounts::AccountRow;
 use crate::tables::rows::Rows;
 use crate::tables::transfers::{State, TransferRow};
 use crate::verdicts::blanks::{filled, filled_with};
-use crate::verdicts::lines::first_line;
 use std::alloc::Allocator;
 use tb_records::{CreateTransferResult, Transfer};
 
@@ -19,17 +19,20 @@ use tb_records::{CreateTransferResult, Transfer};
 #[derive(Clone, Copy)]
 pub(crate) struct Resolution<'a> {
     pub pending: &'a TransferRow,
-    pub record: Transfer,
+    pub filled: Transfer,
 }
 
-/// The verdict on a post or void, once its id is free, but for closed accounts: a code, or what it resolves.
+/// The verdict on a post or void, once its id is free, but for closed accounts: what it resolves, where it passes.
 pub(crate) fn judge_resolving<'a, A: Allocator + Clone>(
     rows: &'a Rows<A>,
     t: &Transfer,
-) -> Result<Resolution<'a>, u32>
+) -> Result<Resolution<'a>, CreateTransferResult>
     requires kept { IsKept rows.now }
     requires resolving { resolves t.now ≡ true }
-    ensures refused { IfErr result (λ code. (resolve_code (books_in rows.now) t.now ≡ code) × (code ≢ 0)) }
+    ensures refused { IfErr result
+        (λ refusal.
+        (resolve_code (books_in rows.now) t.now ≡ transfer_result_code refusal)
+        × (transfer_result_code refusal ≢ 0)) }
     ensures left { IfOk result
         (λ x.
         resolve_code (books_in rows.now) t.now
@@ -38,100 +41,79 @@ pub(crate) fn judge_resolving<'a, A: Allocator + Clone>(
         (λ x.
         find (λ row. row.recorded.id == t.now.pending_id) rows.now.transfers.items
         ≡ Some x.pending.now) }
-    ensures record { IfOk result (λ x. x.record ≡ filled (books_in rows.now) t.now) }
-    ensures found { IfOk result (λ x. FoundPending (books_in rows.now) x.record) }
+    ensures filled { IfOk result (λ x. x.filled ≡ filled (books_in rows.now) t.now) }
+    ensures found { IfOk result (λ x. FoundPending (books_in rows.now) x.filled) }
 {
-    let code = resolve_own(t);
-    if code != 0 {
-        return Err(code);
-    }
+    resolve_own(t)?;
     match rows.transfers.get(t.pending_id) {
         Some(p) => {
             let pending = p.recorded();
-            let code = resolve_named(t, &pending, p.state());
-            if code != 0 {
-                return Err(code);
-            }
+            resolve_named(t, &pending, p.state())?;
             Ok(Resolution {
                 pending: p,
-                record: filled(t, &pending),
+                filled: filled(t, &pending),
             })
         }
-        None => Err(CreateTransferResult::PendingTransferNotFound as u32),
+        None => Err(CreateTransferResult::PendingTransferNotFound),
     }
 }
 
-/// What is wrong by itself with a post or void, or 0.
-fn resolve_own(t: &Transfer) -> u32
-    ensures { result ≡ first_of (resolve_own_lines t.now) }
+/// What is wrong by itself with a post or void.
+fn resolve_own(t: &Transfer) -> Result<(), CreateTransferResult>
+    ensures { Judges transfer_result_code result (first_of (resolve_own_lines t.now)) }
 {
-    first_line(&[
-        (
-            CreateTransferResult::FlagsAreMutuallyExclusive as u32,
-            t.is_post() && t.is_void(),
-        ),
-        (
-            CreateTransferResult::FlagsAreMutuallyExclusive as u32,
-            t.is_pending(),
-        ),
-        (
-            CreateTransferResult::FlagsAreMutuallyExclusive as u32,
-            t.is_balancing(),
-        ),
-        (
-            CreateTransferResult::FlagsAreMutuallyExclusive as u32,
-            t.is_closing(),
-        ),
-        (
-            CreateTransferResult::PendingIdMustNotBeZero as u32,
-            t.pending_id == 0,
-        ),
-        (
-            CreateTransferResult::PendingIdMustNotBeIntMax as u32,
-            t.pending_id == u128::MAX,
-        ),
-        (
-            CreateTransferResult::PendingIdMustBeDifferent as u32,
-            t.pending_id == t.id,
-        ),
-        (
-            CreateTransferResult::TimeoutReservedForPendingTransfer as u32,
-            t.timeout != 0,
-        ),
-    ])
+    if t.is_post() && t.is_void() {
+        return Err(CreateTransferResult::FlagsAreMutuallyExclusive);
+    }
+    if t.is_pending() || t.is_balancing() || t.is_closing() {
+        return Err(CreateTransferResult::FlagsAreMutuallyExclusive);
+    }
+    if t.pending_id == 0 {
+        return Err(CreateTransferResult::PendingIdMustNotBeZero);
+    }
+    if t.pending_id == u128::MAX {
+        return Err(CreateTransferResult::PendingIdMustNotBeIntMax);
+    }
+    if t.pending_id == t.id {
+        return Err(CreateTransferResult::PendingIdMustBeDifferent);
+    }
+    if t.timeout != 0 {
+        return Err(CreateTransferResult::TimeoutReservedForPendingTransfer);
+    }
+    Ok(())
 }
 
-/// Whether a post or void fits the pending transfer that it names: a code, or 0.
-fn resolve_named(t: &Transfer, p: &Transfer, state: State) -> u32
-    ensures { result ≡ first_of (named_lines t.now p.now state) }
+/// Whether a post or void fits the pending transfer that it names.
+fn resolve_named(t: &Transfer, p: &Transfer, state: State) -> Result<(), CreateTransferResult>
+    ensures { Judges transfer_result_code result (first_of (named_lines t.now p.now state)) }
 {
     if !p.is_pending() {
-        return CreateTransferResult::PendingTransferNotPending as u32;
+        return Err(CreateTransferResult::PendingTransferNotPending);
     }
     if differs(t.debit_account_id, p.debit_account_id) {
-        return CreateTransferResult::PendingTransferHasDifferentDebitAccountId as u32;
+        return Err(CreateTransferResult::PendingTransferHasDifferentDebitAccountId);
     }
     if differs(t.credit_account_id, p.credit_account_id) {
-        return CreateTransferResult::PendingTransferHasDifferentCreditAccountId as u32;
+        return Err(CreateTransferResult::PendingTransferHasDifferentCreditAccountId);
     }
     if t.ledger != 0 && t.ledger != p.ledger {
-        return CreateTransferResult::PendingTransferHasDifferentLedger as u32;
+        return Err(CreateTransferResult::PendingTransferHasDifferentLedger);
     }
     if t.code != 0 && t.code != p.code {
-        return CreateTransferResult::PendingTransferHasDifferentCode as u32;
+        return Err(CreateTransferResult::PendingTransferHasDifferentCode);
     }
     let amount = filled_with(t, p);
     if p.amount < amount {
-        return CreateTransferResult::ExceedsPendingTransferAmount as u32;
+        return Err(CreateTransferResult::ExceedsPendingTransferAmount);
     }
     if t.is_void() && amount < p.amount {
-        return CreateTransferResult::PendingTransferHasDifferentAmount as u32;
+        return Err(CreateTransferResult::PendingTransferHasDifferentAmount);
     }
     match state {
-        State::Open => 0,
-        State::Posted => CreateTransferResult::PendingTransferAlreadyPosted as u32,
-        State::Voided => CreateTransferResult::PendingTransferAlreadyVoided as u32,
-        State::Expired => CreateTransferResult::PendingTransferExpired as u32,
+        State::Open => Ok(()),
+        State::Posted => Err(CreateTransferResult::PendingTransferAlreadyPosted),
+        State::Voided => Err(CreateTransferResult::PendingTransferAlreadyVoided),
+        State::Expired => Err(CreateTransferResult::PendingTransferExpired),
     }
 }
 
@@ -142,18 +124,23 @@ fn differs(x: u128, other: u128) -> bool
     x != 0 && x != other
 }
 
-/// A post needs both accounts open: a code, or 0.
-pub(crate) fn closed_code(t: &Transfer, debit: &AccountRow, credit: &AccountRow) -> u32
-    ensures { result ≡ first_of (closed_lines t.now (row_closed debit.now) (row_closed credit.now)) }
+/// A post needs both accounts open.
+pub(crate) fn judge_closed(
+    t: &Transfer,
+    debit: &AccountRow,
+    credit: &AccountRow,
+) -> Result<(), CreateTransferResult>
+    ensures { Judges transfer_result_code result
+        (first_of (closed_lines t.now (row_closed debit.now) (row_closed credit.now))) }
 {
     if !t.is_post() {
-        return 0;
+        return Ok(());
     }
     if debit.is_closed() {
-        return CreateTransferResult::DebitAccountAlreadyClosed as u32;
+        return Err(CreateTransferResult::DebitAccountAlreadyClosed);
     }
     if credit.is_closed() {
-        return CreateTransferResult::CreditAccountAlreadyClosed as u32;
+        return Err(CreateTransferResult::CreditAccountAlreadyClosed);
     }
-    0
+    Ok(())
 }

@@ -1,5 +1,6 @@
 //! The verdict on a transfer between two accounts: its own lines, the pair of accounts, the amount.
 ghost use Rattle.std.specs.Prelude.{◌≡◌, ◌+◌, ◌*◌, ◌-◌, nat_lt, Some, IfOk};
+ghost use Rattle.tb_records.specs.TransferResults.{transfer_result_code};
 ghost use Rattle.tb_ledger.specs.Found.{Judges};
 ghost use Rattle.tb_ledger.specs.Kept.{row_now};
 ghost use Rattle.tb_ledger.specs.Verdicts.{first_of, int_max, max_time, balanced_amount, amount_lines, pair_code, pair_lines, single_own_lines};
@@ -9,78 +10,79 @@ use tb_records::{
     AccountFlag, CreateTransferResult, LAST_MOMENT, NANOSECONDS_PER_SECOND, Transfer, TransferFlag,
 };
 
-/// What is wrong by itself with a transfer that is no post or void, or 0.
-pub(crate) fn single_own(t: &Transfer) -> u32
-    ensures { result ≡ first_of (single_own_lines t.now) }
+/// What is wrong by itself with a transfer that is no post or void.
+pub(crate) fn single_own(t: &Transfer) -> Result<(), CreateTransferResult>
+    ensures { Judges transfer_result_code result (first_of (single_own_lines t.now)) }
 {
     if t.debit_account_id == 0 {
-        return CreateTransferResult::DebitAccountIdMustNotBeZero as u32;
+        return Err(CreateTransferResult::DebitAccountIdMustNotBeZero);
     }
     if t.debit_account_id == u128::MAX {
-        return CreateTransferResult::DebitAccountIdMustNotBeIntMax as u32;
+        return Err(CreateTransferResult::DebitAccountIdMustNotBeIntMax);
     }
     if t.credit_account_id == 0 {
-        return CreateTransferResult::CreditAccountIdMustNotBeZero as u32;
+        return Err(CreateTransferResult::CreditAccountIdMustNotBeZero);
     }
     if t.credit_account_id == u128::MAX {
-        return CreateTransferResult::CreditAccountIdMustNotBeIntMax as u32;
+        return Err(CreateTransferResult::CreditAccountIdMustNotBeIntMax);
     }
     if t.debit_account_id == t.credit_account_id {
-        return CreateTransferResult::AccountsMustBeDifferent as u32;
+        return Err(CreateTransferResult::AccountsMustBeDifferent);
     }
     if t.pending_id != 0 {
-        return CreateTransferResult::PendingIdMustBeZero as u32;
+        return Err(CreateTransferResult::PendingIdMustBeZero);
     }
     let pending = t.is_pending();
     if !pending && t.timeout != 0 {
-        return CreateTransferResult::TimeoutReservedForPendingTransfer as u32;
+        return Err(CreateTransferResult::TimeoutReservedForPendingTransfer);
     }
     if !pending && t.is_closing() {
-        return CreateTransferResult::ClosingTransferMustBePending as u32;
+        return Err(CreateTransferResult::ClosingTransferMustBePending);
     }
     if t.ledger == 0 {
-        return CreateTransferResult::LedgerMustNotBeZero as u32;
+        return Err(CreateTransferResult::LedgerMustNotBeZero);
     }
     if t.code == 0 {
-        return CreateTransferResult::CodeMustNotBeZero as u32;
+        return Err(CreateTransferResult::CodeMustNotBeZero);
     }
-    0
+    Ok(())
 }
 
-/// A transfer between two accounts that are there: a code, or the amount that it moves.
-pub(crate) fn between(d: &AccountRow, c: &AccountRow, t: &Transfer, time: u64) -> Result<u128, u32>
-    ensures judged { Judges result (pair_code (Some (row_now d.now)) (Some (row_now c.now)) t.now time) }
+/// A transfer between two accounts that are there: the amount that it moves, where it passes.
+pub(crate) fn between(
+    d: &AccountRow,
+    c: &AccountRow,
+    t: &Transfer,
+    time: u64,
+) -> Result<u128, CreateTransferResult>
+    ensures judged { Judges transfer_result_code result
+        (pair_code (Some (row_now d.now)) (Some (row_now c.now)) t.now time) }
     ensures amount { IfOk result (λ amount. amount ≡ balanced_amount (row_now d.now) (row_now c.now) t.now) }
 {
-    let code = pair(d, c, t);
-    if code != 0 {
-        return Err(code);
-    }
+    pair(d, c, t)?;
     let amount = balanced(d, c, t);
-    let code = amounts(d, c, t, amount, time);
-    if code != 0 {
-        return Err(code);
-    }
+    amounts(d, c, t, amount, time)?;
     Ok(amount)
 }
 
-/// Whether two accounts can exchange money: a code, or 0.
-fn pair(d: &AccountRow, c: &AccountRow, t: &Transfer) -> u32
-    ensures { result ≡ first_of (pair_lines (row_now d.now) (row_now c.now) t.now) }
+/// Whether two accounts can exchange money.
+fn pair(d: &AccountRow, c: &AccountRow, t: &Transfer) -> Result<(), CreateTransferResult>
+    ensures { Judges transfer_result_code result
+        (first_of (pair_lines (row_now d.now) (row_now c.now) t.now)) }
 {
     if d.ledger() != c.ledger() {
-        return CreateTransferResult::AccountsMustHaveTheSameLedger as u32;
+        return Err(CreateTransferResult::AccountsMustHaveTheSameLedger);
     }
     if t.ledger != d.ledger() {
-        return CreateTransferResult::TransferMustHaveTheSameLedgerAsAccounts as u32;
+        return Err(CreateTransferResult::TransferMustHaveTheSameLedgerAsAccounts);
     }
     if AccountFlag::Closed.is_in(d.flags_now()) {
-        return CreateTransferResult::DebitAccountAlreadyClosed as u32;
+        return Err(CreateTransferResult::DebitAccountAlreadyClosed);
     }
     if AccountFlag::Closed.is_in(c.flags_now()) {
-        return CreateTransferResult::CreditAccountAlreadyClosed as u32;
+        return Err(CreateTransferResult::CreditAccountAlreadyClosed);
     }
-    0
+    Ok(())
 }
 
 /// What a balancing transfer moves between two accounts: at most what keeps its sides balanced.
@@ -107,45 +109,52 @@ fn room(side: Side, other: Side) -> u128
         .saturating_sub(side.pending)
 }
 
-/// Whether the amount, balanced, fits both accounts and the timeout the clock: a code, or 0.
-fn amounts(d: &AccountRow, c: &AccountRow, t: &Transfer, amount: u128, time: u64) -> u32
-    ensures { result ≡ first_of (amount_lines (row_now d.now) (row_now c.now) t.now amount time) }
+/// Whether the amount, balanced, fits both accounts and the timeout the clock.
+fn amounts(
+    d: &AccountRow,
+    c: &AccountRow,
+    t: &Transfer,
+    amount: u128,
+    time: u64,
+) -> Result<(), CreateTransferResult>
+    ensures { Judges transfer_result_code result
+        (first_of (amount_lines (row_now d.now) (row_now c.now) t.now amount time)) }
 {
     let pending = t.is_pending();
     let debits = d.debits();
     let credits = c.credits();
     if pending && above(debits.pending, amount) {
-        return CreateTransferResult::OverflowsDebitsPending as u32;
+        return Err(CreateTransferResult::OverflowsDebitsPending);
     }
     if pending && above(credits.pending, amount) {
-        return CreateTransferResult::OverflowsCreditsPending as u32;
+        return Err(CreateTransferResult::OverflowsCreditsPending);
     }
     if above(debits.posted, amount) {
-        return CreateTransferResult::OverflowsDebitsPosted as u32;
+        return Err(CreateTransferResult::OverflowsDebitsPosted);
     }
     if above(credits.posted, amount) {
-        return CreateTransferResult::OverflowsCreditsPosted as u32;
+        return Err(CreateTransferResult::OverflowsCreditsPosted);
     }
     if sum_above(debits.pending, debits.posted, amount) {
-        return CreateTransferResult::OverflowsDebits as u32;
+        return Err(CreateTransferResult::OverflowsDebits);
     }
     if sum_above(credits.pending, credits.posted, amount) {
-        return CreateTransferResult::OverflowsCredits as u32;
+        return Err(CreateTransferResult::OverflowsCredits);
     }
     if overdue(time, t.timeout) {
-        return CreateTransferResult::OverflowsTimeout as u32;
+        return Err(CreateTransferResult::OverflowsTimeout);
     }
     if AccountFlag::DebitsMustNotExceedCredits.is_in(d.flags_now())
         && sum_exceeds(debits.pending, debits.posted, amount, d.credits().posted)
     {
-        return CreateTransferResult::ExceedsCredits as u32;
+        return Err(CreateTransferResult::ExceedsCredits);
     }
     if AccountFlag::CreditsMustNotExceedDebits.is_in(c.flags_now())
         && sum_exceeds(credits.pending, credits.posted, amount, c.debits().posted)
     {
-        return CreateTransferResult::ExceedsDebits as u32;
+        return Err(CreateTransferResult::ExceedsDebits);
     }
-    0
+    Ok(())
 }
 
 /// The sum is above the largest number.

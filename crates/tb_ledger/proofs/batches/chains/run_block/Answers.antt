@@ -1,4 +1,4 @@
-use Rattle.std.proofs.Common.{◌≡◌, ◌+◌, ◌-◌, ◌≤◌, ◌++◌, [], length, subst, sym, ap, ◌∙◌, arith, append-nil}
+use Rattle.std.proofs.Common.{◌≡◌, ◌+◌, ◌-◌, ◌≤◌, ◌++◌, [], length, refl, subst, sym, ap, ◌∙◌, arith, append-nil}
 use Rattle.tb_ledger.specs.Batches.{results_from, block_after, timed_from}
 use Rattle.tb_ledger.specs.Kept.{books_in}
 use Rattle.tb_ledger.specs.Trail.{unwound_accounts, unwound_transfers, unwound_timeouts}
@@ -11,14 +11,14 @@ use Rattle.tb_ledger.proofs.batches.chains.run_block.Goals as goal
 
 pub unwind-requires : goal.unwind-requires
 unwind-requires g c =
-    let stays = c.take_in_chain-code.ensures.refused c.if-code-ne0.true in
+    let stays = c.in-Err.ensures.refused in
     rw (stays.0, stays.1) ((c.loop-i.invariant.back c.loop-i-test.true).can_unwind tt)
 
 pub refuse-requires-clause-kept : goal.refuse-requires-clause-kept
 refuse-requires-clause-kept g c =
     let u = c.unwind.ensures in
-    let t = c.take_in_chain-code.ensures.step in
-    let stays = c.take_in_chain-code.ensures.refused c.if-code-ne0.true in
+    let t = c.in-Err.ensures.step in
+    let stays = c.in-Err.ensures.refused in
     let v = c.loop-i.invariant in
     let back = v.back c.loop-i-test.true in
     ledger_back _ _ _ _ _ _ _ _ _ _ _ _ c.requires.kept
@@ -27,11 +27,11 @@ refuse-requires-clause-kept g c =
     (ap (λ x. x.items) (u.failed ∙ t.failed ∙ v.failed)) (u.keeps_failed ∙ t.keeps_failed ∙ v.keeps)
     (ap (λ x. x.items) (u.timeouts ∙ (λ i. unwound_timeouts (stays.1 i).changes (stays.0 i).timeouts) ∙ back.undo_timeouts)) (u.time ∙ t.time ∙ v.time)
 
-pub returns-then-code-ne0-clause-books : goal.returns-then-code-ne0-clause-books
-returns-then-code-ne0-clause-books g c =
+pub returns-in-Err-clause-books : goal.returns-in-Err-clause-books
+returns-in-Err-clause-books g c =
     let u = c.unwind.ensures in
-    let t = c.take_in_chain-code.ensures.step in
-    let stays = c.take_in_chain-code.ensures.refused c.if-code-ne0.true in
+    let t = c.in-Err.ensures.step in
+    let stays = c.in-Err.ensures.refused in
     let v = c.loop-i.invariant in
     let leads = v.back c.loop-i-test.true in
     let kind = g.E.Event.kind in
@@ -39,31 +39,30 @@ returns-then-code-ne0-clause-books g c =
     (u.accounts ∙ (λ i. unwound_accounts (stays.1 i).changes (stays.0 i).accounts.items) ∙ leads.undo_accounts)
     (u.transfers ∙ (λ i. unwound_transfers (stays.1 i).changes (stays.0 i).transfers.items) ∙ leads.undo_transfers)
     (ap (λ x. x.items) (u.failed ∙ t.failed ∙ v.failed)) (u.keeps_failed ∙ t.keeps_failed ∙ v.keeps) (u.time ∙ t.time ∙ v.time) in
-    let broken = broken-here kind (books_in c.args.rows.now) c.args.block.now c.args.time (books_in c.loop-i.rows) c.loop-i.i c.loop-i.stamp c.take_in_chain-code.result c.index-block-i.result
-    v.failure c.loop-i-test.true c.index-block-i.is c.take_in_chain-code.ensures.code c.if-code-ne0.true in
-    c.refuse.ensures.books ∙ ap (λ B. kind.refused B c.index-block-i.result c.take_in_chain-code.result) back ∙ sym (ap (λ o. o.books) broken)
+    let broken = broken-here kind (books_in c.args.rows.now) c.args.block.now c.args.time (books_in c.loop-i.rows) c.loop-i.i c.loop-i.stamp (g.E.Event.code_of c.in-Err.refusal) c.index-block-i.result
+    v.failure c.loop-i-test.true c.index-block-i.is (sym c.in-Err.ensures.judged.0) c.in-Err.ensures.judged.1 in
+    c.refuse.ensures.books ∙ ap (λ B. kind.refused B c.index-block-i.result (g.E.Event.code_of c.in-Err.refusal)) back ∙ sym (ap (λ o. o.books) broken)
 
-pub returns-then-code-ne0-clause-results : goal.returns-then-code-ne0-clause-results
-returns-then-code-ne0-clause-results g c =
+pub returns-in-Err-clause-results : goal.returns-in-Err-clause-results
+returns-in-Err-clause-results g c =
     let v = c.loop-i.invariant in
     let kind = g.E.Event.kind in
-    let broken = broken-here kind (books_in c.args.rows.now) c.args.block.now c.args.time (books_in c.loop-i.rows) c.loop-i.i c.loop-i.stamp c.take_in_chain-code.result c.index-block-i.result
-    v.failure c.loop-i-test.true c.index-block-i.is c.take_in_chain-code.ensures.code c.if-code-ne0.true in
+    let broken = broken-here kind (books_in c.args.rows.now) c.args.block.now c.args.time (books_in c.loop-i.rows) c.loop-i.i c.loop-i.stamp (g.E.Event.code_of c.in-Err.refusal) c.index-block-i.result
+    v.failure c.loop-i-test.true c.index-block-i.is (sym c.in-Err.ensures.judged.0) c.in-Err.ensures.judged.1 in
     c.break_off.ensures.items ∙ (λ i. (v.results i).items ++ results_from c.args.index (sym broken i).codes)
 
 pub loop-i-preserved : goal.loop-i-preserved
 loop-i-preserved g c =
-    let t = c.take_in_chain-code.ensures in
+    let t = c.in-Ok.ensures in
     let s = t.step in
     let v = c.loop-i.invariant in
     let kind = g.E.Event.kind in
     let B = books_in c.loop-i.rows in
     let event = c.index-block-i.result in
     let block = c.args.block.now in
-    let accepted = c.if-code-ne0.false in
-    let later = failure-later kind B block c.loop-i.i c.loop-i.stamp c.take_in_chain-code.result event c.loop-i-test.true c.index-block-i.is t.code accepted in
+    let later = failure-later kind B block c.loop-i.i c.loop-i.stamp 0 event c.loop-i-test.true c.index-block-i.is (sym t.judged) refl in
     let ends = all-later kind B block c.loop-i.i c.loop-i.stamp event c.loop-i-test.true c.index-block-i.is in
-    let done = t.done accepted in
+    let done = t.done in
     record {
       failure = rw done (sym later ∙ v.failure);
       all = rw done (sym ends ∙ v.all);
@@ -100,18 +99,18 @@ returns-clause-results g c =
     let none : results_from c.args.index (block_after g.E.Event.kind (books_in c.args.rows.now) (timed_from c.args.time block)).codes ≡ [] = ap (λ o. results_from c.args.index o.codes) passed ∙ results-none c.args.index (length block) in
     ap (λ r. r.items) v.results ∙ sym (append-nil c.args.results.now.items) ∙ ap (λ rest. c.args.results.now.items ++ rest) (sym none)
 
-pub take_in_chain-code-requires-clause-timeouts_room : goal.take_in_chain-code-requires-clause-timeouts_room
-take_in_chain-code-requires-clause-timeouts_room g c =
+pub take_in_chain-requires-clause-timeouts_room : goal.take_in_chain-requires-clause-timeouts_room
+take_in_chain-requires-clause-timeouts_room g c =
     let block = c.args.block.now in
     let e = g.met.E.Event in
     let whole : length block ≡ length block + 0 = omega arith in
     let some : 1 ≤ length block - c.loop-i.i + 0 = omega (arith, c.loop-i-test.true) in
     e.fewer_timeouts 1 (length block - c.loop-i.i + 0) c.loop-i.rows.timeouts.spare c.loop-i.rows.timeouts.spare some (omega arith) (c.loop-i.invariant.timeouts_room 0 (subst (λ k. g.E.Event.HasTimeoutRoom k c.args.rows.now.timeouts.spare) whole c.requires.timeouts_room))
 
-pub returns-then-code-ne0-clause-timeouts_room : goal.returns-then-code-ne0-clause-timeouts_room
-returns-then-code-ne0-clause-timeouts_room g c = λ n all.
+pub returns-in-Err-clause-timeouts_room : goal.returns-in-Err-clause-timeouts_room
+returns-in-Err-clause-timeouts_room g c = λ n all.
     let u = c.unwind.ensures in
-    let stays = c.take_in_chain-code.ensures.refused c.if-code-ne0.true in
+    let stays = c.in-Err.ensures.refused in
     let back = c.loop-i.invariant.back c.loop-i-test.true in
     let less : n ≤ length c.args.block.now + n = omega arith in
     let same = c.refuse.ensures.timeouts ∙ u.timeouts ∙ (λ i. unwound_timeouts (stays.1 i).changes (stays.0 i).timeouts) ∙ back.undo_timeouts in

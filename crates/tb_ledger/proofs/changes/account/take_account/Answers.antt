@@ -1,4 +1,4 @@
-use Rattle.std.proofs.Common.{sym, ap, ◌∙◌}
+use Rattle.std.proofs.Common.{ap}
 use Rattle.tb_records.specs.declared.records.Account.{Account}
 use Rattle.tb_ledger.specs.Kept.{books_in}
 use Rattle.tb_ledger.proofs.Accepted.{plain_account}
@@ -6,9 +6,9 @@ use Rattle.tb_ledger.proofs.SoundLaws.{sound_account}
 use Rattle.tb_ledger.proofs.changes.account.take_account.Goals as goal
 
 pub record_account-requires-clause-sound : goal.record_account-requires-clause-sound
-record_account-requires-clause-sound g c = sound_account (books_in c.args.rows.now) c.args.a.now c.args.time c.requires.kept.sound (sym c.account_code-code.ensures ∙ c.if-code-ne0.false)
+record_account-requires-clause-sound g c = sound_account (books_in c.args.rows.now) c.args.a.now c.args.time c.requires.kept.sound c.in_ok-judge_account.ensures
 
 pub record_account-requires-clause-plain : goal.record_account-requires-clause-plain
 record_account-requires-clause-plain g c =
     let stamped : Account → Account = λ a. record a { timestamp = c.args.time } in
-    ap stamped (plain_account (books_in c.args.rows.now) c.args.a.now (sym c.account_code-code.ensures ∙ c.if-code-ne0.false))
+    ap stamped (plain_account (books_in c.args.rows.now) c.args.a.now c.in_ok-judge_account.ensures)

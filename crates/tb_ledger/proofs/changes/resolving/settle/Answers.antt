@@ -1,5 +1,6 @@
 use Rattle.std.proofs.Common.{◌≡◌, refl, sym, subst, ap, ◌∙◌, ◌==◌, find, IsSome, arith}
 use Rattle.tb_records.specs.Ordered.{put, replaced}
+use Rattle.tb_records.specs.TransferResults.{transfer_result_code}
 use Rattle.tb_ledger.specs.Books.{closing_debit, closing_credit}
 use Rattle.tb_ledger.specs.Exchanges.{row_at}
 use Rattle.tb_ledger.specs.Kept.{on_debits, on_credits, released_and_gained, accounts_released_and_gained, settled, listed, IsIndex, transfer_row_key, new_transfer_row}
@@ -7,6 +8,7 @@ use Rattle.tb_ledger.specs.Noted.{with_noted}
 use Rattle.tb_ledger.specs.declared.tables.trail.Undo.TheVariants.{Account}
 use Rattle.tb_ledger.specs.Trail.{IsMarked}
 use Rattle.tb_ledger.proofs.Passing.{noted_two}
+use Rattle.tb_ledger.proofs.Refusals.{handed_on, on_err}
 use Rattle.tb_ledger.proofs.Trails.{grows_both}
 use Rattle.tb_ledger.proofs.Settled.{refound, same_debit, same_credit, apart, at_most, debit_enough, credit_enough, fresh_still, listed_before, not_timed, index_with_resolver, books_with_resolver, ledger_with_resolver}
 use Rattle.tb_ledger.proofs.VerdictLaws.{debit_there, credit_there, closed_by_rows}
@@ -61,54 +63,56 @@ add_row-requires-clause-can_list g c is =
     let dates = rw c.row_of-row.ensures.row at is in
     absurd (cc)
 
-pub returns-in-Ok-clause-code : goal.returns-in-Ok-clause-code
-returns-in-Ok-clause-code g c =
+pub returns-clause-judged : goal.returns-clause-judged
+returns-clause-judged g c =
     let rows = c.args.rows.now in
     let p = c.args.p.now in
     let r = c.args.r.now in
-    let at = c.in-Ok.ensures.settled in
+    let at = c.in_ok-settle_accounts.ensures.settled in
     let debit = ap (λ id. row_at rows.accounts.items id) (sym (same_debit rows.accounts.items rows.transfers.items rows.failed.items rows.keeps_failed rows.timeouts.items rows.time c.requires.kept c.args.p.now c.args.r.now c.requires.found c.requires.resolves c.requires.is_resolver)) ∙ at.debit_there in
     let credit = ap (λ id. row_at rows.accounts.items id) (sym (same_credit rows.accounts.items rows.transfers.items rows.failed.items rows.keeps_failed rows.timeouts.items rows.time c.requires.kept c.args.p.now c.args.r.now c.requires.found c.requires.resolves c.requires.is_resolver)) ∙ at.credit_there in
-    closed_by_rows rows c.requires.kept r p.recorded at.debit at.credit debit credit 0 (sym at.judged)
+    sym (closed_by_rows rows c.requires.kept r p.recorded at.debit at.credit debit credit 0 (sym at.judged))
 
-pub returns-in-Err-clause-code : goal.returns-in-Err-clause-code
-returns-in-Err-clause-code g c =
+pub returns-in_err-settle_accounts-clause-judged : goal.returns-in_err-settle_accounts-clause-judged
+returns-in_err-settle_accounts-clause-judged g c =
     let rows = c.args.rows.now in
     let p = c.args.p.now in
     let r = c.args.r.now in
-    let at = c.in-Err.ensures.settled in
+    let at = c.in_err-settle_accounts.ensures.settled in
     let debit = ap (λ id. row_at rows.accounts.items id) (sym (same_debit rows.accounts.items rows.transfers.items rows.failed.items rows.keeps_failed rows.timeouts.items rows.time c.requires.kept c.args.p.now c.args.r.now c.requires.found c.requires.resolves c.requires.is_resolver)) ∙ at.debit_there in
     let credit = ap (λ id. row_at rows.accounts.items id) (sym (same_credit rows.accounts.items rows.transfers.items rows.failed.items rows.keeps_failed rows.timeouts.items rows.time c.requires.kept c.args.p.now c.args.r.now c.requires.found c.requires.resolves c.requires.is_resolver)) ∙ at.credit_there in
-    closed_by_rows rows c.requires.kept r p.recorded at.debit at.credit debit credit c.in-Err.code (sym at.judged.0)
+    let refusal = c.in_err-settle_accounts.field-0.0 in
+    let code = sym (closed_by_rows rows c.requires.kept r p.recorded at.debit at.credit debit credit (transfer_result_code refusal) (sym at.judged.0)) in
+    handed_on transfer_result_code c.from_residual.result refusal _ c.from_residual.ensures.1 (code, at.judged.1)
 
-pub returns-in-Ok-clause-kept : goal.returns-in-Ok-clause-kept
-returns-in-Ok-clause-kept g c =
+pub returns-clause-kept : goal.returns-clause-kept
+returns-clause-kept g c =
     let rows = c.args.rows.now in
     let p = c.args.p.now in
     let r = c.args.r.now in
-    let moved_on : c.settle_accounts.new.accounts.items ≡ accounts_released_and_gained p.recorded r rows.accounts.items = c.in-Ok.ensures.settled.leaves.0 ∙ ap (λ q. accounts_released_and_gained q r rows.accounts.items) c.recorded.ensures in
+    let moved_on : c.settle_accounts.new.accounts.items ≡ accounts_released_and_gained p.recorded r rows.accounts.items = c.in_ok-settle_accounts.ensures.settled.leaves.0 ∙ ap (λ q. accounts_released_and_gained q r rows.accounts.items) c.recorded.ensures in
     let closed = ap (λ v. v.items) c.close_row.ensures.transfers ∙ ap (λ s. replaced transfer_row_key (settled s p) rows.transfers.items) c.state_given-state.ensures in
     let added = ap (λ v. v.items) c.add_row.ensures.transfers ∙ ap (λ row. put transfer_row_key row c.close_row.new.transfers.items) c.row_of-row.ensures.row ∙ ap (put transfer_row_key (new_transfer_row r)) closed in
     let moved = c.add_row.ensures.timeouts ∙ ap (λ row. listed row c.close_row.new.timeouts) c.row_of-row.ensures.row ∙ ap (listed (new_transfer_row r)) c.close_row.ensures.timeouts in
     let index : IsIndex c.add_row.new.transfers.items c.add_row.new.timeouts.items = rw (moved, added) (index_with_resolver rows.accounts.items rows.transfers.items rows.failed.items rows.keeps_failed rows.timeouts.items rows.time c.requires.kept p r c.requires.found c.requires.resolves c.requires.is_resolver rows.timeouts.spare c.requires.fresh c.close_row.ensures.rising c.close_row.ensures.ordered) in
     ledger_with_resolver rows.accounts.items rows.transfers.items rows.failed.items rows.keeps_failed rows.timeouts.items rows.time c.requires.kept p r c.requires.found c.requires.resolves c.requires.is_resolver c.settle_accounts.new.accounts.items c.add_row.new.transfers.items moved_on added c.add_row.new.timeouts.items index c.close_row.ensures.rising
 
-pub returns-in-Ok-clause-books : goal.returns-in-Ok-clause-books
-returns-in-Ok-clause-books g c _ =
+pub returns-clause-books : goal.returns-clause-books
+returns-clause-books g c =
     let rows = c.args.rows.now in
     let p = c.args.p.now in
     let r = c.args.r.now in
-    let moved_on : c.settle_accounts.new.accounts.items ≡ accounts_released_and_gained p.recorded r rows.accounts.items = c.in-Ok.ensures.settled.leaves.0 ∙ ap (λ q. accounts_released_and_gained q r rows.accounts.items) c.recorded.ensures in
+    let moved_on : c.settle_accounts.new.accounts.items ≡ accounts_released_and_gained p.recorded r rows.accounts.items = c.in_ok-settle_accounts.ensures.settled.leaves.0 ∙ ap (λ q. accounts_released_and_gained q r rows.accounts.items) c.recorded.ensures in
     let closed = ap (λ v. v.items) c.close_row.ensures.transfers ∙ ap (λ s. replaced transfer_row_key (settled s p) rows.transfers.items) c.state_given-state.ensures in
     let added = ap (λ v. v.items) c.add_row.ensures.transfers ∙ ap (λ row. put transfer_row_key row c.close_row.new.transfers.items) c.row_of-row.ensures.row ∙ ap (put transfer_row_key (new_transfer_row r)) closed in
     books_with_resolver rows.accounts.items rows.transfers.items rows.failed.items rows.keeps_failed rows.timeouts.items rows.time c.requires.kept p r c.requires.found c.requires.resolves c.requires.is_resolver c.settle_accounts.new.accounts.items c.add_row.new.transfers.items moved_on added
 
-pub returns-in-Ok-clause-step : goal.returns-in-Ok-clause-step
-returns-in-Ok-clause-step g c =
+pub returns-clause-step : goal.returns-clause-step
+returns-clause-step g c =
     let rows = c.args.rows.now in
     let p = c.args.p.now.recorded in
     let r = c.args.r.now in
-    let has = c.in-Ok.ensures.settled in
+    let has = c.in_ok-settle_accounts.ensures.settled in
     let d = has.debit in
     let k = has.credit in
     let mid = with_noted (Account d) c.args.trail.now in
@@ -133,5 +137,5 @@ returns-in-Ok-clause-step g c =
       });
     }
 
-pub returns-in-Err-clause-refused : goal.returns-in-Err-clause-refused
-returns-in-Err-clause-refused g c _ = ((λ i. record c.args.rows.now { accounts = record { items = c.in-Err.ensures.settled.leaves.0 i; spare = c.settle_accounts.ensures.room i } }), c.in-Err.ensures.settled.leaves.1)
+pub returns-in_err-settle_accounts-clause-refused : goal.returns-in_err-settle_accounts-clause-refused
+returns-in_err-settle_accounts-clause-refused g c = on_err _ c.from_residual.result ((λ i. record c.args.rows.now { accounts = record { items = c.in_err-settle_accounts.ensures.settled.leaves.0 i; spare = c.settle_accounts.ensures.room i } }), c.in_err-settle_accounts.ensures.settled.leaves.1)

@@ -1,5 +1,6 @@
 use Rattle.std.proofs.Common.{◌≡◌, true, refl, option_map, sym, ap, ◌∙◌, arith}
 use Rattle.tb_records.specs.Ordered.{put}
+use Rattle.tb_records.specs.TransferResults.{transfer_result_code}
 use Rattle.tb_ledger.specs.Books.{account_now}
 use Rattle.tb_ledger.specs.Exchanges.{as_recorded}
 use Rattle.tb_ledger.specs.Noted.{with_noted}
@@ -10,28 +11,32 @@ use Rattle.tb_ledger.specs.Verdicts.{first_of, single_own_lines, transfer_verdic
 use Rattle.tb_ledger.proofs.Accepted.{new_transfer, accounts_apart}
 use Rattle.tb_ledger.proofs.Index.{not_listed_yet, index_added}
 use Rattle.tb_ledger.proofs.Passing.{noted_passed}
+use Rattle.tb_ledger.proofs.Refusals.{handed_on, on_err}
 use Rattle.tb_ledger.proofs.Trails.{grows_both}
 use Rattle.tb_ledger.proofs.Settled.{no_row, books_with_single, ledger_with_single}
 use Rattle.tb_ledger.proofs.VerdictLaws.{account_stands, single_verdict, verdict_by_rows, balanced_found, recorded_pair, own_refused, recorded_single}
 use Rattle.tb_ledger.proofs.changes.single.take_single.Goals as goal
 
-pub returns-then-code-ne0-clause-code : goal.returns-then-code-ne0-clause-code
-returns-then-code-ne0-clause-code g c =
+pub returns-in_err-single_own-clause-judged : goal.returns-in_err-single_own-clause-judged
+returns-in_err-single_own-clause-judged g c =
     let B = books_in c.args.rows.now in
     let t = c.args.t.now in
-    sym (single_verdict B t c.args.time c.requires.free c.requires.single ∙ own_refused B t c.args.time c.single_own-code.result c.single_own-code.ensures c.if-code-ne0.true)
+    let judged = c.in_err-single_own.ensures in
+    let refusal = c.in_err-single_own.field-0.0 in
+    let code = single_verdict B t c.args.time c.requires.free c.requires.single ∙ own_refused B t c.args.time (transfer_result_code refusal) (sym judged.0) judged.1 in
+    handed_on transfer_result_code c.from_residual.result refusal _ c.from_residual.ensures.1 (code, judged.1)
 
 pub add_row-requires-clause-fresh : goal.add_row-requires-clause-fresh
 add_row-requires-clause-fresh g c =
     let rows = c.args.rows.now in
     let B = books_in rows in
     let t = c.args.t.now in
-    let own : first_of (single_own_lines t) ≡ 0 = sym c.single_own-code.ensures ∙ c.if-code-ne0.false in
-    let amount_is = c.in-Ok.amount in
-    let ex = c.in-Ok.ensures.exchanged.1 in
+    let own : first_of (single_own_lines t) ≡ 0 = c.in_ok-single_own.ensures in
+    let amount_is = c.in_ok-amount.amount in
+    let ex = c.in_ok-amount.ensures.exchanged.1 in
     let debit = account_stands rows c.requires.kept t.debit_account_id ∙ ap (option_map row_now) ex.debit_there in
     let credit = account_stands rows c.requires.kept t.credit_account_id ∙ ap (option_map row_now) ex.credit_there in
-    let verdict : transfer_verdict B t c.args.time ≡ 0 = verdict_by_rows rows c.requires.kept t c.args.time c.requires.free c.requires.single own ∙ c.in-Ok.ensures.exchanged.0 in
+    let verdict : transfer_verdict B t c.args.time ≡ 0 = verdict_by_rows rows c.requires.kept t c.args.time c.requires.free c.requires.single own ∙ c.in_ok-amount.ensures.exchanged.0 in
     let amount : amount_is ≡ balanced_between (account_now B t.debit_account_id) (account_now B t.credit_account_id) t = ex.balanced ∙ balanced_found B t (row_now ex.debit) (row_now ex.credit) debit credit in
     let moves = recorded_pair B t c.args.time amount_is c.requires.single verdict amount in
     let recorded = as_recorded t amount_is c.args.time in
@@ -44,12 +49,12 @@ add_row-requires-clause-can_list g c =
     let rows = c.args.rows.now in
     let B = books_in rows in
     let t = c.args.t.now in
-    let own : first_of (single_own_lines t) ≡ 0 = sym c.single_own-code.ensures ∙ c.if-code-ne0.false in
-    let amount_is = c.in-Ok.amount in
-    let ex = c.in-Ok.ensures.exchanged.1 in
+    let own : first_of (single_own_lines t) ≡ 0 = c.in_ok-single_own.ensures in
+    let amount_is = c.in_ok-amount.amount in
+    let ex = c.in_ok-amount.ensures.exchanged.1 in
     let debit = account_stands rows c.requires.kept t.debit_account_id ∙ ap (option_map row_now) ex.debit_there in
     let credit = account_stands rows c.requires.kept t.credit_account_id ∙ ap (option_map row_now) ex.credit_there in
-    let verdict : transfer_verdict B t c.args.time ≡ 0 = verdict_by_rows rows c.requires.kept t c.args.time c.requires.free c.requires.single own ∙ c.in-Ok.ensures.exchanged.0 in
+    let verdict : transfer_verdict B t c.args.time ≡ 0 = verdict_by_rows rows c.requires.kept t c.args.time c.requires.free c.requires.single own ∙ c.in_ok-amount.ensures.exchanged.0 in
     let amount : amount_is ≡ balanced_between (account_now B t.debit_account_id) (account_now B t.credit_account_id) t = ex.balanced ∙ balanced_found B t (row_now ex.debit) (row_now ex.credit) debit credit in
     let moves = recorded_pair B t c.args.time amount_is c.requires.single verdict amount in
     let recorded = as_recorded t amount_is c.args.time in
@@ -62,39 +67,39 @@ add_row-requires-clause-can_list g c =
     } in
     rw c.row_of-row.ensures.row can
 
-pub returns-in-Ok-clause-code : goal.returns-in-Ok-clause-code
-returns-in-Ok-clause-code g c =
-    let own : first_of (single_own_lines c.args.t.now) ≡ 0 = sym c.single_own-code.ensures ∙ c.if-code-ne0.false in
-    sym (verdict_by_rows c.args.rows.now c.requires.kept c.args.t.now c.args.time c.requires.free c.requires.single own ∙ c.in-Ok.ensures.exchanged.0)
+pub returns-clause-judged : goal.returns-clause-judged
+returns-clause-judged g c =
+    let own : first_of (single_own_lines c.args.t.now) ≡ 0 = c.in_ok-single_own.ensures in
+    verdict_by_rows c.args.rows.now c.requires.kept c.args.t.now c.args.time c.requires.free c.requires.single own ∙ c.in_ok-amount.ensures.exchanged.0
 
-pub returns-in-Ok-clause-done : goal.returns-in-Ok-clause-done
-returns-in-Ok-clause-done g c _ =
+pub returns-clause-done : goal.returns-clause-done
+returns-clause-done g c =
     let rows = c.args.rows.now in
     let B = books_in rows in
     let t = c.args.t.now in
-    let own : first_of (single_own_lines t) ≡ 0 = sym c.single_own-code.ensures ∙ c.if-code-ne0.false in
-    let amount_is = c.in-Ok.amount in
-    let ex = c.in-Ok.ensures.exchanged.1 in
+    let own : first_of (single_own_lines t) ≡ 0 = c.in_ok-single_own.ensures in
+    let amount_is = c.in_ok-amount.amount in
+    let ex = c.in_ok-amount.ensures.exchanged.1 in
     let debit = account_stands rows c.requires.kept t.debit_account_id ∙ ap (option_map row_now) ex.debit_there in
     let credit = account_stands rows c.requires.kept t.credit_account_id ∙ ap (option_map row_now) ex.credit_there in
-    let verdict : transfer_verdict B t c.args.time ≡ 0 = verdict_by_rows rows c.requires.kept t c.args.time c.requires.free c.requires.single own ∙ c.in-Ok.ensures.exchanged.0 in
+    let verdict : transfer_verdict B t c.args.time ≡ 0 = verdict_by_rows rows c.requires.kept t c.args.time c.requires.free c.requires.single own ∙ c.in_ok-amount.ensures.exchanged.0 in
     let amount : amount_is ≡ balanced_between (account_now B t.debit_account_id) (account_now B t.credit_account_id) t = ex.balanced ∙ balanced_found B t (row_now ex.debit) (row_now ex.credit) debit credit in
     let recorded = as_recorded t amount_is c.args.time in
     let added : c.add_row.new.transfers.items ≡ put transfer_row_key (new_transfer_row recorded) rows.transfers.items = ap (λ v. v.items) c.add_row.ensures.transfers ∙ ap (λ row. put transfer_row_key row rows.transfers.items) c.row_of-row.ensures.row in
     books_with_single rows.accounts.items rows.transfers.items rows.failed.items rows.keeps_failed rows.timeouts.items rows.time c.requires.kept recorded c.exchange.new.accounts.items c.add_row.new.transfers.items ex.written added
     ∙ ap (λ r. record B { transfers = put transfer_key r B.transfers }) (sym (recorded_single B t c.args.time amount_is c.requires.single amount))
 
-pub returns-in-Ok-clause-kept : goal.returns-in-Ok-clause-kept
-returns-in-Ok-clause-kept g c =
+pub returns-clause-kept : goal.returns-clause-kept
+returns-clause-kept g c =
     let rows = c.args.rows.now in
     let B = books_in rows in
     let t = c.args.t.now in
-    let own : first_of (single_own_lines t) ≡ 0 = sym c.single_own-code.ensures ∙ c.if-code-ne0.false in
-    let amount_is = c.in-Ok.amount in
-    let ex = c.in-Ok.ensures.exchanged.1 in
+    let own : first_of (single_own_lines t) ≡ 0 = c.in_ok-single_own.ensures in
+    let amount_is = c.in_ok-amount.amount in
+    let ex = c.in_ok-amount.ensures.exchanged.1 in
     let debit = account_stands rows c.requires.kept t.debit_account_id ∙ ap (option_map row_now) ex.debit_there in
     let credit = account_stands rows c.requires.kept t.credit_account_id ∙ ap (option_map row_now) ex.credit_there in
-    let verdict : transfer_verdict B t c.args.time ≡ 0 = verdict_by_rows rows c.requires.kept t c.args.time c.requires.free c.requires.single own ∙ c.in-Ok.ensures.exchanged.0 in
+    let verdict : transfer_verdict B t c.args.time ≡ 0 = verdict_by_rows rows c.requires.kept t c.args.time c.requires.free c.requires.single own ∙ c.in_ok-amount.ensures.exchanged.0 in
     let amount : amount_is ≡ balanced_between (account_now B t.debit_account_id) (account_now B t.credit_account_id) t = ex.balanced ∙ balanced_found B t (row_now ex.debit) (row_now ex.credit) debit credit in
     let moves = recorded_pair B t c.args.time amount_is c.requires.single verdict amount in
     let recorded = as_recorded t amount_is c.args.time in
@@ -110,13 +115,13 @@ returns-in-Ok-clause-kept g c =
     let index : IsIndex c.add_row.new.transfers.items c.add_row.new.timeouts.items = rw (listed_is, added) (index_added rows.transfers.items rows.timeouts c.requires.kept.index (new_transfer_row recorded) fresh can) in
     ledger_with_single rows.accounts.items rows.transfers.items rows.failed.items rows.keeps_failed rows.timeouts.items rows.time c.requires.kept recorded c.exchange.new.accounts.items c.add_row.new.transfers.items ex.written added c.add_row.new.timeouts.items new c.requires.single c.requires.stamped moves index
 
-pub returns-in-Ok-clause-step : goal.returns-in-Ok-clause-step
-returns-in-Ok-clause-step g c =
+pub returns-clause-step : goal.returns-clause-step
+returns-clause-step g c =
     let rows = c.args.rows.now in
     let t = c.args.t.now in
-    let amount_is = c.in-Ok.amount in
-    let ex = c.in-Ok.ensures.exchanged.1 in
-    let apart = accounts_apart t (sym c.single_own-code.ensures ∙ c.if-code-ne0.false) in
+    let amount_is = c.in_ok-amount.amount in
+    let ex = c.in_ok-amount.ensures.exchanged.1 in
+    let apart = accounts_apart t c.in_ok-single_own.ensures in
     let noted = noted_passed (as_recorded t amount_is c.args.time) ex.debit ex.credit rows.accounts.items c.exchange.new.accounts.items c.args.trail.now (with_noted (Account ex.debit) c.args.trail.now) c.exchange.new.trail refl (ex.notes (omega (arith, c.requires.trail_room))) apart ex.debit_there ex.credit_there ex.written in
     record {
       failed = refl;
@@ -130,10 +135,12 @@ returns-in-Ok-clause-step g c =
       });
     }
 
-pub returns-in-Err-clause-code : goal.returns-in-Err-clause-code
-returns-in-Err-clause-code g c =
-    let own : first_of (single_own_lines c.args.t.now) ≡ 0 = sym c.single_own-code.ensures ∙ c.if-code-ne0.false in
-    sym (verdict_by_rows c.args.rows.now c.requires.kept c.args.t.now c.args.time c.requires.free c.requires.single own ∙ c.in-Err.ensures.exchanged.0.0)
+pub returns-in_err-amount-clause-judged : goal.returns-in_err-amount-clause-judged
+returns-in_err-amount-clause-judged g c =
+    let own : first_of (single_own_lines c.args.t.now) ≡ 0 = c.in_ok-single_own.ensures in
+    let judged = c.in_err-amount.ensures.exchanged.0 in
+    let code = verdict_by_rows c.args.rows.now c.requires.kept c.args.t.now c.args.time c.requires.free c.requires.single own ∙ judged.0 in
+    handed_on transfer_result_code c.from_residual-in_err-amount.result c.in_err-amount.field-0.0 _ c.from_residual-in_err-amount.ensures.1 (code, judged.1)
 
-pub returns-in-Err-clause-refused : goal.returns-in-Err-clause-refused
-returns-in-Err-clause-refused g c _ = ((λ i. record c.args.rows.now { accounts = record { items = c.in-Err.ensures.exchanged.1.0 i; spare = c.exchange.ensures.room i } }), c.in-Err.ensures.exchanged.1.1)
+pub returns-in_err-amount-clause-refused : goal.returns-in_err-amount-clause-refused
+returns-in_err-amount-clause-refused g c = on_err _ c.from_residual-in_err-amount.result ((λ i. record c.args.rows.now { accounts = record { items = c.in_err-amount.ensures.exchanged.1.0 i; spare = c.exchange.ensures.room i } }), c.in_err-amount.ensures.exchanged.1.1)
