@@ -118,9 +118,9 @@ pub(crate) fn enter(
     ensures entered { EntersPair result machine.old machine.new (moment, request) }
     ensures lawful { IsLawful request }
 {
-    let entry = machine
-        .next_entry(request, moment)
-        .ok_or(RunFault::TimeExhausted)?;
+    let Some(entry) = machine.next_entry(request, moment) else {
+        return Err(RunFault::TimeExhausted);
+    };
     machine.enter(entry).map_err(|_| RunFault::NoMemory)
 }
 
@@ -155,9 +155,9 @@ fn answer_new<W: Sink>(
     ensures { Turns result machine.old machine.new (moment, request) (W.output writer.old)
         (W.output writer.new) }
 {
-    let entry = machine
-        .next_entry(request, moment)
-        .ok_or(RunFault::TimeExhausted)?;
+    let Some(entry) = machine.next_entry(request, moment) else {
+        return Err(RunFault::TimeExhausted);
+    };
     match machine.enter_and_tell(writer, entry) {
         Ok(Ok(())) => Ok(()),
         Ok(Err(fault)) => Err(RunFault::Frame(fault)),
