@@ -108,7 +108,7 @@ pub fn status_of(class: Class) -> Status
     }
 }
 
-/// Enters a new request that comes at a moment. The time is found before any room is made.
+/// Enters a new request that comes at a moment. The time is found before any memory is taken.
 pub(crate) fn enter(
     machine: &mut Machine<Global>,
     moment: u64,
