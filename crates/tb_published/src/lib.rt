@@ -2,6 +2,7 @@
 //! from two copies of what follows it, each through a seat of its own, without a lock.
 #![tactic(auto)]
 
+mod copies;
 mod entering;
 mod faults;
 mod front;
@@ -17,14 +18,12 @@ mod replica;
 mod rule;
 mod seat;
 mod told;
-mod turning;
 
 pub use faults::{OpenFault, SeatFault, TakeFault, Taken};
-pub use front::Opening;
 pub use holder::Held;
 pub use limits::SeatCount;
 pub use naming::Naming;
-pub use opening::open;
+pub use opening::{Opening, open};
 pub use publisher::Publisher;
 pub use seat::Seat;
 pub use told::Told;
