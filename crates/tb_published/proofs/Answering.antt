@@ -1,5 +1,5 @@
 -- What a class says of the answer after a legal history.
-use Rattle.std.proofs.Common.{◌≡◌, true, List, ◌∷◌, ◌++◌, append_assoc, Option, Some, None, refl, sym, ap, ◌∙◌, subst, Result, Ok, Err, IfOk, is_none}
+use Rattle.std.proofs.Common.{◌≡◌, true, List, ◌∷◌, ◌++◌, append_assoc, Option, Some, None, refl, sym, ap, ◌∙◌, subst, Result, Ok, Err, MatchResult, IfOk, IsErrAnd, is_none}
 use Rattle.tb_records.specs.declared.replies.Status.TheVariants as status
 use Rattle.tb_records.specs.Messages.{Message, Answer, IsLawful, is_register}
 use Rattle.tb_sessions.specs.declared.rows.Row.{Row}
@@ -7,7 +7,7 @@ use Rattle.tb_sessions.specs.declared.classes.Class.{Class}
 use Rattle.tb_sessions.specs.declared.classes.Class.TheVariants.{New, Repeat, NoSession, SessionTooLow, NewerSession, Older, Collision, NewerRequest}
 use Rattle.tb_sessions.specs.Judged.{row_of, class_of}
 use Rattle.tb_machine.specs.declared.entries.Entry.{Entry}
-use Rattle.tb_machine.specs.Histories.{State, answer_by, answer_to, status_of}
+use Rattle.tb_machine.specs.Histories.{answer_by, answer_to, status_of}
 use Rattle.tb_machine.proofs.Rows.{row_found}
 use Rattle.tb_machine.proofs.Judging.{repeat_by}
 use Rattle.tb_machine.proofs.Reached.{Stands, reached}
@@ -38,10 +38,16 @@ status_is o h r legal = status_by (class_of (after_in o h).rows r) (row_of (afte
         (by.0, by.1, ap (λ (row : Row). row.reply.status) found.0.is)
 
 -- an answer to a lawful request tells which entry holds it
-pub answers_ok : {E : Type 0} (o : Opening) (h : List Entry) (r : Message) (S : State) (result : Result Answer E) → S ≡ after_in o h → LegalIn o h → IsLawful r
-    → IfOk result (λ (a : Answer). a ≡ answer_to S r) → IfOk result (λ (a : Answer). AnswersIn o h r a)
-answers_ok o h r S (Ok a) state legal lawful is = answers o.profile o.clients_max h r a legal (ap is_none lawful) (is ∙ ap (λ (T : State). answer_to T r) state)
-answers_ok o h r S (Err e) state legal lawful is = tt
+pub answers_ok : {E : Type 0} (o : Opening) (h : List Entry) (r : Message) (result : Result Answer E) → LegalIn o h → IsLawful r
+    → IfOk result (λ (a : Answer). a ≡ answer_to (after_in o h) r) → IfOk result (λ (a : Answer). LegalIn o h × AnswersIn o h r a)
+answers_ok o h r (Ok a) legal lawful is = (legal, answers o.profile o.clients_max h r a legal (ap is_none lawful) is)
+answers_ok o h r (Err e) legal lawful is = tt
+
+-- what holds of a value holds of it where an error is given another name
+pub renamed : {A E F : Type 0} (r : Result A E) (s : Result A F) (P : A → Type 0) (Q : E → F → Type 0) → MatchResult r (λ x. s ≡ Ok x) (λ e. IsErrAnd s (Q e)) → IfOk r P → IfOk s P
+renamed {A} {E} {F} (Ok x) s P Q is holds = subst (λ (t : Result A F). IfOk t P) (sym is) holds
+renamed (Err e) (Ok x) P Q is holds = absurd is
+renamed (Err e) (Err f) P Q is holds = tt
 
 -- only a new request is answered by NotYet
 new_of : (class : Class) → status_of class ≡ status.NotYet → class ≡ New

@@ -1,5 +1,5 @@
 -- The table of a request that is entered, from what its calls answer.
-use Rattle.std.proofs.Common.{◌≡◌, inl, inr, length, length-append, ℕ, ◌+◌, max, true, List, [], ◌∷◌, ◌++◌, Option, Result, Ok, Err, is_none, refl, sym, ap, ◌∙◌, subst, arith, IsTrue, leb-true}
+use Rattle.std.proofs.Common.{◌≡◌, inl, inr, length, length-append, ℕ, ◌+◌, max, true, List, [], ◌∷◌, ◌++◌, Result, Ok, Err, is_none, refl, sym, ap, ◌∙◌, subst, arith, IsTrue, leb-true}
 use Rattle.tb_records.specs.Messages.{Message, IsLawful}
 use Rattle.tb_ledger.specs.Verdicts.{max_time}
 use Rattle.tb_sessions.specs.declared.classes.Class.TheVariants.{New}
@@ -17,7 +17,7 @@ use Rattle.tb_published.specs.declared.faults.TakeFault.{TakeFault}
 use Rattle.tb_published.specs.declared.faults.TakeFault.TheVariants as fault
 use Rattle.tb_published.specs.Entering.{EntersBy}
 use Rattle.tb_published.specs.Lines.{Opening, LegalIn, after_in, Line}
-use Rattle.tb_published.specs.Orders.{Order}
+use Rattle.tb_published.specs.Orders.{TwoCopies}
 use Rattle.tb_published.specs.Taking.{Enters, Takes, ShowsAll}
 use Rattle.tb_published.specs.Ties.{Ties}
 use Rattle.tb_published.proofs.Prefixes.{prefix_trans, prefix_whole}
@@ -46,24 +46,24 @@ module _ (o : Opening) (h : List Entry) (r : Message) (now : ℕ) where
       entered (Err (fault.Unpublished c)) by = by
 
 -- what a publisher keeps, with the entry or without it
-module _ {o : Opening} {h : List Entry} {S : State} {offered shown : Line} {known : Option Line} {orders : List Order} where
-  tied_new : (e : Entry) (T : State) (m : List Entry) → Ties o h S offered shown known orders → IsTrue (fits S e) → T ≡ step S e → m ≡ h ++ e ∷ [] → Ties o m T offered shown known orders
+module _ {o : Opening} {h : List Entry} {S : State} {offered : Line} {copies : TwoCopies} where
+  tied_new : (e : Entry) (T : State) (m : List Entry) → Ties o h S offered copies → IsTrue (fits S e) → T ≡ step S e → m ≡ h ++ e ∷ [] → Ties o m T offered copies
   tied_new e T m t next state grown = record {
     legal = subst (LegalIn o) (sym grown) (legal_snoc o.profile o.clients_max h e t.legal (subst (λ (T : State). IsTrue (fits T e)) t.machine_is next));
     machine_is = state ∙ (ap (λ (T : State). step T e) t.machine_is ∙ (sym (after_snoc o.profile o.clients_max h e) ∙ ap (after_in o) (sym grown)));
     named = t.named;
     offered_is = prefix_trans offered.list h m t.offered_is (e ∷ [], sym grown);
-    known_is = t.known_is;
+    seen_is = t.seen_is;
     follows = t.follows;
     leads = t.leads;
   }
 
-  tied_same : (T : State) (m : List Entry) → Ties o h S offered shown known orders → T ≡ S → m ≡ h → Ties o m T offered shown known orders
+  tied_same : (T : State) (m : List Entry) → Ties o h S offered copies → T ≡ S → m ≡ h → Ties o m T offered copies
   tied_same T m t state same =
-      subst (λ (m : List Entry). Ties o m T offered shown known orders) (sym same) (subst (λ (T : State). Ties o h T offered shown known orders) (sym state) t)
+      subst (λ (m : List Entry). Ties o m T offered copies) (sym same) (subst (λ (T : State). Ties o h T offered copies) (sym state) t)
 
-  pub tied_by : (r : Message) (now : ℕ) (result : Result Taken TakeFault) (T : State) (m : List Entry) → Ties o h S offered shown known orders → IsLawful r
-      → EntersBy S h r now result T m → Ties o m T offered shown known orders
+  pub tied_by : (r : Message) (now : ℕ) (result : Result Taken TakeFault) (T : State) (m : List Entry) → Ties o h S offered copies → IsLawful r
+      → EntersBy S h r now result T m → Ties o m T offered copies
   tied_by r now (Ok (taken.Committed c)) T m t lawful by = tied_new (entry_of S (now, r)) T m t (fits_new S now r (entry_of S (now, r)) lawful by.0 by.1 refl) by.3 by.4
   tied_by r now (Ok (taken.Repeat c)) T m t lawful by = tied_same T m t by.1 by.2
   tied_by r now (Ok (taken.Refused s)) T m t lawful by = tied_same T m t by.1 by.2

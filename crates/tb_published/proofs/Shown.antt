@@ -6,7 +6,7 @@ use Rattle.crossbeam_utils.specs.Register.{Admits, Turns, TurnsAt, Forks, Merges
 use Rattle.atomic_table.proofs.Lists.{at_set, at_snoc}
 use Rattle.tb_published.specs.Lines.{Line, Begins, with_entry}
 use Rattle.tb_published.specs.Orders.{Order, absorbed, Follows, line_after}
-use Rattle.tb_published.specs.Sharing.{Shows, Sees}
+use Rattle.tb_published.specs.Sharing.{Shows, Sees, Swapped}
 use Rattle.tb_published.proofs.Prefixes.{prefix_self, prefix_trans, prefix_shorter}
 
 -- beginnings
@@ -92,14 +92,17 @@ line_begins l (o ∷ os) follows =
     (subst (λ (m : Line). Begins l m) (sym follows.0) (refl, (o.entry ∷ [], refl)))
     (line_begins o.front os follows.1)
 
--- a publish of them
+-- a swap of copies with them
 pub turns : (seat : ℕ) (v : Option Line) (l : Line) (os : List Order) → Follows l os → (next : Line) → next ≡ fold absorbed l os → TurnsAt Shows seat v l next Sees
 turns seat v l os follows next is = sees seat v l next (subst (λ (m : Line). Begins l m) (sym (is ∙ absorb_all l os follows)) (line_begins l os follows))
 
--- what a publish leaves
-pub turned : {E : Type 0} (result : Result (Unit {0}) E) (v : Option Line) (l : Line) (os : List Order) (w : Option Line) (m : Line) (left : List Order) → Follows l os
+-- what a swap leaves
+pub swapped : {E : Type 0} (result : Result (Unit {0}) E) (l : Line) (os : List Order) (v : Option Line) (m : Line) (left : List Order) (w : Option Line) → Follows l os
     → MatchResult result (λ _. (m ≡ fold absorbed l os) × (left ≡ [])) (λ _. (m ≡ l) × (left ≡ os))
     → MatchResult result (λ _. Sees v l m w) (λ _. w ≡ v)
-    → MatchResult result (λ _. (m ≡ line_after l os) × (left ≡ []) × (w ≡ Some m)) (λ _. (m ≡ l) × (left ≡ os) × (w ≡ v))
-turned (Ok done) v l os w m left follows values rule = (values.0 ∙ absorb_all l os follows, values.1, rule.0)
-turned (Err e) v l os w m left follows values rule = (values.0, values.1, rule)
+    → Swapped result (record { shown = l; orders = os; seen = v }) (record { shown = m; orders = left; seen = w })
+swapped (Ok done) l os v m left w follows values rule =
+    let is : m ≡ line_after l os = values.0 ∙ absorb_all l os follows in
+    let seen : w ≡ Some (line_after l os) = rule.0 ∙ ap Some is in
+    λ i. record { shown = is i; orders = values.1 i; seen = seen i }
+swapped (Err e) l os v m left w follows values rule = λ i. record { shown = values.0 i; orders = values.1 i; seen = rule i }

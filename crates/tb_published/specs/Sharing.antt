@@ -1,9 +1,9 @@
 -- The rule that the copies and their readers keep.
-use Rattle.std.specs.Prelude.{ℕ, ◌≡◌, List, [], Option, Some, IfSome, Result, MatchResult}
+use Rattle.std.specs.Prelude.{ℕ, ◌≡◌, List, Option, Some, IfSome, Result, MatchResult}
 use mathlib.Core.Option.{some}
 use lib.ListN.{get_elem?}
 use Rattle.tb_published.specs.Lines.{Opening, LegalIn, Line, Begins}
-use Rattle.tb_published.specs.Orders.{Order, line_after}
+use Rattle.tb_published.specs.Orders.{TwoCopies, line_after, showing}
 
 -- what the copies show begins with all that any reader and the writer have seen
 abbrev pub Shows : Line → List (Option Line) → Type 0
@@ -24,6 +24,6 @@ pub record Looked (o : Opening) (v : Option Line) (front shown : Line) : Type 0 
   pub named : shown.opening ≡ o
   pub legal : LegalIn o shown.list
 
--- what a publish of orders leaves: the copies show the line after them, which the writer has seen, or all is as it was
-abbrev pub Turned : {E : Type 0} → Result (Unit {0}) E → Line → List Order → Option Line → Line → List Order → Option Line → Type 0
-Turned result l os v m left w = MatchResult result (λ _. (m ≡ line_after l os) × (left ≡ []) × (w ≡ Some m)) (λ _. (m ≡ l) × (left ≡ os) × (w ≡ v))
+-- what a swap leaves: the copies show the line after their orders, or all is as it was
+abbrev pub Swapped : {E : Type 0} → Result (Unit {0}) E → TwoCopies → TwoCopies → Type 0
+Swapped result before after = MatchResult result (λ _. after ≡ showing (line_after before.shown before.orders)) (λ _. after ≡ before)

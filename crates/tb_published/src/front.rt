@@ -1,6 +1,6 @@
 //! Beginnings of a history as tokens: each tells how many entries it has, and the entries themselves to proofs alone.
 ghost use Rattle.std.specs.Prelude.{◌≡◌, ◌+◌, ◌<◌, ◌^◌, [], length, IsTrue, IfSome, MatchBool};
-ghost use Rattle.tb_published.specs.Lines.{LegalIn, state_of, line, with_entry, Begins, longer};
+ghost use Rattle.tb_published.specs.Lines.{LegalIn, state_of, with_entry, Begins, longer};
 ghost use Rattle.tb_published.specs.Counting.{head_of};
 ghost use Rattle.tb_machine.specs.Histories.{fits};
 
@@ -180,6 +180,25 @@ impl Model for Chronicle {
 }
 
 impl Chronicle {
+    /// The chronicle of an empty history that is to keep these rules. It takes no memory.
+    pub fn new(profile: Profile, clients_max: ClientsMax) -> Chronicle
+        ensures rules { (result.opening.profile ≡ profile)
+            × (result.opening.clients_max ≡ clients_max) }
+        ensures empty { result.list ≡ [] }
+    {
+        let (seen, mut first, _second) = Seen::open(Start::alone(), 0, 0);
+        let front = Front {
+            profile,
+            clients_max,
+            count: 0,
+            seen,
+        };
+        Chronicle {
+            head: Word::tracked(0, &mut first),
+            front,
+        }
+    }
+
     /// The front of all entries.
     pub fn front(&self) -> &Front
         ensures { result.now ≡ self.now }
@@ -200,58 +219,5 @@ impl Chronicle {
             }
             None => false,
         }
-    }
-}
-
-/// An opening before it has its name: the rules that its history is to keep. Contracts see it as the opening.
-#[derive(Drop)]
-pub struct Opening {
-    chronicle: Chronicle,
-}
-
-impl Model for Opening {
-    ghost use Rattle.std.specs.Prelude.{◌≡◌, []};
-    ghost use Rattle.tb_published.specs.Lines.{Opening};
-
-    ghost Value = { Opening };
-
-    ghost view = { λ o. o.chronicle.opening };
-
-    ghost invariant = { λ o. o.chronicle.list ≡ [] };
-}
-
-impl Opening {
-    /// An opening by these rules. It takes no memory.
-    pub fn new(profile: Profile, clients_max: ClientsMax) -> Opening
-        ensures { (result.profile ≡ profile) × (result.clients_max ≡ clients_max) }
-    {
-        let (seen, mut first, _second) = Seen::open(Start::alone(), 0, 0);
-        let front = Front {
-            profile,
-            clients_max,
-            count: 0,
-            seen,
-        };
-        Opening {
-            chronicle: Chronicle {
-                head: Word::tracked(0, &mut first),
-                front,
-            },
-        }
-    }
-
-    /// The rules.
-    pub(crate) fn rules(&self) -> (Profile, ClientsMax)
-        ensures { (result.0 ≡ self.now.profile) × (result.1 ≡ self.now.clients_max) }
-    {
-        self.chronicle.front.rules()
-    }
-
-    /// The chronicle of its empty history.
-    pub(crate) fn into_chronicle(self) -> Chronicle
-        ensures { result ≡ line self [] }
-    {
-        let Opening { chronicle } = self;
-        chronicle
     }
 }

@@ -7,21 +7,22 @@
 //! - `limits`: `SeatCount`.
 //! - `faults`: what became of a request that was taken, why a call is refused.
 //! - `front`: `Front`, a prefix of the history as a token over a book that counts entries; `Chronicle`, the head of the
-//!   history, which alone adds to it; `Opening`.
+//!   history, which alone adds to it.
 //! - `replica`: `Replica`, a copy, which is a machine and a front; `Posted`, what the writer hands to the copies.
 //! - `rule`: the rule of the copies: all that any reader has seen is a prefix of what is shown.
 //! - `looking`: how a reader looks at the copy that is shown.
 //! - `entering`: how the writer judges a request by its own machine, and enters it.
 //! - `offering`: the next entry, made ready for the copies.
-//! - `turning`: how the copies begin, take in what was offered, and are swapped.
+//! - `copies`: `Copies`, the two copies: how they begin, take in what was offered, and are swapped.
 //! - `seat`: `Seat`, what a client thread reads through.
 //! - `told`: `Told`, what the publisher tells seats.
 //! - `publisher`: `Publisher`, the one writer.
 //! - `holder`: `Held`, a publisher that closes when it is dropped.
-//! - `opening`: `open`, a publisher and its seats.
+//! - `opening`: `Opening`, by which rules a publisher begins; `open`, a publisher and its seats.
 //! - `laws`: what follows of what seats have seen: functions that do nothing.
 #![tactic(auto)]
 
+mod copies;
 mod entering;
 mod faults;
 mod front;
@@ -37,14 +38,12 @@ mod replica;
 mod rule;
 mod seat;
 mod told;
-mod turning;
 
 pub use faults::{OpenFault, SeatFault, TakeFault, Taken};
-pub use front::Opening;
 pub use holder::Held;
 pub use limits::SeatCount;
 pub use naming::Naming;
-pub use opening::open;
+pub use opening::{Opening, open};
 pub use publisher::Publisher;
 pub use seat::Seat;
 pub use told::Told;

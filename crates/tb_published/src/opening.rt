@@ -1,14 +1,60 @@
 //! How an opening is made.
 ghost use Rattle.std.specs.Prelude.{◌≡◌, [], All, IfOk, vec_len};
+ghost use Rattle.tb_published.specs.Lines.{line};
 
 use crate::faults::OpenFault;
-use crate::front::Opening;
+use crate::front::Chronicle;
 use crate::limits::SeatCount;
 use crate::naming::Naming;
 use crate::publisher::Publisher;
 use crate::seat::Seat;
 use std::alloc::{AllocError, Global};
+use std::marker::Model;
 use std::sync::Wait;
+use tb_records::{ClientsMax, Profile};
+
+/// An opening before it has its name: the rules that its history is to keep. Contracts see it as the opening.
+#[derive(Drop)]
+pub struct Opening {
+    chronicle: Chronicle,
+}
+
+impl Model for Opening {
+    ghost use Rattle.std.specs.Prelude.{◌≡◌, []};
+    ghost use Rattle.tb_published.specs.Lines.{Opening};
+
+    ghost Value = { Opening };
+
+    ghost view = { λ o. o.chronicle.opening };
+
+    ghost invariant = { λ o. o.chronicle.list ≡ [] };
+}
+
+impl Opening {
+    /// An opening by these rules. It takes no memory.
+    pub fn new(profile: Profile, clients_max: ClientsMax) -> Opening
+        ensures { (result.profile ≡ profile) × (result.clients_max ≡ clients_max) }
+    {
+        Opening {
+            chronicle: Chronicle::new(profile, clients_max),
+        }
+    }
+
+    /// The rules.
+    pub(crate) fn rules(&self) -> (Profile, ClientsMax)
+        ensures { (result.0 ≡ self.now.profile) × (result.1 ≡ self.now.clients_max) }
+    {
+        self.chronicle.front().rules()
+    }
+
+    /// The chronicle of its empty history.
+    pub(crate) fn into_chronicle(self) -> Chronicle
+        ensures { result ≡ line self [] }
+    {
+        let Opening { chronicle } = self;
+        chronicle
+    }
+}
 
 /// Opens an empty history: its publisher, and so many seats. The caller names the opening: it calls a function that is
 /// generic in `J`. Where it is refused, nothing is left of it.

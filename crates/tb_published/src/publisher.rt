@@ -4,16 +4,17 @@ ghost use mathlib.Core.List.{IsPrefix};
 ghost use Rattle.tb_published.specs.Lines.{LegalIn, after_in, OneBegins};
 ghost use Rattle.tb_published.specs.Taking.{Enters, Takes, ShowsAll};
 
+use crate::copies::Copies;
 use crate::entering::enter_into;
 use crate::faults::{OpenFault, TakeFault, Taken};
-use crate::front::{Chronicle, Opening};
+use crate::front::Chronicle;
 use crate::limits::SeatCount;
 use crate::naming::Naming;
 use crate::offering::next_order;
+use crate::opening::Opening;
 use crate::replica::{Posted, Replica};
 use crate::seat::Seat;
 use crate::told::Told;
-use crate::turning::{Copies, begin, new_place, publish};
 use core::mem::replace;
 use left_right::Absorb;
 use std::alloc::{AllocError, Global};
@@ -41,19 +42,15 @@ impl<J: Naming> Model for Publisher<J>
 where
     Replica<J>: Absorb<Posted<J>, State = Replica<J>>,
 {
-    ghost use Rattle.std.specs.Prelude.{◌++◌, drop};
-    ghost use Rattle.std.specs.Option.{option_to_list};
-    ghost use Rattle.left_right.specs.Sides.{view as known};
+    ghost use Rattle.tb_published.specs.Orders.{and_waiting};
     ghost use Rattle.tb_published.specs.Ties.{Ends, Ties};
 
     ghost Value = { Ends };
 
-    ghost view = { λ p. record { history = p.history.items; shown = p.copies.desk.shown.value.list } };
+    ghost view = { λ p. record { history = p.history.items; shown = p.copies.shown.list } };
 
     ghost invariant = { λ p.
-        Ties J.opening p.history.items p.machine p.offered p.copies.desk.shown.value
-        (known p.copies.desk.place)
-        (drop p.copies.behind p.copies.log.items ++ option_to_list p.waiting) };
+        Ties J.opening p.history.items p.machine p.offered (and_waiting p.copies p.waiting) };
 }
 
 impl<J: Naming> Publisher<J> {
@@ -76,7 +73,7 @@ impl<J: Naming> Publisher<J> {
             }
         };
         let offered = opening.into_chronicle();
-        let copies = match begin(alloc, rt, offered.front(), seats) {
+        let copies = match Copies::begin(alloc, rt, offered.front(), seats) {
             Ok(copies) => copies,
             Err(AllocError) => {
                 drop(machine);
@@ -99,10 +96,10 @@ impl<J: Naming> Publisher<J> {
         ensures same { self.new ≡ self.old }
         ensures seat { IfOk result (λ seat. seat ≡ self.old.shown) }
     {
-        let Ok(place) = new_place(&mut self.copies) else {
+        let Ok(place) = self.copies.place() else {
             return Err(OpenFault::NoPlace);
         };
-        let front = self.copies.published().front().again();
+        let front = self.copies.shown().front().again();
         Ok(Seat::new(place, front, self.global))
     }
 
@@ -126,7 +123,7 @@ impl<J: Naming> Publisher<J> {
     pub fn tell(&self) -> Told<J>
         ensures { result ≡ self.now.shown }
     {
-        Told::new(self.copies.published().front().again())
+        Told::new(self.copies.shown().front().again())
     }
 
     /// Says whether the copies show all that a seat has seen: then that is a beginning of the history. Of what is shown and
@@ -190,7 +187,7 @@ impl<J: Naming> Publisher<J> {
             return;
         }
         self.offer_all();
-        self.turn(rt);
+        self.swap(rt);
     }
 
     /// Says whether the copies show the whole history.
@@ -198,7 +195,7 @@ impl<J: Naming> Publisher<J> {
         ensures all { IsTrue result → self.now.shown ≡ self.now.history }
         ensures less { IsFalse result → length self.now.shown < length self.now.history }
     {
-        self.copies.published().front().len() == self.history.len() as u64
+        self.copies.shown().front().len() == self.history.len() as u64
     }
 
     /// Offers the entries to the copies that were not offered yet, as far as there is memory.
@@ -247,11 +244,11 @@ impl<J: Naming> Publisher<J> {
     }
 
     /// Has the copies show what was offered, as far as there is memory.
-    fn turn<W: Wait>(&mut self, rt: &W)
+    fn swap<W: Wait>(&mut self, rt: &W)
         ensures history { self.new.history ≡ self.old.history }
         ensures shown { IsPrefix self.old.shown self.new.shown }
     {
-        let _ = publish(&mut self.copies, rt);
+        let _ = self.copies.swap(rt);
     }
 
     /// Ends the opening, and gives its history out. It waits for the seats that are reading; those that ask from then on
@@ -271,7 +268,7 @@ impl<J: Naming> Publisher<J> {
         drop(machine);
         drop(offered);
         drop(waiting);
-        drop(copies.take(rt));
+        copies.end(rt);
         entries
     }
 }

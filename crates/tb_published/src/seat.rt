@@ -1,7 +1,10 @@
 //! Seats: what a client thread reads by.
 ghost use Rattle.std.specs.Prelude.{◌≡◌, ◌↔◌, ◌≤◌, length, IsTrue, IfOk, IfErr};
 ghost use mathlib.Core.List.{IsPrefix};
+ghost use Rattle.std.specs.Fn.{FnOnceReturnsAt};
 ghost use Rattle.left_right.specs.Sides.{view as known};
+ghost use Rattle.tb_records.specs.Messages.{IsLawful};
+ghost use Rattle.tb_sessions.specs.Judged.{class_of};
 ghost use Rattle.tb_ledger.specs.Books.{found_accounts, found_transfers};
 ghost use Rattle.tb_machine.specs.Histories.{answer_to};
 ghost use Rattle.tb_published.specs.declared.faults.SeatFault.TheVariants as seat_fault;
@@ -10,12 +13,13 @@ ghost use Rattle.tb_published.specs.Sharing.{Knows};
 
 use crate::faults::SeatFault;
 use crate::front::Front;
-use crate::looking::{Place, look_accounts, look_answer, look_status, look_transfers};
+use crate::looking::{Place, look};
 use crate::naming::Naming;
 use crate::told::Told;
 use core::mem::replace_with;
 use std::alloc::{AllocError, Global};
 use std::marker::Model;
+use tb_machine::{Machine, answer_of, status_of};
 use tb_records::{Account, Reply, Request, Status, Transfer};
 
 /// Unused bytes on each side of a seat. Every call of a seat writes to it, and seats mostly lie side by side: so no two that
@@ -63,6 +67,29 @@ impl<J: Naming> Seat<J> {
         }
     }
 
+    /// Asks a question of the machine of the copy that is shown: the answer, after the entries that the seat has then seen.
+    fn ask<T, Q: FnOnce(&Machine<Global>) -> T>(&mut self, question: Q) -> Result<T, SeatFault>
+        requires { Q.IsAlwaysCallable question }
+        ensures begins { IsPrefix self.old self.new }
+        ensures asked { IfOk result
+            (λ t.
+            LegalIn J.opening self.new
+            × FnOnceReturnsAt Q.FnOnce question (after_in J.opening self.new) t) }
+        ensures fault { IfErr result (λ f. (f ≡ seat_fault.NoCopy) × (self.new ≡ self.old)) }
+    {
+        let front = &self.front;
+        let found = replace_with(
+            &mut self.place,
+            question,
+            |place, question| look(place, front, question),
+        );
+        let Some((shown, answer)) = found else {
+            return Err(SeatFault::NoCopy);
+        };
+        self.front = shown;
+        Ok(answer)
+    }
+
     /// How a request fares after the entries that are shown: Reply where it is answered, NotYet where it is new, else
     /// its refusal. It takes no memory.
     pub fn status(&mut self, request: &Request) -> Result<Status, SeatFault>
@@ -73,17 +100,12 @@ impl<J: Naming> Seat<J> {
             × (status ≡ (answer_to (after_in J.opening self.new) request.now).status)) }
         ensures fault { IfErr result (λ f. (f ≡ seat_fault.NoCopy) × (self.new ≡ self.old)) }
     {
-        let front = &self.front;
-        let found = replace_with(
-            &mut self.place,
-            (),
-            |place, _| look_status(place, front, request),
-        );
-        let Some((shown, status)) = found else {
-            return Err(SeatFault::NoCopy);
-        };
-        self.front = shown;
-        Ok(status)
+        let class = self.ask(
+            |machine|
+                ensures { result ≡ class_of machine.now.rows request.entry.now }
+            { machine.class(request) },
+        )?;
+        Ok(status_of(class))
     }
 
     /// The whole answer to a request after the entries that are shown: the stored reply, or a refusal. NoMemory where
@@ -95,16 +117,14 @@ impl<J: Naming> Seat<J> {
             LegalIn J.opening self.new × AnswersIn J.opening self.new request.now reply) }
         ensures fault { IfErr result (λ f. f ≡ seat_fault.NoCopy → self.new ≡ self.old) }
     {
-        let front = &self.front;
-        let found = replace_with(
-            &mut self.place,
-            self.global,
-            |place, global| look_answer(global, place, front, request),
-        );
-        let Some((shown, answer)) = found else {
-            return Err(SeatFault::NoCopy);
-        };
-        self.front = shown;
+        let global = self.global;
+        let answer = self.ask(
+            |machine|
+                ensures answer { IfOk result
+                    (λ reply. reply ≡ answer_to machine.now request.entry.now) }
+                ensures lawful { IsLawful request.entry.now }
+            { answer_of(global, machine, request) },
+        )?;
         answer.map_err(|_| SeatFault::NoMemory)
     }
 
@@ -119,17 +139,7 @@ impl<J: Naming> Seat<J> {
             × (t.1.items ≡ found_accounts (after_in J.opening self.new).books ids.now)) }
         ensures fault { IfErr result (λ f. f ≡ seat_fault.NoCopy → self.new ≡ self.old) }
     {
-        let front = &self.front;
-        let found = replace_with(
-            &mut self.place,
-            (),
-            |place, _| look_accounts(place, front, ids),
-        );
-        let Some((shown, accounts)) = found else {
-            return Err(SeatFault::NoCopy);
-        };
-        self.front = shown;
-        match accounts {
+        match self.ask(|machine| machine.lookup_accounts(ids))? {
             Ok(accounts) => Ok((self.front.len(), accounts)),
             Err(AllocError) => Err(SeatFault::NoMemory),
         }
@@ -146,17 +156,7 @@ impl<J: Naming> Seat<J> {
             × (t.1.items ≡ found_transfers (after_in J.opening self.new).books ids.now)) }
         ensures fault { IfErr result (λ f. f ≡ seat_fault.NoCopy → self.new ≡ self.old) }
     {
-        let front = &self.front;
-        let found = replace_with(
-            &mut self.place,
-            (),
-            |place, _| look_transfers(place, front, ids),
-        );
-        let Some((shown, transfers)) = found else {
-            return Err(SeatFault::NoCopy);
-        };
-        self.front = shown;
-        match transfers {
+        match self.ask(|machine| machine.lookup_transfers(ids))? {
             Ok(transfers) => Ok((self.front.len(), transfers)),
             Err(AllocError) => Err(SeatFault::NoMemory),
         }
