@@ -4,7 +4,6 @@ ghost use Rattle.tb_records.specs.Messages.{IsLawful};
 ghost use Rattle.tb_sessions.specs.Judged.{class_of};
 ghost use Rattle.tb_sessions.specs.declared.classes.Class.TheVariants as class;
 ghost use Rattle.tb_machine.specs.Histories.{answer_to, fits, step};
-ghost use Rattle.tb_machine.specs.Scripts.{entry_of, has_time};
 ghost use Rattle.tb_published.specs.Entering.{IsKnown, EntersBy};
 
 use crate::faults::{TakeFault, Taken};
@@ -36,23 +35,6 @@ pub(crate) fn known(machine: &Machine<Global>, request: &Request) -> Option<Take
         Class::Repeat => Some(Taken::Repeat(stored_commit(machine, request))),
         class => Some(Taken::Refused(status_of(class))),
     }
-}
-
-/// The entry of a request that comes at a moment; None where there is no time for it.
-pub(crate) fn entry_for(machine: &Machine<Global>, request: Request, now: u64) -> Option<Entry>
-    ensures entry { MatchOption result (has_time machine.now (now, request) ≡ false)
-        (λ e.
-        (has_time machine.now (now, request) ≡ true)
-        × (e ≡ entry_of machine.now (now, request))) }
-    ensures lawful { IsLawful request }
-{
-    let events = request.body().event_count() as u64;
-    let time = machine.next_time(now, events)?;
-    Some(Entry {
-        commit: machine.commit() + 1,
-        time,
-        request,
-    })
 }
 
 /// Puts an entry behind a history and into its machine, and answers its commit number. Where there is no memory, both
@@ -96,7 +78,7 @@ pub(crate) fn enter_into(
     if let Some(taken) = known(machine, &request) {
         return Ok(taken);
     }
-    let Some(entry) = entry_for(machine, request, now) else {
+    let Some(entry) = machine.next_entry(request, now) else {
         return Err(TakeFault::TimeExhausted);
     };
     match add_to(machine, history, entry) {
