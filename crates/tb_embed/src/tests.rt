@@ -24,20 +24,26 @@ const REGISTERED: [u8; 48] = [
 
 /// What a serving answered: the status, and the length that it told.
 #[derive(Clone, Copy, Debug, PartialEq, Eq)]
-struct Told {
+struct Fared {
     status: u32,
     written: usize,
 }
 
-fn serve(alloc: Global, server: &mut TbServer, moment: u64, frame: &[u8], room: &mut [u8]) -> Told {
+fn serve(
+    alloc: Global,
+    server: &mut TbServer,
+    moment: u64,
+    frame: &[u8],
+    room: &mut [u8],
+) -> Fared {
     let mut written = 9;
     let status = tb_embed_serve(alloc, server, moment, frame, room, &mut written);
-    Told { status, written }
+    Fared { status, written }
 }
 
 fn expect_opened(rt: &impl Abort, alloc: Global, server: &mut TbServer) {
     let mut room = [0; 48];
-    let closed = Told {
+    let closed = Fared {
         status: 1,
         written: 0,
     };
@@ -74,7 +80,7 @@ fn expect_register(rt: &impl Abort, alloc: Global, server: &mut TbServer) {
     let mut longer = [0; 49];
     longer[..48].copy_from_slice(&REGISTER);
     assert_eq!(rt; tb_embed_open(alloc, server, 1, 2), 0);
-    let malformed = Told {
+    let malformed = Fared {
         status: 4,
         written: 0,
     };
@@ -94,7 +100,7 @@ fn expect_register(rt: &impl Abort, alloc: Global, server: &mut TbServer) {
     let small = serve(alloc, server, 10, &REGISTER, &mut short);
     assert_eq!(rt;
         small,
-        Told {
+        Fared {
             status: 7,
             written: 48
         }
@@ -102,7 +108,7 @@ fn expect_register(rt: &impl Abort, alloc: Global, server: &mut TbServer) {
     let done = serve(alloc, server, 10, &REGISTER, &mut room);
     assert_eq!(rt;
         done,
-        Told {
+        Fared {
             status: 0,
             written: 48
         }
