@@ -6,6 +6,7 @@
 - The first statements of README.md are those of examples/retry.text, which its first command reads.
 - Each name that a walk of docs/ARCHITECTURE.md gives as `module::function` or `Type::call` is there, in the crate that stands before it; so is each file
   that docs/ARCHITECTURE.md names.
+- Each name that docs/GLOSSARY.md gives a word in the code stands in the sources, the definitions or the Python client.
 
 Usage: checks/pages.py. Ends in 'N passed, 0 failed'. checks/blocks.py looks at the examples too.
 """
@@ -108,9 +109,23 @@ def first_statements():
     yield "README.md", None if same else "the first statements are not those of examples/retry.text"
 
 
+def glossed():
+    """Each name in the code that the glossary gives."""
+    files = [*CRATES.glob("*/src/**/*.rt"), *CRATES.glob("*/specs/**/*.antt"), *ROOT.glob("clients/python/tb_client/*.py")]
+    text = "\n".join(path.read_text() for path in files)
+    there = set(re.findall(r"\w+", text)) | {path.name for path in CRATES.iterdir()}
+    page = ROOT / "docs" / "GLOSSARY.md"
+    for row in page.read_text().splitlines():
+        cells = row.split(" | ")
+        if row.startswith("| ") and len(cells) == 3:
+            for name in re.findall(r"`([\w:]+)`", cells[0] + cells[2]):
+                missing = [part for part in name.split("::") if part not in there]
+                yield page.relative_to(ROOT), f"{name} is no name in the code" if missing else None
+
+
 def main() -> int:
     passed = failed = 0
-    for check in (examples, heads, first_statements, walks, named_files):
+    for check in (examples, heads, first_statements, walks, named_files, glossed):
         for place, wrong in check():
             if wrong is None:
                 passed += 1
