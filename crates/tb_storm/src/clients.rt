@@ -9,7 +9,7 @@ use tb_records::{Account, Body, Items, Request, Status, Transfer};
 use tb_service::Port;
 
 /// How often a call looks for its reply.
-const TURNS: u32 = 1_000_000;
+const ASKS: u32 = 1_000_000;
 
 /// How often a request is called.
 const CALLS: u32 = 100;
@@ -113,7 +113,7 @@ impl<J: Naming> Client<J> {
         let Some(port) = &mut self.port else {
             return Err(StormFault::NoPlace);
         };
-        let reply = port.call(rt, &mut self.seat, request, TURNS)?;
+        let reply = port.call(rt, &mut self.seat, request, ASKS)?;
         let session = match reply.status() {
             Status::Reply => Some(reply.session()),
             _ => None,
