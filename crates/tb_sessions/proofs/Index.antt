@@ -222,7 +222,7 @@ module _ {n : ℕ} {rows : Map ℕ Row} {clients : Map ℕ ℕ} (i : IsIndexed n
               (ap (λ es. lookup (is_at (nat_cmp d)) es) is_clients ∙ removed_here d (entries clients) i.commits_rise)
               (λ c other. ap (λ es. lookup (is_at (nat_cmp c)) es) is_clients ∙ removed_other d (entries clients) i.commits_rise c other);
           even = omega (arith, a, b, la, lb, i.even);
-          some_room = i.some_room;
+          some_capacity = i.some_capacity;
           not_over = omega (arith, a, la, i.not_over);
           rows_fit = omega (arith, a, la, spare, i.rows_fit);
           clients_fit = omega (arith, b, lb, clients_spare, i.clients_fit);
@@ -233,7 +233,7 @@ module _ {n : ℕ} {rows : Map ℕ Row} {clients : Map ℕ ℕ} (i : IsIndexed n
   pub index_in : (r : Row) {rows' : Map ℕ Row} {clients' : Map ℕ ℕ} → kept_row rows r.client ≡ None → Each (λ (other : Row). other.commit < r.commit) (values_of (entries rows))
       → entries rows' ≡ insert_entry nat_cmp (entries rows) r.client r → entries clients' ≡ insert_entry nat_cmp (entries clients) r.commit r.client
       → rows'.spare + 1 ≡ rows.spare → clients'.spare + 1 ≡ clients.spare → length (entries rows) < n → IsIndexed n rows' clients'
-  index_in r {rows'} {clients'} absent later is is_clients spare clients_spare room =
+  index_in r {rows'} {clients'} absent later is is_clients spare clients_spare capacity =
       let no_client = fresh r.commit later in
       let a = length-insert_entry nat_cmp r.client r (entries rows) absent in
       let b = length-insert_entry nat_cmp r.commit r.client (entries clients) no_client in
@@ -250,8 +250,8 @@ module _ {n : ℕ} {rows : Map ℕ Row} {clients : Map ℕ ℕ} (i : IsIndexed n
             (ap (λ es. lookup (is_at (nat_cmp r.commit)) es) is_clients ∙ put_here r.commit r.client (entries clients))
             (λ c other. ap (λ es. lookup (is_at (nat_cmp c)) es) is_clients ∙ put_other r.commit r.client (entries clients) c other);
         even = omega (arith, a, b, la, lb, i.even);
-        some_room = i.some_room;
-        not_over = omega (arith, a, la, room);
+        some_capacity = i.some_capacity;
+        not_over = omega (arith, a, la, capacity);
         rows_fit = omega (arith, a, la, spare, i.rows_fit);
         clients_fit = omega (arith, b, lb, clients_spare, i.clients_fit);
       }
@@ -272,7 +272,7 @@ module _ {n : ℕ} {rows : Map ℕ Row} {clients : Map ℕ ℕ} (i : IsIndexed n
             (ap (λ es. lookup (is_at (nat_cmp r.client)) es) is ∙ set_here r.client (entries rows) r old found)
             (λ q other. ap (λ es. lookup (is_at (nat_cmp q)) es) is ∙ set_other r.client (entries rows) r old found q other);
         even = omega (arith, a, la, i.even);
-        some_room = i.some_room;
+        some_capacity = i.some_capacity;
         not_over = omega (arith, a, la, i.not_over);
         rows_fit = omega (arith, a, la, spare, i.rows_fit);
         clients_fit = i.clients_fit;
@@ -308,7 +308,7 @@ module _ {n : ℕ} {rows : Map ℕ Row} {clients : Map ℕ ℕ} (i : IsIndexed n
             (ap (λ es. lookup (is_at (nat_cmp f.commit)) es) now ∙ put_other f.row.commit f.client (entries between) f.commit (λ same. behind (sym same)) ∙ ap (λ es. lookup (is_at (nat_cmp f.commit)) es) is_between ∙ removed_here f.commit (entries clients) i.commits_rise)
             (λ c other beside. ap (λ es. lookup (is_at (nat_cmp c)) es) now ∙ put_other f.row.commit f.client (entries between) c beside ∙ ap (λ es. lookup (is_at (nat_cmp c)) es) is_between ∙ removed_other f.commit (entries clients) i.commits_rise c other);
         even = omega (arith, a, b, la, lb, i.even);
-        some_room = i.some_room;
+        some_capacity = i.some_capacity;
         not_over = i.not_over;
         rows_fit = i.rows_fit;
         clients_fit = omega (arith, a, b, la, lb, between_spare, spare, i.clients_fit);
@@ -393,10 +393,10 @@ pub none_first : {n : ℕ} {rows : Map ℕ Row} {clients : Map ℕ ℕ} → IsIn
 none_first {n} {rows} {clients} i full none = by (entries clients) i.even none
   where
     by : (es : List (ℕ × ℕ)) → length es ≡ length (entries rows) → slice_get es 0 ≡ None → ⊥
-    by [] even none = omega (arith, even, full, i.some_room)
+    by [] even none = omega (arith, even, full, i.some_capacity)
     by (e ∷ es) even none = cc
 
--- two empty maps with room for all
+-- two empty maps with capacity for all
 pub index_empty : {n : ℕ} {rows : Map ℕ Row} {clients : Map ℕ ℕ} → entries rows ≡ [] → entries clients ≡ [] → 0 < n → n ≤ rows.spare → n ≤ clients.spare → IsReady n rows clients
 unfolding IsStrictlySortedBy
 index_empty {n} {rows} {clients} no_rows no_clients some rows_room clients_room =
@@ -415,7 +415,7 @@ index_empty {n} {rows} {clients} no_rows no_clients some rows_room clients_room 
           differ = λ client other row beside is too same. absurd (nothing (no_row client) is);
         };
         even = omega (arith, a, b);
-        some_room = some;
+        some_capacity = some;
         not_over = omega (arith, a);
         rows_fit = omega (arith, a, rows_room);
         clients_fit = omega (arith, b, clients_room);

@@ -26,14 +26,14 @@ pub record IsLinked (kept_row : ℕ → Option Row) (client_at : ℕ → Option 
   pub apart : (client other : ℕ) (row : Row) → kept_row client ≡ Some row → client_at row.commit ≡ Some other → other ≡ client
   pub differ : (client other : ℕ) (row beside : Row) → kept_row client ≡ Some row → kept_row other ≡ Some beside → row.commit ≡ beside.commit → client ≡ other
 
--- what the table's two maps keep: rows under their own clients, linked with the clients by commit, and room in both
+-- what the table's two maps keep: rows under their own clients, linked with the clients by commit, and capacity in both
 pub record IsIndexed (clients_max : ℕ) (rows : Map ℕ Row) (clients : Map ℕ ℕ) : Type 0 where
   pub own : Each (λ e. client_of e.1 ≡ e.0) (entries rows)
   pub rows_rise : IsStrictlySortedBy nat_cmp (keys_of (entries rows))
   pub commits_rise : IsStrictlySortedBy nat_cmp (keys_of (entries clients))
   pub linked : IsLinked (kept_row rows) (client_at clients)
   pub even : length (entries clients) ≡ length (entries rows)
-  pub some_room : 0 < clients_max
+  pub some_capacity : 0 < clients_max
   pub not_over : length (entries rows) ≤ clients_max
   pub rows_fit : clients_max ≤ length (entries rows) + rows.spare
   pub clients_fit : clients_max ≤ length (entries clients) + clients.spare

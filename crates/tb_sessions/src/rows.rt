@@ -29,7 +29,7 @@ fn filler() -> Request {
     }
 }
 
-/// What stands in room for a row that isn't used. Nothing reads it.
+/// What stands in a node for a row that isn't used. Nothing reads it.
 impl Default for Row {
     fn default() -> Row {
         let request = filler();

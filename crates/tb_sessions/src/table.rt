@@ -13,7 +13,7 @@ use std::alloc::{AllocError, Global};
 use std::marker::Model;
 use tb_records::{Body, ClientsMax, Request};
 
-/// The sessions of the clients, with room for all that there may be.
+/// The sessions of the clients, with capacity for all that there may be.
 #[derive(Drop)]
 pub struct Sessions {
     clients_max: usize,
@@ -37,7 +37,7 @@ impl Model for Sessions {
 }
 
 impl Sessions {
-    /// A table without sessions, with room for those of so many clients.
+    /// A table without sessions, with capacity for those of so many clients.
     pub fn with_capacity(alloc: Global, clients_max: ClientsMax) -> Result<Sessions, AllocError>
         ensures { IfOk result (λ s. s ≡ record { clients_max = clients_max; rows = [] }) }
     {
@@ -140,7 +140,7 @@ impl Sessions {
         ensures table { self.new
             ≡ record self.old { rows = taken_out client_of (client_of result) self.old.rows } }
         ensures left { oldest self.old.rows ≡ Some result }
-        ensures room { length self.new.rows < length self.old.rows }
+        ensures capacity { length self.new.rows < length self.old.rows }
     {
         let Some((_, client)) = self.clients.pop_first() else {
             unreachable!()
@@ -155,7 +155,7 @@ impl Sessions {
     fn put_in(&mut self, row: Row)
         requires absent { row_of self.old.rows row.client ≡ None }
         requires later { Each (λ (other : Row). other.commit < row.commit) self.old.rows }
-        requires room { length self.old.rows < self.old.clients_max }
+        requires capacity { length self.old.rows < self.old.clients_max }
         ensures { self.new ≡ record self.old { rows = put client_of row self.old.rows } }
     {
         self.clients.insert_reserved(row.commit, row.client);

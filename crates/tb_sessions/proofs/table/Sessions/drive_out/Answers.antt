@@ -38,8 +38,8 @@ returns-clause-left c =
     let commit = ap (λ r. r.commit) (inside (sym here ∙ row.1)) ∙ row.2 in
     rw (← c.self.view_is) (oldest_first c.self.invariant.indexed c.in-Some.field-0-0 c.in-Some.client c.in-Some-remove.row (sym c.in-Some.ensures.pair) here commit)
 
-pub returns-clause-room : goal.returns-clause-room
-returns-clause-room c =
+pub returns-clause-capacity : goal.returns-clause-capacity
+returns-clause-capacity c =
     let es = entries c.self.inside.rows in
     let here = sym c.remove.ensures.value ∙ c.in-Some-remove.is in
     omega (arith, length-values_of es, length-values_of (entries c.remove.new.self), ap length c.remove.ensures.entries, length-remove_entry_found nat_cmp c.in-Some.client c.in-Some-remove.row es here, ap (λ (t : Table). length t.rows) c.self.view_is)

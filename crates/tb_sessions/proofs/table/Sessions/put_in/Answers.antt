@@ -27,8 +27,8 @@ bring_up-requires c =
     let rows = ap (λ (t : Table). t.rows) c.self.view_is in
     let later : Each (λ (other : Row). other.commit < c.args.row.commit) (values_of es) = rw rows c.requires.later in
     let absent : find (λ row. client_of row == c.args.row.client) (values_of es) ≡ None = rw rows c.requires.absent in
-    let room : length es < c.self.inside.clients_max = omega (arith, length-values_of es, ap length rows, ap (λ (t : Table). t.clients_max) c.self.view_is, c.requires.room) in
-    index_in c.self.invariant.indexed c.args.row (found-row client_of c.args.row.client es c.self.invariant.indexed.own ∙ absent) later c.insert_reserved-2.ensures.entries c.insert_reserved.ensures.entries c.insert_reserved-2.ensures.spare c.insert_reserved.ensures.spare room
+    let capacity : length es < c.self.inside.clients_max = omega (arith, length-values_of es, ap length rows, ap (λ (t : Table). t.clients_max) c.self.view_is, c.requires.capacity) in
+    index_in c.self.invariant.indexed c.args.row (found-row client_of c.args.row.client es c.self.invariant.indexed.own ∙ absent) later c.insert_reserved-2.ensures.entries c.insert_reserved.ensures.entries c.insert_reserved-2.ensures.spare c.insert_reserved.ensures.spare capacity
 
 pub returns : goal.returns
 returns c =
