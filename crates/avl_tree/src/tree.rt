@@ -8,7 +8,7 @@ use std::mem;
 
 /// A link to a balanced tree: nothing, or the height of the tree and its root.
 ///
-/// The height stands beside the pointer, where the link has room for it, so that balancing a node reads no side.
+/// The height stands beside the pointer, where the link has bytes to spare, so that balancing a node reads no side.
 #[cycle(avl)]
 #[derive(Drop)]
 pub enum Tree<K, V, A: Allocator> {

@@ -57,7 +57,7 @@ impl<A: Allocator + Clone> Model for Machine<A> {
 }
 
 impl<A: Allocator + Clone> Machine<A> {
-    /// The machine of the empty history, with room for the sessions of so many clients.
+    /// The machine of the empty history, with capacity for the sessions of so many clients.
     pub fn new_in(
         global: Global,
         alloc: A,

@@ -8,7 +8,7 @@ use byteorder::{ByteOrder, LittleEndian};
 use std::alloc::{AllocError, Global};
 use tb_records::{FrameFault, read_request, write_request};
 
-/// Appends the record of an entry. AllocError where there is no room for all of it: the vector keeps its bytes, and gets
+/// Appends the record of an entry. AllocError where there is no memory for all of it: the vector keeps its bytes, and gets
 /// none.
 pub fn write_entry(entry: &Entry, out: &mut Vec<u8>) -> Result<(), AllocError>
     ensures ok { OnOk result (out.new.items ≡ out.old.items ++ dumped entry.now) }

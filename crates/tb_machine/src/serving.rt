@@ -131,7 +131,7 @@ fn next_entry(machine: &Machine<Global>, moment: u64, request: Request) -> Resul
     })
 }
 
-/// Enters a new request that comes at a moment. The time is found before any room is made.
+/// Enters a new request that comes at a moment. The time is found before any memory is taken.
 pub(crate) fn enter(
     machine: &mut Machine<Global>,
     moment: u64,

@@ -18,7 +18,7 @@ pub trait Source {
     // The bytes that are left, where the reader tells them, and its errors.
     ghost input: { Self → Input };
 
-    /// Reads into the buffer, in the manner of std's `read`. Ok(0) where the buffer has room says that the input is
+    /// Reads into the buffer, in the manner of std's `read`. Ok(0) for a buffer that is not empty says that the input is
     /// at its end.
     fn pull(&mut self, buf: &mut [u8]) -> io::Result<usize>
         ensures bound { ReadsAtMost result buf.new }
@@ -284,7 +284,7 @@ fn push_items<T: Item>(bytes: &[u8], count: usize, items: &mut Vec<T>)
     }
 }
 
-/// Reads items to an empty row, so many at a time. The buffer is the caller's, and has room for these.
+/// Reads items to an empty row, so many at a time. The buffer is the caller's, and is long enough for these.
 fn fill_items<S: Source, T: Item>(
     source: &mut S,
     buf: &mut [u8],
@@ -312,7 +312,7 @@ fn fill_items<S: Source, T: Item>(
     Ok(())
 }
 
-/// Reads a row of items, eight at a time where there are so many. The room for them is made before the first byte is read,
+/// Reads a row of items, eight at a time where there are so many. The memory for them is taken before the first byte is read,
 /// and no byte behind them is.
 pub(crate) fn items_from<S: Source, T: Item>(
     alloc: Global,

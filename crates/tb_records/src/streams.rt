@@ -109,7 +109,7 @@ pub fn holds_pair(bytes: &[u8]) -> bool
     bytes.len() >= 8 && holds_frame(&bytes[8..])
 }
 
-/// Reads the items of a body. The room for them is made before the first byte is read.
+/// Reads the items of a body. The memory for them is taken before the first byte is read.
 #[tactic(auto, unfolding(crate::specs::Frames::body_bytes))]
 fn body_from<S: Source>(
     alloc: Global,

@@ -58,7 +58,7 @@ fn reply_header(reply: &Reply, len: u32) -> [u8; 48]
     header
 }
 
-/// Appends the items to a vector that has room for them.
+/// Appends the items to a vector that has capacity for them.
 fn append_items<T: Item>(items: &[T], out: &mut Vec<u8>)
     requires { vec_len out.old + length (flat_map T.spelling items.now) ≤ vec_capacity out.old }
     ensures appended { out.new.items ≡ out.old.items ++ flat_map T.spelling items.now }
@@ -108,7 +108,7 @@ fn items_len<T: Item>(items: &[T]) -> u32
     (items.len() * T::SIZE) as u32
 }
 
-/// Appends a body to a vector that has room for it.
+/// Appends a body to a vector that has capacity for it.
 #[tactic(auto, unfolding(crate::specs::Frames::body_bytes))]
 fn append_body(body: &Body, out: &mut Vec<u8>)
     requires { vec_len out.old + length (body_bytes body.now) ≤ vec_capacity out.old }
@@ -124,7 +124,7 @@ fn append_body(body: &Body, out: &mut Vec<u8>)
     }
 }
 
-/// Appends the body of a reply to a vector that has room for it.
+/// Appends the body of a reply to a vector that has capacity for it.
 #[tactic(auto, unfolding(crate::specs::ReplyFrames::reply_body_bytes))]
 fn append_reply_body(body: &ReplyBody, out: &mut Vec<u8>)
     requires { vec_len out.old + length (reply_body_bytes body.now) ≤ vec_capacity out.old }
@@ -139,7 +139,7 @@ fn append_reply_body(body: &ReplyBody, out: &mut Vec<u8>)
     }
 }
 
-/// Appends a request's frame. AllocError where there is no room for all of it: the vector keeps its bytes, and gets none.
+/// Appends a request's frame. AllocError where there is no memory for all of it: the vector keeps its bytes, and gets none.
 pub fn write_request(request: &Request, out: &mut Vec<u8>) -> Result<(), AllocError>
     ensures ok { OnOk result (out.new.items ≡ out.old.items ++ request_bytes request.now) }
     ensures fits { OnOk result (IsRequest request.now) }
@@ -154,7 +154,7 @@ pub fn write_request(request: &Request, out: &mut Vec<u8>) -> Result<(), AllocEr
     Ok(())
 }
 
-/// Appends a reply's frame. AllocError where there is no room for all of it: the vector keeps its bytes, and gets none. That
+/// Appends a reply's frame. AllocError where there is no memory for all of it: the vector keeps its bytes, and gets none. That
 /// the reply's numbers fit, as the clause `only` of `read_reply` asks, is said of what was written.
 pub fn write_reply(reply: &Reply, out: &mut Vec<u8>) -> Result<(), AllocError>
     ensures ok { OnOk result (out.new.items ≡ out.old.items ++ reply_bytes reply.now) }

@@ -324,7 +324,7 @@ fn put_line(out: &mut Vec<u8>, before: &[u8], rest: &[u8]) -> Result<(), AllocEr
     put(out, "^")
 }
 
-/// The numbers that a field has room for.
+/// The numbers that fit a field.
 fn numbers_of(field: Field) -> &'static str {
     let most = field.max();
     match field {

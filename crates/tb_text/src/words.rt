@@ -200,7 +200,7 @@ impl Field {
         }
     }
 
-    /// The greatest number that the field has room for.
+    /// The greatest number that fits the field.
     pub fn max(self) -> u128
         ensures { result ≡ field_max self }
     {
