@@ -24,7 +24,7 @@ const REGISTERED: [u8; 48] = [
 
 /// What a serving answered: the status, and the length that it told.
 #[derive(Clone, Copy, Debug, PartialEq, Eq)]
-struct Answered {
+struct Fared {
     status: u32,
     written: usize,
 }
@@ -35,15 +35,15 @@ fn serve(
     moment: u64,
     frame: &[u8],
     room: &mut [u8],
-) -> Answered {
+) -> Fared {
     let mut written = 9;
     let status = tb_embed_serve(alloc, server, moment, frame, room, &mut written);
-    Answered { status, written }
+    Fared { status, written }
 }
 
 fn expect_opened(rt: &impl Abort, alloc: Global, server: &mut TbServer) {
     let mut room = [0; 48];
-    let closed = Answered {
+    let closed = Fared {
         status: 1,
         written: 0,
     };
@@ -80,7 +80,7 @@ fn expect_register(rt: &impl Abort, alloc: Global, server: &mut TbServer) {
     let mut longer = [0; 49];
     longer[..48].copy_from_slice(&REGISTER);
     assert_eq!(rt; tb_embed_open(alloc, server, 1, 2), 0);
-    let malformed = Answered {
+    let malformed = Fared {
         status: 4,
         written: 0,
     };
@@ -100,7 +100,7 @@ fn expect_register(rt: &impl Abort, alloc: Global, server: &mut TbServer) {
     let small = serve(alloc, server, 10, &REGISTER, &mut short);
     assert_eq!(rt;
         small,
-        Answered {
+        Fared {
             status: 7,
             written: 48
         }
@@ -108,7 +108,7 @@ fn expect_register(rt: &impl Abort, alloc: Global, server: &mut TbServer) {
     let done = serve(alloc, server, 10, &REGISTER, &mut room);
     assert_eq!(rt;
         done,
-        Answered {
+        Fared {
             status: 0,
             written: 48
         }
