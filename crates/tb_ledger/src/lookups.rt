@@ -35,7 +35,7 @@ fn fill_eights_of_accounts<'a, A: Allocator + Clone>(
     requires { vec_len out.old + length ids.now ≤ vec_capacity out.old }
     ensures items { out.new.items ++ filter_map (account_in table.now.items) result.now
         ≡ out.old.items ++ filter_map (account_in table.now.items) ids.now }
-    ensures room { vec_len out.new + length result.now ≤ vec_capacity out.new }
+    ensures rest { vec_len out.new + length result.now ≤ vec_capacity out.new }
     ensures capacity { vec_capacity out.new ≡ vec_capacity out.old }
 {
     let mut rest = ids;
@@ -101,7 +101,7 @@ fn fill_eights_of_transfers<'a, A: Allocator + Clone>(
     requires { vec_len out.old + length ids.now ≤ vec_capacity out.old }
     ensures items { out.new.items ++ filter_map (transfer_in table.now.items) result.now
         ≡ out.old.items ++ filter_map (transfer_in table.now.items) ids.now }
-    ensures room { vec_len out.new + length result.now ≤ vec_capacity out.new }
+    ensures rest { vec_len out.new + length result.now ≤ vec_capacity out.new }
     ensures capacity { vec_capacity out.new ≡ vec_capacity out.old }
 {
     let mut rest = ids;

@@ -22,6 +22,6 @@ loop-eight-preserved g c =
           ∙ append_assoc c.loop-eight.out.items _ (filter_map (account_in rows) later)
           ∙ ap (λ xs. c.loop-eight.out.items ++ xs) (ap (λ xs. xs ++ filter_map (account_in rows) later) many ∙ sym (filter_map-append (account_in rows) eight later) ∙ ap (filter_map (account_in rows)) whole)
           ∙ c.loop-eight.invariant.items;
-      room = omega (arith, c.push_accounts.ensures.len, c.loop-eight.invariant.room, c.push_accounts.ensures.capacity, count, sum);
+      rest = omega (arith, c.push_accounts.ensures.len, c.loop-eight.invariant.rest, c.push_accounts.ensures.capacity, count, sum);
       capacity = c.push_accounts.ensures.capacity ∙ c.loop-eight.invariant.capacity;
     }

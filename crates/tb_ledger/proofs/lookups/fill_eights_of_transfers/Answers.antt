@@ -21,6 +21,6 @@ loop-eight-preserved g c =
           ∙ append_assoc c.loop-eight.out.items _ (filter_map (transfer_in rows) later)
           ∙ ap (λ xs. c.loop-eight.out.items ++ xs) (ap (λ xs. xs ++ filter_map (transfer_in rows) later) many ∙ sym (filter_map-append (transfer_in rows) eight later) ∙ ap (filter_map (transfer_in rows)) whole)
           ∙ c.loop-eight.invariant.items;
-      room = omega (arith, c.push_transfers.ensures.len, c.loop-eight.invariant.room, c.push_transfers.ensures.capacity, count, sum);
+      rest = omega (arith, c.push_transfers.ensures.len, c.loop-eight.invariant.rest, c.push_transfers.ensures.capacity, count, sum);
       capacity = c.push_transfers.ensures.capacity ∙ c.loop-eight.invariant.capacity;
     }

@@ -6,7 +6,7 @@ use Rattle.tb_ledger.proofs.lookups.fill_eights_of_transfers.Given as goal
 abbrev pub invariant-loop-eight : goal.invariant-loop-eight
 invariant-loop-eight g l = record {
   items : l.out.items ++ filter_map (transfer_in l.table.items) l.rest ≡ l.initial.out.items ++ filter_map (transfer_in l.table.items) l.ids;
-  room : vec_len l.out + length l.rest ≤ vec_capacity l.out;
+  rest : vec_len l.out + length l.rest ≤ vec_capacity l.out;
   capacity : vec_capacity l.out ≡ vec_capacity l.initial.out;
 }
 
