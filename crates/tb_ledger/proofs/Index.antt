@@ -77,8 +77,8 @@ undone_listed t ts can = by (times_out t) can
         let back : taken_out timeout_key (timeout_key d) (put timeout_key d ts.items) ≡ ts.items = taken_out-put timeout_key d ts.items it.absent in
         let here : find (λ e. timeout_key e == timeout_key d) (put timeout_key d ts.items) ≡ Some d = find-put_here timeout_key (λ e. timeout_key e == timeout_key d) d ts.items (self_key d) it.absent in
         let one : freed (find (λ e. timeout_key e == timeout_key d) (put timeout_key d ts.items)) ≡ 1 = rw here refl in
-        let room : ts.spare - 1 + freed (find (λ e. timeout_key e == timeout_key d) (put timeout_key d ts.items)) ≡ ts.spare = let some : 0 < ts.spare = it.room in omega (arith, one) in
-        λ i. record { items = back i; spare = room i }
+        let spare : ts.spare - 1 + freed (find (λ e. timeout_key e == timeout_key d) (put timeout_key d ts.items)) ≡ ts.spare = let some : 0 < ts.spare = it.capacity in omega (arith, one) in
+        λ i. record { items = back i; spare = spare i }
 
 pub undone_unlisted : (t : TransferRow) (ts : Stored Timeout) → AreTimeouts ts.items → (times_out t ≡ true → IsListed ts.items t) → listed t (unlisted t ts) ≡ ts
 undone_unlisted t ts ordered is_listed = by (times_out t) is_listed
@@ -90,8 +90,8 @@ undone_unlisted t ts ordered is_listed = by (times_out t) is_listed
         let it = is refl in
         let back : put timeout_key d (taken_out timeout_key (timeout_key d) ts.items) ≡ ts.items = put-taken_out timeout_key d ts.items ordered.rising it.there in
         let one : freed (find (λ e. timeout_key e == timeout_key d) ts.items) ≡ 1 = rw it.there refl in
-        let room : ts.spare + freed (find (λ e. timeout_key e == timeout_key d) ts.items) - 1 ≡ ts.spare = omega (arith, one) in
-        λ i. record { items = back i; spare = room i }
+        let spare : ts.spare + freed (find (λ e. timeout_key e == timeout_key d) ts.items) - 1 ≡ ts.spare = omega (arith, one) in
+        λ i. record { items = back i; spare = spare i }
 
 -- it can come back
 pub can_relist : (t : TransferRow) (ts : Stored Timeout) → AreTimeouts ts.items → (times_out t ≡ true → IsListed ts.items t) → times_out t ≡ true → CanList t (unlisted t ts)
@@ -100,7 +100,7 @@ can_relist t ts ordered is_listed is =
     let one : freed (find (λ e. timeout_key e == timeout_key (timeout_of t)) ts.items) ≡ 1 = rw it.there refl in
     let can : CanList t (without_timeout (timeout_of t) ts) = record {
       in_range = it.in_range;
-      room = omega (arith, one);
+      capacity = omega (arith, one);
       absent = gone timeout_key (timeout_key (timeout_of t)) ts.items ordered.rising;
     } in rw is can
 

@@ -21,6 +21,7 @@ pub mod CodeLaws
 pub mod BlockLaws
 pub mod ResultLaws
 pub mod Refusals
+pub mod Capacities
 pub mod RowLaws
 pub mod VerdictLaws
 pub mod ReadLaws

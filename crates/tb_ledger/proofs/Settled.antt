@@ -36,7 +36,7 @@ found_still d c f z xs same apart found =
     let left : option_map (λ y. if account_row_key y == d then f y else y) (find (λ a. a.created.id == c) xs) ≡ Some z = rw (found, other) refl in
     find-changed account_row_key d f c xs same ∙ left
 
--- a table by its rows and its room
+-- a table by its rows and its spare ones
 pub stored : {X : Type 0} (table : Stored X) (rows : List X) (room : ℕ) → table.items ≡ rows → table.spare ≡ room → table ≡ record { items = rows; spare = room }
 stored table rows room is left = λ i. record { items = is i; spare = left i }
 

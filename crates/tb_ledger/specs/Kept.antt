@@ -118,17 +118,17 @@ pub record IsIndex (transfers : List TransferRow) (timeouts : List Timeout) : Ty
   pub all_listed : Each (λ t. times_out t ≡ true → IsListed timeouts t) transfers
   pub all_timed : Each (IsTimeout transfers) timeouts
 
--- timeouts and their room, with that of t where it times out, and without it
+-- timeouts and their spare rows, with that of t where it times out, and without it
 abbrev pub listed : TransferRow → Stored Timeout → Stored Timeout
 listed t ts = if times_out t then with_timeout (timeout_of t) ts else ts
 
 abbrev pub unlisted : TransferRow → Stored Timeout → Stored Timeout
 unlisted t ts = if times_out t then without_timeout (timeout_of t) ts else ts
 
--- where t times out, there is room for its timeout, which isn't there
+-- where t times out, there is capacity for its timeout, which isn't there
 pub record CanList (t : TransferRow) (ts : Stored Timeout) : Type 0 where
   pub in_range : expires_at t.recorded ≤ max_time
-  pub room : 0 < ts.spare
+  pub capacity : 0 < ts.spare
   pub absent : find (λ d. timeout_key d == timeout_key (timeout_of t)) ts.items ≡ None
 
 -- it holds, and its timeout has passed at T
@@ -192,7 +192,7 @@ new_transfer_row t = record { recorded = t; state = Open }
 abbrev pub state_given_by : Transfer → State
 state_given_by r = if posts r then Posted else Voided
 
--- a side can take t: there is room, and where t closes it, nothing holds it closed
+-- a side can take t: the sums fit, and where t closes it, nothing holds it closed
 abbrev pub Takes : (Transfer → Bool) → Transfer → Side → Type 0
 Takes closes t s = (s.pending + s.posted + t.amount ≤ int_max) × ((pending t && closes t) ≡ true → s.held_closed ≡ false)
 

@@ -17,4 +17,7 @@ pub mod Exchanges
 pub mod Settlings
 pub mod Noted
 pub mod Trail
+pub mod Capacity
+pub mod Steps
+pub mod Entering
 pub mod Lookups

@@ -4,20 +4,20 @@ use Rattle.tb_ledger.specs.declared.tables.accounts.AccountRow.{AccountRow}
 use Rattle.tb_ledger.specs.declared.tables.trail.Undo.{Undo}
 use Rattle.tb_ledger.specs.declared.tables.trail.Undo.TheVariants.{Account}
 
--- the changes since a chain began, the oldest first, whether they are noted at all, and how many there is room for
+-- the changes since a chain began, the oldest first, whether they are noted at all, and how many can be
 pub record Noted : Type 0 where
   pub changes : List Undo
   pub noting : Bool
   pub capacity : ℕ
 
--- there is room for n more
-abbrev pub HasRoomFor : ℕ → Noted → Type 0
-HasRoomFor n trail = length trail.changes + n ≤ trail.capacity
+-- it can note n more
+abbrev pub HasCapacityFor : ℕ → Noted → Type 0
+HasCapacityFor n trail = length trail.changes + n ≤ trail.capacity
 
 -- with one more, where they are noted
 abbrev pub with_noted : Undo → Noted → Noted
 with_noted undo trail = if trail.noting then record trail { changes = trail.changes ++ undo ∷ [] } else trail
 
--- with the rows of two accounts from before their change, where there is room for both
+-- with the rows of two accounts from before their change, where it can note both
 abbrev pub NotesPair : AccountRow → AccountRow → Noted → Noted → Type 0
-NotesPair debit credit trail grown = HasRoomFor 2 trail → grown ≡ with_noted (Account credit) (with_noted (Account debit) trail)
+NotesPair debit credit trail grown = HasCapacityFor 2 trail → grown ≡ with_noted (Account credit) (with_noted (Account debit) trail)

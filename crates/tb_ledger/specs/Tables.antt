@@ -16,10 +16,10 @@ pairs_in m = option_map_or (λ m. entries m) m []
 abbrev pub rows_in : {K V : Type 0} → Option (Map K V) → List V
 rows_in m = values_of (pairs_in m)
 
-abbrev pub room_in : {K V : Type 0} → Option (Map K V) → ℕ
-room_in m = option_map_or (λ m. m.spare) m 0
+abbrev pub spare_in : {K V : Type 0} → Option (Map K V) → ℕ
+spare_in m = option_map_or (λ m. m.spare) m 0
 
--- what a table keeps, in its order, and the room for more
+-- what a table keeps, in its order, and its spare rows
 pub record Stored (V : Type 0) : Type 0 where
   pub items : List V
   pub spare : ℕ

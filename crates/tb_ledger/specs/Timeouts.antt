@@ -27,15 +27,15 @@ pub record AreTimeouts (ds : List Timeout) : Type 0 where
   pub rising : Rising timeout_key ds
   pub fit : Each (λ d. d.id ≤ int_max) ds
 
--- the room that is free again where something was taken out
+-- the rows that are spare again where something was taken out
 abbrev pub freed : {X : Type 0} → Option X → ℕ
 freed o = if is_some o then 1 else 0
 
--- timeouts and the room for more, with one more
+-- timeouts and their spare rows, with one timeout more
 abbrev pub with_timeout : Timeout → Stored Timeout → Stored Timeout
 with_timeout d ts = record { items = put timeout_key d ts.items; spare = ts.spare - 1 }
 
--- without one, whose room is free again
+-- without one, whose row is spare again
 abbrev pub without_timeout : Timeout → Stored Timeout → Stored Timeout
 without_timeout d ts = record { items = taken_out timeout_key (timeout_key d) ts.items; spare = ts.spare + freed (find (λ e. timeout_key e == timeout_key d) ts.items) }
 

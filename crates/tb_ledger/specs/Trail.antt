@@ -35,7 +35,7 @@ abbrev pub unwound_transfers : List Undo → List TransferRow → List TransferR
 unwound_transfers [] rows = rows
 unwound_transfers (u ∷ us) rows = undo_transfer u (unwound_transfers us rows)
 
--- of timeouts and their room
+-- of timeouts and their spare rows
 abbrev pub undo_timeouts : Undo → Stored Timeout → Stored Timeout
 undo_timeouts (Account row) ts = ts
 undo_timeouts (Transfer row) ts = listed row ts
@@ -47,7 +47,7 @@ abbrev pub unwound_timeouts : List Undo → Stored Timeout → Stored Timeout
 unwound_timeouts [] ts = ts
 unwound_timeouts (u ∷ us) ts = undo_timeouts u (unwound_timeouts us ts)
 
--- a timeout that comes back has room
+-- a timeout that comes back has capacity
 abbrev pub CanUndo : Undo → Stored Timeout → Type 0
 CanUndo (Account row) ts = Unit {0}
 CanUndo (Transfer row) ts = times_out row ≡ true → CanList row ts

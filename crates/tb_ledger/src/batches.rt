@@ -1,17 +1,18 @@
 //! A batch: its chains, one after another.
-ghost use Rattle.std.specs.Prelude.{◌≡◌, ◌+◌, ◌*◌, ◌^◌, ◌<◌, ◌≤◌, ◌++◌, length, vec_len, vec_capacity};
+ghost use Rattle.std.specs.Prelude.{◌≡◌, ◌+◌, ◌^◌, ◌<◌, ◌≤◌, ◌++◌, length, vec_len, vec_capacity};
 ghost use Rattle.tb_ledger.specs.Batches.{blocks, blocks_after, timed_from, results_from};
-ghost use Rattle.tb_ledger.specs.Kept.{books_in, IsKept, PrecedesTimeouts};
+ghost use Rattle.tb_ledger.specs.Kept.{books_in, IsKept};
+ghost use Rattle.tb_ledger.specs.Steps.{IsReadyFor};
 
+pub(crate) mod buffers;
 pub(crate) mod chains;
 pub(crate) mod events;
 mod results;
-pub(crate) mod room;
 
 use crate::batches::chains::{block_length, run_block};
 use crate::batches::events::Event;
 use crate::tables::rows::Rows;
-use crate::tables::trail::{TRAIL_PER_EVENT, Trail};
+use crate::tables::trail::Trail;
 use std::alloc::Allocator;
 use tb_records::EventResult;
 
@@ -33,15 +34,9 @@ pub(crate) fn run_batch<E: Event, A: Allocator + Clone, R: Allocator>(
     events: &[E],
     time: u64,
 )
-    requires kept { IsKept rows.old }
-    requires room { length events.now ≤ E.room rows.old.accounts.spare rows.old.transfers.spare }
-    requires timeouts_room { E.HasTimeoutRoom (length events.now) rows.old.timeouts.spare }
-    requires ids { E.HasIdRoom (length events.now) rows.old.keeps_failed rows.old.failed.spare }
-    requires trail_room { TRAIL_PER_EVENT * length events.now ≤ trail.old.capacity }
-    requires results_room { vec_len results.old + length events.now ≤ vec_capacity results.old }
-    requires stamped { PrecedesTimeouts rows.old time }
+    requires ready { IsReadyFor E.HasCapacity (length events.now) rows.old trail.old time }
+    requires results_capacity { vec_len results.old + length events.now ≤ vec_capacity results.old }
     requires index_fits { length events.now < 2 ^ 32 }
-    requires time_fits { time + length events.now < 2 ^ 64 }
     ensures books { books_in rows.new
         ≡ (blocks_after E.kind (books_in rows.old)
         (blocks E.kind (timed_from time events.now))).books }

@@ -1,19 +1,20 @@
 //! The ledger: its books, kept in rows.
-ghost use Rattle.std.specs.Prelude.{◌≡◌, ◌+◌, ◌*◌, ◌<◌, ◌≤◌, ◌++◌, [], max, true, length, IfOk, OnOk, OnErr, vec_len, vec_capacity};
+ghost use Rattle.std.specs.Prelude.{◌≡◌, ◌+◌, ◌<◌, ◌≤◌, ◌++◌, max, length, IfOk, OnOk, OnErr, vec_len, vec_capacity};
 ghost use Rattle.tb_ledger.specs.Batches.{account_events, batch_after, results, transfer_events};
 ghost use Rattle.tb_ledger.specs.Books.{account_now, empty_books, found_accounts, found_transfers, moved_to_two, profile_of, transfer_at};
+ghost use Rattle.tb_ledger.specs.Capacity.{HasTransfers, capacity_of};
+ghost use Rattle.tb_ledger.specs.Entering.{AreMadeFor, CanEnter};
 ghost use Rattle.tb_ledger.specs.Kept.{books_in, IsKept};
 ghost use Rattle.tb_ledger.specs.Sound.{IdsRise};
 ghost use Rattle.tb_ledger.specs.Tables.{IsShortSearch};
 ghost use Rattle.tb_ledger.specs.Verdicts.{max_time};
 
+use crate::batches::buffers::{Buffers, SMALL_BATCH, make_buffers};
 use crate::batches::events::Event;
-use crate::batches::room::{Room, SMALL_BATCH, make_room};
 use crate::batches::run_batch;
 use crate::changes::expiry::expire;
 use crate::lookups;
 use crate::tables::rows::Rows;
-use crate::tables::trail::TRAIL_PER_EVENT;
 use std::alloc::{AllocError, Allocator, Global};
 use std::marker::Model;
 use tb_records::{Account, EventResult, Profile, Transfer};
@@ -22,14 +23,14 @@ use tb_records::{Account, EventResult, Profile, Transfer};
 /// were recorded, by profile 2 the ids that failed for good, and the time of the last entry. Sums, closed accounts and the
 /// states of pending transfers all follow from these.
 ///
-/// Amounts are in the ledger's smallest unit, times in nanoseconds. What takes memory makes all its room before the first
+/// Amounts are in the ledger's smallest unit, times in nanoseconds. What takes memory makes all its capacity before the first
 /// change, so where it answers that there is none, the ledger is as it was.
 #[derive(Drop)]
 pub struct Ledger<A: Allocator + Clone> {
     alloc: A,
     rows: Rows<A>,
     /// What a small batch made last, for the next one.
-    kept: Option<Room<A>>,
+    kept: Option<Buffers<A>>,
 }
 
 impl<A: Allocator + Clone> Model for Ledger<A> {
@@ -43,7 +44,7 @@ impl<A: Allocator + Clone> Model for Ledger<A> {
     ghost invariant = { λ l. IsKept l.rows };
 }
 
-/// Makes room for `n` transfers and their timeouts, and for as many failed ids where these are kept.
+/// Makes capacity for `n` transfers: for their timeouts too, and for as many failed ids where these are kept.
 fn reserve_transfers<A: Allocator + Clone>(
     rows: &mut Rows<A>,
     alloc: &A,
@@ -52,10 +53,7 @@ fn reserve_transfers<A: Allocator + Clone>(
     requires { IsKept rows.old }
     ensures kept { IsKept rows.new }
     ensures books { books_in rows.new ≡ books_in rows.old }
-    ensures ok { OnOk result
-        ((n ≤ rows.new.transfers.spare)
-        × (n ≤ rows.new.timeouts.spare)
-        × (rows.new.keeps_failed ≡ true → n ≤ rows.new.failed.spare)) }
+    ensures ok { OnOk result (HasTransfers n (capacity_of rows.new)) }
 {
     rows.transfers.reserve(alloc, n)?;
     rows.timeouts.reserve(alloc, n)?;
@@ -65,52 +63,42 @@ fn reserve_transfers<A: Allocator + Clone>(
     Ok(())
 }
 
-/// Enters a batch at the time `t`, where there is room for its records, its changes and its results: expires to `t`, then takes
-/// the events.
+/// Enters a batch at the time `t`, with the capacity for its records, its changes and its results: expires to `t`, then takes the
+/// events.
 fn enter_within<E: Event, A: Allocator + Clone>(
     rows: &mut Rows<A>,
-    room: &mut Room<A>,
+    buffers: &mut Buffers<A>,
     global: Global,
     t: u64,
     events: &[E],
 ) -> Vec<EventResult>
     requires kept { IsKept rows.old }
-    requires room { length events.now ≤ E.room rows.old.accounts.spare rows.old.transfers.spare }
-    requires timeouts_room { E.HasTimeoutRoom (length events.now) rows.old.timeouts.spare }
-    requires ids { E.HasIdRoom (length events.now) rows.old.keeps_failed rows.old.failed.spare }
-    requires trail_room { TRAIL_PER_EVENT * length events.now ≤ room.old.trail.capacity }
-    requires results_room { length events.now ≤ vec_capacity room.old.refused }
-    requires no_result { room.old.refused.items ≡ [] }
-    requires count { length events.now ≤ 8190 }
-    requires later { rows.old.time + max (length events.now) 1 ≤ t }
-    requires in_range { t ≤ max_time }
+    requires capacity { E.HasCapacity (length events.now) (capacity_of rows.old) }
+    requires made { AreMadeFor (length events.now) buffers.old }
+    requires entry { CanEnter rows.old.time (length events.now) t }
     ensures kept { IsKept rows.new }
     ensures books { books_in rows.new ≡ (batch_after E.kind (books_in rows.old) events.now t).books }
     ensures results { result.items ≡ results (batch_after E.kind (books_in rows.old) events.now t).codes }
 {
     let first = t + 1 - events.len() as u64;
     expire(rows, t);
-    run_batch(rows, &mut room.trail, &mut room.refused, events, first);
-    room.hand_out(global)
+    run_batch(rows, &mut buffers.log, &mut buffers.refused, events, first);
+    buffers.hand_out(global)
 }
 
-/// Enters a batch at the time `t`, where there is room for its records, in the room that the last small batch left. That of a
-/// large one is let go.
+/// Enters a batch at the time `t`, with the capacity for its records, in the buffers that the last small batch left. Those of a
+/// large one are let go.
 fn enter<E: Event, A: Allocator + Clone>(
     rows: &mut Rows<A>,
-    kept: &mut Option<Room<A>>,
+    kept: &mut Option<Buffers<A>>,
     alloc: &A,
     global: Global,
     t: u64,
     events: &[E],
 ) -> Result<Vec<EventResult>, AllocError>
     requires kept { IsKept rows.old }
-    requires room { length events.now ≤ E.room rows.old.accounts.spare rows.old.transfers.spare }
-    requires timeouts_room { E.HasTimeoutRoom (length events.now) rows.old.timeouts.spare }
-    requires ids { E.HasIdRoom (length events.now) rows.old.keeps_failed rows.old.failed.spare }
-    requires count { length events.now ≤ 8190 }
-    requires later { rows.old.time + max (length events.now) 1 ≤ t }
-    requires in_range { t ≤ max_time }
+    requires capacity { E.HasCapacity (length events.now) (capacity_of rows.old) }
+    requires entry { CanEnter rows.old.time (length events.now) t }
     ensures kept { IsKept rows.new }
     ensures books { OnOk result
         (books_in rows.new ≡ (batch_after E.kind (books_in rows.old) events.now t).books) }
@@ -118,9 +106,9 @@ fn enter<E: Event, A: Allocator + Clone>(
         (λ r. r.items ≡ results (batch_after E.kind (books_in rows.old) events.now t).codes) }
     ensures err { OnErr result (books_in rows.new ≡ books_in rows.old) }
 {
-    make_room(kept, alloc, global, events.len())?;
-    let Some(room) = kept else { unreachable!() };
-    let refused = enter_within(rows, room, global, t, events);
+    make_buffers(kept, alloc, global, events.len())?;
+    let Some(buffers) = kept else { unreachable!() };
+    let refused = enter_within(rows, buffers, global, t, events);
     if events.len() > SMALL_BATCH {
         *kept = None;
     }
@@ -289,7 +277,7 @@ impl<A: Allocator + Clone> Ledger<A> {
         Ok(found)
     }
 
-    /// Appends what [`Ledger::lookup_accounts`] answers, to a vector with room for as many accounts as there are ids.
+    /// Appends what [`Ledger::lookup_accounts`] answers, to a vector with capacity for as many accounts as there are ids.
     pub fn fill_accounts(&self, ids: &[u128], out: &mut Vec<Account>)
         requires { vec_len out.old + length ids.now ≤ vec_capacity out.old }
         ensures items { out.new.items ≡ out.old.items ++ found_accounts self.now ids.now }
@@ -298,7 +286,7 @@ impl<A: Allocator + Clone> Ledger<A> {
         lookups::fill(&self.rows.accounts, ids, out);
     }
 
-    /// Appends what [`Ledger::lookup_transfers`] answers, to a vector with room for as many transfers as there are ids.
+    /// Appends what [`Ledger::lookup_transfers`] answers, to a vector with capacity for as many transfers as there are ids.
     pub fn fill_transfers(&self, ids: &[u128], out: &mut Vec<Transfer>)
         requires { vec_len out.old + length ids.now ≤ vec_capacity out.old }
         ensures items { out.new.items ≡ out.old.items ++ found_transfers self.now ids.now }

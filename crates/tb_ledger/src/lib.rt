@@ -12,7 +12,6 @@
 //!   - `index`: how the timeouts follow the rows.
 //!   - `trail`: the undo log of a chain.
 //! - `verdicts`: the result of an event, by the tables as they stand.
-//!   - `lines`: the first test that holds.
 //!   - `blanks`: what a post or void takes over from the pending transfer that it names.
 //!   - `account`: what is wrong with an account.
 //!   - `transfer`: with a transfer of either kind, or with its id.
@@ -28,15 +27,16 @@
 //!   - `expiry`: pending transfers whose timeout has passed.
 //! - `batches`: the events of one request, chain by chain.
 //!   - `events`: what a batch asks of its events.
-//!   - `results`: the results of a broken chain.
+//!   - `results`: the results of a broken chain; where a result becomes its number.
 //!   - `chains`: all of a chain, or nothing of it.
-//!   - `room`: memory for the undo log and the results, kept from one small batch to the next.
+//!   - `buffers`: memory for the undo log and the results, kept from one small batch to the next.
 //! - `lookups`: look-ups of many ids, eight at a time.
 //! - `ledgers`: `Ledger`, all that the crates above call.
 //! - `laws`: laws of the definitions: functions that do nothing.
 //! - `worked_rows`: requests and the results that the definitions give to them.
 //!
-//! Memory for a batch is reserved first: rows, failed ids, timeouts, undo log, results. Undoing a chain gives nodes back
+//! Memory for a batch is reserved first: rows, failed ids, timeouts, undo log, results. specs/Capacity says what the tables
+//! can still take, and what events use of it; specs/Steps what events ask of the rows and what they leave. Undoing a chain gives nodes back
 //! as spare ones, and cannot fail. specs/Verdicts stands in the order in which an event meets its tests, each test once:
 //! an account's own, exists, new; a transfer's own, exists, failed id; then a post or void (its own, those of the pending
 //! transfer that it names, the closed accounts), or any other (its own, the pair of accounts, the amounts).

@@ -68,7 +68,7 @@ fn fill_eights<'a, V: Found, A: Allocator + Clone>(
     requires { vec_len out.old + length ids.now ≤ vec_capacity out.old }
     ensures items { out.new.items ++ filter_map (found_in V.key V.record_now table.now.items) result.now
         ≡ out.old.items ++ filter_map (found_in V.key V.record_now table.now.items) ids.now }
-    ensures room { vec_len out.new + length result.now ≤ vec_capacity out.new }
+    ensures rest { vec_len out.new + length result.now ≤ vec_capacity out.new }
     ensures capacity { vec_capacity out.new ≡ vec_capacity out.old }
 {
     let mut rest = ids;

@@ -1,15 +1,15 @@
 //! Chains: all of one, or nothing of it.
-ghost use Rattle.std.specs.Prelude.{◌≡◌, ℕ, ◌+◌, ◌*◌, ◌^◌, ◌<◌, ◌≤◌, ◌&&◌, ◌++◌, length, if◌then◌else◌, IfErr, OnOk, OnErr, vec_len, vec_capacity};
+ghost use Rattle.std.specs.Prelude.{◌≡◌, ◌+◌, ◌^◌, ◌<◌, ◌≤◌, ◌&&◌, ◌++◌, length, if◌then◌else◌, IfErr, OnOk, OnErr, vec_len, vec_capacity};
 ghost use Rattle.tb_ledger.specs.Batches.{block_length, block_after, timed_from, results_from};
 ghost use Rattle.tb_ledger.specs.Found.{Judges};
-ghost use Rattle.tb_ledger.specs.Kept.{books_in, IsKept, PrecedesTimeouts};
-ghost use Rattle.tb_ledger.specs.Trail.{Stays, IsStep};
-ghost use Rattle.tb_ledger.specs.Noted.{HasRoomFor};
+ghost use Rattle.tb_ledger.specs.Kept.{books_in};
+ghost use Rattle.tb_ledger.specs.Steps.{IsReady, IsReadyFor, Leaves, LeavesAfter};
+ghost use Rattle.tb_ledger.specs.Trail.{Stays};
 
 use crate::batches::events::Event;
 use crate::batches::results::break_off;
 use crate::tables::rows::Rows;
-use crate::tables::trail::{TRAIL_PER_EVENT, Trail, unwind};
+use crate::tables::trail::{Trail, unwind};
 use std::alloc::Allocator;
 use tb_records::EventResult;
 
@@ -39,15 +39,9 @@ pub(crate) fn run_block<E: Event, A: Allocator + Clone, R: Allocator>(
     index: u32,
     time: u64,
 )
-    requires kept { IsKept rows.old }
-    requires room { length block.now ≤ E.room rows.old.accounts.spare rows.old.transfers.spare }
-    requires timeouts_room { E.HasTimeoutRoom (length block.now) rows.old.timeouts.spare }
-    requires ids { E.HasIdRoom (length block.now) rows.old.keeps_failed rows.old.failed.spare }
-    requires trail_room { TRAIL_PER_EVENT * length block.now ≤ trail.old.capacity }
-    requires results_room { vec_len results.old + length block.now ≤ vec_capacity results.old }
-    requires stamped { PrecedesTimeouts rows.old time }
+    requires ready { IsReadyFor E.HasCapacity (length block.now) rows.old trail.old time }
+    requires results_capacity { vec_len results.old + length block.now ≤ vec_capacity results.old }
     requires index_fits { index + length block.now < 2 ^ 32 }
-    requires time_fits { time + length block.now < 2 ^ 64 }
     ensures books { books_in rows.new
         ≡ (block_after E.kind (books_in rows.old) (timed_from time block.now)).books }
     ensures results { results.new.items
@@ -56,15 +50,7 @@ pub(crate) fn run_block<E: Event, A: Allocator + Clone, R: Allocator>(
         (block_after E.kind (books_in rows.old) (timed_from time block.now)).codes }
     ensures results_len { vec_len results.new ≤ vec_len results.old + length block.now }
     ensures results_capacity { vec_capacity results.new ≡ vec_capacity results.old }
-    ensures kept { IsKept rows.new }
-    ensures time { rows.new.time ≡ rows.old.time }
-    ensures room { E.room rows.old.accounts.spare rows.old.transfers.spare
-        ≤ E.room rows.new.accounts.spare rows.new.transfers.spare + length block.now }
-    ensures timeouts_room { (n : ℕ) → E.HasTimeoutRoom (length block.now + n) rows.old.timeouts.spare
-        → E.HasTimeoutRoom n rows.new.timeouts.spare }
-    ensures ids { (n : ℕ) → E.HasIdRoom (length block.now + n) rows.old.keeps_failed rows.old.failed.spare
-        → E.HasIdRoom n rows.new.keeps_failed rows.new.failed.spare }
-    ensures capacity { trail.new.capacity ≡ trail.old.capacity }
+    ensures leaves { LeavesAfter (length block.now) rows.old rows.new trail.old trail.new }
 {
     // an event that is refused changes nothing, so one that stands alone has nothing to undo
     trail.start(block.len() > 1);
@@ -95,11 +81,7 @@ fn take_in_chain<E: Event, A: Allocator + Clone>(
     trail: &mut Trail<A>,
     time: u64,
 ) -> Result<(), E::Refusal>
-    requires kept { IsKept rows.old }
-    requires room { 0 < E.room rows.old.accounts.spare rows.old.transfers.spare }
-    requires timeouts_room { E.HasTimeoutRoom 1 rows.old.timeouts.spare }
-    requires stamped { PrecedesTimeouts rows.old time }
-    requires trail_room { HasRoomFor TRAIL_PER_EVENT trail.old }
+    requires ready { IsReady E.HasCapacity rows.old trail.old time }
     ensures judged { Judges E.code_of result
         (if last && E.kind.linked event.now then
         2
@@ -108,13 +90,8 @@ fn take_in_chain<E: Event, A: Allocator + Clone>(
     ensures done { OnOk result (books_in rows.new ≡ E.kind.recorded (books_in rows.old) event.now time) }
     ensures fresh { IfErr result
         (λ refusal. E.IsNew (books_in rows.old).failed event.now (E.code_of refusal)) }
-    ensures kept { IsKept rows.new }
     ensures refused { OnErr result (Stays rows.old rows.new trail.old trail.new) }
-    ensures step { IsStep TRAIL_PER_EVENT rows.old rows.new trail.old trail.new }
-    ensures room { E.room rows.old.accounts.spare rows.old.transfers.spare
-        ≤ E.room rows.new.accounts.spare rows.new.transfers.spare + 1 }
-    ensures timeouts_room { (n : ℕ) → E.HasTimeoutRoom (1 + n) rows.old.timeouts.spare
-        → E.HasTimeoutRoom n rows.new.timeouts.spare }
+    ensures leaves { Leaves rows.old rows.new trail.old trail.new }
 {
     if last && event.linked() {
         Err(E::chain_open())

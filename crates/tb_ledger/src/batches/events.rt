@@ -1,14 +1,15 @@
 //! What a batch asks of its events.
-ghost use Rattle.std.specs.Prelude.{◌≡◌, ℕ, ◌+◌, ◌<◌, ◌≤◌, ◌==◌, true, false, IfErr, OnOk, OnErr};
+ghost use Rattle.std.specs.Prelude.{◌≡◌, ℕ, ◌+◌, ◌==◌, true, false, IfErr, OnOk, OnErr};
 ghost use Rattle.tb_ledger.specs.Found.{Judges};
-ghost use Rattle.tb_ledger.specs.Kept.{books_in, IsKept, PrecedesTimeouts};
-ghost use Rattle.tb_ledger.specs.Trail.{Stays, IsStep};
-ghost use Rattle.tb_ledger.specs.Noted.{HasRoomFor};
+ghost use Rattle.tb_ledger.specs.Capacity.{Capacity, capacity_of, Uses};
+ghost use Rattle.tb_ledger.specs.Kept.{books_in, IsKept};
+ghost use Rattle.tb_ledger.specs.Steps.{IsReady, Leaves, StaysButFailed};
+ghost use Rattle.tb_ledger.specs.Trail.{Stays};
 
 use crate::changes::account::take_account;
 use crate::changes::transfer::{note_failed, take_transfer};
 use crate::tables::rows::Rows;
-use crate::tables::trail::{TRAIL_PER_EVENT, Trail};
+use crate::tables::trail::Trail;
 use std::alloc::Allocator;
 use tb_records::{Account, CreateAccountResult, CreateTransferResult, Transfer};
 
@@ -16,6 +17,7 @@ use tb_records::{Account, CreateAccountResult, CreateTransferResult, Transfer};
 pub trait Event: Copy {
     ghost use Rattle.std.specs.Prelude.{ℕ, Bool, List, Option};
     ghost use Rattle.tb_ledger.specs.Batches.{Kind};
+    ghost use Rattle.tb_ledger.specs.Capacity.{Capacity};
 
     /// Why an event isn't accepted.
     type Refusal: Copy;
@@ -25,14 +27,8 @@ pub trait Event: Copy {
     // the result code of a refusal
     ghost code_of: { Self.Refusal → ℕ };
 
-    // the room that counts for it, of that of accounts and of transfers
-    ghost room: { ℕ → ℕ → ℕ };
-
-    // timeouts have room for those of n events
-    ghost HasTimeoutRoom: { ℕ → ℕ → Type 0 };
-
-    // failed ids that are kept or not have room for those of n events
-    ghost HasIdRoom: { ℕ → Bool → ℕ → Type 0 };
+    // the tables can still take n events
+    ghost HasCapacity: { ℕ → Capacity → Type 0 };
 
     // beside the failed ids, a refusal of the event by a code can be noted
     ghost IsNew: { Option (List ℕ) → Self → ℕ → Type 0 };
@@ -64,49 +60,37 @@ pub trait Event: Copy {
         trail: &mut Trail<A>,
         time: u64,
     ) -> Result<(), Self::Refusal>
-        requires kept { IsKept rows.old }
-        requires room { 0 < room rows.old.accounts.spare rows.old.transfers.spare }
-        requires timeouts_room { HasTimeoutRoom 1 rows.old.timeouts.spare }
-        requires stamped { PrecedesTimeouts rows.old time }
-        requires trail_room { HasRoomFor TRAIL_PER_EVENT trail.old }
+        requires ready { IsReady HasCapacity rows.old trail.old time }
         ensures judged { Judges code_of result (kind.verdict (books_in rows.old) self.now time) }
         ensures done { OnOk result (books_in rows.new ≡ kind.recorded (books_in rows.old) self.now time) }
         ensures fresh { IfErr result
             (λ refusal. IsNew (books_in rows.old).failed self.now (code_of refusal)) }
-        ensures kept { IsKept rows.new }
         ensures refused { OnErr result (Stays rows.old rows.new trail.old trail.new) }
-        ensures step { IsStep TRAIL_PER_EVENT rows.old rows.new trail.old trail.new }
-        ensures room { room rows.old.accounts.spare rows.old.transfers.spare
-            ≤ room rows.new.accounts.spare rows.new.transfers.spare + 1 }
-        ensures timeouts_room { (n : ℕ) → HasTimeoutRoom (1 + n) rows.old.timeouts.spare
-            → HasTimeoutRoom n rows.new.timeouts.spare };
+        ensures leaves { Leaves rows.old rows.new trail.old trail.new };
 
     /// Notes what the event's refusal leaves behind.
     fn refuse<A: Allocator + Clone>(&self, rows: &mut Rows<A>, refusal: Self::Refusal)
         requires kept { IsKept rows.old }
-        requires ids { HasIdRoom 1 rows.old.keeps_failed rows.old.failed.spare }
+        requires capacity { HasCapacity 1 (capacity_of rows.old) }
         requires fresh { IsNew (books_in rows.old).failed self.now (code_of refusal) }
         ensures books { books_in rows.new ≡ kind.refused (books_in rows.old) self.now (code_of refusal) }
         ensures kept { IsKept rows.new }
-        ensures accounts { rows.new.accounts ≡ rows.old.accounts }
-        ensures transfers { rows.new.transfers ≡ rows.old.transfers }
-        ensures timeouts { rows.new.timeouts ≡ rows.old.timeouts }
-        ensures ids { (n : ℕ) → HasIdRoom (1 + n) rows.old.keeps_failed rows.old.failed.spare
-            → HasIdRoom n rows.new.keeps_failed rows.new.failed.spare }
-        ensures time { rows.new.time ≡ rows.old.time };
+        ensures stays { StaysButFailed rows.old rows.new }
+        ensures uses { Uses 1 (capacity_of rows.old) (capacity_of rows.new) };
 
-    ghost more_room: { (a b c d : ℕ) → a ≤ c → b ≤ d → room a b ≤ room c d };
-
-    ghost fewer_timeouts: { (m n spare more : ℕ) → m ≤ n → spare ≤ more → HasTimeoutRoom n spare → HasTimeoutRoom m more };
-
-    ghost fewer_ids: { (m n : ℕ) (keeps : Bool) (spare : ℕ) → m ≤ n → HasIdRoom n keeps spare → HasIdRoom m keeps spare };
+    // what m events use leaves capacity for the rest
+    ghost leaves_rest: { (m n : ℕ) (before after : Capacity) → HasCapacity (m + n) before → Uses m before after
+        → HasCapacity n after };
 
     ghost open_is_new: { (failed : Option (List ℕ)) (e : Self) → IsNew failed e 2 };
 }
 
 impl Event for Account {
     ghost use Rattle.tb_records.specs.AccountResults.{account_result_code};
+    ghost use Rattle.std.proofs.Math.Arith.{add-le_cancel_left};
+    ghost use Rattle.std.proofs.Math.Nat.{le_trans};
     ghost use Rattle.tb_ledger.specs.Batches.{account_events};
+    ghost use Rattle.tb_ledger.specs.Capacity.{HasAccounts};
 
     type Refusal = CreateAccountResult;
 
@@ -114,11 +98,7 @@ impl Event for Account {
 
     ghost code_of = { account_result_code };
 
-    ghost room = { λ accounts transfers. accounts };
-
-    ghost HasTimeoutRoom = { λ n spare. Unit {0} };
-
-    ghost HasIdRoom = { λ n keeps spare. Unit {0} };
+    ghost HasCapacity = { HasAccounts };
 
     ghost IsNew = { λ failed a code. Unit {0} };
 
@@ -158,11 +138,7 @@ impl Event for Account {
         let _ = refusal;
     }
 
-    ghost more_room = { λ a b c d accounts transfers. accounts };
-
-    ghost fewer_timeouts = { λ m n spare more less grown room. tt };
-
-    ghost fewer_ids = { λ m n keeps spare less ids. tt };
+    ghost leaves_rest = { λ m n before after has uses. add-le_cancel_left m (le_trans has uses.accounts) };
 
     ghost open_is_new = { λ failed a. tt };
 }
@@ -176,10 +152,13 @@ fn ids_of(eight: &[Transfer; 8]) -> [u128; 8] {
 impl Event for Transfer {
     ghost use Rattle.std.specs.List.{list_any};
     ghost use Rattle.std.specs.Option.{option_map_or};
+    ghost use Rattle.std.proofs.Common.{sym, ◌∙◌};
+    ghost use Rattle.std.proofs.Math.Arith.{add-le_cancel_left};
     ghost use Rattle.std.proofs.Math.Nat.{le_trans};
     ghost use Rattle.std.proofs.lemmas.Bool.{false≢true};
     ghost use Rattle.tb_records.specs.TransferResults.{transfer_result_code};
     ghost use Rattle.tb_ledger.specs.Batches.{transfer_events, is_final};
+    ghost use Rattle.tb_ledger.specs.Capacity.{HasTransfers};
 
     type Refusal = CreateTransferResult;
 
@@ -187,11 +166,7 @@ impl Event for Transfer {
 
     ghost code_of = { transfer_result_code };
 
-    ghost room = { λ accounts transfers. transfers };
-
-    ghost HasTimeoutRoom = { λ n spare. n ≤ spare };
-
-    ghost HasIdRoom = { λ n keeps spare. keeps ≡ true → n ≤ spare };
+    ghost HasCapacity = { HasTransfers };
 
     ghost IsNew = { λ failed t code.
         is_final code ≡ true → option_map_or (list_any (λ id. id == t.id)) failed false ≡ false };
@@ -231,11 +206,12 @@ impl Event for Transfer {
         note_failed(rows, self, refusal)
     }
 
-    ghost more_room = { λ a b c d accounts transfers. transfers };
-
-    ghost fewer_timeouts = { λ m n spare more less grown room. le_trans less (le_trans room grown) };
-
-    ghost fewer_ids = { λ m n keeps spare less ids kept. le_trans less (ids kept) };
+    ghost leaves_rest = { λ m n before after has uses.
+        record {
+          transfers = add-le_cancel_left m (le_trans has.transfers uses.transfers);
+          timeouts = add-le_cancel_left m (le_trans has.timeouts uses.timeouts);
+          failed = λ keeps. add-le_cancel_left m (le_trans (has.failed (sym uses.keeps_failed ∙ keeps)) uses.failed);
+        } };
 
     ghost open_is_new = { λ failed t final. absurd (false≢true final) };
 }

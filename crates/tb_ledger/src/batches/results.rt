@@ -32,7 +32,7 @@ pub(crate) fn break_off<E: Event, A: Allocator>(
     place: usize,
     refusal: E::Refusal,
 )
-    requires room { vec_len results.old + length block.now ≤ vec_capacity results.old }
+    requires capacity { vec_len results.old + length block.now ≤ vec_capacity results.old }
     requires fits { index + length block.now < 2 ^ 32 }
     requires within { place < length block.now }
     requires refused { E.code_of refusal ≢ 0 }
@@ -52,7 +52,7 @@ pub(crate) fn break_off<E: Event, A: Allocator>(
 
 /// Adds the results of `n` events that another one's failure undoes.
 fn push_failed<E: Event, A: Allocator>(results: &mut Vec<EventResult, A>, index: u32, n: usize)
-    requires room { vec_len results.old + n ≤ vec_capacity results.old }
+    requires capacity { vec_len results.old + n ≤ vec_capacity results.old }
     requires fits { index + n < 2 ^ 32 }
     ensures items { results.new.items ≡ results.old.items ++ results_from index (replicate n 1) }
     ensures len { vec_len results.new ≡ vec_len results.old + n }
@@ -65,7 +65,7 @@ fn push_failed<E: Event, A: Allocator>(results: &mut Vec<EventResult, A>, index:
 
 /// Adds the results of the events after the failed one of a chain.
 fn push_undone<E: Event, A: Allocator>(results: &mut Vec<EventResult, A>, rest: &[E], index: u32)
-    requires room { vec_len results.old + length rest.now ≤ vec_capacity results.old }
+    requires capacity { vec_len results.old + length rest.now ≤ vec_capacity results.old }
     requires fits { index + length rest.now < 2 ^ 32 }
     ensures items { results.new.items
         ≡ results.old.items ++ results_from index (undone E.kind (timed_from 0 rest.now)) }

@@ -5,8 +5,9 @@ ghost use Rattle.tb_ledger.specs.Books.{account_at};
 ghost use Rattle.tb_records.specs.AccountResults.{account_result_code};
 ghost use Rattle.tb_ledger.specs.Found.{Judges};
 ghost use Rattle.tb_ledger.specs.Kept.{books_in, IsKept, account_row_key, blank, new_row};
-ghost use Rattle.tb_ledger.specs.Trail.{Stays, IsStep, IsNoted};
-ghost use Rattle.tb_ledger.specs.Noted.{HasRoomFor};
+ghost use Rattle.tb_ledger.specs.Trail.{Stays, IsNoted};
+ghost use Rattle.tb_ledger.specs.Steps.{Leaves};
+ghost use Rattle.tb_ledger.specs.Noted.{HasCapacityFor};
 ghost use Rattle.tb_records.specs.Ordered.{put};
 ghost use Rattle.tb_ledger.specs.Sound.{Sound, account_key};
 
@@ -26,16 +27,14 @@ pub(crate) fn take_account<A: Allocator + Clone>(
     time: u64,
 ) -> Result<(), CreateAccountResult>
     requires kept { IsKept rows.old }
-    requires room { 0 < rows.old.accounts.spare }
-    requires trail_room { HasRoomFor TRAIL_PER_EVENT trail.old }
+    requires capacity { 0 < rows.old.accounts.spare }
+    requires log { HasCapacityFor TRAIL_PER_EVENT trail.old }
     ensures judged { Judges account_result_code result
         (account_events.verdict (books_in rows.old) a.now time) }
     ensures done { OnOk result
         (books_in rows.new ≡ account_events.recorded (books_in rows.old) a.now time) }
-    ensures kept { IsKept rows.new }
     ensures refused { OnErr result (Stays rows.old rows.new trail.old trail.new) }
-    ensures step { IsStep TRAIL_PER_EVENT rows.old rows.new trail.old trail.new }
-    ensures room { rows.old.accounts.spare ≤ rows.new.accounts.spare + 1 }
+    ensures leaves { Leaves rows.old rows.new trail.old trail.new }
 {
     judge_account(rows, a)?;
     let mut recorded = *a;
@@ -47,21 +46,17 @@ pub(crate) fn take_account<A: Allocator + Clone>(
 /// Adds an account as it is recorded.
 fn record_account<A: Allocator + Clone>(rows: &mut Rows<A>, trail: &mut Trail<A>, a: &Account)
     requires kept { IsKept rows.old }
-    requires room { 0 < rows.old.accounts.spare }
-    requires trail_room { HasRoomFor TRAIL_PER_EVENT trail.old }
+    requires capacity { 0 < rows.old.accounts.spare }
+    requires log { HasCapacityFor TRAIL_PER_EVENT trail.old }
     requires fresh { account_at (books_in rows.old) a.now.id ≡ None }
     requires plain { a.now ≡ blank a.now }
     requires sound { Sound
         (record (books_in rows.old)
         { accounts = put account_key a.now (books_in rows.old).accounts }) }
-    ensures kept { IsKept rows.new }
     ensures books { books_in rows.new
         ≡ record (books_in rows.old)
         { accounts = put account_key a.now (books_in rows.old).accounts } }
-    ensures step { IsStep TRAIL_PER_EVENT rows.old rows.new trail.old trail.new }
-    ensures accounts_room { rows.new.accounts.spare + 1 ≡ rows.old.accounts.spare }
-    ensures transfers_room { rows.new.transfers.spare ≡ rows.old.transfers.spare }
-    ensures timeouts_room { rows.new.timeouts.spare ≡ rows.old.timeouts.spare }
+    ensures leaves { Leaves rows.old rows.new trail.old trail.new }
 {
     add_account_row(&mut rows.accounts, trail, a);
 }
@@ -72,8 +67,8 @@ fn add_account_row<A: Allocator + Clone>(
     trail: &mut Trail<A>,
     a: &Account,
 )
-    requires room { 0 < accounts.old.spare }
-    requires trail_room { length trail.old.changes < trail.old.capacity }
+    requires capacity { 0 < accounts.old.spare }
+    requires log { length trail.old.changes < trail.old.capacity }
     requires plain { a.now ≡ blank a.now }
     requires fresh { find (λ row. row.created.id == a.now.id) accounts.old.items ≡ None }
     ensures accounts { accounts.new

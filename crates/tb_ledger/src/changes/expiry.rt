@@ -1,8 +1,9 @@
 //! Pending transfers whose timeout has passed.
-ghost use Rattle.std.specs.Prelude.{◌≡◌, ◌≢◌, ◌≤◌, ◌==◌, find, Some, IsSome, map};
+ghost use Rattle.std.specs.Prelude.{◌≡◌, ◌≢◌, ◌≤◌, ◌==◌, find, Some, IsSome};
 ghost use Rattle.tb_records.specs.Ordered.{replaced, Rising};
 ghost use Rattle.tb_ledger.specs.Books.{closing_debit, closing_credit};
 ghost use Rattle.tb_ledger.specs.Kept.{books_in, IsKept, AreKept, IsIndex, IsTimeout, transfer_row_key, on_debits, on_credits, released, settled, accounts_released};
+ghost use Rattle.tb_ledger.specs.Steps.{KeepsRecords};
 ghost use Rattle.tb_ledger.specs.declared.tables.transfers.State.TheVariants.{Expired};
 
 use crate::changes::sides::release_side;
@@ -81,14 +82,7 @@ fn release_due<A: Allocator + Clone>(rows: &mut Rows<A>, time: u64)
     requires later { rows.old.time ≤ time }
     ensures kept { AreKept rows.new.accounts.items rows.new.transfers.items time }
     ensures index { IsIndex rows.new.transfers.items rows.new.timeouts.items }
-    ensures accounts { map (λ a. a.created) rows.new.accounts.items ≡ map (λ a. a.created) rows.old.accounts.items }
-    ensures transfers { map (λ t. t.recorded) rows.new.transfers.items
-        ≡ map (λ t. t.recorded) rows.old.transfers.items }
-    ensures accounts_room { rows.new.accounts.spare ≡ rows.old.accounts.spare }
-    ensures transfers_room { rows.new.transfers.spare ≡ rows.old.transfers.spare }
-    ensures timeouts_room { rows.old.timeouts.spare ≤ rows.new.timeouts.spare }
-    ensures failed { rows.new.failed ≡ rows.old.failed }
-    ensures keeps_failed { rows.new.keeps_failed ≡ rows.old.keeps_failed }
+    ensures records { KeepsRecords rows.old rows.new }
     ensures time { rows.new.time ≡ rows.old.time }
 {
     rows.timeouts.ordered();
@@ -105,11 +99,7 @@ pub fn expire<A: Allocator + Clone>(rows: &mut Rows<A>, time: u64)
     requires later { rows.old.time ≤ time }
     ensures kept { IsKept rows.new }
     ensures books { books_in rows.new ≡ record (books_in rows.old) { time = time } }
-    ensures accounts_room { rows.new.accounts.spare ≡ rows.old.accounts.spare }
-    ensures transfers_room { rows.new.transfers.spare ≡ rows.old.transfers.spare }
-    ensures timeouts_room { rows.old.timeouts.spare ≤ rows.new.timeouts.spare }
-    ensures failed { rows.new.failed ≡ rows.old.failed }
-    ensures keeps_failed { rows.new.keeps_failed ≡ rows.old.keeps_failed }
+    ensures records { KeepsRecords rows.old rows.new }
     ensures time { rows.new.time ≡ time }
 {
     release_due(rows, time);

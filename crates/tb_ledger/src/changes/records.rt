@@ -29,8 +29,8 @@ pub(crate) fn add_row<A: Allocator + Clone>(
     trail: &mut Trail<A>,
     row: &TransferRow,
 )
-    requires room { 0 < transfers.old.spare }
-    requires trail_room { length trail.old.changes < trail.old.capacity }
+    requires capacity { 0 < transfers.old.spare }
+    requires log { length trail.old.changes < trail.old.capacity }
     requires fresh { find (λ t. t.recorded.id == row.now.recorded.id) transfers.old.items ≡ None }
     requires can_list { times_out row.now ≡ true → CanList row.now timeouts.old }
     ensures transfers { transfers.new

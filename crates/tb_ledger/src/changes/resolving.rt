@@ -1,18 +1,20 @@
 //! A post or void: the pending transfer that it names is closed, and the sums of both accounts settled.
-ghost use Rattle.std.specs.Prelude.{◌≡◌, ◌≢◌, ◌+◌, ◌^◌, ◌<◌, ◌≤◌, ◌==◌, true, length, find, Some, None, IsSome, OnOk, OnErr};
+ghost use Rattle.std.specs.Prelude.{◌≡◌, ◌≢◌, ◌^◌, ◌<◌, ◌==◌, true, length, find, Some, IsSome, OnOk, OnErr};
 ghost use Rattle.tb_ledger.specs.Batches.{transfer_events};
-ghost use Rattle.tb_ledger.specs.Books.{resolves, transfer_at};
+ghost use Rattle.tb_ledger.specs.Books.{resolves};
 ghost use Rattle.tb_ledger.specs.Exchanges.{row_at};
 ghost use Rattle.tb_ledger.specs.Kept.{books_in, IsKept, transfer_row_key, times_out, unlisted, IsListed, settled, state_given_by};
-ghost use Rattle.tb_ledger.specs.Trail.{Stays, IsStep, IsMarked};
-ghost use Rattle.tb_ledger.specs.Noted.{HasRoomFor};
+ghost use Rattle.tb_ledger.specs.Capacity.{HasTransfers};
+ghost use Rattle.tb_ledger.specs.Steps.{IsReady, IsResolution, Leaves};
+ghost use Rattle.tb_ledger.specs.Trail.{Stays, IsMarked};
+ghost use Rattle.tb_ledger.specs.Noted.{HasCapacityFor};
 ghost use Rattle.tb_ledger.specs.Settlings.{closed_code, CanSettle, Settles, SettlesIn};
 ghost use Rattle.tb_ledger.specs.Verdicts.{id_code};
 ghost use Rattle.tb_records.specs.Ordered.{put, replaced, Rising};
 ghost use Rattle.tb_ledger.specs.Sound.{transfer_key};
 ghost use Rattle.tb_ledger.specs.Timeouts.{AreTimeouts};
 ghost use Rattle.tb_records.specs.TransferResults.{transfer_result_code};
-ghost use Rattle.tb_ledger.specs.Found.{FoundPending, Judges};
+ghost use Rattle.tb_ledger.specs.Found.{Judges};
 
 use crate::changes::records::{add_row, row_of};
 use crate::changes::sides::settle_side;
@@ -34,9 +36,7 @@ pub(crate) fn take_resolving<A: Allocator + Clone>(
     t: &Transfer,
     time: u64,
 ) -> Result<(), CreateTransferResult>
-    requires kept { IsKept rows.old }
-    requires room { 0 < rows.old.transfers.spare }
-    requires trail_room { HasRoomFor TRAIL_PER_EVENT trail.old }
+    requires ready { IsReady HasTransfers rows.old trail.old time }
     requires free { id_code (books_in rows.old) t.now ≡ 0 }
     requires resolving { resolves t.now ≡ true }
     requires plain { t.now.flags < 2 ^ 8 }
@@ -44,11 +44,8 @@ pub(crate) fn take_resolving<A: Allocator + Clone>(
         (transfer_events.verdict (books_in rows.old) t.now time) }
     ensures done { OnOk result
         (books_in rows.new ≡ transfer_events.recorded (books_in rows.old) t.now time) }
-    ensures kept { IsKept rows.new }
     ensures refused { OnErr result (Stays rows.old rows.new trail.old trail.new) }
-    ensures step { IsStep TRAIL_PER_EVENT rows.old rows.new trail.old trail.new }
-    ensures room { rows.old.transfers.spare ≤ rows.new.transfers.spare + 1 }
-    ensures timeouts_room { rows.old.timeouts.spare ≤ rows.new.timeouts.spare + 1 }
+    ensures leaves { Leaves rows.old rows.new trail.old trail.new }
 {
     let Resolution { pending, filled } = judge_resolving(rows, t)?;
     let pending = *pending;
@@ -66,24 +63,17 @@ fn settle<A: Allocator + Clone>(
     r: &Transfer,
 ) -> Result<(), CreateTransferResult>
     requires kept { IsKept rows.old }
-    requires room { 0 < rows.old.transfers.spare }
-    requires trail_room { HasRoomFor TRAIL_PER_EVENT trail.old }
-    requires fresh { transfer_at (books_in rows.old) r.now.id ≡ None }
-    requires found { find (λ row. row.recorded.id == r.now.pending_id) rows.old.transfers.items ≡ Some p.now }
-    requires plain { r.now.flags < 2 ^ 8 }
-    requires is_resolver { resolves r.now ≡ true }
-    requires resolves { FoundPending (books_in rows.old) r.now }
+    requires capacity { 0 < rows.old.transfers.spare }
+    requires log { HasCapacityFor TRAIL_PER_EVENT trail.old }
+    requires resolution { IsResolution rows.old p.now r.now }
     ensures judged { Judges transfer_result_code result
         (closed_code (books_in rows.old) r.now p.now.recorded) }
-    ensures kept { IsKept rows.new }
     ensures books { OnOk result
         (books_in rows.new
         ≡ record (books_in rows.old)
         { transfers = put transfer_key r.now (books_in rows.old).transfers }) }
     ensures refused { OnErr result (Stays rows.old rows.new trail.old trail.new) }
-    ensures step { IsStep TRAIL_PER_EVENT rows.old rows.new trail.old trail.new }
-    ensures transfers_room { rows.old.transfers.spare ≤ rows.new.transfers.spare + 1 }
-    ensures timeouts_room { rows.old.timeouts.spare ≤ rows.new.timeouts.spare + 1 }
+    ensures leaves { Leaves rows.old rows.new trail.old trail.new }
 {
     settle_accounts(&mut rows.accounts, trail, &p.recorded(), r)?;
     let state = state_given(r);
@@ -109,7 +99,7 @@ fn settle_accounts<A: Allocator + Clone>(
     requires can_credit { (a : AccountRow) → row_at accounts.old.items r.now.credit_account_id ≡ Some a
         → CanSettle p.now r.now a.credits }
     ensures settled { SettlesIn p.now r.now trail.old accounts.old.items result accounts.new.items trail.new }
-    ensures room { accounts.new.spare ≡ accounts.old.spare }
+    ensures capacity { accounts.new.spare ≡ accounts.old.spare }
 {
     let settled = accounts.update_two(
         r.debit_account_id,
@@ -164,7 +154,7 @@ fn close_row<A: Allocator + Clone>(
     p: &TransferRow,
     state: State,
 )
-    requires trail_room { length trail.old.changes < trail.old.capacity }
+    requires log { length trail.old.changes < trail.old.capacity }
     requires found { find (λ row. row.recorded.id == p.now.recorded.id) transfers.old.items ≡ Some p.now }
     requires is_listed { times_out p.now ≡ true → IsListed timeouts.old.items p.now }
     ensures transfers { transfers.new

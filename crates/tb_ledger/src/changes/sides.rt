@@ -51,7 +51,7 @@ pub(crate) fn release_side(s: Side, p: &Transfer, closes: bool) -> Side
     }
 }
 
-/// The pending amount leaves before what is posted of it comes. A side that can settle has room for the sums; where one had not,
+/// The pending amount leaves before what is posted of it comes. A side that can settle has sums that fit; where they did not,
 /// they would stop at the greatest number.
 pub(crate) fn settle_side(
     s: Side,

@@ -1,13 +1,14 @@
 //! A transfer between two accounts: both rows are found by one walk, judged, and changed where they stand.
-ghost use Rattle.std.specs.Prelude.{◌≡◌, ◌+◌, ◌^◌, ◌<◌, ◌≤◌, false, ◌≢◌, if◌then◌else◌, OnOk, OnErr};
+ghost use Rattle.std.specs.Prelude.{◌≡◌, ◌^◌, ◌<◌, false, ◌≢◌, if◌then◌else◌, OnOk, OnErr};
 ghost use Rattle.std.specs.Option.{is_some};
 ghost use Rattle.tb_ledger.specs.Batches.{transfer_events};
 ghost use Rattle.tb_ledger.specs.Books.{resolves};
 ghost use Rattle.tb_records.specs.TransferResults.{transfer_result_code};
 ghost use Rattle.tb_ledger.specs.Found.{Judges};
-ghost use Rattle.tb_ledger.specs.Kept.{books_in, IsKept, PrecedesTimeouts};
-ghost use Rattle.tb_ledger.specs.Trail.{Stays, IsStep};
-ghost use Rattle.tb_ledger.specs.Noted.{HasRoomFor};
+ghost use Rattle.tb_ledger.specs.Capacity.{HasTransfers};
+ghost use Rattle.tb_ledger.specs.Kept.{books_in};
+ghost use Rattle.tb_ledger.specs.Steps.{IsReady, Leaves};
+ghost use Rattle.tb_ledger.specs.Trail.{Stays};
 ghost use Rattle.tb_ledger.specs.Verdicts.{id_code};
 ghost use Rattle.tb_ledger.specs.Exchanges.{Exchanges, ExchangesIn, row_at};
 
@@ -16,7 +17,7 @@ use crate::changes::sides::gain_side;
 use crate::tables::accounts::AccountRow;
 use crate::tables::map::Table;
 use crate::tables::rows::Rows;
-use crate::tables::trail::{TRAIL_PER_EVENT, Trail};
+use crate::tables::trail::Trail;
 use crate::verdicts::single::{between, single_own};
 use std::alloc::Allocator;
 use tb_records::{CreateTransferResult, Transfer, TransferFlag};
@@ -28,11 +29,7 @@ pub(crate) fn take_single<A: Allocator + Clone>(
     t: &Transfer,
     time: u64,
 ) -> Result<(), CreateTransferResult>
-    requires kept { IsKept rows.old }
-    requires room { 0 < rows.old.transfers.spare }
-    requires timeouts_room { 0 < rows.old.timeouts.spare }
-    requires trail_room { HasRoomFor TRAIL_PER_EVENT trail.old }
-    requires stamped { PrecedesTimeouts rows.old time }
+    requires ready { IsReady HasTransfers rows.old trail.old time }
     requires free { id_code (books_in rows.old) t.now ≡ 0 }
     requires single { resolves t.now ≡ false }
     requires plain { t.now.flags < 2 ^ 8 }
@@ -40,11 +37,8 @@ pub(crate) fn take_single<A: Allocator + Clone>(
         (transfer_events.verdict (books_in rows.old) t.now time) }
     ensures done { OnOk result
         (books_in rows.new ≡ transfer_events.recorded (books_in rows.old) t.now time) }
-    ensures kept { IsKept rows.new }
     ensures refused { OnErr result (Stays rows.old rows.new trail.old trail.new) }
-    ensures step { IsStep TRAIL_PER_EVENT rows.old rows.new trail.old trail.new }
-    ensures room { rows.old.transfers.spare ≤ rows.new.transfers.spare + 1 }
-    ensures timeouts_room { rows.old.timeouts.spare ≤ rows.new.timeouts.spare + 1 }
+    ensures leaves { Leaves rows.old rows.new trail.old trail.new }
 {
     single_own(t)?;
     let amount = exchange(&mut rows.accounts, trail, t, time)?;
@@ -67,7 +61,7 @@ fn exchange<A: Allocator + Clone>(
 ) -> Result<u128, CreateTransferResult>
     requires { t.now.debit_account_id ≢ t.now.credit_account_id }
     ensures exchanged { ExchangesIn t.now time trail.old accounts.old.items result accounts.new.items trail.new }
-    ensures room { accounts.new.spare ≡ accounts.old.spare }
+    ensures capacity { accounts.new.spare ≡ accounts.old.spare }
 {
     let exchanged = accounts.update_two(
         t.debit_account_id,

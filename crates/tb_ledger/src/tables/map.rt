@@ -36,11 +36,11 @@ pub struct Table<V: Keyed, A: Allocator + Clone> {
 }
 
 impl<V: Keyed, A: Allocator + Clone> Model for Table<V, A> {
-    ghost use Rattle.tb_ledger.specs.Tables.{pairs_in, rows_in, room_in, IsKnown, Stored};
+    ghost use Rattle.tb_ledger.specs.Tables.{pairs_in, rows_in, spare_in, IsKnown, Stored};
 
     ghost Value = { Stored V };
 
-    ghost view = { λ t. record { items = rows_in t.rows; spare = room_in t.rows } };
+    ghost view = { λ t. record { items = rows_in t.rows; spare = spare_in t.rows } };
 
     ghost invariant = { λ t. IsKnown V.key t.known (pairs_in t.rows) };
 }
@@ -83,11 +83,11 @@ fn probe_row<V: Keyed, A: Allocator + Clone>(
 /// Inserts a row whose key isn't there into a spare node.
 fn insert_row<V: Keyed, A: Allocator + Clone>(rows: &mut AvlMap<u128, V, A>, row: V)
     requires table { IsTable V.key (entries rows.old) }
-    requires room { 0 < rows.old.spare }
+    requires capacity { 0 < rows.old.spare }
     requires absent { find (λ y. V.key y == V.key row) (values_of (entries rows.old)) ≡ None }
     ensures table { IsTable V.key (entries rows.new) }
     ensures rows { values_of (entries rows.new) ≡ put V.key row (values_of (entries rows.old)) }
-    ensures room { rows.new.spare + 1 ≡ rows.old.spare }
+    ensures capacity { rows.new.spare + 1 ≡ rows.old.spare }
 {
     rows.insert_reserved(row.key(), row);
 }
@@ -97,7 +97,7 @@ fn replace_row<V: Keyed, A: Allocator + Clone>(rows: &mut AvlMap<u128, V, A>, ro
     requires table { IsTable V.key (entries rows.old) }
     ensures table { IsTable V.key (entries rows.new) }
     ensures rows { values_of (entries rows.new) ≡ replaced V.key row (values_of (entries rows.old)) }
-    ensures room { rows.new.spare ≡ rows.old.spare }
+    ensures capacity { rows.new.spare ≡ rows.old.spare }
 {
     let _ = rows.set(row.key(), row);
 }
@@ -119,7 +119,7 @@ fn update_row<V: Keyed, A: Allocator + Clone, R, F: FnMut(&mut V) -> R>(
     ensures absent { IfNone result
         ((find (λ y. V.key y == id) (values_of (entries rows.old)) ≡ None)
         × (values_of (entries rows.new) ≡ values_of (entries rows.old))) }
-    ensures room { rows.new.spare ≡ rows.old.spare }
+    ensures capacity { rows.new.spare ≡ rows.old.spare }
 {
     rows.update(&id, f)
 }
@@ -145,7 +145,7 @@ fn update_rows<V: Keyed, A: Allocator + Clone, R, F: FnMut(&mut V, &mut V) -> R>
         ⊎ (find (λ y. V.key y == b) (values_of (entries rows.old)) ≡ None))
         × (f.new ≡ f.old)
         × (values_of (entries rows.new) ≡ values_of (entries rows.old))) }
-    ensures room { rows.new.spare ≡ rows.old.spare }
+    ensures capacity { rows.new.spare ≡ rows.old.spare }
 {
     rows.update_two(&a, &b, f)
 }
@@ -155,7 +155,7 @@ fn remove_row<V: Keyed, A: Allocator + Clone>(rows: &mut AvlMap<u128, V, A>, id:
     requires table { IsTable V.key (entries rows.old) }
     ensures table { IsTable V.key (entries rows.new) }
     ensures rows { values_of (entries rows.new) ≡ taken_out V.key id (values_of (entries rows.old)) }
-    ensures room { rows.old.spare ≤ rows.new.spare }
+    ensures capacity { rows.old.spare ≤ rows.new.spare }
 {
     let _ = rows.remove(&id);
 }
@@ -236,7 +236,7 @@ impl<V: Keyed, A: Allocator + Clone> Table<V, A> {
         }
     }
 
-    /// Makes room for `n` more rows, and for no more. Where there is no memory the rows stay, and no room is lost.
+    /// Makes capacity for `n` more rows, and for no more. Where there is no memory the rows stay, and no capacity is lost.
     pub fn reserve(&mut self, alloc: &A, n: usize) -> Result<(), AllocError>
         ensures rows { self.new.items ≡ self.old.items }
         ensures ok { OnOk result (n ≤ self.new.spare) }
@@ -254,9 +254,9 @@ impl<V: Keyed, A: Allocator + Clone> Table<V, A> {
         }
     }
 
-    /// Inserts a row whose key isn't there, where there is room.
+    /// Inserts a row whose key isn't there, where there is capacity.
     pub fn insert_reserved(&mut self, row: V)
-        requires room { 0 < self.old.spare }
+        requires capacity { 0 < self.old.spare }
         requires absent { find (λ y. V.key y == V.key row) self.old.items ≡ None }
         ensures table { self.new ≡ record { items = put V.key row self.old.items; spare = self.old.spare - 1 } }
         ensures rising { Rising V.key self.old.items }
@@ -288,7 +288,7 @@ impl<V: Keyed, A: Allocator + Clone> Table<V, A> {
         ensures absent { IfNone result
             ((find (λ y. V.key y == id) self.old.items ≡ None)
             × (self.new.items ≡ self.old.items)) }
-        ensures room { self.new.spare ≡ self.old.spare }
+        ensures capacity { self.new.spare ≡ self.old.spare }
     {
         match &mut self.rows {
             Some(rows) => update_row(rows, id, f),
@@ -313,7 +313,7 @@ impl<V: Keyed, A: Allocator + Clone> Table<V, A> {
             ⊎ (find (λ y. V.key y == b) self.old.items ≡ None))
             × (f.new ≡ f.old)
             × (self.new.items ≡ self.old.items)) }
-        ensures room { self.new.spare ≡ self.old.spare }
+        ensures capacity { self.new.spare ≡ self.old.spare }
     {
         match &mut self.rows {
             Some(rows) => update_rows(rows, a, b, f),
@@ -324,7 +324,7 @@ impl<V: Keyed, A: Allocator + Clone> Table<V, A> {
     /// Takes the row with the key out. Where none has it, the table stays.
     pub fn remove(&mut self, id: u128)
         ensures rows { self.new.items ≡ taken_out V.key id self.old.items }
-        ensures room { self.old.spare ≤ self.new.spare }
+        ensures capacity { self.old.spare ≤ self.new.spare }
     {
         match &mut self.rows {
             Some(rows) => remove_row(rows, id),

@@ -23,12 +23,12 @@ pub struct Timeouts<A: Allocator + Clone> {
 
 impl<A: Allocator + Clone> Model for Timeouts<A> {
     ghost use Rattle.tb_ledger.specs.declared.tables.timeouts.Timeout.{Timeout};
-    ghost use Rattle.tb_ledger.specs.Tables.{room_in, Stored};
+    ghost use Rattle.tb_ledger.specs.Tables.{spare_in, Stored};
     ghost use Rattle.tb_ledger.specs.Timeouts.{timeouts_in, AreTimeouts};
 
     ghost Value = { Stored Timeout };
 
-    ghost view = { λ t. record { items = timeouts_in t.keys; spare = room_in t.keys } };
+    ghost view = { λ t. record { items = timeouts_in t.keys; spare = spare_in t.keys } };
 
     ghost invariant = { λ t. AreTimeouts (timeouts_in t.keys) };
 }
@@ -36,11 +36,11 @@ impl<A: Allocator + Clone> Model for Timeouts<A> {
 /// Puts a timeout that isn't there into a spare node.
 fn insert_key<A: Allocator + Clone>(keys: &mut AvlMap<(u64, u128), (), A>, timeout: Timeout)
     requires ordered { AreTimeouts (timeouts_of (entries keys.old)) }
-    requires room { 0 < keys.old.spare }
+    requires capacity { 0 < keys.old.spare }
     requires absent { find (λ d. timeout_key d == timeout_key timeout) (timeouts_of (entries keys.old)) ≡ None }
     ensures ordered { AreTimeouts (timeouts_of (entries keys.new)) }
     ensures timeouts { timeouts_of (entries keys.new) ≡ put timeout_key timeout (timeouts_of (entries keys.old)) }
-    ensures room { keys.new.spare + 1 ≡ keys.old.spare }
+    ensures capacity { keys.new.spare + 1 ≡ keys.old.spare }
 {
     keys.insert_reserved((timeout.at, timeout.id), ());
 }
@@ -51,7 +51,7 @@ fn remove_key<A: Allocator + Clone>(keys: &mut AvlMap<(u64, u128), (), A>, timeo
     ensures ordered { AreTimeouts (timeouts_of (entries keys.new)) }
     ensures timeouts { timeouts_of (entries keys.new)
         ≡ taken_out timeout_key (timeout_key timeout) (timeouts_of (entries keys.old)) }
-    ensures room { keys.new.spare
+    ensures capacity { keys.new.spare
         ≡ keys.old.spare
         + freed
         (find (λ d. timeout_key d == timeout_key timeout) (timeouts_of (entries keys.old))) }
@@ -103,7 +103,7 @@ impl<A: Allocator + Clone> Timeouts<A> {
         let _ = &self.keys;
     }
 
-    /// Makes room for `n` more timeouts, and for no more. Where there is no memory they stay, and no room is lost.
+    /// Makes capacity for `n` more timeouts, and for no more. Where there is no memory they stay, and no capacity is lost.
     pub fn reserve(&mut self, alloc: &A, n: usize) -> Result<(), AllocError>
         ensures timeouts { self.new.items ≡ self.old.items }
         ensures ok { OnOk result (n ≤ self.new.spare) }
@@ -121,9 +121,9 @@ impl<A: Allocator + Clone> Timeouts<A> {
         }
     }
 
-    /// Inserts a timeout that isn't there, where there is room.
+    /// Inserts a timeout that isn't there, where there is capacity.
     pub fn insert_reserved(&mut self, timeout: Timeout)
-        requires room { 0 < self.old.spare }
+        requires capacity { 0 < self.old.spare }
         requires absent { find (λ d. timeout_key d == timeout_key timeout) self.old.items ≡ None }
         ensures { self.new ≡ with_timeout timeout self.old }
     {

@@ -1,6 +1,7 @@
 //! The trail of a chain's changes, by which a chain that breaks is undone.
 ghost use Rattle.std.specs.Prelude.{◌≡◌, ◌*◌, ◌+◌, ◌<◌, ◌≤◌, ◌++◌, true, [], ◌∷◌, length, IfOk, IfSome, IfNone};
-ghost use Rattle.tb_ledger.specs.Trail.{unwound_accounts, unwound_transfers, unwound_timeouts, CanUnwind};
+ghost use Rattle.tb_ledger.specs.Trail.{CanUnwind};
+ghost use Rattle.tb_ledger.specs.Steps.{IsUnwound};
 ghost use Rattle.tb_ledger.specs.Noted.{with_noted, NotesPair};
 
 use crate::tables::accounts::AccountRow;
@@ -46,8 +47,8 @@ impl<A: Allocator + Clone> Model for Trail<A> {
 }
 
 impl<A: Allocator + Clone> Trail<A> {
-    /// An empty trail with room for the changes of so many events.
-    pub fn with_room(alloc: A, events: usize) -> Result<Self, AllocError>
+    /// An empty trail for the changes of so many events.
+    pub fn with_capacity(alloc: A, events: usize) -> Result<Self, AllocError>
         requires { events ≤ 8190 }
         ensures { IfOk result (λ trail. TRAIL_PER_EVENT * events ≤ trail.capacity) }
     {
@@ -55,8 +56,8 @@ impl<A: Allocator + Clone> Trail<A> {
         Ok(Trail { log, noting: false })
     }
 
-    /// There is room for the changes of so many events.
-    pub fn has_room(&self, events: usize) -> bool
+    /// It has the capacity for the changes of so many events.
+    pub fn has_capacity(&self, events: usize) -> bool
         requires { events ≤ 8190 }
         ensures { result ≡ true → TRAIL_PER_EVENT * events ≤ self.now.capacity }
     {
@@ -102,7 +103,7 @@ impl<A: Allocator + Clone> Trail<A> {
     }
 
     /// Adds the rows of two accounts from before their change, where changes are noted. The search that calls this can't tell that
-    /// there is room for both: where there is none, nothing is noted.
+    /// there is capacity for both: where there is none, nothing is noted.
     pub fn note_pair(&mut self, debit: &AccountRow, credit: &AccountRow)
         ensures { NotesPair debit.now credit.now self.old self.new }
     {
@@ -126,14 +127,7 @@ impl<A: Allocator + Clone> Trail<A> {
 /// Undoes the changes of the trail, the last first. No memory is taken.
 pub fn unwind<A: Allocator + Clone>(rows: &mut Rows<A>, trail: &mut Trail<A>)
     requires { CanUnwind trail.old.changes rows.old.timeouts }
-    ensures accounts { rows.new.accounts.items ≡ unwound_accounts trail.old.changes rows.old.accounts.items }
-    ensures transfers { rows.new.transfers.items ≡ unwound_transfers trail.old.changes rows.old.transfers.items }
-    ensures timeouts { rows.new.timeouts ≡ unwound_timeouts trail.old.changes rows.old.timeouts }
-    ensures accounts_room { rows.old.accounts.spare ≤ rows.new.accounts.spare }
-    ensures transfers_room { rows.old.transfers.spare ≤ rows.new.transfers.spare }
-    ensures failed { rows.new.failed ≡ rows.old.failed }
-    ensures keeps_failed { rows.new.keeps_failed ≡ rows.old.keeps_failed }
-    ensures time { rows.new.time ≡ rows.old.time }
+    ensures unwound { IsUnwound trail.old rows.old rows.new }
     ensures capacity { trail.new.capacity ≡ trail.old.capacity }
 {
     while let Some(undo) = trail.pop() {

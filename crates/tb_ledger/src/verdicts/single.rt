@@ -91,16 +91,16 @@ fn balanced(d: &AccountRow, c: &AccountRow, t: &Transfer) -> u128
 {
     let mut amount = t.amount;
     if t.has(TransferFlag::BalancingDebit) {
-        amount = amount.min(room(d.debits(), d.credits()));
+        amount = amount.min(to_spare(d.debits(), d.credits()));
     }
     if t.has(TransferFlag::BalancingCredit) {
-        amount = amount.min(room(c.credits(), c.debits()));
+        amount = amount.min(to_spare(c.credits(), c.debits()));
     }
     amount
 }
 
 /// What a side can still take before its sums exceed what is posted on the other.
-fn room(side: Side, other: Side) -> u128
+fn to_spare(side: Side, other: Side) -> u128
     ensures { result ≡ other.posted - (side.posted + side.pending) }
 {
     other

@@ -1,8 +1,11 @@
 use Rattle.std.proofs.Common.{◌≡◌, ◌<◌, ◌+◌, ◌++◌, length, subst, sym, ap, ◌∙◌, arith}
 use Rattle.std.proofs.lemmas.Bool.Decides.{nat_tests}
 use Rattle.tb_ledger.specs.Batches.{blocks, block_after, blocks_after, timed_from, results_from}
+use Rattle.tb_ledger.specs.Capacity.{capacity_of}
+use Rattle.tb_ledger.specs.Steps.{IsReadyFor}
 use Rattle.tb_ledger.specs.Kept.{books_in}
 use Rattle.tb_ledger.proofs.BlockLaws.{length-codes, length-timed_from}
+use Rattle.tb_ledger.proofs.Capacities.{uses_none}
 use Rattle.tb_ledger.proofs.ResultLaws.{blocks-round, results-round}
 use Rattle.tb_ledger.proofs.batches.run_batch.Goals as goal
 
@@ -31,12 +34,29 @@ loop-rest-preserved g c =
           (ap (λ bs. c.loop-rest.results.items ++ results_from c.loop-rest.index (blocks_after kind B bs).codes) (sym rounds) ∙ v.results);
       left = omega (arith, parts, v.left);
       stamp = omega (arith, v.stamp);
-      kept = r.kept;
-      time = r.time ∙ v.time;
-      capacity = r.capacity ∙ v.capacity;
-      room = omega (arith, parts, r.room, v.room);
-      timeouts_room = r.timeouts_room (length later) (subst (λ k. g.E.Event.HasTimeoutRoom k c.loop-rest.rows.timeouts.spare) parts v.timeouts_room);
-      ids = r.ids (length later) (subst (λ k. g.E.Event.HasIdRoom k c.loop-rest.rows.keeps_failed c.loop-rest.rows.failed.spare) parts v.ids);
+      kept = r.leaves.kept;
+      time = r.leaves.time ∙ v.time;
+      log = r.leaves.log ∙ v.log;
+      capacity = g.met.E.Event.leaves_rest (length block) (length later) (capacity_of c.loop-rest.rows) (capacity_of c.run_block.new.rows) (subst (λ k. g.E.Event.HasCapacity k (capacity_of c.loop-rest.rows)) parts v.capacity) r.leaves.capacity;
       results_len = omega (arith, r.results_len, v.results_len);
       results_capacity = r.results_capacity ∙ v.results_capacity;
     }
+
+pub run_block-requires-clause-ready : goal.run_block-requires-clause-ready
+run_block-requires-clause-ready g c =
+    let v = c.loop-rest.invariant in
+    let rows = c.loop-rest.rows in
+    let rest = c.loop-rest.rest.now in
+    let block = c.split_at.result.0.now in
+    let later = c.split_at.result.1.now in
+    let cut = c.split_at.ensures in
+    let ready = c.requires.ready in
+    let parts : length rest ≡ length later + length block = omega (arith, cut.front_len, cut.back_len) in
+    let its : IsReadyFor g.E.Event.HasCapacity (length block) rows c.loop-rest.trail c.loop-rest.stamp = record {
+      kept = v.kept;
+      capacity = g.met.E.Event.leaves_rest (length later) (length block) (capacity_of rows) (capacity_of rows) (subst (λ k. g.E.Event.HasCapacity k (capacity_of rows)) parts v.capacity) (uses_none (length later) (capacity_of rows));
+      stamped = omega (arith, ready.stamped, v.time, v.stamp);
+      in_range = omega (arith, ready.in_range, parts, v.left, v.stamp);
+      log = omega (arith, ready.log, parts, v.left, v.log);
+    } in
+    rw c.look_ahead.ensures its

@@ -1,5 +1,6 @@
 use Rattle.std.proofs.Common.{◌≡◌, ◌+◌, ◌≤◌, ◌++◌, length, vec_len, vec_capacity}
 use Rattle.tb_ledger.specs.Batches.{blocks, blocks_after, timed_from, results_from}
+use Rattle.tb_ledger.specs.Capacity.{capacity_of}
 use Rattle.tb_ledger.specs.Kept.{books_in, IsKept}
 use Rattle.tb_ledger.proofs.batches.run_batch.Given as goal
 
@@ -11,10 +12,8 @@ invariant-loop-rest g l = let kind = g.E.Event.kind in let start = l.initial.row
   stamp : l.stamp ≡ l.time + l.index;
   kept : IsKept l.rows;
   time : l.rows.time ≡ start.time;
-  capacity : l.trail.capacity ≡ l.initial.trail.capacity;
-  room : length l.rest ≤ g.E.Event.room l.rows.accounts.spare l.rows.transfers.spare;
-  timeouts_room : g.E.Event.HasTimeoutRoom (length l.rest) l.rows.timeouts.spare;
-  ids : g.E.Event.HasIdRoom (length l.rest) l.rows.keeps_failed l.rows.failed.spare;
+  log : l.trail.capacity ≡ l.initial.trail.capacity;
+  capacity : g.E.Event.HasCapacity (length l.rest) (capacity_of l.rows);
   results_len : vec_len l.results ≤ vec_len l.initial.results + l.index;
   results_capacity : vec_capacity l.results ≡ vec_capacity l.initial.results;
 }

@@ -1,7 +1,19 @@
-use Rattle.std.proofs.Common.{length, arith}
+use Rattle.std.proofs.Common.{◌≡◌, ◌+◌, length, subst, arith}
+use Rattle.tb_ledger.specs.Capacity.{capacity_of}
+use Rattle.tb_ledger.proofs.Capacities.{uses_kept}
 use Rattle.tb_ledger.proofs.ledgers.enter_within.Goals as goal
 
-pub run_batch-requires-clause-timeouts_room : goal.run_batch-requires-clause-timeouts_room
-run_batch-requires-clause-timeouts_room g c =
+pub run_batch-requires-clause-ready : goal.run_batch-requires-clause-ready
+run_batch-requires-clause-ready g c =
     let n = length c.args.events.now in
-    g.met.E.Event.fewer_timeouts n n c.args.rows.now.timeouts.spare c.expire.new.rows.timeouts.spare (omega arith) c.expire.ensures.timeouts_room c.requires.timeouts_room
+    let entry = c.requires.entry in
+    let rows = c.args.rows.now in
+    let later = c.expire.new.rows in
+    let whole : n ≡ 0 + n = omega arith in
+    record {
+      kept = c.expire.ensures.kept;
+      capacity = g.met.E.Event.leaves_rest 0 n (capacity_of rows) (capacity_of later) (subst (λ k. g.E.Event.HasCapacity k (capacity_of rows)) whole c.requires.capacity) (uses_kept rows later c.expire.ensures.records);
+      stamped = omega (arith, c.expire.ensures.time, entry.later, entry.count);
+      in_range = omega (arith, entry.in_range, entry.later, entry.count);
+      log = c.requires.made.log;
+    }

@@ -6,6 +6,6 @@ use Rattle.tb_ledger.proofs.lookups.fill_each.Given as goal
 abbrev pub invariant-loop-id : goal.invariant-loop-id
 invariant-loop-id g l = record {
   items : l.out.items ++ filter_map (found_in g.V.Keyed.key g.V.Found.record_now l.table.items) (drop l.id-index l.ids) ≡ l.initial.out.items ++ filter_map (found_in g.V.Keyed.key g.V.Found.record_now l.table.items) l.ids;
-  room : vec_len l.out + length (drop l.id-index l.ids) ≤ vec_capacity l.out;
+  rest : vec_len l.out + length (drop l.id-index l.ids) ≤ vec_capacity l.out;
   capacity : vec_capacity l.out ≡ vec_capacity l.initial.out;
 }

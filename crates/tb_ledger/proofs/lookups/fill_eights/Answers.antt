@@ -21,6 +21,6 @@ loop-eight-preserved g c =
           ∙ append_assoc c.loop-eight.out.items _ (filter_map (found_in g.V.Keyed.key g.V.Found.record_now rows) later)
           ∙ ap (λ xs. c.loop-eight.out.items ++ xs) (ap (λ xs. xs ++ filter_map (found_in g.V.Keyed.key g.V.Found.record_now rows) later) many ∙ sym (filter_map-append (found_in g.V.Keyed.key g.V.Found.record_now rows) eight later) ∙ ap (filter_map (found_in g.V.Keyed.key g.V.Found.record_now rows)) whole)
           ∙ c.loop-eight.invariant.items;
-      room = omega (arith, c.push_found.ensures.len, c.loop-eight.invariant.room, c.push_found.ensures.capacity, count, sum);
+      rest = omega (arith, c.push_found.ensures.len, c.loop-eight.invariant.rest, c.push_found.ensures.capacity, count, sum);
       capacity = c.push_found.ensures.capacity ∙ c.loop-eight.invariant.capacity;
     }

@@ -6,7 +6,7 @@ use Rattle.tb_ledger.proofs.lookups.fill_eights.Given as goal
 abbrev pub invariant-loop-eight : goal.invariant-loop-eight
 invariant-loop-eight g l = record {
   items : l.out.items ++ filter_map (found_in g.V.Keyed.key g.V.Found.record_now l.table.items) l.rest ≡ l.initial.out.items ++ filter_map (found_in g.V.Keyed.key g.V.Found.record_now l.table.items) l.ids;
-  room : vec_len l.out + length l.rest ≤ vec_capacity l.out;
+  rest : vec_len l.out + length l.rest ≤ vec_capacity l.out;
   capacity : vec_capacity l.out ≡ vec_capacity l.initial.out;
 }
 

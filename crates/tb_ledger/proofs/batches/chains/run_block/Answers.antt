@@ -1,7 +1,9 @@
-use Rattle.std.proofs.Common.{◌≡◌, ◌+◌, ◌-◌, ◌≤◌, ◌++◌, [], length, refl, subst, sym, ap, ◌∙◌, arith, append-nil}
+use Rattle.std.proofs.Common.{◌≡◌, ◌+◌, ◌-◌, ◌++◌, [], length, if◌then◌else◌, Some, None, refl, subst, sym, ap, ap₂, ◌∙◌, arith, append-nil}
 use Rattle.tb_ledger.specs.Batches.{results_from, block_after, timed_from}
+use Rattle.tb_ledger.specs.Capacity.{capacity_of, Uses}
 use Rattle.tb_ledger.specs.Kept.{books_in}
 use Rattle.tb_ledger.specs.Trail.{unwound_accounts, unwound_transfers, unwound_timeouts}
+use Rattle.tb_ledger.proofs.Capacities.{uses_none, uses_more, uses_both, uses_unwound}
 use Rattle.tb_ledger.proofs.CodeLaws.{results-none}
 use Rattle.tb_ledger.proofs.BlockLaws.{failure-later, all-later, broken-here, passed-here}
 use Rattle.tb_ledger.proofs.RowLaws.{ledger_back, books_back}
@@ -16,12 +18,12 @@ unwind-requires g c =
 
 pub refuse-requires-clause-kept : goal.refuse-requires-clause-kept
 refuse-requires-clause-kept g c =
-    let u = c.unwind.ensures in
-    let t = c.in-Err.ensures.step in
+    let u = c.unwind.ensures.unwound in
+    let t = c.in-Err.ensures.leaves.step in
     let stays = c.in-Err.ensures.refused in
     let v = c.loop-i.invariant in
     let back = v.back c.loop-i-test.true in
-    ledger_back _ _ _ _ _ _ _ _ _ _ _ _ c.requires.kept
+    ledger_back _ _ _ _ _ _ _ _ _ _ _ _ c.requires.ready.kept
     (u.accounts ∙ (λ i. unwound_accounts (stays.1 i).changes (stays.0 i).accounts.items) ∙ back.undo_accounts)
     (u.transfers ∙ (λ i. unwound_transfers (stays.1 i).changes (stays.0 i).transfers.items) ∙ back.undo_transfers)
     (ap (λ x. x.items) (u.failed ∙ t.failed ∙ v.failed)) (u.keeps_failed ∙ t.keeps_failed ∙ v.keeps)
@@ -29,8 +31,8 @@ refuse-requires-clause-kept g c =
 
 pub returns-in-Err-clause-books : goal.returns-in-Err-clause-books
 returns-in-Err-clause-books g c =
-    let u = c.unwind.ensures in
-    let t = c.in-Err.ensures.step in
+    let u = c.unwind.ensures.unwound in
+    let t = c.in-Err.ensures.leaves.step in
     let stays = c.in-Err.ensures.refused in
     let v = c.loop-i.invariant in
     let leads = v.back c.loop-i-test.true in
@@ -54,7 +56,7 @@ returns-in-Err-clause-results g c =
 pub loop-i-preserved : goal.loop-i-preserved
 loop-i-preserved g c =
     let t = c.in-Ok.ensures in
-    let s = t.step in
+    let s = t.leaves.step in
     let v = c.loop-i.invariant in
     let kind = g.E.Event.kind in
     let B = books_in c.loop-i.rows in
@@ -79,16 +81,13 @@ loop-i-preserved g c =
       failed = s.failed ∙ v.failed;
       keeps = s.keeps_failed ∙ v.keeps;
       time = s.time ∙ v.time;
-      kept = t.kept;
+      kept = t.leaves.kept;
       results = v.results;
       stamp = omega (arith, v.stamp);
       within = omega (arith, c.loop-i-test.true);
-      room = omega (arith, t.room, v.room);
-      timeouts_room = λ n all.
-          let left : length block - c.loop-i.i + n ≡ 1 + (length block - (c.loop-i.i + 1) + n) = omega (arith, c.loop-i-test.true) in
-          t.timeouts_room (length block - (c.loop-i.i + 1) + n) (subst (λ k. g.E.Event.HasTimeoutRoom k c.loop-i.rows.timeouts.spare) left (v.timeouts_room n all));
+      uses = uses_more (c.loop-i.i + 1) (c.loop-i.i + 1) _ _ (omega arith) (uses_both c.loop-i.i 1 _ _ _ v.uses t.leaves.capacity);
       trail = omega (arith, s.grows.length, v.trail);
-      capacity = s.grows.capacity ∙ v.capacity;
+      log = s.grows.capacity ∙ v.log;
     }
 
 pub returns-clause-results : goal.returns-clause-results
@@ -99,24 +98,74 @@ returns-clause-results g c =
     let none : results_from c.args.index (block_after g.E.Event.kind (books_in c.args.rows.now) (timed_from c.args.time block)).codes ≡ [] = ap (λ o. results_from c.args.index o.codes) passed ∙ results-none c.args.index (length block) in
     ap (λ r. r.items) v.results ∙ sym (append-nil c.args.results.now.items) ∙ ap (λ rest. c.args.results.now.items ++ rest) (sym none)
 
-pub take_in_chain-requires-clause-timeouts_room : goal.take_in_chain-requires-clause-timeouts_room
-take_in_chain-requires-clause-timeouts_room g c =
+-- each event of a chain finds capacity, and so does the refusal of one
+
+pub take_in_chain-requires : goal.take_in_chain-requires
+take_in_chain-requires g c =
+    let v = c.loop-i.invariant in
+    let start = capacity_of c.args.rows.now in
     let block = c.args.block.now in
-    let e = g.met.E.Event in
-    let whole : length block ≡ length block + 0 = omega arith in
-    let some : 1 ≤ length block - c.loop-i.i + 0 = omega (arith, c.loop-i-test.true) in
-    e.fewer_timeouts 1 (length block - c.loop-i.i + 0) c.loop-i.rows.timeouts.spare c.loop-i.rows.timeouts.spare some (omega arith) (c.loop-i.invariant.timeouts_room 0 (subst (λ k. g.E.Event.HasTimeoutRoom k c.args.rows.now.timeouts.spare) whole c.requires.timeouts_room))
+    let i = c.loop-i.i in
+    let ready = c.requires.ready in
+    let parts : length block ≡ length block - (i + 1) + (i + 1) = omega (arith, c.loop-i-test.true) in
+    let some : g.E.Event.HasCapacity (i + 1) start = g.met.E.Event.leaves_rest (length block - (i + 1)) (i + 1) start start (subst (λ k. g.E.Event.HasCapacity k start) parts ready.capacity) (uses_none (length block - (i + 1)) start) in
+    record {
+      ready = record {
+        kept = v.kept;
+        capacity = g.met.E.Event.leaves_rest i 1 start (capacity_of c.loop-i.rows) some v.uses;
+        stamped = omega (arith, ready.stamped, v.time, v.stamp);
+        log = omega (arith, v.trail, v.log, ap (λ t. t.capacity) c.start.ensures, ready.log, c.loop-i-test.true);
+      };
+    }
 
-pub returns-in-Err-clause-timeouts_room : goal.returns-in-Err-clause-timeouts_room
-returns-in-Err-clause-timeouts_room g c = λ n all.
-    let u = c.unwind.ensures in
+pub refuse-requires-clause-capacity : goal.refuse-requires-clause-capacity
+refuse-requires-clause-capacity g c =
+    let v = c.loop-i.invariant in
+    let start = capacity_of c.args.rows.now in
+    let block = c.args.block.now in
+    let i = c.loop-i.i in
+    let u = c.unwind.ensures.unwound in
     let stays = c.in-Err.ensures.refused in
-    let back = c.loop-i.invariant.back c.loop-i-test.true in
-    let less : n ≤ length c.args.block.now + n = omega arith in
-    let same = c.refuse.ensures.timeouts ∙ u.timeouts ∙ (λ i. unwound_timeouts (stays.1 i).changes (stays.0 i).timeouts) ∙ back.undo_timeouts in
-    g.met.E.Event.fewer_timeouts n (length c.args.block.now + n) c.refuse.new.rows.timeouts.spare c.refuse.new.rows.timeouts.spare less (omega arith) (subst (λ d. g.E.Event.HasTimeoutRoom (length c.args.block.now + n) d.spare) (sym same) all)
+    let back = v.back c.loop-i-test.true in
+    let parts : length block ≡ length block - (i + 1) + (i + 1) = omega (arith, c.loop-i-test.true) in
+    let some : g.E.Event.HasCapacity (i + 1) start = g.met.E.Event.leaves_rest (length block - (i + 1)) (i + 1) start start (subst (λ k. g.E.Event.HasCapacity k start) parts c.requires.ready.capacity) (uses_none (length block - (i + 1)) start) in
+    let same = u.timeouts ∙ (λ i. unwound_timeouts (stays.1 i).changes (stays.0 i).timeouts) ∙ back.undo_timeouts in
+    let uses = uses_unwound i c.args.rows.now c.take_in_chain.new.rows c.unwind.new.rows c.take_in_chain.new.trail (subst (λ rows. Uses i start (capacity_of rows)) (sym stays.0) v.uses) u same in
+    g.met.E.Event.leaves_rest i 1 start (capacity_of c.unwind.new.rows) some uses
 
-pub returns-clause-timeouts_room : goal.returns-clause-timeouts_room
-returns-clause-timeouts_room g c = λ n all.
-    let none : length c.args.block.now - c.loop-i.i + n ≡ n = omega (arith, c.loop-i-test.false) in
-    subst (λ k. g.E.Event.HasTimeoutRoom k c.loop-i.rows.timeouts.spare) none (c.loop-i.invariant.timeouts_room n all)
+pub refuse-requires-clause-fresh : goal.refuse-requires-clause-fresh
+refuse-requires-clause-fresh g c =
+    let u = c.unwind.ensures.unwound in
+    let stays = c.in-Err.ensures.refused in
+    let keeps = u.keeps_failed ∙ ap (λ rows. rows.keeps_failed) stays.0 in
+    let ids = ap (λ failed. failed.items) (u.failed ∙ ap (λ rows. rows.failed) stays.0) in
+    subst (λ failed. g.E.Event.IsNew failed c.index-block-i.result (g.E.Event.code_of c.in-Err.refusal)) (sym (ap₂ (λ keeps ids. if keeps then Some ids else None) keeps ids)) c.in-Err.ensures.fresh
+
+pub returns-in-Err-clause-leaves : goal.returns-in-Err-clause-leaves
+returns-in-Err-clause-leaves g c =
+    let v = c.loop-i.invariant in
+    let start = capacity_of c.args.rows.now in
+    let block = c.args.block.now in
+    let i = c.loop-i.i in
+    let u = c.unwind.ensures.unwound in
+    let step = c.in-Err.ensures.leaves.step in
+    let stays = c.in-Err.ensures.refused in
+    let back = v.back c.loop-i-test.true in
+    let same = u.timeouts ∙ (λ i. unwound_timeouts (stays.1 i).changes (stays.0 i).timeouts) ∙ back.undo_timeouts in
+    let uses = uses_unwound i c.args.rows.now c.take_in_chain.new.rows c.unwind.new.rows c.take_in_chain.new.trail (subst (λ rows. Uses i start (capacity_of rows)) (sym stays.0) v.uses) u same in
+    record {
+      kept = c.refuse.ensures.kept;
+      time = c.refuse.ensures.stays.time ∙ u.time ∙ step.time ∙ v.time;
+      capacity = uses_more (i + 1) (length block) _ _ (omega (arith, c.loop-i-test.true)) (uses_both i 1 _ _ _ uses c.refuse.ensures.uses);
+      log = c.unwind.ensures.capacity ∙ step.grows.capacity ∙ v.log ∙ ap (λ t. t.capacity) c.start.ensures;
+    }
+
+pub returns-clause-leaves : goal.returns-clause-leaves
+returns-clause-leaves g c =
+    let v = c.loop-i.invariant in
+    record {
+      kept = v.kept;
+      time = v.time;
+      capacity = uses_more c.loop-i.i (length c.args.block.now) _ _ v.within v.uses;
+      log = v.log ∙ ap (λ t. t.capacity) c.start.ensures;
+    }

@@ -1,6 +1,7 @@
-use Rattle.std.proofs.Common.{ℕ, ◌≡◌, ◌+◌, ◌*◌, ◌-◌, ◌<◌, ◌≤◌, true, [], length, drop}
+use Rattle.std.proofs.Common.{◌≡◌, ◌+◌, ◌*◌, ◌-◌, ◌<◌, ◌≤◌, true, [], length, drop}
 use Rattle.tb_ledger.specs.declared.tables.trail.TheConstants.{TRAIL_PER_EVENT}
 use Rattle.tb_ledger.specs.Batches.{failure_from, all_recorded, timed_from}
+use Rattle.tb_ledger.specs.Capacity.{capacity_of, Uses}
 use Rattle.tb_ledger.specs.Kept.{books_in, IsKept}
 use Rattle.tb_ledger.specs.Trail.{LeadsBack}
 use Rattle.tb_ledger.proofs.batches.chains.run_block.Given as goal
@@ -18,10 +19,9 @@ invariant-loop-i g l = let kind = g.E.Event.kind in let start = l.initial.rows i
   results : l.results ≡ l.initial.results;
   stamp : l.stamp ≡ l.time + l.i;
   within : l.i ≤ length l.block;
-  room : g.E.Event.room start.accounts.spare start.transfers.spare ≤ g.E.Event.room l.rows.accounts.spare l.rows.transfers.spare + l.i;
-  timeouts_room : (n : ℕ) → g.E.Event.HasTimeoutRoom (length l.block + n) start.timeouts.spare → g.E.Event.HasTimeoutRoom (length l.block - l.i + n) l.rows.timeouts.spare;
+  uses : Uses l.i (capacity_of start) (capacity_of l.rows);
   trail : length l.trail.changes ≤ TRAIL_PER_EVENT * l.i;
-  capacity : l.trail.capacity ≡ l.initial.trail.capacity;
+  log : l.trail.capacity ≡ l.initial.trail.capacity;
 }
 
 abbrev pub decreases-loop-i : goal.decreases-loop-i

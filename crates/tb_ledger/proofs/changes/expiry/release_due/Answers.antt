@@ -19,9 +19,9 @@ loop-due-init g c =
       ordered = c.ordered.ensures;
       accounts = refl;
       transfers = refl;
-      accounts_room = refl;
-      transfers_room = refl;
-      timeouts_room = omega arith;
+      accounts_capacity = refl;
+      transfers_capacity = refl;
+      timeouts_capacity = omega arith;
       failed = refl;
       keeps_failed = refl;
       time = refl;
@@ -79,9 +79,9 @@ loop-due-preserved g c =
       ordered = rw taken (ordered_without due rows.timeouts inv.ordered);
       accounts = accounts_stay p.recorded rows.accounts.items later.items changed ∙ inv.accounts;
       transfers = transfers_stay p rows.transfers.items left.items there marked ∙ inv.transfers;
-      accounts_room = ap (λ v. v.spare) c.release.ensures ∙ inv.accounts_room;
-      transfers_room = ap (λ v. v.spare) c.mark_expired-p.ensures.transfers ∙ inv.transfers_room;
-      timeouts_room = omega (arith, ap (λ v. v.spare) taken, inv.timeouts_room);
+      accounts_capacity = ap (λ v. v.spare) c.release.ensures ∙ inv.accounts_capacity;
+      transfers_capacity = ap (λ v. v.spare) c.mark_expired-p.ensures.transfers ∙ inv.transfers_capacity;
+      timeouts_capacity = omega (arith, ap (λ v. v.spare) taken, inv.timeouts_capacity);
       failed = inv.failed;
       keeps_failed = inv.keeps_failed;
       time = inv.time;
@@ -96,4 +96,19 @@ returns-clause-kept g c =
     record {
       sums = inv.sums;
       states = arrived rows.transfers.items c.args.time (map (λ t. t.recorded) c.args.rows.now.transfers.items) inv.transfers (none_lapses rows.transfers.items rows.timeouts inv.index c.args.time waits.1) inv.ahead;
+    }
+
+pub returns-clause-records : goal.returns-clause-records
+returns-clause-records g c =
+    let rows = c.loop-due.rows in
+    let inv = c.loop-due.invariant in
+    let waits = subst (λ o. TakesDue c.args.time rows.timeouts o c.pop_due.new.self) (none_of c.pop_due.result c.in_default.not-Some) c.pop_due.ensures in
+    record {
+      accounts = inv.accounts;
+      transfers = inv.transfers;
+      accounts_capacity = inv.accounts_capacity;
+      transfers_capacity = inv.transfers_capacity;
+      timeouts_capacity = omega (arith, inv.timeouts_capacity, ap (λ v. v.spare) waits.0);
+      failed = inv.failed;
+      keeps_failed = inv.keeps_failed;
     }

@@ -14,9 +14,9 @@ invariant-loop-due g l = record {
   ordered : AreTimeouts l.rows.timeouts.items;
   accounts : map (λ a. a.created) l.rows.accounts.items ≡ map (λ a. a.created) l.initial.rows.accounts.items;
   transfers : map (λ t. t.recorded) l.rows.transfers.items ≡ map (λ t. t.recorded) l.initial.rows.transfers.items;
-  accounts_room : l.rows.accounts.spare ≡ l.initial.rows.accounts.spare;
-  transfers_room : l.rows.transfers.spare ≡ l.initial.rows.transfers.spare;
-  timeouts_room : l.initial.rows.timeouts.spare ≤ l.rows.timeouts.spare;
+  accounts_capacity : l.rows.accounts.spare ≡ l.initial.rows.accounts.spare;
+  transfers_capacity : l.rows.transfers.spare ≡ l.initial.rows.transfers.spare;
+  timeouts_capacity : l.initial.rows.timeouts.spare ≤ l.rows.timeouts.spare;
   failed : l.rows.failed ≡ l.initial.rows.failed;
   keeps_failed : l.rows.keeps_failed ≡ l.initial.rows.keeps_failed;
   time : l.rows.time ≡ l.initial.rows.time;

@@ -20,7 +20,7 @@ returns-clause-transfers g c =
     let left_is : ch.left ≡ settled c.args.state ch.row = search rules in
     let the_row : ch.row ≡ p = let e : Some ch.row ≡ Some p = sym found ∙ c.requires.found in cc in
     let closed = ch.written ∙ ap (λ row. replaced transfer_row_key row transfers) (left_is ∙ ap (settled c.args.state) the_row) in
-    stored c.update-closed.new.self (replaced transfer_row_key (settled c.args.state p) transfers) c.args.transfers.now.spare closed c.update-closed.ensures.room
+    stored c.update-closed.new.self (replaced transfer_row_key (settled c.args.state p) transfers) c.args.transfers.now.spare closed c.update-closed.ensures.capacity
 
 pub returns-clause-marked : goal.returns-clause-marked
 returns-clause-marked g c =

@@ -9,6 +9,7 @@ use Rattle.tb_ledger.specs.Kept.{books_in, row_now, transfer_row_key, times_out,
 use Rattle.tb_ledger.specs.Sound.{transfer_key}
 use Rattle.tb_ledger.specs.Verdicts.{first_of, single_own_lines, transfer_verdict, balanced_between}
 use Rattle.tb_ledger.proofs.Accepted.{new_transfer, accounts_apart}
+use Rattle.tb_ledger.proofs.Capacities.{leaves_still, listed_spare}
 use Rattle.tb_ledger.proofs.Index.{not_listed_yet, index_added}
 use Rattle.tb_ledger.proofs.Passing.{noted_passed}
 use Rattle.tb_ledger.proofs.Refusals.{handed_on, on_err}
@@ -34,9 +35,9 @@ add_row-requires-clause-fresh g c =
     let own : first_of (single_own_lines t) ≡ 0 = c.in_ok-single_own.ensures in
     let amount_is = c.in_ok-amount.amount in
     let ex = c.in_ok-amount.ensures.exchanged.1 in
-    let debit = account_stands rows c.requires.kept t.debit_account_id ∙ ap (option_map row_now) ex.debit_there in
-    let credit = account_stands rows c.requires.kept t.credit_account_id ∙ ap (option_map row_now) ex.credit_there in
-    let verdict : transfer_verdict B t c.args.time ≡ 0 = verdict_by_rows rows c.requires.kept t c.args.time c.requires.free c.requires.single own ∙ c.in_ok-amount.ensures.exchanged.0 in
+    let debit = account_stands rows c.requires.ready.kept t.debit_account_id ∙ ap (option_map row_now) ex.debit_there in
+    let credit = account_stands rows c.requires.ready.kept t.credit_account_id ∙ ap (option_map row_now) ex.credit_there in
+    let verdict : transfer_verdict B t c.args.time ≡ 0 = verdict_by_rows rows c.requires.ready.kept t c.args.time c.requires.free c.requires.single own ∙ c.in_ok-amount.ensures.exchanged.0 in
     let amount : amount_is ≡ balanced_between (account_now B t.debit_account_id) (account_now B t.credit_account_id) t = ex.balanced ∙ balanced_found B t (row_now ex.debit) (row_now ex.credit) debit credit in
     let moves = recorded_pair B t c.args.time amount_is c.requires.single verdict amount in
     let recorded = as_recorded t amount_is c.args.time in
@@ -52,9 +53,9 @@ add_row-requires-clause-can_list g c =
     let own : first_of (single_own_lines t) ≡ 0 = c.in_ok-single_own.ensures in
     let amount_is = c.in_ok-amount.amount in
     let ex = c.in_ok-amount.ensures.exchanged.1 in
-    let debit = account_stands rows c.requires.kept t.debit_account_id ∙ ap (option_map row_now) ex.debit_there in
-    let credit = account_stands rows c.requires.kept t.credit_account_id ∙ ap (option_map row_now) ex.credit_there in
-    let verdict : transfer_verdict B t c.args.time ≡ 0 = verdict_by_rows rows c.requires.kept t c.args.time c.requires.free c.requires.single own ∙ c.in_ok-amount.ensures.exchanged.0 in
+    let debit = account_stands rows c.requires.ready.kept t.debit_account_id ∙ ap (option_map row_now) ex.debit_there in
+    let credit = account_stands rows c.requires.ready.kept t.credit_account_id ∙ ap (option_map row_now) ex.credit_there in
+    let verdict : transfer_verdict B t c.args.time ≡ 0 = verdict_by_rows rows c.requires.ready.kept t c.args.time c.requires.free c.requires.single own ∙ c.in_ok-amount.ensures.exchanged.0 in
     let amount : amount_is ≡ balanced_between (account_now B t.debit_account_id) (account_now B t.credit_account_id) t = ex.balanced ∙ balanced_found B t (row_now ex.debit) (row_now ex.credit) debit credit in
     let moves = recorded_pair B t c.args.time amount_is c.requires.single verdict amount in
     let recorded = as_recorded t amount_is c.args.time in
@@ -62,15 +63,15 @@ add_row-requires-clause-can_list g c =
     let fresh = no_row transfer_key (λ t. t.recorded) t.id rows.transfers.items new in
     let can : times_out (new_transfer_row recorded) ≡ true → CanList (new_transfer_row recorded) rows.timeouts = λ is. record {
       in_range = moves.in_time;
-      room = c.requires.timeouts_room;
-      absent = not_listed_yet rows.transfers.items rows.timeouts c.requires.kept.index (new_transfer_row recorded) fresh c.ordered.ensures c.row_of-row.ensures.fits;
+      capacity = omega (arith, c.requires.ready.capacity.timeouts);
+      absent = not_listed_yet rows.transfers.items rows.timeouts c.requires.ready.kept.index (new_transfer_row recorded) fresh c.ordered.ensures c.row_of-row.ensures.fits;
     } in
     rw c.row_of-row.ensures.row can
 
 pub returns-clause-judged : goal.returns-clause-judged
 returns-clause-judged g c =
     let own : first_of (single_own_lines c.args.t.now) ≡ 0 = c.in_ok-single_own.ensures in
-    verdict_by_rows c.args.rows.now c.requires.kept c.args.t.now c.args.time c.requires.free c.requires.single own ∙ c.in_ok-amount.ensures.exchanged.0
+    verdict_by_rows c.args.rows.now c.requires.ready.kept c.args.t.now c.args.time c.requires.free c.requires.single own ∙ c.in_ok-amount.ensures.exchanged.0
 
 pub returns-clause-done : goal.returns-clause-done
 returns-clause-done g c =
@@ -80,26 +81,26 @@ returns-clause-done g c =
     let own : first_of (single_own_lines t) ≡ 0 = c.in_ok-single_own.ensures in
     let amount_is = c.in_ok-amount.amount in
     let ex = c.in_ok-amount.ensures.exchanged.1 in
-    let debit = account_stands rows c.requires.kept t.debit_account_id ∙ ap (option_map row_now) ex.debit_there in
-    let credit = account_stands rows c.requires.kept t.credit_account_id ∙ ap (option_map row_now) ex.credit_there in
-    let verdict : transfer_verdict B t c.args.time ≡ 0 = verdict_by_rows rows c.requires.kept t c.args.time c.requires.free c.requires.single own ∙ c.in_ok-amount.ensures.exchanged.0 in
+    let debit = account_stands rows c.requires.ready.kept t.debit_account_id ∙ ap (option_map row_now) ex.debit_there in
+    let credit = account_stands rows c.requires.ready.kept t.credit_account_id ∙ ap (option_map row_now) ex.credit_there in
+    let verdict : transfer_verdict B t c.args.time ≡ 0 = verdict_by_rows rows c.requires.ready.kept t c.args.time c.requires.free c.requires.single own ∙ c.in_ok-amount.ensures.exchanged.0 in
     let amount : amount_is ≡ balanced_between (account_now B t.debit_account_id) (account_now B t.credit_account_id) t = ex.balanced ∙ balanced_found B t (row_now ex.debit) (row_now ex.credit) debit credit in
     let recorded = as_recorded t amount_is c.args.time in
     let added : c.add_row.new.transfers.items ≡ put transfer_row_key (new_transfer_row recorded) rows.transfers.items = ap (λ v. v.items) c.add_row.ensures.transfers ∙ ap (λ row. put transfer_row_key row rows.transfers.items) c.row_of-row.ensures.row in
-    books_with_single rows.accounts.items rows.transfers.items rows.failed.items rows.keeps_failed rows.timeouts.items rows.time c.requires.kept recorded c.exchange.new.accounts.items c.add_row.new.transfers.items ex.written added
+    books_with_single rows.accounts.items rows.transfers.items rows.failed.items rows.keeps_failed rows.timeouts.items rows.time c.requires.ready.kept recorded c.exchange.new.accounts.items c.add_row.new.transfers.items ex.written added
     ∙ ap (λ r. record B { transfers = put transfer_key r B.transfers }) (sym (recorded_single B t c.args.time amount_is c.requires.single amount))
 
-pub returns-clause-kept : goal.returns-clause-kept
-returns-clause-kept g c =
+pub returns-clause-leaves : goal.returns-clause-leaves
+returns-clause-leaves g c =
     let rows = c.args.rows.now in
     let B = books_in rows in
     let t = c.args.t.now in
     let own : first_of (single_own_lines t) ≡ 0 = c.in_ok-single_own.ensures in
     let amount_is = c.in_ok-amount.amount in
     let ex = c.in_ok-amount.ensures.exchanged.1 in
-    let debit = account_stands rows c.requires.kept t.debit_account_id ∙ ap (option_map row_now) ex.debit_there in
-    let credit = account_stands rows c.requires.kept t.credit_account_id ∙ ap (option_map row_now) ex.credit_there in
-    let verdict : transfer_verdict B t c.args.time ≡ 0 = verdict_by_rows rows c.requires.kept t c.args.time c.requires.free c.requires.single own ∙ c.in_ok-amount.ensures.exchanged.0 in
+    let debit = account_stands rows c.requires.ready.kept t.debit_account_id ∙ ap (option_map row_now) ex.debit_there in
+    let credit = account_stands rows c.requires.ready.kept t.credit_account_id ∙ ap (option_map row_now) ex.credit_there in
+    let verdict : transfer_verdict B t c.args.time ≡ 0 = verdict_by_rows rows c.requires.ready.kept t c.args.time c.requires.free c.requires.single own ∙ c.in_ok-amount.ensures.exchanged.0 in
     let amount : amount_is ≡ balanced_between (account_now B t.debit_account_id) (account_now B t.credit_account_id) t = ex.balanced ∙ balanced_found B t (row_now ex.debit) (row_now ex.credit) debit credit in
     let moves = recorded_pair B t c.args.time amount_is c.requires.single verdict amount in
     let recorded = as_recorded t amount_is c.args.time in
@@ -107,40 +108,51 @@ returns-clause-kept g c =
     let fresh = no_row transfer_key (λ t. t.recorded) t.id rows.transfers.items new in
     let can : times_out (new_transfer_row recorded) ≡ true → CanList (new_transfer_row recorded) rows.timeouts = λ is. record {
       in_range = moves.in_time;
-      room = c.requires.timeouts_room;
-      absent = not_listed_yet rows.transfers.items rows.timeouts c.requires.kept.index (new_transfer_row recorded) fresh c.ordered.ensures c.row_of-row.ensures.fits;
+      capacity = omega (arith, c.requires.ready.capacity.timeouts);
+      absent = not_listed_yet rows.transfers.items rows.timeouts c.requires.ready.kept.index (new_transfer_row recorded) fresh c.ordered.ensures c.row_of-row.ensures.fits;
     } in
     let added : c.add_row.new.transfers.items ≡ put transfer_row_key (new_transfer_row recorded) rows.transfers.items = ap (λ v. v.items) c.add_row.ensures.transfers ∙ ap (λ row. put transfer_row_key row rows.transfers.items) c.row_of-row.ensures.row in
     let listed_is = c.add_row.ensures.timeouts ∙ ap (λ row. listed row rows.timeouts) c.row_of-row.ensures.row in
-    let index : IsIndex c.add_row.new.transfers.items c.add_row.new.timeouts.items = rw (listed_is, added) (index_added rows.transfers.items rows.timeouts c.requires.kept.index (new_transfer_row recorded) fresh can) in
-    ledger_with_single rows.accounts.items rows.transfers.items rows.failed.items rows.keeps_failed rows.timeouts.items rows.time c.requires.kept recorded c.exchange.new.accounts.items c.add_row.new.transfers.items ex.written added c.add_row.new.timeouts.items new c.requires.single c.requires.stamped moves index
-
-pub returns-clause-step : goal.returns-clause-step
-returns-clause-step g c =
-    let rows = c.args.rows.now in
-    let t = c.args.t.now in
-    let amount_is = c.in_ok-amount.amount in
-    let ex = c.in_ok-amount.ensures.exchanged.1 in
+    let index : IsIndex c.add_row.new.transfers.items c.add_row.new.timeouts.items = rw (listed_is, added) (index_added rows.transfers.items rows.timeouts c.requires.ready.kept.index (new_transfer_row recorded) fresh can) in
     let apart = accounts_apart t c.in_ok-single_own.ensures in
-    let noted = noted_passed (as_recorded t amount_is c.args.time) ex.debit ex.credit rows.accounts.items c.exchange.new.accounts.items c.args.trail.now (with_noted (Account ex.debit) c.args.trail.now) c.exchange.new.trail refl (ex.notes (omega (arith, c.requires.trail_room))) apart ex.debit_there ex.credit_there ex.written in
+    let noted = noted_passed (as_recorded t amount_is c.args.time) ex.debit ex.credit rows.accounts.items c.exchange.new.accounts.items c.args.trail.now (with_noted (Account ex.debit) c.args.trail.now) c.exchange.new.trail refl (ex.notes (omega (arith, c.requires.ready.log))) apart ex.debit_there ex.credit_there ex.written in
     record {
-      failed = refl;
-      keeps_failed = refl;
-      time = refl;
-      grows = grows_both 2 1 4 c.args.trail.now c.exchange.new.trail c.add_row.new.trail noted c.add_row.ensures.marked (omega arith) (λ us vs ws first second. record {
-        undo_accounts = second.undo_accounts c.exchange.new.accounts.items ∙ first.undo_accounts;
-        undo_transfers = second.undo_transfers ∙ first.undo_transfers rows.transfers.items;
-        undo_timeouts = second.undo_timeouts ∙ first.undo_timeouts rows.timeouts;
-        can_unwind = λ can. second.can_unwind (first.can_unwind rows.timeouts can);
-      });
+      kept = ledger_with_single rows.accounts.items rows.transfers.items rows.failed.items rows.keeps_failed rows.timeouts.items rows.time c.requires.ready.kept recorded c.exchange.new.accounts.items c.add_row.new.transfers.items ex.written added c.add_row.new.timeouts.items new c.requires.single c.requires.ready.stamped moves index;
+      step = record {
+        failed = refl;
+        keeps_failed = refl;
+        time = refl;
+        grows = grows_both 2 1 4 c.args.trail.now c.exchange.new.trail c.add_row.new.trail noted c.add_row.ensures.marked (omega arith) (λ us vs ws first second. record {
+          undo_accounts = second.undo_accounts c.exchange.new.accounts.items ∙ first.undo_accounts;
+          undo_transfers = second.undo_transfers ∙ first.undo_transfers rows.transfers.items;
+          undo_timeouts = second.undo_timeouts ∙ first.undo_timeouts rows.timeouts;
+          can_unwind = λ can. second.can_unwind (first.can_unwind rows.timeouts can);
+        });
+      };
+      capacity = record {
+        accounts = omega (arith, c.exchange.ensures.capacity);
+        transfers = omega (arith, ap (λ v. v.spare) c.add_row.ensures.transfers);
+        timeouts = omega (arith, ap (λ v. v.spare) c.add_row.ensures.timeouts, listed_spare c.row_of-row.result rows.timeouts);
+        failed = omega arith;
+        keeps_failed = refl;
+      };
     }
 
 pub returns-in_err-amount-clause-judged : goal.returns-in_err-amount-clause-judged
 returns-in_err-amount-clause-judged g c =
     let own : first_of (single_own_lines c.args.t.now) ≡ 0 = c.in_ok-single_own.ensures in
     let judged = c.in_err-amount.ensures.exchanged.0 in
-    let code = verdict_by_rows c.args.rows.now c.requires.kept c.args.t.now c.args.time c.requires.free c.requires.single own ∙ judged.0 in
+    let code = verdict_by_rows c.args.rows.now c.requires.ready.kept c.args.t.now c.args.time c.requires.free c.requires.single own ∙ judged.0 in
     handed_on transfer_result_code c.from_residual-in_err-amount.result c.in_err-amount.field-0.0 _ c.from_residual-in_err-amount.ensures.1 (code, judged.1)
 
 pub returns-in_err-amount-clause-refused : goal.returns-in_err-amount-clause-refused
-returns-in_err-amount-clause-refused g c = on_err _ c.from_residual-in_err-amount.result ((λ i. record c.args.rows.now { accounts = record { items = c.in_err-amount.ensures.exchanged.1.0 i; spare = c.exchange.ensures.room i } }), c.in_err-amount.ensures.exchanged.1.1)
+returns-in_err-amount-clause-refused g c = on_err _ c.from_residual-in_err-amount.result ((λ i. record c.args.rows.now { accounts = record { items = c.in_err-amount.ensures.exchanged.1.0 i; spare = c.exchange.ensures.capacity i } }), c.in_err-amount.ensures.exchanged.1.1)
+
+pub returns-in_err-single_own-clause-leaves : goal.returns-in_err-single_own-clause-leaves
+returns-in_err-single_own-clause-leaves g c = leaves_still _ _ _ _ c.requires.ready.kept refl refl
+
+pub returns-in_err-amount-clause-leaves : goal.returns-in_err-amount-clause-leaves
+returns-in_err-amount-clause-leaves g c = leaves_still _ _ _ _ c.requires.ready.kept (λ i. record c.args.rows.now { accounts = record { items = c.in_err-amount.ensures.exchanged.1.0 i; spare = c.exchange.ensures.capacity i } }) c.in_err-amount.ensures.exchanged.1.1
+
+pub add_row-requires-clause-capacity : goal.add_row-requires-clause-capacity
+add_row-requires-clause-capacity g c = omega (arith, c.requires.ready.capacity.transfers)

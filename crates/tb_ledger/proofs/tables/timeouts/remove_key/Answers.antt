@@ -26,8 +26,8 @@ returns-clause-ordered g c =
       fit = each-taken_out timeout_key (λ d. d.id ≤ int_max) (timeout_key d) (timeouts_of es) c.requires.ordered.fit;
     })
 
-pub returns-clause-room : goal.returns-clause-room
-returns-clause-room g c =
+pub returns-clause-capacity : goal.returns-clause-capacity
+returns-clause-capacity g c =
     let d = c.args.timeout in
     let es = entries c.args.keys.now in
     let same = ap is_some c.remove.ensures.value ∙ seen (λ x y. ordering_then (nat_cmp x.0 y.0) (nat_cmp x.1 y.1)) timeout_at timeout_key (d.at, d.id) (timeout_key d) es (timeouts-agree (d.at, d.id) es (omega arith) c.requires.ordered.fit) in

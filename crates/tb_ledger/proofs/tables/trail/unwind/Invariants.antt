@@ -6,8 +6,8 @@ abbrev pub invariant-loop-undo : goal.invariant-loop-undo
 invariant-loop-undo g l = record {
   accounts : unwound_accounts l.trail.changes l.rows.accounts.items ≡ unwound_accounts l.initial.trail.changes l.initial.rows.accounts.items;
   transfers : unwound_transfers l.trail.changes l.rows.transfers.items ≡ unwound_transfers l.initial.trail.changes l.initial.rows.transfers.items;
-  accounts_room : l.initial.rows.accounts.spare ≤ l.rows.accounts.spare;
-  transfers_room : l.initial.rows.transfers.spare ≤ l.rows.transfers.spare;
+  accounts_capacity : l.initial.rows.accounts.spare ≤ l.rows.accounts.spare;
+  transfers_capacity : l.initial.rows.transfers.spare ≤ l.rows.transfers.spare;
   failed : l.rows.failed ≡ l.initial.rows.failed;
   keeps_failed : l.rows.keeps_failed ≡ l.initial.rows.keeps_failed;
   timeouts : unwound_timeouts l.trail.changes l.rows.timeouts ≡ unwound_timeouts l.initial.trail.changes l.initial.rows.timeouts;

@@ -1,0 +1,85 @@
+-- The capacity that events use, and what a refused event leaves.
+use Rattle.std.proofs.Common.{◌≡◌, ℕ, ◌+◌, ◌≤◌, Bool, true, false, if◌then◌else◌, refl, sym, subst, ◌∙◌, arith}
+use Rattle.tb_ledger.specs.declared.tables.rows.Rows.{Rows}
+use Rattle.tb_ledger.specs.declared.tables.timeouts.Timeout.{Timeout}
+use Rattle.tb_ledger.specs.declared.tables.transfers.TransferRow.{TransferRow}
+use Rattle.tb_ledger.specs.Capacity.{Capacity, capacity_of, Uses}
+use Rattle.tb_ledger.specs.Kept.{IsKept, times_out, timeout_of, listed, unlisted}
+use Rattle.tb_ledger.specs.Noted.{Noted}
+use Rattle.tb_ledger.specs.Steps.{Leaves, KeepsRecords, IsUnwound}
+use Rattle.tb_ledger.specs.Tables.{Stored}
+use Rattle.tb_ledger.specs.Timeouts.{with_timeout, without_timeout}
+
+pub uses_none : (n : ℕ) (c : Capacity) → Uses n c c
+uses_none n c = record { accounts = omega arith; transfers = omega arith; timeouts = omega arith; failed = omega arith; keeps_failed = refl }
+
+pub uses_more : (m n : ℕ) (a b : Capacity) → m ≤ n → Uses m a b → Uses n a b
+uses_more m n a b less uses = record {
+  accounts = omega (arith, less, uses.accounts);
+  transfers = omega (arith, less, uses.transfers);
+  timeouts = omega (arith, less, uses.timeouts);
+  failed = omega (arith, less, uses.failed);
+  keeps_failed = uses.keeps_failed;
+}
+
+pub uses_both : (m n : ℕ) (a b c : Capacity) → Uses m a b → Uses n b c → Uses (m + n) a c
+uses_both m n a b c first then_more = record {
+  accounts = omega (arith, first.accounts, then_more.accounts);
+  transfers = omega (arith, first.transfers, then_more.transfers);
+  timeouts = omega (arith, first.timeouts, then_more.timeouts);
+  failed = omega (arith, first.failed, then_more.failed);
+  keeps_failed = then_more.keeps_failed ∙ first.keeps_failed;
+}
+
+-- timeouts with one more or one less
+pub listed_spare : (row : TransferRow) (ts : Stored Timeout) → ts.spare ≤ 1 + (listed row ts).spare
+listed_spare row ts = by (times_out row)
+  where
+    by : (b : Bool) → ts.spare ≤ 1 + (if b then with_timeout (timeout_of row) ts else ts).spare
+    by true = omega arith
+    by false = omega arith
+
+pub unlisted_spare : (row : TransferRow) (ts : Stored Timeout) → ts.spare ≤ (unlisted row ts).spare
+unlisted_spare row ts = by (times_out row)
+  where
+    by : (b : Bool) → ts.spare ≤ (if b then without_timeout (timeout_of row) ts else ts).spare
+    by true = omega arith
+    by false = omega arith
+
+-- a chain that is undone gives its rows back
+pub uses_unwound : {A : Type 0} (n : ℕ) (start rows later : Rows A) (log : Noted) → Uses n (capacity_of start) (capacity_of rows) → IsUnwound log rows later → later.timeouts ≡ start.timeouts → Uses n (capacity_of start) (capacity_of later)
+uses_unwound n start rows later log uses unwound same = record {
+  accounts = omega (arith, uses.accounts, unwound.accounts_capacity);
+  transfers = omega (arith, uses.transfers, unwound.transfers_capacity);
+  timeouts = subst (λ ts. start.timeouts.spare ≤ n + ts.spare) (sym same) (omega arith);
+  failed = subst (λ failed. start.failed.spare ≤ n + failed.spare) (sym unwound.failed) uses.failed;
+  keeps_failed = unwound.keeps_failed ∙ uses.keeps_failed;
+}
+
+-- an expiry uses none
+pub uses_kept : {A : Type 0} (rows later : Rows A) → KeepsRecords rows later → Uses 0 (capacity_of rows) (capacity_of later)
+uses_kept rows later keeps = record {
+  accounts = omega (arith, keeps.accounts_capacity);
+  transfers = omega (arith, keeps.transfers_capacity);
+  timeouts = omega (arith, keeps.timeouts_capacity);
+  failed = subst (λ failed. rows.failed.spare ≤ 0 + failed.spare) (sym keeps.failed) (omega arith);
+  keeps_failed = keeps.keeps_failed;
+}
+
+-- an event that is refused leaves all as it is
+pub leaves_still : {A : Type 0} (rows later : Rows A) (log grown : Noted) → IsKept rows → later ≡ rows → grown ≡ log → Leaves rows later log grown
+leaves_still rows later log grown kept same same_log = subst (λ later. Leaves rows later log grown) (sym same) (subst (λ grown. Leaves rows rows log grown) (sym same_log) (record {
+  kept = kept;
+  step = record {
+    failed = refl;
+    keeps_failed = refl;
+    time = refl;
+    grows = record {
+      leads = λ noting. record { undo_accounts = refl; undo_transfers = refl; undo_timeouts = refl; can_unwind = λ can. can };
+      noting = refl;
+      length = omega arith;
+      capacity = refl;
+    };
+  };
+  capacity = uses_none 1 (capacity_of rows);
+}))
