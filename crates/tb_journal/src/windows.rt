@@ -132,7 +132,7 @@ fn read_behind<D: Device>(
     ensures front { take filled bytes.new.items ≡ take filled bytes.old.items }
     ensures read { D.tells
         → IfOk result (λ count. ReadsAt count (at + filled) (D.disk device.old).seen (drop filled bytes.new.items)) }
-    ensures given { IfOk result (λ count. D.gave (at + filled) (take count (drop filled bytes.new.items))) }
+    ensures given { IfOk result (λ n. D.gave (at + filled) (take n (drop filled bytes.new.items))) }
     ensures looks { D.tells → Looks result (D.disk device.old) (D.disk device.new) }
 {
     device.read_at(at + filled, &mut bytes[filled..])

@@ -1,5 +1,5 @@
 -- Why a file is not opened.
-use Rattle.std.proofs.Common.{◌≡◌, inl, inr, ℕ, ◌≤◌, List, Result, Ok, Err, IfOk, IfErr, sym, ap, ◌∙◌, subst}
+use Rattle.std.proofs.Common.{◌≡◌, inl, inr, ℕ, ◌≤◌, List, Result, Ok, Err, IfErr, MatchResult, sym, ap, ◌∙◌, subst}
 use Rattle.tb_records.specs.declared.limits.Profile.{Profile}
 use Rattle.tb_journal.specs.declared.faults.Fault.TheVariants as faults
 use Rattle.tb_journal.specs.declared.reading.Refusal.TheVariants as refusals
@@ -118,12 +118,12 @@ module _ (profile : Profile) (clients_max : ℕ) (file : List ℕ) where
   from_outside start.NoMemory reads is = record { records = recorded file; begins = whole_begins (recorded file) file reads; stops = tt }
 
   pub opens_bytes : {D : Type 0} (machine : State) (extent : Extent) → IsRestoredFrom profile clients_max file machine extent → (result : Result (Keeping D) (NotKept D))
-      → IfOk result (λ keeper. keeper.state ≡ machine) → IfErr result (λ failed. IsFromOutside failed.fault) → OpensBytes result profile clients_max file
-  opens_bytes machine extent found (Ok keeper) same outside = (
+      → MatchResult result (λ keeper. keeper.state ≡ machine) (λ failed. IsFromOutside failed.fault) → OpensBytes result profile clients_max file
+  opens_bytes machine extent found (Ok keeper) same = (
     (is_told (contents file) extent found.extent_is).reads,
     subst (λ (S : State). IsRestored profile clients_max (recorded file) S) (sym same) found.restored,
   )
-  opens_bytes machine extent found (Err failed) same outside = from_outside failed.fault (is_told (contents file) extent found.extent_is).reads outside
+  opens_bytes machine extent found (Err failed) outside = from_outside failed.fault (is_told (contents file) extent found.extent_is).reads outside
 
   pub starts_opened : {D : Type 0} (result : Result (Keeping D) (NotKept D)) → OpensBytes result profile clients_max file → StartsBytes result profile clients_max file
   starts_opened (Ok keeper) opened = inl opened

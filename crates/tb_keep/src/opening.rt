@@ -1,5 +1,5 @@
 //! A kept file is created, or opened after a crash.
-ghost use Rattle.std.specs.Prelude.{◌≡◌, ◌≤◌, true, [], Ok, IfOk, IfErr};
+ghost use Rattle.std.specs.Prelude.{◌≡◌, ◌≤◌, true, [], Ok, IfOk, IfErr, MatchResult};
 ghost use Rattle.tb_journal.specs.Device.{IsKept, LeavesOnly};
 ghost use Rattle.tb_journal.specs.Contents.{contents, recorded};
 ghost use Rattle.tb_journal.specs.Handed.{SomeHanded};
@@ -163,8 +163,8 @@ fn open_restored<D: Device>(
         → LeavesOnly (D.disk device) (D.disk (device_left result))
         (OpensOnly rules.profile rules.clients_max (recorded (D.disk device).seen)) }
     ensures fault { D.tells → IfErr result (λ failed. IsOfDevice failed.fault) }
-    ensures state { IfOk result (λ keeper. keeper.state ≡ machine) }
-    ensures outside { IfErr result (λ failed. IsFromOutside failed.fault) }
+    ensures any_device { MatchResult result (λ keeper. keeper.state ≡ machine)
+        (λ failed. IsFromOutside failed.fault) }
 {
     match open_headed(global, device, rules, extent) {
         Ok(journal) => Ok(Keeper::new(global, journal, machine)),
