@@ -15,4 +15,6 @@ pub mod Beginning
 pub mod Blanks
 pub mod Nexts
 pub mod Filling
+pub mod Fronts
+pub mod Handing
 pub mod Scanning

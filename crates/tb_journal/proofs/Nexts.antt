@@ -45,7 +45,7 @@ module _ (records : List (List ℕ)) (file : List ℕ) (begins : BeginsWith reco
   parts : IsFile (take end file) records
   parts = is_file (take end file) records begins
 
-  end_within : end ≤ length file
+  pub end_within : end ≤ length file
   end_within = omega (arith, parts.within, length-take end file)
 
   first_whole : take end (take end file) ≡ take end file

@@ -1,12 +1,13 @@
 -- A journal over a file that was read.
-use Rattle.std.proofs.Common.{◌≡◌, inr, ◌≤◌, ◌^◌, length, refl, sym, ap, arith, Ok, Err}
+use Rattle.std.proofs.Common.{◌≡◌, inl, inr, ◌≤◌, ◌^◌, ℕ, List, length, refl, sym, ap, ◌∙◌, arith, Ok, Err}
 use Rattle.tb_journal.specs.declared.faults.Fault.TheVariants as faults
 use Rattle.tb_journal.specs.declared.opening.OpenFault.TheVariants as open_faults
 use Rattle.tb_journal.specs.declared.reading.Extent.{Extent}
-use Rattle.tb_journal.specs.Device.{Disk}
+use Rattle.tb_journal.specs.Device.{Disk, LeavesOnly}
 use Rattle.tb_journal.specs.Contents.{Contents, NotAJournal, Damaged, Records, contents, recorded, records_of, records_end}
-use Rattle.tb_journal.specs.Opening.{HasOpenCause}
+use Rattle.tb_journal.specs.Opening.{HasOpenCause, IsAsBefore, StandsForTheSame}
 use Rattle.tb_journal.specs.Reading.{extent_of}
+use Rattle.tb_journal.proofs.Moments.{then, weaker}
 use Rattle.tb_journal.proofs.Steps.{within}
 
 -- what an extent tells of its file
@@ -26,3 +27,18 @@ pub too_long : (disk : Disk) (extent : Extent) → extent_of (contents disk.seen
 too_long disk extent read long =
     let told = is_told (contents disk.seen) extent read in
     record { later = omega arith; cause = inr (refl, omega (arith, told.end, long, within disk.seen (recorded disk.seen) told.reads)) }
+
+-- a file that was read and then opened
+pub read_then_opened : (before mid after : Disk) (extent : Extent) → extent_of (contents before.seen) ≡ Ok extent → mid.seen ≡ before.seen
+    → LeavesOnly before mid (IsAsBefore before) → LeavesOnly mid after (λ c. contents c ≡ Records (recorded mid.seen)) → LeavesOnly before after (StandsForTheSame before)
+read_then_opened before mid after extent read seen first second =
+    then before mid after (StandsForTheSame before)
+    (weaker before mid (IsAsBefore before) (StandsForTheSame before) as_before first)
+    (weaker mid after (λ c. contents c ≡ Records (recorded mid.seen)) (StandsForTheSame before) same second)
+  where
+    as_before : (c : List ℕ) → IsAsBefore before c → StandsForTheSame before c
+    as_before c (inl may) = inl may
+    as_before c (inr is) = inr (ap contents is)
+
+    same : (c : List ℕ) → contents c ≡ Records (recorded mid.seen) → StandsForTheSame before c
+    same c is = inr (is ∙ ap (λ (f : List ℕ). Records (recorded f)) seen ∙ sym (is_told (contents before.seen) extent read).reads)

@@ -1,6 +1,6 @@
 -- How what a file stands for follows from its blocks.
 use Rattle.std.proofs.Common.{◌≡◌, ℕ, zero, suc, ◌+◌, ◌≤◌, ◌==◌, ◌&&◌, Bool, true, false, List, [], ◌∷◌, ◌++◌, length, take, drop, refl, sym, ◌∙◌, ap, subst, arith, nat_le, nat_eq, length-append, if◌then◌else◌}
-use Rattle.std.proofs.lemmas.List.{append-nil, append_assoc, take_at, drop_at, length-take-le, take-append-drop}
+use Rattle.std.proofs.lemmas.List.{append-nil, append_assoc, take_at, drop_at, length-take-le, take-append-drop, take-take}
 use Rattle.std.proofs.lemmas.Bool.Decides.{nat_tests, Decides-eqb}
 use Rattle.std.proofs.lemmas.Slice.Eq.{slice_eq-Decides}
 use Rattle.std.specs.Int.{w32, from_le_bytes}
@@ -225,3 +225,49 @@ with_records-Records (r ∷ records) others = ap (with_record r) (with_records-R
 -- an end behind the records adds none
 pub ended : (records : List (List ℕ)) (at : ℕ) (others : List ℕ) → front others ≡ Ends → with_records records (walk 0 at others) ≡ Records records
 ended records at others is = ap (with_records records) (walk-ends others at is) ∙ with_records-Records records [] ∙ ap Records (append-nil records)
+
+-- records that a file begins with begin with the first of them
+
+walk_front : (a b : List (List ℕ)) (at : ℕ) (bytes : List ℕ) → walk 0 at bytes ≡ Records (a ++ b) → walk 0 at (take (blocks_length a) bytes) ≡ Records a
+walk_front [] b at bytes is = refl
+walk_front (r ∷ a) b at bytes is = by (walk_front a b) (front bytes) refl
+  where
+    by : ((at : ℕ) (bytes : List ℕ) → walk 0 at bytes ≡ Records (a ++ b) → walk 0 at (take (blocks_length a) bytes) ≡ Records a)
+        → (f : Front) → front bytes ≡ f → walk 0 at (take (blocks_length (r ∷ a)) bytes) ≡ Records (r ∷ a)
+    by behind Ends e = let clash = sym (walk-ends bytes at e) ∙ is in absurd (cc)
+    by behind Spoiled e = let clash = sym (walk-spoiled bytes at e) ∙ is in absurd (cc)
+    by behind (Whole s) e =
+        let n = 8 + length s in
+        let k = blocks_length a in
+        let later = unjoined s (walk 0 (at + n) (drop n bytes)) (r ∷ (a ++ b)) (sym (walk-whole bytes s at e) ∙ is) in
+        let split = later.2 in
+        let first : r ≡ s = cc in
+        let others : a ++ b ≡ later.0 = cc in
+        let rest = take k (drop n bytes) in
+        let whole = is_whole bytes s e in
+        let long : length (take n bytes) ≡ n = length-take-le n bytes whole.within in
+        let far : blocks_length (r ∷ a) ≡ n + k = ap (λ (x : List ℕ). 8 + length x + k) first in
+        ap (λ (m : ℕ). walk 0 at (take m bytes)) far ∙ ap (walk 0 at) (take_parts n k bytes)
+        ∙ walk-whole (take n bytes ++ rest) s at (whole.stays rest)
+        ∙ ap (λ (l : List ℕ). with_record s (walk 0 (at + n) l)) (drop_at (take n bytes) rest n long)
+        ∙ ap (with_record s) (behind (at + n) (drop n bytes) (later.1 ∙ ap Records (sym others)))
+        ∙ ap (λ (x : List ℕ). Records (x ∷ a)) (sym first)
+
+blocks_within : (a b : List (List ℕ)) → blocks_length a ≤ blocks_length (a ++ b)
+blocks_within [] b = omega arith
+blocks_within (r ∷ a) b = omega (arith, blocks_within a b)
+
+pub begins_shorter : (a b : List (List ℕ)) (file : List ℕ) → contents (take (records_end (a ++ b)) file) ≡ Records (a ++ b) → contents (take (records_end a) file) ≡ Records a
+begins_shorter a b file begins =
+    let f = take (records_end (a ++ b)) file in
+    let k = blocks_length a in
+    let chosen = journal_choice (starts_with nat_eq f magic) (walk 0 8 (drop 8 f)) (a ++ b) begins in
+    let is : magic ≡ take 8 f = (slice_eq-Decides Decides-eqb magic (take 8 f) (starts_with nat_eq f magic) refl).0 chosen.0 in
+    let cut : take (8 + k) f ≡ magic ++ take k (drop 8 f) = take_parts 8 k f ∙ ap (λ (l : List ℕ). l ++ take k (drop 8 f)) (sym is) in
+    ap contents (sym (take-take (8 + k) (records_end (a ++ b)) file (omega (arith, blocks_within a b))) ∙ cut) ∙ walk_front a b 8 (drop 8 f) chosen.1
+
+-- and a file begins with all of its records
+pub whole_begins : (records : List (List ℕ)) (file : List ℕ) → contents file ≡ Records records → contents (take (records_end records) file) ≡ Records records
+whole_begins records file is =
+    let front = take (records_end records) file in
+    ap contents (sym (append-nil front)) ∙ (is_file file records is).goes_on [] ∙ ended records (records_end records) [] refl

@@ -9,6 +9,7 @@ pub mod Torn
 pub mod Memory
 pub mod Opening
 pub mod Scans
+pub mod Handed
 pub mod Creating
 -- what private functions alone cite
 pub mod Reading

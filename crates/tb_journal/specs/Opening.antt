@@ -30,6 +30,11 @@ abbrev pub IsOpenCause : Disk → Disk → OpenFault → Type 0
 IsOpenCause before after (open_faults.Refused why) = contents before.seen ≡ refused_as why
 IsOpenCause before after (open_faults.Device fault) = IsCause before after fault ⊎ ((fault ≡ faults.Full) × (2 ^ 62 ≤ length before.seen))
 
+-- a fault of the device, or of memory: it says nothing against the file
+abbrev pub IsOfDevice : OpenFault → Type 0
+IsOfDevice (open_faults.Refused why) = ⊥
+IsOfDevice (open_faults.Device fault) = Unit {0}
+
 -- a refusal leaves the file as it was, at each moment
 abbrev pub IsUntouched : Disk → Disk → OpenFault → Type 0
 IsUntouched before after (open_faults.Refused why) = (after.seen ≡ before.seen) × LeavesOnly before after (IsAsBefore before)

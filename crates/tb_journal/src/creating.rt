@@ -1,7 +1,7 @@
 //! A journal is created.
 ghost use Rattle.std.specs.Prelude.{◌≡◌, ◌≤◌, true, length, IfOk, IfErr};
 ghost use Rattle.tb_journal.specs.Device.{IsKept, LeavesOnly, ReadsAt};
-ghost use Rattle.tb_journal.specs.Opening.{device_left, fault_left};
+ghost use Rattle.tb_journal.specs.Opening.{IsOfDevice, device_left, fault_left};
 ghost use Rattle.tb_journal.specs.Creating.{is_torn_from, is_blank, MayBeCreated, IsLeft, HasCreateCause, IsNew, IsUnborn, FindsBlank, Begins};
 ghost use Rattle.tb_journal.specs.Reading.{LooksKept};
 
@@ -29,6 +29,8 @@ pub fn create<D: Device>(alloc: Global, device: D) -> Result<Journal<D>, NotOpen
     // A file that is not blank stays as it was.
     ensures untouched { D.tells
         → IfErr result (λ failed. IsLeft (D.disk device) (D.disk failed.device) failed.fault) }
+    // Of any device.
+    ensures of_device { IfErr result (λ failed. IsOfDevice failed.fault) }
     ensures cause { D.tells → HasCreateCause (fault_left result) (D.disk device) (D.disk (device_left result)) }
 {
     let mut device = device;
@@ -88,6 +90,7 @@ fn begin<D: Device>(alloc: Global, device: D) -> Result<Journal<D>, NotOpened<D>
     requires blank { D.tells → is_blank (D.disk device).seen ≡ true }
     ensures created { D.tells → IfOk result (IsNew D.disk) }
     ensures any_moment { D.tells → LeavesOnly (D.disk device) (D.disk (device_left result)) IsUnborn }
+    ensures of_device { IfErr result (λ failed. IsOfDevice failed.fault) }
     ensures cause { D.tells → HasCreateCause (fault_left result) (D.disk device) (D.disk (device_left result)) }
 {
     match Batch::new(alloc) {

@@ -1,5 +1,5 @@
 //! A file as the journal sees it: what a read returns, and what a crash may leave.
-ghost use Rattle.std.specs.Prelude.{◌≡◌, ◌≤◌, ℕ, List, length, IfOk};
+ghost use Rattle.std.specs.Prelude.{◌≡◌, ◌≤◌, ℕ, List, length, take, IfOk};
 ghost use Rattle.tb_journal.specs.Device.{Disk, Looks, ReadsAt, Writes, Cuts, Syncs};
 
 use crate::faults::Fault;
@@ -13,10 +13,15 @@ pub trait Device {
     /// The disk and its clock.
     ghost disk: { Self → Disk };
 
+    /// A read at this offset may give these bytes. Any bytes, where a device does not say which.
+    ghost gave: { ℕ → List ℕ → Type 0 } = { λ at bytes. Unit {0} };
+
     /// Some of the bytes from an offset on: as many as there is room for, or all that are left.
     fn read_at(&mut self, at: usize, into: &mut [u8]) -> Result<usize, Fault>
         // Of any device, so that no reader trusts a count that is too large.
         ensures within { IfOk result (λ count. count ≤ length into.new) }
+        // Of any device: so a reader can say of which bytes it speaks.
+        ensures given { IfOk result (λ count. gave at (take count into.new)) }
         ensures bytes { tells → IfOk result (λ count. ReadsAt count at (disk self.old).seen into.new) }
         ensures looks { tells → Looks result (disk self.old) (disk self.new) };
 

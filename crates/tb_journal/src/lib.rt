@@ -17,8 +17,8 @@
 //! - `opening`: `Journal::open` and `recover`, which cut off what stands behind the records.
 //! - `creating`: `create`, a journal in an empty file.
 //!
-//! specs/Contents is what a file's bytes stand for, specs/Device what each call of a device does, specs/Steps, Opening
-//! and Creating what the journal's calls leave.
+//! specs/Contents is what a file's bytes stand for, specs/Device what each call of a device does, specs/Handed which bytes
+//! reads handed out, specs/Steps, Opening and Creating what the journal's calls leave.
 #![tactic(auto)]
 
 mod batches;

@@ -4,7 +4,7 @@ ghost use Rattle.tb_journal.specs.Device.{IsKept, LeavesOnly};
 ghost use Rattle.tb_journal.specs.Contents.{Records, contents, recorded, records_end};
 ghost use Rattle.tb_journal.specs.Steps.{Shortens};
 ghost use Rattle.tb_journal.specs.Reading.{extent_of};
-ghost use Rattle.tb_journal.specs.Opening.{IsAsBefore, StandsForTheSame, HasOpenCause, IsUntouched, IsOpened, Repairs, device_left, fault_left};
+ghost use Rattle.tb_journal.specs.Opening.{IsAsBefore, StandsForTheSame, IsOfDevice, HasOpenCause, IsUntouched, IsOpened, Repairs, device_left, fault_left};
 
 use crate::batches::{Batch, CLOSED};
 use crate::calls::write_kept;
@@ -69,6 +69,8 @@ impl<D: Device> Journal<D> {
         ensures any_moment { D.tells
             → LeavesOnly (D.disk device) (D.disk (device_left result))
             (λ c. contents c ≡ Records (recorded (D.disk device).seen)) }
+        // Of any device.
+        ensures of_device { IfErr result (λ failed. IsOfDevice failed.fault) }
         ensures cause { D.tells → HasOpenCause (fault_left result) (D.disk device) (D.disk (device_left result)) }
     {
         let Extent { end, count } = extent;

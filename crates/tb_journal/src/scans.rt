@@ -1,9 +1,10 @@
 //! A journal's file, read record by record.
-ghost use Rattle.std.specs.Prelude.{◌≡◌, ◌≤◌, ◌<◌, ◌+◌, ◌^◌, true, List, ℕ, [], length, Ok, IfOk, OnOk};
+ghost use Rattle.std.specs.Prelude.{◌≡◌, ◌≤◌, ◌<◌, ◌+◌, ◌^◌, ◌++◌, true, List, ℕ, [], length, drop, Ok, IfOk, IfSome, OnOk};
 ghost use Rattle.tb_journal.specs.Device.{IsKept, LeavesOnly, Looks, IsLookedAt};
 ghost use Rattle.tb_journal.specs.Contents.{front, contents};
 ghost use Rattle.tb_journal.specs.Opening.{IsAsBefore, HasOpenCause};
 ghost use Rattle.tb_journal.specs.Scans.{Place, IsAhead, HasRead, ReadsNext, GoesFurther};
+ghost use Rattle.tb_journal.specs.Handed.{AreHanded, SomeHanded, HasTaken, Starts, TakesNext, TellsExtent, IsAllAhead, GoesOnAhead};
 ghost use Rattle.tb_journal.specs.Reading.{HasAhead, FindsHead, LooksKept, StartsScan, head_is, extent_of};
 
 use crate::devices::Device;
@@ -44,6 +45,8 @@ impl Scan {
         ensures untouched { D.tells
             → LeavesOnly (D.disk device.old) (D.disk device.new) (IsAsBefore (D.disk device.old)) }
         ensures cause { D.tells → HasOpenCause result (D.disk device.old) (D.disk device.new) }
+        // Of any device, by the bytes that its reads hand out.
+        ensures handed { SomeHanded D.gave (Starts result) }
     {
         match read_first(alloc, device) {
             Ok(window) => match begin(window) {
@@ -60,6 +63,9 @@ impl Scan {
         ensures reads { D.tells → (records : List (List ℕ))
             → HasRead records (D.disk device.old).seen self.old
             → ReadsNext result records (D.disk device.old).seen self.new }
+        // Of any device, by the bytes that its reads hand out: some more, or none, behind those so far.
+        ensures handed { (records : List (List ℕ)) (file : List ℕ) → HasTaken D.gave records file self.old
+            → (more : List ℕ) × TakesNext D.gave result records (file ++ more) self.new }
         ensures looks { D.tells → IsLookedAt (D.disk device.old) (D.disk device.new) }
         ensures cause { D.tells → (records : List (List ℕ))
             → HasRead records (D.disk device.old).seen self.old
@@ -106,9 +112,10 @@ impl Scan {
 
 // The first bytes of a file. What is read is on the disk before it is read.
 fn read_first<D: Device>(alloc: Global, device: &mut D) -> Result<Window, Fault>
-    ensures { D.tells
+    ensures looks { D.tells
         → LooksKept result (λ window. HasAhead 8 0 (D.disk device.old).seen window.ahead)
         (D.disk device.old) (D.disk device.new) }
+    ensures handed { IfOk result (λ window. AreHanded D.gave window.ahead) }
 {
     let mut window = Window::new(alloc)?;
     device.sync()?;
@@ -118,7 +125,8 @@ fn read_first<D: Device>(alloc: Global, device: &mut D) -> Result<Window, Fault>
 
 // A scan of a file with these first bytes. None where they are not those of a journal.
 fn begin(window: Window) -> Option<Scan>
-    ensures { (file : List ℕ) → HasAhead 8 0 file window.ahead → StartsScan result file }
+    ensures starts { (file : List ℕ) → HasAhead 8 0 file window.ahead → StartsScan result file }
+    ensures rest { IfSome result (λ scan. scan.ahead ≡ drop scan.end window.ahead) }
 {
     let mut window = window;
     if !window.ahead().starts_with(&MAGIC) {
@@ -140,6 +148,8 @@ fn head_at<D: Device>(window: &mut Window, device: &mut D, at: usize) -> Result<
     ensures finds { D.tells
         → IsAhead at (D.disk device.old).seen window.old.ahead
         → OnOk result (FindsHead at (D.disk device.old).seen window.new.ahead) }
+    ensures handed { (file : List ℕ) → IsAllAhead D.gave at file window.old.ahead
+        → OnOk result (GoesOnAhead D.gave at file window.new.ahead) }
     ensures looks { D.tells → Looks result (D.disk device.old) (D.disk device.new) }
 {
     window.fill(device, at, FIXED)?;
@@ -156,13 +166,22 @@ pub fn read_journal<D: Device>(alloc: Global, device: &mut D) -> Result<Extent, 
     ensures found { D.tells
         → IfOk result (λ extent.
         (extent_of (contents (D.disk device.old).seen) ≡ Ok extent) × IsKept (D.disk device.new)) }
+    ensures handed { SomeHanded D.gave (TellsExtent result) }
     ensures few { IfOk result (λ extent. extent.count ≤ extent.end) }
     ensures seen { D.tells → (D.disk device.new).seen ≡ (D.disk device.old).seen }
     ensures untouched { D.tells
         → LeavesOnly (D.disk device.old) (D.disk device.new) (IsAsBefore (D.disk device.old)) }
     ensures cause { D.tells → HasOpenCause result (D.disk device.old) (D.disk device.new) }
 {
-    let mut scan = Scan::start(alloc, device)?;
-    while scan.next(device)? {}
-    Ok(scan.extent())
+    let mut scan = match Scan::start(alloc, device) {
+        Ok(scan) => scan,
+        Err(fault) => return Err(fault),
+    };
+    loop {
+        match scan.next(device) {
+            Ok(true) => {}
+            Ok(false) => return Ok(scan.extent()),
+            Err(fault) => return Err(fault),
+        }
+    }
 }

@@ -1,8 +1,9 @@
 //! The part of a file that was read ahead.
-ghost use Rattle.std.specs.Prelude.{◌≡◌, ◌≤◌, ◌<◌, ◌+◌, ◌-◌, ◌^◌, length, take, drop, vec_len, slice_range, IfOk, OnOk, OnErr};
+ghost use Rattle.std.specs.Prelude.{◌≡◌, ◌≤◌, ◌<◌, ◌+◌, ◌-◌, ◌^◌, ℕ, List, length, take, drop, vec_len, slice_range, IfOk, OnOk, OnErr};
 ghost use Rattle.tb_journal.specs.Device.{Looks, ReadsAt};
 ghost use Rattle.tb_journal.specs.Scans.{IsAhead};
 ghost use Rattle.tb_journal.specs.Reading.{Held, HasAhead};
+ghost use Rattle.tb_journal.specs.Handed.{IsAllAhead, GoesOnAhead};
 
 use crate::devices::Device;
 use crate::faults::Fault;
@@ -78,6 +79,8 @@ impl Window {
         ensures ahead { D.tells
             → IsAhead at (D.disk device.old).seen self.old.ahead
             → OnOk result (HasAhead n at (D.disk device.old).seen self.new.ahead) }
+        ensures handed { (file : List ℕ) → IsAllAhead D.gave at file self.old.ahead
+            → OnOk result (GoesOnAhead D.gave at file self.new.ahead) }
         ensures looks { D.tells → Looks result (D.disk device.old) (D.disk device.new) }
     {
         if n <= self.filled - self.used {
@@ -129,6 +132,7 @@ fn read_behind<D: Device>(
     ensures front { take filled bytes.new.items ≡ take filled bytes.old.items }
     ensures read { D.tells
         → IfOk result (λ count. ReadsAt count (at + filled) (D.disk device.old).seen (drop filled bytes.new.items)) }
+    ensures given { IfOk result (λ n. D.gave (at + filled) (take n (drop filled bytes.new.items))) }
     ensures looks { D.tells → Looks result (D.disk device.old) (D.disk device.new) }
 {
     device.read_at(at + filled, &mut bytes[filled..])

@@ -6,7 +6,7 @@ use Rattle.tb_records.specs.Transport.{Output, Sent, CutOff}
 use Rattle.tb_records.proofs.Sendings.{sent_rest}
 use Rattle.tb_journal.specs.declared.opening.OpenFault.{OpenFault}
 use Rattle.tb_journal.specs.Contents.{Records, contents, records_of}
-use Rattle.tb_journal.specs.Scans.{Place, BeginsWith, HasRead}
+use Rattle.tb_journal.specs.Scans.{Place, BeginsWith}
 use Rattle.tb_machine.specs.DumpRuns.{Written}
 use Rattle.tb_machine.proofs.Running.{sends_none}
 use Rattle.tb_keep.specs.declared.faults.DumpFault.{DumpFault}
@@ -16,16 +16,22 @@ use Rattle.tb_keep.specs.declared.faults.StartFault.TheVariants as start
 use Rattle.tb_keep.specs.declared.heads.Rules.{Rules}
 use Rattle.tb_keep.specs.Restoration.{StopsJournal}
 use Rattle.tb_keep.specs.Reading.{RulesIn, RulesAnswer, joined, behind_head, dump_with, Dumps}
+use Rattle.tb_keep.specs.Sources.{Which, IsAt}
+use Rattle.tb_keep.specs.Entering.{FindsRules}
 use Rattle.tb_keep.specs.Sending.{SendsNext, SendsAll, SendsBehind}
 
-pub rules_answer : (result : Result Rules StartFault) (file head : List ℕ) → BeginsWith (head ∷ []) file → RulesIn result head → RulesAnswer result file
-rules_answer (Ok rules) file head begins found = subst (λ (h : List ℕ). BeginsWith (h ∷ []) file) found begins
-rules_answer (Err start.Head) file head begins none = inr (head, [], begins, none)
-rules_answer (Err (start.Journal fault)) file head begins none = absurd none
-rules_answer (Err start.OtherRules) file head begins none = absurd none
-rules_answer (Err (start.Record place fault)) file head begins none = absurd none
-rules_answer (Err (start.Entry fault)) file head begins none = absurd none
-rules_answer (Err start.NoMemory) file head begins none = absurd none
+pub finds_rules : (which : Which) (result : Result Rules StartFault) (file head : List ℕ) (scan : Place) → IsAt which (head ∷ []) file scan → RulesIn result head → FindsRules which result file scan
+finds_rules which (Ok rules) file head scan at found = subst (λ (h : List ℕ). IsAt which (h ∷ []) file scan) found at
+finds_rules which (Err start.Head) file head scan at none = inr (head, [], at.has.begins, none)
+finds_rules which (Err (start.Journal fault)) file head scan at none = absurd none
+finds_rules which (Err start.OtherRules) file head scan at none = absurd none
+finds_rules which (Err (start.Record place fault)) file head scan at none = absurd none
+finds_rules which (Err (start.Entry fault)) file head scan at none = absurd none
+finds_rules which (Err start.NoMemory) file head scan at none = absurd none
+
+pub rules_found : (which : Which) (result : Result Rules StartFault) (file : List ℕ) (scan : Place) → FindsRules which result file scan → RulesAnswer result file
+rules_found which (Ok rules) file scan at = at.has.begins
+rules_found which (Err fault) file scan none = none
 
 -- records that are sent
 
@@ -42,50 +48,46 @@ send_one : (front : List (List ℕ)) (bytes : List ℕ) (old mid new : Output) �
 send_one front bytes old mid new sent result more = sent_rest (joined front) bytes old mid new (joined (front ++ bytes ∷ [])) (joined_snoc front bytes) sent result more
 
 -- so far these were sent
-abbrev pub Sending : List (List ℕ) → List ℕ → Place → Output → Output → Type 0
-Sending read file scan old new = (records : List (List ℕ)) × HasRead (read ++ records) file scan × Sent (joined records) old new
+abbrev pub Sending : Which → List (List ℕ) → List ℕ → Place → Output → Output → Type 0
+Sending which read file scan old new = (records : List (List ℕ)) × IsAt which (read ++ records) file scan × Sent (joined records) old new
 
-pub sending_none : (read : List (List ℕ)) (file : List ℕ) (scan : Place) (old : Output) → HasRead read file scan → Sending read file scan old old
-sending_none read file scan old has = ([], subst (λ (r : List (List ℕ)). HasRead r file scan) (sym (append-nil read)) has, sends_none old)
+pub sending_none : (which : Which) (read : List (List ℕ)) (file : List ℕ) (scan : Place) (old : Output) → IsAt which read file scan → Sending which read file scan old old
+sending_none which read file scan old at = ([], subst (λ (r : List (List ℕ)). IsAt which r file scan) (sym (append-nil read)) at, sends_none old)
 
-module _ (read records : List (List ℕ)) (file now : List ℕ) (same : now ≡ file) (before scan : Place) (old mid new : Output) (has : HasRead (read ++ records) now before) (sent : Sent (joined records) old mid) where
-  begun : BeginsWith (read ++ records) file
-  begun = subst (λ (f : List ℕ). BeginsWith (read ++ records) f) same has.begins
-
-  pub sending_more : SendsNext (Ok true) (read ++ records) now scan mid new → Sending read file scan old new
-  sending_more (bytes, more, one) = (
+module _ (which : Which) (read records : List (List ℕ)) (file : List ℕ) (scan : Place) (old mid new : Output) (sent : Sent (joined records) old mid) where
+  pub sending_more : SendsNext which (Ok true) (read ++ records) file scan mid new → Sending which read file scan old new
+  sending_more (bytes, at, one) = (
     records ++ bytes ∷ [],
-    subst (λ (f : List ℕ). HasRead (read ++ (records ++ bytes ∷ [])) f scan) same (subst (λ (r : List (List ℕ)). HasRead r now scan) (append_assoc read records (bytes ∷ [])) more),
+    subst (λ (r : List (List ℕ)). IsAt which r file scan) (append_assoc read records (bytes ∷ [])) at,
     send_one records bytes old mid new sent (Ok tt) one,
   )
 
-  pub sending_done : SendsNext (Ok false) (read ++ records) now scan mid new → SendsAll (Ok tt) read file old new
-  sending_done (reads, more, silent) = (records, ap contents (sym same) ∙ reads, subst (λ (o : Output). Sent (joined records) old o) (sym silent) sent)
+  pub sending_done : SendsNext which (Ok false) (read ++ records) file scan mid new → SendsAll (Ok tt) read file old new
+  sending_done (reads, silent) = (records, reads, subst (λ (o : Output). Sent (joined records) old o) (sym silent) sent)
 
-  pub sending_not : (fault : DumpFault) → SendsNext (Err fault) (read ++ records) now scan mid new → SendsAll (Err fault) read file old new
-  sending_not (dump.Journal f) (stops, silent) = (subst (λ (l : List ℕ). StopsJournal f l) same stops, (records, begun, subst (λ (o : Output). Sent (joined records) old o) (sym silent) sent))
+  pub sending_not : (fault : DumpFault) → SendsNext which (Err fault) (read ++ records) file scan mid new → SendsAll (Err fault) read file old new
+  sending_not (dump.Journal f) (stops, begins, silent) = (stops, (records, begins, subst (λ (o : Output). Sent (joined records) old o) (sym silent) sent))
   sending_not (dump.Writer f) (is, (bytes, begins, cut)) = (
     is,
     (
       records ++ bytes ∷ [],
-      subst (λ (l : List ℕ). BeginsWith (read ++ (records ++ bytes ∷ [])) l) same (subst (λ (r : List (List ℕ)). BeginsWith r now) (append_assoc read records (bytes ∷ [])) begins),
+      subst (λ (r : List (List ℕ)). BeginsWith r file) (append_assoc read records (bytes ∷ [])) begins,
       (send_one records bytes old mid new sent (Err f) (is, cut)).1,
     ),
   )
 
 -- behind the first record
 
-pub sends_behind : (result : Result (Unit {0}) DumpFault) (file now first : List ℕ) (old new : Output) → now ≡ file → SendsAll result (first ∷ []) now old new → SendsBehind result file old new
-sends_behind (Ok done) file now first old new same (records, reads, sent) = (first ∷ records, ap contents (sym same) ∙ reads, sent)
-sends_behind (Err (dump.Journal f)) file now first old new same (stops, (records, begins, sent)) =
-    (subst (λ (l : List ℕ). StopsJournal f l) same stops, (first ∷ records, subst (λ (l : List ℕ). BeginsWith (first ∷ records) l) same begins, sent))
-sends_behind (Err (dump.Writer f)) file now first old new same (is, (records, begins, cut)) = (is, (first ∷ records, subst (λ (l : List ℕ). BeginsWith (first ∷ records) l) same begins, cut))
+pub sends_behind : (result : Result (Unit {0}) DumpFault) (file first : List ℕ) (old new : Output) → SendsAll result (first ∷ []) file old new → SendsBehind result file old new
+sends_behind (Ok done) file first old new (records, reads, sent) = (first ∷ records, reads, sent)
+sends_behind (Err (dump.Journal f)) file first old new (stops, (records, begins, sent)) = (stops, (first ∷ records, begins, sent))
+sends_behind (Err (dump.Writer f)) file first old new (is, (records, begins, cut)) = (is, (first ∷ records, begins, cut))
 
 pub sends_nothing : (file : List ℕ) (old : Output) → contents file ≡ Records [] → SendsBehind (Ok tt) file old old
 sends_nothing file old reads = ([], reads, sends_none old)
 
-pub sends_unread : (fault : OpenFault) (file : List ℕ) (scan : Place) (old : Output) → HasRead [] file scan → StopsJournal fault file → SendsBehind (Err (dump.Journal fault)) file old old
-sends_unread fault file scan old has stops = (stops, ([], has.begins, sends_none old))
+pub sends_unread : (fault : OpenFault) (file : List ℕ) (old : Output) → BeginsWith [] file → StopsJournal fault file → SendsBehind (Err (dump.Journal fault)) file old old
+sends_unread fault file old begins stops = (stops, ([], begins, sends_none old))
 
 -- a head and records behind it
 
@@ -104,5 +106,5 @@ module _ (rules : Rules) (file : List ℕ) (old mid new : Output) where
   dumps_behind (Err (dump.Writer f)) sent (is, (records, begins, cut)) =
       (is, (records, begins, (sent_rest head (joined (behind_head records)) old mid new (dump_with rules records) refl sent (Err f) (is, cut)).1))
 
-  pub dumps_some_head : (fault : FrameFault) (scan : Place) → HasRead [] file scan → Written (Err fault) head old new → Dumps (Err (dump.Writer fault)) rules file old new
-  dumps_some_head fault scan has (is, cut) = (is, ([], has.begins, subst (λ (l : List ℕ). CutOff l old new) (sym (append-nil head)) cut))
+  pub dumps_some_head : (fault : FrameFault) → BeginsWith [] file → Written (Err fault) head old new → Dumps (Err (dump.Writer fault)) rules file old new
+  dumps_some_head fault begins (is, cut) = (is, ([], begins, subst (λ (l : List ℕ). CutOff l old new) (sym (append-nil head)) cut))

@@ -5,6 +5,7 @@ pub mod Lasting
 pub mod Leading
 pub mod Beginnings
 pub mod Opened
+pub mod Sources
 pub mod Entered
 pub mod Dumping
 pub mod Crashes

@@ -1,5 +1,5 @@
 -- Why a file is not opened.
-use Rattle.std.proofs.Common.{◌≡◌, inl, inr, ℕ, ◌≤◌, List, Result, Ok, Err, IfErr, sym, ap, ◌∙◌, subst}
+use Rattle.std.proofs.Common.{◌≡◌, inl, inr, ℕ, ◌≤◌, List, Result, Ok, Err, IfErr, MatchResult, sym, ap, ◌∙◌, subst}
 use Rattle.tb_records.specs.declared.limits.Profile.{Profile}
 use Rattle.tb_journal.specs.declared.faults.Fault.TheVariants as faults
 use Rattle.tb_journal.specs.declared.reading.Refusal.TheVariants as refusals
@@ -8,13 +8,17 @@ use Rattle.tb_journal.specs.declared.opening.OpenFault.TheVariants as open_fault
 use Rattle.tb_journal.specs.Device.{Disk, LeavesOnly}
 use Rattle.tb_journal.specs.Contents.{Records, contents, recorded}
 use Rattle.tb_journal.specs.Opening.{IsAsBefore, IsOpenCause}
+use Rattle.tb_journal.specs.declared.reading.Extent.{Extent}
 use Rattle.tb_journal.proofs.Moments.{then, weaker}
+use Rattle.tb_journal.proofs.Opened.{is_told}
+use Rattle.tb_journal.proofs.Walks.{whole_begins}
+use Rattle.tb_machine.specs.Histories.{State}
 use Rattle.tb_keep.specs.declared.faults.StartFault.{StartFault}
 use Rattle.tb_keep.specs.declared.faults.StartFault.TheVariants as start
 use Rattle.tb_keep.specs.declared.opening.NotKept.{NotKept}
 use Rattle.tb_keep.specs.Keeping.{Keeping}
-use Rattle.tb_keep.specs.Restoration.{StopsReading}
-use Rattle.tb_keep.specs.Opening.{IsUntouched, MayBeOpened, IsRefused, IsStartRefused}
+use Rattle.tb_keep.specs.Restoration.{IsRestored, IsRestoredFrom, IsFromOutside, StopsReading}
+use Rattle.tb_keep.specs.Opening.{OpensBytes, StartsBytes, IsUntouched, MayBeOpened, IsRefused, IsStartRefused}
 use Rattle.tb_keep.specs.Headed.{IsOfDevice, OpensOnly}
 
 -- a file that was read is not refused as one that is no journal
@@ -100,3 +104,27 @@ refused_of_device profile clients_max start.OtherRules before after is = absurd 
 refused_of_device profile clients_max (start.Record place fault) before after is = absurd is
 refused_of_device profile clients_max (start.Entry fault) before after is = absurd is
 refused_of_device profile clients_max start.NoMemory before after is = absurd is
+
+-- by the bytes that reads handed out
+
+module _ (profile : Profile) (clients_max : ℕ) (file : List ℕ) where
+  from_outside : (fault : StartFault) → contents file ≡ Records (recorded file) → IsFromOutside fault → StopsReading fault profile clients_max file
+  from_outside (start.Journal (open_faults.Refused why)) reads none = absurd none
+  from_outside (start.Journal (open_faults.Device fault)) reads is = tt
+  from_outside start.Head reads none = absurd none
+  from_outside start.OtherRules reads none = absurd none
+  from_outside (start.Record place fault) reads none = absurd none
+  from_outside (start.Entry fault) reads none = absurd none
+  from_outside start.NoMemory reads is = record { records = recorded file; begins = whole_begins (recorded file) file reads; stops = tt }
+
+  pub opens_bytes : {D : Type 0} (machine : State) (extent : Extent) → IsRestoredFrom profile clients_max file machine extent → (result : Result (Keeping D) (NotKept D))
+      → MatchResult result (λ keeper. keeper.state ≡ machine) (λ failed. IsFromOutside failed.fault) → OpensBytes result profile clients_max file
+  opens_bytes machine extent found (Ok keeper) same = (
+    (is_told (contents file) extent found.extent_is).reads,
+    subst (λ (S : State). IsRestored profile clients_max (recorded file) S) (sym same) found.restored,
+  )
+  opens_bytes machine extent found (Err failed) outside = from_outside failed.fault (is_told (contents file) extent found.extent_is).reads outside
+
+  pub starts_opened : {D : Type 0} (result : Result (Keeping D) (NotKept D)) → OpensBytes result profile clients_max file → StartsBytes result profile clients_max file
+  starts_opened (Ok keeper) opened = inl opened
+  starts_opened (Err failed) stopped = inl stopped

@@ -8,6 +8,7 @@ pub mod Rounds
 pub mod Moments
 pub mod Again
 -- what private functions alone cite
+pub mod Sources
 pub mod Entering
 pub mod Sending
 pub mod Headed

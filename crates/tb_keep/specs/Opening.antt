@@ -8,11 +8,12 @@ use Rattle.tb_journal.specs.Contents.{Records, contents, recorded}
 use Rattle.tb_journal.specs.Opening.{IsAsBefore}
 use Rattle.tb_journal.specs.Creating.{is_blank, IsUnborn}
 use Rattle.tb_machine.specs.declared.entries.Entry.{Entry}
+use Rattle.tb_machine.specs.Histories.{start as start_state}
 use Rattle.tb_keep.specs.declared.faults.StartFault.{StartFault}
 use Rattle.tb_keep.specs.declared.faults.StartFault.TheVariants as start
 use Rattle.tb_keep.specs.declared.opening.NotKept.{NotKept}
 use Rattle.tb_keep.specs.Keeping.{History, records_of, head_record, Keeping, Keeps}
-use Rattle.tb_keep.specs.Restoration.{StopsReading}
+use Rattle.tb_keep.specs.Restoration.{StopsReading, IsRestored, IsFromOutside}
 
 -- a history of these rules
 abbrev pub history_of : Profile → ℕ → List Entry → History
@@ -38,6 +39,16 @@ module _ {D : Type 0} (disk : D → Disk) (profile : Profile) (clients_max : ℕ
   -- the keeper of a file that was opened, or of one that was blank
   abbrev pub IsStarted : List ℕ → Keeping D → Type 0
   IsStarted file keeper = IsOpened file keeper ⊎ ((is_blank file ≡ true) × Keeps disk (history_of profile clients_max []) keeper)
+
+-- by the bytes that reads handed out: the machine stands after the entries of their records, or it is told why not
+abbrev pub OpensBytes : {D : Type 0} → Result (Keeping D) (NotKept D) → Profile → ℕ → List ℕ → Type 0
+OpensBytes (Ok keeper) profile clients_max file = (contents file ≡ Records (recorded file)) × IsRestored profile clients_max (recorded file) keeper.state
+OpensBytes (Err failed) profile clients_max file = StopsReading failed.fault profile clients_max file
+
+-- the same, or the ledger is new, or no byte was found wrong
+abbrev pub StartsBytes : {D : Type 0} → Result (Keeping D) (NotKept D) → Profile → ℕ → List ℕ → Type 0
+StartsBytes (Ok keeper) profile clients_max file = OpensBytes (Ok keeper) profile clients_max file ⊎ (keeper.state ≡ start_state profile clients_max)
+StartsBytes (Err failed) profile clients_max file = OpensBytes (Err failed) profile clients_max file ⊎ IsFromOutside failed.fault
 
 -- the file is as it was, and was at each moment
 pub record IsUntouched (before after : Disk) : Type 0 where

@@ -4,7 +4,9 @@ use Rattle.tb_records.specs.declared.faults.FrameFault.TheVariants.{Device}
 use Rattle.tb_records.specs.declared.limits.Profile.{Profile}
 use Rattle.tb_records.specs.DumpBytes.{head_bytes}
 use Rattle.tb_records.specs.Transport.{Output, Sent, CutOff}
+use Rattle.tb_journal.specs.declared.reading.Extent.{Extent}
 use Rattle.tb_journal.specs.Contents.{Records, contents, recorded}
+use Rattle.tb_journal.specs.Reading.{extent_of}
 use Rattle.tb_journal.specs.Scans.{BeginsWith}
 use Rattle.tb_machine.specs.Histories.{State}
 use Rattle.tb_machine.specs.Dumps.{DumpSpells}
@@ -60,6 +62,11 @@ abbrev pub IsNoHistory : StartFault → List ℕ → Type 0
 IsNoHistory (start.Journal fault) file = StopsJournal fault file
 IsNoHistory start.Head file = HasNoHead file
 IsNoHistory fault file = (rules : Rules) × HasRules rules file × StopsReading fault rules.profile rules.clients_max file
+
+-- that history and where the records end, or why there is none
+abbrev pub FindsHistory : Result (Rules × State × Extent) StartFault → List ℕ → Type 0
+FindsHistory (Ok found) file = IsHistory found.0 found.1 file × (extent_of (contents file) ≡ Ok found.2)
+FindsHistory (Err fault) file = IsNoHistory fault file
 
 -- the records behind the first
 abbrev pub behind_head : List (List ℕ) → List (List ℕ)

@@ -1,16 +1,17 @@
 //! The history of a kept file, read without a write.
-ghost use Rattle.std.specs.Prelude.{◌≡◌, ℕ, true, List, [], Ok, IfOk, IfErr};
-ghost use Rattle.tb_journal.specs.Contents.{contents};
-ghost use Rattle.tb_journal.specs.Reading.{extent_of};
-ghost use Rattle.tb_journal.specs.Scans.{HasRead, GoesFurther};
-ghost use Rattle.tb_keep.specs.Entering.{StaysKept};
+ghost use Rattle.std.specs.Prelude.{◌≡◌, ℕ, true, List, [], ◌∷◌, IfOk};
+ghost use Rattle.tb_journal.specs.Handed.{SomeHanded};
+ghost use Rattle.tb_journal.specs.Scans.{GoesFurther};
+ghost use Rattle.tb_keep.specs.Keeping.{head_record};
+ghost use Rattle.tb_keep.specs.Sources.{Which, OfSource, IsReading};
+ghost use Rattle.tb_keep.specs.Entering.{StaysKept, FindsRules};
 ghost use Rattle.tb_keep.specs.Opening.{IsUntouched};
-ghost use Rattle.tb_keep.specs.Reading.{RulesAnswer, RulesIn, HasRules, IsHistory, IsNoHistory, Dumps};
+ghost use Rattle.tb_keep.specs.Reading.{RulesAnswer, RulesIn, FindsHistory, Dumps};
 ghost use Rattle.tb_keep.specs.Sending.{SendsNext, SendsAll, SendsBehind};
 
 use crate::faults::{DumpFault, StartFault};
 use crate::heads::{Rules, read_head};
-use crate::restoring::restored;
+use crate::restoring::entered_behind;
 use std::alloc::Global;
 use tb_journal::{Device, Extent, Scan};
 use tb_machine::Machine;
@@ -30,13 +31,12 @@ fn rules_in(head: &[u8]) -> Result<Rules, StartFault>
     }
 }
 
-/// The rules that the first record names of a file of which nothing was read.
-fn first_rules<D: Device>(scan: Scan, device: &mut D) -> Result<Rules, StartFault>
-    requires { D.tells → HasRead [] (D.disk device.old).seen scan }
-    ensures rules { D.tells → RulesAnswer result (D.disk device.old).seen }
+/// Reads the first record of a file of which nothing was read, and answers the rules that it names.
+fn first_rules<D: Device>(scan: &mut Scan, device: &mut D) -> Result<Rules, StartFault>
+    ensures rules { (which : Which) → IsReading D.tells D.gave which (D.disk device.old).seen [] scan.old
+        → OfSource D.tells D.gave which (D.disk device.old).seen (λ file. FindsRules which result file scan.new) }
     ensures stays { D.tells → StaysKept (D.disk device.old) (D.disk device.new) }
 {
-    let mut scan = scan;
     match scan.next(device) {
         Ok(true) => rules_in(scan.record()),
         Ok(false) => Err(StartFault::Head),
@@ -47,46 +47,67 @@ fn first_rules<D: Device>(scan: Scan, device: &mut D) -> Result<Rules, StartFaul
 /// The rules that a file's head names. Head where there is none. No more of the file is read than a piece, or its first record.
 pub fn read_rules<D: Device>(global: Global, device: &mut D) -> Result<Rules, StartFault>
     ensures rules { D.tells → RulesAnswer result (D.disk device.old).seen }
+    // Of any device, by the bytes that its reads hand out.
+    ensures handed { SomeHanded D.gave (RulesAnswer result) }
     ensures untouched { D.tells → IsUntouched (D.disk device.old) (D.disk device.new) }
 {
     match Scan::start(global, device) {
-        Ok(scan) => first_rules(scan, device),
+        Ok(scan) => {
+            let mut scan = scan;
+            first_rules(&mut scan, device)
+        }
         Err(fault) => Err(StartFault::Journal(fault)),
     }
 }
 
-/// The rules of a file, the machine after its entries, and where its records end.
+/// The rules of a file, the machine after its entries, and where its records end. It is read once.
 pub fn read_history<D: Device>(
     global: Global,
     device: &mut D,
 ) -> Result<(Rules, Machine<Global>, Extent), StartFault>
-    ensures found { D.tells → IfOk result (λ found. IsHistory found.0 found.1 (D.disk device.old).seen) }
-    ensures extent { D.tells
-        → IfOk result (λ found. extent_of (contents (D.disk device.old).seen) ≡ Ok found.2) }
-    ensures refused { D.tells → IfErr result (λ fault. IsNoHistory fault (D.disk device.old).seen) }
+    ensures found { D.tells → FindsHistory result (D.disk device.old).seen }
+    // Of any device, by the bytes that its reads hand out.
+    ensures handed { SomeHanded D.gave (FindsHistory result) }
     ensures untouched { D.tells → IsUntouched (D.disk device.old) (D.disk device.new) }
 {
-    match read_rules(global, device) {
-        Ok(rules) => history_by(global, rules, device),
+    match Scan::start(global, device) {
+        Ok(scan) => history_by(global, scan, device),
+        Err(fault) => Err(StartFault::Journal(fault)),
+    }
+}
+
+/// The history of a file of which nothing was read.
+fn history_by<D: Device>(
+    global: Global,
+    scan: Scan,
+    device: &mut D,
+) -> Result<(Rules, Machine<Global>, Extent), StartFault>
+    ensures found { (which : Which) → IsReading D.tells D.gave which (D.disk device.old).seen [] scan
+        → OfSource D.tells D.gave which (D.disk device.old).seen (FindsHistory result) }
+    ensures stays { D.tells → StaysKept (D.disk device.old) (D.disk device.new) }
+{
+    let mut scan = scan;
+    match first_rules(&mut scan, device) {
+        Ok(rules) => history_behind(global, rules, scan, device),
         Err(fault) => Err(fault),
     }
 }
 
-/// The history of a file of these rules.
-fn history_by<D: Device>(
+/// The history of a file of these rules, of which the head was read.
+fn history_behind<D: Device>(
     global: Global,
     rules: Rules,
+    scan: Scan,
     device: &mut D,
 ) -> Result<(Rules, Machine<Global>, Extent), StartFault>
-    requires { D.tells → HasRules rules (D.disk device.old).seen }
-    ensures found { D.tells → IfOk result (λ found. IsHistory found.0 found.1 (D.disk device.old).seen) }
-    ensures extent { D.tells
-        → IfOk result (λ found. extent_of (contents (D.disk device.old).seen) ≡ Ok found.2) }
-    ensures refused { D.tells → IfErr result (λ fault. IsNoHistory fault (D.disk device.old).seen) }
-    ensures untouched { D.tells → IsUntouched (D.disk device.old) (D.disk device.new) }
+    ensures found { (which : Which)
+        → IsReading D.tells D.gave which (D.disk device.old).seen
+        (head_record rules.profile rules.clients_max ∷ []) scan
+        → OfSource D.tells D.gave which (D.disk device.old).seen (FindsHistory result) }
+    ensures stays { D.tells → StaysKept (D.disk device.old) (D.disk device.new) }
 {
     let same = rules;
-    match restored(global, same, device) {
+    match entered_behind(global, same, scan, device) {
         Ok((machine, extent)) => Ok((rules, machine, extent)),
         Err(fault) => Err(fault),
     }
@@ -98,8 +119,10 @@ fn send_next<D: Device, W: Sink>(
     device: &mut D,
     writer: &mut W,
 ) -> Result<bool, DumpFault>
-    ensures sends { D.tells → (read : List (List ℕ)) → HasRead read (D.disk device.old).seen scan.old
-        → SendsNext result read (D.disk device.old).seen scan.new (W.output writer.old) (W.output writer.new) }
+    ensures sends { (which : Which) (read : List (List ℕ))
+        → IsReading D.tells D.gave which (D.disk device.old).seen read scan.old
+        → OfSource D.tells D.gave which (D.disk device.old).seen
+        (λ file. SendsNext which result read file scan.new (W.output writer.old) (W.output writer.new)) }
     ensures stays { D.tells → StaysKept (D.disk device.old) (D.disk device.new) }
     ensures further { IfOk result (λ more. more ≡ true → GoesFurther scan.old scan.new) }
 {
@@ -119,8 +142,10 @@ fn send_records<D: Device, W: Sink>(
     device: &mut D,
     writer: &mut W,
 ) -> Result<(), DumpFault>
-    ensures sends { D.tells → (read : List (List ℕ)) → HasRead read (D.disk device.old).seen scan.old
-        → SendsAll result read (D.disk device.old).seen (W.output writer.old) (W.output writer.new) }
+    ensures sends { (which : Which) (read : List (List ℕ))
+        → IsReading D.tells D.gave which (D.disk device.old).seen read scan.old
+        → OfSource D.tells D.gave which (D.disk device.old).seen
+        (λ file. SendsAll result read file (W.output writer.old) (W.output writer.new)) }
     ensures stays { D.tells → StaysKept (D.disk device.old) (D.disk device.new) }
 {
     loop {
@@ -138,8 +163,9 @@ fn send_behind_first<D: Device, W: Sink>(
     device: &mut D,
     writer: &mut W,
 ) -> Result<(), DumpFault>
-    ensures sends { D.tells → HasRead [] (D.disk device.old).seen scan.old
-        → SendsBehind result (D.disk device.old).seen (W.output writer.old) (W.output writer.new) }
+    ensures sends { (which : Which) → IsReading D.tells D.gave which (D.disk device.old).seen [] scan.old
+        → OfSource D.tells D.gave which (D.disk device.old).seen
+        (λ file. SendsBehind result file (W.output writer.old) (W.output writer.new)) }
     ensures stays { D.tells → StaysKept (D.disk device.old) (D.disk device.new) }
 {
     match scan.next(device) {
@@ -156,9 +182,9 @@ fn dump_by<D: Device, W: Sink>(
     rules: Rules,
     writer: &mut W,
 ) -> Result<(), DumpFault>
-    requires { D.tells → HasRead [] (D.disk device.old).seen scan }
-    ensures dumps { D.tells
-        → Dumps result rules (D.disk device.old).seen (W.output writer.old) (W.output writer.new) }
+    ensures dumps { (which : Which) → IsReading D.tells D.gave which (D.disk device.old).seen [] scan
+        → OfSource D.tells D.gave which (D.disk device.old).seen
+        (λ file. Dumps result rules file (W.output writer.old) (W.output writer.new)) }
     ensures stays { D.tells → StaysKept (D.disk device.old) (D.disk device.new) }
 {
     let head = DumpHead {
@@ -183,6 +209,9 @@ pub fn write_dump<D: Device, W: Sink>(
 ) -> Result<(), DumpFault>
     ensures dumps { D.tells
         → Dumps result rules (D.disk device.old).seen (W.output writer.old) (W.output writer.new) }
+    // Of any device, by the bytes that its reads hand out.
+    ensures handed { SomeHanded D.gave
+        (λ file. Dumps result rules file (W.output writer.old) (W.output writer.new)) }
     ensures untouched { D.tells → IsUntouched (D.disk device.old) (D.disk device.new) }
 {
     match Scan::start(global, device) {

@@ -14,7 +14,8 @@
 //! - `worked_rows`: small files, and what the definitions make of them.
 //!
 //! specs/Keeping is what a file stands for, specs/Rounds what serving does, specs/Opening, Restoration and Reading what
-//! the others do, specs/Moments and Again what holds at each moment and after a crash.
+//! the others do, specs/Sources of which bytes they speak, specs/Moments and Again what holds at each moment and after a
+//! crash.
 #![tactic(auto)]
 
 mod dumps;

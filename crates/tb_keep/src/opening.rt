@@ -1,13 +1,15 @@
 //! A kept file is created, or opened after a crash.
-ghost use Rattle.std.specs.Prelude.{◌≡◌, ◌≤◌, true, [], Ok, IfOk, IfErr};
+ghost use Rattle.std.specs.Prelude.{◌≡◌, ◌≤◌, true, [], Ok, IfOk, IfErr, MatchResult};
 ghost use Rattle.tb_journal.specs.Device.{IsKept, LeavesOnly};
 ghost use Rattle.tb_journal.specs.Contents.{contents, recorded};
+ghost use Rattle.tb_journal.specs.Handed.{SomeHanded};
 ghost use Rattle.tb_journal.specs.Reading.{extent_of};
 ghost use Rattle.tb_journal.specs.Ready.{IsReady};
 ghost use Rattle.tb_journal.specs.Creating.{is_blank};
+ghost use Rattle.tb_machine.specs.Histories.{start};
 ghost use Rattle.tb_keep.specs.Keeping.{Keeps, IsFresh};
-ghost use Rattle.tb_keep.specs.Restoration.{IsRestoredFrom};
-ghost use Rattle.tb_keep.specs.Opening.{IsOpened, IsStarted, HasNoEntry, MayBeOpened, MayBeCreated, MayBeStarted, IsRefused, IsCreateRefused, IsStartRefused, history_of, device_left};
+ghost use Rattle.tb_keep.specs.Restoration.{IsRestoredFrom, IsFromOutside};
+ghost use Rattle.tb_keep.specs.Opening.{OpensBytes, StartsBytes, IsOpened, IsStarted, HasNoEntry, MayBeOpened, MayBeCreated, MayBeStarted, IsRefused, IsCreateRefused, IsStartRefused, history_of, device_left};
 ghost use Rattle.tb_keep.specs.Headed.{HasHead, HasRecords, IsOfDevice, OpensOnly, journal_left};
 
 use crate::faults::StartFault;
@@ -45,6 +47,7 @@ fn headed<D: Device>(journal: Journal<D>, rules: Rules) -> Result<Journal<D>, No
     ensures any_moment { D.tells
         → LeavesOnly (D.disk journal.device) (D.disk (journal_left result)) (HasNoEntry rules.profile rules.clients_max) }
     ensures fault { D.tells → IfErr result (λ failed. IsOfDevice failed.fault) }
+    ensures outside { IfErr result (λ failed. IsFromOutside failed.fault) }
 {
     let mut journal = journal;
     let head = write_head(rules.profile, rules.clients_max);
@@ -74,6 +77,7 @@ fn create_headed<D: Device>(
         (MayBeCreated rules.profile rules.clients_max (D.disk device)) }
     ensures refused { D.tells
         → IfErr result (λ failed. IsCreateRefused failed.fault (D.disk device) (D.disk failed.device)) }
+    ensures outside { IfErr result (λ failed. IsFromOutside failed.fault) }
 {
     match tb_journal::create(global, device) {
         Ok(journal) => headed(journal, rules),
@@ -93,6 +97,9 @@ pub fn create<D: Device>(global: Global, device: D, rules: Rules) -> Result<Keep
         (MayBeCreated rules.profile rules.clients_max (D.disk device)) }
     ensures refused { D.tells
         → IfErr result (λ failed. IsCreateRefused failed.fault (D.disk device) (D.disk failed.device)) }
+    // Of any device.
+    ensures empty { IfOk result (λ keeper. keeper.state ≡ start rules.profile rules.clients_max) }
+    ensures outside { IfErr result (λ failed. IsFromOutside failed.fault) }
 {
     let _clients = rules.clients_max.get();
     let Ok(machine) = Machine::new_in(global, global, rules.profile, rules.clients_max) else {
@@ -123,6 +130,7 @@ fn open_headed<D: Device>(
         → LeavesOnly (D.disk device) (D.disk (journal_left result))
         (OpensOnly rules.profile rules.clients_max (recorded (D.disk device).seen)) }
     ensures fault { D.tells → IfErr result (λ failed. IsOfDevice failed.fault) }
+    ensures outside { IfErr result (λ failed. IsFromOutside failed.fault) }
 {
     match Journal::open(global, device, extent) {
         Ok(journal) => {
@@ -155,6 +163,8 @@ fn open_restored<D: Device>(
         → LeavesOnly (D.disk device) (D.disk (device_left result))
         (OpensOnly rules.profile rules.clients_max (recorded (D.disk device).seen)) }
     ensures fault { D.tells → IfErr result (λ failed. IsOfDevice failed.fault) }
+    ensures any_device { MatchResult result (λ keeper. keeper.state ≡ machine)
+        (λ failed. IsFromOutside failed.fault) }
 {
     match open_headed(global, device, rules, extent) {
         Ok(journal) => Ok(Keeper::new(global, journal, machine)),
@@ -179,6 +189,8 @@ impl<D: Device> Keeper<D> {
             → IfErr result
             (λ failed.
             IsRefused rules.profile rules.clients_max failed.fault (D.disk device) (D.disk failed.device)) }
+        // Of any device, by the bytes that its reads hand out.
+        ensures handed { SomeHanded D.gave (OpensBytes result rules.profile rules.clients_max) }
     {
         let mut device = device;
         let same = rules;
@@ -200,6 +212,8 @@ impl<D: Device> Keeper<D> {
             → IfErr result
             (λ failed.
             IsStartRefused rules.profile rules.clients_max failed.fault (D.disk device) (D.disk failed.device)) }
+        // Of any device, by the bytes that its reads hand out.
+        ensures handed { SomeHanded D.gave (StartsBytes result rules.profile rules.clients_max) }
     {
         let same = rules;
         match create(global, device, same) {

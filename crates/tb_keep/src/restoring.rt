@@ -1,12 +1,16 @@
 //! The restoring of a machine from the records of a file behind its head.
-ghost use Rattle.std.specs.Prelude.{◌≡◌, ◌≤◌, ◌+◌, ℕ, true, List, [], IfOk};
+ghost use Rattle.std.specs.Prelude.{◌≡◌, ◌≤◌, ◌+◌, ℕ, true, List, [], ◌∷◌, Ok, IfOk};
 ghost use Rattle.tb_journal.specs.Device.{IsKept};
-ghost use Rattle.tb_journal.specs.Scans.{HasRead, GoesFurther};
-ghost use Rattle.tb_machine.specs.Histories.{start};
+ghost use Rattle.tb_journal.specs.Contents.{Records, contents};
+ghost use Rattle.tb_journal.specs.Handed.{SomeHanded};
+ghost use Rattle.tb_journal.specs.Reading.{extent_of};
+ghost use Rattle.tb_journal.specs.Scans.{BeginsWith, GoesFurther};
 ghost use Rattle.tb_machine.specs.Recording.{IsRecord};
+ghost use Rattle.tb_keep.specs.Keeping.{head_record};
 ghost use Rattle.tb_keep.specs.Restoration.{ReadsRecord, RestoresRecord, Restores};
 ghost use Rattle.tb_keep.specs.Opening.{IsUntouched};
-ghost use Rattle.tb_keep.specs.Entering.{StaysKept, ReadsHead, EntersNext, EntersAll, EntersFile};
+ghost use Rattle.tb_keep.specs.Sources.{Which, OfSource, IsReading};
+ghost use Rattle.tb_keep.specs.Entering.{StaysKept, ReadsHead, EntersNext, EntersAll, FindsBehind};
 
 use crate::faults::StartFault;
 use crate::heads::{Rules, check_head};
@@ -55,8 +59,9 @@ fn restore_record(
 
 /// Reads the head of a file of which nothing was read, and answers whether there is one.
 fn read_first<D: Device>(scan: &mut Scan, device: &mut D, rules: Rules) -> Result<bool, StartFault>
-    ensures head { D.tells → HasRead [] (D.disk device.old).seen scan.old
-        → ReadsHead result rules.profile rules.clients_max (D.disk device.old).seen scan.new }
+    ensures head { (which : Which) → IsReading D.tells D.gave which (D.disk device.old).seen [] scan.old
+        → OfSource D.tells D.gave which (D.disk device.old).seen
+        (λ file. ReadsHead which result rules.profile rules.clients_max file scan.new) }
     ensures stays { D.tells → StaysKept (D.disk device.old) (D.disk device.new) }
 {
     match scan.next(device) {
@@ -76,8 +81,10 @@ fn enter_next<D: Device>(
     scan: &mut Scan,
     device: &mut D,
 ) -> Result<bool, StartFault>
-    ensures enters { D.tells → (read : List (List ℕ)) → HasRead read (D.disk device.old).seen scan.old
-        → EntersNext result read (D.disk device.old).seen scan.new machine.old machine.new }
+    ensures enters { (which : Which) (read : List (List ℕ))
+        → IsReading D.tells D.gave which (D.disk device.old).seen read scan.old
+        → OfSource D.tells D.gave which (D.disk device.old).seen
+        (λ file. EntersNext which result read file scan.new machine.old machine.new) }
     ensures stays { D.tells → StaysKept (D.disk device.old) (D.disk device.new) }
     ensures further { IfOk result (λ more. more ≡ true → GoesFurther scan.old scan.new) }
 {
@@ -99,8 +106,10 @@ fn enter_all<D: Device>(
     scan: &mut Scan,
     device: &mut D,
 ) -> Result<(), StartFault>
-    ensures enters { D.tells → (read : List (List ℕ)) → HasRead read (D.disk device.old).seen scan.old
-        → EntersAll result read (D.disk device.old).seen scan.new machine.old machine.new }
+    ensures enters { (which : Which) (read : List (List ℕ))
+        → IsReading D.tells D.gave which (D.disk device.old).seen read scan.old
+        → OfSource D.tells D.gave which (D.disk device.old).seen
+        (λ file. EntersAll result read file scan.new machine.old machine.new) }
     ensures stays { D.tells → StaysKept (D.disk device.old) (D.disk device.new) }
 {
     loop {
@@ -112,25 +121,49 @@ fn enter_all<D: Device>(
     }
 }
 
-/// Enters a file of which nothing was read into a machine without entries.
-fn enter_file<D: Device>(
+/// The machine after the entries of a file of these rules of which the head was read, and where its records end.
+pub(crate) fn entered_behind<D: Device>(
     global: Global,
     rules: Rules,
-    machine: &mut Machine<Global>,
-    scan: &mut Scan,
+    scan: Scan,
     device: &mut D,
-) -> Result<(), StartFault>
-    requires empty { machine.old ≡ start rules.profile rules.clients_max }
-    ensures enters { D.tells → HasRead [] (D.disk device.old).seen scan.old
-        → EntersFile result rules.profile rules.clients_max (D.disk device.old).seen scan.new machine.new }
+) -> Result<(Machine<Global>, Extent), StartFault>
+    ensures found { (which : Which)
+        → IsReading D.tells D.gave which (D.disk device.old).seen
+        (head_record rules.profile rules.clients_max ∷ []) scan
+        → OfSource D.tells D.gave which (D.disk device.old).seen (FindsBehind result rules) }
+    ensures few { IfOk result (λ found. found.1.count ≤ found.1.end) }
     ensures stays { D.tells → StaysKept (D.disk device.old) (D.disk device.new) }
 {
     let _clients = rules.clients_max.get();
-    let same = rules;
-    match read_first(scan, device, same) {
-        Ok(true) => enter_all(global, machine, scan, device),
-        Ok(false) => Ok(()),
-        Err(fault) => Err(fault),
+    let Ok(mut machine) = Machine::new_in(global, global, rules.profile, rules.clients_max) else {
+        return Err(StartFault::NoMemory);
+    };
+    let mut scan = scan;
+    match enter_all(global, &mut machine, &mut scan, device) {
+        Ok(()) => Ok((machine, scan.extent())),
+        Err(fault) => {
+            drop(machine);
+            Err(fault)
+        }
+    }
+}
+
+/// The machine of a file without records.
+fn without_entries(
+    global: Global,
+    rules: Rules,
+    extent: Extent,
+) -> Result<(Machine<Global>, Extent), StartFault>
+    requires few { extent.count ≤ extent.end }
+    ensures found { (file : List ℕ) → contents file ≡ Records [] → BeginsWith [] file
+        → extent_of (contents file) ≡ Ok extent → Restores result rules.profile rules.clients_max file }
+    ensures few { IfOk result (λ found. found.1.count ≤ found.1.end) }
+{
+    let _clients = rules.clients_max.get();
+    match Machine::new_in(global, global, rules.profile, rules.clients_max) {
+        Ok(machine) => Ok((machine, extent)),
+        Err(_) => Err(StartFault::NoMemory),
     }
 }
 
@@ -141,21 +174,18 @@ fn restored_by<D: Device>(
     scan: Scan,
     device: &mut D,
 ) -> Result<(Machine<Global>, Extent), StartFault>
-    requires { D.tells → HasRead [] (D.disk device.old).seen scan }
-    ensures found { D.tells → Restores result rules.profile rules.clients_max (D.disk device.old).seen }
+    ensures found { (which : Which) → IsReading D.tells D.gave which (D.disk device.old).seen [] scan
+        → OfSource D.tells D.gave which (D.disk device.old).seen
+        (Restores result rules.profile rules.clients_max) }
     ensures few { IfOk result (λ found. found.1.count ≤ found.1.end) }
     ensures stays { D.tells → StaysKept (D.disk device.old) (D.disk device.new) }
 {
-    let Ok(mut machine) = Machine::new_in(global, global, rules.profile, rules.clients_max) else {
-        return Err(StartFault::NoMemory);
-    };
     let mut scan = scan;
-    match enter_file(global, rules, &mut machine, &mut scan, device) {
-        Ok(()) => Ok((machine, scan.extent())),
-        Err(fault) => {
-            drop(machine);
-            Err(fault)
-        }
+    let same = rules;
+    match read_first(&mut scan, device, same) {
+        Ok(true) => entered_behind(global, rules, scan, device),
+        Ok(false) => without_entries(global, rules, scan.extent()),
+        Err(fault) => Err(fault),
     }
 }
 
@@ -168,6 +198,8 @@ pub fn restored<D: Device>(
     device: &mut D,
 ) -> Result<(Machine<Global>, Extent), StartFault>
     ensures found { D.tells → Restores result rules.profile rules.clients_max (D.disk device.old).seen }
+    // Of any device, by the bytes that its reads hand out.
+    ensures handed { SomeHanded D.gave (Restores result rules.profile rules.clients_max) }
     ensures few { IfOk result (λ found. found.1.count ≤ found.1.end) }
     ensures kept { D.tells → IfOk result (λ _. IsKept (D.disk device.new)) }
     ensures untouched { D.tells → IsUntouched (D.disk device.old) (D.disk device.new) }

@@ -1,5 +1,14 @@
-use Rattle.tb_keep.proofs.Beginnings.{no_rules}
+use Rattle.std.proofs.Common.{[]}
+use Rattle.tb_keep.specs.Sources.{OnDisk, HandedOut}
+use Rattle.tb_keep.proofs.Sources.{read_on_disk, on_disk, read_handed, seen_now}
 use Rattle.tb_keep.proofs.dumps.read_history.Goals as goal
 
-pub returns-in-Err-clause-refused : goal.returns-in-Err-clause-refused
-returns-in-Err-clause-refused g c t = no_rules c.in-Err.fault (g.D.Device.disk c.args.device.now).seen (c.in-Err.ensures.rules t)
+pub returns-in-Ok-clause-found : goal.returns-in-Ok-clause-found
+returns-in-Ok-clause-found g c t =
+    let old = (g.D.Device.disk c.args.device.now).seen in
+    let now = (g.D.Device.disk c.start.new.device).seen in
+    on_disk g.D.Device.tells g.D.Device.gave old now _ (c.start.ensures.seen t)
+    (c.history_by.ensures.found OnDisk (seen_now g.D.Device.tells g.D.Device.gave OnDisk old now _ (λ t. c.start.ensures.seen t) (read_on_disk g.D.Device.tells g.D.Device.gave t old [] c.in-Ok.scan (c.in-Ok.ensures.begun t).0)))
+
+pub returns-in-Ok-clause-handed : goal.returns-in-Ok-clause-handed
+returns-in-Ok-clause-handed g c = c.history_by.ensures.found HandedOut (read_handed g.D.Device.tells g.D.Device.gave (g.D.Device.disk c.start.new.device).seen c.in-Ok.scan c.in-Ok.ensures.handed)

@@ -1,25 +1,27 @@
-use Rattle.std.proofs.Common.{[], ◌∷◌}
-use Rattle.tb_keep.proofs.Entered.{stays_looked, stays_then, has_now, stops_by_read}
+use Rattle.std.proofs.Common.{[], ◌∷◌, true, false, sym, Ok, Err}
+use Rattle.tb_keep.proofs.Sources.{is_at, next_so, seen_now, so_holds, stops_by_read}
+use Rattle.tb_keep.proofs.Entered.{stays_looked, stays_then}
 use Rattle.tb_keep.proofs.Dumping.{sends_behind, sends_nothing, sends_unread}
 use Rattle.tb_keep.proofs.dumps.send_behind_first.Goals as goal
 
 pub returns-in-Ok-true-clause-sends : goal.returns-in-Ok-true-clause-sends
-returns-in-Ok-true-clause-sends g c t has =
-    let first = c.next.new.self.last in
-    let same = (c.next.ensures.looks t).seen in
+returns-in-Ok-true-clause-sends g c which has =
+    let new = c.next.new.self in
+    let old = (g.D.Device.disk c.args.device.now).seen in
     let now = (g.D.Device.disk c.next.new.device).seen in
-    let read = rw c.in-Ok-true.field-0-test at (c.in-Ok-true.ensures.reads t [] has) in
-    sends_behind c.send_records.result (g.D.Device.disk c.args.device.now).seen now first (g.W.Sink.output c.args.writer.now) (g.W.Sink.output c.send_records.new.writer) same
-    (c.send_records.ensures.sends t (first ∷ []) (has_now (first ∷ []) (g.D.Device.disk c.args.device.now).seen now c.next.new.self same read))
+    let first = next_so g.D.Device.tells g.D.Device.gave which old (Ok true) [] c.args.scan.now new _ (rw c.in-Ok-true.field-0-test at c.in-Ok-true.ensures.reads) (rw c.in-Ok-true.field-0-test at c.in-Ok-true.ensures.handed) (λ file next. is_at which [] file new next) has in
+    seen_now g.D.Device.tells g.D.Device.gave which now old _ (λ t. sym (c.next.ensures.looks t).seen)
+    (so_holds g.D.Device.tells g.D.Device.gave which now _ _ (λ file sent. sends_behind c.send_records.result file new.last (g.W.Sink.output c.args.writer.now) (g.W.Sink.output c.send_records.new.writer) sent)
+    (c.send_records.ensures.sends which (new.last ∷ []) (seen_now g.D.Device.tells g.D.Device.gave which old now _ (λ t. (c.next.ensures.looks t).seen) first)))
 
 pub returns-in-Ok-false-clause-sends : goal.returns-in-Ok-false-clause-sends
-returns-in-Ok-false-clause-sends g c t has =
-    sends_nothing (g.D.Device.disk c.args.device.now).seen (g.W.Sink.output c.args.writer.now) (rw c.in-Ok-false.field-0-test at (c.in-Ok-false.ensures.reads t [] has)).0
+returns-in-Ok-false-clause-sends g c which =
+    next_so g.D.Device.tells g.D.Device.gave which (g.D.Device.disk c.args.device.now).seen (Ok false) [] c.args.scan.now c.next.new.self _ (rw c.in-Ok-false.field-0-test at c.in-Ok-false.ensures.reads) (rw c.in-Ok-false.field-0-test at c.in-Ok-false.ensures.handed) (λ file next. sends_nothing file (g.W.Sink.output c.args.writer.now) next.reads.0)
 
 pub returns-in-Err-clause-sends : goal.returns-in-Err-clause-sends
-returns-in-Err-clause-sends g c t has =
-    sends_unread c.in-Err.fault (g.D.Device.disk c.args.device.now).seen c.args.scan.now (g.W.Sink.output c.args.writer.now) has
-    (stops_by_read c.in-Err.fault [] (g.D.Device.disk c.args.device.now).seen c.next.new.self (c.in-Err.ensures.reads t [] has))
+returns-in-Err-clause-sends g c which =
+    next_so g.D.Device.tells g.D.Device.gave which (g.D.Device.disk c.args.device.now).seen (Err c.in-Err.fault) [] c.args.scan.now c.next.new.self _ c.in-Err.ensures.reads c.in-Err.ensures.handed
+    (λ file next. sends_unread c.in-Err.fault file (g.W.Sink.output c.args.writer.now) next.begins (stops_by_read c.in-Err.fault [] file c.next.new.self next.reads))
 
 pub returns-in-Ok-true-clause-stays : goal.returns-in-Ok-true-clause-stays
 returns-in-Ok-true-clause-stays g c t =

@@ -1,11 +1,12 @@
-use Rattle.std.proofs.Common.{◌++◌, arith}
-use Rattle.tb_keep.proofs.Entered.{stays_none, stays_then, has_now, entered_none, entered_more, entered_all, entered_not}
+use Rattle.std.proofs.Common.{◌++◌, arith, sym}
+use Rattle.tb_keep.proofs.Sources.{seen_now, so_holds}
+use Rattle.tb_keep.proofs.Entered.{stays_none, stays_then, entered_none, entered_more, entered_all, entered_not}
 use Rattle.tb_keep.proofs.restoring.enter_all.Goals as goal
 
 pub loop-fault-init : goal.loop-fault-init
 loop-fault-init g c = record {
   stays = λ t. stays_none (g.D.Device.disk c.args.device.now) (g.met.D.Device.only_now c.args.device.now);
-  entered = λ t read has. entered_none read (g.D.Device.disk c.args.device.now).seen c.args.scan.now c.args.machine.now has;
+  entered = λ which read. so_holds g.D.Device.tells g.D.Device.gave which (g.D.Device.disk c.args.device.now).seen _ _ (λ file at. entered_none which read file c.args.scan.now c.args.machine.now at);
 }
 
 pub loop-fault-smaller : goal.loop-fault-smaller
@@ -16,23 +17,23 @@ loop-fault-preserved g c = record {
   stays = λ t.
       stays_then (g.D.Device.disk c.args.device.now) (g.D.Device.disk c.loop-fault.device) (g.D.Device.disk c.enter_next.new.device) (g.met.D.Device.counts_now c.loop-fault.device)
       (c.loop-fault.invariant.stays t) (c.enter_next.ensures.stays t);
-  entered = λ t read has.
-      let same = (c.loop-fault.invariant.stays t).untouched.seen in
-      let file = (g.D.Device.disk c.args.device.now).seen in
+  entered = λ which read has.
+      let old = (g.D.Device.disk c.args.device.now).seen in
       let now = (g.D.Device.disk c.loop-fault.device).seen in
-      let (records, ahead, leads) = c.loop-fault.invariant.entered t read has in
-      entered_more read records file now same c.enter_next.new.scan c.args.machine.now c.loop-fault.machine c.enter_next.new.machine leads
-      (rw c.in-Ok-true.field-0-test at (c.in-Ok-true.ensures.enters t (read ++ records) (has_now (read ++ records) file now c.loop-fault.scan same ahead)));
+      let (file, source, (records, at, leads)) = c.loop-fault.invariant.entered which read has in
+      seen_now g.D.Device.tells g.D.Device.gave which now old _ (λ t. sym (c.loop-fault.invariant.stays t).untouched.seen)
+      (so_holds g.D.Device.tells g.D.Device.gave which now _ _ (λ file next. entered_more which read records file c.enter_next.new.scan c.args.machine.now c.loop-fault.machine c.enter_next.new.machine leads next)
+      ((rw c.in-Ok-true.field-0-test at c.in-Ok-true.ensures.enters) which (read ++ records) (seen_now g.D.Device.tells g.D.Device.gave which old now _ (λ t. (c.loop-fault.invariant.stays t).untouched.seen) (file, source, at))));
 }
 
 pub returns-in-Ok-false-clause-enters : goal.returns-in-Ok-false-clause-enters
-returns-in-Ok-false-clause-enters g c t read has =
-    let same = (c.loop-fault.invariant.stays t).untouched.seen in
-    let file = (g.D.Device.disk c.args.device.now).seen in
+returns-in-Ok-false-clause-enters g c which read has =
+    let old = (g.D.Device.disk c.args.device.now).seen in
     let now = (g.D.Device.disk c.loop-fault.device).seen in
-    let (records, ahead, leads) = c.loop-fault.invariant.entered t read has in
-    entered_all read records file now same c.enter_next.new.scan c.args.machine.now c.loop-fault.machine c.enter_next.new.machine leads
-    (rw c.in-Ok-false.field-0-test at (c.in-Ok-false.ensures.enters t (read ++ records) (has_now (read ++ records) file now c.loop-fault.scan same ahead)))
+    let (file, source, (records, at, leads)) = c.loop-fault.invariant.entered which read has in
+    seen_now g.D.Device.tells g.D.Device.gave which now old _ (λ t. sym (c.loop-fault.invariant.stays t).untouched.seen)
+    (so_holds g.D.Device.tells g.D.Device.gave which now _ _ (λ file next. entered_all which read records file c.enter_next.new.scan c.args.machine.now c.loop-fault.machine c.enter_next.new.machine leads next)
+    ((rw c.in-Ok-false.field-0-test at c.in-Ok-false.ensures.enters) which (read ++ records) (seen_now g.D.Device.tells g.D.Device.gave which old now _ (λ t. (c.loop-fault.invariant.stays t).untouched.seen) (file, source, at))))
 
 pub returns-in-Ok-false-clause-stays : goal.returns-in-Ok-false-clause-stays
 returns-in-Ok-false-clause-stays g c t =
@@ -40,13 +41,13 @@ returns-in-Ok-false-clause-stays g c t =
     (c.loop-fault.invariant.stays t) (c.enter_next.ensures.stays t)
 
 pub returns-in-Err-clause-enters : goal.returns-in-Err-clause-enters
-returns-in-Err-clause-enters g c t read has =
-    let same = (c.loop-fault.invariant.stays t).untouched.seen in
-    let file = (g.D.Device.disk c.args.device.now).seen in
+returns-in-Err-clause-enters g c which read has =
+    let old = (g.D.Device.disk c.args.device.now).seen in
     let now = (g.D.Device.disk c.loop-fault.device).seen in
-    let (records, ahead, leads) = c.loop-fault.invariant.entered t read has in
-    entered_not read records file now same c.enter_next.new.scan c.args.machine.now c.loop-fault.machine c.enter_next.new.machine leads
-    c.in-Err.fault (c.in-Err.ensures.enters t (read ++ records) (has_now (read ++ records) file now c.loop-fault.scan same ahead))
+    let (file, source, (records, at, leads)) = c.loop-fault.invariant.entered which read has in
+    seen_now g.D.Device.tells g.D.Device.gave which now old _ (λ t. sym (c.loop-fault.invariant.stays t).untouched.seen)
+    (so_holds g.D.Device.tells g.D.Device.gave which now _ _ (λ file next. entered_not which read records file c.enter_next.new.scan c.args.machine.now c.loop-fault.machine c.enter_next.new.machine leads c.in-Err.fault next)
+    (c.in-Err.ensures.enters which (read ++ records) (seen_now g.D.Device.tells g.D.Device.gave which old now _ (λ t. (c.loop-fault.invariant.stays t).untouched.seen) (file, source, at))))
 
 pub returns-in-Err-clause-stays : goal.returns-in-Err-clause-stays
 returns-in-Err-clause-stays g c t =

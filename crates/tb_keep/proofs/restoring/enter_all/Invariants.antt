@@ -1,5 +1,5 @@
 use Rattle.std.proofs.Common.{ℕ, List, ◌-◌, ◌^◌}
-use Rattle.tb_journal.specs.Scans.{HasRead}
+use Rattle.tb_keep.specs.Sources.{Which, OfSource, IsReading}
 use Rattle.tb_keep.specs.Entering.{StaysKept}
 use Rattle.tb_keep.proofs.Entered.{Entered}
 use Rattle.tb_keep.proofs.restoring.enter_all.Given as goal
@@ -8,8 +8,8 @@ use Rattle.tb_keep.proofs.restoring.enter_all.Given as goal
 abbrev pub invariant-loop-fault : goal.invariant-loop-fault
 invariant-loop-fault g l = record {
   stays : g.D.Device.tells → StaysKept (g.D.Device.disk l.fn.device) (g.D.Device.disk l.device);
-  entered : g.D.Device.tells → (read : List (List ℕ)) → HasRead read (g.D.Device.disk l.fn.device).seen l.fn.scan
-      → Entered read (g.D.Device.disk l.fn.device).seen l.scan l.fn.machine l.machine;
+  entered : (which : Which) (read : List (List ℕ)) → IsReading g.D.Device.tells g.D.Device.gave which (g.D.Device.disk l.fn.device).seen read l.fn.scan
+      → OfSource g.D.Device.tells g.D.Device.gave which (g.D.Device.disk l.fn.device).seen (λ file. Entered which read file l.scan l.fn.machine l.machine);
 }
 
 abbrev pub decreases-loop-fault : goal.decreases-loop-fault

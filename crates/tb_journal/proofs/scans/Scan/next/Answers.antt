@@ -1,6 +1,8 @@
 use Rattle.std.proofs.Common.{◌≡◌, ◌+◌, ◌∙◌, ap, arith, drop, refl, rules, subst, sym, take}
 use Rattle.tb_journal.specs.Scans.{Place, HasRead}
 use Rattle.tb_journal.proofs.Nexts.{block_within, step_ends, step_stays, step_spoiled, step_whole, too_far}
+use Rattle.tb_journal.specs.Handed.{HasTaken}
+use Rattle.tb_journal.proofs.Handing.{all_ahead, takes_end, takes_damage, takes_record}
 use Rattle.tb_journal.proofs.scans.Scan.next.Goals as goal
 
 pub returns-then-self-ge-FILE_BYTES_MAX-clause-cause : goal.returns-then-self-ge-FILE_BYTES_MAX-clause-cause
@@ -54,5 +56,30 @@ returns-in-Ok-Whole-clause-reads g c t records read =
     let window = c.take-in-Ok-Whole.new.self in
     let len = c.in-Ok-Whole.len in
     step_whole records file _ old c.head_at.new.window.ahead (c.in-Ok-Whole.ensures.finds t old.ahead) c.in-Ok-Whole.field-0 c.in-Ok-Whole.ensures.head
+    len (c.self.inside.end + (8 + len)) (c.self.inside.count + 1) window.taken window.ahead c.in-Ok-Whole.field-0-is refl refl
+    (c.take-in-Ok-Whole.ensures.taken ∙ ap (take len) c.take.ensures.ahead) (c.take-in-Ok-Whole.ensures.ahead ∙ ap (drop len) c.take.ensures.ahead)
+
+pub returns-in-Ok-End-clause-handed : goal.returns-in-Ok-End-clause-handed
+returns-in-Ok-End-clause-handed g c records file read =
+    let gave = g.D.Device.gave in
+    let old = subst (HasTaken gave records file) (sym c.self.view_is) read in
+    takes_end gave records file _ old c.head_at.new.window.ahead (c.in-Ok-End.ensures.handed file (all_ahead gave records file _ old))
+    c.in-Ok-End.field-0 c.in-Ok-End.ensures.head c.head_at.new.window.taken c.in-Ok-End.field-0-is
+
+pub returns-in-Ok-Spoiled-clause-handed : goal.returns-in-Ok-Spoiled-clause-handed
+returns-in-Ok-Spoiled-clause-handed g c records file read =
+    let gave = g.D.Device.gave in
+    let old = subst (HasTaken gave records file) (sym c.self.view_is) read in
+    takes_damage gave records file _ old c.head_at.new.window.ahead (c.in-Ok-Spoiled.ensures.handed file (all_ahead gave records file _ old))
+    c.in-Ok-Spoiled.field-0 c.in-Ok-Spoiled.ensures.head _ c.in-Ok-Spoiled.field-0-is
+
+pub returns-in-Ok-Whole-clause-handed : goal.returns-in-Ok-Whole-clause-handed
+returns-in-Ok-Whole-clause-handed g c records file read =
+    let gave = g.D.Device.gave in
+    let old = subst (HasTaken gave records file) (sym c.self.view_is) read in
+    let window = c.take-in-Ok-Whole.new.self in
+    let len = c.in-Ok-Whole.len in
+    takes_record gave records file _ old c.head_at.new.window.ahead (c.in-Ok-Whole.ensures.handed file (all_ahead gave records file _ old))
+    c.in-Ok-Whole.field-0 c.in-Ok-Whole.ensures.head
     len (c.self.inside.end + (8 + len)) (c.self.inside.count + 1) window.taken window.ahead c.in-Ok-Whole.field-0-is refl refl
     (c.take-in-Ok-Whole.ensures.taken ∙ ap (take len) c.take.ensures.ahead) (c.take-in-Ok-Whole.ensures.ahead ∙ ap (drop len) c.take.ensures.ahead)

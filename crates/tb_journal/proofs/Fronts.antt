@@ -1,0 +1,83 @@
+-- What stands at the head of bytes is told by a beginning of them.
+use Rattle.std.proofs.Common.{◌≡◌, ⊎_elim, ℕ, suc, ◌+◌, ◌-◌, ◌<◌, ◌≤◌, ◌==◌, ◌&&◌, min, Bool, true, false, List, [], ◌∷◌, ◌++◌, length, take, drop, refl, sym, ◌∙◌, ap, subst, arith, nat_le, length-take, if◌then◌else◌}
+use Rattle.std.proofs.lemmas.List.{take_all, take-take}
+use Rattle.std.proofs.lemmas.Bool.{cases_lt}
+use Rattle.std.proofs.lemmas.Bool.Decides.{nat_tests}
+use Rattle.std.specs.Int.{w32, from_le_bytes}
+use Rattle.tb_journal.specs.Checksum.{checksum}
+use Rattle.tb_journal.specs.Contents.{Ends, Spoiled, Whole, behind_gate, front}
+use Rattle.tb_journal.specs.Scans.{IsAhead}
+use Rattle.tb_journal.specs.Reading.{HasAhead, FindsHead, asked}
+
+over : (a b : ℕ) → b < a → nat_le a b ≡ false
+over a b h = grind (arith, nat_tests)
+
+within : (a b : ℕ) → a ≤ b → nat_le a b ≡ true
+within a b h = grind (arith, nat_tests)
+
+same_test : (n x y k : ℕ) → x ≡ min k y → n ≤ k → nat_le n x ≡ nat_le n y
+same_test n x y k is le =
+    ⊎_elim (λ less. over n x (omega (arith, is, less)) ∙ sym (over n y less)) (λ ge. within n x (omega (arith, is, le, ge)) ∙ sym (within n y ge)) (cases_lt y n)
+
+behind_same : (size : List ℕ) (sum k : ℕ) (rest : List ℕ) → from_le_bytes w32 (size ++ 0 ∷ []) ≤ k → behind_gate size sum (take k rest) ≡ behind_gate size sum rest
+behind_same size sum k rest le =
+    let n = from_le_bytes w32 (size ++ 0 ∷ []) in
+    ap (λ (b : Bool). if b && (sum == checksum (size ++ take n (take k rest))) then Whole (take n (take k rest)) else Spoiled) (same_test n (length (take k rest)) (length rest) k (length-take k rest) le)
+    ∙ ap (λ (r : List ℕ). if nat_le n (length rest) && (sum == checksum (size ++ r)) then Whole r else Spoiled) (take-take n k rest le)
+
+gate_same : (closed : Bool) (size : List ℕ) (sum k : ℕ) (rest : List ℕ) → (closed ≡ false → from_le_bytes w32 (size ++ 0 ∷ []) ≤ k)
+    → (if closed then Ends else behind_gate size sum (take k rest)) ≡ (if closed then Ends else behind_gate size sum rest)
+gate_same true size sum k rest le = refl
+gate_same false size sum k rest le = behind_same size sum k rest (le refl)
+
+at_least : (closed : Bool) (n : ℕ) → 8 ≤ (if closed then 8 else 8 + n)
+at_least true n = omega arith
+at_least false n = omega arith
+
+behind_open : (closed : Bool) (n m : ℕ) → (if closed then 8 else 8 + n) ≤ m → closed ≡ false → n ≤ m - 8
+behind_open true n m le is = absurd (cc)
+behind_open false n m le is = omega (arith, le)
+
+short : (m : ℕ) (l : List ℕ) → length l ≤ m → front (take m l) ≡ front l
+short m l le = ap front (take_all m l le)
+
+-- so many bytes as are asked for
+front_told : (m : ℕ) (l : List ℕ) → asked l ≤ m → front (take m l) ≡ front l
+front_told m [] le = short m [] (omega arith)
+front_told m (g ∷ []) le = short m (g ∷ []) (omega (arith, le))
+front_told m (g ∷ a ∷ []) le = short m (g ∷ a ∷ []) (omega (arith, le))
+front_told m (g ∷ a ∷ b ∷ []) le = short m (g ∷ a ∷ b ∷ []) (omega (arith, le))
+front_told m (g ∷ a ∷ b ∷ c ∷ []) le = short m (g ∷ a ∷ b ∷ c ∷ []) (omega (arith, le, at_least (g == 0) (from_le_bytes w32 (a ∷ b ∷ c ∷ 0 ∷ []))))
+front_told m (g ∷ a ∷ b ∷ c ∷ s ∷ []) le = short m (g ∷ a ∷ b ∷ c ∷ s ∷ []) (omega (arith, le, at_least (g == 0) (from_le_bytes w32 (a ∷ b ∷ c ∷ 0 ∷ []))))
+front_told m (g ∷ a ∷ b ∷ c ∷ s ∷ t ∷ []) le = short m (g ∷ a ∷ b ∷ c ∷ s ∷ t ∷ []) (omega (arith, le, at_least (g == 0) (from_le_bytes w32 (a ∷ b ∷ c ∷ 0 ∷ []))))
+front_told m (g ∷ a ∷ b ∷ c ∷ s ∷ t ∷ u ∷ []) le = short m (g ∷ a ∷ b ∷ c ∷ s ∷ t ∷ u ∷ []) (omega (arith, le, at_least (g == 0) (from_le_bytes w32 (a ∷ b ∷ c ∷ 0 ∷ []))))
+front_told m (g ∷ a ∷ b ∷ c ∷ s ∷ t ∷ u ∷ v ∷ rest) le =
+    let n = from_le_bytes w32 (a ∷ b ∷ c ∷ 0 ∷ []) in
+    let k = m - 8 in
+    let far : m ≡ suc (suc (suc (suc (suc (suc (suc (suc k))))))) = omega (arith, le, at_least (g == 0) n) in
+    ap (λ (j : ℕ). front (take j (g ∷ a ∷ b ∷ c ∷ s ∷ t ∷ u ∷ v ∷ rest))) far
+    ∙ gate_same (g == 0) (a ∷ b ∷ c ∷ []) (from_le_bytes w32 (s ∷ t ∷ u ∷ v ∷ [])) k rest (behind_open (g == 0) n m le)
+
+-- and four bytes tell how many
+asked_told : (m : ℕ) (l : List ℕ) → 4 ≤ m → asked (take m l) ≡ asked l
+asked_told m [] le = ap asked (take_all m [] (omega arith))
+asked_told m (g ∷ []) le = ap asked (take_all m (g ∷ []) (omega (arith, le)))
+asked_told m (g ∷ a ∷ []) le = ap asked (take_all m (g ∷ a ∷ []) (omega (arith, le)))
+asked_told m (g ∷ a ∷ b ∷ []) le = ap asked (take_all m (g ∷ a ∷ b ∷ []) (omega (arith, le)))
+asked_told m (g ∷ a ∷ b ∷ c ∷ rest) le =
+    let far : m ≡ suc (suc (suc (suc (m - 4)))) = omega (arith, le) in
+    ap (λ (j : ℕ). asked (take j (g ∷ a ∷ b ∷ c ∷ rest))) far
+
+asked_ahead : (at : ℕ) (file ahead : List ℕ) → HasAhead 8 at file ahead → asked ahead ≡ asked (drop at file)
+asked_ahead at file ahead has =
+    ⊎_elim (λ le. ap asked has.same ∙ asked_told (length ahead) (drop at file) (omega (arith, le))) (λ is. ap asked is) has.enough
+
+pub finds_head : (at needed : ℕ) (file mid before ahead : List ℕ) → mid ≡ file → needed ≡ asked before → HasAhead 8 at file before → (IsAhead at mid before → HasAhead needed at mid ahead) → FindsHead at file ahead
+finds_head at needed file mid before ahead same is first second =
+    let has : HasAhead needed at file ahead = subst (λ (f : List ℕ). HasAhead needed at f ahead) same (second (subst (λ (f : List ℕ). IsAhead at f before) (sym same) first.same)) in
+    record {
+      same = has.same;
+      finds = ⊎_elim
+          (λ le. ap front has.same ∙ front_told (length ahead) (drop at file) (omega (arith, le, is, asked_ahead at file before first)))
+          (λ all. ap front all) has.enough;
+    }

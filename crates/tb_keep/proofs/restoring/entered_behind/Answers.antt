@@ -1,0 +1,31 @@
+use Rattle.std.proofs.Common.{[], ◌∷◌}
+use Rattle.tb_keep.specs.Keeping.{head_record}
+use Rattle.tb_keep.proofs.Sources.{so_holds}
+use Rattle.tb_keep.proofs.Entered.{behind_begins, behind_not, no_memory, restored_behind}
+use Rattle.tb_keep.proofs.restoring.entered_behind.Goals as goal
+
+pub returns-in_default-clause-found : goal.returns-in_default-clause-found
+returns-in_default-clause-found g c which =
+    let rules = c.args.rules in
+    so_holds g.D.Device.tells g.D.Device.gave which (g.D.Device.disk c.args.device.now).seen _ _ (λ file at. (at.has.begins, no_memory rules.profile rules.clients_max file (head_record rules.profile rules.clients_max ∷ []) at.has.begins))
+
+pub returns-in-Ok-enter_all-clause-found : goal.returns-in-Ok-enter_all-clause-found
+returns-in-Ok-enter_all-clause-found g c which has =
+    let rules = c.args.rules in
+    let head = head_record rules.profile rules.clients_max in
+    let scan = c.enter_all.new.scan in
+    let S = c.in-Ok.machine in
+    let T = c.enter_all.new.machine in
+    so_holds g.D.Device.tells g.D.Device.gave which (g.D.Device.disk c.args.device.now).seen _ _
+    (λ file all. (
+      behind_begins head file scan S T all,
+      restored_behind rules.profile rules.clients_max c.get-clients.ensures.positive c.get-clients.ensures.at_most file scan c.extent.result S T c.in-Ok.ensures c.extent.ensures.end c.extent.ensures.count all,
+    ))
+    (c.in-Ok-enter_all.ensures.enters which (head ∷ []) has)
+
+pub returns-clause-found : goal.returns-clause-found
+returns-clause-found g c which has =
+    let rules = c.args.rules in
+    so_holds g.D.Device.tells g.D.Device.gave which (g.D.Device.disk c.args.device.now).seen _ _
+    (λ file all. behind_not rules file c.enter_all.new.scan c.in-Ok.machine c.enter_all.new.machine c.in-Ok.ensures c.in-Err.fault all)
+    (c.in-Err.ensures.enters which (head_record rules.profile rules.clients_max ∷ []) has)
