@@ -1,11 +1,11 @@
 //! How many bytes a batch of transfers asks for: the room of its undo log, and its records.
+use crate::comparing::holds;
 use crate::machine_tests::{
     EARLY, Turn, enter, flagged, numbered, register, transfer, two_accounts,
 };
 use crate::{Refusing, Tally};
 use std::alloc::{Allocator, Global};
 use std::process::Abort;
-use std::test::Fail;
 use tb_machine::Machine;
 use tb_records::{Body, ClientsMax, Items, Profile, Transfer, TransferFlag};
 
@@ -16,25 +16,30 @@ const LOG: u64 = 4 * 144;
 /// failed.
 const KEPT: u64 = 192 + 80 + 80;
 
-/// So many transfers of 1 each, alone or as one chain.
-fn events(alloc: Global, count: u32, chained: bool) -> Result<Vec<Transfer>, Fail> {
-    let mut all = Vec::with_capacity(alloc, count as usize)?;
-    for k in 1..=count {
-        let one = transfer(100 + u128::from(k), 1);
-        let linked = chained && k < count;
-        all.push(if linked {
-            flagged(TransferFlag::Linked, one)
-        } else {
-            one
-        })?;
+/// A transfer of 1, linked or alone.
+fn event(id: u128, linked: bool) -> Transfer {
+    let one = transfer(id, 1);
+    if linked {
+        flagged(TransferFlag::Linked, one)
+    } else {
+        one
     }
-    Ok(all)
+}
+
+/// So many transfers of 1 each, alone or as one chain.
+fn events(rt: &impl Abort, alloc: Global, count: u32, chained: bool) -> Vec<Transfer> {
+    let mut all = Vec::new(alloc);
+    for k in 1..=count {
+        let one = event(100 + u128::from(k), chained && k < count);
+        all.push(one).expect(rt, "memory");
+    }
+    all
 }
 
 /// Client 7's batch of so many transfers.
-fn batch(alloc: Global, count: u32, chained: bool) -> Result<Turn, Fail> {
-    let all = events(alloc, count, chained)?;
-    numbered(EARLY, 2, Body::CreateTransfers(Items::new(all)))
+fn batch(rt: &impl Abort, alloc: Global, count: u32, chained: bool) -> Turn {
+    let all = events(rt, alloc, count, chained);
+    numbered(rt, EARLY, 2, Body::CreateTransfers(Items::new(all)))
 }
 
 /// Enters a request at its moment.
@@ -43,11 +48,10 @@ fn enter_one<A: Allocator + Clone>(
     alloc: Global,
     machine: &mut Machine<A>,
     turn: Turn,
-) -> Result<(), Fail> {
+) {
     let refused = enter(rt, alloc, machine, &turn);
     drop(turn);
-    assert!(rt; !refused?);
-    Ok(())
+    holds(rt, !refused, "an entry is made", machine.commit());
 }
 
 /// Enters a register, two accounts and a batch: what was asked for, and of bytes those that the batch asked for.
@@ -57,84 +61,53 @@ fn enter_batch(
     machine: &mut Machine<&Refusing<Global>>,
     heap: &Refusing<Global>,
     turn: Turn,
-) -> Result<Tally, Fail> {
-    enter_one(rt, alloc, machine, register()?)?;
-    enter_one(rt, alloc, machine, two_accounts(alloc)?)?;
+) -> Tally {
+    enter_one(rt, alloc, machine, register(rt));
+    enter_one(rt, alloc, machine, two_accounts(rt, alloc));
     let before = heap.tally().bytes;
-    enter_one(rt, alloc, machine, turn)?;
+    enter_one(rt, alloc, machine, turn);
     let now = heap.tally();
-    Ok(Tally {
+    Tally {
         bytes: now.bytes.wrapping_sub(before),
         ..now
-    })
+    }
 }
 
-/// What a batch asks a machine's allocator for.
-fn ask_heap(
-    rt: &impl Abort,
-    alloc: Global,
-    heap: &Refusing<Global>,
-    profile: Profile,
-    turn: Turn,
-) -> Result<Tally, Fail> {
-    let clients_max = ClientsMax::new(2).ok_or("clients_max")?;
-    let mut machine = Machine::new_in(alloc, heap, profile, clients_max)?;
-    let asked = enter_batch(rt, alloc, &mut machine, heap, turn);
-    drop(machine);
-    asked
-}
-
-/// What a batch of so many transfers asks for.
-fn ask(
-    rt: &impl Abort,
-    alloc: Global,
-    profile: Profile,
-    count: u32,
-    chained: bool,
-) -> Result<Tally, Fail> {
-    let turn = batch(alloc, count, chained)?;
+/// What a batch of so many transfers asks a machine's allocator for.
+fn ask(rt: &impl Abort, alloc: Global, profile: Profile, count: u32, chained: bool) -> Tally {
+    let turn = batch(rt, alloc, count, chained);
     let heap = Refusing::new(alloc, 0);
-    let asked = ask_heap(rt, alloc, &heap, profile, turn);
+    let clients_max = ClientsMax::new(2).expect(rt, "clients_max");
+    let made = Machine::new_in(alloc, &heap, profile, clients_max);
+    let mut machine = made.expect(rt, "a machine");
+    let asked = enter_batch(rt, alloc, &mut machine, &heap, turn);
+    drop(machine);
     drop(heap);
     asked
 }
 
 /// A batch's undo log is one growth, and the greatest; all that it asks for is the log's room and that of its records. The
 /// batch of two accounts before it asks for a log too.
-fn expect_bounded(
-    rt: &impl Abort,
-    alloc: Global,
-    profile: Profile,
-    count: u32,
-    chained: bool,
-) -> Result<(), Fail> {
-    let asked = ask(rt, alloc, profile, count, chained)?;
+fn expect_bounded(rt: &impl Abort, alloc: Global, profile: Profile, count: u32, chained: bool) {
+    let asked = ask(rt, alloc, profile, count, chained);
     let count = u64::from(count);
     let Tally {
         bytes,
         greatest,
         ..
     } = asked;
-    assert!(rt; bytes >= 128 * count, "{count} events: only {bytes} bytes");
-    assert!(rt;
-        greatest <= LOG * count.max(2),
-        "{count} events: a growth of {greatest} bytes"
-    );
-    assert!(rt;
-        bytes <= (LOG + KEPT) * count,
-        "{count} events: {bytes} bytes"
-    );
-    Ok(())
+    holds(rt, bytes >= 128 * count, "bytes, too few", bytes);
+    holds(rt, greatest <= LOG * count.max(2), "a growth", greatest);
+    holds(rt, bytes <= (LOG + KEPT) * count, "bytes", bytes);
 }
 
 /// A batch asks for so many bytes an event at most, whether its events stand alone or in one chain.
 #[test]
-fn bytes_of_a_batch(rt: HostRuntime) -> Result<(), Fail> {
+fn bytes_of_a_batch(rt: HostRuntime) {
     for profile in [Profile::One, Profile::Two] {
         for count in [1, 2, 20, 300] {
-            expect_bounded(&rt, rt.alloc(), profile, count, false)?;
-            expect_bounded(&rt, rt.alloc(), profile, count, true)?;
+            expect_bounded(&rt, rt.alloc(), profile, count, false);
+            expect_bounded(&rt, rt.alloc(), profile, count, true);
         }
     }
-    Ok(())
 }

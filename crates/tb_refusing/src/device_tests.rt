@@ -1,8 +1,8 @@
 //! Each read and each write fails in turn, and each write takes nothing in turn: what is answered and what was written then.
+use crate::comparing::holds;
 use std::alloc::Global;
 use std::io::{self, Error, ErrorKind, Read, Write};
 use std::process::Abort;
-use std::test::Fail;
 use tb_machine::{RunFault, dump, replay, run};
 use tb_records::{
     Account, Body, ClientsMax, Counting, DumpFault, FrameFault, Items, Profile, Request,
@@ -103,29 +103,24 @@ fn serve<R: Source, W: Sink>(alloc: Global, form: Form, reader: &mut R, writer: 
 }
 
 /// What is written where nothing fails.
-fn whole(alloc: Global, form: Form, input: &[u8]) -> Result<Vec<u8>, Fail> {
+fn whole(rt: &impl Abort, alloc: Global, form: Form, input: &[u8]) -> Vec<u8> {
     let mut writer = Counting::new(Vec::new(alloc));
     let outcome = serve(alloc, form, &mut Counting::new(input), &mut writer);
-    let written = writer.into_inner();
-    if outcome != Outcome::Done {
-        drop(written);
-        return Err("a fault".into());
-    }
-    Ok(written)
+    holds(rt, outcome == Outcome::Done, "no fault", input.len() as u64);
+    writer.into_inner()
 }
 
 /// A script or a dump, and where its pairs or entries end.
 #[derive(Drop)]
 struct Input {
     bytes: Vec<u8>,
-    ends: Vec<usize>,
+    ends: &'static [usize],
 }
 
 impl Input {
     /// The end of the last pair that lies in so many bytes; 0 where there is none.
     fn end_within(&self, count: usize) -> usize {
         self.ends
-            .as_slice()
             .iter()
             .copied()
             .filter(|end| *end <= count)
@@ -135,9 +130,10 @@ impl Input {
 }
 
 /// Appends a request's frame behind moment 10.
-fn put_pair(out: &mut Vec<u8>, request: &Request) -> Result<(), Fail> {
-    out.extend_from_slice(&10_u64.to_le_bytes())?;
-    Ok(write_request(request, out)?)
+fn put_pair(rt: &impl Abort, out: &mut Vec<u8>, request: &Request) {
+    out.extend_from_slice(&10_u64.to_le_bytes())
+        .expect(rt, "memory");
+    write_request(request, out).expect(rt, "memory");
 }
 
 fn account(id: u128) -> Account {
@@ -150,64 +146,62 @@ fn account(id: u128) -> Account {
 }
 
 /// Client 7 creates two accounts.
-fn creation(alloc: Global) -> Result<Request, Fail> {
-    let accounts = Vec::from_slice(alloc, &[account(1), account(2)])?;
-    Ok(Request::new(7, 1, 1, Body::CreateAccounts(Items::new(accounts)))?)
+fn creation(rt: &impl Abort, alloc: Global) -> Body {
+    let accounts = Vec::from_slice(alloc, &[account(1), account(2)]).expect(rt, "memory");
+    Body::CreateAccounts(Items::new(accounts))
 }
 
 /// Client 7 looks accounts 2, 9 and 1 up.
-fn lookup(alloc: Global) -> Result<Request, Fail> {
-    let ids = Vec::from_slice(alloc, &[2_u128, 9, 1])?;
-    Ok(Request::new(7, 1, 2, Body::LookupAccounts(Items::new(ids)))?)
+fn lookup(rt: &impl Abort, alloc: Global) -> Body {
+    let ids = Vec::from_slice(alloc, &[2_u128, 9, 1]).expect(rt, "memory");
+    Body::LookupAccounts(Items::new(ids))
 }
 
-/// Appends a request and lets it go.
-fn put(out: &mut Vec<u8>, request: Request) -> Result<(), Fail> {
-    let done = put_pair(out, &request);
+/// Appends client 7's request with a session and a number.
+fn put(rt: &impl Abort, out: &mut Vec<u8>, session: u64, number: u32, body: Body) {
+    let request = Request::new(7, session, number, body).expect(rt, "a request");
+    put_pair(rt, out, &request);
     drop(request);
-    done
-}
-
-/// Appends the three requests.
-fn put_three(alloc: Global, out: &mut Vec<u8>) -> Result<(), Fail> {
-    put(out, Request::new(7, 0, 0, Body::Register)?)?;
-    put(out, creation(alloc)?)?;
-    put(out, lookup(alloc)?)
 }
 
 /// Client 7 registers, creates accounts 1 and 2, and looks 2, 9 and 1 up.
-fn script(alloc: Global) -> Result<Input, Fail> {
+fn script(rt: &impl Abort, alloc: Global) -> Input {
     let mut bytes = Vec::new(alloc);
-    put_three(alloc, &mut bytes)?;
-    let ends = Vec::from_slice(alloc, &[56_usize, 368, 472])?;
-    Ok(Input { bytes, ends })
+    put(rt, &mut bytes, 0, 0, Body::Register);
+    put(rt, &mut bytes, 1, 1, creation(rt, alloc));
+    put(rt, &mut bytes, 1, 2, lookup(rt, alloc));
+    Input {
+        bytes,
+        ends: &[56, 368, 472],
+    }
 }
 
 /// The dump of that script, with a mark behind its first entry.
-fn dump_of_script(alloc: Global) -> Result<Input, Fail> {
-    let input = script(alloc)?;
-    let dumped = whole(alloc, Form::Dump, &input.bytes);
+fn dump_of_script(rt: &impl Abort, alloc: Global) -> Input {
+    let input = script(rt, alloc);
+    let bytes = whole(rt, alloc, Form::Dump, &input.bytes);
     drop(input);
-    let bytes = dumped?;
-    let ends = Vec::from_slice(alloc, &[16_usize, 80, 416, 528])?;
-    Ok(Input { bytes, ends })
+    Input {
+        bytes,
+        ends: &[16, 80, 416, 528],
+    }
 }
 
-fn input_of(alloc: Global, form: Form) -> Result<Input, Fail> {
+fn input_of(rt: &impl Abort, alloc: Global, form: Form) -> Input {
     match form {
-        Form::Replay => dump_of_script(alloc),
-        _ => script(alloc),
+        Form::Replay => dump_of_script(rt, alloc),
+        _ => script(rt, alloc),
     }
 }
 
 /// What is written of the pairs that lie in so many bytes of the input.
-fn written_of(alloc: Global, form: Form, input: &Input, count: usize) -> Result<Vec<u8>, Fail> {
+fn written_of(rt: &impl Abort, alloc: Global, form: Form, input: &Input, count: usize) -> Vec<u8> {
     let end = input.end_within(count);
     if matches!(form, Form::Replay) && end == 0 {
-        return Ok(Vec::new(alloc));
+        return Vec::new(alloc);
     }
-    let pairs = input.bytes.as_slice().get(..end).ok_or("an end")?;
-    whole(alloc, form, pairs)
+    let pairs = input.bytes.as_slice().get(..end).expect(rt, "an end");
+    whole(rt, alloc, form, pairs)
 }
 
 /// How a call ends, where a device failed or stopped, and where none did.
@@ -221,26 +215,21 @@ fn outcome_where(failed: bool) -> Outcome {
 
 /// What was written is what the pairs give that lie in so many bytes of the input.
 fn is_written(
+    rt: &impl Abort,
     alloc: Global,
     form: Form,
     input: &Input,
     count: usize,
     written: &[u8],
-) -> Result<bool, Fail> {
-    let wanted = written_of(alloc, form, input, count)?;
+) -> bool {
+    let wanted = written_of(rt, alloc, form, input, count);
     let same = wanted.as_slice() == written;
     drop(wanted);
-    Ok(same)
+    same
 }
 
 /// Serves the input with the read behind so many failing; says whether one failed.
-fn fail_read(
-    rt: &impl Abort,
-    alloc: Global,
-    form: Form,
-    input: &Input,
-    good: u32,
-) -> Result<bool, Fail> {
+fn fail_read(rt: &impl Abort, alloc: Global, form: Form, input: &Input, good: u32) -> bool {
     let rest = input.bytes.as_slice();
     let mut reader = Counting::new(FailingReader { rest, good });
     let mut writer = Counting::new(Vec::new(alloc));
@@ -248,11 +237,11 @@ fn fail_read(
     let failed = Source::failures(&reader) == 1;
     let read = rest.len() - reader.into_inner().rest.len().min(rest.len());
     let written = writer.into_inner();
-    let same = is_written(alloc, form, input, read, written.as_slice());
+    let same = is_written(rt, alloc, form, input, read, written.as_slice());
     drop(written);
-    let right = same? && outcome == outcome_where(failed);
-    assert!(rt; right, "behind {good} reads");
-    Ok(failed)
+    let right = same && outcome == outcome_where(failed);
+    holds(rt, right, "behind so many reads", u64::from(good));
+    failed
 }
 
 /// Serves the input with the write behind so many failing, or taking nothing: how it ended, how many writes failed, and
@@ -288,29 +277,26 @@ fn stop_write(
     let begins = wanted.starts_with(taken.as_slice());
     drop(taken);
     let right = outcome == outcome_where(stopped) && failed == u64::from(stopped && fails);
-    assert!(rt; right && begins, "behind {good} writes");
+    holds(
+        rt,
+        right && begins,
+        "behind so many writes",
+        u64::from(good),
+    );
     stopped
 }
 
-/// How often a read of an input fails.
-fn fail_each(rt: &impl Abort, alloc: Global, form: Form, input: &Input) -> Result<u32, Fail> {
+/// How often a read of an input fails; 100 where there is no end of them.
+fn fail_each(rt: &impl Abort, alloc: Global, form: Form, input: &Input) -> u32 {
     for good in 0..100 {
-        if !fail_read(rt, alloc, form, input, good)? {
-            return Ok(good);
+        if !fail_read(rt, alloc, form, input, good) {
+            return good;
         }
     }
-    Err("reads without end".into())
+    100
 }
 
-/// How often a read fails while a form serves its input.
-fn fail_reads(rt: &impl Abort, alloc: Global, form: Form) -> Result<u32, Fail> {
-    let input = input_of(alloc, form)?;
-    let failed = fail_each(rt, alloc, form, &input);
-    drop(input);
-    failed
-}
-
-/// How often a write of what an input gives stops.
+/// How often a write of what an input gives stops; 100 where there is no end of them.
 fn stop_each(
     rt: &impl Abort,
     alloc: Global,
@@ -318,63 +304,64 @@ fn stop_each(
     input: &Input,
     wanted: &[u8],
     fails: bool,
-) -> Result<u32, Fail> {
+) -> u32 {
     for good in 0..100 {
         if !stop_write(rt, alloc, form, input, wanted, good, fails) {
-            return Ok(good);
+            return good;
         }
     }
-    Err("writes without end".into())
+    100
 }
 
-/// How often a write of what a form gives for an input stops.
-fn stop_all(
-    rt: &impl Abort,
-    alloc: Global,
-    form: Form,
-    input: &Input,
-    fails: bool,
-) -> Result<u32, Fail> {
-    let wanted = whole(alloc, form, &input.bytes)?;
-    let stopped = stop_each(rt, alloc, form, input, wanted.as_slice(), fails);
-    drop(wanted);
-    stopped
+/// So many failed, at least as many as are known of, and there was an end of them.
+fn expect_many(rt: &impl Abort, failed: u32, least: u32) {
+    holds(
+        rt,
+        least <= failed && failed < 100,
+        "failed",
+        u64::from(failed),
+    );
 }
 
-/// How often a write stops while a form serves its input.
-fn stop_writes(rt: &impl Abort, alloc: Global, form: Form, fails: bool) -> Result<u32, Fail> {
-    let input = input_of(alloc, form)?;
-    let stopped = stop_all(rt, alloc, form, &input, fails);
+/// Each read fails in turn while a form serves its input; so many do at least.
+fn fail_reads(rt: &impl Abort, alloc: Global, form: Form, least: u32) {
+    let input = input_of(rt, alloc, form);
+    let failed = fail_each(rt, alloc, form, &input);
     drop(input);
-    stopped
+    expect_many(rt, failed, least);
+}
+
+/// Each write fails in turn while a form serves its input, and takes nothing in turn; so many do at least.
+fn stop_writes(rt: &impl Abort, alloc: Global, form: Form, least: u32) {
+    let input = input_of(rt, alloc, form);
+    let wanted = whole(rt, alloc, form, &input.bytes);
+    let failed = stop_each(rt, alloc, form, &input, wanted.as_slice(), true);
+    let stalled = stop_each(rt, alloc, form, &input, wanted.as_slice(), false);
+    drop(wanted);
+    drop(input);
+    expect_many(rt, failed, least);
+    holds(rt, failed == stalled, "took nothing", u64::from(stalled));
 }
 
 /// Each of the reads fails in turn: a moment, a header in two reads, each record in three or four.
 #[test]
-fn each_read_fails(rt: HostRuntime) -> Result<(), Fail> {
+fn each_read_fails(rt: HostRuntime) {
     for (form, least) in [(Form::Run, 19), (Form::Dump, 19), (Form::Replay, 20)] {
-        let failed = fail_reads(&rt, rt.alloc(), form)?;
-        assert!(&rt; failed >= least, "only {failed} reads failed");
+        fail_reads(&rt, rt.alloc(), form, least);
     }
-    Ok(())
 }
 
 /// Each of the writes fails in turn, and takes nothing in turn.
 #[test]
-fn each_write_stops(rt: HostRuntime) -> Result<(), Fail> {
+fn each_write_stops(rt: HostRuntime) {
     for (form, least) in [(Form::Run, 13), (Form::Dump, 19), (Form::Replay, 13)] {
-        let failed = stop_writes(&rt, rt.alloc(), form, true)?;
-        let stalled = stop_writes(&rt, rt.alloc(), form, false)?;
-        assert!(&rt; failed >= least, "only {failed} writes failed");
-        assert!(&rt; failed == stalled, "{stalled} writes took nothing");
+        stop_writes(&rt, rt.alloc(), form, least);
     }
-    Ok(())
 }
 
 /// How many pairs of an input end within so many bytes.
 fn pairs_within(input: &Input, read: usize) -> usize {
-    let ends = input.ends.as_slice().iter();
-    ends.filter(|end| **end <= read).count()
+    input.ends.iter().filter(|end| **end <= read).count()
 }
 
 /// Takes five times what comes next of a stream: how many pairs come, and whether the end does. A fault is the
@@ -393,7 +380,15 @@ fn take_five(
                 pairs = pairs.wrapping_add(1);
             }
             Ok(None) => return (pairs, true),
-            Err(fault) => assert!(rt; fault == FrameFault::Device, "behind {good} reads"),
+            Err(fault) => {
+                let device = fault == FrameFault::Device;
+                holds(
+                    rt,
+                    device,
+                    "the device's fault behind so many reads",
+                    u64::from(good),
+                );
+            }
         }
     }
     (pairs, false)
@@ -410,10 +405,8 @@ fn stream_until(rt: &impl Abort, alloc: Global, input: &Input, good: u32) -> boo
     }
     let once = Source::failures(&source) == 1;
     let read = rest.len() - source.into_inner().rest.len().min(rest.len());
-    assert!(rt;
-        once && pairs == pairs_within(input, read),
-        "behind {good} reads"
-    );
+    let right = once && pairs == pairs_within(input, read);
+    holds(rt, right, "pairs behind so many reads", u64::from(good));
     true
 }
 
@@ -430,10 +423,9 @@ fn stream_each(rt: &impl Abort, alloc: Global, input: &Input) -> u32 {
 
 /// Each read of a stream fails in turn.
 #[test]
-fn each_read_of_a_stream_fails(rt: HostRuntime) -> Result<(), Fail> {
-    let input = script(rt.alloc())?;
+fn each_read_of_a_stream_fails(rt: HostRuntime) {
+    let input = script(&rt, rt.alloc());
     let failed = stream_each(&rt, rt.alloc(), &input);
     drop(input);
-    assert!(&rt; failed >= 19 && failed < 100, "{failed} reads failed");
-    Ok(())
+    expect_many(&rt, failed, 19);
 }

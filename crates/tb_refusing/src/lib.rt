@@ -17,6 +17,8 @@ pub use heap::{Refusing, Tally};
 #[cfg(test)]
 mod batch_tests;
 #[cfg(test)]
+mod comparing;
+#[cfg(test)]
 mod device_tests;
 #[cfg(test)]
 mod machine_tests;

@@ -4,7 +4,6 @@ ghost use Rattle.tb_commands.specs.Orders.{clients_of, digit_of, profile_of};
 ghost use Rattle.tb_text_commands.specs.Orders.{account_of, audit_of, order_alone, order_of, order_with, order_with_two, run_by, with_digit};
 
 use std::alloc::{AllocError, Global};
-use std::format;
 use tb_commands::number;
 use tb_records::{ClientsMax, Profile};
 
@@ -173,34 +172,86 @@ pub fn read_order(words: &[String]) -> Option<Order>
     }
 }
 
+/// Texts, one behind another.
+fn joined(alloc: Global, parts: &[&str]) -> Result<String, AllocError> {
+    let mut text = String::new(alloc);
+    for part in parts {
+        text.push_str(part)?;
+    }
+    Ok(text)
+}
+
+/// What is wrong with a word alone.
+fn wrong_alone(alloc: Global, word: &str) -> Result<String, AllocError> {
+    if word == "run" {
+        joined(alloc, &["run: CLIENTS_MAX is missing, 1 to 64"])
+    } else {
+        joined(alloc, &[word, ": unknown; tbt --help shows the forms"])
+    }
+}
+
+/// What is wrong with a word and more, where no more may follow it.
+fn wrong_more(alloc: Global, word: &str, more: &str) -> Result<String, AllocError> {
+    joined(alloc, &[word, " ", more, ": too many words"])
+}
+
+/// What is wrong with the words behind `run`.
+fn wrong_run(alloc: Global, first: &str, rest: &[String]) -> Result<String, AllocError> {
+    match rest {
+        [] => joined(alloc, &["run ", first, ": CLIENTS_MAX is 1 to 64"]),
+        [profile] => {
+            let wrong = if number(first.as_bytes(), 1, 64).is_none() {
+                ": CLIENTS_MAX is 1 to 64"
+            } else {
+                ": PROFILE is 1 or 2"
+            };
+            joined(alloc, &["run ", first, " ", profile.as_str(), wrong])
+        }
+        _ => wrong_more(alloc, "run", first),
+    }
+}
+
+/// What is wrong with the words behind `audit`.
+fn wrong_audit(alloc: Global, option: &str, rest: &[String]) -> Result<String, AllocError> {
+    match rest {
+        [id] if option == "--account" => joined(
+            alloc,
+            &[
+                "audit --account ",
+                id.as_str(),
+                ": an account's id is 0 to 2^128 - 1, in decimal digits",
+            ],
+        ),
+        _ => joined(
+            alloc,
+            &["audit ", option, ": only --account and an id may follow"],
+        ),
+    }
+}
+
+/// What is wrong with two words or more.
+fn wrong_with(
+    alloc: Global,
+    word: &str,
+    second: &str,
+    rest: &[String],
+) -> Result<String, AllocError> {
+    if word == "run" {
+        wrong_run(alloc, second, rest)
+    } else if word == "audit" {
+        wrong_audit(alloc, second, rest)
+    } else if order_alone(word).is_some() {
+        wrong_more(alloc, word, second)
+    } else {
+        wrong_alone(alloc, word)
+    }
+}
+
 /// What is wrong with words that are none of the program's forms.
 pub fn wrong_words(alloc: Global, words: &[String]) -> Result<String, AllocError> {
     match words {
-        [word] if word.as_str() == "run" => format!(in alloc;
-            "run: CLIENTS_MAX is missing, 1 to 64"
-        ),
-        [word, clients_max] if word.as_str() == "run" => {
-            format!(in alloc; "run {clients_max}: CLIENTS_MAX is 1 to 64")
-        }
-        [word, clients_max, profile] if word.as_str() == "run" => {
-            if number(clients_max.as_str().as_bytes(), 1, 64).is_none() {
-                format!(in alloc; "run {clients_max} {profile}: CLIENTS_MAX is 1 to 64")
-            } else {
-                format!(in alloc; "run {clients_max} {profile}: PROFILE is 1 or 2")
-            }
-        }
-        [word, option, id] if word.as_str() == "audit" && option.as_str() == "--account" => {
-            format!(in alloc;
-                "audit --account {id}: an account's id is 0 to 2^128 - 1, in decimal digits"
-            )
-        }
-        [word, option, ..] if word.as_str() == "audit" => {
-            format!(in alloc; "audit {option}: only --account and an id may follow")
-        }
-        [word, more, ..] if order_alone(word.as_str()).is_some() || word.as_str() == "run" => {
-            format!(in alloc; "{word} {more}: too many words")
-        }
-        [word, ..] => format!(in alloc; "{word}: unknown; tbt --help shows the forms"),
-        [] => format!(in alloc; "no words"),
+        [] => joined(alloc, &["no words"]),
+        [word] => wrong_alone(alloc, word.as_str()),
+        [word, second, rest @ ..] => wrong_with(alloc, word.as_str(), second.as_str(), rest),
     }
 }

@@ -79,6 +79,14 @@ fn put_line<E: Sink>(line: &[u8], faults: &mut E)
     let _ = put_all(faults, line);
 }
 
+/// Writes the line of a fault with a name.
+fn put_name<E: Sink>(name: &str, faults: &mut E)
+    requires short { length name.now ≤ 26 }
+    ensures { Told (line_named name.now) (E.output faults.old) (E.output faults.new) }
+{
+    put_line(line_of(name).as_slice(), faults);
+}
+
 /// What is said of a fault behind its position.
 fn behind_position(said: &[u8]) -> &[u8] {
     for (place, byte) in said.iter().enumerate() {
@@ -188,12 +196,12 @@ impl Fault {
     {
         match self {
             Fault::Usage => put_line(USAGE.as_bytes(), faults),
-            Fault::Device => put_line(line_of("Device").as_slice(), faults),
-            Fault::NoMemory => put_line(line_of("NoMemory").as_slice(), faults),
-            Fault::TimeExhausted => put_line(line_of("TimeExhausted").as_slice(), faults),
-            Fault::TooLong => put_line(line_of("TooLong").as_slice(), faults),
-            Fault::Frame(fault) => put_line(line_of(fault.name()).as_slice(), faults),
-            Fault::Dump(fault) => put_line(line_of(fault.name()).as_slice(), faults),
+            Fault::Device => put_name("Device", faults),
+            Fault::NoMemory => put_name("NoMemory", faults),
+            Fault::TimeExhausted => put_name("TimeExhausted", faults),
+            Fault::TooLong => put_name("TooLong", faults),
+            Fault::Frame(fault) => put_name(fault.name(), faults),
+            Fault::Dump(fault) => put_name(fault.name(), faults),
             Fault::Arguments(line) => put_line(line.as_slice(), faults),
             Fault::Text(line) => put_line(line.as_slice(), faults),
             Fault::WasTold => {}

@@ -108,16 +108,26 @@ fn next_pair<R: Source, W: Sink>(
     }
 }
 
-/// Writes the statement of a pair.
-fn put_statement<W: Sink>(alloc: Global, writer: &mut W, pair: &(u64, Request)) -> Result<(), Fault>
+/// The statement of a pair.
+fn statement_of(alloc: Global, moment: u64, request: &Request) -> Result<Vec<u8>, AllocError> {
+    let mut text = Vec::new(alloc);
+    match print_request(alloc, &mut text, moment, request) {
+        Ok(()) => Ok(text),
+        Err(fault) => {
+            drop(text);
+            Err(fault)
+        }
+    }
+}
+
+/// Writes the statement of a pair, and lets the pair go.
+fn put_statement<W: Sink>(alloc: Global, writer: &mut W, pair: (u64, Request)) -> Result<(), Fault>
     ensures { Written result (W.output writer.old) (W.output writer.new) }
 {
     let (moment, request) = pair;
-    let mut text = Vec::new(alloc);
-    match print_request(alloc, &mut text, *moment, request) {
-        Ok(()) => put(writer, text.as_slice()),
-        Err(_) => Err(Fault::NoMemory),
-    }
+    let text = statement_of(alloc, moment, &request);
+    drop(request);
+    put_line(writer, text)
 }
 
 /// Writes the statements of a script.
@@ -132,7 +142,7 @@ pub fn requests<R: Source, W: Sink>(
 {
     for _ in 0..u64::MAX {
         match next_pair(alloc, reader, writer)? {
-            Some(pair) => put_statement(alloc, writer, &pair)?,
+            Some(pair) => put_statement(alloc, writer, pair)?,
             None => return Ok(()),
         }
     }
@@ -173,6 +183,15 @@ fn next_reply<R: Source, W: Sink>(
     Err(Fault::TooLong)
 }
 
+/// Writes the line of a reply, and lets it go.
+fn put_reply<W: Sink>(alloc: Global, writer: &mut W, reply: Reply) -> Result<(), Fault>
+    ensures { Written result (W.output writer.old) (W.output writer.new) }
+{
+    let line = reply_line(alloc, &reply);
+    drop(reply);
+    put_line(writer, line)
+}
+
 /// Writes a line for each reply.
 pub fn replies<R: Source, W: Sink>(
     alloc: Global,
@@ -186,7 +205,7 @@ pub fn replies<R: Source, W: Sink>(
     let mut intake = Intake::new(alloc);
     for _ in 0..u64::MAX {
         match next_reply(alloc, &mut intake, reader, writer)? {
-            Some(reply) => put_line(writer, reply_line(alloc, &reply))?,
+            Some(reply) => put_reply(alloc, writer, reply)?,
             None => return Ok(()),
         }
     }
@@ -212,6 +231,15 @@ pub fn next_item<R: Source, W: Sink>(
     }
 }
 
+/// Writes the line of what stands in a dump, and lets it go.
+fn put_item_line<W: Sink>(alloc: Global, writer: &mut W, item: DumpItem) -> Result<(), Fault>
+    ensures { Written result (W.output writer.old) (W.output writer.new) }
+{
+    let line = item_line(alloc, &item);
+    drop(item);
+    put_line(writer, line)
+}
+
 /// Writes a line for the head, each entry and the mark of a dump.
 pub fn dump<R: Source, W: Sink>(alloc: Global, reader: &mut R, writer: &mut W) -> Result<(), Fault>
     ensures ended { Ended result (R.input reader.old) (R.input reader.new) (W.output writer.old)
@@ -225,19 +253,23 @@ pub fn dump<R: Source, W: Sink>(alloc: Global, reader: &mut R, writer: &mut W) -
     put_line(writer, head_line(alloc, &head))?;
     for _ in 0..u64::MAX {
         match next_item(alloc, reader, writer)? {
-            Some(item) => put_line(writer, item_line(alloc, &item))?,
+            Some(item) => put_item_line(alloc, writer, item)?,
             None => return Ok(()),
         }
     }
     Err(Fault::TooLong)
 }
 
-/// Writes the pair of an entry; a mark has none.
-fn put_item<W: Sink>(writer: &mut W, item: &DumpItem) -> Result<(), Fault>
+/// Writes the pair of an entry, and lets it go; a mark has none.
+fn put_item<W: Sink>(writer: &mut W, item: DumpItem) -> Result<(), Fault>
     ensures { Written result (W.output writer.old) (W.output writer.new) }
 {
     match item {
-        DumpItem::Entry { time, request, .. } => put_pair(writer, *time, request),
+        DumpItem::Entry { time, request, .. } => {
+            let written = put_pair(writer, time, &request);
+            drop(request);
+            written
+        }
         DumpItem::Mark => Ok(()),
     }
 }
@@ -253,7 +285,7 @@ pub fn pairs<R: Source, W: Sink>(alloc: Global, reader: &mut R, writer: &mut W) 
     }
     for _ in 0..u64::MAX {
         match next_item(alloc, reader, writer)? {
-            Some(item) => put_item(writer, &item)?,
+            Some(item) => put_item(writer, item)?,
             None => return Ok(()),
         }
     }
