@@ -4,6 +4,7 @@
 //! Modules, each over those before it:
 //!
 //! - `heap`: `Refusing`, the allocator, and what it counts.
+//! - `comparing`: what is compared, in one function.
 //! - `map_tests`: each growth of a map refused.
 //! - `machine_tests`: each growth of a ledger's rows refused, below `Machine::apply`.
 //! - `batch_tests`: how many bytes a batch of transfers asks for.
