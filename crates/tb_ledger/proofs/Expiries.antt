@@ -9,7 +9,7 @@ use Rattle.tb_ledger.specs.declared.tables.accounts.AccountRow.{AccountRow}
 use Rattle.tb_ledger.specs.declared.tables.transfers.TransferRow.{TransferRow}
 use Rattle.tb_ledger.specs.declared.tables.timeouts.Timeout.{Timeout}
 use Rattle.tb_ledger.specs.Books.{Books, posts, pending, resolves, is_open, is_due, state_by, closing_debit, closing_credit, debit, credit}
-use Rattle.tb_ledger.specs.Sound.{ledger_at, Sound}
+use Rattle.tb_ledger.specs.Sound.{IdsRise, ledger_at, Sound}
 use Rattle.tb_ledger.specs.Kept.{account_row_key, transfer_row_key, books_of, row_holds, lapses, IsIndex, HasSums, HasState, AreKept, IsLedger, on_debits, on_credits, released, settled, accounts_released}
 use Rattle.tb_ledger.proofs.Parts.{both_hold}
 use Rattle.tb_ledger.proofs.Pairs.{sums_released}
@@ -139,6 +139,7 @@ module _ (accounts : List AccountRow) (transfers : List TransferRow) (failed : L
     index = index;
     unused = ledger.unused;
     sound = subst Sound (sym (books_then later marked same_accounts same_transfers)) (sound_later (books_of accounts transfers failed keeps_failed time) T le ledger.sound);
+    rising = subst IdsRise (sym (books_then later marked same_accounts same_transfers)) (record { accounts = ledger.rising.accounts; transfers = ledger.rising.transfers; failed = ledger.rising.failed });
   }
 
 -- the failed ids stay

@@ -2,7 +2,7 @@
 use Rattle.std.proofs.Common.{◌≡◌, ◌≢◌, ℕ, ◌+◌, ◌-◌, ◌<◌, ◌≤◌, Bool, true, false, cond, not, ◌&&◌, eqb, ltb, leb, ◌==◌, if◌then◌else◌, List, [], ◌∷◌, length, find, Some, None, refl, sym, ap, subst, ◌∙◌, arith}
 use Rattle.std.proofs.lemmas.Bool.Decides.{nat_tests}
 use Rattle.tb_records.specs.Ordered.{put, replaced, taken_out, Each, Rising}
-use Rattle.tb_records.proofs.ByKey.{each-map, each-both, each-find, each-put, each-replaced, each-all, none-found, find-put_here, find-put_other, find-replaced_other, taken_out-put, rising-taken_out, each-taken_out}
+use Rattle.tb_records.proofs.ByKey.{each-map, each-both, each-find, each-put, each-replaced, each-all, none-found, find-put_here, find-put_other, find-replaced_other, taken_out-put, rising-put, rising-taken_out, each-taken_out}
 use Rattle.tb_ledger.specs.declared.tables.transfers.State.{State}
 use Rattle.tb_ledger.specs.declared.tables.transfers.TransferRow.{TransferRow}
 use Rattle.tb_ledger.specs.declared.tables.timeouts.Timeout.{Timeout}
@@ -80,29 +80,42 @@ undone_listed t ts can = by (times_out t) can
         let spare : ts.spare - 1 + freed (find (λ e. timeout_key e == timeout_key d) (put timeout_key d ts.items)) ≡ ts.spare = let some : 0 < ts.spare = it.capacity in omega (arith, one) in
         λ i. record { items = back i; spare = spare i }
 
-pub undone_unlisted : (t : TransferRow) (ts : Stored Timeout) → AreTimeouts ts.items → (times_out t ≡ true → IsListed ts.items t) → listed t (unlisted t ts) ≡ ts
-undone_unlisted t ts ordered is_listed = by (times_out t) is_listed
+pub undone_unlisted : (t : TransferRow) (ts : Stored Timeout) → (times_out t ≡ true → AreTimeouts ts.items) → (times_out t ≡ true → IsListed ts.items t) → listed t (unlisted t ts) ≡ ts
+undone_unlisted t ts ordered is_listed = by (times_out t) ordered is_listed
   where
-    by : (b : Bool) → (b ≡ true → IsListed ts.items t) → (if b then with_timeout (timeout_of t) (if b then without_timeout (timeout_of t) ts else ts) else (if b then without_timeout (timeout_of t) ts else ts)) ≡ ts
-    by false is = refl
-    by true is =
+    by : (b : Bool) → (b ≡ true → AreTimeouts ts.items) → (b ≡ true → IsListed ts.items t) → (if b then with_timeout (timeout_of t) (if b then without_timeout (timeout_of t) ts else ts) else (if b then without_timeout (timeout_of t) ts else ts)) ≡ ts
+    by false ordered is = refl
+    by true ordered is =
         let d = timeout_of t in
         let it = is refl in
-        let back : put timeout_key d (taken_out timeout_key (timeout_key d) ts.items) ≡ ts.items = put-taken_out timeout_key d ts.items ordered.rising it.there in
+        let back : put timeout_key d (taken_out timeout_key (timeout_key d) ts.items) ≡ ts.items = put-taken_out timeout_key d ts.items (ordered refl).rising it.there in
         let one : freed (find (λ e. timeout_key e == timeout_key d) ts.items) ≡ 1 = rw it.there refl in
         let spare : ts.spare + freed (find (λ e. timeout_key e == timeout_key d) ts.items) - 1 ≡ ts.spare = omega (arith, one) in
         λ i. record { items = back i; spare = spare i }
 
 -- it can come back
-pub can_relist : (t : TransferRow) (ts : Stored Timeout) → AreTimeouts ts.items → (times_out t ≡ true → IsListed ts.items t) → times_out t ≡ true → CanList t (unlisted t ts)
+pub can_relist : (t : TransferRow) (ts : Stored Timeout) → (times_out t ≡ true → AreTimeouts ts.items) → (times_out t ≡ true → IsListed ts.items t) → times_out t ≡ true → CanList t (unlisted t ts)
 can_relist t ts ordered is_listed is =
     let it = is_listed is in
     let one : freed (find (λ e. timeout_key e == timeout_key (timeout_of t)) ts.items) ≡ 1 = rw it.there refl in
     let can : CanList t (without_timeout (timeout_of t) ts) = record {
       in_range = it.in_range;
       capacity = omega (arith, one);
-      absent = gone timeout_key (timeout_key (timeout_of t)) ts.items ordered.rising;
+      absent = gone timeout_key (timeout_key (timeout_of t)) ts.items (ordered is).rising;
     } in rw is can
+
+-- the order of timeouts, with one more or one less
+ordered_with : (d : Timeout) (ts : Stored Timeout) → d.id ≤ int_max → find (λ e. timeout_key e == timeout_key d) ts.items ≡ None → AreTimeouts ts.items → AreTimeouts (with_timeout d ts).items
+ordered_with d ts fits absent ordered = record {
+  rising = rising-put timeout_key d ts.items absent ordered.rising;
+  fit = each-put timeout_key (λ e. e.id ≤ int_max) d ts.items fits ordered.fit;
+}
+
+ordered_without : (d : Timeout) (ts : Stored Timeout) → AreTimeouts ts.items → AreTimeouts (without_timeout d ts).items
+ordered_without d ts ordered = record {
+  rising = rising-taken_out timeout_key (timeout_key d) ts.items ordered.rising;
+  fit = each-taken_out timeout_key (λ d. d.id ≤ int_max) (timeout_key d) ts.items ordered.fit;
+}
 
 -- of a new transfer no timeout is there yet
 module _ (transfers : List TransferRow) (ts : Stored Timeout) (index : IsIndex transfers ts.items) where
@@ -110,11 +123,11 @@ module _ (transfers : List TransferRow) (ts : Stored Timeout) (index : IsIndex t
     other_id : (d : Timeout) → IsTimeout transfers d → d.id ≢ t.recorded.id
     other_id d has same = let found : find (λ r. r.recorded.id == t.recorded.id) transfers ≡ Some has.t = subst (λ k. find (λ r. r.recorded.id == k) transfers ≡ Some has.t) same has.there in absurd (cc)
 
-    pub not_listed_yet : AreTimeouts ts.items → t.recorded.id ≤ int_max → find (λ d. timeout_key d == timeout_key (timeout_of t)) ts.items ≡ None
-    not_listed_yet ordered fits =
+    pub not_listed_yet : t.recorded.id ≤ int_max → find (λ d. timeout_key d == timeout_key (timeout_of t)) ts.items ≡ None
+    not_listed_yet fits =
         none-found (λ d. timeout_key d == timeout_key (timeout_of t)) ts.items
         (each-both (IsTimeout transfers) (λ d. d.id ≤ int_max) (λ d. eqb (timeout_key d) (timeout_key (timeout_of t)) ≡ false) ts.items
-        (λ d has d_fits. let other = other_id d has in let differs : timeout_key d ≢ timeout_key (timeout_of t) = λ same. other (omega arith) in grind (arith, nat_tests)) index.all_timed ordered.fit)
+        (λ d has d_fits. let other = other_id d has in let differs : timeout_key d ≢ timeout_key (timeout_of t) = λ same. other (omega arith) in grind (arith, nat_tests)) index.all_timed index.ordered.fit)
 
     others_timed : (d : Timeout) → IsTimeout transfers d → IsTimeout (put transfer_row_key t transfers) d
     others_timed d has =
@@ -126,13 +139,14 @@ module _ (transfers : List TransferRow) (ts : Stored Timeout) (index : IsIndex t
           same = has.same;
         }
 
-    pub index_added : (times_out t ≡ true → CanList t ts) → IsIndex (put transfer_row_key t transfers) (listed t ts).items
-    index_added can = by (times_out t) refl
+    pub index_added : (times_out t ≡ true → t.recorded.id ≤ int_max) → (times_out t ≡ true → CanList t ts) → IsIndex (put transfer_row_key t transfers) (listed t ts).items
+    index_added fits can = by (times_out t) refl
       where
         by : (b : Bool) → times_out t ≡ b → IsIndex (put transfer_row_key t transfers) (if b then with_timeout (timeout_of t) ts else ts).items
         by false not_timed = record {
           all_listed = each-put transfer_row_key (λ r. times_out r ≡ true → IsListed ts.items r) t transfers (λ is. absurd (cc)) index.all_listed;
           all_timed = each-map (IsTimeout transfers) (IsTimeout (put transfer_row_key t transfers)) ts.items others_timed index.all_timed;
+          ordered = index.ordered;
         }
         by true is_timed =
             let d = timeout_of t in
@@ -143,6 +157,7 @@ module _ (transfers : List TransferRow) (ts : Stored Timeout) (index : IsIndex t
               all_timed = each-put timeout_key (IsTimeout (put transfer_row_key t transfers)) d ts.items
                   (record { t = t; there = find-put_here transfer_row_key (λ r. r.recorded.id == t.recorded.id) t transfers same_id fresh; is_timed = is_timed; same = refl })
                   (each-map (IsTimeout transfers) (IsTimeout (put transfer_row_key t transfers)) ts.items others_timed index.all_timed);
+              ordered = ordered_with d ts (fits is_timed) it.absent index.ordered;
             }
           where
             same_id : eqb t.recorded.id t.recorded.id ≡ true
@@ -160,7 +175,7 @@ module _ (transfers : List TransferRow) (ts : Stored Timeout) (index : IsIndex t
                 which false e = record { in_range = was.in_range; there = find-put_other timeout_key (λ e. timeout_key e == timeout_key (timeout_of r)) (timeout_of t) ts.items e ∙ was.there }
 
   -- a transfer that holds no more
-  module _ (p : TransferRow) (s : State) (found : find (λ r. r.recorded.id == p.recorded.id) transfers ≡ Some p) (over : is_open s ≡ false) (rising : Rising transfer_row_key transfers) (ordered : AreTimeouts ts.items) where
+  module _ (p : TransferRow) (s : State) (found : find (λ r. r.recorded.id == p.recorded.id) transfers ≡ Some p) (over : is_open s ≡ false) (rising : Rising transfer_row_key transfers) where
     abbrev left : List TransferRow
     left = replaced transfer_row_key (settled s p) transfers
 
@@ -193,6 +208,7 @@ module _ (transfers : List TransferRow) (ts : Stored Timeout) (index : IsIndex t
         by false untimed = record {
           all_listed = each-replaced transfer_row_key (λ r. times_out r ≡ true → IsListed ts.items r) (λ r. times_out r ≡ true → IsListed ts.items r) (settled s p) transfers rising (λ is. absurd (not_timed is)) (λ y differs was. was) index.all_listed;
           all_timed = each-map (IsTimeout transfers) (IsTimeout left) ts.items (λ d has. others_stay d (λ same. let dates = (its_own d has same).1 in absurd (cc)) has) index.all_timed;
+          ordered = index.ordered;
         }
         by true dates =
             let d = timeout_of p in
@@ -202,8 +218,9 @@ module _ (transfers : List TransferRow) (ts : Stored Timeout) (index : IsIndex t
                     in_range = w.in_range;
                     there = find-taken_out_other timeout_key (λ e. timeout_key e == timeout_key (timeout_of y)) (timeout_key d) ts.items (fails y differs w its) ∙ w.there;
                   }) index.all_listed;
-              all_timed = each-taken_out_other timeout_key (IsTimeout transfers) (IsTimeout left) (timeout_key d) ts.items ordered.rising
+              all_timed = each-taken_out_other timeout_key (IsTimeout transfers) (IsTimeout left) (timeout_key d) ts.items index.ordered.rising
                   (λ e other has. others_stay e (λ same. other (ap timeout_key (sym (its_own e has same).0))) has) index.all_timed;
+              ordered = ordered_without d ts index.ordered;
             }
           where
             fails : (y : TransferRow) → transfer_row_key y ≢ transfer_row_key p → IsListed ts.items y → IsListed ts.items p → (e : Timeout) → timeout_key e ≡ timeout_key (timeout_of p) → eqb (timeout_key e) (timeout_key (timeout_of y)) ≡ false
@@ -253,9 +270,3 @@ of_due transfers d p has found =
 
 pub unlisted_due : (p : TransferRow) (d : Timeout) (ts : Stored Timeout) → times_out p ≡ true → timeout_of p ≡ d → unlisted p ts ≡ without_timeout d ts
 unlisted_due p d ts dates same = rw dates (ap (λ e. without_timeout e ts) same)
-
-pub ordered_without : (d : Timeout) (ts : Stored Timeout) → AreTimeouts ts.items → AreTimeouts (without_timeout d ts).items
-ordered_without d ts ordered = record {
-  rising = rising-taken_out timeout_key (timeout_key d) ts.items ordered.rising;
-  fit = each-taken_out timeout_key (λ d. d.id ≤ int_max) (timeout_key d) ts.items ordered.fit;
-}

@@ -4,15 +4,14 @@ use Rattle.std.proofs.lemmas.Bool.Decides.{nat_tests}
 use Rattle.tb_records.specs.declared.records.Account.{Account}
 use Rattle.tb_records.specs.declared.records.Transfer.{Transfer}
 use Rattle.tb_records.specs.Ordered.{put, replaced, changed, Each, Rising}
-use Rattle.tb_records.proofs.ByKey.{found_key, changed_found, find-changed, find-map, each-back, each-map, each-put, each-find, map-put, map-changed, map-replaced}
+use Rattle.tb_records.proofs.ByKey.{found_key, changed_found, find-changed, find-map, each-back, each-map, each-put, each-find, map-put, map-changed, map-replaced, rising-put}
 use Rattle.tb_ledger.specs.declared.tables.accounts.AccountRow.{AccountRow}
 use Rattle.tb_ledger.specs.declared.tables.transfers.TransferRow.{TransferRow}
 use Rattle.tb_ledger.specs.declared.tables.timeouts.Timeout.{Timeout}
 use Rattle.tb_ledger.specs.declared.tables.transfers.State.TheVariants.{Posted, Voided}
 use Rattle.tb_ledger.specs.Books.{Books, posts, resolves, holds, is_open, account_at, transfer_at, closing_debit, closing_credit, debit, credit}
 use Rattle.tb_ledger.specs.Verdicts.{int_max}
-use Rattle.tb_ledger.specs.Timeouts.{AreTimeouts}
-use Rattle.tb_ledger.specs.Sound.{account_key, transfer_key, ledger_at, Sound}
+use Rattle.tb_ledger.specs.Sound.{account_key, transfer_key, ledger_at, IdsRise, Sound}
 use Rattle.tb_ledger.specs.Kept.{account_row_key, transfer_row_key, books_of, row_holds, times_out, listed, unlisted, IsListed, IsIndex, HasSide, HasSums, HasState, IsLedger, on_debits, on_credits, gained, released_and_gained, settled, state_given_by, accounts_gained, accounts_released_and_gained, new_row, new_transfer_row}
 use Rattle.tb_ledger.proofs.Parts.{held_enough, no_sums}
 use Rattle.tb_ledger.proofs.Index.{index_added, index_closed}
@@ -37,8 +36,8 @@ found_still d c f z xs same apart found =
     find-changed account_row_key d f c xs same ∙ left
 
 -- a table by its rows and its spare ones
-pub stored : {X : Type 0} (table : Stored X) (rows : List X) (room : ℕ) → table.items ≡ rows → table.spare ≡ room → table ≡ record { items = rows; spare = room }
-stored table rows room is left = λ i. record { items = is i; spare = left i }
+pub stored : {X : Type 0} (table : Stored X) (rows : List X) (spare : ℕ) → table.items ≡ rows → table.spare ≡ spare → table ≡ record { items = rows; spare = spare }
+stored table rows spare is left = λ i. record { items = is i; spare = left i }
 
 -- the rows of two accounts, written one after the other
 pub both_written : (d c : ℕ) (f h : AccountRow → AccountRow) (row left other other_left : AccountRow) (before after : List AccountRow) → ((y : AccountRow) → account_row_key (f y) ≡ account_row_key y) → ((y : AccountRow) → account_row_key (h y) ≡ account_row_key y) → d ≢ c
@@ -53,6 +52,15 @@ both_written d c f h row left other other_left before after same same' apart d_i
 pub rising_rows : (accounts : List AccountRow) → Rising account_key (map (λ a. a.created) accounts) → Rising account_row_key accounts
 rising_rows [] rising = tt
 rising_rows (a ∷ accounts) rising = (each-back (λ b. a.created.id < account_key b) (λ b. b.created) accounts rising.0, rising_rows accounts rising.1)
+
+-- that of transfers
+pub rising_transfers : (transfers : List TransferRow) → Rising transfer_key (map (λ t. t.recorded) transfers) → Rising transfer_row_key transfers
+rising_transfers [] rising = tt
+rising_transfers (t ∷ transfers) rising = (each-back (λ u. t.recorded.id < transfer_key u) (λ u. u.recorded) transfers rising.0, rising_transfers transfers rising.1)
+
+-- ids rise with one transfer more
+rise_with : (B : Books) (t : Transfer) → transfer_at B t.id ≡ None → IdsRise B → IdsRise (record B { transfers = put transfer_key t B.transfers })
+rise_with B t fresh rise = record { accounts = rise.accounts; transfers = rising-put transfer_key t B.transfers fresh rise.transfers; failed = rise.failed }
 
 none_mapped : {X Y : Type 0} (g : X → Y) (o : Option X) → option_map g o ≡ None → o ≡ None
 none_mapped g None e = refl
@@ -84,6 +92,7 @@ module _ (accounts : List AccountRow) (transfers : List TransferRow) (failed : L
       index = ledger.index;
       unused = ledger.unused;
       sound = subst Sound (sym books_with_account) sound;
+      rising = subst IdsRise (sym books_with_account) (record { accounts = sound.rising; transfers = ledger.rising.transfers; failed = ledger.rising.failed });
     }
       where
         new_sums : (a : Account) → account_at B a.id ≡ None → HasSums transfers (new_row a)
@@ -106,6 +115,7 @@ module _ (accounts : List AccountRow) (transfers : List TransferRow) (failed : L
       index = index;
       unused = ledger.unused;
       sound = subst Sound (sym books_with_single) (sound_moved B t ledger.sound moves_t);
+      rising = subst IdsRise (sym books_with_single) (rise_with B t fresh ledger.rising);
     }
 
   -- a post or void recorded
@@ -168,23 +178,24 @@ module _ (accounts : List AccountRow) (transfers : List TransferRow) (failed : L
     not_timed = let single = resolves_p.not_pending in rw single refl
 
     -- a post or void brings none
-    pub index_with_resolver : (room : ℕ) → transfer_at B r.id ≡ None → Rising transfer_row_key transfers → AreTimeouts timeouts
-        → IsIndex (put transfer_row_key (new_transfer_row r) (replaced transfer_row_key (settled (state_given_by r) p) transfers)) (listed (new_transfer_row r) (unlisted p (record { items = timeouts; spare = room }))).items
-    index_with_resolver room fresh rising ordered =
-        index_added (replaced transfer_row_key (settled (state_given_by r) p) transfers) (unlisted p (record { items = timeouts; spare = room })) (index_closed transfers (record { items = timeouts; spare = room }) ledger.index p (state_given_by r) by_key over rising ordered)
-        (new_transfer_row r) (fresh_still fresh) (λ is. absurd (let never = not_timed in cc))
+    pub index_with_resolver : (spare : ℕ) → transfer_at B r.id ≡ None
+        → IsIndex (put transfer_row_key (new_transfer_row r) (replaced transfer_row_key (settled (state_given_by r) p) transfers)) (listed (new_transfer_row r) (unlisted p (record { items = timeouts; spare = spare }))).items
+    index_with_resolver spare fresh =
+        index_added (replaced transfer_row_key (settled (state_given_by r) p) transfers) (unlisted p (record { items = timeouts; spare = spare })) (index_closed transfers (record { items = timeouts; spare = spare }) ledger.index p (state_given_by r) by_key over (rising_transfers transfers ledger.rising.transfers))
+        (new_transfer_row r) (fresh_still fresh) (λ is. absurd (let never = not_timed in cc)) (λ is. absurd (let never = not_timed in cc))
 
     module _ (later : List AccountRow) (more : List TransferRow) (is : later ≡ accounts_released_and_gained p.recorded r accounts) (added : more ≡ put transfer_row_key (new_transfer_row r) (replaced transfer_row_key (settled (state_given_by r) p) transfers)) where
       pub books_with_resolver : books_of later more failed keeps_failed time ≡ record B { transfers = put transfer_key r B.transfers }
       books_with_resolver = rw (is, added, map-put transfer_key (λ t. t.recorded) (new_transfer_row r) (replaced transfer_row_key (settled (state_given_by r) p) transfers), map-replaced transfer_row_key (λ t. t.recorded) (settled (state_given_by r) p) p transfers by_key refl, map-changed account_row_key (λ a. a.created) r.credit_account_id (on_credits (released_and_gained closing_credit p.recorded r)) (changed account_row_key r.debit_account_id (on_debits (released_and_gained closing_debit p.recorded r)) accounts) (λ y. refl), map-changed account_row_key (λ a. a.created) r.debit_account_id (on_debits (released_and_gained closing_debit p.recorded r)) accounts (λ y. refl)) refl
 
-      pub ledger_with_resolver : (after : List Timeout) → IsIndex more after → Rising transfer_row_key transfers → IsLedger later more failed keeps_failed after time
-      ledger_with_resolver after index rising = record {
+      pub ledger_with_resolver : (after : List Timeout) → IsIndex more after → transfer_at B r.id ≡ None → IsLedger later more failed keeps_failed after time
+      ledger_with_resolver after index fresh = record {
         kept = rw (is, added) (record {
           sums = sums_resolved accounts transfers p r (state_given_by r) rising_accounts by_key it_holds over resolves_p.not_pending same_debit same_credit at_most ledger.kept.sums;
-          states = states_resolved transfers time p r ledger.kept.states by_key it_holds names is_resolver rising resolves_p.not_pending;
+          states = states_resolved transfers time p r ledger.kept.states by_key it_holds names is_resolver (rising_transfers transfers ledger.rising.transfers) resolves_p.not_pending;
         });
         index = index;
         unused = ledger.unused;
         sound = subst Sound (sym books_with_resolver) (sound_resolved B r ledger.sound is_resolver resolves_p);
+        rising = subst IdsRise (sym books_with_resolver) (rise_with B r fresh ledger.rising);
       }

@@ -12,8 +12,8 @@ use Rattle.tb_ledger.specs.declared.tables.rows.Rows.{Rows}
 use Rattle.tb_ledger.specs.declared.tables.timeouts.Timeout.{Timeout}
 use Rattle.tb_ledger.specs.Books.{Books, closed, debit, credit, share, pending, posts, moves, resolves, is_open, is_due, state_of, expires_at, closing_debit, closing_credit}
 use Rattle.tb_ledger.specs.Verdicts.{int_max, max_time}
-use Rattle.tb_ledger.specs.Timeouts.{timeout_key, with_timeout, without_timeout}
-use Rattle.tb_ledger.specs.Sound.{Sound}
+use Rattle.tb_ledger.specs.Timeouts.{timeout_key, AreTimeouts, with_timeout, without_timeout}
+use Rattle.tb_ledger.specs.Sound.{IdsRise, Sound}
 use Rattle.tb_ledger.specs.Tables.{Stored}
 
 abbrev pub account_row_key : AccountRow → ℕ
@@ -113,10 +113,11 @@ pub record IsTimeout (transfers : List TransferRow) (d : Timeout) : Type 0 where
   pub is_timed : times_out t ≡ true
   pub same : timeout_of t ≡ d
 
--- the index of expiries: a timeout for each transfer that times out, and for no other
+-- the index of expiries: a timeout for each transfer that times out, and for no other, in order
 pub record IsIndex (transfers : List TransferRow) (timeouts : List Timeout) : Type 0 where
   pub all_listed : Each (λ t. times_out t ≡ true → IsListed timeouts t) transfers
   pub all_timed : Each (IsTimeout transfers) timeouts
+  pub ordered : AreTimeouts timeouts
 
 -- timeouts and their spare rows, with that of t where it times out, and without it
 abbrev pub listed : TransferRow → Stored Timeout → Stored Timeout
@@ -142,6 +143,7 @@ pub record IsLedger (accounts : List AccountRow) (transfers : List TransferRow) 
   -- profile 1 keeps no failed ids
   pub unused : keeps_failed ≡ false → failed ≡ []
   pub sound : Sound (books_of accounts transfers failed keeps_failed time)
+  pub rising : IdsRise (books_of accounts transfers failed keeps_failed time)
 
 abbrev pub IsKept : {A : Type 0} → Rows A → Type 0
 IsKept rows = IsLedger rows.accounts.items rows.transfers.items rows.failed.items rows.keeps_failed rows.timeouts.items rows.time

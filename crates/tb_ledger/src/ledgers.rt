@@ -133,7 +133,6 @@ impl<A: Allocator + Clone> Ledger<A> {
         ensures time { result ≡ self.now.time }
         ensures ids_rise { IdsRise self.now }
     {
-        self.rows.ordered();
         self.rows.time
     }
 

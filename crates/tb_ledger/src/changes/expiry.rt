@@ -1,6 +1,6 @@
 //! Pending transfers whose timeout has passed.
 ghost use Rattle.std.specs.Prelude.{◌≡◌, ◌≢◌, ◌≤◌, ◌==◌, find, Some, IsSome};
-ghost use Rattle.tb_records.specs.Ordered.{replaced, Rising};
+ghost use Rattle.tb_records.specs.Ordered.{replaced};
 ghost use Rattle.tb_ledger.specs.Books.{closing_debit, closing_credit};
 ghost use Rattle.tb_ledger.specs.Kept.{books_in, IsKept, AreKept, IsIndex, IsTimeout, transfer_row_key, on_debits, on_credits, released, settled, accounts_released};
 ghost use Rattle.tb_ledger.specs.Steps.{KeepsRecords};
@@ -62,9 +62,7 @@ fn mark_expired<A: Allocator + Clone>(
     ensures transfers { transfers.new
         ≡ record transfers.old
         { items = replaced transfer_row_key (settled Expired result) transfers.old.items } }
-    ensures rising { Rising transfer_row_key transfers.old.items }
 {
-    transfers.ordered();
     let mut before = None;
     let marked = transfers.update(
         due.id,
@@ -85,7 +83,6 @@ fn release_due<A: Allocator + Clone>(rows: &mut Rows<A>, time: u64)
     ensures records { KeepsRecords rows.old rows.new }
     ensures time { rows.new.time ≡ rows.old.time }
 {
-    rows.timeouts.ordered();
     while let Some(due) = rows.timeouts.pop_due(time) {
         let p = mark_expired(&mut rows.transfers, due);
         release(&mut rows.accounts, &p.recorded());

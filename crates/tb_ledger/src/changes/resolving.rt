@@ -10,9 +10,8 @@ ghost use Rattle.tb_ledger.specs.Trail.{Stays, IsMarked};
 ghost use Rattle.tb_ledger.specs.Noted.{HasCapacityFor};
 ghost use Rattle.tb_ledger.specs.Settlings.{closed_code, CanSettle, Settles, SettlesIn};
 ghost use Rattle.tb_ledger.specs.Verdicts.{id_code};
-ghost use Rattle.tb_records.specs.Ordered.{put, replaced, Rising};
+ghost use Rattle.tb_records.specs.Ordered.{put, replaced};
 ghost use Rattle.tb_ledger.specs.Sound.{transfer_key};
-ghost use Rattle.tb_ledger.specs.Timeouts.{AreTimeouts};
 ghost use Rattle.tb_records.specs.TransferResults.{transfer_result_code};
 ghost use Rattle.tb_ledger.specs.Found.{Judges};
 
@@ -161,12 +160,9 @@ fn close_row<A: Allocator + Clone>(
         ≡ record transfers.old
         { items = replaced transfer_row_key (settled state p.now) transfers.old.items } }
     ensures timeouts { timeouts.new ≡ unlisted p.now timeouts.old }
-    ensures rising { Rising transfer_row_key transfers.old.items }
-    ensures ordered { AreTimeouts timeouts.old.items }
     ensures marked { IsMarked 1 transfers.old.items transfers.new.items timeouts.old timeouts.new trail.old
         trail.new }
 {
-    transfers.ordered();
     trail.note_changed(p);
     let closed = transfers.update(
         p.key(),

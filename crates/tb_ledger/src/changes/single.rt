@@ -45,7 +45,6 @@ pub(crate) fn take_single<A: Allocator + Clone>(
     let mut recorded = *t;
     recorded.amount = amount;
     recorded.timestamp = time;
-    rows.timeouts.ordered();
     let row = row_of(recorded);
     add_row(&mut rows.transfers, &mut rows.timeouts, trail, &row);
     Ok(())

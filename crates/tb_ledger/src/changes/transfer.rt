@@ -60,9 +60,10 @@ pub(crate) fn note_failed<A: Allocator + Clone>(
     if !rows.keeps_failed {
         return;
     }
-    if is_for_good(refusal) {
-        rows.failed.insert_reserved(t.id);
+    if !is_for_good(refusal) {
+        return;
     }
+    rows.failed.insert_reserved(t.id);
 }
 
 /// By profile 2 a transfer's id doesn't outlive this refusal.

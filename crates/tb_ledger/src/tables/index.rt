@@ -44,9 +44,8 @@ pub fn list<A: Allocator + Clone>(timeouts: &mut Timeouts<A>, row: &TransferRow)
 pub fn unlist<A: Allocator + Clone>(timeouts: &mut Timeouts<A>, row: &TransferRow)
     requires { times_out row.now ≡ true → expires_at row.now.recorded ≤ max_time }
     ensures timeouts { timeouts.new ≡ unlisted row.now timeouts.old }
-    ensures ordered { AreTimeouts timeouts.old.items }
+    ensures ordered { times_out row.now ≡ true → AreTimeouts timeouts.old.items }
 {
-    timeouts.ordered();
     if times_out(row) {
         timeouts.remove(timeout_of(row));
     }

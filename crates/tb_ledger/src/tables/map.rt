@@ -171,13 +171,6 @@ impl<V: Keyed, A: Allocator + Clone> Table<V, A> {
         }
     }
 
-    /// Hands out that keys rise.
-    pub fn ordered(&self)
-        ensures { Rising V.key self.now.items }
-    {
-        let _ = &self.rows;
-    }
-
     /// The row with the key. One that is known to be none is not searched for.
     pub fn get(&self, id: u128) -> Option<&V>
         ensures { option_copied result ≡ find (λ row. V.key row == id) self.now.items }

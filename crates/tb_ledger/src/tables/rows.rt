@@ -2,7 +2,6 @@
 ghost use Rattle.std.specs.Prelude.{◌≡◌};
 ghost use Rattle.tb_ledger.specs.Books.{empty_books};
 ghost use Rattle.tb_ledger.specs.Kept.{books_in, IsKept};
-ghost use Rattle.tb_ledger.specs.Sound.{IdsRise};
 
 use crate::tables::accounts::AccountRow;
 use crate::tables::map::Table;
@@ -40,14 +39,5 @@ impl<A: Allocator + Clone> Rows<A> {
             timeouts: Timeouts::new(),
             time: 0,
         }
-    }
-
-    /// Hands out that ids rise in the books.
-    pub fn ordered(&self)
-        ensures { IdsRise (books_in self.now) }
-    {
-        self.accounts.ordered();
-        self.transfers.ordered();
-        self.failed.ordered();
     }
 }

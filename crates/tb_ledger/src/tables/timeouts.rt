@@ -96,13 +96,6 @@ impl<A: Allocator + Clone> Timeouts<A> {
         Timeouts { keys: None }
     }
 
-    /// Hands out that they are in order.
-    pub fn ordered(&self)
-        ensures { AreTimeouts self.now.items }
-    {
-        let _ = &self.keys;
-    }
-
     /// Makes capacity for `n` more timeouts, and for no more. Where there is no memory they stay, and no capacity is lost.
     pub fn reserve(&mut self, alloc: &A, n: usize) -> Result<(), AllocError>
         ensures timeouts { self.new.items ≡ self.old.items }

@@ -1,11 +1,13 @@
 use Rattle.std.proofs.Common.{◌≡◌, ◌<◌, ◌==◌, not, map, length, sym, ap, subst, refl, ◌∙◌, arith}
 use Rattle.tb_ledger.specs.declared.tables.transfers.State.TheVariants.{Expired}
+use Rattle.tb_records.specs.Ordered.{Rising}
+use Rattle.tb_ledger.specs.Sound.{transfer_key}
 use Rattle.tb_ledger.specs.Kept.{accounts_released, books_in, transfer_row_key, row_holds, unlisted, IsTimeout}
 use Rattle.tb_ledger.specs.Timeouts.{timeout_key, TakesDue}
 use Rattle.tb_ledger.proofs.Parts.{both_hold}
-use Rattle.tb_ledger.proofs.Settled.{rising_rows, refound}
+use Rattle.tb_ledger.proofs.Settled.{rising_rows, rising_transfers, refound}
 use Rattle.tb_records.proofs.ByKey.{each-find}
-use Rattle.tb_ledger.proofs.Index.{of_due, due_lapses, unlisted_due, ordered_without, index_closed, none_lapses, length-taken_out}
+use Rattle.tb_ledger.proofs.Index.{of_due, due_lapses, unlisted_due, index_closed, none_lapses, length-taken_out}
 use Rattle.tb_ledger.proofs.Expiries.{will_be, accounts_apart, debit_party, credit_party, rising_released, sums_after, accounts_stay, transfers_stay, ahead_marked, arrived, none_of}
 use Rattle.tb_ledger.proofs.changes.expiry.release_due.Goals as goal
 
@@ -16,7 +18,6 @@ loop-due-init g c =
       sums = c.requires.kept.kept.sums;
       ahead = will_be rows.transfers.items rows.time c.args.time c.requires.later c.requires.kept.kept.states;
       index = c.requires.kept.index;
-      ordered = c.ordered.ensures;
       accounts = refl;
       transfers = refl;
       accounts_capacity = refl;
@@ -69,14 +70,14 @@ loop-due-preserved g c =
     let left = c.mark_expired-p.new.transfers in
     let marked = ap (λ v. v.items) c.mark_expired-p.ensures.transfers in
     let changed : later.items ≡ accounts_released p.recorded rows.accounts.items = ap (λ v. v.items) c.release.ensures ∙ ap (λ q. accounts_released q rows.accounts.items) c.recorded.ensures in
+    let rising = rising_transfers rows.transfers.items (subst (Rising transfer_key) (sym inv.transfers) c.requires.kept.rising.transfers) in
     let taken = c.in-Some.ensures.2 in
     let unlisted_is : c.pop_due.new.self ≡ unlisted p rows.timeouts = taken ∙ sym (unlisted_due p due rows.timeouts of.0 of.1) in
     record {
       rising = rising_released rows.accounts.items rows.transfers.items p inv.rising inv.sums there holds later.items changed;
       sums = sums_after rows.accounts.items rows.transfers.items p inv.rising inv.sums there holds later.items left.items changed marked;
       ahead = ahead_marked c.args.time (map (λ t. t.recorded) c.args.rows.now.transfers.items) p rows.transfers.items left.items there lapsed marked inv.ahead;
-      index = rw (marked, unlisted_is) (index_closed rows.transfers.items rows.timeouts inv.index p Expired there refl c.mark_expired-p.ensures.rising inv.ordered);
-      ordered = rw taken (ordered_without due rows.timeouts inv.ordered);
+      index = rw (marked, unlisted_is) (index_closed rows.transfers.items rows.timeouts inv.index p Expired there refl rising);
       accounts = accounts_stay p.recorded rows.accounts.items later.items changed ∙ inv.accounts;
       transfers = transfers_stay p rows.transfers.items left.items there marked ∙ inv.transfers;
       accounts_capacity = ap (λ v. v.spare) c.release.ensures ∙ inv.accounts_capacity;

@@ -1,6 +1,5 @@
 use Rattle.std.proofs.Common.{◌≡◌, ◌≤◌, map, length}
 use Rattle.tb_records.specs.Ordered.{Each, Rising}
-use Rattle.tb_ledger.specs.Timeouts.{AreTimeouts}
 use Rattle.tb_ledger.specs.Kept.{account_row_key, HasSums, IsIndex}
 use Rattle.tb_ledger.proofs.Expiries.{WillBe}
 use Rattle.tb_ledger.proofs.changes.expiry.release_due.Given as goal
@@ -11,7 +10,6 @@ invariant-loop-due g l = record {
   sums : Each (HasSums l.rows.transfers.items) l.rows.accounts.items;
   ahead : Each (WillBe l.time (map (λ t. t.recorded) l.initial.rows.transfers.items)) l.rows.transfers.items;
   index : IsIndex l.rows.transfers.items l.rows.timeouts.items;
-  ordered : AreTimeouts l.rows.timeouts.items;
   accounts : map (λ a. a.created) l.rows.accounts.items ≡ map (λ a. a.created) l.initial.rows.accounts.items;
   transfers : map (λ t. t.recorded) l.rows.transfers.items ≡ map (λ t. t.recorded) l.initial.rows.transfers.items;
   accounts_capacity : l.rows.accounts.spare ≡ l.initial.rows.accounts.spare;

@@ -83,7 +83,7 @@ returns-clause-leaves g c =
     let closed = ap (λ v. v.items) c.close_row.ensures.transfers ∙ ap (λ s. replaced transfer_row_key (settled s p) rows.transfers.items) c.state_given-state.ensures in
     let added = ap (λ v. v.items) c.add_row.ensures.transfers ∙ ap (λ row. put transfer_row_key row c.close_row.new.transfers.items) c.row_of-row.ensures.row ∙ ap (put transfer_row_key (new_transfer_row r)) closed in
     let moved = c.add_row.ensures.timeouts ∙ ap (λ row. listed row c.close_row.new.timeouts) c.row_of-row.ensures.row ∙ ap (listed (new_transfer_row r)) c.close_row.ensures.timeouts in
-    let index : IsIndex c.add_row.new.transfers.items c.add_row.new.timeouts.items = rw (moved, added) (index_with_resolver rows.accounts.items rows.transfers.items rows.failed.items rows.keeps_failed rows.timeouts.items rows.time c.requires.kept p r c.requires.resolution.found c.requires.resolution.pending c.requires.resolution.is_resolver rows.timeouts.spare c.requires.resolution.fresh c.close_row.ensures.rising c.close_row.ensures.ordered) in
+    let index : IsIndex c.add_row.new.transfers.items c.add_row.new.timeouts.items = rw (moved, added) (index_with_resolver rows.accounts.items rows.transfers.items rows.failed.items rows.keeps_failed rows.timeouts.items rows.time c.requires.kept p r c.requires.resolution.found c.requires.resolution.pending c.requires.resolution.is_resolver rows.timeouts.spare c.requires.resolution.fresh) in
     let has = c.in_ok-settle_accounts.ensures.settled in
     let d = has.debit in
     let k = has.credit in
@@ -97,7 +97,7 @@ returns-clause-leaves g c =
       can_unwind = λ can. second.can_unwind (first.can_unwind can);
     }) in
     record {
-      kept = ledger_with_resolver rows.accounts.items rows.transfers.items rows.failed.items rows.keeps_failed rows.timeouts.items rows.time c.requires.kept p r c.requires.resolution.found c.requires.resolution.pending c.requires.resolution.is_resolver c.settle_accounts.new.accounts.items c.add_row.new.transfers.items moved_on added c.add_row.new.timeouts.items index c.close_row.ensures.rising;
+      kept = ledger_with_resolver rows.accounts.items rows.transfers.items rows.failed.items rows.keeps_failed rows.timeouts.items rows.time c.requires.kept p r c.requires.resolution.found c.requires.resolution.pending c.requires.resolution.is_resolver c.settle_accounts.new.accounts.items c.add_row.new.transfers.items moved_on added c.add_row.new.timeouts.items index c.requires.resolution.fresh;
       step = record {
         failed = refl;
         keeps_failed = refl;

@@ -64,7 +64,7 @@ add_row-requires-clause-can_list g c =
     let can : times_out (new_transfer_row recorded) ≡ true → CanList (new_transfer_row recorded) rows.timeouts = λ is. record {
       in_range = moves.in_time;
       capacity = omega (arith, c.requires.ready.capacity.timeouts);
-      absent = not_listed_yet rows.transfers.items rows.timeouts c.requires.ready.kept.index (new_transfer_row recorded) fresh c.ordered.ensures c.row_of-row.ensures.fits;
+      absent = not_listed_yet rows.transfers.items rows.timeouts c.requires.ready.kept.index (new_transfer_row recorded) fresh c.row_of-row.ensures.fits;
     } in
     rw c.row_of-row.ensures.row can
 
@@ -109,11 +109,11 @@ returns-clause-leaves g c =
     let can : times_out (new_transfer_row recorded) ≡ true → CanList (new_transfer_row recorded) rows.timeouts = λ is. record {
       in_range = moves.in_time;
       capacity = omega (arith, c.requires.ready.capacity.timeouts);
-      absent = not_listed_yet rows.transfers.items rows.timeouts c.requires.ready.kept.index (new_transfer_row recorded) fresh c.ordered.ensures c.row_of-row.ensures.fits;
+      absent = not_listed_yet rows.transfers.items rows.timeouts c.requires.ready.kept.index (new_transfer_row recorded) fresh c.row_of-row.ensures.fits;
     } in
     let added : c.add_row.new.transfers.items ≡ put transfer_row_key (new_transfer_row recorded) rows.transfers.items = ap (λ v. v.items) c.add_row.ensures.transfers ∙ ap (λ row. put transfer_row_key row rows.transfers.items) c.row_of-row.ensures.row in
     let listed_is = c.add_row.ensures.timeouts ∙ ap (λ row. listed row rows.timeouts) c.row_of-row.ensures.row in
-    let index : IsIndex c.add_row.new.transfers.items c.add_row.new.timeouts.items = rw (listed_is, added) (index_added rows.transfers.items rows.timeouts c.requires.ready.kept.index (new_transfer_row recorded) fresh can) in
+    let index : IsIndex c.add_row.new.transfers.items c.add_row.new.timeouts.items = rw (listed_is, added) (index_added rows.transfers.items rows.timeouts c.requires.ready.kept.index (new_transfer_row recorded) fresh (λ _. c.row_of-row.ensures.fits) can) in
     let apart = accounts_apart t c.in_ok-single_own.ensures in
     let noted = noted_passed (as_recorded t amount_is c.args.time) ex.debit ex.credit rows.accounts.items c.exchange.new.accounts.items c.args.trail.now (with_noted (Account ex.debit) c.args.trail.now) c.exchange.new.trail refl (ex.notes (omega (arith, c.requires.ready.log))) apart ex.debit_there ex.credit_there ex.written in
     record {
