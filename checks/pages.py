@@ -2,11 +2,13 @@
 """Checks what pages say of the code, as far as a search can tell.
 
 - Each Rust example of a page CALLING.md stands word for word, but for its imports, in a crate that the gate proves.
-- The head of each crate's lib.rt or main.rt lists the modules of that crate, all of them and no other; where it lists those of a module too, so of these.
+- The head of each crate's lib.rt or main.rt lists the modules of that crate, all of them and no other; where it lists those of a module,
+  these too.
 - The first statements of README.md are those of examples/retry.text, which its first command reads.
-- Each name that a walk of docs/ARCHITECTURE.md gives as `module::function` or `Type::call` is there, in the crate that stands before it; so is each file
-  that docs/ARCHITECTURE.md names, with what stands in brackets behind it, or before it as `name of` it.
-- Each name that docs/GLOSSARY.md gives a word in the code stands in the sources, the definitions or the Python client.
+- Each name that a walk of docs/ARCHITECTURE.md gives as `module::function` or `Type::call` is there, in the crate that stands before it;
+  so is each file that docs/ARCHITECTURE.md names, with the names in brackets behind it, or before it as `name of` it.
+- Each name that docs/GLOSSARY.md gives a word in the code stands in the sources, the definitions or the Python client, and
+  where it gives a crate with the name, there.
 
 Usage: checks/pages.py. Ends in 'N passed, 0 failed'. checks/blocks.py looks at the examples too.
 """
@@ -128,18 +130,31 @@ def first_statements():
     yield "README.md", None if same else "the first statements are not those of examples/retry.text"
 
 
+def homes(cell: str):
+    """The crates and files of a row, such as 'tb_keep, specs/Steps' or 'tb_service, module `rule`'."""
+    found = re.fullmatch(r"((?:\w+ and )?\w+), (?:specs/(\w+)|module `([\w:]+)`)", cell)
+    if found:
+        for crate in found[1].split(" and "):
+            inner = f"specs/{found[2]}.antt" if found[2] else f"src/{found[3].replace('::', '/')}.rt"
+            yield crate, CRATES / crate / inner
+
+
 def glossed():
     """Each name in the code that the glossary gives."""
     files = [*CRATES.glob("*/src/**/*.rt"), *CRATES.glob("*/specs/**/*.antt"), *ROOT.glob("clients/python/tb_client/*.py")]
     text = "\n".join(path.read_text() for path in files)
     there = set(re.findall(r"\w+", text)) | {path.name for path in CRATES.iterdir()}
-    page = ROOT / "docs" / "GLOSSARY.md"
+    page, named = ROOT / "docs" / "GLOSSARY.md", []
     for row in page.read_text().splitlines():
         cells = row.split(" | ")
         if row.startswith("| ") and len(cells) == 3:
             for name in re.findall(r"`([\w:]+)`", cells[0] + cells[2]):
                 missing = [part for part in name.split("::") if part not in there]
                 yield page.relative_to(ROOT), f"{name} is no name in the code" if missing else None
+            named = re.findall(r"`(\w+)`", cells[0]) or named
+            for crate, place in homes(cells[1]):
+                found = re.search(rf"\b{named[0]}\b", place.read_text() if place.exists() else "")
+                yield page.relative_to(ROOT), None if found else f"{named[0]} is not in {crate}, {place.name}"
 
 
 def main() -> int:
