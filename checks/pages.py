@@ -2,11 +2,13 @@
 """Checks what pages say of the code, as far as a search can tell.
 
 - Each Rust example of a page CALLING.md stands word for word, but for its imports, in a crate that the gate proves.
-- The head of each crate's lib.rt or main.rt lists the modules of that crate, all of them and no other.
+- The head of each crate's lib.rt or main.rt lists the modules of that crate, all of them and no other; where it lists those of a module,
+  these too.
 - The first statements of README.md are those of examples/retry.text, which its first command reads.
-- Each name that a walk of docs/ARCHITECTURE.md gives as `module::function` or `Type::call` is there, in the crate that stands before it; so is each file
-  that docs/ARCHITECTURE.md names.
-- Each name that docs/GLOSSARY.md gives a word in the code stands in the sources, the definitions or the Python client.
+- Each name that a walk of docs/ARCHITECTURE.md gives as `module::function` or `Type::call` is there, in the crate that stands before it;
+  so is each file that docs/ARCHITECTURE.md names, with the names in brackets behind it, or before it as `name of` it.
+- Each name that docs/GLOSSARY.md gives a word in the code stands in the sources, the definitions or the Python client, and
+  where it gives a crate with the name, there.
 
 Usage: checks/pages.py. Ends in 'N passed, 0 failed'. checks/blocks.py looks at the examples too.
 """
@@ -48,6 +50,11 @@ def examples():
             yield page.relative_to(ROOT), None if stands(block) else f"stands in no caller: {block.splitlines()[0]}"
 
 
+def modules(text: str) -> set[str]:
+    """The modules that a file declares."""
+    return set(re.findall(r"^(?:pub(?:\(crate\))? )?mod (\w+);", text, re.M))
+
+
 def heads():
     """The head of each crate, and the modules that it does not list, or that are not there."""
     for crate in sorted(CRATES.iterdir()):
@@ -55,10 +62,12 @@ def heads():
             path = crate / "src" / root
             if path.exists():
                 text = path.read_text()
-                there = set(re.findall(r"^(?:pub )?mod (\w+);", text, re.M))
-                listed = set(re.findall(r"^//! - `(\w+)`:", text, re.M))
-                wrong = sorted(there ^ listed)
-                yield path.relative_to(ROOT), f"not listed, or not there: {' '.join(wrong)}" if wrong else None
+                wrong = modules(text) ^ set(re.findall(r"^//! - `(\w+)`:", text, re.M))
+                for module, nested in re.findall(r"^//! - `(\w+)`:.*\n((?://!   .*\n)+)", text, re.M):
+                    listed = set(re.findall(r"^//!   - `(\w+)`:", nested, re.M))
+                    if listed:
+                        wrong |= modules((crate / "src" / f"{module}.rt").read_text()) ^ listed
+                yield path.relative_to(ROOT), f"not listed, or not there: {' '.join(sorted(wrong))}" if wrong else None
 
 
 @functools.cache
@@ -93,12 +102,24 @@ def walks():
                 yield page.relative_to(ROOT), None if crate and is_there(crate, name) else f"{name} is not in {crate}"
 
 
+def file_named(name: str) -> pathlib.Path | None:
+    """The file that a page names, from the top or from crates/ on."""
+    return next((place / name for place in (ROOT, CRATES) if (place / name).exists()), None)
+
+
 def named_files():
     """Each file that the page of the architecture names."""
     page = ROOT / "docs" / "ARCHITECTURE.md"
-    for name in FILE.findall(page.read_text()):
-        found = (ROOT / name).exists() or (CRATES / name).exists()
-        yield page.relative_to(ROOT), None if found else f"{name} is not there"
+    text = " ".join(page.read_text().split())
+    for name in FILE.findall(text):
+        yield page.relative_to(ROOT), None if file_named(name) else f"{name} is not there"
+    said = [(file, name) for file, names in re.findall(r"`([\w./-]+)` \(([^)]*)\)", text) for name in re.findall(r"`(\w+)`", names)]
+    said += [(file, name) for name, file in re.findall(r"`(\w+)` of `([\w./-]+)`", text)]
+    for file, name in said:
+        path = file_named(file)
+        if path and path.is_file():
+            found = re.search(rf"\b{name}\b", path.read_text())
+            yield page.relative_to(ROOT), None if found else f"{name} is not in {file}"
 
 
 def first_statements():
@@ -109,18 +130,31 @@ def first_statements():
     yield "README.md", None if same else "the first statements are not those of examples/retry.text"
 
 
+def homes(cell: str):
+    """The crates and files of a row, such as 'tb_keep, specs/Steps' or 'tb_service, module `rule`'."""
+    found = re.fullmatch(r"((?:\w+ and )?\w+), (?:specs/(\w+)|module `([\w:]+)`)", cell)
+    if found:
+        for crate in found[1].split(" and "):
+            inner = f"specs/{found[2]}.antt" if found[2] else f"src/{found[3].replace('::', '/')}.rt"
+            yield crate, CRATES / crate / inner
+
+
 def glossed():
     """Each name in the code that the glossary gives."""
     files = [*CRATES.glob("*/src/**/*.rt"), *CRATES.glob("*/specs/**/*.antt"), *ROOT.glob("clients/python/tb_client/*.py")]
     text = "\n".join(path.read_text() for path in files)
     there = set(re.findall(r"\w+", text)) | {path.name for path in CRATES.iterdir()}
-    page = ROOT / "docs" / "GLOSSARY.md"
+    page, named = ROOT / "docs" / "GLOSSARY.md", []
     for row in page.read_text().splitlines():
         cells = row.split(" | ")
         if row.startswith("| ") and len(cells) == 3:
             for name in re.findall(r"`([\w:]+)`", cells[0] + cells[2]):
                 missing = [part for part in name.split("::") if part not in there]
                 yield page.relative_to(ROOT), f"{name} is no name in the code" if missing else None
+            named = re.findall(r"`(\w+)`", cells[0]) or named
+            for crate, place in homes(cells[1]):
+                found = re.search(rf"\b{named[0]}\b", place.read_text() if place.exists() else "")
+                yield page.relative_to(ROOT), None if found else f"{named[0]} is not in {crate}, {place.name}"
 
 
 def main() -> int:
