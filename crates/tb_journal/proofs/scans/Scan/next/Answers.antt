@@ -70,8 +70,10 @@ pub returns-in-Ok-Spoiled-clause-handed : goal.returns-in-Ok-Spoiled-clause-hand
 returns-in-Ok-Spoiled-clause-handed g c records file read =
     let gave = g.D.Device.gave in
     let old = subst (HasTaken gave records file) (sym c.self.view_is) read in
-    takes_damage gave records file _ old c.head_at.new.window.ahead (c.in-Ok-Spoiled.ensures.handed file (all_ahead gave records file _ old))
-    c.in-Ok-Spoiled.field-0 c.in-Ok-Spoiled.ensures.head _ c.in-Ok-Spoiled.field-0-is
+    let window = c.head_at.new.window in
+    let new : Place = record { end = c.self.inside.end; count = c.self.inside.count; last = window.taken; ahead = window.ahead } in
+    let damaged = takes_damage gave records file _ old window.ahead (c.in-Ok-Spoiled.ensures.handed file (all_ahead gave records file _ old)) c.in-Ok-Spoiled.field-0 c.in-Ok-Spoiled.ensures.head new c.in-Ok-Spoiled.field-0-is in
+    search rules
 
 pub returns-in-Ok-Whole-clause-handed : goal.returns-in-Ok-Whole-clause-handed
 returns-in-Ok-Whole-clause-handed g c records file read =
