@@ -87,7 +87,8 @@ fn take_in_chain<E: Event, A: Allocator + Clone>(
         2
         else
         E.kind.verdict (books_in rows.old) event.now time) }
-    ensures done { OnOk result (books_in rows.new ≡ E.kind.recorded (books_in rows.old) event.now time) }
+    ensures done { OnOk result
+        (books_in rows.new ≡ E.kind.recorded (books_in rows.old) event.now time) }
     ensures fresh { IfErr result
         (λ refusal. E.IsNew (books_in rows.old).failed event.now (E.code_of refusal)) }
     ensures refused { OnErr result (Stays rows.old rows.new trail.old trail.new) }

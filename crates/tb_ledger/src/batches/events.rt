@@ -62,7 +62,8 @@ pub trait Event: Copy {
     ) -> Result<(), Self::Refusal>
         requires ready { IsReady HasCapacity rows.old trail.old time }
         ensures judged { Judges code_of result (kind.verdict (books_in rows.old) self.now time) }
-        ensures done { OnOk result (books_in rows.new ≡ kind.recorded (books_in rows.old) self.now time) }
+        ensures done { OnOk result
+            (books_in rows.new ≡ kind.recorded (books_in rows.old) self.now time) }
         ensures fresh { IfErr result
             (λ refusal. IsNew (books_in rows.old).failed self.now (code_of refusal)) }
         ensures refused { OnErr result (Stays rows.old rows.new trail.old trail.new) }
@@ -73,7 +74,8 @@ pub trait Event: Copy {
         requires kept { IsKept rows.old }
         requires capacity { HasCapacity 1 (capacity_of rows.old) }
         requires fresh { IsNew (books_in rows.old).failed self.now (code_of refusal) }
-        ensures books { books_in rows.new ≡ kind.refused (books_in rows.old) self.now (code_of refusal) }
+        ensures books { books_in rows.new
+            ≡ kind.refused (books_in rows.old) self.now (code_of refusal) }
         ensures kept { IsKept rows.new }
         ensures stays { StaysButFailed rows.old rows.new }
         ensures uses { Uses 1 (capacity_of rows.old) (capacity_of rows.new) };

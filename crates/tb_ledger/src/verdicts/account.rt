@@ -49,7 +49,8 @@ fn account_own(a: &Account) -> Result<(), CreateAccountResult>
 
 /// How an account differs from the one that has its id.
 fn account_there(a: &Account, e: &AccountRow) -> CreateAccountResult
-    ensures { account_result_code result ≡ first_of (account_exists_lines (Some (row_now e.now)) a.now) }
+    ensures { account_result_code result
+        ≡ first_of (account_exists_lines (Some (row_now e.now)) a.now) }
 {
     let there = e.as_it_stands();
     if a.flags != there.flags {
