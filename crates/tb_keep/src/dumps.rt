@@ -54,7 +54,9 @@ pub fn read_rules<D: Device>(global: Global, device: &mut D) -> Result<Rules, St
     match Scan::start(global, device) {
         Ok(scan) => {
             let mut scan = scan;
-            first_rules(&mut scan, device)
+            let found = first_rules(&mut scan, device);
+            drop(scan);
+            found
         }
         Err(fault) => Err(StartFault::Journal(fault)),
     }
@@ -71,7 +73,12 @@ pub fn read_history<D: Device>(
     ensures untouched { D.tells → IsUntouched (D.disk device.old) (D.disk device.new) }
 {
     match Scan::start(global, device) {
-        Ok(scan) => history_by(global, scan, device),
+        Ok(scan) => {
+            let mut scan = scan;
+            let found = history_by(global, &mut scan, device);
+            drop(scan);
+            found
+        }
         Err(fault) => Err(StartFault::Journal(fault)),
     }
 }
@@ -79,15 +86,14 @@ pub fn read_history<D: Device>(
 /// The history of a file of which nothing was read.
 fn history_by<D: Device>(
     global: Global,
-    scan: Scan,
+    scan: &mut Scan,
     device: &mut D,
 ) -> Result<(Rules, Machine<Global>, Extent), StartFault>
-    ensures found { (which : Which) → IsReading D.tells D.gave which (D.disk device.old).seen [] scan
+    ensures found { (which : Which) → IsReading D.tells D.gave which (D.disk device.old).seen [] scan.old
         → OfSource D.tells D.gave which (D.disk device.old).seen (FindsHistory result) }
     ensures stays { D.tells → StaysKept (D.disk device.old) (D.disk device.new) }
 {
-    let mut scan = scan;
-    match first_rules(&mut scan, device) {
+    match first_rules(scan, device) {
         Ok(rules) => history_behind(global, rules, scan, device),
         Err(fault) => Err(fault),
     }
@@ -97,12 +103,12 @@ fn history_by<D: Device>(
 fn history_behind<D: Device>(
     global: Global,
     rules: Rules,
-    scan: Scan,
+    scan: &mut Scan,
     device: &mut D,
 ) -> Result<(Rules, Machine<Global>, Extent), StartFault>
     ensures found { (which : Which)
         → IsReading D.tells D.gave which (D.disk device.old).seen
-        (head_record rules.profile rules.clients_max ∷ []) scan
+        (head_record rules.profile rules.clients_max ∷ []) scan.old
         → OfSource D.tells D.gave which (D.disk device.old).seen (FindsHistory result) }
     ensures stays { D.tells → StaysKept (D.disk device.old) (D.disk device.new) }
 {
@@ -177,12 +183,12 @@ fn send_behind_first<D: Device, W: Sink>(
 
 /// Writes the dump of a file of which nothing was read.
 fn dump_by<D: Device, W: Sink>(
-    scan: Scan,
+    scan: &mut Scan,
     device: &mut D,
     rules: Rules,
     writer: &mut W,
 ) -> Result<(), DumpFault>
-    ensures dumps { (which : Which) → IsReading D.tells D.gave which (D.disk device.old).seen [] scan
+    ensures dumps { (which : Which) → IsReading D.tells D.gave which (D.disk device.old).seen [] scan.old
         → OfSource D.tells D.gave which (D.disk device.old).seen
         (λ file. Dumps result rules file (W.output writer.old) (W.output writer.new)) }
     ensures stays { D.tells → StaysKept (D.disk device.old) (D.disk device.new) }
@@ -191,9 +197,8 @@ fn dump_by<D: Device, W: Sink>(
         profile: rules.profile,
         clients_max: rules.clients_max,
     };
-    let mut scan = scan;
     match send_head(writer, head) {
-        Ok(()) => send_behind_first(&mut scan, device, writer),
+        Ok(()) => send_behind_first(scan, device, writer),
         Err(fault) => Err(DumpFault::Writer(fault)),
     }
 }
@@ -215,7 +220,12 @@ pub fn write_dump<D: Device, W: Sink>(
     ensures untouched { D.tells → IsUntouched (D.disk device.old) (D.disk device.new) }
 {
     match Scan::start(global, device) {
-        Ok(scan) => dump_by(scan, device, rules, writer),
+        Ok(scan) => {
+            let mut scan = scan;
+            let done = dump_by(&mut scan, device, rules, writer);
+            drop(scan);
+            done
+        }
         Err(fault) => Err(DumpFault::Journal(fault)),
     }
 }

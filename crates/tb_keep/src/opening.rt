@@ -110,7 +110,10 @@ pub fn create<D: Device>(global: Global, device: D, rules: Rules) -> Result<Keep
     };
     match create_headed(global, device, rules) {
         Ok(journal) => Ok(Keeper::new(global, journal, machine)),
-        Err(failed) => Err(failed),
+        Err(failed) => {
+            drop(machine);
+            Err(failed)
+        }
     }
 }
 
@@ -168,7 +171,10 @@ fn open_restored<D: Device>(
 {
     match open_headed(global, device, rules, extent) {
         Ok(journal) => Ok(Keeper::new(global, journal, machine)),
-        Err(failed) => Err(failed),
+        Err(failed) => {
+            drop(machine);
+            Err(failed)
+        }
     }
 }
 

@@ -53,8 +53,10 @@ fn restore_record(
 ) -> Result<(), StartFault>
     ensures { RestoresRecord result machine.old bytes.now machine.new }
 {
-    let entry = read_next(global, machine, bytes)?;
-    restore_next(machine, bytes, entry)
+    match read_next(global, machine, bytes) {
+        Ok(entry) => restore_next(machine, bytes, entry),
+        Err(fault) => Err(fault),
+    }
 }
 
 /// Reads the head of a file of which nothing was read, and answers whether there is one.
@@ -125,12 +127,12 @@ fn enter_all<D: Device>(
 pub(crate) fn entered_behind<D: Device>(
     global: Global,
     rules: Rules,
-    scan: Scan,
+    scan: &mut Scan,
     device: &mut D,
 ) -> Result<(Machine<Global>, Extent), StartFault>
     ensures found { (which : Which)
         → IsReading D.tells D.gave which (D.disk device.old).seen
-        (head_record rules.profile rules.clients_max ∷ []) scan
+        (head_record rules.profile rules.clients_max ∷ []) scan.old
         → OfSource D.tells D.gave which (D.disk device.old).seen (FindsBehind result rules) }
     ensures few { IfOk result (λ found. found.1.count ≤ found.1.end) }
     ensures stays { D.tells → StaysKept (D.disk device.old) (D.disk device.new) }
@@ -139,8 +141,7 @@ pub(crate) fn entered_behind<D: Device>(
     let Ok(mut machine) = Machine::new_in(global, global, rules.profile, rules.clients_max) else {
         return Err(StartFault::NoMemory);
     };
-    let mut scan = scan;
-    match enter_all(global, &mut machine, &mut scan, device) {
+    match enter_all(global, &mut machine, scan, device) {
         Ok(()) => Ok((machine, scan.extent())),
         Err(fault) => {
             drop(machine);
@@ -171,18 +172,17 @@ fn without_entries(
 fn restored_by<D: Device>(
     global: Global,
     rules: Rules,
-    scan: Scan,
+    scan: &mut Scan,
     device: &mut D,
 ) -> Result<(Machine<Global>, Extent), StartFault>
-    ensures found { (which : Which) → IsReading D.tells D.gave which (D.disk device.old).seen [] scan
+    ensures found { (which : Which) → IsReading D.tells D.gave which (D.disk device.old).seen [] scan.old
         → OfSource D.tells D.gave which (D.disk device.old).seen
         (Restores result rules.profile rules.clients_max) }
     ensures few { IfOk result (λ found. found.1.count ≤ found.1.end) }
     ensures stays { D.tells → StaysKept (D.disk device.old) (D.disk device.new) }
 {
-    let mut scan = scan;
     let same = rules;
-    match read_first(&mut scan, device, same) {
+    match read_first(scan, device, same) {
         Ok(true) => entered_behind(global, rules, scan, device),
         Ok(false) => without_entries(global, rules, scan.extent()),
         Err(fault) => Err(fault),
@@ -205,7 +205,12 @@ pub fn restored<D: Device>(
     ensures untouched { D.tells → IsUntouched (D.disk device.old) (D.disk device.new) }
 {
     match Scan::start(global, device) {
-        Ok(scan) => restored_by(global, rules, scan, device),
+        Ok(scan) => {
+            let mut scan = scan;
+            let found = restored_by(global, rules, &mut scan, device);
+            drop(scan);
+            found
+        }
         Err(fault) => Err(StartFault::Journal(fault)),
     }
 }

@@ -36,15 +36,17 @@ fn next_entry(machine: &Machine<Global>, moment: u64, request: Request) -> Resul
         × (has_time machine.now (moment, request) ≡ false)) }
 {
     let events = request.body().event_count() as u64;
-    let Some(time) = machine.next_time(moment, events) else {
-        return Err(KeepFault::Serving(RunFault::TimeExhausted))
-    };
-    let commit = machine.commit() + 1;
-    Ok(Entry {
-        commit,
-        time,
-        request,
-    })
+    match machine.next_time(moment, events) {
+        Some(time) => Ok(Entry {
+            commit: machine.commit() + 1,
+            time,
+            request,
+        }),
+        None => {
+            drop(request);
+            Err(KeepFault::Serving(RunFault::TimeExhausted))
+        }
+    }
 }
 
 /// Lets the record of an entry wait for the next commit. The buffer is the caller's, so that each record needs no new one.
@@ -74,9 +76,16 @@ fn append_new<D: Device>(
     requires { is_new_in keeper.old.state (moment, request) ≡ true }
     ensures { Appends result (moment, request) keeper.old keeper.new }
 {
-    let entry = next_entry(&keeper.machine, moment, request)?;
-    append_entry(&mut keeper.journal, &mut keeper.buffer, &entry)?;
-    Ok(entry.request)
+    match next_entry(&keeper.machine, moment, request) {
+        Ok(entry) => match append_entry(&mut keeper.journal, &mut keeper.buffer, &entry) {
+            Ok(()) => Ok(entry.request),
+            Err(fault) => {
+                drop(entry);
+                Err(fault)
+            }
+        },
+        Err(fault) => Err(fault),
+    }
 }
 
 /// Serves a pair, and holds the reply to it. Memory takes a reply, or there is none left.

@@ -11,10 +11,10 @@ returns-in-Ok-clause-dumps g c which has =
     c.send_behind_first.result c.in-Ok.ensures.sent sent)
     (c.send_behind_first.ensures.sends which has)
 
-pub returns-clause-dumps : goal.returns-clause-dumps
-returns-clause-dumps g c which =
+pub returns-in-Err-clause-dumps : goal.returns-in-Err-clause-dumps
+returns-in-Err-clause-dumps g c which =
     let old = g.W.Sink.output c.args.writer.now in
     so_holds g.D.Device.tells g.D.Device.gave which (g.D.Device.disk c.args.device.now).seen _ _ (λ file at. dumps_some_head c.args.rules file old old (g.W.Sink.output c.send_head.new.sink) c.in-Err.fault at.has.begins c.in-Err.ensures.sent)
 
-pub returns-clause-stays : goal.returns-clause-stays
-returns-clause-stays g c t = stays_none (g.D.Device.disk c.args.device.now) (g.met.D.Device.only_now c.args.device.now)
+pub returns-in-Err-clause-stays : goal.returns-in-Err-clause-stays
+returns-in-Err-clause-stays g c t = stays_none (g.D.Device.disk c.args.device.now) (g.met.D.Device.only_now c.args.device.now)

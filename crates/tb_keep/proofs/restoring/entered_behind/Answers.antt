@@ -23,8 +23,8 @@ returns-in-Ok-enter_all-clause-found g c which has =
     ))
     (c.in-Ok-enter_all.ensures.enters which (head ∷ []) has)
 
-pub returns-clause-found : goal.returns-clause-found
-returns-clause-found g c which has =
+pub returns-in-Err-clause-found : goal.returns-in-Err-clause-found
+returns-in-Err-clause-found g c which has =
     let rules = c.args.rules in
     so_holds g.D.Device.tells g.D.Device.gave which (g.D.Device.disk c.args.device.now).seen _ _
     (λ file all. behind_not rules file c.enter_all.new.scan c.in-Ok.machine c.enter_all.new.machine c.in-Ok.ensures c.in-Err.fault all)
