@@ -1,11 +1,10 @@
 //! The serving of a kept ledger: the entries of pairs are committed, and then the replies that rest on them are told.
-ghost use Rattle.std.specs.Prelude.{◌≡◌, ◌++◌, true, false, [], ◌∷◌, IfErr, IsTrue, MatchResult, OnOk};
+ghost use Rattle.std.specs.Prelude.{◌≡◌, ◌++◌, true, false, [], ◌∷◌, IfErr, OnOk};
 ghost use Rattle.tb_journal.specs.Ready.{IsReady};
 ghost use Rattle.tb_machine.specs.Dumps.{dumped};
 ghost use Rattle.tb_machine.specs.Histories.{fits};
 ghost use Rattle.tb_machine.specs.Recording.{IsRecord};
 ghost use Rattle.tb_machine.specs.Runs.{is_new_in};
-ghost use Rattle.tb_machine.specs.Scripts.{entry_of, has_time};
 ghost use Rattle.tb_keep.specs.Keeping.{IsFresh};
 ghost use Rattle.tb_keep.specs.Rounds.{Served};
 ghost use Rattle.tb_keep.specs.Steps.{IsRefusal, Appends, Holds, KeepsPair, KeepsNext, HandsOut, Tells, MayTell, EndsTold, is_end_of_time, with_record};
@@ -22,32 +21,6 @@ use tb_sessions::Class;
 
 /// Where so many bytes of replies are held they are told, even if more pairs are at hand.
 pub const HELD_BYTES_MAX: usize = 1 << 20;
-
-/// The entry of a new request that comes at a moment, where there is a time for it.
-fn next_entry(machine: &Machine<Global>, moment: u64, request: Request) -> Result<Entry, KeepFault>
-    requires { is_new_in machine.now (moment, request) ≡ true }
-    ensures timed { MatchResult result
-        (λ entry.
-        (has_time machine.now (moment, request) ≡ true)
-        × (entry ≡ entry_of machine.now (moment, request))
-        × IsTrue (fits machine.now entry))
-        (λ f.
-        (f ≡ KeepFault.Serving RunFault.TimeExhausted)
-        × (has_time machine.now (moment, request) ≡ false)) }
-{
-    let events = request.body().event_count() as u64;
-    match machine.next_time(moment, events) {
-        Some(time) => Ok(Entry {
-            commit: machine.commit() + 1,
-            time,
-            request,
-        }),
-        None => {
-            drop(request);
-            Err(KeepFault::Serving(RunFault::TimeExhausted))
-        }
-    }
-}
 
 /// Lets the record of an entry wait for the next commit. The buffer is the caller's, so that each record needs no new one.
 fn append_entry<D: Device>(
@@ -76,15 +49,15 @@ fn append_new<D: Device>(
     requires { is_new_in keeper.old.state (moment, request) ≡ true }
     ensures { Appends result (moment, request) keeper.old keeper.new }
 {
-    match next_entry(&keeper.machine, moment, request) {
-        Ok(entry) => match append_entry(&mut keeper.journal, &mut keeper.buffer, &entry) {
-            Ok(()) => Ok(entry.request),
-            Err(fault) => {
-                drop(entry);
-                Err(fault)
-            }
-        },
-        Err(fault) => Err(fault),
+    let Some(entry) = keeper.machine.next_entry(request, moment) else {
+        return Err(KeepFault::Serving(RunFault::TimeExhausted));
+    };
+    match append_entry(&mut keeper.journal, &mut keeper.buffer, &entry) {
+        Ok(()) => Ok(entry.request),
+        Err(fault) => {
+            drop(entry);
+            Err(fault)
+        }
     }
 }
 
