@@ -1,8 +1,7 @@
 //! What is read again after a crash, at each moment and with each tear of a small run.
-use crate::steps::{ONE_RECORD, THREE_RECORDS, commit_two, opened};
+use crate::steps::{ONE_RECORD, THREE_RECORDS, commit_two, expect, expect_at, expect_done, opened};
 use std::alloc::Global;
 use std::process::Abort;
-use std::test::Fail;
 use tb_journal::Memory;
 
 /// What a torn write leaves in its range: bytes of the batch, zeros, and ones.
@@ -16,6 +15,17 @@ const ZEROS: [u8; 22] = [0; 22];
 
 const ONES: [u8; 22] = [255; 22];
 
+/// What a crash leaves.
+pub(crate) fn left_after(rt: &impl Abort, file: &Memory, moment: usize, torn: &[u8]) -> Vec<u8> {
+    assert!(rt; moment <= file.moments());
+    file.after_crash(moment, torn).expect(rt, "memory")
+}
+
+/// Says whether the bytes are those of all three records. Any byte but 0 is an open gate, and stays as it was.
+fn is_whole(bytes: &[u8]) -> bool {
+    bytes.get(..18) == THREE_RECORDS.get(..18) && bytes.get(19..) == THREE_RECORDS.get(19..)
+}
+
 /// Opens what a crash leaves, and says how many records it has: one, or the whole batch as well.
 fn records_after(
     rt: &impl Abort,
@@ -24,14 +34,10 @@ fn records_after(
     moment: usize,
     torn: &[u8],
 ) -> usize {
-    assert!(rt; moment <= file.moments());
-    let left = file.after_crash(moment, torn).expect(rt, "memory");
+    let left = left_after(rt, file, moment, torn);
     let journal = opened(alloc, &left).expect(rt, "a journal");
     let bytes = journal.device().bytes();
-    // Any byte but 0 is an open gate, and stays as it was.
-    let is_whole = bytes.get(..18) == THREE_RECORDS.get(..18)
-        && bytes.get(19..) == THREE_RECORDS.get(19..);
-    assert!(rt; bytes == ONE_RECORD.as_slice() || is_whole);
+    expect(rt, bytes == ONE_RECORD.as_slice() || is_whole(bytes));
     let count = journal.count();
     drop(journal);
     count
@@ -50,22 +56,19 @@ pub(crate) fn expect_records(
         for len in 0..=22 {
             let (torn, _) = bytes.split_at(len);
             let count = records_after(rt, alloc, file, moment, torn);
-            assert!(rt;
-                least <= count && count <= most,
-                "{count} records at moment {moment}"
-            );
+            expect_at(rt, moment as u64, least <= count && count <= most);
         }
     }
 }
 
 #[test]
-fn a_crash_leaves_the_whole_batch_or_none_of_it(rt: HostRuntime) -> Result<(), Fail> {
+fn a_crash_leaves_the_whole_batch_or_none_of_it(rt: HostRuntime) {
     let alloc = rt.alloc();
     let mut journal = opened(alloc, &ONE_RECORD).expect(&rt, "a journal");
     let begin = journal.device().moments();
-    assert!(rt; commit_two(&mut journal) == Ok(()));
+    expect_done(&rt, commit_two(&mut journal));
     let file = journal.device();
-    assert!(rt; file.moments() == begin + 4);
+    expect(&rt, file.moments() == begin + 4);
     // Before the write of the blocks, behind it, and behind the sync.
     expect_records(&rt, alloc, file, begin, 1, 1);
     expect_records(&rt, alloc, file, begin + 1, 1, 1);
@@ -74,22 +77,17 @@ fn a_crash_leaves_the_whole_batch_or_none_of_it(rt: HostRuntime) -> Result<(), F
     expect_records(&rt, alloc, file, begin + 3, 1, 3);
     expect_records(&rt, alloc, file, begin + 4, 3, 3);
     drop(journal);
-    Ok(())
 }
 
 #[test]
-fn an_open_gate_counts_with_all_its_batch(rt: HostRuntime) -> Result<(), Fail> {
+fn an_open_gate_counts_with_all_its_batch(rt: HostRuntime) {
     let alloc = rt.alloc();
     let mut journal = opened(alloc, &ONE_RECORD).expect(&rt, "a journal");
-    assert!(rt; commit_two(&mut journal) == Ok(()));
+    expect_done(&rt, commit_two(&mut journal));
     let gate = journal.device().moments().saturating_sub(1);
     for byte in 0..=255u8 {
         let count = records_after(&rt, alloc, journal.device(), gate, &[byte]);
-        assert!(rt;
-            (count == 1) == (byte == 0),
-            "{count} records behind the gate {byte}"
-        );
+        expect_at(&rt, byte as u64, (count == 1) == (byte == 0));
     }
     drop(journal);
-    Ok(())
 }

@@ -1,6 +1,6 @@
 //! A device that fails at one call.
 use crate::crashes::expect_records;
-use crate::steps::{ONE_RECORD, commit_two, file_of};
+use crate::steps::{ONE_RECORD, commit_two, expect, expect_at, file_of};
 use std::alloc::Global;
 use std::process::Abort;
 use std::test::Fail;
@@ -23,11 +23,11 @@ fn failed_step(rt: &impl Abort, alloc: Global, number: u64) -> usize {
             if committed == Ok(()) {
                 return 3;
             }
-            assert!(rt; committed == Err(Fault::Failed));
+            expect(rt, committed == Err(Fault::Failed));
             2
         }
         Err(failed) => {
-            assert!(rt; failed.fault == OpenFault::Device(Fault::Failed));
+            expect(rt, failed.fault == OpenFault::Device(Fault::Failed));
             let moments = failed.device.moments();
             expect_records(rt, alloc, &failed.device, moments, 1, 1);
             drop(failed);
@@ -37,17 +37,16 @@ fn failed_step(rt: &impl Abort, alloc: Global, number: u64) -> usize {
 }
 
 #[test]
-fn each_call_of_a_small_run_fails_once(rt: HostRuntime) -> Result<(), Fail> {
+fn each_call_of_a_small_run_fails_once(rt: HostRuntime) {
     let alloc = rt.alloc();
     // To open a journal takes a sync, two looks, a cut, a sync, a write and a sync.
     for number in 1..=7 {
-        assert!(rt; failed_step(&rt, alloc, number) == 1, "call {number}");
+        expect_at(&rt, number, failed_step(&rt, alloc, number) == 1);
     }
     // A commit takes a write, a sync, a write and a sync.
     for number in 8..=11 {
-        assert!(rt; failed_step(&rt, alloc, number) == 2, "call {number}");
+        expect_at(&rt, number, failed_step(&rt, alloc, number) == 2);
     }
-    assert!(rt; failed_step(&rt, alloc, 12) == 3);
-    assert!(rt; failed_step(&rt, alloc, 0) == 3);
-    Ok(())
+    expect_at(&rt, 12, failed_step(&rt, alloc, 12) == 3);
+    expect_at(&rt, 0, failed_step(&rt, alloc, 0) == 3);
 }

@@ -1,8 +1,7 @@
 //! Files that are opened, refused or created over: worked rows.
-use crate::steps::{created, file_of};
+use crate::steps::{created, expect, expect_bytes, file_of};
 use std::alloc::Global;
 use std::process::Abort;
-use std::test::Fail;
 use tb_journal::{Fault, Memory, OpenFault, Refusal, Scan, create, recover};
 
 /// The file of a record without bytes, whose checksum is that of three bytes of 0.
@@ -21,63 +20,58 @@ const BAD_CHECKSUM: [u8; 17] = [
 ];
 
 #[test]
-fn what_stands_behind_the_records_is_cut_off(rt: HostRuntime) -> Result<(), Fail> {
+fn what_stands_behind_the_records_is_cut_off(rt: HostRuntime) {
     let alloc = rt.alloc();
     let file = file_of(alloc, &MORE_BEHIND).expect(&rt, "memory");
     let journal = recover(alloc, file).ok().expect(&rt, "a journal");
-    assert!(rt; journal.count() == 1);
-    assert_eq!(rt; journal.device().bytes(), EMPTY_RECORD.as_slice());
+    expect(&rt, journal.count() == 1);
+    expect_bytes(&rt, journal.device().bytes(), &EMPTY_RECORD);
     drop(journal);
-    Ok(())
 }
 
 /// A file of these bytes is refused so, and is as it was. It is given back.
 fn refused(rt: &impl Abort, alloc: Global, bytes: &[u8], why: Refusal) -> Memory {
     let file = file_of(alloc, bytes).expect(rt, "memory");
     let failed = recover(alloc, file).err().expect(rt, "a fault");
-    assert!(rt; failed.fault == OpenFault::Refused(why));
+    expect(rt, failed.fault == OpenFault::Refused(why));
     let device = failed.device;
-    assert_eq!(rt; device.bytes(), bytes);
+    expect_bytes(rt, device.bytes(), bytes);
     device
 }
 
 #[test]
-fn a_bad_checksum_is_told_with_its_place(rt: HostRuntime) -> Result<(), Fail> {
+fn a_bad_checksum_is_told_with_its_place(rt: HostRuntime) {
     let why = Refusal::Damaged { at: 8 };
     drop(refused(&rt, rt.alloc(), &BAD_CHECKSUM, why));
-    Ok(())
 }
 
 #[test]
-fn another_file_is_left_alone(rt: HostRuntime) -> Result<(), Fail> {
+fn another_file_is_left_alone(rt: HostRuntime) {
     let alloc = rt.alloc();
     let file = refused(&rt, alloc, b"hello", Refusal::NotAJournal);
     let again = create(alloc, file).err().expect(&rt, "a fault");
-    assert!(rt; again.fault == OpenFault::Device(Fault::NotEmpty));
-    assert_eq!(rt; again.device.bytes(), b"hello".as_slice());
+    expect(&rt, again.fault == OpenFault::Device(Fault::NotEmpty));
+    expect_bytes(&rt, again.device.bytes(), b"hello");
     drop(again);
-    Ok(())
 }
 
 #[test]
-fn a_creation_that_was_cut_short_is_made_again(rt: HostRuntime) -> Result<(), Fail> {
+fn a_creation_that_was_cut_short_is_made_again(rt: HostRuntime) {
     let journal = created(rt.alloc(), &[84, 66, 0, 0]).expect(&rt, "a journal");
-    assert_eq!(rt; journal.device().bytes(), b"TBJRNL01\0".as_slice());
+    expect_bytes(&rt, journal.device().bytes(), b"TBJRNL01\0");
     drop(journal);
-    Ok(())
 }
 
 #[test]
-fn the_records_of_a_file_are_read(rt: HostRuntime) -> Result<(), Fail> {
+fn the_records_of_a_file_are_read(rt: HostRuntime) {
     let alloc = rt.alloc();
     let mut file = file_of(alloc, &EMPTY_RECORD).expect(&rt, "memory");
     let mut scan = Scan::start(alloc, &mut file).ok().expect(&rt, "a journal");
-    assert!(rt; scan.next(&mut file) == Ok(true));
-    assert!(rt; scan.record().is_empty());
-    assert!(rt; scan.next(&mut file) == Ok(false));
+    expect(&rt, scan.next(&mut file) == Ok(true));
+    expect(&rt, scan.record().is_empty());
+    expect(&rt, scan.next(&mut file) == Ok(false));
     let extent = scan.extent();
     drop(scan);
     drop(file);
-    assert!(rt; extent.end == 16 && extent.count == 1);
-    Ok(())
+    expect(&rt, extent.end == 16 && extent.count == 1);
 }

@@ -1,5 +1,5 @@
 //! Journals over files of the system, in the folder that the tests run in.
-use crate::steps::{ONE_RECORD, THREE_RECORDS};
+use crate::steps::{ONE_RECORD, THREE_RECORDS, expect, expect_bytes, expect_done};
 use std::fs;
 use std::fs::{File, Files};
 use std::process::Abort;
@@ -24,21 +24,21 @@ const DAMAGED: [u8; 19] = [
 fn make<R: Abort + Files<File = File> + AllocGlobal>(rt: &R, path: &str) {
     let real = Real::make(rt, path).ok().expect(rt, "a file");
     let mut journal = create(rt.alloc(), real).ok().expect(rt, "a journal");
-    assert!(rt; journal.append(&[97, 98]) == Ok(()));
-    assert!(rt; journal.commit() == Ok(()));
+    expect_done(rt, journal.append(&[97, 98]));
+    expect_done(rt, journal.commit());
     let is_locked = matches!(Real::open(rt, path), Err(FileFault::Locked));
     drop(journal);
-    assert!(rt; is_locked);
+    expect(rt, is_locked);
 }
 
 /// Opens the journal again, and commits two records more.
 fn go_on<R: Abort + Files<File = File> + AllocGlobal>(rt: &R, path: &str) {
     let real = Real::open(rt, path).ok().expect(rt, "a file");
     let mut journal = recover(rt.alloc(), real).ok().expect(rt, "a journal");
-    assert!(rt; journal.count() == 1);
-    assert!(rt; journal.append(&[]) == Ok(()));
-    assert!(rt; journal.append(b"second") == Ok(()));
-    assert!(rt; journal.commit() == Ok(()));
+    expect(rt, journal.count() == 1);
+    expect_done(rt, journal.append(&[]));
+    expect_done(rt, journal.append(b"second"));
+    expect_done(rt, journal.commit());
     drop(journal);
 }
 
@@ -51,8 +51,8 @@ fn a_journal_in_a_file(rt: HostRuntime) -> Result<(), Fail> {
     go_on(&rt, path);
     let second = fs::read(&rt, path)?;
     fs::remove_file(&rt, path)?;
-    assert!(rt; first.as_slice() == ONE_RECORD.as_slice());
-    assert!(rt; second.as_slice() == THREE_RECORDS.as_slice());
+    expect_bytes(&rt, &first, &ONE_RECORD);
+    expect_bytes(&rt, &second, &THREE_RECORDS);
     Ok(())
 }
 
@@ -88,8 +88,8 @@ fn expect_opened<R: Abort + Files<File = File> + AllocGlobal>(
     let found = opened(rt, path);
     let after = fs::read(rt, path)?;
     fs::remove_file(rt, path)?;
-    assert!(rt; found == want);
-    assert!(rt; after.as_slice() == left);
+    expect(rt, found == want);
+    expect_bytes(rt, &after, left);
     Ok(())
 }
 
@@ -101,6 +101,6 @@ fn files_that_are_opened_or_refused(rt: HostRuntime) -> Result<(), Fail> {
     expect_opened(&rt, b"a text", Err(foreign), b"a text")?;
     expect_opened(&rt, &DAMAGED, Err(damaged), &DAMAGED)?;
     let is_none = matches!(Real::open(&rt, "no_file.tbj"), Err(FileFault::System(_)));
-    assert!(rt; is_none);
+    expect(&rt, is_none);
     Ok(())
 }

@@ -1,5 +1,5 @@
 //! Files that are read record by record, in pieces: worked rows.
-use crate::steps::{ONE_RECORD, THREE_RECORDS, file_of, file_of_two};
+use crate::steps::{ONE_RECORD, THREE_RECORDS, expect, expect_at, file_of, file_of_two};
 use std::alloc::Global;
 use std::process::Abort;
 use std::test::Fail;
@@ -18,11 +18,11 @@ fn expect_scan(
 ) {
     let mut scan = Scan::start(alloc, file).ok().expect(rt, "a journal");
     for want in records {
-        assert!(rt; scan.next(file) == Ok(true));
-        assert!(rt; scan.record() == *want);
+        expect(rt, scan.next(file) == Ok(true));
+        expect(rt, scan.record() == *want);
     }
-    assert!(rt; scan.next(file) == behind);
-    assert!(rt; scan.extent().count == records.len());
+    expect(rt, scan.next(file) == behind);
+    expect(rt, scan.extent().count == records.len());
     drop(scan);
 }
 
@@ -48,12 +48,11 @@ fn count_of(alloc: Global, file: &mut Memory) -> Result<usize, OpenFault> {
 }
 
 #[test]
-fn records_are_read_one_by_one(rt: HostRuntime) -> Result<(), Fail> {
+fn records_are_read_one_by_one(rt: HostRuntime) {
     let alloc = rt.alloc();
     expect_records(&rt, alloc, &ONE_RECORD, &[b"ab"], Ok(false));
     let three: [&[u8]; 3] = [b"ab", &[], b"second"];
     expect_records(&rt, alloc, &THREE_RECORDS, &three, Ok(false));
-    Ok(())
 }
 
 #[test]
@@ -87,7 +86,7 @@ fn a_record_stands_in_two_pieces(rt: HostRuntime) -> Result<(), Fail> {
 }
 
 #[test]
-fn the_last_block_is_cut_at_each_byte(rt: HostRuntime) -> Result<(), Fail> {
+fn the_last_block_is_cut_at_each_byte(rt: HostRuntime) {
     let alloc = rt.alloc();
     let damaged = Err(OpenFault::Refused(Refusal::Damaged { at: 26 }));
     for len in 26..40 {
@@ -96,11 +95,10 @@ fn the_last_block_is_cut_at_each_byte(rt: HostRuntime) -> Result<(), Fail> {
         let behind = if len < 28 { Ok(false) } else { damaged };
         expect_records(&rt, alloc, bytes, &[b"ab", &[]], behind);
     }
-    Ok(())
 }
 
 #[test]
-fn damage_is_told_behind_good_records(rt: HostRuntime) -> Result<(), Fail> {
+fn damage_is_told_behind_good_records(rt: HostRuntime) {
     let alloc = rt.alloc();
     let mut bytes = THREE_RECORDS;
     bytes[39] = 101;
@@ -109,8 +107,10 @@ fn damage_is_told_behind_good_records(rt: HostRuntime) -> Result<(), Fail> {
     let mut file = file_of(alloc, &bytes).expect(&rt, "memory");
     let answer = count_of(alloc, &mut file);
     drop(file);
-    assert!(rt; answer == Err(OpenFault::Refused(Refusal::Damaged { at: 26 })));
-    Ok(())
+    expect(
+        &rt,
+        answer == Err(OpenFault::Refused(Refusal::Damaged { at: 26 })),
+    );
 }
 
 /// A start takes a sync and a look; each piece more takes a look, as does the end.
@@ -122,15 +122,12 @@ fn each_call_fails_in_turn(rt: HostRuntime) -> Result<(), Fail> {
     for number in 1..=4 {
         file.fail_at(number);
         let answer = count_of(alloc, &mut file);
-        assert!(rt;
-            answer == Err(OpenFault::Device(Fault::Failed)),
-            "call {number}"
-        );
+        expect_at(&rt, number, answer == Err(OpenFault::Device(Fault::Failed)));
     }
     file.fail_at(5);
     let answer = count_of(alloc, &mut file);
     drop(file);
-    assert!(rt; answer == Ok(2));
+    expect(&rt, answer == Ok(2));
     Ok(())
 }
 
@@ -147,6 +144,9 @@ fn a_growth_may_be_refused(rt: HostRuntime) -> Result<(), Fail> {
     };
     let answer = count_of(alloc, &mut file);
     drop(file);
-    assert!(rt; answer == Ok(2) || answer == Err(OpenFault::Device(Fault::Memory)));
+    expect(
+        &rt,
+        answer == Ok(2) || answer == Err(OpenFault::Device(Fault::Memory)),
+    );
     Ok(())
 }

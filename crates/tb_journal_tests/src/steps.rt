@@ -1,5 +1,5 @@
 //! Steps on a journal over a file in memory, and the bytes of small journals.
-ghost use Rattle.std.specs.Prelude.{◌≡◌, IfOk, IfSome, OnOk};
+ghost use Rattle.std.specs.Prelude.{◌≡◌, true, IfOk, IfSome, OnOk, Ok};
 ghost use Rattle.tb_journal.specs.Memory.{memory_disk};
 ghost use Rattle.tb_journal.specs.Ready.{IsReady};
 
@@ -25,6 +25,30 @@ pub(crate) const THREE_RECORDS: [u8; 41] = [
     255, 6, 0, 0, 0x53, 0x98, 0x6c, 0xa5, 115, 101, 99, 111, 110, 100, //
     0,
 ];
+
+/// What a test wants to hold.
+pub(crate) fn expect(rt: &impl Abort, holds: bool)
+    ensures { holds ≡ true }
+{
+    assert!(rt; holds);
+}
+
+/// The same at a number, which is told where it does not hold.
+pub(crate) fn expect_at(rt: &impl Abort, number: u64, holds: bool) {
+    assert!(rt; holds, "at {number}");
+}
+
+/// The bytes that a test wants.
+pub(crate) fn expect_bytes(rt: &impl Abort, found: &[u8], want: &[u8]) {
+    assert_eq!(rt; found, want);
+}
+
+/// What a call answers that a test wants to succeed.
+pub(crate) fn expect_done(rt: &impl Abort, answer: Result<(), Fault>)
+    ensures { answer ≡ Ok tt }
+{
+    assert!(rt; answer == Ok(()));
+}
 
 /// A file of these bytes, all of them on the disk.
 pub(crate) fn file_of(alloc: Global, bytes: &[u8]) -> Option<Memory> {
@@ -53,8 +77,8 @@ pub(crate) fn expect_journal(
     count: usize,
     waiting: usize,
 ) {
-    assert_eq!(rt; journal.device().bytes(), bytes);
-    assert!(rt; journal.count() == count && journal.waiting() == waiting);
+    expect_bytes(rt, journal.device().bytes(), bytes);
+    expect(rt, journal.count() == count && journal.waiting() == waiting);
 }
 
 /// Lets a record wait.
