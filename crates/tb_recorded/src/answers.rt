@@ -3,7 +3,7 @@ use crate::asked::{Asked, account_ids, transfer_ids};
 use crate::faults::Fault;
 use crate::records::{Answer, Log, Record};
 use crate::rules::Rules;
-use std::alloc::Global;
+use std::alloc::{AllocError, Global};
 use tb_machine::{Entry, Machine, answer_of, status_of};
 use tb_records::{Account, Reply, ReplyBody, Request, Status, Transfer};
 
@@ -18,6 +18,15 @@ pub struct Tally {
     /// Of the answers the replies and refusals by their status, NotYet last.
     pub statuses: [u64; 8],
     pub lookups: u64,
+}
+
+/// The status that an answer has; None of a lookup.
+fn status_in(answer: &Answer) -> Option<Status> {
+    match answer {
+        Answer::Reply(_, reply) => Some(reply.status()),
+        Answer::Status(_, status) => Some(*status),
+        Answer::Accounts(..) | Answer::Transfers(..) => None,
+    }
 }
 
 impl Tally {
@@ -38,16 +47,18 @@ impl Tally {
         self.wrong = self.wrong.saturating_add(wrong);
     }
 
+    /// One more has this status.
+    fn count_status(&mut self, status: Status) {
+        if let Some(count) = self.statuses.get_mut(status.code() as usize) {
+            *count = count.saturating_add(1);
+        }
+    }
+
     /// One answer was looked at.
     fn count(&mut self, answer: &Answer, is_right: bool) {
         self.answers = self.answers.saturating_add(1);
-        let status = match answer {
-            Answer::Reply(_, reply) => Some(reply.status()),
-            Answer::Status(_, status) => Some(*status),
-            Answer::Accounts(..) | Answer::Transfers(..) => None,
-        };
-        match status.and_then(|status| self.statuses.get_mut(status.code() as usize)) {
-            Some(count) => *count = count.saturating_add(1),
+        match status_in(answer) {
+            Some(status) => self.count_status(status),
             None => self.lookups = self.lookups.saturating_add(1),
         }
         if !is_right {
@@ -85,10 +96,14 @@ fn gives_reply(
     request: &Request,
     reply: &Reply,
 ) -> Result<bool, Fault> {
-    let right = answer_of(alloc, machine, request)?;
-    let gives = is_same(&right, reply);
-    drop(right);
-    Ok(gives)
+    match answer_of(alloc, machine, request) {
+        Ok(right) => {
+            let gives = is_same(&right, reply);
+            drop(right);
+            Ok(gives)
+        }
+        Err(AllocError) => Err(Fault::NoMemory),
+    }
 }
 
 /// Says that the machine gives this reply to what was asked.
@@ -98,10 +113,14 @@ fn is_right_reply(
     asked: Asked,
     reply: &Reply,
 ) -> Result<bool, Fault> {
-    let request = asked.request(alloc)?;
-    let gives = gives_reply(alloc, machine, &request, reply);
-    drop(request);
-    gives
+    match asked.request(alloc) {
+        Ok(request) => {
+            let gives = gives_reply(alloc, machine, &request, reply);
+            drop(request);
+            gives
+        }
+        Err(fault) => Err(fault),
+    }
 }
 
 /// Says that the machine gives this status to what was asked.
@@ -111,32 +130,46 @@ fn is_right_status(
     asked: Asked,
     status: Status,
 ) -> Result<bool, Fault> {
-    let request = asked.request(alloc)?;
-    let right = status_of(machine.class(&request));
-    drop(request);
-    Ok(right == status)
+    match asked.request(alloc) {
+        Ok(request) => {
+            let right = status_of(machine.class(&request));
+            drop(request);
+            Ok(right == status)
+        }
+        Err(fault) => Err(fault),
+    }
 }
 
 /// Says that the machine finds these accounts by the lookup of a number.
 fn are_right_accounts(
-    alloc: Global,
     machine: &Machine<Global>,
     lookup: u64,
     accounts: &[Account],
 ) -> Result<bool, Fault> {
-    let ids = account_ids(alloc, lookup)?;
-    Ok(machine.lookup_accounts(ids.as_slice())?.as_slice() == accounts)
+    match machine.lookup_accounts(&account_ids(lookup)) {
+        Ok(found) => {
+            let same = found.as_slice() == accounts;
+            drop(found);
+            Ok(same)
+        }
+        Err(AllocError) => Err(Fault::NoMemory),
+    }
 }
 
 /// Says that the machine finds these transfers by the lookup of a number.
 fn are_right_transfers(
-    alloc: Global,
     machine: &Machine<Global>,
     lookup: u64,
     transfers: &[Transfer],
 ) -> Result<bool, Fault> {
-    let ids = transfer_ids(alloc, lookup)?;
-    Ok(machine.lookup_transfers(ids.as_slice())?.as_slice() == transfers)
+    match machine.lookup_transfers(&transfer_ids(lookup)) {
+        Ok(found) => {
+            let same = found.as_slice() == transfers;
+            drop(found);
+            Ok(same)
+        }
+        Err(AllocError) => Err(Fault::NoMemory),
+    }
 }
 
 /// Says that the machine gives this answer.
@@ -145,10 +178,10 @@ fn is_right(alloc: Global, machine: &Machine<Global>, answer: &Answer) -> Result
         Answer::Reply(asked, reply) => is_right_reply(alloc, machine, *asked, reply),
         Answer::Status(asked, status) => is_right_status(alloc, machine, *asked, *status),
         Answer::Accounts(lookup, accounts) => {
-            are_right_accounts(alloc, machine, *lookup, accounts.as_slice())
+            are_right_accounts(machine, *lookup, accounts.as_slice())
         }
         Answer::Transfers(lookup, transfers) => {
-            are_right_transfers(alloc, machine, *lookup, transfers.as_slice())
+            are_right_transfers(machine, *lookup, transfers.as_slice())
         }
     }
 }
@@ -240,14 +273,31 @@ fn check_by(
     machine: &mut Machine<Global>,
     history: &[Entry],
     logs: &[Log],
+    reached: &mut [usize],
 ) -> Result<Tally, Fault> {
     let mut tally = Tally::new();
-    let mut reached = Vec::from_elem(alloc, 0usize, logs.len())?;
-    check_all(alloc, machine, logs, &mut reached, &mut tally)?;
-    check_entries(alloc, machine, history, logs, &mut reached, &mut tally)?;
+    check_all(alloc, machine, logs, reached, &mut tally)?;
+    check_entries(alloc, machine, history, logs, reached, &mut tally)?;
     tally.count_wrong((history.len() as u64).abs_diff(machine.commit()));
-    tally.count_wrong(count_unreached(logs, &reached));
+    tally.count_wrong(count_unreached(logs, reached));
     Ok(tally)
+}
+
+/// Checks the answers of all logs by a machine of the empty history.
+fn check_logs(
+    alloc: Global,
+    machine: &mut Machine<Global>,
+    history: &[Entry],
+    logs: &[Log],
+) -> Result<Tally, Fault> {
+    match Vec::from_elem(alloc, 0usize, logs.len()) {
+        Ok(mut reached) => {
+            let tally = check_by(alloc, machine, history, logs, reached.as_mut_slice());
+            drop(reached);
+            tally
+        }
+        Err(AllocError) => Err(Fault::NoMemory),
+    }
 }
 
 /// Replays the history, and checks each answer.
@@ -257,8 +307,12 @@ pub fn check_answers(
     history: &[Entry],
     logs: &[Log],
 ) -> Result<Tally, Fault> {
-    let mut machine = rules.machine(alloc)?;
-    let tally = check_by(alloc, &mut machine, history, logs);
-    drop(machine);
-    tally
+    match rules.machine(alloc) {
+        Ok(mut machine) => {
+            let tally = check_logs(alloc, &mut machine, history, logs);
+            drop(machine);
+            tally
+        }
+        Err(AllocError) => Err(Fault::NoMemory),
+    }
 }

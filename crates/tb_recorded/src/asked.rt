@@ -2,7 +2,7 @@
 ghost use Rattle.std.specs.Prelude.{◌<◌};
 
 use crate::chances::Chances;
-use crate::faults::Fault;
+use crate::faults::{Fault, add};
 use std::alloc::{AllocError, Global};
 use tb_records::{Account, Body, Items, Request, Transfer};
 
@@ -80,47 +80,90 @@ fn transfer(chances: &mut Chances) -> Transfer {
     }
 }
 
-/// So many accounts.
-fn accounts(alloc: Global, chances: &mut Chances, count: u64) -> Result<Vec<Account>, AllocError> {
+/// A body that creates so many accounts.
+fn new_accounts(alloc: Global, chances: &mut Chances, count: u64) -> Result<Body, Fault> {
     let mut accounts = Vec::new(alloc);
+    let mut added = Ok(());
     for _ in 0..count {
-        accounts.push(account(chances))?;
+        added = added.and(add(&mut accounts, account(chances)));
     }
-    Ok(accounts)
+    match added {
+        Ok(()) => Ok(Body::CreateAccounts(Items::new(accounts))),
+        Err(fault) => {
+            drop(accounts);
+            Err(fault)
+        }
+    }
 }
 
-/// So many transfers.
-fn transfers(
-    alloc: Global,
-    chances: &mut Chances,
-    count: u64,
-) -> Result<Vec<Transfer>, AllocError> {
+/// A body that creates so many transfers.
+fn new_transfers(alloc: Global, chances: &mut Chances, count: u64) -> Result<Body, Fault> {
     let mut transfers = Vec::new(alloc);
+    let mut added = Ok(());
     for _ in 0..count {
-        transfers.push(transfer(chances))?;
+        added = added.and(add(&mut transfers, transfer(chances)));
     }
-    Ok(transfers)
+    match added {
+        Ok(()) => Ok(Body::CreateTransfers(Items::new(transfers))),
+        Err(fault) => {
+            drop(transfers);
+            Err(fault)
+        }
+    }
 }
 
 /// Five ids below a bound, and 0 among them now and then.
-fn ids(alloc: Global, chances: &mut Chances, bound: u64) -> Result<Vec<u128>, AllocError>
+fn ids(chances: &mut Chances, bound: u64) -> [u128; 5]
     requires some { 0 < bound }
 {
-    let mut ids = Vec::new(alloc);
-    for _ in 0..5 {
-        ids.push(u128::from(chances.below(bound)))?;
-    }
-    Ok(ids)
+    let first = u128::from(chances.below(bound));
+    let second = u128::from(chances.below(bound));
+    let third = u128::from(chances.below(bound));
+    let fourth = u128::from(chances.below(bound));
+    let fifth = u128::from(chances.below(bound));
+    [first, second, third, fourth, fifth]
 }
 
 /// The ids of accounts that a lookup asks for.
-pub fn account_ids(alloc: Global, lookup: u64) -> Result<Vec<u128>, AllocError> {
-    ids(alloc, &mut Chances::new(lookup), ACCOUNTS)
+pub fn account_ids(lookup: u64) -> [u128; 5] {
+    ids(&mut Chances::new(lookup), ACCOUNTS)
 }
 
 /// The ids of transfers that a lookup asks for.
-pub fn transfer_ids(alloc: Global, lookup: u64) -> Result<Vec<u128>, AllocError> {
-    ids(alloc, &mut Chances::new(lookup), TRANSFERS)
+pub fn transfer_ids(lookup: u64) -> [u128; 5] {
+    ids(&mut Chances::new(lookup), TRANSFERS)
+}
+
+/// A body's ids.
+fn items(alloc: Global, ids: &[u128]) -> Result<Items<u128>, Fault> {
+    match Vec::from_slice(alloc, ids) {
+        Ok(ids) => Ok(Items::new(ids)),
+        Err(AllocError) => Err(Fault::NoMemory),
+    }
+}
+
+/// A body that looks accounts up.
+fn lookup_of_accounts(alloc: Global, chances: &mut Chances) -> Result<Body, Fault> {
+    match items(alloc, &ids(chances, ACCOUNTS)) {
+        Ok(ids) => Ok(Body::LookupAccounts(ids)),
+        Err(fault) => Err(fault),
+    }
+}
+
+/// A body that looks transfers up.
+fn lookup_of_transfers(alloc: Global, chances: &mut Chances) -> Result<Body, Fault> {
+    match items(alloc, &ids(chances, TRANSFERS)) {
+        Ok(ids) => Ok(Body::LookupTransfers(ids)),
+        Err(fault) => Err(fault),
+    }
+}
+
+/// A request of these numbers.
+fn made(client: u64, session: u64, number: u32, body: Body) -> Result<Request, Fault> {
+    match Request::new(u128::from(client), session, number, body) {
+        Ok(request) => Ok(request),
+        Err(_) => Err(Fault::Frame),
+    }
 }
 
 impl Asked {
@@ -135,24 +178,26 @@ impl Asked {
     }
 
     /// The body that belongs to client, number and variant.
-    fn body(self, alloc: Global) -> Result<Body, AllocError> {
+    fn body(self, alloc: Global) -> Result<Body, Fault> {
         let own = self.client.wrapping_mul(1 << 40) ^ u64::from(self.number);
         let mut chances = Chances::new(own ^ self.variant.wrapping_mul(1 << 60));
         let count = 1 + chances.below(4);
-        Ok(match chances.below(8) {
-            0 => Body::CreateAccounts(Items::new(accounts(alloc, &mut chances, count)?)),
-            1 => Body::LookupAccounts(Items::new(ids(alloc, &mut chances, ACCOUNTS)?)),
-            2 => Body::LookupTransfers(Items::new(ids(alloc, &mut chances, TRANSFERS)?)),
-            _ => Body::CreateTransfers(Items::new(transfers(alloc, &mut chances, count)?)),
-        })
+        match chances.below(8) {
+            0 => new_accounts(alloc, &mut chances, count),
+            1 => lookup_of_accounts(alloc, &mut chances),
+            2 => lookup_of_transfers(alloc, &mut chances),
+            _ => new_transfers(alloc, &mut chances, count),
+        }
     }
 
     /// The request.
     pub fn request(self, alloc: Global) -> Result<Request, Fault> {
-        let client = u128::from(self.client);
         if self.number == 0 {
-            return Ok(Request::new(client, 0, 0, Body::Register)?);
+            return made(self.client, 0, 0, Body::Register);
         }
-        Ok(Request::new(client, self.session, self.number, self.body(alloc)?)?)
+        match self.body(alloc) {
+            Ok(body) => made(self.client, self.session, self.number, body),
+            Err(fault) => Err(fault),
+        }
     }
 }

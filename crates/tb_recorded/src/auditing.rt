@@ -3,13 +3,14 @@ ghost use Rattle.std.specs.Prelude.{◌≡◌, Some, All};
 ghost use Rattle.tb_service.specs.Finished.{service_at};
 
 use crate::answers::{Tally, check_answers};
-use crate::clients::{Left, Serving};
-use crate::faults::Fault;
+use crate::clients::Left;
+use crate::doors::Serving;
+use crate::faults::{Fault, add};
 use crate::keys::count_twice;
 use crate::places::{Line, rebuild};
 use crate::records::Log;
 use crate::rules::Rules;
-use std::alloc::{AllocError, Global};
+use std::alloc::Global;
 use tb_machine::Entry;
 use tb_published::Naming;
 use tb_service::{Ended, Finished};
@@ -39,14 +40,14 @@ fn take_in<J: Naming, S: Serving>(
         Ok(places) => line.add(places.as_slice(), log.offered.as_slice()),
         Err(closed) => {
             drop(closed);
-            Err(AllocError)
+            Err(Fault::NoMemory)
         }
     };
     match placed {
-        Ok(()) => Ok(logs.push(log)?),
-        Err(AllocError) => {
+        Ok(()) => add(logs, log),
+        Err(fault) => {
             drop(log);
-            Err(Fault::NoMemory)
+            Err(fault)
         }
     }
 }
@@ -60,10 +61,11 @@ fn gather<J: Naming, S: Serving>(
 ) -> Result<(), Fault>
     requires { S.service ≡ Some (service_at finished.old) }
 {
+    let mut taken = Ok(());
     for one in left {
-        take_in(finished, one, line, logs)?;
+        taken = taken.and(take_in(finished, one, line, logs));
     }
-    Ok(())
+    taken
 }
 
 /// Checks that what was offered, by place, makes this history; that no key stands twice in it; and each answer, against a

@@ -1,10 +1,9 @@
 //! Why a recorded run does not come to its audit's end.
-use std::alloc::{AllocError, AllocFailed};
+use std::alloc::AllocError;
 use tb_published::{OpenFault, SeatFault};
-use tb_records::FrameFault;
 
 /// Why a recorded run does not come to its audit's end.
-#[derive(Clone, Copy, Debug, PartialEq, Eq, thiserror::Error)]
+#[derive(Clone, Copy, Debug, thiserror::Error)]
 pub enum Fault {
     #[error("no memory")]
     NoMemory,
@@ -26,18 +25,6 @@ impl From<AllocError> for Fault {
     }
 }
 
-impl<T: Drop> From<AllocFailed<T>> for Fault {
-    fn from(_: AllocFailed<T>) -> Fault {
-        Fault::NoMemory
-    }
-}
-
-impl From<FrameFault> for Fault {
-    fn from(_: FrameFault) -> Fault {
-        Fault::Frame
-    }
-}
-
 impl From<OpenFault> for Fault {
     fn from(fault: OpenFault) -> Fault {
         match fault {
@@ -52,6 +39,17 @@ impl From<SeatFault> for Fault {
         match fault {
             SeatFault::NoMemory => Fault::NoMemory,
             SeatFault::NoCopy => Fault::NoCopy,
+        }
+    }
+}
+
+/// Appends an item.
+pub fn add<T: Drop>(all: &mut Vec<T>, item: T) -> Result<(), Fault> {
+    match all.push(item) {
+        Ok(()) => Ok(()),
+        Err(back) => {
+            drop(back);
+            Err(Fault::NoMemory)
         }
     }
 }

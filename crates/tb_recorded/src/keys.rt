@@ -1,5 +1,6 @@
 //! Keys of entries: client, session and number.
-use std::alloc::{AllocError, Global};
+use crate::faults::{Fault, add};
+use std::alloc::Global;
 use tb_machine::Entry;
 
 /// A client, a session and a number.
@@ -22,12 +23,22 @@ fn count_same(keys: &[Key]) -> u64 {
     pairs.filter(|(one, next)| one == next).count() as u64
 }
 
-/// How many entries have the key of another.
-pub fn count_twice(alloc: Global, history: &[Entry]) -> Result<u64, AllocError> {
-    let mut keys = Vec::with_capacity(alloc, history.len())?;
+/// Appends the keys of entries, and sorts all.
+fn put_sorted(keys: &mut Vec<Key>, history: &[Entry]) -> Result<(), Fault> {
     for entry in history {
-        keys.push(key_of(entry))?;
+        add(keys, key_of(entry))?;
     }
-    keys.sort()?;
-    Ok(count_same(keys.as_slice()))
+    Ok(keys.sort()?)
+}
+
+/// How many entries have the key of another.
+pub fn count_twice(alloc: Global, history: &[Entry]) -> Result<u64, Fault> {
+    let mut keys = Vec::new(alloc);
+    let sorted = put_sorted(&mut keys, history);
+    let twice = count_same(keys.as_slice());
+    drop(keys);
+    match sorted {
+        Ok(()) => Ok(twice),
+        Err(fault) => Err(fault),
+    }
 }

@@ -27,10 +27,12 @@ mod asked;
 mod auditing;
 mod chances;
 mod clients;
+mod doors;
 mod faults;
 mod keys;
 mod notes;
 mod places;
+mod players;
 mod records;
 mod rules;
 mod running;
@@ -39,13 +41,18 @@ use answers::Tally;
 use anyhow::{Error, anyhow};
 use rules::Rules;
 use running::{Scale, run_in};
+use std::alloc::Global;
 use std::env;
 use std::marker::Brand;
+use std::sync::Wait;
+use std::thread::Threads;
 use tb_records::{ClientsMax, Profile};
 
 /// The number that a word spells.
 fn number(word: Option<&String>) -> Result<u32, Error> {
-    let word = word.ok_or(anyhow!("a number is missing"))?;
+    let Some(word) = word else {
+        return Err(anyhow!("a number is missing"));
+    };
     Ok(word.as_str().parse::<u32>()?)
 }
 
@@ -71,7 +78,9 @@ fn rules_of(scale: Scale) -> Result<Rules, Error> {
     } else {
         Profile::Two
     };
-    let clients_max = ClientsMax::new(scale.clients).ok_or(anyhow!("clients"))?;
+    let Some(clients_max) = ClientsMax::new(scale.clients) else {
+        return Err(anyhow!("clients"));
+    };
     Ok(Rules {
         profile,
         clients_max,
@@ -84,14 +93,7 @@ fn tell_one<R: Print>(rt: &R, name: &str, number: u64) -> Result<(), Error> {
     Ok(())
 }
 
-/// Tells three names, each with its number, on standard error.
-fn tell_three<R: Eprint>(rt: &R, rows: [(&str, u64); 3]) -> Result<(), Error> {
-    let [(a, one), (b, two), (c, three)] = rows;
-    eprintln!(rt; "{a} {one}, {b} {two}, {c} {three}")?;
-    Ok(())
-}
-
-/// Tells the answers by status.
+/// Tells the answers by status on standard error, three in a line.
 fn tell_statuses<R: Eprint>(rt: &R, tally: Tally) -> Result<(), Error> {
     let [
         reply,
@@ -103,24 +105,21 @@ fn tell_statuses<R: Eprint>(rt: &R, tally: Tally) -> Result<(), Error> {
         newer,
         not_yet,
     ] = tally.statuses;
-    let known = [
-        ("Reply", reply),
-        ("NotYet", not_yet),
-        ("lookups", tally.lookups),
+    let rows = [
+        ("Reply", reply, ", "),
+        ("NotYet", not_yet, ", "),
+        ("lookups", tally.lookups, "\n"),
+        ("NoSession", no_session, ", "),
+        ("SessionTooLow", too_low, ", "),
+        ("NewerSession", newer_session, "\n"),
+        ("Older", older, ", "),
+        ("Collision", collision, ", "),
+        ("NewerRequest", newer, "\n"),
     ];
-    let sessions = [
-        ("NoSession", no_session),
-        ("SessionTooLow", too_low),
-        ("NewerSession", newer_session),
-    ];
-    let numbers = [
-        ("Older", older),
-        ("Collision", collision),
-        ("NewerRequest", newer),
-    ];
-    tell_three(rt, known)?;
-    tell_three(rt, sessions)?;
-    tell_three(rt, numbers)
+    for (name, number, end) in &rows {
+        eprint!(rt; "{name} {number}{end}")?;
+    }
+    Ok(())
 }
 
 /// Tells what the audit counted.
@@ -136,13 +135,28 @@ fn tell<R: Print + Eprint>(rt: &R, scale: Scale, tally: Tally) -> Result<(), Err
     tell_statuses(rt, tally)
 }
 
-fn main(rt: HostRuntime) -> Result<(), Error> {
-    let mut words = Vec::new(rt.alloc());
-    for word in env::args(&rt)?.skip(1) {
-        words.push(word)?;
-    }
-    let scale = scale_of(words.as_slice())?;
+/// The scale that the program's words tell.
+fn read_scale(rt: &HostRuntime) -> Result<Scale, Error> {
+    let words = env::args(rt)?.skip(1).collect::<Vec<String>>(rt.alloc())?;
+    let scale = scale_of(words.as_slice());
+    drop(words);
+    scale
+}
+
+/// Plays a run of a scale, and tells what its audit counted.
+fn play<R: Threads + Wait + Print + Eprint + Sync>(
+    rt: &R,
+    alloc: Global,
+    scale: Scale,
+) -> Result<(), Error> {
     let rules = rules_of(scale)?;
-    let tally = run_in::<Brand, _>(&rt, rt.alloc(), rules.opening(), rules, scale)?;
-    tell(&rt, scale, tally)
+    let tally = run_in::<Brand, R>(rt, alloc, rules.opening(), rules, scale)?;
+    tell(rt, scale, tally)
+}
+
+fn main(rt: HostRuntime) -> Result<(), Error> {
+    match read_scale(&rt) {
+        Ok(scale) => play(&rt, rt.alloc(), scale),
+        Err(fault) => Err(fault),
+    }
 }

@@ -1,9 +1,10 @@
 //! What was offered, by place.
 use crate::asked::Asked;
-use crate::faults::Fault;
+use crate::faults::{Fault, add};
 use crate::rules::Rules;
 use std::alloc::{AllocError, Global};
 use tb_machine::{Entry, Machine};
+use tb_records::Request;
 use tb_sessions::Class;
 
 /// The requests of all ports by their places, and what is wrong with these.
@@ -33,16 +34,17 @@ impl Line {
     }
 
     /// Makes room for a place.
-    fn reach(&mut self, place: usize) -> Result<(), AllocError> {
+    fn reach(&mut self, place: usize) -> Result<(), Fault> {
         let missing = place.saturating_sub(self.requests.len());
+        let requests = &mut self.requests;
         for _ in 0..missing {
-            self.requests.push(None)?;
+            add(requests, None)?;
         }
         Ok(())
     }
 
     /// Puts a request at its place, which is to be free.
-    fn put(&mut self, place: u64, asked: Asked) -> Result<(), AllocError> {
+    fn put(&mut self, place: u64, asked: Asked) -> Result<(), Fault> {
         self.reach(place as usize)?;
         match self.requests.get_mut((place as usize).wrapping_sub(1)) {
             Some(free) if free.is_none() => *free = Some(asked),
@@ -52,7 +54,7 @@ impl Line {
     }
 
     /// One port's requests, in order, at its places, which are to be as many and to rise.
-    pub fn add(&mut self, places: &[u64], offered: &[Asked]) -> Result<(), AllocError> {
+    pub fn add(&mut self, places: &[u64], offered: &[Asked]) -> Result<(), Fault> {
         if !do_rise(places) || places.len() != offered.len() {
             self.misplaced = self.misplaced.saturating_add(1);
         }
@@ -97,15 +99,13 @@ fn enter(machine: &mut Machine<Global>, entry: Entry, history: &[Entry]) -> Resu
     }
 }
 
-/// The request at a place has its turn, as the rules say: where it is new it is to be the next entry of the history.
-fn take_turn(
-    alloc: Global,
+/// A request has its turn.
+fn judge(
     machine: &mut Machine<Global>,
     place: u64,
-    asked: Asked,
+    request: Request,
     history: &[Entry],
 ) -> Result<u64, Fault> {
-    let request = asked.request(alloc)?;
     if machine.class(&request) != Class::New {
         drop(request);
         return Ok(0);
@@ -122,6 +122,20 @@ fn take_turn(
         request,
     };
     enter(machine, entry, history)
+}
+
+/// The request at a place has its turn, as the rules say: where it is new it is to be the next entry of the history.
+fn take_turn(
+    alloc: Global,
+    machine: &mut Machine<Global>,
+    place: u64,
+    asked: Asked,
+    history: &[Entry],
+) -> Result<u64, Fault> {
+    match asked.request(alloc) {
+        Ok(request) => judge(machine, place, request, history),
+        Err(fault) => Err(fault),
+    }
 }
 
 /// Serves the line by a machine of the empty history, and counts where the history has something else.
@@ -144,8 +158,12 @@ fn serve(
 
 /// Serves the line in one thread, and counts where the history has something else.
 pub fn rebuild(alloc: Global, rules: Rules, line: &Line, history: &[Entry]) -> Result<u64, Fault> {
-    let mut machine = rules.machine(alloc)?;
-    let wrong = serve(alloc, &mut machine, line, history);
-    drop(machine);
-    wrong
+    match rules.machine(alloc) {
+        Ok(mut machine) => {
+            let wrong = serve(alloc, &mut machine, line, history);
+            drop(machine);
+            wrong
+        }
+        Err(AllocError) => Err(Fault::NoMemory),
+    }
 }

@@ -18,7 +18,7 @@ impl Rules {
     }
 
     /// An opening.
-    pub fn opening(self) -> Opening {
+    pub fn opening(&self) -> Opening {
         Opening::new(self.profile, self.clients_max)
     }
 }

@@ -7,8 +7,9 @@ ghost use Rattle.tb_service.specs.Finished.{service_at};
 
 use crate::answers::Tally;
 use crate::auditing::audit;
-use crate::clients::{Client, Left, Serving};
-use crate::faults::Fault;
+use crate::clients::{Client, Left};
+use crate::doors::Serving;
+use crate::faults::{Fault, add};
 use crate::notes::Note;
 use crate::rules::Rules;
 use std::alloc::{AllocError, Global};
@@ -61,12 +62,11 @@ fn add_client<J: Naming, S: Serving>(
     port: Port,
     seat: Seat<J>,
     seed: u64,
-) -> Result<(), AllocError>
+) -> Result<(), Fault>
     requires { S.service ≡ Some (service port) }
 {
     let place = clients.len();
-    clients.push(Client::new(alloc, place, seed, port, seat))?;
-    Ok(())
+    add(clients, Client::new(alloc, place, seed, port, seat))
 }
 
 /// Adds a client for each seat that there is a port for.
@@ -76,7 +76,7 @@ fn add_clients<J: Naming, S: Serving>(
     mut ports: Vec<Port>,
     seats: Vec<Seat<J>>,
     seed: u64,
-) -> Result<(), AllocError>
+) -> Result<(), Fault>
     requires { All (λ port. S.service ≡ Some (service port)) ports.items }
 {
     let mut added = Ok(());
@@ -99,26 +99,25 @@ fn make_clients<J: Naming, S: Serving>(
     ports: Vec<Port>,
     seats: Vec<Seat<J>>,
     seed: u64,
-) -> Result<Vec<Client<J, S>>, AllocError>
+) -> Result<Vec<Client<J, S>>, Fault>
     requires { All (λ port. S.service ≡ Some (service port)) ports.items }
 {
     let mut clients = Vec::new(alloc);
     match add_clients(alloc, &mut clients, ports, seats, seed) {
         Ok(()) => Ok(clients),
-        Err(AllocError) => {
+        Err(fault) => {
             drop(clients);
-            Err(AllocError)
+            Err(fault)
         }
     }
 }
 
-/// A note for each client.
-fn make_notes(alloc: Global, clients: u32) -> Result<Vec<Note>, AllocError> {
-    let mut notes = Vec::new(alloc);
+/// Appends a note for each client.
+fn put_notes(notes: &mut Vec<Note>, clients: u32) -> Result<(), Fault> {
     for _ in 0..clients {
-        notes.push(Note::new())?;
+        add(notes, Note::new())?;
     }
-    Ok(notes)
+    Ok(())
 }
 
 /// So often the clients look whether the server's thread has begun.
@@ -157,9 +156,8 @@ fn close_one<J: Naming, S: Serving, R: Wait>(
     rt: &R,
     all: &mut Vec<Left<S>>,
     client: Client<J, S>,
-) -> Result<(), AllocError> {
-    all.push(client.close(rt))?;
-    Ok(())
+) -> Result<(), Fault> {
+    add(all, client.close(rt))
 }
 
 /// Closes each client's port, and gives out what the clients wrote down.
@@ -167,7 +165,7 @@ fn close_all<J: Naming, S: Serving, R: Wait>(
     rt: &R,
     alloc: Global,
     clients: Vec<Client<J, S>>,
-) -> Result<Vec<Left<S>>, AllocError> {
+) -> Result<Vec<Left<S>>, Fault> {
     let mut all = Vec::new(alloc);
     let mut closed = Ok(());
     for client in clients {
@@ -175,9 +173,9 @@ fn close_all<J: Naming, S: Serving, R: Wait>(
     }
     match closed {
         Ok(()) => Ok(all),
-        Err(AllocError) => {
+        Err(fault) => {
             drop(all);
-            Err(AllocError)
+            Err(fault)
         }
     }
 }
@@ -195,12 +193,12 @@ fn take_part<J: Naming + Send + Sync, S: Serving + Send + Sync, R: Threads + Wai
     if served {
         play_all(rt, &mut clients, notes, steps);
     }
-    let left = close_all(rt, alloc, clients)?;
+    let left = close_all(rt, alloc, clients);
     if !served {
         drop(left);
         return Err(Fault::NoThread);
     }
-    Ok(left)
+    left
 }
 
 /// A run over a server and its ports, with a note for each client, and its audit.
@@ -219,9 +217,9 @@ fn run_over<J: Naming + Send + Sync, S: Serving + Send + Sync, R: Threads + Wait
 {
     let clients = match make_clients::<J, S>(alloc, ports, seats, scale.seed) {
         Ok(clients) => clients,
-        Err(AllocError) => {
+        Err(fault) => {
             drop(server);
-            return Err(Fault::NoMemory);
+            return Err(fault);
         }
     };
     let begun = &AtomicBool::new(false);
@@ -258,7 +256,10 @@ fn run_noted<J: Naming + Send + Sync, R: Threads + Wait + Sync>(
     else {
         return Err(Fault::NoCopy);
     };
-    let (publisher, seats) = open::<J, R>(alloc, rt, opening, seats)?;
+    let (publisher, seats) = match open::<J, R>(alloc, rt, opening, seats) {
+        Ok(made) => made,
+        Err(fault) => return Err(Fault::from(fault)),
+    };
     match service(alloc, publisher, rt, ports, Ticks(0), Open) {
         Ok((server, ports)) => {
             run_over::<J, Brand, R>(rt, alloc, server, ports, seats, notes, rules, scale)
@@ -280,8 +281,11 @@ pub fn run_in<J: Naming + Send + Sync, R: Threads + Wait + Sync>(
 ) -> Result<Tally, Fault>
     requires { opening ≡ J.opening }
 {
-    let notes = make_notes(alloc, scale.clients)?;
-    let tally = run_noted::<J, R>(rt, alloc, opening, &notes, rules, scale);
+    let mut notes = Vec::new(alloc);
+    let tally = match put_notes(&mut notes, scale.clients) {
+        Ok(()) => run_noted::<J, R>(rt, alloc, opening, notes.as_slice(), rules, scale),
+        Err(fault) => Err(fault),
+    };
     drop(notes);
     tally
 }

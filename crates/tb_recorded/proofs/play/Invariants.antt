@@ -1,4 +1,4 @@
-use Rattle.tb_recorded.proofs.main.Given as goal
+use Rattle.tb_recorded.proofs.play.Given as goal
 
 -- the opening that was just made
 abbrev pub ghosts-run_in : goal.ghosts-run_in

@@ -1,0 +1,87 @@
+//! Ports of one service, which the type names.
+ghost use Rattle.std.specs.Prelude.{◌≡◌, Some};
+ghost use Rattle.tb_service.specs.Ports.{service, service_by};
+
+use crate::faults::Fault;
+use std::marker::PhantomData;
+use std::sync::Wait;
+use tb_published::{Naming, Seat};
+use tb_records::{Reply, Request};
+use tb_service::{Closed, Port};
+
+/// An order has at most this many requests.
+pub const REQUESTS_MAX: u64 = 8;
+
+/// The service of ports, as a parameter of the types that hold one: the audit takes the ports of its own service alone.
+pub trait Serving {
+    ghost use Rattle.std.specs.Prelude.{Option};
+    ghost use Rattle.tb_service.specs.Names.{Name};
+
+    ghost service: { Option Name };
+}
+
+/// A port of the service.
+#[derive(Drop)]
+pub struct Door<S: Serving> {
+    port: Port,
+    of: PhantomData<S>,
+    ghost served: { S.service ≡ Some (service port) },
+}
+
+impl<S: Serving> Door<S> {
+    pub fn new(port: Port) -> Door<S>
+        requires { S.service ≡ Some (service port) }
+    {
+        Door {
+            port,
+            of: PhantomData,
+        }
+    }
+
+    /// Closes the port.
+    pub fn close<R: Wait>(self, rt: &R) -> Closed
+        ensures { S.service ≡ Some (service_by result) }
+    {
+        let Door { port, of: _ } = self;
+        port.close(rt)
+    }
+
+    /// A call without turns: it hands the request over exactly where it answers NotYet.
+    pub fn call<J: Naming, R: Wait>(
+        &mut self,
+        rt: &R,
+        seat: &mut Seat<J>,
+        request: &Request,
+    ) -> Result<Reply, Fault> {
+        match self.port.call(rt, seat, request, 0) {
+            Ok(reply) => Ok(reply),
+            Err(fault) => Err(Fault::from(fault)),
+        }
+    }
+
+    /// Hands one request over.
+    pub fn offer<R: Wait>(&mut self, rt: &R, request: Request) -> Result<(), Fault> {
+        match self.port.offer(rt, request) {
+            Ok(()) => Ok(()),
+            Err(back) => {
+                drop(back);
+                Err(Fault::Gone)
+            }
+        }
+    }
+
+    /// Hands an order over, which has 1 to 8 requests.
+    pub fn offer_many<R: Wait>(&mut self, rt: &R, requests: Vec<Request>) -> Result<(), Fault> {
+        if requests.is_empty() || requests.len() > REQUESTS_MAX as usize {
+            drop(requests);
+            return Err(Fault::Gone);
+        }
+        match self.port.offer_many(rt, requests) {
+            Ok(()) => Ok(()),
+            Err(back) => {
+                drop(back);
+                Err(Fault::Gone)
+            }
+        }
+    }
+}
