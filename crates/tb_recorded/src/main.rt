@@ -13,6 +13,8 @@
 //! - `asked`: requests in so few numbers that the auditor makes them again.
 //! - `notes`: what each client lets its neighbours know.
 //! - `records`: what a client's thread writes down.
+//! - `doors`: ports of one service, which the type names.
+//! - `players`: what a client asks next, by what it knows and by chance.
 //! - `clients`: the hostile clients, a thread each.
 //! - `places`: what was offered, by place, makes the history again.
 //! - `answers`: each answer against a machine of one thread.
