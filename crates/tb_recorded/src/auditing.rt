@@ -1,6 +1,5 @@
 //! The audit of a run, by an auditor who knows the history, the places of each port, and what the clients wrote down.
 ghost use Rattle.std.specs.Prelude.{◌≡◌, Some, All};
-ghost use Rattle.tb_service.specs.Finished.{service_at};
 
 use crate::answers::{Tally, check_answers};
 use crate::clients::Left;
@@ -22,8 +21,8 @@ fn take_in<J: Naming, S: Serving>(
     line: &mut Line,
     logs: &mut Vec<Log>,
 ) -> Result<(), Fault>
-    requires { S.service ≡ Some (service_at finished.old) }
-    ensures { service_at finished.new ≡ service_at finished.old }
+    requires { S.service ≡ Some finished.old.service }
+    ensures { finished.new.service ≡ finished.old.service }
 {
     let Left {
         closed,
@@ -59,7 +58,7 @@ fn gather<J: Naming, S: Serving>(
     line: &mut Line,
     logs: &mut Vec<Log>,
 ) -> Result<(), Fault>
-    requires { S.service ≡ Some (service_at finished.old) }
+    requires { S.service ≡ Some finished.old.service }
 {
     let mut taken = Ok(());
     for one in left {
@@ -95,7 +94,7 @@ pub fn audit<J: Naming, S: Serving>(
     finished: &mut Finished<J>,
     left: Vec<Left<S>>,
 ) -> Result<Tally, Fault>
-    requires { S.service ≡ Some (service_at finished.old) }
+    requires { S.service ≡ Some finished.old.service }
 {
     if finished.ended != Ended::Closed || !finished.refused.is_empty() {
         drop(left);

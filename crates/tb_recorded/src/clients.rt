@@ -1,6 +1,5 @@
 //! Hostile clients: each in a thread of its own, with a port and a seat.
 ghost use Rattle.std.specs.Prelude.{◌≡◌, Some};
-ghost use Rattle.tb_service.specs.Ports.{service, service_by};
 
 use crate::asked::{Asked, account_ids, transfer_ids};
 use crate::doors::{Door, Serving};
@@ -34,7 +33,7 @@ pub struct Left<S: Serving> {
     pub log: Log,
     pub outcome: Result<(), Fault>,
     of: PhantomData<S>,
-    pub ghost served: { S.service ≡ Some (service_by closed) },
+    pub ghost served: { S.service ≡ Some closed.service },
 }
 
 /// The reply, where it is not NotYet.
@@ -172,7 +171,7 @@ fn hand_several_over<S: Serving, R: Wait>(
 impl<J: Naming, S: Serving> Client<J, S> {
     /// The client at a place among the others, from 0, whose number is one more.
     pub fn new(alloc: Global, place: usize, seed: u64, port: Port, seat: Seat<J>) -> Client<J, S>
-        requires { S.service ≡ Some (service port) }
+        requires { S.service ≡ Some port.service }
     {
         Client {
             door: Door::new(port),

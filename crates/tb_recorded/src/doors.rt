@@ -1,6 +1,5 @@
 //! Ports of one service, which the type names.
 ghost use Rattle.std.specs.Prelude.{◌≡◌, Some};
-ghost use Rattle.tb_service.specs.Ports.{service, service_by};
 
 use crate::faults::Fault;
 use std::marker::PhantomData;
@@ -25,12 +24,12 @@ pub trait Serving {
 pub struct Door<S: Serving> {
     port: Port,
     of: PhantomData<S>,
-    ghost served: { S.service ≡ Some (service port) },
+    ghost served: { S.service ≡ Some port.service },
 }
 
 impl<S: Serving> Door<S> {
     pub fn new(port: Port) -> Door<S>
-        requires { S.service ≡ Some (service port) }
+        requires { S.service ≡ Some port.service }
     {
         Door {
             port,
@@ -40,7 +39,7 @@ impl<S: Serving> Door<S> {
 
     /// Closes the port.
     pub fn close<R: Wait>(self, rt: &R) -> Closed
-        ensures { S.service ≡ Some (service_by result) }
+        ensures { S.service ≡ Some result.service }
     {
         let Door { port, of: _ } = self;
         port.close(rt)

@@ -1,9 +1,7 @@
 //! A run: one server thread, and a thread for each client.
 ghost use Rattle.std.specs.Prelude.{◌≡◌, All, None, Some, IfSome};
 ghost use Rattle.tb_records.specs.Transport.{risen};
-ghost use Rattle.tb_service.specs.Ports.{AreNumbered, service};
-ghost use Rattle.tb_service.specs.Servers.{service_on};
-ghost use Rattle.tb_service.specs.Finished.{service_at};
+ghost use Rattle.tb_service.specs.Ports.{AreNumbered};
 
 use crate::answers::Tally;
 use crate::auditing::audit;
@@ -48,9 +46,9 @@ impl Serving for Brand {
 
 /// The last port that is left.
 fn next_port<S: Serving>(ports: &mut Vec<Port>) -> Option<Port>
-    requires { All (λ port. S.service ≡ Some (service port)) ports.old.items }
-    ensures rest { All (λ port. S.service ≡ Some (service port)) ports.new.items }
-    ensures next { IfSome result (λ port. S.service ≡ Some (service port)) }
+    requires { All (λ port. S.service ≡ Some port.service) ports.old.items }
+    ensures rest { All (λ port. S.service ≡ Some port.service) ports.new.items }
+    ensures next { IfSome result (λ port. S.service ≡ Some port.service) }
 {
     ports.pop()
 }
@@ -63,7 +61,7 @@ fn add_client<J: Naming, S: Serving>(
     seat: Seat<J>,
     seed: u64,
 ) -> Result<(), Fault>
-    requires { S.service ≡ Some (service port) }
+    requires { S.service ≡ Some port.service }
 {
     let place = clients.len();
     add(clients, Client::new(alloc, place, seed, port, seat))
@@ -77,7 +75,7 @@ fn add_clients<J: Naming, S: Serving>(
     seats: Vec<Seat<J>>,
     seed: u64,
 ) -> Result<(), Fault>
-    requires { All (λ port. S.service ≡ Some (service port)) ports.items }
+    requires { All (λ port. S.service ≡ Some port.service) ports.items }
 {
     let mut added = Ok(());
     for seat in seats {
@@ -100,7 +98,7 @@ fn make_clients<J: Naming, S: Serving>(
     seats: Vec<Seat<J>>,
     seed: u64,
 ) -> Result<Vec<Client<J, S>>, Fault>
-    requires { All (λ port. S.service ≡ Some (service port)) ports.items }
+    requires { All (λ port. S.service ≡ Some port.service) ports.items }
 {
     let mut clients = Vec::new(alloc);
     match add_clients(alloc, &mut clients, ports, seats, seed) {
@@ -212,8 +210,8 @@ fn run_over<J: Naming + Send + Sync, S: Serving + Send + Sync, R: Threads + Wait
     rules: Rules,
     scale: Scale,
 ) -> Result<Tally, Fault>
-    requires server { S.service ≡ Some (service_on server) }
-    requires ports { AreNumbered (service_on server) 0 ports.items }
+    requires server { S.service ≡ Some server.service }
+    requires ports { AreNumbered server.service 0 ports.items }
 {
     let clients = match make_clients::<J, S>(alloc, ports, seats, scale.seed) {
         Ok(clients) => clients,
@@ -226,7 +224,7 @@ fn run_over<J: Naming + Send + Sync, S: Serving + Send + Sync, R: Threads + Wait
     let (mut finished, left) = thread::join(
         rt,
         move || -> Finished<J>
-            ensures { service_at result ≡ service_on server.entry }
+            ensures { result.service ≡ server.entry.service }
         {
             begun.store(true, Ordering::SeqCst);
             server.run(rt)

@@ -1,9 +1,7 @@
 //! A service: two ports offer a script by turns and are closed, and then the server runs.
 ghost use Rattle.std.specs.Prelude.{◌≡◌, ℕ, IfOk, IfSome};
 ghost use Rattle.tb_service.specs.Names.{Name};
-ghost use Rattle.tb_service.specs.Ports.{AreNumbered, service, service_by};
-ghost use Rattle.tb_service.specs.Servers.{service_on};
-ghost use Rattle.tb_service.specs.Finished.{service_at};
+ghost use Rattle.tb_service.specs.Ports.{AreNumbered};
 
 use crate::openings::opened;
 use crate::scripts::{Pair, copy_all, put_history};
@@ -47,7 +45,7 @@ pub fn next_port(ports: &mut Vec<Port>) -> Result<Port, Trouble>
     ensures { IfOk result
         (λ port.
         (name : Name) (n : ℕ) → AreNumbered name n ports.old.items
-        → AreNumbered name n ports.new.items × (service port ≡ name)) }
+        → AreNumbered name n ports.new.items × (port.service ≡ name)) }
 {
     if let Some(port) = ports.pop() {
         return Ok(port);
@@ -69,8 +67,8 @@ fn two_ports<'a, J: Naming, R: Wait + Eprint>(
         (λ some.
         IfSome some
         (λ made.
-        (service made.1 ≡ service_on made.0)
-        × (service made.2 ≡ service_on made.0))) }
+        (made.1.service ≡ made.0.service)
+        × (made.2.service ≡ made.0.service))) }
 {
     let (server, mut ports) = match service(alloc, publisher, rt, count, moments, Open) {
         Ok(made) => made,
@@ -102,7 +100,7 @@ fn two_ports<'a, J: Naming, R: Wait + Eprint>(
 
 /// Offers a request; false where it comes back.
 fn offer<R: Wait>(rt: &R, request: Request, port: &mut Port) -> bool
-    ensures { service port.new ≡ service port.old }
+    ensures { port.new.service ≡ port.old.service }
 {
     match port.offer(rt, request) {
         Ok(()) => true,
@@ -121,7 +119,7 @@ fn offer_in_turn<R: Wait>(
     second: &mut Port,
     turn: bool,
 ) -> bool
-    ensures { (service first.new ≡ service first.old) × (service second.new ≡ service second.old) }
+    ensures { (first.new.service ≡ first.old.service) × (second.new.service ≡ second.old.service) }
 {
     if turn {
         offer(rt, request, second)
@@ -137,7 +135,7 @@ fn offer_by_turns<R: Wait>(
     mut first: Port,
     mut second: Port,
 ) -> (bool, Closed, Closed)
-    ensures { (service_by result.1 ≡ service first) × (service_by result.2 ≡ service second) }
+    ensures { (result.1.service ≡ first.service) × (result.2.service ≡ second.service) }
 {
     let mut offered = true;
     let mut turn = false;
@@ -154,8 +152,8 @@ fn places<J: Naming, R: Eprint>(
     finished: &mut Finished<J>,
     closed: Closed,
 ) -> Option<Vec<u64>>
-    requires { service_by closed ≡ service_at finished.old }
-    ensures { service_at finished.new ≡ service_at finished.old }
+    requires { closed.service ≡ finished.old.service }
+    ensures { finished.new.service ≡ finished.old.service }
 {
     match finished.offered_by(closed) {
         Ok(places) => Some(places),
@@ -245,8 +243,8 @@ fn check_end<J: Naming, R: Wait + Eprint>(
     clients_max: ClientsMax,
     out: &mut Vec<u8>,
 ) -> Result<(), Trouble>
-    requires first { service_by first ≡ service_at finished }
-    requires second { service_by second ≡ service_at finished }
+    requires first { first.service ≡ finished.service }
+    requires second { second.service ≡ finished.service }
 {
     let first = places(rt, &mut finished, first);
     let second = places(rt, &mut finished, second);
@@ -273,8 +271,8 @@ fn offer_over<J: Naming, R: Wait + Eprint>(
     clients_max: ClientsMax,
     out: &mut Vec<u8>,
 ) -> Result<bool, Trouble>
-    requires first { service first ≡ service_on server }
-    requires second { service second ≡ service_on server }
+    requires first { first.service ≡ server.service }
+    requires second { second.service ≡ server.service }
 {
     let (offered, first, second) = offer_by_turns(rt, requests, first, second);
     let finished = server.run(rt);

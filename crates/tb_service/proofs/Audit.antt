@@ -8,10 +8,9 @@ use Rattle.tb_service.specs.declared.orders.Order.{Order}
 use Rattle.tb_service.specs.declared.rule.View.{View}
 use Rattle.tb_service.specs.declared.ends.Ended.{Ended}
 use Rattle.tb_service.specs.declared.ends.Ended.TheVariants as way
-use Rattle.tb_service.specs.declared.ports.Port.{Port}
 use Rattle.tb_service.specs.Line.{requests_in, requests_of, is_closed}
 use Rattle.tb_service.specs.Names.{Name}
-use Rattle.tb_service.specs.Ports.{offered, number_of, service, AreNumbered}
+use Rattle.tb_service.specs.Ports.{Offers, AreNumbered}
 use Rattle.tb_service.specs.Rule.{taken_in, Accounts}
 use Rattle.tb_service.specs.Places.{requests, ports, places_from}
 use Rattle.tb_service.specs.Finished.{IsOffered}
@@ -91,7 +90,7 @@ accounted v u w items number places ended is account mine here over =
     }
 
 -- one port more
-pub numbered-snoc : (name : Name) (n m : ℕ) (ports : List Port) (port : Port) → AreNumbered name n ports → n + length ports ≡ m → service port ≡ name → number_of port ≡ m → offered port ≡ []
+pub numbered-snoc : (name : Name) (n m : ℕ) (ports : List Offers) (port : Offers) → AreNumbered name n ports → n + length ports ≡ m → port.service ≡ name → port.number ≡ m → port.offered ≡ []
     → AreNumbered name n (ports ++ port ∷ [])
 numbered-snoc name n m [] port these is s number empty = (s, number ∙ omega arith, empty, tt)
 numbered-snoc name n m (x ∷ xs) port these is s number empty = (these.0, these.1, these.2, numbered-snoc name (n + 1) m xs port these.3 (omega arith) s number empty)
@@ -114,9 +113,9 @@ module _ (port at : ℕ) (ports places longer : List ℕ) (there : at < length p
       same ∙ sym (append-nil places) ∙ ap (λ (b : Bool). places ++ (if b then (at + 1) ∷ [] else [])) (sym (ne_eqb (get_or ports at 0) port other)) ∙ sym next_place
 
 -- the last port
-pub numbered-last : (name : Name) (n : ℕ) (all ports : List Port) (port : Port) → all ≡ ports ++ port ∷ [] → AreNumbered name n all → AreNumbered name n ports × (service port ≡ name)
+pub numbered-last : (name : Name) (n : ℕ) (all ports : List Offers) (port : Offers) → all ≡ ports ++ port ∷ [] → AreNumbered name n all → AreNumbered name n ports × (port.service ≡ name)
 numbered-last name n all ports port is these = split n ports (subst (AreNumbered name n) is these)
   where
-    split : (n : ℕ) (ports : List Port) → AreNumbered name n (ports ++ port ∷ []) → AreNumbered name n ports × (service port ≡ name)
+    split : (n : ℕ) (ports : List Offers) → AreNumbered name n (ports ++ port ∷ []) → AreNumbered name n ports × (port.service ≡ name)
     split n [] these = (tt, these.0)
     split n (x ∷ xs) these = let rest = split (n + 1) xs these.3 in ((these.0, these.1, these.2, rest.0), rest.1)

@@ -1,23 +1,30 @@
--- What clauses say of a run that has ended.
-use Rattle.std.specs.Prelude.{ℕ, ◌≡◌, ◌-◌, List, [], ◌++◌, map, slice_get, Some}
-use Rattle.crossbeam_channel.specs.Claims.{view}
+-- What clauses see of a run that has ended.
+use Rattle.std.specs.Prelude.{ℕ, ◌≡◌, ◌-◌, ◌<◌, true, List, [], ◌++◌, map, slice_get, Some}
 use Rattle.tb_records.specs.Messages.{Message}
+use Rattle.tb_published.specs.declared.faults.TakeFault.{TakeFault}
+use Rattle.tb_published.specs.Ties.{Ends}
 use Rattle.tb_service.specs.declared.ends.Ended.{Ended}
 use Rattle.tb_service.specs.declared.ends.Ended.TheVariants as way
-use Rattle.tb_service.specs.declared.finished.Finished.{Finished}
-use Rattle.tb_service.specs.Names.{Name, service_of}
-use Rattle.tb_service.specs.Places.{requests, ports}
+use Rattle.tb_service.specs.declared.rule.View.{View}
+use Rattle.tb_service.specs.Line.{is_closed}
+use Rattle.tb_service.specs.Names.{Name}
+use Rattle.tb_service.specs.Places.{ports}
 
--- the requests taken, by place
-abbrev pub taken : {J : Type 0} → Finished J → List Message
-taken finished = requests (view finished.pass).taken
+-- its publisher, why it ended, the requests taken, by place, and the port of each place; the places of those that were left out, and
+-- its service
+pub record Finish : Type 0 where
+  pub publisher : Ends
+  pub ended : Ended
+  pub taken : List Message
+  pub owners : List ℕ
+  pub refused : List (ℕ × TakeFault)
+  pub service : Name
 
--- the port of each place
-abbrev pub port_at : {J : Type 0} → Finished J → List ℕ
-port_at finished = ports (view finished.pass).taken
-
-abbrev pub service_at : {J : Type 0} → Finished J → Name
-service_at finished = service_of finished.pass
+-- what the server's pass knows, the port of each place, and why the run ended
+pub record IsServed (v : View) (owners : List ℕ) (ended : Ended) : Type 0 where
+  pub serves : v.serves ≡ true
+  pub placed : ports v.taken ≡ owners
+  pub over : ended ≡ way.Closed → (p : ℕ) → p < v.ports → is_closed p v.taken ≡ true
 
 -- The requests at these places, from 1, are a beginning of what a port offered, in its order; all of it, where the run ended since
 -- each port was closed.

@@ -1,35 +1,27 @@
--- What clauses say of ports.
-use Rattle.std.specs.Prelude.{ℕ, ◌≡◌, ◌+◌, List, [], ◌∷◌}
-use Rattle.crossbeam_channel.specs.Claims.{view}
+-- What clauses see of ports.
+use Rattle.std.specs.Prelude.{ℕ, ◌≡◌, ◌+◌, true, List, [], ◌∷◌, length}
+use Rattle.crossbeam_channel.specs.Claims.{Pass, view}
 use Rattle.tb_records.specs.Messages.{Message}
-use Rattle.tb_service.specs.declared.ports.Port.{Port}
-use Rattle.tb_service.specs.declared.ports.Closed.{Closed}
+use Rattle.tb_service.specs.declared.orders.Order.{Order}
+use Rattle.tb_service.specs.declared.rule.View.{View}
 use Rattle.tb_service.specs.Names.{Name, service_of}
 
--- the requests that a port handed over, in order
-abbrev pub offered : Port → List Message
-offered port = (view port.pass).offered
+-- a port, open or closed: its service, its number, from 0, and the requests that it handed over, in order
+pub record Offers : Type 0 where
+  pub service : Name
+  pub number : ℕ
+  pub offered : List Message
 
--- its number, from 0
-abbrev pub number_of : Port → ℕ
-number_of port = port.number
+abbrev pub offers_of : Pass Order View → Offers
+offers_of pass = record { service = service_of pass; number = (view pass).port; offered = (view pass).offered }
 
--- its service
-abbrev pub service : Port → Name
-service port = service_of port.pass
-
--- the same of a closed port
-
-abbrev pub offered_by : Closed → List Message
-offered_by closed = (view closed.pass).offered
-
-abbrev pub number_by : Closed → ℕ
-number_by closed = closed.number
-
-abbrev pub service_by : Closed → Name
-service_by closed = service_of closed.pass
+-- what a pass knows is a port's, with this number, which has handed so many requests over
+pub record IsPortOf (v : View) (number count : ℕ) : Type 0 where
+  pub offers : v.offers ≡ true
+  pub number_is : number ≡ v.port
+  pub count_is : length v.offered ≡ count
 
 -- ports of a service that have offered nothing, numbered from n
-abbrev pub AreNumbered : Name → ℕ → List Port → Type 0
+abbrev pub AreNumbered : Name → ℕ → List Offers → Type 0
 AreNumbered name n [] = Unit {0}
-AreNumbered name n (port ∷ ports) = (service port ≡ name) × (number_of port ≡ n) × (offered port ≡ []) × AreNumbered name (n + 1) ports
+AreNumbered name n (port ∷ ports) = (port.service ≡ name) × (port.number ≡ n) × (port.offered ≡ []) × AreNumbered name (n + 1) ports

@@ -1,6 +1,5 @@
 //! A run that has ended, and its audit.
 ghost use Rattle.std.specs.Prelude.{◌≡◌, ℕ, ◌<◌, true, IfOk};
-ghost use Rattle.std.proofs.Props.{props};
 ghost use Rattle.crossbeam_channel.specs.Claims.{view, IsSeatAt};
 ghost use Rattle.crossbeam_channel.specs.Ends.{sends_on};
 ghost use Rattle.tb_service.specs.declared.ends.Ended.TheVariants as way;
@@ -13,11 +12,13 @@ use crate::ports::Closed;
 use crate::rule::{Account, Sender, TakesIn, View};
 use crossbeam_channel::Pass;
 use std::alloc::{AllocError, Global};
+use std::marker::Model;
 use std::sync::Wait;
 use tb_machine::Entry;
 use tb_published::{Naming, Publisher, TakeFault};
 
-/// What a server leaves: the history, why it ended, and which requests were left out.
+/// What a server leaves: the history, why it ended, and which requests were left out. Contracts see it with the requests
+/// that were taken, and the port of each.
 pub struct Finished<J: Naming> {
     /// The history, and what seats are shown of it.
     pub publisher: Publisher<J>,
@@ -29,10 +30,29 @@ pub struct Finished<J: Naming> {
     sender: Sender,
     pass: Pass<Order, View>,
     alloc: Global,
-    ghost seated: { IsSeatAt (sends_on sender) pass } by { Prim.hlevel props },
-    ghost serves: { (view pass).serves ≡ true },
-    ghost placed: { ports (view pass).taken ≡ places.items },
-    ghost over: { ended ≡ way.Closed → (p : ℕ) → p < (view pass).ports → is_closed p (view pass).taken ≡ true } by { Prim.hlevel props },
+}
+
+impl<J: Naming> Model for Finished<J> {
+    ghost use Rattle.crossbeam_channel.specs.Claims.{view as known, IsSeatAt};
+    ghost use Rattle.crossbeam_channel.specs.Ends.{sends_on};
+    ghost use Rattle.tb_service.specs.Names.{service_of};
+    ghost use Rattle.tb_service.specs.Places.{requests, ports};
+    ghost use Rattle.tb_service.specs.Finished.{Finish, IsServed};
+
+    ghost Value = { Finish };
+
+    ghost view = { λ f.
+        record {
+          publisher = f.publisher;
+          ended = f.ended;
+          taken = requests (known f.pass).taken;
+          owners = ports (known f.pass).taken;
+          refused = f.refused.items;
+          service = service_of f.pass;
+        } };
+
+    ghost invariant = { λ f.
+        IsSeatAt (sends_on f.sender) f.pass × IsServed (known f.pass) f.places.items f.ended };
 }
 
 // The places of one port, from 1.
@@ -53,8 +73,7 @@ impl<J: Naming> Finished<J> {
     ghost use Rattle.tb_published.specs.Lines.{LegalIn};
     ghost use Rattle.tb_service.specs.Places.{requests};
     ghost use Rattle.tb_service.specs.Names.{service_of};
-    ghost use Rattle.tb_service.specs.Ports.{offered_by, number_by, service_by};
-    ghost use Rattle.tb_service.specs.Finished.{taken, port_at, service_at, IsOffered};
+    ghost use Rattle.tb_service.specs.Finished.{IsOffered};
 
     pub(crate) fn new(
         publisher: Publisher<J>,
@@ -71,10 +90,12 @@ impl<J: Naming> Finished<J> {
         requires over { ended ≡ way.Closed
             → (p : ℕ) → p < (view pass).ports
             → is_closed p (view pass).taken ≡ true }
-        ensures parts { (result.publisher ≡ publisher) × (result.ended ≡ ended) × (result.refused ≡ refused) }
-        ensures pass { (taken result ≡ requests (view pass).taken)
-            × (port_at result ≡ ports (view pass).taken)
-            × (service_at result ≡ service_of pass) }
+        ensures parts { (result.publisher ≡ publisher)
+            × (result.ended ≡ ended)
+            × (result.refused ≡ refused.items) }
+        ensures pass { (result.taken ≡ requests (view pass).taken)
+            × (result.owners ≡ ports (view pass).taken)
+            × (result.service ≡ service_of pass) }
     {
         Finished {
             publisher,
@@ -90,19 +111,14 @@ impl<J: Naming> Finished<J> {
     /// Takes a closed port in, and answers the places of the requests that were taken from it. For want of memory the
     /// same port comes back, and nothing has changed.
     pub fn offered_by(&mut self, closed: Closed) -> Result<Vec<u64>, Closed>
-        requires service { service_by closed ≡ service_at self.old }
+        requires service { closed.service ≡ self.old.service }
         ensures places { IfOk result
-            (λ places. places.items ≡ places_from (number_by closed) 1 (port_at self.old)) }
+            (λ places. places.items ≡ places_from closed.number 1 self.old.owners) }
         ensures offered { IfOk result
             (λ places.
-            IsOffered (offered_by closed) (taken self.old) places.items self.old.ended) }
-        ensures back { IfErr result (λ back. (back ≡ closed) × (self.new ≡ self.old)) }
-        ensures same { (taken self.new ≡ taken self.old)
-            × (port_at self.new ≡ port_at self.old)
-            × (service_at self.new ≡ service_at self.old) }
-        ensures rest { (self.new.publisher ≡ self.old.publisher)
-            × (self.new.ended ≡ self.old.ended)
-            × (self.new.refused ≡ self.old.refused) }
+            IsOffered closed.offered self.old.taken places.items self.old.ended) }
+        ensures back { IfErr result (λ back. back ≡ closed) }
+        ensures same { self.new ≡ self.old }
     {
         let Ok(places) = places_of(self.alloc, closed.number(), &self.places) else {
             return Err(closed);

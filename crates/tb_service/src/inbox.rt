@@ -39,7 +39,6 @@ fn mark(flags: &mut Vec<bool>, at: usize)
 impl Inbox {
     ghost use Rattle.std.specs.Prelude.{[], ◌∷◌, ◌++◌, ◌+◌, MatchOption, IfSome, IfOk};
     ghost use Rattle.tb_service.specs.Names.{service_of};
-    ghost use Rattle.tb_service.specs.Ports.{offered, number_of, service};
 
     /// A queue with no port.
     pub fn new(alloc: Global) -> Result<Inbox, AllocError>
@@ -59,9 +58,9 @@ impl Inbox {
         requires { number ≡ (view self.old.pass).ports }
         ensures port { IfOk result
             (λ port.
-            (offered port ≡ [])
-            × (number_of port ≡ number)
-            × (service port ≡ service_of self.old.pass)) }
+            (port.offered ≡ [])
+            × (port.number ≡ number)
+            × (port.service ≡ service_of self.old.pass)) }
         ensures more { IfOk result (λ port. (view self.new.pass).ports ≡ (view self.old.pass).ports + 1) }
         ensures same { ((view self.new.pass).taken ≡ (view self.old.pass).taken)
             × (service_of self.new.pass ≡ service_of self.old.pass) }

@@ -1,6 +1,5 @@
 //! Ports: what the threads of clients send requests through.
-ghost use Rattle.std.specs.Prelude.{◌≡◌, true, false, [], length};
-ghost use Rattle.std.proofs.Props.{props};
+ghost use Rattle.std.specs.Prelude.{◌≡◌, true, [], length};
 ghost use Rattle.crossbeam_channel.specs.Claims.{view, IsSeatAt};
 ghost use Rattle.crossbeam_channel.specs.Ends.{sends_on};
 
@@ -11,11 +10,13 @@ use crate::rule::{Sender, View};
 use crate::sending::send;
 use crossbeam_channel::Pass;
 use std::alloc::Global;
+use std::marker::Model;
 use std::sync::Wait;
 use tb_published::{Naming, Seat, SeatFault};
 use tb_records::{Reply, Request, Status};
 
-/// One client thread's way to the server. A port that is dropped and not closed keeps the server waiting.
+/// One client thread's way to the server. Contracts see it as its service, its number, and the requests that it handed
+/// over. A port that is dropped and not closed keeps the server waiting.
 #[derive(Drop)]
 pub struct Port {
     sender: Sender,
@@ -23,39 +24,56 @@ pub struct Port {
     number: u32,
     count: u64,
     alloc: Global,
-    ghost seated: { IsSeatAt (sends_on sender) pass } by { Prim.hlevel props },
-    ghost offers: { (view pass).offers ≡ true },
-    ghost number_is: { number ≡ (view pass).port },
-    ghost fresh: { (view pass).closed ≡ false },
-    ghost count_is: { length (view pass).offered ≡ count },
 }
 
-/// A port that sends no more.
+impl Model for Port {
+    ghost use Rattle.std.specs.Prelude.{◌≡◌, false};
+    ghost use Rattle.crossbeam_channel.specs.Claims.{view as known, IsSeatAt};
+    ghost use Rattle.crossbeam_channel.specs.Ends.{sends_on};
+    ghost use Rattle.tb_service.specs.Ports.{Offers, IsPortOf, offers_of};
+
+    ghost Value = { Offers };
+
+    ghost view = { λ p. offers_of p.pass };
+
+    ghost invariant = { λ p.
+        IsSeatAt (sends_on p.sender) p.pass
+        × IsPortOf (known p.pass) p.number p.count
+        × ((known p.pass).closed ≡ false) };
+}
+
+/// A port that sends no more. Contracts see it as they saw the port.
 #[derive(Drop)]
 pub struct Closed {
     pass: Pass<Order, View>,
     number: u32,
     handed_over: u64,
-    ghost idle: { pass.me.1 ≡ [] },
-    ghost offers: { (view pass).offers ≡ true },
-    ghost number_is: { number ≡ (view pass).port },
-    ghost count_is: { length (view pass).offered ≡ handed_over },
+}
+
+impl Model for Closed {
+    ghost use Rattle.std.specs.Prelude.{◌≡◌, []};
+    ghost use Rattle.crossbeam_channel.specs.Claims.{view as known};
+    ghost use Rattle.tb_service.specs.Ports.{Offers, IsPortOf, offers_of};
+
+    ghost Value = { Offers };
+
+    ghost view = { λ p. offers_of p.pass };
+
+    ghost invariant = { λ p. (p.pass.me.1 ≡ []) × IsPortOf (known p.pass) p.number p.handed_over };
 }
 
 impl Port {
-    ghost use Rattle.std.specs.Prelude.{◌++◌, ◌∷◌, ◌<◌, ◌≤◌, ◌⊎◌, IfOk, MatchResult};
+    ghost use Rattle.std.specs.Prelude.{◌++◌, ◌∷◌, ◌<◌, ◌≤◌, ◌⊎◌, false, IfOk, MatchResult};
     ghost use mathlib.Core.List.{IsPrefix};
     ghost use Rattle.tb_published.specs.Lines.{LegalIn, AnswersIn};
     ghost use Rattle.tb_service.specs.Rule.{port_view};
-    ghost use Rattle.tb_service.specs.Names.{service_of};
-    ghost use Rattle.tb_service.specs.Ports.{offered, number_of, service, offered_by, number_by, service_by};
+    ghost use Rattle.tb_service.specs.Ports.{offers_of};
     ghost use Rattle.tb_service.specs.Calls.{WasNotYet};
 
     pub(crate) fn new(sender: Sender, pass: Pass<Order, View>, number: u32, alloc: Global) -> Port
         requires seated { IsSeatAt (sends_on sender) pass }
         requires fresh { view pass ≡ port_view number [] false }
-        ensures offered { offered result ≡ [] }
-        ensures named { (service result ≡ service_of pass) × (number_of result ≡ number) }
+        ensures { result ≡ offers_of pass }
     {
         Port {
             sender,
@@ -68,9 +86,9 @@ impl Port {
 
     /// Hands a request over. It comes back only where the server is gone, or the port handed 2^64 - 1 requests over.
     pub fn offer<R: Wait>(&mut self, rt: &R, request: Request) -> Result<(), Request>
-        ensures offered { MatchResult result (λ _. offered self.new ≡ offered self.old ++ request ∷ [])
-            (λ back. (back ≡ request) × (offered self.new ≡ offered self.old)) }
-        ensures same { (service self.new ≡ service self.old) × (number_of self.new ≡ number_of self.old) }
+        ensures offered { MatchResult result (λ _. self.new.offered ≡ self.old.offered ++ request ∷ [])
+            (λ back. (back ≡ request) × (self.new.offered ≡ self.old.offered)) }
+        ensures same { (self.new.service ≡ self.old.service) × (self.new.number ≡ self.old.number) }
     {
         if self.count == u64::MAX {
             return Err(request);
@@ -100,9 +118,9 @@ impl Port {
     ) -> Result<(), Vec<Request>>
         requires some { 0 < length requests.items }
         requires few { length requests.items ≤ 8 }
-        ensures offered { MatchResult result (λ _. offered self.new ≡ offered self.old ++ requests.items)
-            (λ back. (back ≡ requests) × (offered self.new ≡ offered self.old)) }
-        ensures same { (service self.new ≡ service self.old) × (number_of self.new ≡ number_of self.old) }
+        ensures offered { MatchResult result (λ _. self.new.offered ≡ self.old.offered ++ requests.items)
+            (λ back. (back ≡ requests) × (self.new.offered ≡ self.old.offered)) }
+        ensures same { (self.new.service ≡ self.old.service) × (self.new.number ≡ self.old.number) }
     {
         let more = requests.len() as u64;
         if more > u64::MAX - self.count {
@@ -138,10 +156,10 @@ impl Port {
         ensures answer { IfOk result
             (λ reply.
             LegalIn J.opening seat.new × AnswersIn J.opening seat.new request.now reply) }
-        ensures offered { (offered self.new ≡ offered self.old)
-            ⊎ ((offered self.new ≡ offered self.old ++ request.now ∷ [])
+        ensures offered { (self.new.offered ≡ self.old.offered)
+            ⊎ ((self.new.offered ≡ self.old.offered ++ request.now ∷ [])
             × WasNotYet J.opening seat.old seat.new request.now) }
-        ensures same { (service self.new ≡ service self.old) × (number_of self.new ≡ number_of self.old) }
+        ensures same { (self.new.service ≡ self.old.service) × (self.new.number ≡ self.old.number) }
     {
         let reply = seat.answer(request)?;
         if reply.status() != Status::NotYet {
@@ -157,8 +175,7 @@ impl Port {
 
     /// Tells the server that no more requests come.
     pub fn close<R: Wait>(self, rt: &R) -> Closed
-        ensures offered { offered_by result ≡ offered self }
-        ensures same { (service_by result ≡ service self) × (number_by result ≡ number_of self) }
+        ensures { result ≡ self }
     {
         let Port {
             sender,
@@ -181,24 +198,27 @@ impl Port {
 }
 
 impl Closed {
-    ghost use Rattle.tb_service.specs.Ports.{offered_by, number_by};
+    ghost use Rattle.tb_service.specs.Ports.{offers_of};
 
     /// The number of requests that the port handed over.
     pub fn offered(&self) -> u64
-        ensures { result ≡ length (offered_by self.now) }
+        ensures { result ≡ length self.now.offered }
     {
         self.handed_over
     }
 
     /// The port's number.
     pub(crate) fn number(&self) -> u32
-        ensures { result ≡ number_by self.now }
+        ensures { result ≡ self.now.number }
     {
         self.number
     }
 
+    /// Its pass, for the server to take in.
     pub(crate) fn into_pass(self) -> Pass<Order, View>
-        ensures { result ≡ self.pass }
+        ensures idle { result.me.1 ≡ [] }
+        ensures offers { (view result).offers ≡ true }
+        ensures same { offers_of result ≡ self }
     {
         let Closed {
             pass,

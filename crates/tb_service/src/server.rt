@@ -9,6 +9,7 @@ use crate::finished::Finished;
 use crate::gates::{Gate, Moments};
 use crate::inbox::Inbox;
 use std::alloc::Global;
+use std::marker::Model;
 use std::sync::Wait;
 use tb_published::Naming;
 
@@ -68,29 +69,47 @@ impl<J: Naming, W: Wait + Drop, M: Moments + Drop, G: Gate + Drop> Desk<J, W, M,
     }
 }
 
-/// A server that has not begun. Where it is dropped, what ports offer comes back.
+/// A server that has not begun. Contracts see it as what it begins with, its service, and the number of its ports. Where
+/// it is dropped, what ports offer comes back.
 #[derive(Drop)]
 pub struct Server<J: Naming, W: Wait + Drop, M: Moments + Drop, G: Gate + Drop> {
     desk: Desk<J, W, M, G>,
     alloc: Global,
-    ghost fresh: { (view desk.inbox.pass).taken ≡ [] },
-    ghost blameless: { desk.clerk.refused.items ≡ [] },
+}
+
+impl<J: Naming, W: Wait + Drop, M: Moments + Drop, G: Gate + Drop> Model for Server<J, W, M, G> {
+    ghost use Rattle.std.specs.Prelude.{◌≡◌, []};
+    ghost use Rattle.crossbeam_channel.specs.Claims.{view as known};
+    ghost use Rattle.tb_service.specs.Names.{service_of};
+    ghost use Rattle.tb_service.specs.Clerks.{room_of};
+    ghost use Rattle.tb_service.specs.Servers.{Start};
+
+    ghost Value = { Start M G };
+
+    ghost view = { λ s.
+        record {
+          room = room_of s.desk.clerk;
+          service = service_of s.desk.inbox.pass;
+          port_count = (known s.desk.inbox.pass).ports;
+        } };
+
+    ghost invariant = { λ s.
+        ((known s.desk.inbox.pass).taken ≡ []) × (s.desk.clerk.refused.items ≡ []) };
 }
 
 impl<J: Naming, W: Wait + Drop, M: Moments + Drop, G: Gate + Drop> Server<J, W, M, G> {
     ghost use Rattle.tb_service.specs.Names.{service_of};
     ghost use Rattle.tb_service.specs.Clerks.{room_of};
     ghost use Rattle.tb_service.specs.Places.{HaveOwners};
-    ghost use Rattle.tb_service.specs.Servers.{room_at, service_on, port_count, Finishes};
-    ghost use Rattle.tb_service.specs.Finished.{taken, port_at, service_at};
+    ghost use Rattle.tb_service.specs.Servers.{Finishes};
 
     pub(crate) fn new(inbox: Inbox, clerk: Clerk<J, W, M, G>, alloc: Global) -> Server<J, W, M, G>
         requires fresh { (view inbox.pass).taken ≡ [] }
         requires unused { clerk.ports.items ≡ [] }
         requires blameless { clerk.refused.items ≡ [] }
-        ensures { (room_at result ≡ room_of clerk)
-            × (service_on result ≡ service_of inbox.pass)
-            × (port_count result ≡ (view inbox.pass).ports) }
+        ensures room { result.room ≡ room_of clerk }
+        ensures ports { (result.service ≡ service_of inbox.pass)
+            × (result.port_count ≡ (view inbox.pass).ports) }
     {
         Server {
             desk: Desk { inbox, clerk },
@@ -101,10 +120,10 @@ impl<J: Naming, W: Wait + Drop, M: Moments + Drop, G: Gate + Drop> Server<J, W, 
     /// Serves what the ports offer, until each of them is closed, or there is no memory for the places of one order more. Each
     /// request that is taken was offered by one of the ports that `service` gave out.
     pub fn run<R: Wait>(self, rt: &R) -> Finished<J>
-        ensures served { Finishes J.opening M.tells G.passes (room_at self) (taken result) result.refused.items
+        ensures served { Finishes J.opening M.tells G.passes self.room result.taken result.refused
             result.publisher.history }
-        ensures ports { HaveOwners (port_count self) (taken result) (port_at result) }
-        ensures same { service_at result ≡ service_on self }
+        ensures ports { HaveOwners self.port_count result.taken result.owners }
+        ensures same { result.service ≡ self.service }
     {
         let Server { mut desk, alloc } = self;
         let ended = desk.serve(rt);

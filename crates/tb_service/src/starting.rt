@@ -3,7 +3,6 @@ ghost use Rattle.std.specs.Prelude.{◌≡◌, length, IfOk};
 ghost use Rattle.crossbeam_channel.specs.Claims.{view};
 ghost use Rattle.tb_service.specs.Names.{service_of};
 ghost use Rattle.tb_service.specs.Ports.{AreNumbered};
-ghost use Rattle.tb_service.specs.Servers.{room_at, service_on, port_count};
 
 use crate::clerk::Clerk;
 use crate::gates::{Gate, Moments};
@@ -46,11 +45,11 @@ pub fn service<J: Naming, W: Wait + Drop, M: Moments + Drop, G: Gate + Drop>(
 ) -> Result<(Server<J, W, M, G>, Vec<Port>), AllocError>
     ensures begins { IfOk result
         (λ made.
-        room_at made.0
+        made.0.room
         ≡ record { history = publisher.history; moments = moments; gate = gate }) }
     ensures ports { IfOk result
-        (λ made. AreNumbered (service_on made.0) 0 made.1.items × (length made.1.items ≡ count)) }
-    ensures count { IfOk result (λ made. port_count made.0 ≡ count) }
+        (λ made. AreNumbered made.0.service 0 made.1.items × (length made.1.items ≡ count)) }
+    ensures count { IfOk result (λ made. made.0.port_count ≡ count) }
 {
     let held = Held::new(publisher, rt);
     let mut inbox = match Inbox::new(alloc) {

@@ -1,6 +1,5 @@
 //! Ports that offer and are closed before the server runs, and the places that their audits name.
 ghost use Rattle.std.specs.Prelude.{◌≡◌};
-ghost use Rattle.tb_service.specs.Ports.{service};
 
 use crate::making::{
     Every, holds, lookup, offer, opened, opening, places, register, rising, two_ports,
@@ -48,7 +47,7 @@ fn expect_left<J: Naming>(rt: &impl Abort, finished: &Finished<J>, left: Left) {
 
 /// Two ports offer by turns.
 fn offer_by_turns<R: Wait + Abort>(rt: &R, alloc: Global, first: &mut Port, second: &mut Port)
-    ensures { (service first.new ≡ service first.old) × (service second.new ≡ service second.old) }
+    ensures { (first.new.service ≡ first.old.service) × (second.new.service ≡ second.old.service) }
 {
     offer(rt, first, register(7));
     offer(rt, second, register(8));

@@ -2,9 +2,7 @@
 //! a function that is generic in its name.
 ghost use Rattle.std.specs.Prelude.{◌≡◌, ℕ};
 ghost use Rattle.tb_service.specs.Names.{Name};
-ghost use Rattle.tb_service.specs.Ports.{AreNumbered, service, service_by};
-ghost use Rattle.tb_service.specs.Servers.{service_on};
-ghost use Rattle.tb_service.specs.Finished.{service_at};
+ghost use Rattle.tb_service.specs.Ports.{AreNumbered};
 
 use std::alloc::Global;
 use std::process::Abort;
@@ -93,7 +91,7 @@ pub(crate) fn opening(rt: &impl Abort) -> Opening {
 
 /// A port that is sure to hand over a request that could be made.
 pub(crate) fn offer<R: Wait + Abort>(rt: &R, port: &mut Port, request: Option<Request>)
-    ensures { service port.new ≡ service port.old }
+    ensures { port.new.service ≡ port.old.service }
 {
     let outcome = port.offer(rt, request.expect(rt, "a request"));
     holds(rt, outcome.is_ok(), "handed over");
@@ -107,7 +105,7 @@ pub(crate) fn ports(rt: &impl Abort, count: u32) -> PortCount {
 /// The last port that is left.
 fn next_port(rt: &impl Abort, ports: &mut Vec<Port>) -> Port
     ensures { (name : Name) (n : ℕ) → AreNumbered name n ports.old.items
-        → AreNumbered name n ports.new.items × (service result ≡ name) }
+        → AreNumbered name n ports.new.items × (result.service ≡ name) }
 {
     if let Some(port) = ports.pop() {
         return port;
@@ -122,7 +120,7 @@ pub(crate) fn one_port<'a, J: Naming, R: Wait + Abort>(
     publisher: Publisher<J>,
     moments: Every,
 ) -> (Started<'a, J, R>, Port)
-    ensures { service result.1 ≡ service_on result.0 }
+    ensures { result.1.service ≡ result.0.service }
 {
     let count = ports(rt, 1);
     let made = service(alloc, publisher, rt, count, moments, Open);
@@ -139,7 +137,7 @@ pub(crate) fn two_ports<'a, J: Naming, R: Wait + Abort>(
     publisher: Publisher<J>,
     moments: Every,
 ) -> (Started<'a, J, R>, Port, Port)
-    ensures { (service result.1 ≡ service_on result.0) × (service result.2 ≡ service_on result.0) }
+    ensures { (result.1.service ≡ result.0.service) × (result.2.service ≡ result.0.service) }
 {
     let count = ports(rt, 2);
     let made = service(alloc, publisher, rt, count, moments, Open);
@@ -164,8 +162,8 @@ pub(crate) fn opened<J: Naming, R: Wait + Abort>(
 
 /// The places of a port, after the run.
 pub(crate) fn places<J: Naming>(finished: &mut Finished<J>, closed: Closed) -> Option<Vec<u64>>
-    requires { service_by closed ≡ service_at finished.old }
-    ensures { service_at finished.new ≡ service_at finished.old }
+    requires { closed.service ≡ finished.old.service }
+    ensures { finished.new.service ≡ finished.old.service }
 {
     finished.offered_by(closed).ok()
 }

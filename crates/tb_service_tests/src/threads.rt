@@ -1,8 +1,5 @@
 //! Ports, a server and seats, each in a thread of its own.
 ghost use Rattle.std.specs.Prelude.{◌≡◌, ◌≤◌};
-ghost use Rattle.tb_service.specs.Ports.{service, service_by};
-ghost use Rattle.tb_service.specs.Servers.{service_on};
-ghost use Rattle.tb_service.specs.Finished.{service_at};
 
 use crate::making::{
     holds, offer, opened, opening, ports, register, rising, transfer, two_accounts, two_ports,
@@ -45,7 +42,7 @@ fn settle<J: Naming, R: Wait>(
     seat: &mut Seat<J>,
     request: &Request,
 ) -> bool
-    ensures { service port.new ≡ service port.old }
+    ensures { port.new.service ≡ port.old.service }
 {
     for _ in 0..100 {
         if is_settled(port.call(rt, seat, request, 1_000_000)) {
@@ -62,7 +59,7 @@ fn call_in_order<J: Naming, R: Wait + Abort>(
     mut port: Port,
     seat: &mut Seat<J>,
 ) -> (Closed, bool)
-    ensures { service_by result.0 ≡ service port }
+    ensures { result.0.service ≡ port.service }
 {
     let mut settled = true;
     for n in 1..=50 {
@@ -75,7 +72,7 @@ fn call_in_order<J: Naming, R: Wait + Abort>(
 
 /// Offers the transfers 50 to 1, ten times over.
 fn offer_in_reverse<R: Wait + Abort>(rt: &R, alloc: Global, mut port: Port) -> Closed
-    ensures { service_by result ≡ service port }
+    ensures { result.service ≡ port.service }
 {
     for round in 0..500 {
         let request = nth_transfer(alloc, 50 - round % 50).expect(rt, "a request");
@@ -92,15 +89,15 @@ fn offer_both<J: Naming + Send + Sync, R: Threads + Wait + Abort + Sync>(
     second: Port,
     seat: &mut Seat<J>,
 ) -> ((Closed, bool), Closed)
-    ensures { (service_by result.0.0 ≡ service first) × (service_by result.1 ≡ service second) }
+    ensures { (result.0.0.service ≡ first.service) × (result.1.service ≡ second.service) }
 {
     join(
         rt,
         move || -> (Closed, bool)
-            ensures { service_by result.0 ≡ service first }
+            ensures { result.0.service ≡ first.service }
         { call_in_order(rt, alloc, first, seat) },
         move || -> Closed
-            ensures { service_by result ≡ service second }
+            ensures { result.service ≡ second.service }
         { offer_in_reverse(rt, alloc, second) },
     )
 }
@@ -121,7 +118,7 @@ fn offer_all<J: Naming + Send + Sync, R: Threads + Wait + Abort + Sync>(
     second: Port,
     seat: &mut Seat<J>,
 ) -> ((Closed, bool), Closed)
-    ensures { (service_by result.0.0 ≡ service first) × (service_by result.1 ≡ service second) }
+    ensures { (result.0.0.service ≡ first.service) × (result.1.service ≡ second.service) }
 {
     for number in 0..2 {
         let request = nth_of_two(alloc, number).expect(rt, "a request");
@@ -133,8 +130,8 @@ fn offer_all<J: Naming + Send + Sync, R: Threads + Wait + Abort + Sync>(
 
 /// The places of a port are as many as it offered.
 fn is_whole<J: Naming>(finished: &mut Finished<J>, closed: Closed) -> bool
-    requires { service_by closed ≡ service_at finished.old }
-    ensures { service_at finished.new ≡ service_at finished.old }
+    requires { closed.service ≡ finished.old.service }
+    ensures { finished.new.service ≡ finished.old.service }
 {
     let offered = closed.offered();
     match finished.offered_by(closed) {
@@ -184,10 +181,10 @@ fn run_both<J: Naming + Send + Sync, R: Threads + Wait + Abort + Sync>(
     let (mut finished, ((first, settled), second)) = join(
         rt,
         move || -> Finished<J>
-            ensures { service_at result ≡ service_on server.entry }
+            ensures { result.service ≡ server.entry.service }
         { server.run(rt) },
         move || -> ((Closed, bool), Closed)
-            ensures { (service_by result.0.0 ≡ service first) × (service_by result.1 ≡ service second) }
+            ensures { (result.0.0.service ≡ first.service) × (result.1.service ≡ second.service) }
         { offer_all(rt, alloc, first, second, seat) },
     );
     holds(rt, settled, "all calls were settled");

@@ -1,8 +1,7 @@
 //! A caller of the service: one port, one request, and what then follows of the history that the server leaves.
 ghost use Rattle.std.specs.Prelude.{◌≡◌, [], ◌∷◌, length, IfOk};
 ghost use Rattle.tb_service.specs.Names.{Name};
-ghost use Rattle.tb_service.specs.Ports.{AreNumbered, offered, number_of, service as service_of, offered_by, number_by, service_by};
-ghost use Rattle.tb_service.specs.Servers.{room_at, service_on, port_count};
+ghost use Rattle.tb_service.specs.Ports.{AreNumbered};
 ghost use Rattle.tb_service.specs.OfferedLaws.{GrowsByOffers};
 
 use std::alloc::Global;
@@ -24,7 +23,7 @@ pub enum Unserved {
 fn only_port(ports: Vec<Port>) -> Port
     requires one { length ports.items ≡ 1 }
     ensures { (name : Name) → AreNumbered name 0 ports.items
-        → (service_of result ≡ name) × (number_of result ≡ 0) × (offered result ≡ []) }
+        → (result.service ≡ name) × (result.number ≡ 0) × (result.offered ≡ []) }
 {
     let mut ports = ports;
     let port = ports.pop().unwrap();
@@ -34,10 +33,10 @@ fn only_port(ports: Vec<Port>) -> Port
 
 /// Hands a request over through a port that has offered nothing, and closes it.
 fn hand_over<R: Wait>(rt: &R, port: Port, request: Request) -> Result<Closed, Unserved>
-    requires fresh { offered port ≡ [] }
-    ensures offered { IfOk result (λ closed. offered_by closed ≡ request ∷ []) }
+    requires fresh { port.offered ≡ [] }
+    ensures offered { IfOk result (λ closed. closed.offered ≡ request ∷ []) }
     ensures same { IfOk result
-        (λ closed. (service_by closed ≡ service_of port) × (number_by closed ≡ number_of port)) }
+        (λ closed. (closed.service ≡ port.service) × (closed.number ≡ port.number)) }
 {
     let mut port = port;
     match port.offer(rt, request) {
@@ -56,11 +55,11 @@ fn run_closed<J: Naming, W: Wait + Drop, M: Moments + Drop, G: Gate + Drop, R: W
     server: Server<J, W, M, G>,
     closed: Closed,
 ) -> Result<Finished<J>, Unserved>
-    requires alone { port_count server ≡ 1 }
-    requires own { (service_by closed ≡ service_on server) × (number_by closed ≡ 0) }
+    requires alone { server.port_count ≡ 1 }
+    requires own { (closed.service ≡ server.service) × (closed.number ≡ 0) }
     ensures { IfOk result
         (λ finished.
-        GrowsByOffers 1 (λ port. offered_by closed) (room_at server).history
+        GrowsByOffers 1 (λ port. closed.offered) server.room.history
         finished.publisher.history) }
 {
     laws::none_invented::<J, M, G>();
@@ -85,12 +84,12 @@ fn run_one<J: Naming, W: Wait + Drop, M: Moments + Drop, G: Gate + Drop, R: Wait
     port: Port,
     request: Request,
 ) -> Result<Finished<J>, Unserved>
-    requires alone { port_count server ≡ 1 }
-    requires own { (service_of port ≡ service_on server) × (number_of port ≡ 0) }
-    requires fresh { offered port ≡ [] }
+    requires alone { server.port_count ≡ 1 }
+    requires own { (port.service ≡ server.service) × (port.number ≡ 0) }
+    requires fresh { port.offered ≡ [] }
     ensures { IfOk result
         (λ finished.
-        GrowsByOffers 1 (λ port. request ∷ []) (room_at server).history
+        GrowsByOffers 1 (λ port. request ∷ []) server.room.history
         finished.publisher.history) }
 {
     match hand_over(rt, port, request) {

@@ -1,7 +1,6 @@
 use Rattle.std.proofs.Common.{◌≡◌, Some}
-use Rattle.tb_service.specs.Finished.{service_at}
 use Rattle.tb_recorded.proofs.auditing.gather.Given as goal
 
 -- the run stays one of the service
 abbrev pub invariant-loop-one : goal.invariant-loop-one
-invariant-loop-one g l = g.S.Serving.service ≡ Some (service_at l.finished)
+invariant-loop-one g l = g.S.Serving.service ≡ Some l.finished.service

@@ -1,7 +1,6 @@
 use Rattle.std.specs.Prelude.{Some}
-use Rattle.tb_service.specs.Servers.{service_on}
 use Rattle.tb_recorded.proofs.running.run_noted.Given as goal
 
 -- the service that was just made
 abbrev pub ghosts-run_over : goal.ghosts-run_over
-ghosts-run_over g a = record { service = Some (service_on a.server) }
+ghosts-run_over g a = record { service = Some a.server.service }

@@ -1,7 +1,6 @@
 use Rattle.std.proofs.Common.{◌+◌, ℕ, List, [], ◌∷◌, length, ap, sym, subst, ◌∙◌, length-append, arith}
-use Rattle.tb_service.specs.declared.ports.Port.{Port}
 use Rattle.tb_service.specs.Names.{service_of}
-use Rattle.tb_service.specs.Ports.{AreNumbered}
+use Rattle.tb_service.specs.Ports.{Offers, AreNumbered}
 use Rattle.tb_service.proofs.Audit.{numbered-snoc}
 use Rattle.tb_service.proofs.starting.make_ports.Goals as goal
 
@@ -14,7 +13,7 @@ loop-number-preserved c =
     let name = service_of c.args.inbox.now.pass in
     let items = c.in_ok-push.ensures.items in
     record {
-      numbered = subst (λ (l : List Port). AreNumbered name 0 l) (sym items)
+      numbered = subst (λ (l : List Offers). AreNumbered name 0 l) (sym items)
           (numbered-snoc name 0 c.loop-number.number ports port so_far.numbered (omega (arith, so_far.count)) (made.port.2 ∙ so_far.named) made.port.1 made.port.0);
       count = ap length items ∙ length-append ports (port ∷ []) ∙ ap (λ (n : ℕ). n + 1) so_far.count;
       made = made.more ∙ ap (λ (n : ℕ). n + 1) so_far.made;
