@@ -28,7 +28,11 @@ fn time_runs_out(rt: HostRuntime) {
     let mut machine = machine(&rt, rt.alloc(), 2);
     let early = request_of(&rt, rt.alloc(), (7, 0, 0), Ask::Register);
     let register = machine.next_entry(early, LAST).expect(&rt, "an entry");
-    holds(&rt, (register.commit, register.time) == (1, LAST), &"numbers");
+    holds(
+        &rt,
+        (register.commit, register.time) == (1, LAST),
+        &"numbers",
+    );
     expect_last(&rt, &mut machine, &register);
     drop(register);
     let late = request_of(&rt, rt.alloc(), (8, 0, 0), Ask::Register);
