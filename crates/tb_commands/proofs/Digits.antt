@@ -2,7 +2,7 @@
 use Rattle.std.proofs.Common.{ℕ, ◌≡◌, ◌<◌, ◌+◌, ◌*◌, List, [], ◌∷◌, Option, Some, None, refl, arith}
 use Rattle.std.specs.Option.{option_and_then}
 use Rattle.std.proofs.lemmas.Bool.Decides.{nat_tests}
-use Rattle.tb_commands.specs.Orders.{number_from, digit_of, within}
+use Rattle.tb_commands.specs.Forms.{number_from, digit_of, within}
 
 pub beyond : (low high n : ℕ) (bytes : List ℕ) → high < n → within low high (number_from n bytes) ≡ None
 beyond low high n [] above = grind (arith, nat_tests)

@@ -13,8 +13,8 @@ use Rattle.tb_machine.specs.RunFaults.{run_fault_name}
 use Rattle.tb_machine.specs.Runs.{Ran}
 use Rattle.tb_machine.specs.DumpRuns.{DumpRan}
 use Rattle.tb_machine.specs.Replays.{ReplayRan}
-use Rattle.tb_commands.specs.declared.arguments.Order.{Order}
-use Rattle.tb_commands.specs.declared.arguments.Order.TheVariants.{Run, Dump, Replay}
+use Rattle.tb_commands.specs.declared.arguments.Form.{Form}
+use Rattle.tb_commands.specs.declared.arguments.Form.TheVariants.{Run, Dump, Replay}
 use Rattle.tb_commands.specs.declared.commands.Fault.{Fault}
 use Rattle.tb_commands.specs.declared.commands.Fault.TheVariants.{Usage, Serving, Replaying}
 
@@ -39,7 +39,7 @@ fault_status Usage = 2
 fault_status (Serving fault) = run_status fault
 fault_status (Replaying fault) = dump_status fault
 
--- the status of an order that was done, or not to its end
+-- the status of a form that was done, or not to its end
 abbrev pub outcome_status : Result ℕ Fault → ℕ
 outcome_status (Ok count) = 0
 outcome_status (Err fault) = fault_status fault
@@ -57,28 +57,28 @@ line_named name = codes "tbs: " ++ name ++ codes "\n"
 abbrev pub fault_line : Fault → List ℕ
 fault_line fault = line_named (fault_name fault)
 
--- a line was written, or a beginning of it, where the writer failed or took nothing
-abbrev pub Told : List ℕ → Output → Output → Type 0
-Told line before after = Sent line before after ⊎ CutOff line before after
+-- a line was written, or a prefix of it, where the writer failed or took nothing
+abbrev pub TellsLine : List ℕ → Output → Output → Type 0
+TellsLine line before after = Sent line before after ⊎ CutOff line before after
 
--- nothing is told of an order that was done, and of a fault its line
+-- nothing is told of a form that was done, and of a fault its line
 abbrev pub Tells : Result ℕ Fault → Output → Output → Type 0
 Tells (Ok count) before after = after ≡ before
-Tells (Err fault) before after = Told (fault_line fault) before after
+Tells (Err fault) before after = TellsLine (fault_line fault) before after
 
--- what an order was served with: the number of replies, or of entries, or the fault that came
-abbrev pub Performs : Order → Result ℕ Fault → Input → Input → Output → Output → Type 0
+-- what a form was served with: the number of replies, or of entries, or the fault that came
+abbrev pub Performs : Form → Result ℕ Fault → Input → Input → Output → Output → Type 0
 Performs (Run clients_max profile) (Ok count) before after start written = Ran profile clients_max (Ok count) before after start written
 Performs (Run clients_max profile) (Err (Serving fault)) before after start written = Ran profile clients_max (Err fault) before after start written
 Performs (Dump clients_max at) (Ok count) before after start written = DumpRan clients_max at (Ok count) before after start written
 Performs (Dump clients_max at) (Err (Serving fault)) before after start written = DumpRan clients_max at (Err fault) before after start written
 Performs Replay (Ok count) before after start written = ReplayRan (Ok count) before after start written
 Performs Replay (Err (Replaying fault)) before after start written = ReplayRan (Err fault) before after start written
-Performs order outcome before after start written = ⊥
+Performs form outcome before after start written = ⊥
 
--- an order was served, and the exit status and the line are those of the outcome
-pub record Exits (order : Order) (status : ℕ) (before after : Input) (start written quiet told : Output) : Type 0 where
+-- a form was served, and the exit status and the line are those of the outcome
+pub record Exits (form : Form) (status : ℕ) (before after : Input) (start written quiet told : Output) : Type 0 where
   pub outcome : Result ℕ Fault
-  pub performed : Performs order outcome before after start written
+  pub performed : Performs form outcome before after start written
   pub status_is : status ≡ outcome_status outcome
   pub line : Tells outcome quiet told

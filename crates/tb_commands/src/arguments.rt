@@ -1,12 +1,12 @@
 //! What the words of the command line ask for.
 ghost use Rattle.std.specs.Prelude.{◌≡◌, ◌<◌, ◌≤◌, map, string_bytes, IfSome, Some, None, if◌then◌else◌};
-ghost use Rattle.tb_commands.specs.Orders.{digit_of, number_of, within, clients_of, profile_of, commit_of, run_by, dump_by, dump_at_by, order_alone, order_with, order_with_two, order_of};
+ghost use Rattle.tb_commands.specs.Forms.{digit_of, number_of, within, clients_of, profile_of, commit_of, run_by, dump_by, dump_at_by, form_alone, form_with, form_with_two, form_of};
 
 use tb_records::{ClientsMax, Profile};
 
 /// What the program is asked to do.
 #[derive(Clone, Copy)]
-pub enum Order {
+pub enum Form {
     /// Serve a script.
     Run(ClientsMax, Profile),
     /// Serve a script, and write the history that it makes, with a mark before the first entry whose commit number is above
@@ -59,8 +59,8 @@ pub fn number(word: &[u8], low: u64, high: u64) -> Option<u64>
     in_range(n, low, high)
 }
 
-/// From 1 to 64.
-fn clients(word: &[u8]) -> Option<ClientsMax>
+/// The number of clients that a word spells, from 1 to 64.
+pub fn read_clients_max(word: &[u8]) -> Option<ClientsMax>
     ensures { result ≡ clients_of word.now }
 {
     match number(word, 1, 64) {
@@ -69,8 +69,8 @@ fn clients(word: &[u8]) -> Option<ClientsMax>
     }
 }
 
-/// 1 or 2.
-fn profile(word: &[u8]) -> Option<Profile>
+/// The profile that a word spells, 1 or 2.
+pub fn read_profile(word: &[u8]) -> Option<Profile>
     ensures { result ≡ profile_of word.now }
 {
     match number(word, 1, 2) {
@@ -87,83 +87,83 @@ fn commit(word: &[u8]) -> Option<u64>
 }
 
 /// `run`, with these clients and profile.
-fn run_order(clients_max: Option<ClientsMax>, profile: Option<Profile>) -> Option<Order>
+fn run_form(clients_max: Option<ClientsMax>, profile: Option<Profile>) -> Option<Form>
     ensures { result ≡ run_by clients_max profile }
 {
     match (clients_max, profile) {
-        (Some(clients_max), Some(profile)) => Some(Order::Run(clients_max, profile)),
+        (Some(clients_max), Some(profile)) => Some(Form::Run(clients_max, profile)),
         _ => None,
     }
 }
 
 /// `dump`, with these clients and no mark.
-fn dump_order(clients_max: Option<ClientsMax>) -> Option<Order>
+fn dump_form(clients_max: Option<ClientsMax>) -> Option<Form>
     ensures { result ≡ dump_by clients_max }
 {
     match clients_max {
-        Some(clients_max) => Some(Order::Dump(clients_max, None)),
+        Some(clients_max) => Some(Form::Dump(clients_max, None)),
         None => None,
     }
 }
 
 /// `dump`, with these clients and a mark before the first entry above a commit.
-fn dump_order_at(clients_max: Option<ClientsMax>, at: Option<u64>) -> Option<Order>
+fn dump_form_at(clients_max: Option<ClientsMax>, at: Option<u64>) -> Option<Form>
     ensures { result ≡ dump_at_by clients_max at }
 {
     match (clients_max, at) {
-        (Some(clients_max), Some(at)) => Some(Order::Dump(clients_max, Some(at))),
+        (Some(clients_max), Some(at)) => Some(Form::Dump(clients_max, Some(at))),
         _ => None,
     }
 }
 
 /// What one word asks for.
-fn order_alone(word: &str) -> Option<Order>
-    ensures { result ≡ order_alone word.now }
+fn form_alone(word: &str) -> Option<Form>
+    ensures { result ≡ form_alone word.now }
 {
     if word == "replay" {
-        Some(Order::Replay)
+        Some(Form::Replay)
     } else {
         None
     }
 }
 
 /// What a word with the number of clients asks for.
-fn order_with(word: &str, clients_max: &str) -> Option<Order>
-    ensures { result ≡ order_with word.now clients_max.now }
+fn form_with(word: &str, clients_max: &str) -> Option<Form>
+    ensures { result ≡ form_with word.now clients_max.now }
 {
-    let clients_max = clients(clients_max.as_bytes());
+    let clients_max = read_clients_max(clients_max.as_bytes());
     if word == "run" {
-        run_order(clients_max, Some(Profile::One))
+        run_form(clients_max, Some(Profile::One))
     } else if word == "dump" {
-        dump_order(clients_max)
+        dump_form(clients_max)
     } else {
         None
     }
 }
 
 /// What a word with the number of clients and one number more asks for.
-fn order_with_two(word: &str, clients_max: &str, last: &str) -> Option<Order>
-    ensures { result ≡ order_with_two word.now clients_max.now last.now }
+fn form_with_two(word: &str, clients_max: &str, last: &str) -> Option<Form>
+    ensures { result ≡ form_with_two word.now clients_max.now last.now }
 {
-    let clients_max = clients(clients_max.as_bytes());
+    let clients_max = read_clients_max(clients_max.as_bytes());
     if word == "run" {
-        run_order(clients_max, profile(last.as_bytes()))
+        run_form(clients_max, read_profile(last.as_bytes()))
     } else if word == "dump" {
-        dump_order_at(clients_max, commit(last.as_bytes()))
+        dump_form_at(clients_max, commit(last.as_bytes()))
     } else {
         None
     }
 }
 
 /// What the words ask for, None where they are not a form of the program's arguments.
-pub fn read_order(words: &[String]) -> Option<Order>
-    ensures { result ≡ order_of (map string_bytes words.now) }
+pub fn read_form(words: &[String]) -> Option<Form>
+    ensures { result ≡ form_of (map string_bytes words.now) }
 {
     match words {
-        [word] => order_alone(word.as_str()),
-        [word, clients_max] => order_with(word.as_str(), clients_max.as_str()),
+        [word] => form_alone(word.as_str()),
+        [word, clients_max] => form_with(word.as_str(), clients_max.as_str()),
         [word, clients_max, last] => {
-            order_with_two(word.as_str(), clients_max.as_str(), last.as_str())
+            form_with_two(word.as_str(), clients_max.as_str(), last.as_str())
         }
         _ => None,
     }

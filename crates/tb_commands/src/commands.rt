@@ -1,10 +1,10 @@
 //! The forms `run`, `dump` and `replay`, over any reader and writer, and the exit status of each outcome.
 ghost use Rattle.std.specs.Prelude.{◌≡◌, ◌<◌, None, Some, map, string_bytes};
-ghost use Rattle.tb_commands.specs.declared.arguments.Order.{Order};
-ghost use Rattle.tb_commands.specs.Orders.{order_of};
-ghost use Rattle.tb_commands.specs.Statuses.{fault_status, fault_name, fault_line, Told, Performs, Exits};
+ghost use Rattle.tb_commands.specs.declared.arguments.Form.{Form};
+ghost use Rattle.tb_commands.specs.Forms.{form_of};
+ghost use Rattle.tb_commands.specs.Statuses.{fault_status, fault_name, fault_line, TellsLine, Performs, Exits};
 
-use crate::arguments::{Order, read_order};
+use crate::arguments::{Form, read_form};
 use crate::lines::{line_of, put_line};
 use std::alloc::Global;
 use tb_machine::{RunFault, dump, replay, run};
@@ -52,25 +52,25 @@ impl Fault {
 
 /// Writes the line `tbs: ` and the fault's name. A failure to write it changes no status.
 pub fn tell<E: Sink>(fault: Fault, faults: &mut E)
-    ensures { Told (fault_line fault) (E.output faults.old) (E.output faults.new) }
+    ensures { TellsLine (fault_line fault) (E.output faults.old) (E.output faults.new) }
 {
     put_line(line_of(fault.name()).as_slice(), faults);
 }
 
-/// Serves what the order asks for.
+/// Serves what the form asks for.
 fn perform<R: Source, W: Sink>(
     alloc: Global,
-    order: Order,
+    form: Form,
     reader: &mut R,
     writer: &mut W,
 ) -> Result<u64, Fault>
-    ensures { Performs order result (R.input reader.old) (R.input reader.new) (W.output writer.old)
+    ensures { Performs form result (R.input reader.old) (R.input reader.new) (W.output writer.old)
         (W.output writer.new) }
 {
-    let served = match order {
-        Order::Run(clients_max, profile) => run(alloc, profile, clients_max, reader, writer),
-        Order::Dump(clients_max, at) => dump(alloc, clients_max, at, reader, writer),
-        Order::Replay => match replay(alloc, reader, writer) {
+    let served = match form {
+        Form::Run(clients_max, profile) => run(alloc, profile, clients_max, reader, writer),
+        Form::Dump(clients_max, at) => dump(alloc, clients_max, at, reader, writer),
+        Form::Replay => match replay(alloc, reader, writer) {
             Ok(replies) => return Ok(replies),
             Err(fault) => return Err(Fault::Replaying(fault)),
         },
@@ -90,21 +90,21 @@ pub fn command<R: Source, W: Sink, E: Sink>(
     writer: &mut W,
     faults: &mut E,
 ) -> u8
-    ensures usage { order_of (map string_bytes words.now) ≡ None
+    ensures usage { form_of (map string_bytes words.now) ≡ None
         → (result ≡ 2)
         × (reader.new ≡ reader.old)
         × (writer.new ≡ writer.old)
-        × Told (fault_line Fault.Usage) (E.output faults.old) (E.output faults.new) }
+        × TellsLine (fault_line Fault.Usage) (E.output faults.old) (E.output faults.new) }
     ensures quiet { result ≡ 0 → faults.new ≡ faults.old }
-    ensures served { (order : Order) → order_of (map string_bytes words.now) ≡ Some order
-        → Exits order result (R.input reader.old) (R.input reader.new) (W.output writer.old)
+    ensures served { (form : Form) → form_of (map string_bytes words.now) ≡ Some form
+        → Exits form result (R.input reader.old) (R.input reader.new) (W.output writer.old)
         (W.output writer.new) (E.output faults.old) (E.output faults.new) }
 {
-    let Some(order) = read_order(words) else {
+    let Some(form) = read_form(words) else {
         tell(Fault::Usage, faults);
         return 2;
     };
-    match perform(alloc, order, reader, writer) {
+    match perform(alloc, form, reader, writer) {
         Ok(_) => 0,
         Err(fault) => {
             tell(fault, faults);

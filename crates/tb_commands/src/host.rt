@@ -1,6 +1,6 @@
 //! The commands between a program's arguments, its input and its output.
 ghost use Rattle.std.specs.Prelude.{◌≡◌};
-ghost use Rattle.tb_commands.specs.Statuses.{fault_status, fault_line, Told};
+ghost use Rattle.tb_commands.specs.Statuses.{fault_status, fault_line, TellsLine};
 
 use crate::commands::{Fault, command, tell};
 use crate::lines::{LINE, put_line};
@@ -62,7 +62,7 @@ pub fn fault_of(error: &io::Error) -> Fault {
 /// Tells the fault, and answers its status.
 pub fn refuse<E: Sink>(fault: Fault, faults: &mut E) -> u8
     ensures value { result ≡ fault_status fault }
-    ensures told { Told (fault_line fault) (E.output faults.old) (E.output faults.new) }
+    ensures told { TellsLine (fault_line fault) (E.output faults.old) (E.output faults.new) }
 {
     tell(fault, faults);
     fault.status()

@@ -3,7 +3,7 @@
 //!
 //! Modules, each over those before it:
 //!
-//! - `arguments`: `read_order`, what the words of the command line ask for.
+//! - `arguments`: `read_form`, what the words of the command line ask for.
 //! - `lines`: the line that a fault is told by.
 //! - `commands`: `command`, each form over any reader and writer, and the exit status of each outcome.
 //! - `host`: `serve`, the way from arguments, input and output to `command`.
@@ -14,7 +14,7 @@ mod commands;
 mod host;
 mod lines;
 
-pub use arguments::{Order, number, read_order};
+pub use arguments::{Form, number, read_clients_max, read_form, read_profile};
 pub use commands::{Fault, command, tell};
 pub use host::{fault_of, refuse, serve, words};
 pub use lines::{LINE, line_of, put_line};

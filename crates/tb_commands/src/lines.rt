@@ -1,6 +1,6 @@
 //! The line that a fault is told by.
 ghost use Rattle.std.specs.Prelude.{◌≡◌, ◌≤◌, length};
-ghost use Rattle.tb_commands.specs.Statuses.{line_named, Told};
+ghost use Rattle.tb_commands.specs.Statuses.{line_named, TellsLine};
 
 use arrayvec::ArrayVec;
 use tb_records::{Sink, put_all};
@@ -22,7 +22,7 @@ pub fn line_of(name: &str) -> ArrayVec<u8, LINE>
 
 /// Writes a line as far as the writer takes it.
 pub fn put_line<E: Sink>(line: &[u8], faults: &mut E)
-    ensures { Told line.now (E.output faults.old) (E.output faults.new) }
+    ensures { TellsLine line.now (E.output faults.old) (E.output faults.new) }
 {
     let _ = put_all(faults, line);
 }

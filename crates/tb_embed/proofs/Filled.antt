@@ -57,7 +57,7 @@ module _ (lent name named empty at stalled stalls : ℕ) (was is kept held : Boo
   pub given_broken : (f : RunFault) → Served (Err f) → Fills (Err f) S T p bytes
   given_broken f turn = broken f (begun (Err f) turn)
 
--- a beginning of the answer that fills the room is all of it, where the room is long enough
+-- a prefix of the answer that fills the room is all of it, where the room is long enough
 pub filled_whole : (answer room : List ℕ) (n len : ℕ) → room ≡ take n answer → len ≡ length answer → len ≤ length room → take len room ≡ answer
 filled_whole answer room n len e is long =
     let short : length room ≡ min n (length answer) = ap length e ∙ length-take n answer in

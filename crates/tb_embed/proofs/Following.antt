@@ -14,7 +14,7 @@ use Rattle.tb_machine.proofs.Accepted.{accepted_is_legal}
 use Rattle.tb_machine.proofs.Running.{after_with_pair}
 use Rattle.tb_embed.specs.declared.outcomes.Outcome.{Outcome}
 use Rattle.tb_embed.specs.declared.outcomes.Outcome.TheVariants.{Done, Closed, Usage, NoMemory, Unread, Malformed, TimeExhausted, Absent, TooSmall}
-use Rattle.tb_embed.specs.Calls.{Serves}
+use Rattle.tb_embed.specs.Calls.{ServesFrame}
 use Rattle.tb_embed.specs.CallRuns.{Call, Follow, answered, AreAsked, CallsMakeHistory, OneStatus}
 use Rattle.tb_embed.specs.Outcomes.{status_of}
 use Rattle.tb_embed.proofs.Frames.{whole_frame}
@@ -31,7 +31,7 @@ module _ (profile : Profile) (clients_max : ℕ) where
   goes h [] S T is follow = record { pairs = []; lawful = tt; asked = tt; stands = follow ∙ is }
   goes h (c ∷ cs) S T is follow = by c.outcome c.moment c.bytes c.room follow.0 follow.1 (λ m V here. goes m cs follow.0 T here follow.2)
     where
-      by : (outcome : Outcome) (moment : ℕ) (bytes room : List ℕ) (U : State) → Serves outcome (Some S) (Some U) moment bytes room
+      by : (outcome : Outcome) (moment : ℕ) (bytes room : List ℕ) (U : State) → ServesFrame outcome (Some S) (Some U) moment bytes room
           → ((m : List Entry) → State → U ≡ after profile clients_max m → Goes m cs T)
           → Goes h (record { moment = moment; bytes = bytes; outcome = outcome; room = room } ∷ cs) T
       by (Done n) moment bytes room U (r, spells, right) rest =
@@ -100,7 +100,7 @@ one_status S T U moment bytes room other a b mine yours same a_memory b_memory =
     late r s first second timely new none =
         no_time S (moment, s) (subst (λ (x : Message). is_new_in S (moment, x) ≡ true → has_time S (moment, x) ≡ true) (one_request bytes r s first second) timely) new none
 
-    by : (a b : Outcome) → Serves a (Some S) (Some T) moment bytes room → Serves b (Some S) (Some U) moment bytes other → (status_of a ≡ 3 → ⊥) → (status_of b ≡ 3 → ⊥) → status_of a ≡ status_of b
+    by : (a b : Outcome) → ServesFrame a (Some S) (Some T) moment bytes room → ServesFrame b (Some S) (Some U) moment bytes other → (status_of a ≡ 3 → ⊥) → (status_of b ≡ 3 → ⊥) → status_of a ≡ status_of b
     by NoMemory b mine yours c d = absurd (c refl)
     by Unread b mine yours c d = absurd (c refl)
     by Closed b (r, spells, right) yours c d = absurd right

@@ -7,7 +7,7 @@ use Rattle.tb_records.proofs.Spellings.{spelled_sound, found_only}
 use Rattle.tb_machine.specs.Histories.{State}
 use Rattle.tb_embed.specs.declared.outcomes.Outcome.{Outcome}
 use Rattle.tb_embed.specs.declared.outcomes.Outcome.TheVariants.{Done, Closed, Usage, NoMemory, Unread, Malformed, TimeExhausted, Absent, TooSmall}
-use Rattle.tb_embed.specs.Calls.{IsMalformed, Answers, AnswersFrame}
+use Rattle.tb_embed.specs.Calls.{IsMalformed, AnswersCall, AnswersFrame}
 
 spelled_fault : (bytes : List ℕ) (r : Message) → Spells bytes r → request_fault bytes ≡ None
 spelled_fault bytes r spells = ap request_fault (spells.bytes_are ∙ sym (append-nil (request_bytes r))) ∙ spelled_sound r [] spells.is
@@ -19,7 +19,7 @@ whole_frame bytes r spells (inr (n, s, short, other)) =
     absurd omega (arith, same.1)
 
 -- what a request is answered, its frame is
-pub frame_answered : (outcome : Outcome) (S T : State) (moment : ℕ) (bytes room : List ℕ) (r : Message) → Spells bytes r → Answers outcome S T (moment, r) room → AnswersFrame outcome S T moment bytes room
+pub frame_answered : (outcome : Outcome) (S T : State) (moment : ℕ) (bytes room : List ℕ) (r : Message) → Spells bytes r → AnswersCall outcome S T (moment, r) room → AnswersFrame outcome S T moment bytes room
 frame_answered (Done n) S T moment bytes room r spells right = (r, spells, right)
 frame_answered Closed S T moment bytes room r spells right = absurd right
 frame_answered Usage S T moment bytes room r spells right = absurd right

@@ -9,7 +9,7 @@ use Rattle.tb_machine.specs.Scripts.{Pair, accepted, replies_to}
 use Rattle.tb_machine.specs.ScriptLaws.{AreLawful}
 use Rattle.tb_embed.specs.declared.outcomes.Outcome.{Outcome}
 use Rattle.tb_embed.specs.declared.outcomes.Outcome.TheVariants.{Done, TooSmall}
-use Rattle.tb_embed.specs.Calls.{Serves}
+use Rattle.tb_embed.specs.Calls.{ServesFrame}
 use Rattle.tb_embed.specs.Outcomes.{status_of}
 
 -- a call of tb_embed_serve: the moment and the bytes that it was given, how it fared, and the room after it
@@ -22,7 +22,7 @@ pub record Call : Type 0 where
 -- calls one after another; what shows a record between them leaves the server as it is
 abbrev pub Follow : State → List Call → State → Type 0
 Follow S [] T = T ≡ S
-Follow S (c ∷ cs) T = (U : State) × Serves c.outcome (Some S) (Some U) c.moment c.bytes c.room × Follow U cs T
+Follow S (c ∷ cs) T = (U : State) × ServesFrame c.outcome (Some S) (Some U) c.moment c.bytes c.room × Follow U cs T
 
 -- the calls that were answered, also where the room was too small for the reply
 abbrev pub is_answered : Outcome → Bool
@@ -65,5 +65,5 @@ CallsMakeHistory = (profile : Profile) (clients_max : ℕ) (cs : List Call) (T :
 -- without a time, and that before a room that is too small
 abbrev pub OneStatus : Type 0
 OneStatus = (S T U : State) (moment : ℕ) (bytes room other : List ℕ) (a b : Outcome)
-    → Serves a (Some S) (Some T) moment bytes room → Serves b (Some S) (Some U) moment bytes other → length room ≡ length other
+    → ServesFrame a (Some S) (Some T) moment bytes room → ServesFrame b (Some S) (Some U) moment bytes other → length room ≡ length other
     → (status_of a ≡ 3 → ⊥) → (status_of b ≡ 3 → ⊥) → status_of a ≡ status_of b

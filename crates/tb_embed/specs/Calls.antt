@@ -44,19 +44,19 @@ IsMalformed bytes = ((fault : FrameFault) × (request_fault bytes ≡ Some fault
 -- needs more room than there is and can be had by sending the request again; or the machine stands as it stood, since no
 -- time is left for a new request, or no memory to enter it. The numbers of each reply fit, so that its bytes are read as
 -- that reply and no other
-abbrev pub Answers : Outcome → State → State → Pair → List ℕ → Type 0
-Answers (Done n) S T p room = IsTimely S p × (T ≡ after_pair S p) × (n ≤ length room) × SpellsReply (take n room) (answer_to (after_pair S p) p.1)
-Answers (TooSmall n) S T p room = IsTimely S p × (T ≡ after_pair S p) × (length room < n) × (n ≡ length (answer_bytes S p)) × IsReply (answer_to (after_pair S p) p.1)
-Answers TimeExhausted S T p room = (is_new_in S p ≡ true) × (has_time S p ≡ false) × (T ≡ S)
-Answers NoMemory S T p room = (is_new_in S p ≡ true) × (has_time S p ≡ true) × (T ≡ S)
-Answers outcome S T p room = ⊥
+abbrev pub AnswersCall : Outcome → State → State → Pair → List ℕ → Type 0
+AnswersCall (Done n) S T p room = IsTimely S p × (T ≡ after_pair S p) × (n ≤ length room) × SpellsReply (take n room) (answer_to (after_pair S p) p.1)
+AnswersCall (TooSmall n) S T p room = IsTimely S p × (T ≡ after_pair S p) × (length room < n) × (n ≡ length (answer_bytes S p)) × IsReply (answer_to (after_pair S p) p.1)
+AnswersCall TimeExhausted S T p room = (is_new_in S p ≡ true) × (has_time S p ≡ false) × (T ≡ S)
+AnswersCall NoMemory S T p room = (is_new_in S p ≡ true) × (has_time S p ≡ true) × (T ≡ S)
+AnswersCall outcome S T p room = ⊥
 
 -- the same of bytes: malformed ones change nothing, and neither does want of memory for reading those that have no fault; but
 -- for that, memory is wanting only where the bytes are the frame of a request that is new and has a time
 abbrev pub AnswersFrame : Outcome → State → State → ℕ → List ℕ → List ℕ → Type 0
 AnswersFrame Malformed S T moment bytes room = IsMalformed bytes × (T ≡ S)
 AnswersFrame Unread S T moment bytes room = (request_fault bytes ≡ None) × (T ≡ S)
-AnswersFrame outcome S T moment bytes room = (r : Message) × Spells bytes r × Answers outcome S T (moment, r) room
+AnswersFrame outcome S T moment bytes room = (r : Message) × Spells bytes r × AnswersCall outcome S T (moment, r) room
 
 -- a request that was served at a moment and comes again at another one moves nothing, and is answered by the same bytes
 abbrev pub IsAnsweredAgain : State → ℕ → ℕ → Message → Type 0
@@ -64,10 +64,10 @@ IsAnsweredAgain S moment again r =
     (after_pair (after_pair S (moment, r)) (again, r) ≡ after_pair S (moment, r))
     × (answer_bytes (after_pair S (moment, r)) (again, r) ≡ answer_bytes S (moment, r))
 
-abbrev pub Serves : Outcome → Option State → Option State → ℕ → List ℕ → List ℕ → Type 0
-Serves outcome (Some S) (Some T) moment bytes room = AnswersFrame outcome S T moment bytes room
-Serves outcome None None moment bytes room = outcome ≡ Closed
-Serves outcome before after moment bytes room = ⊥
+abbrev pub ServesFrame : Outcome → Option State → Option State → ℕ → List ℕ → List ℕ → Type 0
+ServesFrame outcome (Some S) (Some T) moment bytes room = AnswersFrame outcome S T moment bytes room
+ServesFrame outcome None None moment bytes room = outcome ≡ Closed
+ServesFrame outcome before after moment bytes room = ⊥
 
 -- showing a record
 

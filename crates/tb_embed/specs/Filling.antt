@@ -10,7 +10,7 @@ use Rattle.tb_machine.specs.Histories.{State, answer_to}
 use Rattle.tb_machine.specs.Scripts.{Pair, has_time, after_pair}
 use Rattle.tb_machine.specs.Runs.{is_new_in, IsTimely, answer_bytes}
 
--- the answer fills so many bytes of the room, which are read as no other; or a beginning of the answer fills the room
+-- the answer fills so many bytes of the room, which are read as no other; or a prefix of the answer fills the room
 abbrev pub Fills : Result ℕ RunFault → State → State → Pair → List ℕ → Type 0
 Fills (Ok n) S T p room = IsTimely S p × (T ≡ after_pair S p) × (n ≤ length room) × SpellsReply (take n room) (answer_to (after_pair S p) p.1)
 Fills (Err (fault.Frame f)) S T p room = IsTimely S p × (T ≡ after_pair S p) × ((n : ℕ) × (room ≡ take n (answer_bytes S p)))

@@ -6,7 +6,7 @@ ghost use Rattle.tb_records.specs.RecordBytes.{account_bytes, transfer_bytes};
 ghost use Rattle.tb_ledger.specs.Books.{account_now, transfer_at};
 ghost use Rattle.tb_machine.specs.Histories.{State};
 ghost use Rattle.tb_embed.specs.Outcomes.{Tells, TellsLength};
-ghost use Rattle.tb_embed.specs.Calls.{standing, id_of, Opens, Serves, Shows};
+ghost use Rattle.tb_embed.specs.Calls.{standing, id_of, Opens, ServesFrame, Shows};
 ghost use Rattle.tb_embed.specs.declared.outcomes.Outcome.{Outcome};
 
 use crate::opening::open;
@@ -47,7 +47,7 @@ pub extern "C" fn tb_embed_serve(
 ) -> u32
     ensures { TellsLength result written.new
         (λ outcome.
-        Serves outcome (standing server.old.held.state) (standing server.new.held.state)
+        ServesFrame outcome (standing server.old.held.state) (standing server.new.held.state)
         moment request.now reply.new) }
 {
     let outcome = serve(alloc, server, moment, request, reply);

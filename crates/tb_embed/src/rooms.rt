@@ -4,7 +4,7 @@ ghost use Rattle.std.specs.Prelude.{◌≡◌, ◌≤◌, ◌∷◌, true, Some,
 use std::io;
 use tb_records::Sink;
 
-/// A room that is filled from its beginning. It takes what it has room for, and never fails.
+/// A room that is filled from its start. It takes what it has room for, and never fails.
 #[derive(Drop)]
 pub(crate) struct Room<'a> {
     bytes: &'a mut [u8],

@@ -1,6 +1,6 @@
 //! The serving of one request: its frame is read, and its reply written into the caller's room.
 ghost use Rattle.std.specs.Prelude.{◌≡◌};
-ghost use Rattle.tb_embed.specs.Calls.{standing, Answers, AnswersFrame, Serves};
+ghost use Rattle.tb_embed.specs.Calls.{standing, AnswersCall, AnswersFrame, ServesFrame};
 ghost use Rattle.tb_embed.specs.Filling.{Fills};
 
 use crate::outcomes::Outcome;
@@ -33,7 +33,7 @@ fn serve_request(
     request: Request,
     reply: &mut [u8],
 ) -> Outcome
-    ensures { Answers result machine.old machine.new (moment, request) reply.new }
+    ensures { AnswersCall result machine.old machine.new (moment, request) reply.new }
 {
     let _lawful = request.body();
     let client = request.client();
@@ -83,7 +83,7 @@ pub(crate) fn serve(
     frame: &[u8],
     reply: &mut [u8],
 ) -> Outcome
-    ensures { Serves result (standing server.old.held.state) (standing server.new.held.state) moment
+    ensures { ServesFrame result (standing server.old.held.state) (standing server.new.held.state) moment
         frame.now reply.new }
 {
     let Some(mut held) = server.take(alloc) else {

@@ -10,7 +10,7 @@ use crate::outcomes::Outcome;
 use crate::servers::TbServer;
 use std::alloc::Global;
 
-/// Writes the bytes of a record to the beginning of a room.
+/// Writes the bytes of a record to the start of a room.
 fn write(bytes: &[u8; 128], room: &mut [u8])
     requires { 128 ≤ length room.old }
     ensures written { take 128 room.new ≡ bytes.now }

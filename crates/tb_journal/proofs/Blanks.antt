@@ -3,13 +3,13 @@ use Rattle.std.proofs.Common.{◌≡◌, inl, inr, ⊎_elim, ℕ, ◌<◌, Bool,
 use Rattle.std.proofs.lemmas.List.{take_all}
 use Rattle.std.specs.Prelude.{IfOk}
 use Rattle.tb_journal.specs.declared.faults.Fault.{Fault}
-use Rattle.tb_journal.specs.Device.{Disk, IsKept, LeavesOnly, HasCause, Looks, ReadsAt}
+use Rattle.tb_journal.specs.Device.{Disk, IsOnDisk, LeavesOnly, HasCause, Looks, ReadsAt}
 use Rattle.tb_journal.specs.Opening.{IsAsBefore}
 use Rattle.tb_journal.specs.Reading.{LooksKept}
 use Rattle.tb_journal.specs.Creating.{is_blank, FindsBlank}
 use Rattle.tb_journal.proofs.Moments.{started, goes_on, then, weaker}
 use Rattle.tb_journal.proofs.Kept.{cause_since}
-use Rattle.tb_journal.proofs.Beginning.{blank_short}
+use Rattle.tb_journal.proofs.FirstWrite.{blank_short}
 
 too_long : (file : List ℕ) (b : Bool) → is_blank file ≡ b → 9 < length file → false ≡ b
 too_long file true is long = absurd (let short = blank_short file is in omega (arith, short, long))
@@ -43,7 +43,7 @@ module _ (before mid : Disk) (now : (c : List ℕ) → before.left_since before.
 
     pub blank_read : (len count : ℕ) (found : Bool) → len ≡ length before.seen → len ≤ 9 → length into ≡ 9 → bytes ≡ Ok count → found ≡ is_blank (take count into) → FindsBlank (Ok found) before after
     blank_read len count found is short room done finds =
-        let got = subst (λ (r : Result ℕ Fault). IfOk r (λ n. ReadsAt n 0 mid.seen into × IsKept after)) done read.ok in
+        let got = subst (λ (r : Result ℕ Fault). IfOk r (λ n. ReadsAt n 0 mid.seen into × IsOnDisk after)) done read.ok in
         let long : count ≡ length mid.seen = omega (arith, got.0.counts, is, short, room, ap length looks.seen) in
         let whole : take count into ≡ before.seen = got.0.bytes ∙ take_all count mid.seen (omega (arith, long)) ∙ looks.seen in
         record {

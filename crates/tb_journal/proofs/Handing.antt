@@ -1,5 +1,5 @@
 -- How what reads handed out grows.
-use Rattle.std.proofs.Common.{◌≡◌, ℕ, ◌+◌, ◌≤◌, Bool, true, false, List, [], ◌∷◌, ◌++◌, length, take, drop, refl, sym, ◌∙◌, ap, subst, arith, append-nil, append_assoc, length-append, length-drop, Ok, Err, Result}
+use Rattle.std.proofs.Common.{◌≡◌, inr, ℕ, ◌+◌, ◌≤◌, Bool, true, false, List, [], ◌∷◌, ◌++◌, length, take, drop, refl, sym, ◌∙◌, ap, subst, arith, append-nil, append_assoc, length-append, length-drop, Ok, Err, Result}
 use Rattle.std.proofs.lemmas.List.{take_all, take-append-le, drop-append-le, length-take-le}
 use Rattle.tb_journal.specs.declared.faults.Fault.{Fault}
 use Rattle.tb_journal.specs.declared.opening.OpenFault.{OpenFault}
@@ -10,7 +10,7 @@ use Rattle.tb_journal.specs.declared.reading.Refusal.TheVariants as refusals
 use Rattle.tb_journal.specs.declared.reading.Extent.{Extent}
 use Rattle.tb_journal.specs.Contents.{front, contents, records_end}
 use Rattle.tb_journal.specs.Scans.{Place, BeginsWith, IsAhead, HasRead}
-use Rattle.tb_journal.specs.Reading.{FindsHead, head_is, extent_of}
+use Rattle.tb_journal.specs.Reading.{FindsHead, HasAhead, head_is, extent_of}
 use Rattle.tb_journal.specs.Handed.{AreHanded, SomeHanded, HasTaken, Starts, TakesNext, TellsExtent, IsAllAhead, GoesOnAhead}
 use Rattle.tb_journal.proofs.Walks.{take_parts, drop_parts}
 use Rattle.tb_journal.proofs.Nexts.{end_within, step_ends, step_stays, step_spoiled, step_whole}
@@ -18,6 +18,14 @@ use Rattle.tb_journal.proofs.Nexts.{end_within, step_ends, step_stays, step_spoi
 -- all that is ahead of some bytes is ahead as far as it goes
 all_is_ahead : (at : ℕ) (file ahead : List ℕ) → ahead ≡ drop at file → IsAhead at file ahead
 all_is_ahead at file ahead is = is ∙ sym (take_all (length ahead) (drop at file) (omega (arith, ap length is)))
+
+pub none_is_ahead : (file ahead : List ℕ) → length ahead ≡ 0 → IsAhead 0 file ahead
+none_is_ahead file [] is = refl
+none_is_ahead file (byte ∷ bytes) is = absurd (cc)
+
+-- of the bytes that were read ahead all are ahead
+pub own_ahead : (ahead : List ℕ) → HasAhead 8 0 ahead ahead
+own_ahead ahead = record { same = sym (take_all (length ahead) ahead (omega arith)); enough = inr refl }
 
 module _ (gave : ℕ → List ℕ → Type 0) where
   pub none_handed : AreHanded gave []
@@ -75,15 +83,6 @@ module _ (gave : ℕ → List ℕ → Type 0) where
 
   longer : (records : List (List ℕ)) (file more : List ℕ) → BeginsWith records file → BeginsWith records (file ++ more)
   longer records file more begins = ap contents (take-append-le (records_end records) file more (end_within records file begins)) ∙ begins
-
-  -- nothing more was handed out, and why is not told
-  pub takes_none : (records : List (List ℕ)) (file : List ℕ) (old new : Place) (fault : Fault) → HasTaken gave records file old
-      → (more : List ℕ) × TakesNext gave (Err (open_faults.Device fault)) records (file ++ more) new
-  takes_none records file old new fault has = (
-    [],
-    subst (λ (f : List ℕ). TakesNext gave (Err (open_faults.Device fault)) records f new) (sym (append-nil file))
-        (record { handed = has.handed; begins = has.read.begins; reads = tt; rest = tt }),
-  )
 
   module _ (records : List (List ℕ)) (file : List ℕ) (old : Place) (has : HasTaken gave records file old) (ahead : List ℕ) (on : GoesOnAhead gave old.end file ahead) (head : Head) (told : head ≡ head_is (front ahead)) where
     abbrev more : List ℕ

@@ -2,7 +2,7 @@
 use Rattle.std.proofs.Common.{◌≡◌, inl, inr, ⊎_elim, ℕ, ◌+◌, ◌-◌, ◌≤◌, List, ◌++◌, length, length-append, length-drop, take, drop, refl, sym, ◌∙◌, ap, subst, arith, Result, Ok, Err, OnOk}
 use Rattle.std.proofs.lemmas.List.{take_at, drop_at, length-take-le}
 use Rattle.tb_journal.specs.declared.faults.Fault.{Fault}
-use Rattle.tb_journal.specs.Device.{Disk, Only, IsKept, Torn, LeavesOnly, HasCause, IsCause, Writes, Syncs, overwritten}
+use Rattle.tb_journal.specs.Device.{Disk, Only, IsOnDisk, Torn, LeavesOnly, HasCause, IsCause, Writes, Syncs, overwritten}
 use Rattle.tb_journal.specs.Steps.{Overwrites}
 use Rattle.tb_journal.proofs.Walks.{drop_parts}
 use Rattle.tb_journal.proofs.Moments.{started, goes_on}
@@ -38,7 +38,7 @@ pub has_cause_since : (before mid after : Disk) (result : Result (Unit {0}) Faul
 has_cause_since before mid after (Ok x) le has = record { later = omega (arith, le, has.later); cause = tt }
 has_cause_since before mid after (Err f) le has = record { later = omega (arith, le, has.later); cause = cause_since before mid after f le has.cause }
 
-module _ (at : ℕ) (bytes : List ℕ) (before mid : Disk) (kept : IsKept before) (within : at ≤ length before.seen) (now : (c : List ℕ) → before.left_since before.moment c → before.may_leave c) (result : Result (Unit {0}) Fault) (write : Writes at bytes result before mid) where
+module _ (at : ℕ) (bytes : List ℕ) (before mid : Disk) (kept : IsOnDisk before) (within : at ≤ length before.seen) (now : (c : List ℕ) → before.left_since before.moment c → before.may_leave c) (result : Result (Unit {0}) Fault) (write : Writes at bytes result before mid) where
   torn : (c : List ℕ) → mid.may_leave c → Torn at (length bytes) before.seen c
   torn c left = let from = write.crash c left in subst (λ (d : List ℕ). Torn at (length bytes) d c) (kept from.0 from.1) from.2
 
@@ -62,6 +62,6 @@ module _ (at : ℕ) (bytes : List ℕ) (before mid : Disk) (kept : IsKept before
       seen = subst (λ (r : Result (Unit {0}) Fault). OnOk r (mid.seen ≡ overwritten before.seen at bytes)) is write.written
 
       done : (r : Result (Unit {0}) Fault) → OnOk r (Only mid.seen after.may_leave)
-          → OnOk r ((after.seen ≡ overwritten before.seen at bytes) × IsKept after)
+          → OnOk r ((after.seen ≡ overwritten before.seen at bytes) × IsOnDisk after)
       done (Ok x) only = (sync.seen ∙ seen, subst (λ (l : List ℕ). Only l after.may_leave) (sym sync.seen) only)
       done (Err f) only = tt

@@ -3,6 +3,7 @@ pub mod Moments
 pub mod Blocks
 pub mod Steps
 pub mod Kept
+pub mod Looking
 pub mod Remainders
 pub mod Past
 pub mod Publishing
@@ -11,10 +12,11 @@ pub mod Committing
 pub mod Heads
 pub mod Repairing
 pub mod Opened
-pub mod Beginning
+pub mod FirstWrite
 pub mod Blanks
 pub mod Nexts
 pub mod Filling
 pub mod Fronts
 pub mod Handing
 pub mod Scanning
+pub mod Created

@@ -53,14 +53,6 @@ pub more_left : (first : List ℕ) (calls : List Call) (call : Call) (c : List �
     → LeftBy first (reverse (calls ++ call ∷ [])) c → LeftBy first (call ∷ reverse calls) c
 more_left first calls call c left = subst (λ (l : List Call). LeftBy first l c) (newest calls call) left
 
--- and what it leaves of one call more
-pub left_more : (first : List ℕ) (calls : List Call) (call : Call) (c : List ℕ)
-    → LeftBy first (call ∷ reverse calls) c → LeftBy first (reverse (calls ++ call ∷ [])) c
-left_more first calls call c left = subst (λ (l : List Call). LeftBy first l c) (sym (newest calls call)) left
-
-pub cut_same : (len : ℕ) (file : List ℕ) → Cut len file file
-cut_same len file = record { no_shorter = omega arith; front = take_all (length file) file (omega arith) }
-
 -- the call that fails is counted, and no other
 
 pub rises : (fuse left : ℕ) → (fuse == 1) ≡ true → left ≡ fuse - 1
@@ -121,19 +113,7 @@ pub sync_failed : (first : List ℕ) (calls : List Call) (old : List ℕ) (fuse 
     → Syncs (Err faults.Failed) (disk_after first calls old fuse) (disk_after first calls old left)
 sync_failed first calls old fuse left trips counted = record { durable = tt; seen = refl; crash = λ c now. inl now; time = same_elapses first calls old old fuse left; cause = failed_cause first calls calls old old fuse left trips counted }
 
-pub sync_lacks : (first : List ℕ) (calls : List Call) (old : List ℕ) (fuse left : ℕ) (f : Fault)
-    → f ≡ faults.Memory → left ≡ fuse - 1
-    → Syncs (Err f) (disk_after first calls old fuse) (disk_after first calls old left)
-sync_lacks first calls old fuse left f is counted = record { durable = tt; seen = refl; crash = λ c now. inl now; time = same_elapses first calls old old fuse left; cause = record { later = stays fuse left counted; cause = inl is } }
-
-pub cut_lacks : (len : ℕ) (first : List ℕ) (calls : List Call) (old : List ℕ) (fuse : ℕ) (f : Fault)
-    → f ≡ faults.Memory → Cuts len (Err f) (disk_after first calls old fuse) (disk_after first calls old fuse)
-cut_lacks len first calls old fuse f is = record { cut = tt; crash = λ c now. (c, now, cut_same len c); time = same_elapses first calls old old fuse fuse; cause = record { later = omega arith; cause = inl is } }
-
--- what a crash leaves of one call more, torn so
-
-pub cut_part : (len extra : ℕ) (file : List ℕ) → len ≤ extra → Cut len file (take extra file)
-cut_part len extra file le = record { no_shorter = omega (arith, length-take extra file); front = ap (λ (n : ℕ). take n file) (length-take extra file) ∙ take_min extra file }
+-- what a crash leaves of one call more
 
 pub step_left : (first : List ℕ) (calls : List Call) (i : ℕ) (d : Call) (file left : List ℕ) → i < length calls
     → LeftBy first (reverse (take i calls)) file → Adds file (get_or calls i d) left

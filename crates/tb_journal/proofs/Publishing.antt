@@ -2,7 +2,7 @@
 use Rattle.std.proofs.Common.{◌≡◌, inl, ℕ, ◌+◌, ◌≤◌, List, [], ◌∷◌, ◌++◌, length, length-append, take, drop, sym, ◌∙◌, ap, subst, arith, Result, Ok, Err, OnOk, length-take, length-drop}
 use Rattle.std.specs.List.{AllByRecursion}
 use Rattle.tb_journal.specs.declared.faults.Fault.{Fault}
-use Rattle.tb_journal.specs.Device.{Disk, IsKept, Torn, HasCause, overwritten}
+use Rattle.tb_journal.specs.Device.{Disk, IsOnDisk, Torn, HasCause, overwritten}
 use Rattle.tb_journal.specs.Contents.{Fits, at_rest, Records, contents, records_of, recorded, records_end}
 use Rattle.tb_journal.specs.Steps.{IsAtRest, IsBeforeOrAfter, Overwrites, Publishes}
 use Rattle.tb_journal.proofs.Moments.{then, weaker}
@@ -11,7 +11,7 @@ use Rattle.tb_journal.proofs.Steps.{length_file, behind_torn, written_behind, re
 
 -- a file that reads as these records, with its closed gate, is at rest
 pub rests : (disk : Disk) (records : List (List ℕ)) → contents disk.seen ≡ Records records
-    → disk.seen ≡ take (records_end records) disk.seen ++ 0 ∷ [] → IsKept disk
+    → disk.seen ≡ take (records_end records) disk.seen ++ 0 ∷ [] → IsOnDisk disk
     → IsAtRest disk × (recorded disk.seen ≡ records)
 rests disk records reads closed kept =
     let same : recorded disk.seen ≡ records = ap records_of reads in (
@@ -31,8 +31,8 @@ room before rest end ends = omega (arith, ends, length_file before.seen (recorde
 
 pub done_kept : (at : ℕ) (bytes : List ℕ) (before mid : Disk) (result : Result (Unit {0}) Fault)
     → result ≡ Ok tt → Overwrites at bytes result before mid
-    → (mid.seen ≡ overwritten before.seen at bytes) × IsKept mid
-done_kept at bytes before mid result is stage = subst (λ (r : Result (Unit {0}) Fault). OnOk r ((mid.seen ≡ overwritten before.seen at bytes) × IsKept mid)) is stage.ok
+    → (mid.seen ≡ overwritten before.seen at bytes) × IsOnDisk mid
+done_kept at bytes before mid result is stage = subst (λ (r : Result (Unit {0}) Fault). OnOk r ((mid.seen ≡ overwritten before.seen at bytes) × IsOnDisk mid)) is stage.ok
 
 -- a write makes no file shorter
 pub room_written : (at : ℕ) (bytes : List ℕ) (before mid : Disk) (result : Result (Unit {0}) Fault)
@@ -72,7 +72,7 @@ module _ (before : Disk) (rest : IsAtRest before) (batch tail : List ℕ) (recor
   }
 
   module _ (mid : Disk) (result : Result (Unit {0}) Fault) (is : result ≡ Ok tt) (stage : Overwrites (end + 1) tail result before mid) where
-    done : (mid.seen ≡ overwritten before.seen (end + 1) tail) × IsKept mid
+    done : (mid.seen ≡ overwritten before.seen (end + 1) tail) × IsOnDisk mid
     done = done_kept (end + 1) tail before mid result is stage
 
     staged : mid.seen ≡ take (records_end olds) before.seen ++ (0 ∷ tail)
@@ -93,7 +93,7 @@ module _ (before : Disk) (rest : IsAtRest before) (batch tail : List ℕ) (recor
     }
       where
         finished : (r : Result (Unit {0}) Fault)
-            → OnOk r ((after.seen ≡ overwritten mid.seen end (255 ∷ [])) × IsKept after)
+            → OnOk r ((after.seen ≡ overwritten mid.seen end (255 ∷ [])) × IsOnDisk after)
             → OnOk r (IsAtRest after × (recorded after.seen ≡ olds ++ records))
         finished (Err f) so = tt
         finished (Ok x) so =

@@ -2,7 +2,7 @@
 use Rattle.std.proofs.Common.{◌≡◌, ⊎_elim, ℕ, ◌≤◌, List, [], ◌∷◌, ◌++◌, length, take, sym, ◌∙◌, ap, subst, arith, Result, Ok, Err, OnOk}
 use Rattle.std.proofs.lemmas.List.{take_all, length-take-le}
 use Rattle.tb_journal.specs.declared.faults.Fault.{Fault}
-use Rattle.tb_journal.specs.Device.{Disk, Only, IsKept, Torn, Cut, LeavesOnly, HasCause, Cuts, Syncs, overwritten}
+use Rattle.tb_journal.specs.Device.{Disk, Only, IsOnDisk, Torn, Cut, LeavesOnly, HasCause, Cuts, Syncs, overwritten}
 use Rattle.tb_journal.specs.Contents.{Records, contents, recorded, records_end}
 use Rattle.tb_journal.specs.Steps.{IsAtRest, Overwrites, Shortens}
 use Rattle.tb_journal.specs.Opening.{Repairs}
@@ -21,7 +21,7 @@ cut_whole n file le =
     let long : length (take n file) ≡ n = length-take-le n file le in
     record { no_shorter = omega (arith, long); front = ap (λ (k : ℕ). take k file) long }
 
-module _ (n : ℕ) (before mid : Disk) (kept : IsKept before) (fits : n ≤ length before.seen) (now : (c : List ℕ) → before.left_since before.moment c → before.may_leave c) (result : Result (Unit {0}) Fault) (cut : Cuts n result before mid) where
+module _ (n : ℕ) (before mid : Disk) (kept : IsOnDisk before) (fits : n ≤ length before.seen) (now : (c : List ℕ) → before.left_since before.moment c → before.may_leave c) (result : Result (Unit {0}) Fault) (cut : Cuts n result before mid) where
   shorter : (c : List ℕ) → mid.may_leave c → Cut n before.seen c
   shorter c left = let from = cut.crash c left in subst (λ (d : List ℕ). Cut n d c) (kept from.0 from.1) from.2
 
@@ -43,14 +43,14 @@ module _ (n : ℕ) (before mid : Disk) (kept : IsKept before) (fits : n ≤ leng
       seen : mid.seen ≡ take n before.seen
       seen = subst (λ (r : Result (Unit {0}) Fault). OnOk r (mid.seen ≡ take n before.seen)) is cut.cut
 
-      done : (r : Result (Unit {0}) Fault) → OnOk r (Only mid.seen after.may_leave) → OnOk r ((after.seen ≡ take n before.seen) × IsKept after)
+      done : (r : Result (Unit {0}) Fault) → OnOk r (Only mid.seen after.may_leave) → OnOk r ((after.seen ≡ take n before.seen) × IsOnDisk after)
       done (Ok x) only = (sync.seen ∙ seen, subst (λ (l : List ℕ). Only l after.may_leave) (sym sync.seen) only)
       done (Err f) only = tt
 
 -- both, and the gate
 
-pub cut_kept_done : (n : ℕ) (before mid : Disk) (result : Result (Unit {0}) Fault) → result ≡ Ok tt → Shortens n result before mid → (mid.seen ≡ take n before.seen) × IsKept mid
-cut_kept_done n before mid result is cut = subst (λ (r : Result (Unit {0}) Fault). OnOk r ((mid.seen ≡ take n before.seen) × IsKept mid)) is cut.ok
+pub cut_kept_done : (n : ℕ) (before mid : Disk) (result : Result (Unit {0}) Fault) → result ≡ Ok tt → Shortens n result before mid → (mid.seen ≡ take n before.seen) × IsOnDisk mid
+cut_kept_done n before mid result is cut = subst (λ (r : Result (Unit {0}) Fault). OnOk r ((mid.seen ≡ take n before.seen) × IsOnDisk mid)) is cut.ok
 
 module _ (before : Disk) (reads : contents before.seen ≡ Records (recorded before.seen)) (end : ℕ) (ends : end ≡ records_end (recorded before.seen)) where
   abbrev olds : List (List ℕ)
@@ -91,7 +91,7 @@ module _ (before : Disk) (reads : contents before.seen ≡ Records (recorded bef
       cause = has_cause_since before mid after second cut.cause.later gate.cause;
     }
       where
-        finished : (r : Result (Unit {0}) Fault) → OnOk r ((after.seen ≡ overwritten mid.seen end (0 ∷ [])) × IsKept after) → OnOk r (IsAtRest after × (recorded after.seen ≡ olds))
+        finished : (r : Result (Unit {0}) Fault) → OnOk r ((after.seen ≡ overwritten mid.seen end (0 ∷ [])) × IsOnDisk after) → OnOk r (IsAtRest after × (recorded after.seen ≡ olds))
         finished (Err f) so = tt
         finished (Ok x) so =
             let front = take (records_end olds) before.seen in

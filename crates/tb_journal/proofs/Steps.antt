@@ -207,12 +207,3 @@ module _ (file : List ℕ) (records : List (List ℕ)) (reads : contents file �
         length-append (take gate_at file) (flat_map block new) ∙ ap (λ (n : ℕ). n + length (flat_map block new)) (length_front file records reads)
         ∙ ap (λ (n : ℕ). gate_at + n) (length-blocks new) ∙ sym end_new in
         all ∙ ap (λ (l : List ℕ). l ++ 0 ∷ []) (sym (ap (take (records_end (records ++ new))) all ∙ take_at (take gate_at file ++ flat_map block new) (0 ∷ []) (records_end (records ++ new)) long))
-
--- a creation that is cut short leaves no journal, or one with no record
-
-by_magic : (b : Bool) (others : List ℕ) → length others ≤ 1 → ((if b then walk 0 8 others else NotAJournal) ≡ NotAJournal) ⊎ ((if b then walk 0 8 others else NotAJournal) ≡ Records [])
-by_magic true others h = inr (walk-ends others 8 (short_front others h))
-by_magic false others h = inl refl
-
-pub created_torn : (c : List ℕ) → Torn 0 9 [] c → (contents c ≡ NotAJournal) ⊎ (contents c ≡ Records [])
-created_torn c torn = by_magic (starts_with nat_eq c magic) (drop 8 c) (omega (arith, torn.no_longer, length-drop 8 c))

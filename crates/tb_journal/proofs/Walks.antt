@@ -18,7 +18,7 @@ drop_nil : (k : ℕ) → [] ≡ drop {A = ℕ} k []
 drop_nil zero = refl
 drop_nil (suc k) = refl
 
--- a longer beginning, in two parts
+-- a longer prefix, in two parts
 pub take_parts : (m n : ℕ) (l : List ℕ) → take (m + n) l ≡ take m l ++ take n (drop m l)
 take_parts zero n l = ap (λ (k : ℕ). take k l) (omega arith)
 take_parts (suc m) n [] = ap (λ (k : ℕ). take k []) (let e : suc m + n ≡ suc (m + n) = omega arith in e) ∙ take_nil n

@@ -4,7 +4,7 @@ use Rattle.tb_journal.specs.declared.faults.Fault.{Fault}
 use Rattle.tb_journal.specs.declared.faults.Fault.TheVariants.{NotEmpty}
 use Rattle.tb_journal.specs.declared.opening.OpenFault.{OpenFault}
 use Rattle.tb_journal.specs.declared.opening.OpenFault.TheVariants as open_faults
-use Rattle.tb_journal.specs.Device.{Disk, IsKept, LeavesOnly, HasCause, IsCause}
+use Rattle.tb_journal.specs.Device.{Disk, IsOnDisk, LeavesOnly, HasCause, IsCause}
 use Rattle.tb_journal.specs.Contents.{NotAJournal, Records, contents, journal_of, recorded}
 use Rattle.tb_journal.specs.Steps.{IsAtRest}
 use Rattle.tb_journal.specs.Ready.{Kept, IsReady}
@@ -52,13 +52,13 @@ pub record IsNew {D : Type 0} (disk : D → Disk) (journal : Kept D) : Type 0 wh
 
 -- whether a file is blank: what a blank one has is then on the disk
 pub record FindsBlank (result : Result Bool Fault) (before after : Disk) : Type 0 where
-  pub ok : IfOk result (λ found. (found ≡ is_blank before.seen) × (found ≡ true → IsKept after))
+  pub ok : IfOk result (λ found. (found ≡ is_blank before.seen) × (found ≡ true → IsOnDisk after))
   pub seen : after.seen ≡ before.seen
   pub any_moment : LeavesOnly before after (IsAsBefore before)
   pub cause : HasCause result before after
 
 -- the first bytes are written over a blank file
-pub record Begins (result : Result (Unit {0}) Fault) (before after : Disk) : Type 0 where
+pub record WritesFirst (result : Result (Unit {0}) Fault) (before after : Disk) : Type 0 where
   pub ok : OnOk result (IsAtRest after × (recorded after.seen ≡ []))
   pub any_moment : LeavesOnly before after IsUnborn
   pub cause : HasCause result before after

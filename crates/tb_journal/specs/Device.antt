@@ -16,8 +16,8 @@ abbrev pub Only : List ℕ → (List ℕ → Type 0) → Type 0
 Only file outcomes = (c : List ℕ) → outcomes c → c ≡ file
 
 -- all that a read returns is on the disk
-abbrev pub IsKept : Disk → Type 0
-IsKept disk = Only disk.seen disk.may_leave
+abbrev pub IsOnDisk : Disk → Type 0
+IsOnDisk disk = Only disk.seen disk.may_leave
 
 -- the file with these bytes in the place of those at this offset
 abbrev pub overwritten : List ℕ → ℕ → List ℕ → List ℕ

@@ -7,7 +7,7 @@ use Rattle.tb_journal.specs.declared.reading.Head.TheVariants as heads
 use Rattle.tb_journal.specs.declared.reading.Extent.{Extent}
 use Rattle.tb_journal.specs.declared.reading.Refusal.{Refusal}
 use Rattle.tb_journal.specs.declared.reading.Refusal.TheVariants as refusals
-use Rattle.tb_journal.specs.Device.{Disk, IsKept, LeavesOnly, HasCause}
+use Rattle.tb_journal.specs.Device.{Disk, IsOnDisk, LeavesOnly, HasCause}
 use Rattle.tb_journal.specs.Contents.{Front, Ends, Spoiled, Whole, front, Contents, NotAJournal, Damaged, Records, contents, records_end}
 use Rattle.tb_journal.specs.Opening.{IsAsBefore}
 use Rattle.tb_journal.specs.Scans.{Place, IsAhead, HasRead}
@@ -31,7 +31,7 @@ asked (gate ∷ a ∷ b ∷ c ∷ rest) = if gate == 0 then 8 else 8 + from_le_b
 asked other = 8
 
 -- what a window on a file has: the bytes that were taken last, and those that were read ahead
-pub record Held : Type 0 where
+pub record ReadAhead : Type 0 where
   pub taken : List ℕ
   pub ahead : List ℕ
 
@@ -47,7 +47,7 @@ pub record FindsHead (at : ℕ) (file ahead : List ℕ) : Type 0 where
 
 -- a sync, and a look at what is then on the disk
 pub record LooksKept {T : Type 0} (result : Result T Fault) (Found : T → Type 0) (before after : Disk) : Type 0 where
-  pub ok : IfOk result (λ found. Found found × IsKept after)
+  pub ok : IfOk result (λ found. Found found × IsOnDisk after)
   pub seen : after.seen ≡ before.seen
   pub any_moment : LeavesOnly before after (IsAsBefore before)
   pub cause : HasCause result before after

@@ -1,8 +1,8 @@
 //! A journal is created.
 ghost use Rattle.std.specs.Prelude.{◌≡◌, ◌≤◌, true, length, IfOk, IfErr};
-ghost use Rattle.tb_journal.specs.Device.{IsKept, LeavesOnly, ReadsAt};
+ghost use Rattle.tb_journal.specs.Device.{IsOnDisk, LeavesOnly, ReadsAt};
 ghost use Rattle.tb_journal.specs.Opening.{IsOfDevice, device_left, fault_left};
-ghost use Rattle.tb_journal.specs.Creating.{is_torn_from, is_blank, MayBeCreated, IsLeft, HasCreateCause, IsNew, IsUnborn, FindsBlank, Begins};
+ghost use Rattle.tb_journal.specs.Creating.{is_torn_from, is_blank, MayBeCreated, IsLeft, HasCreateCause, IsNew, IsUnborn, FindsBlank, WritesFirst};
 ghost use Rattle.tb_journal.specs.Reading.{LooksKept};
 
 use crate::batches::Batch;
@@ -86,7 +86,7 @@ fn read_kept<D: Device>(device: &mut D, into: &mut [u8]) -> Result<usize, Fault>
 
 // Writes over a blank file.
 fn begin<D: Device>(alloc: Global, device: D) -> Result<Journal<D>, NotOpened<D>>
-    requires kept { D.tells → IsKept (D.disk device) }
+    requires kept { D.tells → IsOnDisk (D.disk device) }
     requires blank { D.tells → is_blank (D.disk device).seen ≡ true }
     ensures created { D.tells → IfOk result (IsNew D.disk) }
     ensures any_moment { D.tells → LeavesOnly (D.disk device) (D.disk (device_left result)) IsUnborn }
@@ -118,9 +118,9 @@ fn begin<D: Device>(alloc: Global, device: D) -> Result<Journal<D>, NotOpened<D>
 
 // Writes the first bytes, all in one write: whatever a crash leaves of them holds no record.
 fn write_first<D: Device>(device: &mut D) -> Result<(), Fault>
-    requires kept { D.tells → IsKept (D.disk device.old) }
+    requires kept { D.tells → IsOnDisk (D.disk device.old) }
     requires blank { D.tells → is_blank (D.disk device.old).seen ≡ true }
-    ensures { D.tells → Begins result (D.disk device.old) (D.disk device.new) }
+    ensures { D.tells → WritesFirst result (D.disk device.old) (D.disk device.new) }
 {
     write_kept(device, 0, &FIRST)
 }

@@ -1,6 +1,6 @@
 //! A journal is opened from a file that a crash may have left.
 ghost use Rattle.std.specs.Prelude.{◌≡◌, ◌≤◌, List, ℕ, length, Ok, IfOk, IfErr};
-ghost use Rattle.tb_journal.specs.Device.{IsKept, LeavesOnly};
+ghost use Rattle.tb_journal.specs.Device.{IsOnDisk, LeavesOnly};
 ghost use Rattle.tb_journal.specs.Contents.{Records, contents, recorded, records_end};
 ghost use Rattle.tb_journal.specs.Steps.{Shortens};
 ghost use Rattle.tb_journal.specs.Reading.{extent_of};
@@ -33,7 +33,7 @@ pub struct NotOpened<D: Device> {
 
 // Cuts, and syncs.
 fn cut_kept<D: Device>(device: &mut D, len: usize) -> Result<(), Fault>
-    requires kept { D.tells → IsKept (D.disk device.old) }
+    requires kept { D.tells → IsOnDisk (D.disk device.old) }
     requires within { D.tells → len ≤ length (D.disk device.old).seen }
     ensures { D.tells → Shortens len result (D.disk device.old) (D.disk device.new) }
 {
@@ -46,7 +46,7 @@ fn cut_kept<D: Device>(device: &mut D, len: usize) -> Result<(), Fault>
 // Cuts off what stands behind the records, and writes a closed gate there. The cut is on the disk
 // first: behind a gate that is torn open, what was there would count.
 fn repair<D: Device>(device: &mut D, end: usize) -> Result<(), Fault>
-    requires kept { D.tells → IsKept (D.disk device.old) }
+    requires kept { D.tells → IsOnDisk (D.disk device.old) }
     requires reads { D.tells → contents (D.disk device.old).seen ≡ Records (recorded (D.disk device.old).seen) }
     requires ends { D.tells → end ≡ records_end (recorded (D.disk device.old).seen) }
     ensures { D.tells → Repairs result (D.disk device.old) (D.disk device.new) }
@@ -62,7 +62,7 @@ impl<D: Device> Journal<D> {
     /// is cut off. A crash at any moment of the call leaves a file of the same records.
     pub fn open(alloc: Global, device: D, extent: Extent) -> Result<Journal<D>, NotOpened<D>>
         requires few { extent.count ≤ extent.end }
-        requires kept { D.tells → IsKept (D.disk device) }
+        requires kept { D.tells → IsOnDisk (D.disk device) }
         requires read { D.tells → extent_of (contents (D.disk device).seen) ≡ Ok extent }
 
         ensures opened { D.tells → IfOk result (IsOpened D.disk (D.disk device).seen) }

@@ -1,6 +1,6 @@
 //! A journal's file, read record by record.
 ghost use Rattle.std.specs.Prelude.{◌≡◌, ◌≤◌, ◌<◌, ◌+◌, ◌^◌, ◌++◌, true, List, ℕ, [], length, drop, Ok, IfOk, IfSome, OnOk};
-ghost use Rattle.tb_journal.specs.Device.{IsKept, LeavesOnly, Looks, IsLookedAt};
+ghost use Rattle.tb_journal.specs.Device.{IsOnDisk, LeavesOnly, Looks, IsLookedAt};
 ghost use Rattle.tb_journal.specs.Contents.{front, contents};
 ghost use Rattle.tb_journal.specs.Opening.{IsAsBefore, HasOpenCause};
 ghost use Rattle.tb_journal.specs.Scans.{Place, IsAhead, HasRead, ReadsNext, GoesFurther};
@@ -40,7 +40,7 @@ impl Scan {
     /// Reads the first bytes. What a scan reads is on the disk.
     pub fn start<D: Device>(alloc: Global, device: &mut D) -> Result<Scan, OpenFault>
         ensures begun { D.tells
-            → IfOk result (λ scan. HasRead [] (D.disk device.old).seen scan × IsKept (D.disk device.new)) }
+            → IfOk result (λ scan. HasRead [] (D.disk device.old).seen scan × IsOnDisk (D.disk device.new)) }
         ensures seen { D.tells → (D.disk device.new).seen ≡ (D.disk device.old).seen }
         ensures untouched { D.tells
             → LeavesOnly (D.disk device.old) (D.disk device.new) (IsAsBefore (D.disk device.old)) }
@@ -165,7 +165,7 @@ fn head_at<D: Device>(window: &mut Window, device: &mut D, at: usize) -> Result<
 pub fn read_journal<D: Device>(alloc: Global, device: &mut D) -> Result<Extent, OpenFault>
     ensures found { D.tells
         → IfOk result (λ extent.
-        (extent_of (contents (D.disk device.old).seen) ≡ Ok extent) × IsKept (D.disk device.new)) }
+        (extent_of (contents (D.disk device.old).seen) ≡ Ok extent) × IsOnDisk (D.disk device.new)) }
     ensures handed { SomeHanded D.gave (TellsExtent result) }
     ensures few { IfOk result (λ extent. extent.count ≤ extent.end) }
     ensures seen { D.tells → (D.disk device.new).seen ≡ (D.disk device.old).seen }

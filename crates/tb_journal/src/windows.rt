@@ -2,7 +2,7 @@
 ghost use Rattle.std.specs.Prelude.{◌≡◌, ◌≤◌, ◌<◌, ◌+◌, ◌-◌, ◌^◌, ℕ, List, length, take, drop, vec_len, slice_range, IfOk, OnOk, OnErr};
 ghost use Rattle.tb_journal.specs.Device.{Looks, ReadsAt};
 ghost use Rattle.tb_journal.specs.Scans.{IsAhead};
-ghost use Rattle.tb_journal.specs.Reading.{Held, HasAhead};
+ghost use Rattle.tb_journal.specs.Reading.{ReadAhead, HasAhead};
 ghost use Rattle.tb_journal.specs.Handed.{IsAllAhead, GoesOnAhead};
 
 use crate::devices::Device;
@@ -24,7 +24,7 @@ pub struct Window {
 }
 
 impl Model for Window {
-    ghost Value = { Held };
+    ghost Value = { ReadAhead };
 
     ghost view = { λ w. record {
       taken = slice_range w.bytes.items w.from w.used;

@@ -35,7 +35,7 @@ fn records_after(
     torn: &[u8],
 ) -> usize {
     let left = left_after(rt, file, moment, torn);
-    let journal = opened(alloc, &left).expect(rt, "a journal");
+    let journal = opened(rt, alloc, &left);
     let bytes = journal.device().bytes();
     expect(rt, bytes == ONE_RECORD.as_slice() || is_whole(bytes));
     let count = journal.count();
@@ -64,7 +64,7 @@ pub(crate) fn expect_records(
 #[test]
 fn a_crash_leaves_the_whole_batch_or_none_of_it(rt: HostRuntime) {
     let alloc = rt.alloc();
-    let mut journal = opened(alloc, &ONE_RECORD).expect(&rt, "a journal");
+    let mut journal = opened(&rt, alloc, &ONE_RECORD);
     let begin = journal.device().moments();
     expect_done(&rt, commit_two(&mut journal));
     let file = journal.device();
@@ -82,7 +82,7 @@ fn a_crash_leaves_the_whole_batch_or_none_of_it(rt: HostRuntime) {
 #[test]
 fn an_open_gate_counts_with_all_its_batch(rt: HostRuntime) {
     let alloc = rt.alloc();
-    let mut journal = opened(alloc, &ONE_RECORD).expect(&rt, "a journal");
+    let mut journal = opened(&rt, alloc, &ONE_RECORD);
     expect_done(&rt, commit_two(&mut journal));
     let gate = journal.device().moments().saturating_sub(1);
     for byte in 0..=255u8 {

@@ -3,13 +3,12 @@ use crate::crashes::expect_records;
 use crate::steps::{ONE_RECORD, commit_two, expect, expect_at, file_of};
 use std::alloc::Global;
 use std::process::Abort;
-use std::test::Fail;
 use tb_journal::{Fault, OpenFault, recover};
 
 /// Opens a journal of one record and commits two more, over a device whose call of this number fails. Says which step
 /// failed: the first is to open it, and none is the third.
 fn failed_step(rt: &impl Abort, alloc: Global, number: u64) -> usize {
-    let mut file = file_of(alloc, &ONE_RECORD).expect(rt, "memory");
+    let mut file = file_of(rt, alloc, &ONE_RECORD);
     file.fail_at(number);
     match recover(alloc, file) {
         Ok(journal) => {

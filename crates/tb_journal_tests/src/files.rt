@@ -2,65 +2,57 @@
 use crate::crashes::left_after;
 use crate::steps::{expect, expect_bytes, expect_done, file_of};
 use std::process::Abort;
-use std::test::Fail;
 use tb_journal::{Device, Fault, Memory};
 
 /// A file `abcdef`.
 const SIX: [u8; 6] = [97, 98, 99, 100, 101, 102];
 
-/// What stands in the place of what was torn, and what is left of the file.
-type Row<'a> = (usize, &'a [u8], &'a [u8]);
-
-/// Compares what crashes leave: the moment, what stands in the place of what was torn, and the file.
-fn expect_left(rt: &impl Abort, file: &Memory, rows: &[Row<'_>]) {
-    for (moment, torn, want) in rows {
-        let left = left_after(rt, file, *moment, torn);
-        expect_bytes(rt, &left, want);
-    }
+/// What a crash leaves at a moment, where these bytes stand in the place of what was torn.
+fn expect_left(rt: &impl Abort, file: &Memory, moment: usize, torn: &[u8], want: &[u8]) {
+    let left = left_after(rt, file, moment, torn);
+    expect_bytes(rt, &left, want);
+    drop(left);
 }
 
 #[test]
 fn a_write_is_torn(rt: HostRuntime) {
-    let mut file = file_of(rt.alloc(), &SIX).expect(&rt, "memory");
+    let mut file = file_of(&rt, rt.alloc(), &SIX);
     assert!(rt; file.bytes().len() >= 4);
     expect_done(&rt, file.write_at(4, &[88, 89, 90]));
     expect_bytes(&rt, file.bytes(), &[97, 98, 99, 100, 88, 89, 90]);
     expect(&rt, file.moments() == 1);
-    let rows: [Row<'_>; 3] = [
-        (0, &[7], &SIX),
-        (1, &[7], &[97, 98, 99, 100, 7, 102]),
-        (1, &[7, 8, 9, 10], &[97, 98, 99, 100, 7, 8, 9]),
-    ];
-    expect_left(&rt, &file, &rows);
+    expect_left(&rt, &file, 0, &[7], &SIX);
+    expect_left(&rt, &file, 1, &[7], &[97, 98, 99, 100, 7, 102]);
+    expect_left(&rt, &file, 1, &[7, 8, 9, 10], &[97, 98, 99, 100, 7, 8, 9]);
     drop(file);
 }
 
 #[test]
 fn a_cut_leaves_a_length_between(rt: HostRuntime) {
-    let mut file = file_of(rt.alloc(), &SIX).expect(&rt, "memory");
+    let mut file = file_of(&rt, rt.alloc(), &SIX);
     assert!(rt; file.bytes().len() >= 2);
     expect_done(&rt, file.cut(2));
     expect(&rt, file.moments() == 1);
     expect_bytes(&rt, file.bytes(), &[97, 98]);
-    let rows: [Row<'_>; 2] = [(1, &[], &[97, 98]), (1, &[0], &[97, 98, 99])];
-    expect_left(&rt, &file, &rows);
+    expect_left(&rt, &file, 1, &[], &[97, 98]);
+    expect_left(&rt, &file, 1, &[0], &[97, 98, 99]);
     drop(file);
 }
 
 #[test]
 fn nothing_is_torn_behind_a_sync(rt: HostRuntime) {
-    let mut file = file_of(rt.alloc(), &SIX).expect(&rt, "memory");
+    let mut file = file_of(&rt, rt.alloc(), &SIX);
     assert!(rt; file.bytes().len() >= 1);
     expect_done(&rt, file.write_at(1, &[66]));
     expect_done(&rt, file.sync());
     expect(&rt, file.moments() == 2);
-    expect_left(&rt, &file, &[(2, &[7, 7], &[97, 66, 99, 100, 101, 102])]);
+    expect_left(&rt, &file, 2, &[7, 7], &[97, 66, 99, 100, 101, 102]);
     drop(file);
 }
 
 #[test]
 fn one_call_fails(rt: HostRuntime) {
-    let mut file = file_of(rt.alloc(), &SIX).expect(&rt, "memory");
+    let mut file = file_of(&rt, rt.alloc(), &SIX);
     file.fail_at(2);
     expect_done(&rt, file.sync());
     expect(&rt, file.len() == Err(Fault::Failed));

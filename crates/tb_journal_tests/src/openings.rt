@@ -1,8 +1,9 @@
 //! Files that are opened, refused or created over: worked rows.
-use crate::steps::{created, expect, expect_bytes, file_of};
+use crate::scans::expect_records;
+use crate::steps::{created, expect, expect_bytes, file_of, opened};
 use std::alloc::Global;
 use std::process::Abort;
-use tb_journal::{Fault, Memory, OpenFault, Refusal, Scan, create, recover};
+use tb_journal::{Fault, Memory, OpenFault, Refusal, create, recover};
 
 /// The file of a record without bytes, whose checksum is that of three bytes of 0.
 const EMPTY_RECORD: [u8; 17] = [
@@ -21,9 +22,7 @@ const BAD_CHECKSUM: [u8; 17] = [
 
 #[test]
 fn what_stands_behind_the_records_is_cut_off(rt: HostRuntime) {
-    let alloc = rt.alloc();
-    let file = file_of(alloc, &MORE_BEHIND).expect(&rt, "memory");
-    let journal = recover(alloc, file).ok().expect(&rt, "a journal");
+    let journal = opened(&rt, rt.alloc(), &MORE_BEHIND);
     expect(&rt, journal.count() == 1);
     expect_bytes(&rt, journal.device().bytes(), &EMPTY_RECORD);
     drop(journal);
@@ -31,7 +30,7 @@ fn what_stands_behind_the_records_is_cut_off(rt: HostRuntime) {
 
 /// A file of these bytes is refused so, and is as it was. It is given back.
 fn refused(rt: &impl Abort, alloc: Global, bytes: &[u8], why: Refusal) -> Memory {
-    let file = file_of(alloc, bytes).expect(rt, "memory");
+    let file = file_of(rt, alloc, bytes);
     let failed = recover(alloc, file).err().expect(rt, "a fault");
     expect(rt, failed.fault == OpenFault::Refused(why));
     let device = failed.device;
@@ -57,21 +56,13 @@ fn another_file_is_left_alone(rt: HostRuntime) {
 
 #[test]
 fn a_creation_that_was_cut_short_is_made_again(rt: HostRuntime) {
-    let journal = created(rt.alloc(), &[84, 66, 0, 0]).expect(&rt, "a journal");
+    let journal = created(&rt, rt.alloc(), &[84, 66, 0, 0]);
     expect_bytes(&rt, journal.device().bytes(), b"TBJRNL01\0");
     drop(journal);
 }
 
 #[test]
 fn the_records_of_a_file_are_read(rt: HostRuntime) {
-    let alloc = rt.alloc();
-    let mut file = file_of(alloc, &EMPTY_RECORD).expect(&rt, "memory");
-    let mut scan = Scan::start(alloc, &mut file).ok().expect(&rt, "a journal");
-    expect(&rt, scan.next(&mut file) == Ok(true));
-    expect(&rt, scan.record().is_empty());
-    expect(&rt, scan.next(&mut file) == Ok(false));
-    let extent = scan.extent();
-    drop(scan);
-    drop(file);
+    let extent = expect_records(&rt, rt.alloc(), &EMPTY_RECORD, &[&[]], Ok(false));
     expect(&rt, extent.end == 16 && extent.count == 1);
 }

@@ -3,7 +3,6 @@ use crate::steps::{ONE_RECORD, THREE_RECORDS, expect, expect_bytes, expect_done}
 use std::fs;
 use std::fs::{File, Files};
 use std::process::Abort;
-use std::test::Fail;
 use tb_journal::{FileFault, OpenFault, Real, Refusal, create, recover};
 
 /// The journal of one record, and what a crash left behind its closed gate.
@@ -20,20 +19,40 @@ const DAMAGED: [u8; 19] = [
     0,
 ];
 
+/// Opens a file that is there.
+fn file_at<R: Abort + Files<File = File>>(rt: &R, path: &str) -> Real {
+    Real::open(rt, path).ok().expect(rt, "a file")
+}
+
+/// Says whether a file that is not opened is locked; otherwise it is for what the system answers.
+fn is_locked<R: Abort + Files<File = File>>(rt: &R, path: &str) -> bool {
+    let fault = Real::open(rt, path).err().expect(rt, "a fault");
+    let locked = matches!(fault, FileFault::Locked);
+    drop(fault);
+    locked
+}
+
+/// A file has these bytes.
+fn expect_file<R: Abort + Files<File = File> + AllocGlobal>(rt: &R, path: &str, want: &[u8]) {
+    let found = fs::read(rt, path).ok().expect(rt, "a file");
+    expect_bytes(rt, &found, want);
+    drop(found);
+}
+
 /// Makes a journal of one record. As long as it is held no other opens its file.
 fn make<R: Abort + Files<File = File> + AllocGlobal>(rt: &R, path: &str) {
     let real = Real::make(rt, path).ok().expect(rt, "a file");
     let mut journal = create(rt.alloc(), real).ok().expect(rt, "a journal");
     expect_done(rt, journal.append(&[97, 98]));
     expect_done(rt, journal.commit());
-    let is_locked = matches!(Real::open(rt, path), Err(FileFault::Locked));
+    let locked = is_locked(rt, path);
     drop(journal);
-    expect(rt, is_locked);
+    expect(rt, locked);
 }
 
 /// Opens the journal again, and commits two records more.
 fn go_on<R: Abort + Files<File = File> + AllocGlobal>(rt: &R, path: &str) {
-    let real = Real::open(rt, path).ok().expect(rt, "a file");
+    let real = file_at(rt, path);
     let mut journal = recover(rt.alloc(), real).ok().expect(rt, "a journal");
     expect(rt, journal.count() == 1);
     expect_done(rt, journal.append(&[]));
@@ -43,17 +62,14 @@ fn go_on<R: Abort + Files<File = File> + AllocGlobal>(rt: &R, path: &str) {
 }
 
 #[test]
-fn a_journal_in_a_file(rt: HostRuntime) -> Result<(), Fail> {
+fn a_journal_in_a_file(rt: HostRuntime) {
     let path = "a_journal_in_a_file.tbj";
     let _ = fs::remove_file(&rt, path);
     make(&rt, path);
-    let first = fs::read(&rt, path)?;
+    expect_file(&rt, path, &ONE_RECORD);
     go_on(&rt, path);
-    let second = fs::read(&rt, path)?;
-    fs::remove_file(&rt, path)?;
-    expect_bytes(&rt, &first, &ONE_RECORD);
-    expect_bytes(&rt, &second, &THREE_RECORDS);
-    Ok(())
+    expect_file(&rt, path, &THREE_RECORDS);
+    expect(&rt, fs::remove_file(&rt, path).is_ok());
 }
 
 /// Opens the journal of a file: the number of its records, or why it is refused.
@@ -61,8 +77,7 @@ fn opened<R: Abort + Files<File = File> + AllocGlobal>(
     rt: &R,
     path: &str,
 ) -> Result<usize, OpenFault> {
-    let real = Real::open(rt, path).ok().expect(rt, "a file");
-    match recover(rt.alloc(), real) {
+    match recover(rt.alloc(), file_at(rt, path)) {
         Ok(journal) => {
             let count = journal.count();
             drop(journal);
@@ -82,25 +97,20 @@ fn expect_opened<R: Abort + Files<File = File> + AllocGlobal>(
     bytes: &[u8],
     want: Result<usize, OpenFault>,
     left: &[u8],
-) -> Result<(), Fail> {
+) {
     let path = "a_file_that_is_opened.tbj";
-    fs::write(rt, path, bytes)?;
-    let found = opened(rt, path);
-    let after = fs::read(rt, path)?;
-    fs::remove_file(rt, path)?;
-    expect(rt, found == want);
-    expect_bytes(rt, &after, left);
-    Ok(())
+    expect(rt, fs::write(rt, path, bytes).is_ok());
+    expect(rt, opened(rt, path) == want);
+    expect_file(rt, path, left);
+    expect(rt, fs::remove_file(rt, path).is_ok());
 }
 
 #[test]
-fn files_that_are_opened_or_refused(rt: HostRuntime) -> Result<(), Fail> {
+fn files_that_are_opened_or_refused(rt: HostRuntime) {
     let foreign = OpenFault::Refused(Refusal::NotAJournal);
     let damaged = OpenFault::Refused(Refusal::Damaged { at: 8 });
-    expect_opened(&rt, &TORN, Ok(1), &ONE_RECORD)?;
-    expect_opened(&rt, b"a text", Err(foreign), b"a text")?;
-    expect_opened(&rt, &DAMAGED, Err(damaged), &DAMAGED)?;
-    let is_none = matches!(Real::open(&rt, "no_file.tbj"), Err(FileFault::System(_)));
-    expect(&rt, is_none);
-    Ok(())
+    expect_opened(&rt, &TORN, Ok(1), &ONE_RECORD);
+    expect_opened(&rt, b"a text", Err(foreign), b"a text");
+    expect_opened(&rt, &DAMAGED, Err(damaged), &DAMAGED);
+    expect(&rt, !is_locked(&rt, "no_file.tbj"));
 }

@@ -1,14 +1,13 @@
 //! The bytes of a journal's file, call by call.
 use crate::steps::{
     NO_RECORDS, ONE_RECORD, THREE_RECORDS, commit_two, created, expect, expect_done,
-    expect_journal, opened, wait,
+    expect_journal, opened, sevens, wait,
 };
-use std::test::Fail;
 use tb_journal::{Fault, RECORD_BYTES_MAX};
 
 #[test]
 fn a_record_counts_when_it_is_committed(rt: HostRuntime) {
-    let mut journal = created(rt.alloc(), &[]).expect(&rt, "a journal");
+    let mut journal = created(&rt, rt.alloc(), &[]);
     expect_journal(&rt, &journal, &NO_RECORDS, 0, 0);
     expect_done(&rt, wait(&mut journal, &[97, 98]));
     expect_journal(&rt, &journal, &NO_RECORDS, 0, 1);
@@ -19,7 +18,7 @@ fn a_record_counts_when_it_is_committed(rt: HostRuntime) {
 
 #[test]
 fn a_batch_is_committed_by_four_calls(rt: HostRuntime) {
-    let mut journal = opened(rt.alloc(), &ONE_RECORD).expect(&rt, "a journal");
+    let mut journal = opened(&rt, rt.alloc(), &ONE_RECORD);
     let before = journal.device().moments();
     expect_done(&rt, commit_two(&mut journal));
     expect_journal(&rt, &journal, &THREE_RECORDS, 3, 0);
@@ -30,7 +29,7 @@ fn a_batch_is_committed_by_four_calls(rt: HostRuntime) {
 
 #[test]
 fn a_commit_of_nothing_calls_no_device(rt: HostRuntime) {
-    let mut journal = opened(rt.alloc(), &ONE_RECORD).expect(&rt, "a journal");
+    let mut journal = opened(&rt, rt.alloc(), &ONE_RECORD);
     let before = journal.device().moments();
     expect_done(&rt, journal.commit());
     let moments = journal.device().moments();
@@ -40,13 +39,13 @@ fn a_commit_of_nothing_calls_no_device(rt: HostRuntime) {
 }
 
 #[test]
-fn a_record_of_2_to_the_24_bytes_is_too_long(rt: HostRuntime) -> Result<(), Fail> {
+fn a_record_of_2_to_the_24_bytes_is_too_long(rt: HostRuntime) {
     let alloc = rt.alloc();
-    let long = vec![in alloc; 7u8; RECORD_BYTES_MAX]?;
-    let mut journal = opened(alloc, &ONE_RECORD).expect(&rt, "a journal");
+    let long = sevens(&rt, alloc, RECORD_BYTES_MAX);
+    let mut journal = opened(&rt, alloc, &ONE_RECORD);
     let answer = wait(&mut journal, &long);
     let waiting = journal.waiting();
     drop(journal);
+    drop(long);
     expect(&rt, answer == Err(Fault::TooLong) && waiting == 0);
-    Ok(())
 }

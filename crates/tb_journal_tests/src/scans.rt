@@ -1,41 +1,56 @@
 //! Files that are read record by record, in pieces: worked rows.
-use crate::steps::{ONE_RECORD, THREE_RECORDS, expect, expect_at, file_of, file_of_two};
+ghost use Rattle.std.specs.Prelude.{IfSome};
+ghost use Rattle.tb_journal.specs.Memory.{memory_disk};
+ghost use Rattle.tb_journal.specs.Ready.{IsReady};
+
+use crate::steps::{
+    ONE_RECORD, THREE_RECORDS, commit_both, expect, expect_at, file_of, file_of_two, sevens,
+};
 use std::alloc::Global;
 use std::process::Abort;
-use std::test::Fail;
-use tb_journal::{Fault, Memory, OpenFault, Refusal, Scan, read_journal};
+use tb_journal::{Extent, Fault, Journal, Memory, OpenFault, Refusal, Scan, create, read_journal};
 
 /// A file is read in pieces of so many bytes.
 const PIECE: usize = 65_536;
 
-/// Reads these records from a file, one by one, and then what stands behind them.
+/// Reads these records from a file, one by one, and then what stands behind them. Says where they end.
 fn expect_scan(
     rt: &impl Abort,
     alloc: Global,
     file: &mut Memory,
     records: &[&[u8]],
     behind: Result<bool, OpenFault>,
-) {
+) -> Extent {
     let mut scan = Scan::start(alloc, file).ok().expect(rt, "a journal");
     for want in records {
         expect(rt, scan.next(file) == Ok(true));
         expect(rt, scan.record() == *want);
     }
     expect(rt, scan.next(file) == behind);
-    expect(rt, scan.extent().count == records.len());
+    let extent = scan.extent();
     drop(scan);
+    expect(rt, extent.count == records.len());
+    extent
 }
 
 /// The same of a file of these bytes.
-fn expect_records(
+pub(crate) fn expect_records(
     rt: &impl Abort,
     alloc: Global,
     bytes: &[u8],
     records: &[&[u8]],
     behind: Result<bool, OpenFault>,
-) {
-    let mut file = file_of(alloc, bytes).expect(rt, "memory");
-    expect_scan(rt, alloc, &mut file, records, behind);
+) -> Extent {
+    let mut file = file_of(rt, alloc, bytes);
+    let extent = expect_scan(rt, alloc, &mut file, records, behind);
+    drop(file);
+    extent
+}
+
+/// The same of a journal of two records.
+fn expect_two(rt: &impl Abort, alloc: Global, first: &[u8], second: &[u8]) {
+    let mut file = file_of_two(rt, alloc, first, second);
+    let _extent = expect_scan(rt, alloc, &mut file, &[first, second], Ok(false));
     drop(file);
 }
 
@@ -50,39 +65,33 @@ fn count_of(alloc: Global, file: &mut Memory) -> Result<usize, OpenFault> {
 #[test]
 fn records_are_read_one_by_one(rt: HostRuntime) {
     let alloc = rt.alloc();
-    expect_records(&rt, alloc, &ONE_RECORD, &[b"ab"], Ok(false));
+    let _extent = expect_records(&rt, alloc, &ONE_RECORD, &[b"ab"], Ok(false));
     let three: [&[u8]; 3] = [b"ab", &[], b"second"];
-    expect_records(&rt, alloc, &THREE_RECORDS, &three, Ok(false));
+    let _extent = expect_records(&rt, alloc, &THREE_RECORDS, &three, Ok(false));
 }
 
 #[test]
-fn a_record_is_larger_than_a_piece(rt: HostRuntime) -> Result<(), Fail> {
+fn a_record_is_larger_than_a_piece(rt: HostRuntime) {
     let alloc = rt.alloc();
-    let mut long = vec![in alloc; 7u8; 3 * PIECE]?;
+    let mut long = sevens(&rt, alloc, 3 * PIECE);
     if let Some(last) = long.last_mut() {
         *last = 8;
     }
-    let mut file = file_of_two(alloc, &long, b"ab").expect(&rt, "a journal");
-    expect_scan(&rt, alloc, &mut file, &[&long, b"ab"], Ok(false));
-    drop(file);
-    let mut file = file_of_two(alloc, b"ab", &long).expect(&rt, "a journal");
-    expect_scan(&rt, alloc, &mut file, &[b"ab", &long], Ok(false));
-    drop(file);
-    Ok(())
+    expect_two(&rt, alloc, &long, b"ab");
+    expect_two(&rt, alloc, b"ab", &long);
+    drop(long);
 }
 
 /// The second block begins at each of the last places of a piece, and behind it.
 #[test]
-fn a_record_stands_in_two_pieces(rt: HostRuntime) -> Result<(), Fail> {
+fn a_record_stands_in_two_pieces(rt: HostRuntime) {
     let alloc = rt.alloc();
-    let long = vec![in alloc; 7u8; PIECE]?;
+    let long = sevens(&rt, alloc, PIECE);
     for place in 0..20 {
         let (first, _) = long.split_at(PIECE - 16 - place);
-        let mut file = file_of_two(alloc, first, b"second").expect(&rt, "a journal");
-        expect_scan(&rt, alloc, &mut file, &[first, b"second"], Ok(false));
-        drop(file);
+        expect_two(&rt, alloc, first, b"second");
     }
-    Ok(())
+    drop(long);
 }
 
 #[test]
@@ -93,7 +102,7 @@ fn the_last_block_is_cut_at_each_byte(rt: HostRuntime) {
         let (bytes, _) = THREE_RECORDS.split_at(len);
         // Of a gate alone nothing was written.
         let behind = if len < 28 { Ok(false) } else { damaged };
-        expect_records(&rt, alloc, bytes, &[b"ab", &[]], behind);
+        let _extent = expect_records(&rt, alloc, bytes, &[b"ab", &[]], behind);
     }
 }
 
@@ -103,8 +112,8 @@ fn damage_is_told_behind_good_records(rt: HostRuntime) {
     let mut bytes = THREE_RECORDS;
     bytes[39] = 101;
     let damaged = Err(OpenFault::Refused(Refusal::Damaged { at: 26 }));
-    expect_records(&rt, alloc, &bytes, &[b"ab", &[]], damaged);
-    let mut file = file_of(alloc, &bytes).expect(&rt, "memory");
+    let _extent = expect_records(&rt, alloc, &bytes, &[b"ab", &[]], damaged);
+    let mut file = file_of(&rt, alloc, &bytes);
     let answer = count_of(alloc, &mut file);
     drop(file);
     expect(
@@ -115,10 +124,11 @@ fn damage_is_told_behind_good_records(rt: HostRuntime) {
 
 /// A start takes a sync and a look; each piece more takes a look, as does the end.
 #[test]
-fn each_call_fails_in_turn(rt: HostRuntime) -> Result<(), Fail> {
+fn each_call_fails_in_turn(rt: HostRuntime) {
     let alloc = rt.alloc();
-    let long = vec![in alloc; 7u8; 2 * PIECE]?;
-    let mut file = file_of_two(alloc, b"ab", &long).expect(&rt, "a journal");
+    let long = sevens(&rt, alloc, 2 * PIECE);
+    let mut file = file_of_two(&rt, alloc, b"ab", &long);
+    drop(long);
     for number in 1..=4 {
         file.fail_at(number);
         let answer = count_of(alloc, &mut file);
@@ -128,25 +138,34 @@ fn each_call_fails_in_turn(rt: HostRuntime) -> Result<(), Fail> {
     let answer = count_of(alloc, &mut file);
     drop(file);
     expect(&rt, answer == Ok(2));
-    Ok(())
+}
+
+/// A journal without records, where there is memory for it.
+fn some_journal(alloc: Global) -> Option<Journal<Memory>>
+    ensures { IfSome result (IsReady memory_disk) }
+{
+    create(alloc, Memory::new(alloc, Vec::new(alloc)).ok()?).ok()
+}
+
+/// The file of a journal of two records, where there is memory for it.
+fn some_file(alloc: Global) -> Option<Memory> {
+    let long = vec![in alloc; 7u8; 2 * PIECE].ok()?;
+    let mut journal = some_journal(alloc)?;
+    commit_both(&mut journal, &long, b"ab").ok()?;
+    Some(journal.into_device())
 }
 
 /// Where no memory is left the fault says so: `rt try --test --fail-alloc n` refuses the nth allocation of each test,
 /// that of the window and its growth among them.
 #[test]
-fn a_growth_may_be_refused(rt: HostRuntime) -> Result<(), Fail> {
+fn a_growth_may_be_refused(rt: HostRuntime) {
     let alloc = rt.alloc();
-    let Ok(long) = vec![in alloc; 7u8; 2 * PIECE] else {
-        return Ok(());
-    };
-    let Some(mut file) = file_of_two(alloc, &long, b"ab") else {
-        return Ok(());
-    };
-    let answer = count_of(alloc, &mut file);
-    drop(file);
-    expect(
-        &rt,
-        answer == Ok(2) || answer == Err(OpenFault::Device(Fault::Memory)),
-    );
-    Ok(())
+    if let Some(mut file) = some_file(alloc) {
+        let answer = count_of(alloc, &mut file);
+        drop(file);
+        expect(
+            &rt,
+            answer == Ok(2) || answer == Err(OpenFault::Device(Fault::Memory)),
+        );
+    }
 }

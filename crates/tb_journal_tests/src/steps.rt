@@ -1,5 +1,5 @@
 //! Steps on a journal over a file in memory, and the bytes of small journals.
-ghost use Rattle.std.specs.Prelude.{◌≡◌, true, IfOk, IfSome, OnOk, Ok};
+ghost use Rattle.std.specs.Prelude.{◌≡◌, true, OnOk, Ok, vec_len};
 ghost use Rattle.tb_journal.specs.Memory.{memory_disk};
 ghost use Rattle.tb_journal.specs.Ready.{IsReady};
 
@@ -40,7 +40,7 @@ pub(crate) fn expect_at(rt: &impl Abort, number: u64, holds: bool) {
 
 /// The bytes that a test wants.
 pub(crate) fn expect_bytes(rt: &impl Abort, found: &[u8], want: &[u8]) {
-    assert_eq!(rt; found, want);
+    expect(rt, found == want);
 }
 
 /// What a call answers that a test wants to succeed.
@@ -50,23 +50,33 @@ pub(crate) fn expect_done(rt: &impl Abort, answer: Result<(), Fault>)
     assert!(rt; answer == Ok(()));
 }
 
+/// So many bytes, each of them 7.
+pub(crate) fn sevens(rt: &impl Abort, alloc: Global, len: usize) -> Vec<u8>
+    ensures { vec_len result ≡ len }
+{
+    vec![in alloc; 7u8; len].ok().expect(rt, "memory")
+}
+
 /// A file of these bytes, all of them on the disk.
-pub(crate) fn file_of(alloc: Global, bytes: &[u8]) -> Option<Memory> {
-    Memory::new(alloc, Vec::from_slice(alloc, bytes).ok()?).ok()
+pub(crate) fn file_of(rt: &impl Abort, alloc: Global, bytes: &[u8]) -> Memory {
+    let bytes = Vec::from_slice(alloc, bytes).ok().expect(rt, "memory");
+    Memory::new(alloc, bytes).ok().expect(rt, "memory")
 }
 
 /// Creates a journal in a file of these bytes.
-pub(crate) fn created(alloc: Global, bytes: &[u8]) -> Option<Journal<Memory>>
-    ensures { IfSome result (IsReady memory_disk) }
+pub(crate) fn created(rt: &impl Abort, alloc: Global, bytes: &[u8]) -> Journal<Memory>
+    ensures { IsReady memory_disk result }
 {
-    create(alloc, file_of(alloc, bytes)?).ok()
+    let file = file_of(rt, alloc, bytes);
+    create(alloc, file).ok().expect(rt, "a journal")
 }
 
 /// Opens a journal's file, of which all bytes are on the disk.
-pub(crate) fn opened(alloc: Global, bytes: &[u8]) -> Option<Journal<Memory>>
-    ensures { IfSome result (IsReady memory_disk) }
+pub(crate) fn opened(rt: &impl Abort, alloc: Global, bytes: &[u8]) -> Journal<Memory>
+    ensures { IsReady memory_disk result }
 {
-    recover(alloc, file_of(alloc, bytes)?).ok()
+    let file = file_of(rt, alloc, bytes);
+    recover(alloc, file).ok().expect(rt, "a journal")
 }
 
 /// Compares the bytes of a journal's file, the number of the records in it, and of those that wait.
@@ -98,7 +108,11 @@ pub(crate) fn commit_two(journal: &mut Journal<Memory>) -> Result<(), Fault>
 }
 
 /// Commits two records as one batch.
-fn commit_both(journal: &mut Journal<Memory>, first: &[u8], second: &[u8]) -> Result<(), Fault>
+pub(crate) fn commit_both(
+    journal: &mut Journal<Memory>,
+    first: &[u8],
+    second: &[u8],
+) -> Result<(), Fault>
     requires { IsReady memory_disk journal.old }
     ensures { OnOk result (IsReady memory_disk journal.new) }
 {
@@ -108,8 +122,8 @@ fn commit_both(journal: &mut Journal<Memory>, first: &[u8], second: &[u8]) -> Re
 }
 
 /// The file of a journal of two records.
-pub(crate) fn file_of_two(alloc: Global, first: &[u8], second: &[u8]) -> Option<Memory> {
-    let mut journal = created(alloc, &[])?;
-    commit_both(&mut journal, first, second).ok()?;
-    Some(journal.into_device())
+pub(crate) fn file_of_two(rt: &impl Abort, alloc: Global, first: &[u8], second: &[u8]) -> Memory {
+    let mut journal = created(rt, alloc, &[]);
+    expect_done(rt, commit_both(&mut journal, first, second));
+    journal.into_device()
 }

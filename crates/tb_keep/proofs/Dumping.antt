@@ -42,7 +42,7 @@ joined_join (x ∷ xs) ys = ap (λ (l : List ℕ). x ++ l) (joined_join xs ys) �
 joined_snoc : (front : List (List ℕ)) (bytes : List ℕ) → joined front ++ bytes ≡ joined (front ++ bytes ∷ [])
 joined_snoc front bytes = ap (λ (l : List ℕ). joined front ++ l) (sym (append-nil bytes)) ∙ sym (joined_join front (bytes ∷ []))
 
--- one more record was sent, or a beginning of it
+-- one more record was sent, or a prefix of it
 send_one : (front : List (List ℕ)) (bytes : List ℕ) (old mid new : Output) → Sent (joined front) old mid → (result : Result (Unit {0}) FrameFault) → Written result bytes mid new
     → Written result (joined (front ++ bytes ∷ [])) old new
 send_one front bytes old mid new sent result more = sent_rest (joined front) bytes old mid new (joined (front ++ bytes ∷ [])) (joined_snoc front bytes) sent result more

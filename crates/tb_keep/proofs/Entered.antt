@@ -1,12 +1,10 @@
 -- The records of a file as they are read and entered.
 use Rattle.std.proofs.Common.{ℕ, ◌≡◌, ◌⊎◌, inl, inr, true, false, List, [], ◌∷◌, ◌++◌, length, refl, sym, ap, ◌∙◌, subst, append_assoc, append-nil, Ok, Err, ◌<◌, ◌≤◌}
 use Rattle.tb_records.specs.declared.limits.Profile.{Profile}
-use Rattle.tb_journal.specs.declared.opening.OpenFault.{OpenFault}
-use Rattle.tb_journal.specs.declared.opening.OpenFault.TheVariants as open_faults
 use Rattle.tb_journal.specs.declared.reading.Extent.{Extent}
 use Rattle.tb_journal.specs.Device.{Disk, IsLookedAt}
 use Rattle.tb_journal.specs.Contents.{Records, contents, records_of}
-use Rattle.tb_journal.specs.Opening.{IsAsBefore, IsOpenCause}
+use Rattle.tb_journal.specs.Opening.{IsAsBefore}
 use Rattle.tb_journal.specs.Reading.{extent_of}
 use Rattle.tb_journal.specs.Scans.{Place, BeginsWith, HasRead}
 use Rattle.tb_journal.proofs.Moments.{started, goes_on}
@@ -15,7 +13,7 @@ use Rattle.tb_machine.specs.Histories.{State, start as start_state}
 use Rattle.tb_keep.specs.declared.faults.StartFault.{StartFault}
 use Rattle.tb_keep.specs.declared.faults.StartFault.TheVariants as start
 use Rattle.tb_keep.specs.Keeping.{head_record}
-use Rattle.tb_keep.specs.Restoration.{Leads, StopsAt, RestoresRecord, RestoresAll, HeadAnswers, IsRestored, IsRestoredFrom, StopsBeginning, StopsJournal, StopsReading}
+use Rattle.tb_keep.specs.Restoration.{RecordsLead, StopsAt, RestoresRecord, RestoresAll, HeadAnswers, IsRestored, IsRestoredFrom, StopsBeginning, StopsReading}
 use Rattle.tb_keep.specs.declared.heads.Rules.{Rules}
 use Rattle.tb_keep.specs.Sources.{Which, IsAt}
 use Rattle.tb_keep.specs.Entering.{StaysKept, EntersNext, EntersAll, FindsBehind}
@@ -47,12 +45,6 @@ stays_then before mid after counts first second = record {
   untouched = untouched_then before mid after counts first.untouched second.untouched;
   kept = λ kept. second.kept (first.kept kept);
 }
-
--- why a file is not read to its end
-
-pub stops_by_cause : (fault : OpenFault) (before after : Disk) → IsOpenCause before after fault → StopsJournal fault before.seen
-stops_by_cause (open_faults.Refused why) before after cause = cause
-stops_by_cause (open_faults.Device fault) before after cause = tt
 
 -- its head
 
@@ -91,12 +83,12 @@ enters_not which start.NoMemory read file bytes after S T begins stops = (bytes,
 
 -- so far these were entered
 abbrev pub Entered : Which → List (List ℕ) → List ℕ → Place → State → State → Type 0
-Entered which read file scan S T = (records : List (List ℕ)) × IsAt which (read ++ records) file scan × Leads S records T
+Entered which read file scan S T = (records : List (List ℕ)) × IsAt which (read ++ records) file scan × RecordsLead S records T
 
 pub entered_none : (which : Which) (read : List (List ℕ)) (file : List ℕ) (scan : Place) (S : State) → IsAt which read file scan → Entered which read file scan S S
 entered_none which read file scan S at = ([], subst (λ (r : List (List ℕ)). IsAt which r file scan) (sym (append-nil read)) at, leads_none S)
 
-module _ (which : Which) (read records : List (List ℕ)) (file : List ℕ) (scan : Place) (S T U : State) (leads : Leads S records T) where
+module _ (which : Which) (read records : List (List ℕ)) (file : List ℕ) (scan : Place) (S T U : State) (leads : RecordsLead S records T) where
   pub entered_more : EntersNext which (Ok true) (read ++ records) file scan T U → Entered which read file scan S U
   entered_more (bytes, at, (e, is_record, next, to)) = (
     records ++ bytes ∷ [],
@@ -105,7 +97,7 @@ module _ (which : Which) (read records : List (List ℕ)) (file : List ℕ) (sca
   )
 
   pub entered_all : EntersNext which (Ok false) (read ++ records) file scan T U → EntersAll (Ok tt) read file scan S U
-  entered_all (reads, has, to) = (records, reads, has, subst (λ (V : State). Leads S records V) (sym to) leads)
+  entered_all (reads, has, to) = (records, reads, has, subst (λ (V : State). RecordsLead S records V) (sym to) leads)
 
   entered_not_more : (fault : StartFault) (bytes : List ℕ) → BeginsWith ((read ++ records) ++ bytes ∷ []) file → StopsAt fault T bytes
       → (others : List (List ℕ)) × (V : State) × BeginsWith (read ++ others) file × RestoresAll (Err fault) S others V
@@ -147,7 +139,7 @@ module _ (profile : Profile) (clients_max : ℕ) (some_client : 0 < clients_max)
     restored = subst (λ (r : List (List ℕ)). IsRestored profile clients_max r S) (sym (ap records_of reads)) (without_records S empty);
   }
 
-  of_history : (records : List (List ℕ)) (T : State) → Leads (start_state profile clients_max) records T → IsRestored profile clients_max (head_record profile clients_max ∷ records) T
+  of_history : (records : List (List ℕ)) (T : State) → RecordsLead (start_state profile clients_max) records T → IsRestored profile clients_max (head_record profile clients_max ∷ records) T
   of_history records T leads = record {
     entries = leads.entries;
     keepable = record { some_client = some_client; clients = clients; legal = leads.legal; recorded_are = leads.recorded_are };
@@ -159,7 +151,7 @@ module _ (profile : Profile) (clients_max : ℕ) (some_client : 0 < clients_max)
       → EntersAll (Ok tt) (head_record profile clients_max ∷ []) file scan S T → IsRestoredFrom profile clients_max file T extent
   restored_behind file scan extent S T empty end count (records, reads, has, leads) = record {
     extent_is = extent_found file (head_record profile clients_max ∷ records) scan extent reads has end count;
-    restored = subst (λ (r : List (List ℕ)). IsRestored profile clients_max r T) (sym (ap records_of reads)) (of_history records T (subst (λ (V : State). Leads V records T) empty leads));
+    restored = subst (λ (r : List (List ℕ)). IsRestored profile clients_max r T) (sym (ap records_of reads)) (of_history records T (subst (λ (V : State). RecordsLead V records T) empty leads));
   }
 
 pub behind_begins : (head file : List ℕ) (scan : Place) (S T : State) → EntersAll (Ok tt) (head ∷ []) file scan S T → BeginsWith (head ∷ []) file

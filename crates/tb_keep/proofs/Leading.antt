@@ -8,9 +8,9 @@ use Rattle.tb_machine.specs.Recording.{IsRecord}
 use Rattle.tb_keep.specs.Keeping.{AreRecorded}
 use Rattle.tb_keep.specs.declared.faults.StartFault.{StartFault}
 use Rattle.tb_keep.specs.declared.faults.StartFault.TheVariants as start
-use Rattle.tb_keep.specs.Restoration.{Leads, RestoresAll, HeadAnswers, StopsFile}
+use Rattle.tb_keep.specs.Restoration.{RecordsLead, RestoresAll, HeadAnswers, StopsFile}
 
-pub leads_none : (S : State) → Leads S [] S
+pub leads_none : (S : State) → RecordsLead S [] S
 leads_none S = record { entries = []; legal = tt; state = refl; recorded_are = tt; spelled = refl }
 
 pub fold_snoc : (S : State) (h : List Entry) (e : Entry) → fold step S (h ++ e ∷ []) ≡ step (fold step S h) e
@@ -30,7 +30,7 @@ dumped_snoc [] e = refl
 dumped_snoc (x ∷ xs) e = ap (λ (r : List (List ℕ)). dumped x ∷ r) (dumped_snoc xs e)
 
 pub leads_more : (S T U : State) (front : List (List ℕ)) (bytes : List ℕ) (e : Entry)
-    → Leads S front T → IsRecord bytes e → IsTrue (fits T e) → U ≡ step T e → Leads S (front ++ bytes ∷ []) U
+    → RecordsLead S front T → IsRecord bytes e → IsTrue (fits T e) → U ≡ step T e → RecordsLead S (front ++ bytes ∷ []) U
 leads_more S T U front bytes e leads is next to = record {
   entries = leads.entries ++ e ∷ [];
   legal = legal_snoc S leads.entries e leads.legal (subst (λ (V : State). IsTrue (fits V e)) leads.state next);

@@ -3,10 +3,12 @@ pub mod Going
 pub mod Moments
 pub mod Lasting
 pub mod Leading
-pub mod Beginnings
+pub mod WholeFiles
 pub mod Opened
 pub mod Sources
 pub mod Entered
+pub mod Headed
+pub mod Created
 pub mod Dumping
 pub mod Crashes
 pub mod Again

@@ -1,5 +1,5 @@
 -- Why a file is not opened.
-use Rattle.std.proofs.Common.{◌≡◌, inl, inr, ℕ, ◌≤◌, List, Result, Ok, Err, IfErr, MatchResult, sym, ap, ◌∙◌, subst}
+use Rattle.std.proofs.Common.{◌≡◌, inl, inr, ℕ, ◌≤◌, List, Result, Ok, Err, IfOk, IfErr, MatchResult, sym, ap, ◌∙◌, subst}
 use Rattle.tb_records.specs.declared.limits.Profile.{Profile}
 use Rattle.tb_journal.specs.declared.faults.Fault.TheVariants as faults
 use Rattle.tb_journal.specs.declared.reading.Refusal.TheVariants as refusals
@@ -18,7 +18,7 @@ use Rattle.tb_keep.specs.declared.faults.StartFault.TheVariants as start
 use Rattle.tb_keep.specs.declared.opening.NotKept.{NotKept}
 use Rattle.tb_keep.specs.Keeping.{Keeping}
 use Rattle.tb_keep.specs.Restoration.{IsRestored, IsRestoredFrom, IsFromOutside, StopsReading}
-use Rattle.tb_keep.specs.Opening.{OpensBytes, StartsBytes, IsUntouched, MayBeOpened, IsRefused, IsStartRefused}
+use Rattle.tb_keep.specs.Opening.{OpensBytes, StartsBytes, IsOpened, IsStarted, IsUntouched, MayBeOpened, MayBeCreated, MayBeStarted, IsCreateRefused, IsRefused, IsStartRefused}
 use Rattle.tb_keep.specs.Headed.{IsOfDevice, OpensOnly}
 
 -- a file that was read is not refused as one that is no journal
@@ -38,15 +38,15 @@ of_device before after (open_faults.Device faults.NotEmpty) reads (inr (is, long
 abbrev pub Counts : Disk → Type 0
 Counts disk = (t : ℕ) (c : List ℕ) → t ≤ disk.moment → disk.may_leave c → disk.left_since t c
 
+still_before : (before mid : Disk) → Counts mid → IsUntouched before mid → (c : List ℕ) → IsAsBefore mid c → IsAsBefore before c
+still_before before mid counts first c (inl may) = first.any_moment.each c (counts before.moment c first.any_moment.later may)
+still_before before mid counts first c (inr is) = inr (is ∙ first.seen)
+
 pub untouched_then : (before mid after : Disk) → Counts mid → IsUntouched before mid → IsUntouched mid after → IsUntouched before after
 untouched_then before mid after counts first second = record {
   seen = second.seen ∙ first.seen;
-  any_moment = then before mid after (IsAsBefore before) first.any_moment (weaker mid after (IsAsBefore mid) (IsAsBefore before) back second.any_moment);
+  any_moment = then before mid after (IsAsBefore before) first.any_moment (weaker mid after (IsAsBefore mid) (IsAsBefore before) (still_before before mid counts first) second.any_moment);
 }
-  where
-    back : (c : List ℕ) → IsAsBefore mid c → IsAsBefore before c
-    back c (inl may) = first.any_moment.each c (counts before.moment c first.any_moment.later may)
-    back c (inr is) = inr (is ∙ first.seen)
 
 refused_then : (profile : Profile) (clients_max : ℕ) (before mid after : Disk) (fault : StartFault) → Counts mid → IsUntouched before mid
     → IsRefused profile clients_max fault mid after → IsStartRefused profile clients_max fault before after
@@ -104,6 +104,42 @@ refused_of_device profile clients_max start.OtherRules before after is = absurd 
 refused_of_device profile clients_max (start.Record place fault) before after is = absurd is
 refused_of_device profile clients_max (start.Entry fault) before after is = absurd is
 refused_of_device profile clients_max start.NoMemory before after is = absurd is
+
+pub open_refused : {D : Type 0} (disk : D → Disk) (profile : Profile) (clients_max : ℕ) (before : Disk) (result : Result (Keeping D) (NotKept D)) → IfErr result (λ failed. IsOfDevice failed.fault)
+    → IfErr result (λ failed. IsRefused profile clients_max failed.fault before (disk failed.device))
+open_refused disk profile clients_max before (Ok keeper) is = tt
+open_refused disk profile clients_max before (Err failed) is = refused_of_device profile clients_max failed.fault before (disk failed.device) is
+
+-- a file in which a ledger is created, or from which one is opened
+
+module _ (profile : Profile) (clients_max : ℕ) (before : Disk) where
+  pub start_refused : (fault : StartFault) (after : Disk) → IsCreateRefused fault before after → IsStartRefused profile clients_max fault before after
+  start_refused (start.Journal (open_faults.Device fault)) after is = tt
+  start_refused (start.Journal (open_faults.Refused why)) after is = absurd is
+  start_refused start.Head after is = absurd is
+  start_refused start.OtherRules after is = absurd is
+  start_refused (start.Record place fault) after is = absurd is
+  start_refused (start.Entry fault) after is = absurd is
+  start_refused start.NoMemory after is = is
+
+  pub starts_created : (after : Disk) → LeavesOnly before after (MayBeCreated profile clients_max before) → LeavesOnly before after (MayBeStarted profile clients_max before)
+  starts_created after leaves = weaker before after (MayBeCreated profile clients_max before) (MayBeStarted profile clients_max before) (λ file may. inr may) leaves
+
+  pub starts_then : (mid after : Disk) → Counts mid → IsUntouched before mid → LeavesOnly mid after (MayBeOpened profile clients_max mid) → LeavesOnly before after (MayBeStarted profile clients_max before)
+  starts_then mid after counts untouched opens =
+      then before mid after (MayBeStarted profile clients_max before)
+      (weaker before mid (IsAsBefore before) (MayBeStarted profile clients_max before) (λ file was. inl (inl was)) untouched.any_moment)
+      (weaker mid after (MayBeOpened profile clients_max mid) (MayBeStarted profile clients_max before) also opens)
+    where
+      also : (file : List ℕ) → MayBeOpened profile clients_max mid file → MayBeStarted profile clients_max before file
+      also file (inl was) = inl (inl (still_before before mid counts untouched file was))
+      also file (inr (inl reads)) = inl (inr (inl (reads ∙ ap (λ (seen : List ℕ). Records (recorded seen)) untouched.seen)))
+      also file (inr (inr (none, has))) = inl (inr (inr (ap recorded (sym untouched.seen) ∙ none, has)))
+
+pub starts_as_opened : {D : Type 0} (disk : D → Disk) (profile : Profile) (clients_max : ℕ) (file : List ℕ) (result : Result (Keeping D) (NotKept D))
+    → IfOk result (IsOpened disk profile clients_max file) → IfOk result (IsStarted disk profile clients_max file)
+starts_as_opened disk profile clients_max file (Ok keeper) opened = inl opened
+starts_as_opened disk profile clients_max file (Err failed) opened = tt
 
 -- by the bytes that reads handed out
 

@@ -23,10 +23,6 @@ pub stops_by_read : (fault : OpenFault) (records : List (List ℕ)) (file : List
 stops_by_read (open_faults.Refused why) records file scan read = read
 stops_by_read (open_faults.Device fault) records file scan read = tt
 
-stops_by_start : (fault : OpenFault) (file : List ℕ) → Starts (Err fault) file → StopsJournal fault file
-stops_by_start (open_faults.Refused why) file is = is
-stops_by_start (open_faults.Device fault) file is = tt
-
 module _ (tells : Type 0) (gave : ℕ → List ℕ → Type 0) where
   -- what holds of the bytes still holds
 
@@ -49,9 +45,6 @@ module _ (tells : Type 0) (gave : ℕ → List ℕ → Type 0) where
 
   pub read_handed : (seen : List ℕ) (scan : Place) → SomeHanded gave (Starts (Ok scan)) → IsReading tells gave HandedOut seen [] scan
   read_handed seen scan (file, handed, (read, rest)) = (file, handed, record { has = read; all = rest })
-
-  pub not_started : (fault : OpenFault) (Holds : List ℕ → Type 0) → ((file : List ℕ) → StopsJournal fault file → Holds file) → SomeHanded gave (Starts (Err fault)) → SomeHanded gave Holds
-  not_started fault Holds so (file, handed, is) = (file, handed, so file (stops_by_start fault file is))
 
   -- the next step
 

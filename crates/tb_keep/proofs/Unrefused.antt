@@ -23,7 +23,7 @@ use Rattle.tb_keep.specs.declared.faults.StartFault.TheVariants as start
 use Rattle.tb_keep.specs.Keeping.{History, head_record, records_of, IsKeepable, AreRecorded, IsLedger}
 use Rattle.tb_keep.specs.Restoration.{IsNoRecord, Fails, StopsAt, RestoresAll, HeadAnswers, StopsBeginning, IsFromOutside, OnlyMemory, FileOnlyMemory}
 use Rattle.tb_keep.proofs.Again.{one_head}
-use Rattle.tb_keep.proofs.Beginnings.{whole_stops}
+use Rattle.tb_keep.proofs.WholeFiles.{whole_stops}
 
 -- an entry that may come next fails no test
 no_cause : (a b c d e : Bool) → ((((a && b) && c) && d) && e) ≡ true → cond (not a) (Some unfit.Commit) (cond (not (b && c)) (Some unfit.Time) (cond (not e) (Some unfit.NotNew) None)) ≡ None

@@ -2,7 +2,7 @@
 use Rattle.std.specs.Prelude.{ℕ, Bool, true, false, ◌≡◌, List, [], ◌∷◌, ◌++◌, Result, Ok, Err}
 use Rattle.tb_records.specs.declared.limits.Profile.{Profile}
 use Rattle.tb_journal.specs.declared.reading.Extent.{Extent}
-use Rattle.tb_journal.specs.Device.{Disk, IsKept}
+use Rattle.tb_journal.specs.Device.{Disk, IsOnDisk}
 use Rattle.tb_journal.specs.Contents.{Records, contents}
 use Rattle.tb_journal.specs.Scans.{BeginsWith, HasRead, Place}
 use Rattle.tb_machine.specs.Histories.{State}
@@ -10,7 +10,7 @@ use Rattle.tb_keep.specs.declared.faults.StartFault.{StartFault}
 use Rattle.tb_keep.specs.declared.faults.StartFault.TheVariants as start
 use Rattle.tb_keep.specs.declared.heads.Rules.{Rules}
 use Rattle.tb_keep.specs.Keeping.{head_record}
-use Rattle.tb_keep.specs.Restoration.{Leads, StopsAt, RestoresRecord, RestoresAll, StopsJournal, StopsReading, Restores}
+use Rattle.tb_keep.specs.Restoration.{RecordsLead, StopsAt, RestoresRecord, RestoresAll, StopsJournal, StopsReading, Restores}
 use Rattle.tb_keep.specs.Opening.{IsUntouched}
 use Rattle.tb_keep.specs.Reading.{HasRules, RulesAnswer}
 use Rattle.tb_keep.specs.Sources.{Which, IsAt}
@@ -18,7 +18,7 @@ use Rattle.tb_keep.specs.Sources.{Which, IsAt}
 -- the file is as it was at each moment, and on the disk if it was
 pub record StaysKept (before after : Disk) : Type 0 where
   pub untouched : IsUntouched before after
-  pub kept : IsKept before → IsKept after
+  pub kept : IsOnDisk before → IsOnDisk after
 
 -- the head was read, or there is none
 abbrev pub ReadsHead : Which → Result Bool StartFault → Profile → ℕ → List ℕ → Place → Type 0
@@ -36,7 +36,7 @@ EntersNext which (Err fault) read file after S T = (bytes : List ℕ) × BeginsW
 -- all records behind those that were read, or those before the first one that is not entered
 abbrev pub EntersAll : Result (Unit {0}) StartFault → List (List ℕ) → List ℕ → Place → State → State → Type 0
 EntersAll (Ok done) read file after S T =
-    (records : List (List ℕ)) × (contents file ≡ Records (read ++ records)) × HasRead (read ++ records) file after × Leads S records T
+    (records : List (List ℕ)) × (contents file ≡ Records (read ++ records)) × HasRead (read ++ records) file after × RecordsLead S records T
 EntersAll (Err (start.Journal fault)) read file after S T = StopsJournal fault file × BeginsWith read file
 EntersAll (Err fault) read file after S T =
     (records : List (List ℕ)) × (U : State) × BeginsWith (read ++ records) file × RestoresAll (Err fault) S records U

@@ -8,7 +8,7 @@ use Rattle.tb_keep.specs.Keeping.{History, state_of, longer, records_of, IsKeepa
 use Rattle.tb_keep.specs.Rounds.{records_from, told_from, pairs_of, Commits, Standing, Rounds, entries_from, AreServed}
 
 module _ (tells : Type 0) {D : Type 0} (disk : D → Disk) where
-  -- the file has the records from before and the entries of some first pairs, and the bytes are a beginning of the replies to these
+  -- the file has the records from before and the entries of some first pairs, and the bytes are a prefix of the replies to these
   pub record Backs (first : Standing D) (all : List Pair) (file bytes : List ℕ) : Type 0 where
     pub pairs : List Pair
     pub others : List Pair
@@ -31,7 +31,7 @@ module _ (tells : Type 0) {D : Type 0} (disk : D → Disk) where
       → (disk after).left_since (disk before.device).moment file
       → Backs first (pairs_of done ++ ps) file (told_from first.state (pairs_of done))
 
-  -- a file that a crash leaves once these are committed, when a beginning of the replies is told
+  -- a file that a crash leaves once these are committed, when a prefix of the replies is told
   abbrev pub WhileTelling : Type 0
   WhileTelling = (done : List (List Pair)) (ps : List Pair) (first before : Standing D) (after : D) (file some rest : List ℕ)
       → Behind done first before

@@ -96,14 +96,14 @@ abbrev pub DumpsSome : Rules → List ℕ → Output → Output → Type 0
 DumpsSome rules file before after =
     (after ≡ before) ⊎ ((records : List (List ℕ)) × BeginsWith records file × Sent (dump_with rules records) before after)
 
--- the dump of a file went out; or the file is not read to its end; or the writer failed, and a beginning of a dump went out
+-- the dump of a file went out; or the file is not read to its end; or the writer failed, and a prefix of a dump went out
 abbrev pub Dumps : Result (Unit {0}) DumpFault → Rules → List ℕ → Output → Output → Type 0
 Dumps (Ok done) rules file before after = (contents file ≡ Records (recorded file)) × Sent (dump_of rules file) before after
 Dumps (Err (dump.Journal fault)) rules file before after = StopsJournal fault file × DumpsSome rules file before after
 Dumps (Err (dump.Writer fault)) rules file before after =
     (fault ≡ Device) × ((records : List (List ℕ)) × BeginsWith records file × CutOff (dump_with rules records) before after)
 
--- of a file that is read to its end this is a beginning of its dump
+-- of a file that is read to its end this is a prefix of its dump
 abbrev pub WholeDumps : Type 0
 WholeDumps = (rules : Rules) (file : List ℕ) (records : List (List ℕ)) (before after : Output) → contents file ≡ Records (recorded file)
     → BeginsWith records file → CutOff (dump_with rules records) before after → CutOff (dump_of rules file) before after

@@ -22,7 +22,7 @@ use Rattle.tb_keep.specs.declared.faults.StartFault.TheVariants as start
 use Rattle.tb_keep.specs.Keeping.{History, head_record, records_of, IsKeepable, AreRecorded, IsLedger}
 
 -- the records are those of entries that lead from one state to another
-pub record Leads (S : State) (records : List (List ℕ)) (T : State) : Type 0 where
+pub record RecordsLead (S : State) (records : List (List ℕ)) (T : State) : Type 0 where
   pub entries : List Entry
   pub legal : LegalFrom S entries
   pub state : T ≡ fold step S entries
@@ -58,10 +58,10 @@ RestoresRecord (Err fault) S bytes T = (T ≡ S) × StopsAt fault S bytes
 
 -- all records that are left, or those before the first one that is not restored
 abbrev pub RestoresAll : Result (Unit {0}) StartFault → State → List (List ℕ) → State → Type 0
-RestoresAll (Ok done) S records T = Leads S records T
+RestoresAll (Ok done) S records T = RecordsLead S records T
 RestoresAll (Err fault) S records T =
     (front : List (List ℕ)) × (bytes : List ℕ) × (rest : List (List ℕ))
-    × (records ≡ front ++ bytes ∷ rest) × Leads S front T × StopsAt fault T bytes
+    × (records ≡ front ++ bytes ∷ rest) × RecordsLead S front T × StopsAt fault T bytes
 
 -- the head of a ledger of these rules, no head, or that of one of others
 abbrev pub HeadAnswers : Result (Unit {0}) StartFault → List ℕ → Profile → ℕ → Type 0

@@ -123,7 +123,7 @@ module _ (tells : Type 0) {D : Type 0} (disk : D → Disk) where
     pub any_moment : tells → LeavesOnly (disk middle.device) (disk device) (IsBeforeOrAfter (recorded (disk middle.device).seen) (records_from middle.state ps))
     pub silent : output ≡ middle.output
 
-  -- the batch was committed, and a beginning of the replies told
+  -- the batch was committed, and a prefix of the replies told
   pub record BreaksOff (ps : List Pair) (middle : Standing D) (device : D) (output : Output) : Type 0 where
     pub commits : tells → Commits (records_from middle.state ps) (disk middle.device) (disk device)
     pub cut : CutOff (told_from middle.state ps) middle.output output

@@ -45,11 +45,11 @@ Appends (Err (keep.Serving run.TimeExhausted)) p before after = (has_time before
 Appends (Err fault) p before after = IsRefusal fault × (after.journal ≡ before.journal)
 
 -- the reply to a pair is held behind the others, or there is no memory
-abbrev pub Holds : Result (Unit {0}) KeepFault → Pair → State → State → List ℕ → List ℕ → Type 0
-Holds (Ok done) p S T held grown = IsTimely S p × (T ≡ after_pair S p) × (grown ≡ held ++ answer_bytes S p) × IsReply (answer_to (after_pair S p) p.1)
-Holds (Err (keep.Serving run.NoMemory)) p S T held grown = Unit {0}
-Holds (Err (keep.Serving run.TimeExhausted)) p S T held grown = IsUntimely S p
-Holds (Err fault) p S T held grown = ⊥
+abbrev pub HoldsReply : Result (Unit {0}) KeepFault → Pair → State → State → List ℕ → List ℕ → Type 0
+HoldsReply (Ok done) p S T held grown = IsTimely S p × (T ≡ after_pair S p) × (grown ≡ held ++ answer_bytes S p) × IsReply (answer_to (after_pair S p) p.1)
+HoldsReply (Err (keep.Serving run.NoMemory)) p S T held grown = Unit {0}
+HoldsReply (Err (keep.Serving run.TimeExhausted)) p S T held grown = IsUntimely S p
+HoldsReply (Err fault) p S T held grown = ⊥
 
 -- a pair was served: its record waits, and its reply is held
 pub record HoldsPair {D : Type 0} (p : Pair) (before after : Keeping D) (held grown : List ℕ) : Type 0 where
@@ -88,7 +88,7 @@ abbrev pub GoesOn : {D : Type 0} → Bool → Keeping D → Keeping D → Input 
 GoesOn true before after first last held grown = Next (Ok tt) before after first last held grown
 GoesOn false before after first last held grown = Ceases (Ok None) before after first last held grown
 
--- the bytes were told and nothing is held any more, or the device failed and left a beginning of them
+-- the bytes were told and nothing is held any more, or the device failed and left a prefix of them
 abbrev pub HandsOut : Result (Unit {0}) KeepFault → List ℕ → List ℕ → Output → Output → Type 0
 HandsOut (Ok done) held left start written = Sent held start written × (written.held ≡ false) × (left ≡ [])
 HandsOut (Err (keep.Serving (run.Frame fault))) held left start written = (fault ≡ Device) × CutOff held start written

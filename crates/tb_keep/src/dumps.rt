@@ -205,7 +205,7 @@ fn dump_by<D: Device, W: Sink>(
 
 /// Writes the history of a file of these rules as a dump, which `replay` of tb_machine reads. The file is read once more for
 /// it. Writer, with the fault Device, where the writer answers an error, or takes nothing of what is left; Journal where the
-/// file is not read to its end: then a beginning went out.
+/// file is not read to its end: then a prefix went out.
 pub fn write_dump<D: Device, W: Sink>(
     global: Global,
     device: &mut D,

@@ -48,7 +48,7 @@ pub fn only_memory()
 
 /// A start tells what it finds in records that a file begins with, since it reads no further. Where the file is read to its
 /// end the same holds of all its records: what stops the first of them stops all, their head is that of all, and what went
-/// out of their dump is a beginning of that of all.
+/// out of their dump is a prefix of that of all.
 pub fn whole_files()
     ensures stops { WholeStops }
     ensures rules { WholeRules }

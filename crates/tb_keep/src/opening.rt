@@ -1,6 +1,6 @@
 //! A kept file is created, or opened after a crash.
-ghost use Rattle.std.specs.Prelude.{◌≡◌, ◌≤◌, true, [], Ok, IfOk, IfErr, MatchResult};
-ghost use Rattle.tb_journal.specs.Device.{IsKept, LeavesOnly};
+ghost use Rattle.std.specs.Prelude.{◌≡◌, ◌≤◌, true, [], Ok, IfOk, IfErr, OnOk, MatchResult};
+ghost use Rattle.tb_journal.specs.Device.{IsOnDisk, LeavesOnly};
 ghost use Rattle.tb_journal.specs.Contents.{contents, recorded};
 ghost use Rattle.tb_journal.specs.Handed.{SomeHanded};
 ghost use Rattle.tb_journal.specs.Reading.{extent_of};
@@ -38,6 +38,24 @@ fn not_kept<D: Device>(failed: NotOpened<D>) -> NotKept<D>
     }
 }
 
+/// Commits the head of a file without records.
+fn commit_head<D: Device>(journal: &mut Journal<D>, rules: Rules) -> Result<(), Fault>
+    requires ready { D.tells → IsReady D.disk journal.old }
+    requires none_waits { D.tells → journal.old.waiting ≡ [] }
+    requires no_records { D.tells → recorded (D.disk journal.old.device).seen ≡ [] }
+    ensures head { D.tells → OnOk result (HasHead D.disk rules.profile rules.clients_max journal.new) }
+    ensures any_moment { D.tells
+        → LeavesOnly (D.disk journal.old.device) (D.disk journal.new.device)
+        (HasNoEntry rules.profile rules.clients_max) }
+    ensures fault { D.tells → IfErr result (λ fault. IsOfDevice (StartFault.Journal (OpenFault.Device fault))) }
+{
+    let head = write_head(rules.profile, rules.clients_max);
+    match journal.append(&head) {
+        Ok(()) => journal.commit(),
+        Err(fault) => Err(fault),
+    }
+}
+
 /// Commits the head of a file without records. On a fault the device is given back.
 fn headed<D: Device>(journal: Journal<D>, rules: Rules) -> Result<Journal<D>, NotKept<D>>
     requires ready { D.tells → IsReady D.disk journal }
@@ -50,12 +68,7 @@ fn headed<D: Device>(journal: Journal<D>, rules: Rules) -> Result<Journal<D>, No
     ensures outside { IfErr result (λ failed. IsFromOutside failed.fault) }
 {
     let mut journal = journal;
-    let head = write_head(rules.profile, rules.clients_max);
-    let done = match journal.append(&head) {
-        Ok(()) => journal.commit(),
-        Err(fault) => Err(fault),
-    };
-    match done {
+    match commit_head(&mut journal, rules) {
         Ok(()) => Ok(journal),
         Err(fault) => Err(NotKept {
             device: journal.into_device(),
@@ -125,7 +138,7 @@ fn open_headed<D: Device>(
     extent: Extent,
 ) -> Result<Journal<D>, NotKept<D>>
     requires few { extent.count ≤ extent.end }
-    requires kept { D.tells → IsKept (D.disk device) }
+    requires kept { D.tells → IsOnDisk (D.disk device) }
     requires read { D.tells → extent_of (contents (D.disk device).seen) ≡ Ok extent }
     ensures opened { D.tells
         → IfOk result (HasRecords D.disk rules.profile rules.clients_max (recorded (D.disk device).seen)) }
@@ -156,7 +169,7 @@ fn open_restored<D: Device>(
     machine: Machine<Global>,
 ) -> Result<Keeper<D>, NotKept<D>>
     requires few { extent.count ≤ extent.end }
-    requires kept { D.tells → IsKept (D.disk device) }
+    requires kept { D.tells → IsOnDisk (D.disk device) }
     requires restored { D.tells
         → IsRestoredFrom rules.profile rules.clients_max (D.disk device).seen machine extent }
     ensures opened { D.tells

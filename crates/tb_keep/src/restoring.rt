@@ -1,6 +1,6 @@
 //! The restoring of a machine from the records of a file behind its head.
 ghost use Rattle.std.specs.Prelude.{◌≡◌, ◌≤◌, ◌+◌, ℕ, true, List, [], ◌∷◌, Ok, IfOk};
-ghost use Rattle.tb_journal.specs.Device.{IsKept};
+ghost use Rattle.tb_journal.specs.Device.{IsOnDisk};
 ghost use Rattle.tb_journal.specs.Contents.{Records, contents};
 ghost use Rattle.tb_journal.specs.Handed.{SomeHanded};
 ghost use Rattle.tb_journal.specs.Reading.{extent_of};
@@ -201,7 +201,7 @@ pub fn restored<D: Device>(
     // Of any device, by the bytes that its reads hand out.
     ensures handed { SomeHanded D.gave (Restores result rules.profile rules.clients_max) }
     ensures few { IfOk result (λ found. found.1.count ≤ found.1.end) }
-    ensures kept { D.tells → IfOk result (λ _. IsKept (D.disk device.new)) }
+    ensures kept { D.tells → IfOk result (λ _. IsOnDisk (D.disk device.new)) }
     ensures untouched { D.tells → IsUntouched (D.disk device.old) (D.disk device.new) }
 {
     match Scan::start(global, device) {

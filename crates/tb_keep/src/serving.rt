@@ -7,7 +7,7 @@ ghost use Rattle.tb_machine.specs.Recording.{IsRecord};
 ghost use Rattle.tb_machine.specs.Runs.{is_new_in};
 ghost use Rattle.tb_keep.specs.Keeping.{IsFresh};
 ghost use Rattle.tb_keep.specs.Rounds.{Served};
-ghost use Rattle.tb_keep.specs.Steps.{IsRefusal, Appends, Holds, KeepsPair, KeepsNext, HandsOut, Tells, MayTell, EndsTold, is_end_of_time, with_record};
+ghost use Rattle.tb_keep.specs.Steps.{IsRefusal, Appends, HoldsReply, KeepsPair, KeepsNext, HandsOut, Tells, MayTell, EndsTold, is_end_of_time, with_record};
 
 use crate::faults::KeepFault;
 use crate::keepers::Keeper;
@@ -68,7 +68,7 @@ fn hold_reply(
     moment: u64,
     request: Request,
 ) -> Result<(), KeepFault>
-    ensures { Holds result (moment, request) machine.old machine.new replies.old.bytes.items
+    ensures { HoldsReply result (moment, request) machine.old machine.new replies.old.bytes.items
         replies.new.bytes.items }
 {
     match serve_pair(machine, replies, moment, request) {
@@ -88,11 +88,13 @@ fn keep_pair<D: Device>(
     ensures { KeepsPair result (moment, request) keeper.old keeper.new replies.old.bytes.items
         replies.new.bytes.items }
 {
-    let request = match keeper.machine.class(&request) {
-        Class::New => append_new(keeper, moment, request)?,
-        _ => request,
-    };
-    hold_reply(&mut keeper.machine, replies, moment, request)
+    match keeper.machine.class(&request) {
+        Class::New => match append_new(keeper, moment, request) {
+            Ok(request) => hold_reply(&mut keeper.machine, replies, moment, request),
+            Err(fault) => Err(fault),
+        },
+        _ => hold_reply(&mut keeper.machine, replies, moment, request),
+    }
 }
 
 /// Gives out what is held.

@@ -3,8 +3,8 @@ ghost use Rattle.tb_journal.specs.Memory.{memory_disk};
 ghost use Rattle.tb_keep.specs.Keeping.{IsFresh};
 
 use crate::scripts::{
-    bytes_of, created, expect, file_of, kept, ledger, outcome, replies, rules, script, script_from,
-    serve, sure,
+    bytes_left, bytes_of, created, expect, file_of, kept, ledger, outcome, replies, rules, script,
+    script_from, serve, sure,
 };
 use std::alloc::Global;
 use std::process::Abort;
@@ -103,16 +103,24 @@ fn a_crash_at_each_moment(rt: HostRuntime) {
     drop(keeper);
 }
 
-/// The entries that so many bytes of replies rest on.
+/// Says whether so many bytes have the replies to the first so many pairs.
+fn is_told(rt: &impl Abort, alloc: Global, length: usize, count: usize) -> bool {
+    replies(rt, alloc, &script(rt, alloc, count)).len() <= length
+}
+
+/// The entries that so many bytes of replies rest on. The fourth is that of the last pair.
 fn entries_told(rt: &impl Abort, alloc: Global, length: usize) -> u64 {
-    let mut entries = 0;
-    for (count, entered) in [(1, 1), (2, 2), (3, 3), (6, 4)] {
-        let told = replies(rt, alloc, &script(rt, alloc, count));
-        if told.len() <= length {
-            entries = entered;
-        }
+    if is_told(rt, alloc, length, 6) {
+        4
+    } else if is_told(rt, alloc, length, 3) {
+        3
+    } else if is_told(rt, alloc, length, 2) {
+        2
+    } else if is_told(rt, alloc, length, 1) {
+        1
+    } else {
+        0
     }
-    entries
 }
 
 /// Serves the script over a keeper; gives the file as it reads, and the replies.
@@ -130,11 +138,7 @@ fn served_failing(rt: &impl Abort, alloc: Global, number: u64) -> (Vec<u8>, Vec<
     file.fail_at(number);
     match create(alloc, file, rules(rt)) {
         Ok(keeper) => served_by(rt, alloc, keeper),
-        Err(failed) => {
-            let left = Vec::from_slice(alloc, failed.device.bytes());
-            drop(failed);
-            (sure(rt, left), Vec::new(alloc))
-        }
+        Err(failed) => (bytes_left(rt, alloc, failed), Vec::new(alloc)),
     }
 }
 

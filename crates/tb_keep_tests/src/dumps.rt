@@ -1,5 +1,5 @@
 //! The history of a kept file, read without a write.
-use crate::scripts::{expect, file_of, kept, rules, script};
+use crate::scripts::{expect, file_of, kept, rules, same, script};
 use std::alloc::Global;
 use std::process::Abort;
 use tb_journal::{Fault, Memory, OpenFault};
@@ -38,13 +38,13 @@ fn a_dump_is_that_of_the_script(rt: HostRuntime) {
     let (result, written) = dumped(&rt, alloc, &mut file);
     drop(file);
     expect(&rt, result == Ok(()));
-    expect(&rt, written.as_slice() == want.as_slice());
+    expect(&rt, same(&written, &want));
 }
 
 /// The calls of a dump: a sync, and the file with its end.
 const CALLS: u64 = 3;
 
-/// The dump of a file whose call of a number fails is a beginning of the whole one, and the fault is told.
+/// The dump of a file whose call of a number fails is a prefix of the whole one, and the fault is told.
 fn expect_failing(rt: &impl Abort, alloc: Global, file: &mut Memory, number: u64, want: &[u8]) {
     file.fail_at(number);
     let (result, written) = dumped(rt, alloc, file);

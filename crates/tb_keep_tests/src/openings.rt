@@ -2,7 +2,9 @@
 ghost use Rattle.tb_journal.specs.Memory.{memory_disk};
 ghost use Rattle.tb_journal.specs.Ready.{IsReady};
 
-use crate::scripts::{bytes_of, created, expect, file_of, outcome, rules, script, sure};
+use crate::scripts::{
+    bytes_of, change, created, expect, file_of, outcome, rules, same, script, sure,
+};
 use std::alloc::Global;
 use std::process::Abort;
 use tb_journal::{Fault, Journal, Memory, OpenFault, Refusal};
@@ -21,7 +23,7 @@ const NEW: [u8; 23] = [
 
 /// Says whether the bytes are those of a new file, whatever the checksum.
 fn is_new(bytes: &[u8]) -> bool {
-    bytes.len() == 23 && bytes.get(..12) == NEW.get(..12) && bytes.get(16..) == NEW.get(16..)
+    bytes.len() == 23 && same(&bytes[..12], &NEW[..12]) && same(&bytes[16..], &NEW[16..])
 }
 
 /// Lets a record wait that is not empty.
@@ -35,8 +37,7 @@ fn append_some(rt: &impl Abort, journal: &mut Journal<Memory>, bytes: &[u8])
 }
 
 /// A file of these records, of which an empty one is left out.
-fn file_with(rt: &impl Abort, alloc: Global, records: [&[u8]; 3]) -> Memory {
-    let [first, second, third] = records;
+fn file_with(rt: &impl Abort, alloc: Global, first: &[u8], second: &[u8], third: &[u8]) -> Memory {
     let file = file_of(rt, alloc, &[]);
     let mut journal = tb_journal::create(alloc, file).ok().expect(rt, "a journal");
     append_some(rt, &mut journal, first);
@@ -46,21 +47,18 @@ fn file_with(rt: &impl Abort, alloc: Global, records: [&[u8]; 3]) -> Memory {
     journal.into_device()
 }
 
-/// The bytes of such a file, of which one may be changed.
+/// The bytes of such a file.
 fn bytes_with(
     rt: &impl Abort,
     alloc: Global,
-    records: [&[u8]; 3],
-    changed: Option<usize>,
+    first: &[u8],
+    second: &[u8],
+    third: &[u8],
 ) -> Vec<u8> {
-    let file = file_with(rt, alloc, records);
+    let file = file_with(rt, alloc, first, second, third);
     let copy = Vec::from_slice(alloc, file.bytes());
     drop(file);
-    let mut bytes = sure(rt, copy);
-    if let Some(byte) = changed.and_then(|at| bytes.get_mut(at)) {
-        *byte = 77;
-    }
-    bytes
+    sure(rt, copy)
 }
 
 #[test]
@@ -74,8 +72,7 @@ fn a_new_file(rt: HostRuntime) {
 pub fn expect_fault(rt: &impl Abort, alloc: Global, bytes: &[u8], rules: Rules, fault: StartFault) {
     let file = file_of(rt, alloc, bytes);
     let (found, left) = outcome(rt, alloc, Keeper::open(alloc, file, rules));
-    expect(rt, found == Some(fault));
-    expect(rt, left.as_slice() == bytes);
+    expect(rt, found == Some(fault) && same(&left, bytes));
 }
 
 const HEAD: [u8; 6] = [84, 66, 75, 49, 1, 2];
@@ -92,11 +89,8 @@ const IN_THIRD: usize = 102;
 
 /// The entry of a register of client 7: its commit number, its time, and the frame.
 fn entry(rt: &impl Abort, alloc: Global, commit: u8, time: u8) -> Vec<u8> {
-    let mut bytes = Vec::new(alloc);
-    sure(
-        rt,
-        bytes.extend_from_slice(&[commit, 0, 0, 0, 0, 0, 0, 0, time, 0, 0, 0, 0, 0, 0, 0]),
-    );
+    let numbers = [commit, 0, 0, 0, 0, 0, 0, 0, time, 0, 0, 0, 0, 0, 0, 0];
+    let mut bytes = sure(rt, Vec::from_slice(alloc, &numbers));
     let pair = script(rt, alloc, 1);
     sure(
         rt,
@@ -123,15 +117,32 @@ pub fn damaged(at: usize) -> StartFault {
     StartFault::Journal(OpenFault::Refused(Refusal::Damaged { at }))
 }
 
-/// The records of a file, the byte of it that is changed, and why it is refused.
-type Row<'a> = ([&'a [u8]; 3], Option<usize>, StartFault);
+/// A file of these records is refused.
+fn refused(
+    rt: &impl Abort,
+    alloc: Global,
+    first: &[u8],
+    second: &[u8],
+    third: &[u8],
+    fault: StartFault,
+) {
+    let bytes = bytes_with(rt, alloc, first, second, third);
+    expect_fault(rt, alloc, &bytes, rules(rt), fault);
+}
 
-/// Files are refused, each as its row says.
-fn expect_each(rt: &impl Abort, alloc: Global, rows: &[Row<'_>]) {
-    for (records, changed, fault) in rows {
-        let bytes = bytes_with(rt, alloc, *records, *changed);
-        expect_fault(rt, alloc, &bytes, rules(rt), *fault);
-    }
+/// The same where the byte at an offset is changed.
+fn refused_with(
+    rt: &impl Abort,
+    alloc: Global,
+    at: usize,
+    first: &[u8],
+    second: &[u8],
+    third: &[u8],
+    fault: StartFault,
+) {
+    let mut bytes = bytes_with(rt, alloc, first, second, third);
+    change(&mut bytes, at, 77);
+    expect_fault(rt, alloc, &bytes, rules(rt), fault);
 }
 
 /// The first record is no head, or is damaged.
@@ -139,53 +150,74 @@ fn expect_each(rt: &impl Abort, alloc: Global, rows: &[Row<'_>]) {
 fn files_without_a_head(rt: HostRuntime) {
     let alloc = rt.alloc();
     let first = entry(&rt, alloc, 1, 10);
-    let rows: [Row<'_>; 3] = [
-        ([&first, &[], &[]], None, StartFault::Head),
-        ([&[84, 66, 75, 50, 1, 2], &[], &[]], None, StartFault::Head),
-        ([&HEAD, &[], &[]], Some(17), damaged(8)),
-    ];
-    expect_each(&rt, alloc, &rows);
+    refused(&rt, alloc, &first, &[], &[], StartFault::Head);
+    refused(
+        &rt,
+        alloc,
+        &[84, 66, 75, 50, 1, 2],
+        &[],
+        &[],
+        StartFault::Head,
+    );
+    refused_with(&rt, alloc, 17, &HEAD, &[], &[], damaged(8));
+}
+
+/// Files of one record behind the head or of two, where one is too short.
+fn expect_short(rt: &impl Abort, alloc: Global, first: &[u8], short: &[u8]) {
+    refused(rt, alloc, &HEAD, short, &[], too_short(1));
+    refused(rt, alloc, &HEAD, first, short, too_short(2));
+}
+
+/// Files where one entry may not come next: an early one, or the first one again.
+fn expect_unfit(rt: &impl Abort, alloc: Global, first: &[u8], early: &[u8], again: &[u8]) {
+    refused(rt, alloc, &HEAD, early, &[], unfit(1, Unfit::Commit));
+    refused(rt, alloc, &HEAD, first, early, unfit(2, Unfit::Time));
+    refused(rt, alloc, &HEAD, first, again, unfit(2, Unfit::NotNew));
 }
 
 /// Of an entry that may not come next and a damaged block the one is told that stands first.
+fn expect_first(rt: &impl Abort, alloc: Global, first: &[u8], early: &[u8]) {
+    refused_with(
+        rt,
+        alloc,
+        IN_THIRD,
+        &HEAD,
+        early,
+        first,
+        unfit(1, Unfit::Commit),
+    );
+    refused_with(rt, alloc, IN_SECOND, &HEAD, first, early, damaged(SECOND));
+    refused_with(rt, alloc, IN_THIRD, &HEAD, first, first, damaged(THIRD));
+}
+
 #[test]
 fn records_that_are_refused(rt: HostRuntime) {
     let alloc = rt.alloc();
     let first = entry(&rt, alloc, 1, 10);
     let early = entry(&rt, alloc, 2, 10);
     let again = entry(&rt, alloc, 2, 11);
-    let short = first.get(..15).unwrap_or_default();
-    let rows: [Row<'_>; 8] = [
-        ([&HEAD, short, &[]], None, too_short(1)),
-        ([&HEAD, &first, short], None, too_short(2)),
-        ([&HEAD, &early, &[]], None, unfit(1, Unfit::Commit)),
-        ([&HEAD, &first, &early], None, unfit(2, Unfit::Time)),
-        ([&HEAD, &first, &again], None, unfit(2, Unfit::NotNew)),
-        (
-            [&HEAD, &early, &first],
-            Some(IN_THIRD),
-            unfit(1, Unfit::Commit),
-        ),
-        ([&HEAD, &first, &early], Some(IN_SECOND), damaged(SECOND)),
-        ([&HEAD, &first, &first], Some(IN_THIRD), damaged(THIRD)),
-    ];
-    expect_each(&rt, alloc, &rows);
+    expect_short(&rt, alloc, &first, first.get(..15).unwrap_or_default());
+    expect_unfit(&rt, alloc, &first, &early, &again);
+    expect_first(&rt, alloc, &first, &early);
 }
 
-/// A ledger of other rules.
+/// A file of a head is refused by other rules.
+fn expect_other(rt: &impl Abort, alloc: Global, profile: Profile, clients_max: ClientsMax) {
+    let bytes = bytes_with(rt, alloc, &HEAD, &[], &[]);
+    let other = Rules {
+        profile,
+        clients_max,
+    };
+    expect_fault(rt, alloc, &bytes, other, StartFault::OtherRules);
+}
+
+/// A ledger of another profile, and one of another number of clients.
 #[test]
 fn other_rules(rt: HostRuntime) {
     let alloc = rt.alloc();
-    let bytes = bytes_with(&rt, alloc, [&HEAD, &[], &[]], None);
     let three = ClientsMax::new(3).expect(&rt, "3 is a number of clients");
-    let own = rules(&rt);
-    for (profile, clients_max) in [(Profile::Two, own.clients_max), (Profile::One, three)] {
-        let other = Rules {
-            profile,
-            clients_max,
-        };
-        expect_fault(&rt, alloc, &bytes, other, StartFault::OtherRules);
-    }
+    expect_other(&rt, alloc, Profile::Two, rules(&rt).clients_max);
+    expect_other(&rt, alloc, Profile::One, three);
 }
 
 /// Of a file that is no journal.
@@ -203,27 +235,19 @@ fn expect_start(rt: &impl Abort, alloc: Global, bytes: &[u8], want: Option<Start
     let file = file_of(rt, alloc, bytes);
     let (found, left) = outcome(rt, alloc, Keeper::start(alloc, file, rules(rt)));
     expect(rt, found == want);
-    expect(
-        rt,
-        left.as_slice() == bytes || want.is_none() && is_new(&left),
-    );
+    expect(rt, same(&left, bytes) || want.is_none() && is_new(&left));
 }
 
 /// Files that `start` opens, creates or refuses.
 #[test]
 fn starts(rt: HostRuntime) {
     let alloc = rt.alloc();
-    let whole = bytes_with(&rt, alloc, [&HEAD, &[], &[]], None);
-    let rows: [(&[u8], Option<StartFault>); 5] = [
-        (&[], None),
-        (b"TBJRN\0\0", None),
-        (b"TBJRNL01\0behind", None),
-        (&whole, None),
-        (b"a text", Some(foreign())),
-    ];
-    for (bytes, want) in rows {
-        expect_start(&rt, alloc, bytes, want);
-    }
+    let whole = bytes_with(&rt, alloc, &HEAD, &[], &[]);
+    expect_start(&rt, alloc, &[], None);
+    expect_start(&rt, alloc, b"TBJRN\0\0", None);
+    expect_start(&rt, alloc, b"TBJRNL01\0behind", None);
+    expect_start(&rt, alloc, &whole, None);
+    expect_start(&rt, alloc, b"a text", Some(foreign()));
 }
 
 #[test]
@@ -232,6 +256,5 @@ fn nothing_is_created_where_something_stands(rt: HostRuntime) {
     let file = file_of(&rt, alloc, b"a text");
     let (found, left) = outcome(&rt, alloc, create(alloc, file, rules(&rt)));
     let not_empty = StartFault::Journal(OpenFault::Device(Fault::NotEmpty));
-    expect(&rt, found == Some(not_empty));
-    expect(&rt, left.as_slice() == b"a text".as_slice());
+    expect(&rt, found == Some(not_empty) && same(&left, b"a text"));
 }

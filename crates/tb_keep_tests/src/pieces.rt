@@ -1,7 +1,7 @@
 //! Files that are longer than what is read at a time.
 use crate::crashes::entries_in;
 use crate::openings::{damaged, expect_fault};
-use crate::scripts::{CLIENT, TEN, expect, kept, rules, script, sure};
+use crate::scripts::{CLIENT, TEN, change, expect, kept, rules, script, sure};
 use std::alloc::Global;
 use std::process::Abort;
 
@@ -45,9 +45,7 @@ fn a_file_of_several_pieces(rt: HostRuntime) {
     let mut bytes = long_file(&rt, alloc);
     let end = bytes.len().saturating_sub(1);
     expect(&rt, end > 3 * PIECE && entries_in(&rt, alloc, &bytes) == 6);
-    if let Some(byte) = bytes.get_mut(end.saturating_sub(1)) {
-        *byte = 1;
-    }
+    change(&mut bytes, end.saturating_sub(1), 1);
     expect_fault(
         &rt,
         alloc,

@@ -93,6 +93,18 @@ pub fn expect(rt: &impl Abort, holds: bool) {
     assert!(rt; holds);
 }
 
+/// Says whether these bytes are those: compared here alone, since a comparison of bytes is dear to prove.
+pub fn same(found: &[u8], wanted: &[u8]) -> bool {
+    found == wanted
+}
+
+/// Changes a byte of a file.
+pub fn change(bytes: &mut [u8], at: usize, value: u8) {
+    if let Some(byte) = bytes.get_mut(at) {
+        *byte = value;
+    }
+}
+
 /// Appends a moment and the lines of a frame.
 pub fn put_pair(rt: &impl Abort, out: &mut Vec<u8>, lines: &[Line]) {
     sure(rt, out.extend_from_slice(&TEN));
@@ -139,14 +151,13 @@ pub fn ledger(rt: &impl Abort, given: Result<Keeper<Memory>, NotKept<Memory>>) -
     requires { IfOk given (IsFresh memory_disk) }
     ensures { IsFresh memory_disk result }
 {
-    let keeper = match given {
-        Ok(keeper) => Some(keeper),
+    match given {
+        Ok(keeper) => keeper,
         Err(failed) => {
             drop(failed);
-            None
+            panic!(rt; "no ledger")
         }
-    };
-    keeper.expect(rt, "a ledger")
+    }
 }
 
 /// A ledger that is created in a new file.
@@ -164,6 +175,13 @@ pub fn bytes_of(rt: &impl Abort, alloc: Global, keeper: Keeper<Memory>) -> Vec<u
     sure(rt, bytes)
 }
 
+/// The bytes of the file that is given back where no ledger is opened.
+pub fn bytes_left(rt: &impl Abort, alloc: Global, failed: NotKept<Memory>) -> Vec<u8> {
+    let bytes = Vec::from_slice(alloc, failed.device.bytes());
+    drop(failed);
+    sure(rt, bytes)
+}
+
 /// Why a call gives no ledger, and the bytes of the file behind it.
 pub fn outcome(
     rt: &impl Abort,
@@ -174,9 +192,7 @@ pub fn outcome(
         Ok(keeper) => (None, bytes_of(rt, alloc, keeper)),
         Err(failed) => {
             let fault = failed.fault;
-            let bytes = Vec::from_slice(alloc, failed.device.bytes());
-            drop(failed);
-            (Some(fault), sure(rt, bytes))
+            (Some(fault), bytes_left(rt, alloc, failed))
         }
     }
 }

@@ -4,8 +4,8 @@ ghost use Rattle.tb_keep.specs.Keeping.{IsFresh};
 
 use crate::crashes::entries_in;
 use crate::scripts::{
-    LOOK_UP, TRANSFER, bytes_of, created, expect, file_of, kept, ledger, put_pair, replies, rules,
-    script, serve, sure,
+    LOOK_UP, TRANSFER, bytes_of, change, created, expect, file_of, kept, ledger, put_pair, replies,
+    rules, same, script, serve, sure,
 };
 use std::alloc::Global;
 use std::io::BufReader;
@@ -21,7 +21,7 @@ fn replies_are_those_of_run(rt: HostRuntime) {
     let script = script(&rt, alloc, 6);
     let (told, bytes) = kept(&rt, alloc, &script);
     let want = replies(&rt, alloc, &script);
-    expect(&rt, told.as_slice() == want.as_slice());
+    expect(&rt, same(&told, &want));
     // The entries of four new requests.
     expect(&rt, entries_in(&rt, alloc, &bytes) == 4);
 }
@@ -42,7 +42,7 @@ fn a_repeat_after_an_opening_gets_its_first_reply(rt: HostRuntime) {
     let alloc = rt.alloc();
     let (told, bytes) = kept(&rt, alloc, &script(&rt, alloc, 6));
     let (again, left) = sent_again(&rt, alloc, &bytes);
-    expect(&rt, left.as_slice() == bytes.as_slice());
+    expect(&rt, same(&left, &bytes));
     expect(&rt, told.ends_with(&again));
 }
 
@@ -129,9 +129,7 @@ fn a_frame_cut_short_ends_serving(rt: HostRuntime) {
 fn expect_two(rt: &impl Abort, alloc: Global, at: usize, value: u8, fault: RunFault) {
     let mut bytes = three(rt, alloc);
     let first_two = script(rt, alloc, 2).len();
-    if let Some(byte) = bytes.get_mut(first_two.saturating_add(at)) {
-        *byte = value;
-    }
+    change(&mut bytes, first_two.saturating_add(at), value);
     let served = served_at_hand(rt, alloc, &bytes);
     expect(rt, served.result == Err(KeepFault::Serving(fault)));
     // The replies to the register and the accounts, 48 bytes each, and their records behind the head, by one commit.

@@ -1,6 +1,7 @@
 //! Scripts that are dumped and dumps that are replayed, in memory: worked rows, by the bytes that the formats give.
 use crate::comparing::holds;
-use crate::frames::{put_bytes, put_lines};
+use crate::frames::put_lines;
+use crate::scripts::put_bytes;
 use crate::serving::room;
 use std::alloc::Global;
 use std::process::Abort;

@@ -1,6 +1,6 @@
 //! The frames of three requests and their replies in hex.
 use crate::comparing::holds;
-use crate::scripts::Script;
+use crate::scripts::{Script, put_bytes};
 use crate::steps::{begin, put_steps, third};
 use std::process::Abort;
 
@@ -73,11 +73,6 @@ const REPLIES: [u128; 25] = [
     0,
     0xbc0200000a0000000b00000000000000,
 ];
-
-/// Appends bytes.
-pub fn put_bytes(rt: &impl Abort, out: &mut Vec<u8>, bytes: &[u8]) {
-    out.extend_from_slice(bytes).expect(rt, "memory");
-}
 
 /// Appends lines of 16 bytes.
 pub fn put_lines(rt: &impl Abort, out: &mut Vec<u8>, lines: &[u128]) {

@@ -1,6 +1,5 @@
 //! Scripts and the replies that are wanted, put together from numbers, field by field.
 use std::alloc::Global;
-use std::mem;
 use std::process::Abort;
 use tb_records::{Account, Operation, Status, Transfer};
 
@@ -40,6 +39,11 @@ pub fn put(rt: &impl Abort, out: &mut Vec<u8>, number: u128, width: usize) {
     for byte in number.to_le_bytes().iter().take(width) {
         out.push(*byte).expect(rt, "memory");
     }
+}
+
+/// Appends bytes.
+pub fn put_bytes(rt: &impl Abort, out: &mut Vec<u8>, bytes: &[u8]) {
+    out.extend_from_slice(bytes).expect(rt, "memory");
 }
 
 /// Appends numbers, each in so many bytes.
@@ -266,25 +270,24 @@ impl Script {
         put_transfer(rt, &mut self.answer, row);
     }
 
-    /// Client 7's next request, which is entered, and the body of its reply.
-    fn next(&mut self, rt: &impl Abort, operation: Operation, body: &[u8], answer: &[u8]) {
+    /// Counts client 7's next request, which is entered.
+    fn count(&mut self) {
         self.number = self.number.wrapping_add(1);
         self.commit = self.commit.wrapping_add(1);
         self.requests = self.requests.wrapping_add(1);
-        let head = Head::of_seven(self.number, operation);
-        self.ask_header(rt, head, body.len());
-        self.bytes.extend_from_slice(body).expect(rt, "memory");
-        self.want(rt, head, Status::Reply, self.commit, answer.len());
-        self.replies.extend_from_slice(answer).expect(rt, "memory");
+        self.events = 0;
     }
 
     /// Client 7's next request, which is entered: its body and the answer are those that were put.
     pub fn send(&mut self, rt: &impl Abort, operation: Operation) {
-        let body = mem::replace(&mut self.body, Vec::new(self.alloc));
-        let answer = mem::replace(&mut self.answer, Vec::new(self.alloc));
-        self.events = 0;
-        self.next(rt, operation, body.as_slice(), answer.as_slice());
-        drop(answer);
-        drop(body);
+        self.count();
+        let head = Head::of_seven(self.number, operation);
+        let (length, answered) = (self.body.len(), self.answer.len());
+        self.ask_header(rt, head, length);
+        put_bytes(rt, &mut self.bytes, self.body.as_slice());
+        self.want(rt, head, Status::Reply, self.commit, answered);
+        put_bytes(rt, &mut self.replies, self.answer.as_slice());
+        self.body.clear();
+        self.answer.clear();
     }
 }

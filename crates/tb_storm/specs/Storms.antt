@@ -3,7 +3,7 @@
 use Rattle.std.specs.Prelude.{ℕ, ◌≡◌, ◌⊎◌, List, ◌++◌, Result, Ok, Err, codes}
 use Rattle.std.specs.Fmt.{decimal}
 use Rattle.tb_records.specs.Transport.{Output, Sent, CutOff}
-use Rattle.tb_commands.specs.Statuses.{line_named, Told}
+use Rattle.tb_commands.specs.Statuses.{line_named, TellsLine}
 use Rattle.tb_storm.specs.declared.faults.StormFault.{StormFault}
 use Rattle.tb_storm.specs.declared.faults.StormFault.TheVariants as storm
 use Rattle.tb_storm.specs.declared.totals.Totals.{Totals}
@@ -40,12 +40,12 @@ storm_lines clients totals =
 abbrev pub Writes : List ℕ → ℕ → Output → Output → Output → Output → Type 0
 Writes lines status start written quiet told =
     ((status ≡ 0) × Sent lines start written × (told ≡ quiet))
-    ⊎ ((status ≡ storm_status storm.Device) × CutOff lines start written × Told (storm_line storm.Device) quiet told)
+    ⊎ ((status ≡ storm_status storm.Device) × CutOff lines start written × TellsLine (storm_line storm.Device) quiet told)
 
 -- of a storm that ended with totals its lines are written; of another nothing is, and its fault is told
 abbrev pub Exits : ℕ → Result Totals StormFault → ℕ → Output → Output → Output → Output → Type 0
 Exits clients (Ok totals) status start written quiet told = Writes (storm_lines clients totals) status start written quiet told
-Exits clients (Err fault) status start written quiet told = (status ≡ storm_status fault) × (written ≡ start) × Told (storm_line fault) quiet told
+Exits clients (Err fault) status start written quiet told = (status ≡ storm_status fault) × (written ≡ start) × TellsLine (storm_line fault) quiet told
 
 -- a storm of so many clients ended, with its totals or a fault
 pub record StormExits (clients status : ℕ) (start written quiet told : Output) : Type 0 where

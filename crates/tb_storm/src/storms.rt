@@ -1,7 +1,7 @@
 //! A storm: the server's thread, the clients' threads, and the lines that tell of them.
 ghost use Rattle.std.specs.Prelude.{◌≡◌, ◌<◌, ◌≤◌, Result, map, fold};
 ghost use Rattle.tb_records.specs.Transport.{risen};
-ghost use Rattle.tb_commands.specs.Statuses.{Told};
+ghost use Rattle.tb_commands.specs.Statuses.{TellsLine};
 ghost use Rattle.tb_storm.specs.declared.totals.Totals.{Totals};
 ghost use Rattle.tb_storm.specs.declared.faults.StormFault.{StormFault};
 ghost use Rattle.tb_storm.specs.Outcomes.{first_of, outcome_of};
@@ -236,7 +236,7 @@ fn play<R: Threads + Wait + Sync>(
 /// The exit status of a fault, whose line is told.
 fn refuse<E: Sink>(fault: StormFault, faults: &mut E) -> u8
     ensures status { result ≡ storm_status fault }
-    ensures line { Told (storm_line fault) (E.output faults.old) (E.output faults.new) }
+    ensures line { TellsLine (storm_line fault) (E.output faults.old) (E.output faults.new) }
     ensures failing { 0 < result }
 {
     fault.tell(faults);

@@ -18,8 +18,9 @@ use Rattle.tb_text.specs.declared.places.Lexeme.TheVariants.{Gap, Comment, Spell
 use Rattle.tb_text.specs.declared.places.Place.{Place}
 use Rattle.tb_text.specs.declared.places.Place.TheVariants.{Head, Named, Wanted, Given, Opened, Parted}
 use Rattle.tb_text.specs.Words.{word_text, all_words, same_field, field_max}
-use Rattle.tb_text.specs.Scan.{Scan, behind, step, run, gap, is_word_byte, item_count, pushed, closed_at, parted_at, valued_at, joined_at, entered, moved, within, spelling, taken, wanted, may_stand, word_named, number_left, word_left, word_grown, begins_word, decimal_grown, appended, finished, rests, is_positive}
-use Rattle.tb_text.specs.Steps.{Begins, Scans}
+use Rattle.tb_text.specs.Entries.{is_word_byte, is_positive}
+use Rattle.tb_text.specs.Scan.{Scan, behind, step, run, gap, item_count, pushed, closed_at, parted_at, valued_at, joined_at, entered, moved, within, spelling, taken, wanted, may_stand, word_named, number_left, word_left, word_grown, begins_word, decimal_grown, appended, finished, rests}
+use Rattle.tb_text.specs.Steps.{BeginsStatements, Scans}
 use Rattle.tb_text.specs.Awaited.{GoesOn, Awaits, AwaitsBehind, MayStand, OnNextLine, awaits_equals, awaits_bar, is_given_place, is_opened_place, has_operation, awaits_comma, awaits_semicolon}
 use Rattle.tb_text.proofs.EachWord.{all_word_bytes, begins_with_letter, letter_first, word_bytes, named_by_text, word_place, stands_at, place_below}
 use Rattle.tb_text.proofs.Runs.{run_append, run_behind}
@@ -38,7 +39,7 @@ some_none s e = absurd cc
 
 -- a text of statements begins so where the bytes are taken
 
-taken_so : (text : List ℕ) → Begins text → Runs (behind []) text
+taken_so : (text : List ℕ) → BeginsStatements text → Runs (behind []) text
 taken_so text h = by (run (behind []) text) refl
   where
     by : (o : Option Scan) → run (behind []) text ≡ o → (t : Scan) × (run (behind []) text ≡ Some t)
@@ -290,11 +291,11 @@ awaits_so text s u a h e says =
       semicolon = both_so text (59 ∷ []) u a.semicolon (awaits_semicolon u) says.semicolon run_is (semicolon_both u u.operation u.place (at_gap u 59 clear.gap) clear.stands);
     }
 
-none_behind : (text : List ℕ) → run (behind []) (text ++ 10 ∷ []) ≡ None → Begins (text ++ 10 ∷ []) → ⊥
+none_behind : (text : List ℕ) → run (behind []) (text ++ 10 ∷ []) ≡ None → BeginsStatements (text ++ 10 ∷ []) → ⊥
 none_behind text h b = let r = taken_so (text ++ 10 ∷ []) b in some_none r.0 (sym h ∙ r.1)
 
 -- where the reader stopped within the bytes
-pub none_where_stopped : (text : List ℕ) (place : ℕ) (after : Scan) → Scans (behind []) text (Some place) after → Begins (text ++ 10 ∷ []) → ⊥
+pub none_where_stopped : (text : List ℕ) (place : ℕ) (after : Scan) → Scans (behind []) text (Some place) after → BeginsStatements (text ++ 10 ∷ []) → ⊥
 none_where_stopped text place after h b =
     let rest = drop (place + 1) text ++ 10 ∷ [] in
     let whole : take (place + 1) text ++ rest ≡ text ++ 10 ∷ [] =

@@ -13,7 +13,8 @@ use Rattle.tb_text.specs.declared.words.Operation.{Operation}
 use Rattle.tb_text.specs.declared.words.Operation.TheVariants.{Register, CreateAccounts, CreateTransfers, LookupAccounts, LookupTransfers}
 use Rattle.tb_text.specs.declared.places.Place.{Place}
 use Rattle.tb_text.specs.declared.places.Place.TheVariants.{Opened, Parted}
-use Rattle.tb_text.specs.Scan.{Entry, Scan, run, awaits_field, may_have, finished}
+use Rattle.tb_text.specs.Entries.{Entry, may_have}
+use Rattle.tb_text.specs.Scan.{Scan, run, awaits_field, finished}
 use Rattle.tb_text.specs.Printed.{entries_text, entry_text, account_entries, transfer_entries, account_text, transfer_text, id_text}
 use Rattle.tb_text.proofs.Tokens.{IsBetween, IsEnd, at_gap}
 use Rattle.tb_text.proofs.Flags.{at, SameBits}

@@ -7,7 +7,8 @@ use Rattle.tb_text.specs.declared.words.Flag.TheVariants as flag
 use Rattle.tb_text.specs.declared.words.Word.{Word}
 use Rattle.tb_text.specs.declared.words.Word.TheVariants as word
 use Rattle.tb_text.specs.Words.{word_text, all_words}
-use Rattle.tb_text.specs.Scan.{is_word_byte, word_named}
+use Rattle.tb_text.specs.Entries.{is_word_byte}
+use Rattle.tb_text.specs.Scan.{word_named}
 
 abbrev pub is_letter : ℕ → Bool
 is_letter b = nat_le 97 b && nat_le b 122

@@ -15,9 +15,10 @@ use Rattle.tb_text.specs.declared.places.Lexeme.TheVariants.{Gap, Comment, Spell
 use Rattle.tb_text.specs.declared.places.Place.{Place}
 use Rattle.tb_text.specs.declared.places.Place.TheVariants.{Head, Named, Wanted, Given, Opened, Parted}
 use Rattle.tb_text.specs.Words.{field_name, word_text, field_max, has_field}
-use Rattle.tb_text.specs.Scan.{Entry, Scan, behind, step, step_at, run, gap, is_at_rest, rests, is_given, value_of, account_of, transfer_of, wanted, awaits_field, awaits_operation, may_have, may_stand, suits, is_positive, entered, moved, within, spelling, opened, taken}
+use Rattle.tb_text.specs.Entries.{Entry, is_given, value_of, account_of, transfer_of, may_have, suits, is_positive}
+use Rattle.tb_text.specs.Scan.{Scan, behind, step, step_at, run, gap, is_at_rest, rests, wanted, awaits_field, awaits_operation, may_stand, entered, moved, within, spelling, opened, taken}
 use Rattle.tb_text.specs.Scan.{item_count, with_account, with_transfer, with_id, pushed, finished, when_lawful, request_of, closed_at, valued_at, appended, decimal_grown, hexadecimal_grown, number_left}
-use Rattle.tb_text.specs.Steps.{Begins}
+use Rattle.tb_text.specs.Steps.{BeginsStatements}
 use Rattle.std.specs.Fmt.{decimal}
 use Rattle.tb_text.proofs.EachWord.{all_word_bytes, word_bytes}
 use Rattle.tb_text.proofs.Runs.{run_behind}
@@ -319,7 +320,7 @@ ends s h = by s.lexeme refl h.lexeme
     by (Hexadecimal n) e w = ends_hexadecimal s w.field n e (wanted_here s.place w.field w.is) w.most (here s w.field w.is h.stands)
 
 -- whatever has been read begins a text of statements
-pub read_begins : (last : Scan) (text : List ℕ) → run (behind []) text ≡ Some last → Begins text
+pub read_begins : (last : Scan) (text : List ℕ) → run (behind []) text ≡ Some last → BeginsStatements text
 read_begins last text h =
     let end = ends last (read_goes_on last text h) in (
       end.more,

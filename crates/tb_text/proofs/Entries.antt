@@ -10,7 +10,8 @@ use Rattle.tb_text.specs.declared.words.Word.TheVariants as word
 use Rattle.tb_text.specs.declared.words.Operation.{Operation}
 use Rattle.tb_text.specs.declared.words.Flag.{Flag}
 use Rattle.tb_text.specs.Words.{field_max, field_index, field_name, same_field, flag_bit, flags_of}
-use Rattle.tb_text.specs.Scan.{Entry, Scan, run, may_stand, awaits_field, may_have, is_given, entered, is_positive, value_from}
+use Rattle.tb_text.specs.Entries.{Entry, may_have, is_given, is_positive, value_from}
+use Rattle.tb_text.specs.Scan.{Scan, run, may_stand, awaits_field, entered}
 use Rattle.tb_text.specs.Printed.{entry_text, further_text, entries_text, flags_text, unnamed}
 use Rattle.tb_text.proofs.Tokens.{IsBetween, IsEnd, space}
 use Rattle.tb_text.proofs.Numbers.{entry_through}

@@ -17,7 +17,8 @@ use Rattle.tb_text.specs.declared.places.Lexeme.TheVariants.{Gap}
 use Rattle.tb_text.specs.declared.places.Place.{Place}
 use Rattle.tb_text.specs.declared.places.Place.TheVariants.{Given, Named, Wanted}
 use Rattle.tb_text.specs.Words.{field_name, flag_bit, flag_name, flags_of}
-use Rattle.tb_text.specs.Scan.{Entry, Scan, bit_of, may_stand, run, step, value_from}
+use Rattle.tb_text.specs.Entries.{Entry, value_from, bit_of}
+use Rattle.tb_text.specs.Scan.{Scan, may_stand, run, step}
 use Rattle.tb_text.specs.Printed.{barred, flags_text, has_flag, unnamed, with_unnamed}
 use Rattle.tb_text.proofs.Tokens.{IsBetween, IsEnd, at_gap, one_step, word_through}
 use Rattle.tb_text.proofs.Numbers.{number_through}

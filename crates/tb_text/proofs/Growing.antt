@@ -13,7 +13,8 @@ use Rattle.tb_text.specs.declared.places.Lexeme.TheVariants.{Gap, Comment, Spell
 use Rattle.tb_text.specs.declared.places.Place.{Place}
 use Rattle.tb_text.specs.declared.places.Place.TheVariants.{Head, Named, Wanted, Given, Opened, Parted}
 use Rattle.tb_text.specs.Words.{field_max, same_field}
-use Rattle.tb_text.specs.Scan.{Scan, behind, step, step_at, run, gap, is_space, is_digit, is_word_byte, digit_of, wanted, value_of, begins_word, moved, within, spelling, item_count, pushed, when_lawful, request_of, closed_at, parted_at, valued_at, joined_at, mark, word_grown, word_ended, number_ended, appended, decimal_grown, hexadecimal_grown, zero_begun, word_left, number_left, hexadecimal_at}
+use Rattle.tb_text.specs.Entries.{is_space, is_digit, is_word_byte, digit_of, value_of}
+use Rattle.tb_text.specs.Scan.{Scan, behind, step, step_at, run, gap, wanted, begins_word, moved, within, spelling, item_count, pushed, when_lawful, request_of, closed_at, parted_at, valued_at, joined_at, mark, word_grown, word_ended, number_ended, appended, decimal_grown, hexadecimal_grown, zero_begun, word_left, number_left, hexadecimal_at}
 use Rattle.tb_text.specs.Steps.{StandFirst, Means, Stops}
 use Rattle.tb_text.proofs.Runs.{run_behind, pairs_of, word_keeps, number_keeps}
 use Rattle.tb_text.proofs.Ongoing.{Each, each_if, each_then}

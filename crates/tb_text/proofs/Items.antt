@@ -16,7 +16,8 @@ use Rattle.tb_text.specs.Words.{same_field}
 use Rattle.tb_text.specs.declared.places.Lexeme.TheVariants.{Gap}
 use Rattle.tb_text.specs.declared.places.Place.{Place}
 use Rattle.tb_text.specs.declared.places.Place.TheVariants.{Opened, Parted}
-use Rattle.tb_text.specs.Scan.{Entry, Scan, step, run, awaits_field, value_of, account_of, transfer_of}
+use Rattle.tb_text.specs.Entries.{Entry, value_of, account_of, transfer_of}
+use Rattle.tb_text.specs.Scan.{Scan, step, run, awaits_field}
 use Rattle.tb_text.specs.Printed.{account_entries, transfer_entries, more_text, items_text}
 use Rattle.tb_text.proofs.Tokens.{IsEnd, one_step, space}
 use Rattle.tb_text.proofs.Entries.{told, InOrder, only_flags, value_told, flags_told, none_or}

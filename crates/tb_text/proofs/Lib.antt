@@ -14,3 +14,10 @@ pub mod Endings
 pub mod Growing
 pub mod Faults
 pub mod Awaiting
+pub mod Lexing
+pub mod Feeding
+pub mod Standing
+pub mod Parsing
+pub mod Suiting
+pub mod Stating
+pub mod Meanings

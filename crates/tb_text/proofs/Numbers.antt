@@ -11,7 +11,8 @@ use Rattle.tb_text.specs.declared.places.Lexeme.{Lexeme}
 use Rattle.tb_text.specs.declared.places.Lexeme.TheVariants.{Zero, Decimal}
 use Rattle.tb_text.specs.declared.places.Place.TheVariants.{Wanted, Named}
 use Rattle.tb_text.specs.Words.{field_max, field_name}
-use Rattle.tb_text.specs.Scan.{Scan, step, run, gap, is_space, is_digit, is_word_byte, may_stand, within, moved, entered, is_positive, wanted, appended, decimal_grown, number_ended, number_left}
+use Rattle.tb_text.specs.Entries.{is_space, is_digit, is_word_byte, is_positive}
+use Rattle.tb_text.specs.Scan.{Scan, step, run, gap, may_stand, within, moved, entered, wanted, appended, decimal_grown, number_ended, number_left}
 use Rattle.tb_text.proofs.Tokens.{IsBetween, one_step, same_step, at_gap, word_through}
 use Rattle.tb_text.proofs.Facts.{if_false}
 
@@ -31,7 +32,7 @@ more_read s n h = ap (λ (b : Bool). within s (cond b Zero (Decimal n))) (not_ze
 appended_is : (most n d m : ℕ) → n * 10 + d ≡ m → m ≤ most → appended most 10 n d ≡ Some m
 appended_is most n d m e h = ap (λ (k : ℕ). cond (nat_le k most) (Some k) None) e ∙ ap (λ (b : Bool). cond b (Some m) None) (le_true m most h)
 
-grown_is : (s : Scan) (f : Field) (n d m : ℕ) → wanted s.place ≡ Some f → n * 10 + d ≡ m → m ≤ field_max f → decimal_grown s n d ≡ Some (within s (Decimal m))
+pub grown_is : (s : Scan) (f : Field) (n d m : ℕ) → wanted s.place ≡ Some f → n * 10 + d ≡ m → m ≤ field_max f → decimal_grown s n d ≡ Some (within s (Decimal m))
 grown_is s f n d m w e h =
     ap (option_and_then (λ g. option_and_then (λ k. Some (within s (Decimal k))) (appended (field_max g) 10 n d))) w
     ∙ ap (option_and_then (λ k. Some (within s (Decimal k)))) (appended_is (field_max f) n d m e h)
@@ -92,15 +93,15 @@ ended_is : (s : Scan) (f : Field) (n : ℕ) (l : Lexeme) → wanted s.place ≡ 
 ended_is s f n l w p =
     ap (option_and_then (λ g. cond (n == 0 && is_positive g) None (Some (entered s g n)))) w ∙ ap (λ (b : Bool). cond b None (Some (entered s f n))) p
 
-left_is : (s : Scan) (f : Field) (n d : ℕ) (l : Lexeme) → wanted s.place ≡ Some f → (n == 0 && is_positive f) ≡ false → is_word_byte d ≡ false → number_left (within s l) n d ≡ gap (entered s f n) d
+pub left_is : (s : Scan) (f : Field) (n d : ℕ) (l : Lexeme) → wanted s.place ≡ Some f → (n == 0 && is_positive f) ≡ false → is_word_byte d ≡ false → number_left (within s l) n d ≡ gap (entered s f n) d
 left_is s f n d l w p h =
     ap (λ (b : Bool). cond b None (option_and_then (λ t. gap t d) (number_ended (within s l) n))) h ∙ ap (option_and_then (λ t. gap t d)) (ended_is s f n l w p)
 
-zero_whole : (s : Scan) (f : Field) (d : ℕ) → wanted s.place ≡ Some f → (0 == 0 && is_positive f) ≡ false → is_word_byte d ≡ false → step (within s Zero) d ≡ gap (entered s f 0) d
+pub zero_whole : (s : Scan) (f : Field) (d : ℕ) → wanted s.place ≡ Some f → (0 == 0 && is_positive f) ≡ false → is_word_byte d ≡ false → step (within s Zero) d ≡ gap (entered s f 0) d
 unfolding step
 zero_whole s f d w p h = if_false (d == 120) _ _ (no_prefix d h) ∙ (if_false (is_digit d) _ _ (no_digit d h) ∙ left_is s f 0 d Zero w p h)
 
-more_whole : (s : Scan) (f : Field) (n d : ℕ) → wanted s.place ≡ Some f → (n == 0 && is_positive f) ≡ false → is_word_byte d ≡ false → step (within s (Decimal n)) d ≡ gap (entered s f n) d
+pub more_whole : (s : Scan) (f : Field) (n d : ℕ) → wanted s.place ≡ Some f → (n == 0 && is_positive f) ≡ false → is_word_byte d ≡ false → step (within s (Decimal n)) d ≡ gap (entered s f n) d
 unfolding step
 more_whole s f n d w p h = if_false (is_digit d) _ _ (no_digit d h) ∙ left_is s f n d (Decimal n) w p h
 

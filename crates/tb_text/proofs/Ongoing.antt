@@ -20,7 +20,8 @@ use Rattle.tb_text.specs.declared.places.Lexeme.TheVariants.{Gap, Comment, Spell
 use Rattle.tb_text.specs.declared.places.Place.{Place}
 use Rattle.tb_text.specs.declared.places.Place.TheVariants.{Head, Named, Wanted, Given, Opened, Parted}
 use Rattle.tb_text.specs.Words.{word_text, all_words, field_index, field_max, same_field, has_field}
-use Rattle.tb_text.specs.Scan.{Entry, Scan, behind, step, step_at, run, gap, is_space, is_digit, is_word_byte, digit_of, is_given, value_from, value_of, account_of, transfer_of, wanted, is_field, awaits_field, awaits_operation, may_have, may_stand, suits, bit_of, begins_word, word_named, is_positive, entered, moved, within, spelling, taken}
+use Rattle.tb_text.specs.Entries.{Entry, is_space, is_digit, is_word_byte, digit_of, is_given, value_from, value_of, account_of, transfer_of, may_have, suits, is_positive, bit_of}
+use Rattle.tb_text.specs.Scan.{Scan, behind, step, step_at, run, gap, wanted, is_field, awaits_field, awaits_operation, may_stand, begins_word, word_named, entered, moved, within, spelling, taken}
 use Rattle.tb_text.specs.Scan.{word_ended, number_ended, item_count, pushed, when_lawful, request_of, closed_at, parted_at, valued_at, joined_at, mark, word_grown, appended, decimal_grown, hexadecimal_grown, zero_begun, word_left, number_left, hexadecimal_at}
 use Rattle.tb_text.proofs.Tokens.{stands_spelling}
 use Rattle.tb_text.proofs.Entries.{none_or, value_append}
@@ -119,7 +120,7 @@ each_chain P Q k (Some t) h more = more t h
 -- numbers of entries
 
 -- a field that is not given adds nothing
-not_valued : (g f : Field) → field_index g ≡ field_index f → (n : ℕ) (es : List Entry) → is_given f es ≡ false → value_from n g es ≡ n
+pub not_valued : (g f : Field) → field_index g ≡ field_index f → (n : ℕ) (es : List Entry) → is_given f es ≡ false → value_from n g es ≡ n
 not_valued g f same n [] h = refl
 not_valued g f same n (e ∷ es) h =
     let other : same_field g e.0 ≡ false = ap (λ (k : ℕ). k == field_index e.0) same ∙ or_left (same_field f e.0) (is_given f es) h in
@@ -233,7 +234,7 @@ named_number_stands None f g n given header count c r h = (
 )
 named_number_stands (Some o) f g n given header count c r h = h
 
-has_id : (o : Operation) (f : Field) → has_field o f ≡ true → has_field o field.Id ≡ true
+pub has_id : (o : Operation) (f : Field) → has_field o f ≡ true → has_field o field.Id ≡ true
 has_id Register f h = absurd cc
 has_id CreateAccounts f h = refl
 has_id CreateTransfers f h = refl
@@ -369,7 +370,7 @@ hexadecimal_goes s n d h =
 
 -- marks
 
-fresh : (pairs : List (ℕ × Message)) → IsClear (behind pairs)
+pub fresh : (pairs : List (ℕ × Message)) → IsClear (behind pairs)
 fresh pairs = record { gap = refl; spelled = refl; stands = (record { client = λ e. absurd cc; request = λ e. absurd cc; small = lit< tt }, tt) }
 
 lawful_goes : (s : Scan) (r : Message) (fault : Option FrameFault) → Each IsOngoing (when_lawful s r fault)
@@ -463,7 +464,7 @@ word_left_goes s b h =
     (λ w is. each_if IsClear (may_stand s w) (Some (taken s w)) None (λ may. taken_clear s w may h) (λ may. tt)))
     (λ t clear. gap_goes t b clear)
 
-fits_most : (place : Place) (n : ℕ) (f : Field) → Fits place n → wanted place ≡ Some f → n ≤ field_max f
+pub fits_most : (place : Place) (n : ℕ) (f : Field) → Fits place n → wanted place ≡ Some f → n ≤ field_max f
 fits_most place n f h e = subst (λ (g : Field). n ≤ field_max g) (same_wanted h.field f (sym h.is ∙ e)) h.most
 
 number_left_goes : (s : Scan) (n b : ℕ) → Fits s.place n → Stands s.operation s.place s.given s.header (item_count s) → Each IsOngoing (number_left s n b)
@@ -500,7 +501,7 @@ step_at_goes s b (Decimal n) e within_it h =
     each_if IsOngoing (is_digit b) (decimal_grown s n (b - 48)) (number_left s n b) (λ is. decimal_goes s n (b - 48) h.stands) (λ is. number_left_goes s n b within_it h.stands)
 step_at_goes s b (Hexadecimal n) e within_it h = hexadecimal_at_goes s n b (digit_of b) within_it h.stands
 
-step_goes : (s : Scan) (b : ℕ) → IsOngoing s → Each IsOngoing (step s b)
+pub step_goes : (s : Scan) (b : ℕ) → IsOngoing s → Each IsOngoing (step s b)
 unfolding step
 step_goes s b h = step_at_goes s b s.lexeme refl h.lexeme h
 

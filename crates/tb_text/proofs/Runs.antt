@@ -7,7 +7,8 @@ use Rattle.tb_text.specs.declared.words.Word.{Word}
 use Rattle.tb_text.specs.declared.words.Word.TheVariants as word
 use Rattle.tb_text.specs.declared.places.Refusal.{Refusal}
 use Rattle.tb_text.specs.declared.places.Refusal.TheVariants.{Memory, Unexpected}
-use Rattle.tb_text.specs.Scan.{Scan, step, run, gap, word_named, word_ended, number_ended, may_stand, taken, wanted, entered, is_positive, is_word_byte, number_left}
+use Rattle.tb_text.specs.Entries.{is_positive, is_word_byte}
+use Rattle.tb_text.specs.Scan.{Scan, step, run, gap, word_named, word_ended, number_ended, may_stand, taken, wanted, entered, number_left}
 use Rattle.tb_text.specs.Steps.{Steps}
 
 pub run_append : (s : Scan) (xs ys : List ℕ) → run s (xs ++ ys) ≡ option_and_then (λ t. run t ys) (run s xs)
@@ -18,7 +19,7 @@ run_append s (b ∷ xs) ys = by (step s b) (λ t. run_append t xs ys)
     by None later = refl
     by (Some t) later = later t
 
--- behind a beginning that is taken
+-- behind a prefix that is taken
 pub run_behind : (s t : Scan) (xs ys : List ℕ) → run s xs ≡ Some t → run s (xs ++ ys) ≡ run t ys
 run_behind s t xs ys h = run_append s xs ys ∙ ap (option_and_then (λ u. run u ys)) h
 

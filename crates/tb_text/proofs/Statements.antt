@@ -18,7 +18,8 @@ use Rattle.tb_text.specs.declared.words.Operation.{Operation}
 use Rattle.tb_text.specs.declared.words.Operation.TheVariants.{Register, CreateAccounts, CreateTransfers, LookupAccounts, LookupTransfers}
 use Rattle.tb_text.specs.declared.places.Place.TheVariants.{Opened}
 use Rattle.tb_text.specs.Words.{word_text, same_field}
-use Rattle.tb_text.specs.Scan.{Entry, Scan, behind, run, value_of, suits, when_lawful}
+use Rattle.tb_text.specs.Entries.{Entry, value_of, suits}
+use Rattle.tb_text.specs.Scan.{Scan, behind, run, when_lawful}
 use Rattle.std.proofs.lemmas.Bool.Decides.{nat_tests}
 use Rattle.tb_text.specs.Steps.{Means}
 use Rattle.tb_text.specs.Printed.{entries_text, header_entries, items_text, account_text, transfer_text, id_text, body_text, statement_text, printed}
@@ -55,13 +56,13 @@ first_test : (b : Bool) (f : FrameFault) (rest : Option FrameFault) → cond b (
 first_test true f rest h = absurd cc
 first_test false f rest h = (refl, h)
 
-record HasNumbers (r : Message) : Type 0 where
+pub record HasNumbers (r : Message) : Type 0 where
   pub client : (r.client == 0) ≡ false
   pub register : (is_register r.body && not (r.session == 0 && r.request == 0)) ≡ false
   pub numbered : (not (is_register r.body) && r.request == 0) ≡ false
   pub items : nat_lt items_max (item_count r.body) ≡ false
 
-numbers_of : (r : Message) → IsLawful r → HasNumbers r
+pub numbers_of : (r : Message) → IsLawful r → HasNumbers r
 numbers_of r h =
     let a = first_test (r.client == 0) _ _ h in
     let b = first_test (is_register r.body && not (r.session == 0 && r.request == 0)) _ _ a.1 in
@@ -126,7 +127,7 @@ items_end text [] tail = record { byte = 59; rest = tail; text_is = refl; ends =
 items_end text (x ∷ xs) tail = record { byte = 32; rest = _; text_is = refl; ends = refl }
 
 -- which operations suit a header
-both_not : (a b : Bool) → a ≡ false → b ≡ false → (not a && not b) ≡ true
+pub both_not : (a b : Bool) → a ≡ false → b ≡ false → (not a && not b) ≡ true
 both_not a b h k = ap (λ (c : Bool). not c && not b) h ∙ ap (λ (c : Bool). not c) k
 
 suits_numbered : (o : Operation) (moment : ℕ) (r : Message) → IsLawful r → (is_register r.body) ≡ false
@@ -137,7 +138,7 @@ suits_numbered o moment r h k =
     (ap (λ (m : ℕ). m == 0) (client_back moment r) ∙ n.client)
     (ap (λ (m : ℕ). m == 0) (number_back moment r) ∙ (sym (ap (λ (b : Bool). not b && r.request == 0) k) ∙ n.numbered))
 
-not_both : (a b : Bool) → not (a && b) ≡ false → (a && b) ≡ true
+pub not_both : (a b : Bool) → not (a && b) ≡ false → (a && b) ≡ true
 not_both true true h = refl
 not_both true false h = absurd cc
 not_both false b h = absurd cc
@@ -151,7 +152,7 @@ suits_register moment r h k =
     ∙ (ap (λ (m : ℕ). m == 0 && value_of field.Request (header_of moment r) == 0) (session_back moment r)
     ∙ (ap (λ (m : ℕ). r.session == 0 && m == 0) (number_back moment r) ∙ both)))
 
-few : (r : Message) → IsLawful r → item_count r.body ≤ 8190
+pub few : (r : Message) → IsLawful r → item_count r.body ≤ 8190
 few r h = at_most (item_count r.body) (numbers_of r h).items
   where
     at_most : (n : ℕ) → nat_lt 8190 n ≡ false → n ≤ 8190

@@ -11,7 +11,8 @@ use Rattle.tb_text.specs.declared.words.Word.{Word}
 use Rattle.tb_text.specs.declared.words.Word.TheVariants as word
 use Rattle.tb_text.specs.declared.places.Lexeme.TheVariants.{Gap}
 use Rattle.tb_text.specs.Words.{word_text, all_words}
-use Rattle.tb_text.specs.Scan.{Scan, step, run, gap, is_space, is_digit, is_word_byte, may_stand, taken, spelling, word_named, word_grown, begins_word}
+use Rattle.tb_text.specs.Entries.{is_space, is_digit, is_word_byte}
+use Rattle.tb_text.specs.Scan.{Scan, step, run, gap, may_stand, taken, spelling, word_named, word_grown, begins_word}
 use Rattle.tb_text.proofs.EachWord.{is_letter, all_word_bytes, begins_with_letter, letter_first, word_bytes, named_by_text, word_place, stands_at, place_below}
 use Rattle.tb_text.proofs.Facts.{if_false, if_true, and_both, and_left, and_right}
 

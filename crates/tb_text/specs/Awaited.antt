@@ -9,11 +9,11 @@ use Rattle.tb_text.specs.declared.words.Operation.{Operation}
 use Rattle.tb_text.specs.declared.words.Word.{Word}
 use Rattle.tb_text.specs.Words.{same_field, word_text, all_words}
 use Rattle.tb_text.specs.Scan.{Scan, item_count, may_stand, step, wanted}
-use Rattle.tb_text.specs.Steps.{Begins}
+use Rattle.tb_text.specs.Steps.{BeginsStatements}
 
 -- some text of statements begins with the text and, on a line of its own, this
 abbrev pub GoesOn : List ℕ → List ℕ → Type 0
-GoesOn text piece = Begins (text ++ 10 ∷ (piece ++ 10 ∷ []))
+GoesOn text piece = BeginsStatements (text ++ 10 ∷ (piece ++ 10 ∷ []))
 
 -- the words, the number and the marks with which some text of statements goes on, and no others; a number as the number 1
 pub record Awaits (text : List ℕ) (a : Awaited) : Type 0 where
@@ -27,7 +27,7 @@ pub record Awaits (text : List ℕ) (a : Awaited) : Type 0 where
 -- nothing where the text and a line end begin no text of statements
 abbrev pub AwaitsBehind : List ℕ → Option Awaited → Type 0
 AwaitsBehind text (Some a) = Awaits text a
-AwaitsBehind text None = Begins (text ++ 10 ∷ []) → ⊥
+AwaitsBehind text None = BeginsStatements (text ++ 10 ∷ []) → ⊥
 
 -- by the place
 

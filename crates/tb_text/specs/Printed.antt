@@ -12,7 +12,7 @@ use Rattle.tb_text.specs.declared.words.Flag.{Flag}
 use Rattle.tb_text.specs.declared.words.Operation.{Operation}
 use Rattle.tb_text.specs.declared.words.Operation.TheVariants.{Register, CreateAccounts, CreateTransfers}
 use Rattle.tb_text.specs.Words.{field_name, same_field, flags_of, flag_bit, flag_name}
-use Rattle.tb_text.specs.Scan.{Entry}
+use Rattle.tb_text.specs.Entries.{Entry}
 
 -- what is left of a number of flags without those bits that have a name
 abbrev pub unnamed : Operation → ℕ → ℕ

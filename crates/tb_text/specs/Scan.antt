@@ -1,5 +1,5 @@
 -- Reading byte by byte: what has been read so far, and what a byte makes of it. None says that no statements go on so.
-use Rattle.std.specs.Prelude.{ℕ, Bool, true, false, not, ◌&&◌, ◌||◌, ◌==◌, ◌+◌, ◌-◌, ◌*◌, ◌%◌, ◌^◌, nat_le, nat_lt, nat_eq, List, [], ◌∷◌, ◌++◌, length, Option, Some, None, if◌then◌else◌, bit_or}
+use Rattle.std.specs.Prelude.{ℕ, Bool, true, false, not, ◌&&◌, ◌==◌, ◌+◌, ◌-◌, ◌*◌, ◌%◌, ◌^◌, nat_le, nat_lt, nat_eq, List, [], ◌∷◌, ◌++◌, length, Option, Some, None, if◌then◌else◌}
 use Rattle.std.specs.Option.{option_and_then, is_none}
 use Rattle.std.specs.List.{list_any, find}
 use Rattle.std.specs.Cmp.Lexicographic.{pointwise}
@@ -20,11 +20,8 @@ use Rattle.tb_text.specs.declared.places.Lexeme.{Lexeme}
 use Rattle.tb_text.specs.declared.places.Lexeme.TheVariants.{Gap, Comment, Spelled, Zero, Prefix, Decimal, Hexadecimal}
 use Rattle.tb_text.specs.declared.places.Place.{Place}
 use Rattle.tb_text.specs.declared.places.Place.TheVariants.{Head, Named, Wanted, Given, Opened, Parted}
-use Rattle.tb_text.specs.Words.{field_max, same_field, is_header_field, has_field, flag_bit, word_text, all_words}
-
--- a field and its number
-abbrev pub Entry : Type 0
-Entry = Field × ℕ
+use Rattle.tb_text.specs.Words.{field_max, same_field, word_text, all_words}
+use Rattle.tb_text.specs.Entries.{Entry, is_space, is_digit, is_word_byte, digit_of, is_given, value_of, account_of, transfer_of, may_have, bit_of, is_positive, suits}
 
 -- the statements read so far, and as much as there is of the next one
 pub record Scan : Type 0 where
@@ -52,75 +49,6 @@ behind pairs = record {
   accounts = [];
   transfers = [];
   ids = [];
-}
-
--- bytes
-
-abbrev pub is_space : ℕ → Bool
-is_space b = b == 32 || b == 10 || b == 9 || b == 13
-
-abbrev pub is_digit : ℕ → Bool
-is_digit b = nat_le 48 b && nat_le b 57
-
--- the bytes of words and numbers: lower letters, digits and `_`
-abbrev pub is_word_byte : ℕ → Bool
-is_word_byte b = (nat_le 97 b && nat_le b 122) || is_digit b || b == 95
-
--- the value of a digit to the base 16
-abbrev pub digit_of : ℕ → Option ℕ
-digit_of b =
-    if is_digit b then Some (b - 48)
-    else if nat_le 97 b && nat_le b 102 then Some (b - 87)
-    else if nat_le 65 b && nat_le b 70 then Some (b - 55)
-    else None
-
--- entries
-
-abbrev pub is_given : Field → List Entry → Bool
-is_given f [] = false
-is_given f (e ∷ es) = same_field f e.0 || is_given f es
-
--- the number of a field that stands behind others: the flags that are named one by one are joined
-abbrev pub value_from : ℕ → Field → List Entry → ℕ
-value_from n f [] = n
-value_from n f (e ∷ es) = value_from (if same_field f e.0 then bit_or n e.1 else n) f es
-
--- the number of a field, 0 where it is left out
-abbrev pub value_of : Field → List Entry → ℕ
-value_of f es = value_from 0 f es
-
-unfoldable pub account_of : List Entry → Account
-account_of es = record {
-  id = value_of field.Id es;
-  debits_pending = value_of field.DebitsPending es;
-  debits_posted = value_of field.DebitsPosted es;
-  credits_pending = value_of field.CreditsPending es;
-  credits_posted = value_of field.CreditsPosted es;
-  user_data_128 = value_of field.UserData128 es;
-  user_data_64 = value_of field.UserData64 es % 2 ^ 64;
-  user_data_32 = value_of field.UserData32 es % 2 ^ 32;
-  reserved = value_of field.Reserved es % 2 ^ 32;
-  ledger = value_of field.Ledger es % 2 ^ 32;
-  code = value_of field.Code es % 2 ^ 16;
-  flags = value_of field.Flags es % 2 ^ 16;
-  timestamp = value_of field.Timestamp es % 2 ^ 64;
-}
-
-unfoldable pub transfer_of : List Entry → Transfer
-transfer_of es = record {
-  id = value_of field.Id es;
-  debit_account_id = value_of field.DebitAccountId es;
-  credit_account_id = value_of field.CreditAccountId es;
-  amount = value_of field.Amount es;
-  pending_id = value_of field.PendingId es;
-  user_data_128 = value_of field.UserData128 es;
-  user_data_64 = value_of field.UserData64 es % 2 ^ 64;
-  user_data_32 = value_of field.UserData32 es % 2 ^ 32;
-  timeout = value_of field.Timeout es % 2 ^ 32;
-  ledger = value_of field.Ledger es % 2 ^ 32;
-  code = value_of field.Code es % 2 ^ 16;
-  flags = value_of field.Flags es % 2 ^ 16;
-  timestamp = value_of field.Timestamp es % 2 ^ 64;
 }
 
 -- words
@@ -152,19 +80,6 @@ given_last place = None
 abbrev pub is_field : Field → Option Field → Bool
 is_field f None = false
 is_field f (Some g) = same_field f g
-
-abbrev pub may_have : Option Operation → Field → Bool
-may_have None f = is_header_field f
-may_have (Some o) f = has_field o f
-
--- the numbers before an operation are those of a request: a client, and where it is no register the number of the request
-abbrev pub suits : Operation → List Entry → Bool
-suits Register es = not (value_of field.Client es == 0) && value_of field.Session es == 0 && value_of field.Request es == 0
-suits o es = not (value_of field.Client es == 0) && not (value_of field.Request es == 0)
-
-abbrev pub bit_of : Option Operation → Word → ℕ
-bit_of (Some o) (word.Flag f) = flag_bit o f
-bit_of o w = 0
 
 -- a word may stand next
 abbrev pub may_stand : Scan → Word → Bool
@@ -263,10 +178,6 @@ taken s word.AmountMax = entered s field.Amount (2 ^ 128 - 1)
 -- behind the word that was spelled
 abbrev pub word_ended : Scan → Option Scan
 word_ended s = option_and_then (λ w. if may_stand s w then Some (taken s w) else None) (word_named s.spelled)
-
--- a client, and a request's number, are not 0
-abbrev pub is_positive : Field → Bool
-is_positive f = same_field f field.Client || same_field f field.Request
 
 -- behind a number
 abbrev pub number_ended : Scan → ℕ → Option Scan

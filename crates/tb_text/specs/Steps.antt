@@ -39,8 +39,8 @@ abbrev pub StandFirst : List (ℕ × Message) → List (ℕ × Message) → Type
 StandFirst pairs others = (further : List (ℕ × Message)) × (others ≡ pairs ++ further)
 
 -- a text of statements begins with these bytes
-abbrev pub Begins : List ℕ → Type 0
-Begins bytes = (more : List ℕ) × (pairs : List (ℕ × Message)) × Means (bytes ++ more) pairs
+abbrev pub BeginsStatements : List ℕ → Type 0
+BeginsStatements bytes = (more : List ℕ) × (pairs : List (ℕ × Message)) × Means (bytes ++ more) pairs
 
 abbrev pub Reads : List ℕ → List (ℕ × Message) → Option ℕ → Type 0
 Reads text pairs None = Means text pairs
@@ -48,8 +48,8 @@ Reads text pairs (Some place) = Stops text pairs place
 
 -- how far a text begins a text of statements: as a whole, or up to a place and not with the byte there
 abbrev pub BeginsUpTo : List ℕ → Option ℕ → Type 0
-BeginsUpTo text None = Begins text
-BeginsUpTo text (Some place) = (place ≤ length text) × Begins (take place text) × (place < length text → Begins (take (place + 1) text) → ⊥)
+BeginsUpTo text None = BeginsStatements text
+BeginsUpTo text (Some place) = (place ≤ length text) × BeginsStatements (take place text) × (place < length text → BeginsStatements (take (place + 1) text) → ⊥)
 
 abbrev pub place_of : Option TextFault → Option ℕ
 place_of None = None

@@ -12,9 +12,11 @@
 //! - `printing`: requests, printed as statements.
 //! - `text_laws`: what holds of every text of statements: functions that do nothing.
 //!
-//! specs/Scan is what a byte makes of what was read (each lexeme, word, mark), specs/Steps what a text means,
-//! specs/Printed the one printed text. proofs/Ongoing is what holds of whatever was read, proofs/Endings how each state
-//! of the reader goes on to the end of a statement.
+//! specs/Grammar is what a text says, with no reader: tokens, and phrases of them. specs/Scan is what a byte makes of
+//! what was read (each lexeme, word, mark), specs/Steps what a text means, which the law `means_what_it_says` joins to
+//! the grammar. specs/Entries is what entries mean, for both; specs/Printed the one printed text. proofs/Ongoing is
+//! what holds of whatever was read, proofs/Endings how each state of the reader goes on to the end of a statement.
+//! proofs/Lexing and proofs/Parsing lead from the reader to the grammar, proofs/Feeding and proofs/Stating back.
 #![tactic(auto)]
 
 mod awaited;

@@ -4,7 +4,7 @@ use crate::words::Field;
 /// What the byte before the next one belongs to.
 #[derive(Clone, Copy, Debug, PartialEq, Eq)]
 pub enum Lexeme {
-    /// Nothing that goes on: space, a mark, or the beginning.
+    /// Nothing that goes on: space, a mark, or the start.
     Gap,
     /// A comment, which ends with its line.
     Comment,

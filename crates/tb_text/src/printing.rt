@@ -315,7 +315,7 @@ fn put_body(alloc: Global, out: &mut Vec<u8>, body: &Body) -> Result<(), AllocEr
 }
 
 /// Appends the statement of a request at its moment, a line. The clause `fits` is what `printed_is_read` asks for, so
-/// the line is read back. After an AllocError a beginning of it may have been appended.
+/// the line is read back. After an AllocError a prefix of it may have been appended.
 #[tactic(auto, unfolding(crate::specs::Printed::statement_text))]
 pub fn print_request(
     alloc: Global,

@@ -64,7 +64,7 @@ pub fn read_text(alloc: Global, text: &[u8]) -> Result<Reading, AllocError>
     })
 }
 
-/// The line behind these bytes, from 1, and the column, the number of bytes since the line's beginning, from 1.
+/// The line behind these bytes, from 1, and the column, the number of bytes since the line's start, from 1.
 pub fn position(before: &[u8]) -> (usize, usize)
     ensures line { result.0 ≡ line_from 1 before.now }
     ensures column { result.1 ≡ column_from 1 before.now }

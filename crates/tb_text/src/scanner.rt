@@ -1,8 +1,9 @@
 //! A reader of statements, byte by byte.
 ghost use Rattle.std.specs.Option.{option_and_then};
 ghost use Rattle.std.specs.Prelude.{nat_lt, ◌≡◌, ◌++◌, ◌∷◌, ◌+◌, ◌*◌, ◌%◌, ◌^◌, ◌<◌, ◌-◌, [], ℕ, Bool, Some, None, IfOk, OnOk, IfSome};
-ghost use Rattle.tb_text.specs.Scan.{Entry, Scan, behind, is_space, is_digit, is_word_byte, digit_of, is_given, value_from, value_of, account_of, transfer_of};
-ghost use Rattle.tb_text.specs.Scan.{awaits_field, awaits_operation, wanted, with_account, with_transfer, with_id, body_of, bit_of, is_field, is_positive, suits, may_have, may_stand, word_named, begins_word, entered, moved, within, spelling, opened, taken};
+ghost use Rattle.tb_text.specs.Entries.{Entry, is_space, is_digit, is_word_byte, digit_of, is_given, value_from, value_of, account_of, transfer_of, is_positive, suits, may_have, bit_of};
+ghost use Rattle.tb_text.specs.Scan.{Scan, behind};
+ghost use Rattle.tb_text.specs.Scan.{awaits_field, awaits_operation, wanted, with_account, with_transfer, with_id, body_of, is_field, may_stand, word_named, begins_word, entered, moved, within, spelling, opened, taken};
 ghost use Rattle.tb_text.specs.Scan.{word_ended, number_ended, item_count, pushed, request_of, finished, closed_at, parted_at, valued_at, joined_at, mark, word_grown, appended, decimal_grown, hexadecimal_grown, zero_begun, zero_left, gap, word_left, number_left, step, is_at_rest, hexadecimal_at};
 ghost use Rattle.tb_text.specs.Awaited.{has_operation};
 ghost use Rattle.tb_text.specs.Steps.{Steps, Scans};
@@ -142,7 +143,7 @@ fn low_16(n: u128) -> u16
 }
 
 /// The account of the fields that were given.
-#[tactic(auto, unfolding(crate::specs::Scan::account_of))]
+#[tactic(auto, unfolding(crate::specs::Entries::account_of))]
 fn account_of(given: &[(Field, u128)]) -> Account
     ensures { result ≡ account_of given.now }
 {
@@ -164,7 +165,7 @@ fn account_of(given: &[(Field, u128)]) -> Account
 }
 
 /// The transfer of the fields that were given.
-#[tactic(auto, unfolding(crate::specs::Scan::transfer_of))]
+#[tactic(auto, unfolding(crate::specs::Entries::transfer_of))]
 fn transfer_of(given: &[(Field, u128)]) -> Transfer
     ensures { result ≡ transfer_of given.now }
 {

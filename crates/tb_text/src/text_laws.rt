@@ -1,8 +1,14 @@
 //! What holds of every text of statements.
-ghost use Rattle.std.specs.Prelude.{◌≡◌, ◌<◌, ◌+◌, ◌++◌, All, List, Option, ℕ, codes, length, take};
+ghost use Rattle.std.specs.Prelude.{◌≡◌, ◌<◌, ◌+◌, ◌-◌, ◌^◌, ◌++◌, ◌∷◌, [], All, List, None, Option, Some, ℕ, codes, length, take};
 ghost use Rattle.tb_records.specs.Inputs.{IsTimed};
-ghost use Rattle.tb_records.specs.Messages.{Message};
+ghost use Rattle.tb_records.specs.Messages.{Message, asked};
+ghost use Rattle.tb_records.specs.declared.bodies.Body.TheVariants.{CreateAccounts as AccountsBody, Register};
+ghost use Rattle.tb_text.specs.declared.words.Field.TheVariants.{Amount, Client, Code, Flags, Id};
+ghost use Rattle.tb_text.specs.declared.words.Flag.TheVariants.{Pending};
 ghost use Rattle.tb_text.specs.declared.words.Operation.TheVariants.{CreateAccounts, CreateTransfers};
+ghost use Rattle.tb_text.specs.declared.words.Word.TheVariants.{AmountMax, Field as FieldWord, Flag as FlagWord};
+ghost use Rattle.tb_text.specs.Entries.{account_of};
+ghost use Rattle.tb_text.specs.Grammar.{Mark, Name, Number, Says, Text, number_as, number_of};
 ghost use Rattle.tb_text.specs.Printed.{flags_text, printed};
 ghost use Rattle.tb_text.specs.Steps.{BeginsUpTo, Means, Reads, StandFirst, Stops};
 
@@ -14,6 +20,53 @@ pub fn printed_is_read()
 /// A text has at most one meaning.
 pub fn one_meaning()
     ensures { (text : List ℕ) (ps qs : List (ℕ × Message)) → Means text ps → Means text qs → ps ≡ qs }
+{}
+
+/// The statements of a text are these requests exactly where the grammar of statements says that the text says them.
+pub fn means_what_it_says()
+    ensures said { (text : List ℕ) (pairs : List (ℕ × Message)) → Means text pairs → Says text pairs }
+    ensures meant { (text : List ℕ) (pairs : List (ℕ × Message)) → Says text pairs → Means text pairs }
+{}
+
+/// Numbers and values, as the grammar has them.
+pub fn worked_values()
+    ensures decimal { number_of 10 (codes "0070") ≡ Some 70 }
+    ensures hexadecimal { number_of 16 (codes "2aF") ≡ Some 687 }
+    ensures no_decimal { number_of 10 (codes "2a") ≡ None }
+    ensures no_digits { number_of 16 [] ≡ None }
+    ensures greatest { number_as (Some CreateAccounts) Code (Number 65535) ≡ Some 65535 }
+    ensures too_great { number_as (Some CreateAccounts) Code (Number 65536) ≡ None }
+    ensures no_client { number_as None Client (Number 0) ≡ None }
+    ensures flag { number_as (Some CreateTransfers) Flags (Name (FlagWord Pending)) ≡ Some 2 }
+    ensures no_flag { number_as (Some CreateAccounts) Flags (Name (FlagWord Pending)) ≡ None }
+    ensures amount_max { number_as (Some CreateTransfers) Amount (Name AmountMax) ≡ Some (2 ^ 128 - 1) }
+{}
+
+/// A text and its tokens, a comment and blanks between them.
+pub fn worked_tokens()
+    ensures { Text (codes "id=0x10 # ten\n ,") (Name (FieldWord Id) ∷ Mark 61 ∷ Number 16 ∷ Mark 44 ∷ []) }
+{}
+
+/// A text of one statement.
+pub fn worked_statement()
+    ensures { Says (codes "at=10 client=7 register;") ((10, asked 7 0 0 Register) ∷ []) }
+{}
+
+/// A text of two events, with flags, and a comment at its end.
+pub fn worked_events()
+    ensures { Says (codes "client=7 session=1 request=1 create_accounts\n id=1 flags=linked|8, id=0xA;  # end")
+        ((
+          0,
+          asked 7 1 1 (AccountsBody (
+              account_of ((Id, 1) ∷ (Flags, 1) ∷ (Flags, 8) ∷ [])
+              ∷ account_of ((Id, 10) ∷ [])
+              ∷ [])),
+        ) ∷ []) }
+{}
+
+/// A word does not follow a number directly.
+pub fn worked_fault()
+    ensures { (pairs : List (ℕ × Message)) → Says (codes "at=1client=7 register;") pairs → ⊥ }
 {}
 
 /// Where reading stops before the end, no statements begin with the text up to the byte there, that byte with it.

@@ -3,7 +3,7 @@ use Rattle.std.specs.Prelude.{ℕ, Bool, true, false, ◌≡◌, ◌⊎◌, Resu
 use Rattle.tb_records.specs.Transport.{Input, Output, risen, Refuses}
 use Rattle.tb_text_commands.specs.declared.faults.Fault.{Fault}
 use Rattle.tb_text_commands.specs.declared.faults.Fault.TheVariants.{Usage, Device, NoMemory, TimeExhausted, TooLong, Frame, Dump, Arguments, Text, WasTold}
-use Rattle.tb_text_commands.specs.declared.arguments.Order.{Order}
+use Rattle.tb_text_commands.specs.declared.arguments.Form.{Form}
 use Rattle.tb_text_commands.specs.Statuses.{fault_status, TellsOf}
 use Rattle.tb_text_commands.specs.Whole.{IsInputOf, WasWhole}
 
@@ -84,9 +84,9 @@ Tells (Err fault) quiet told = TellsOf fault quiet told
 
 -- a form of the program was done, or a fault ended it: the status is the outcome's, and a device failed exactly where that
 -- says so; with status 0 a whole input was read; where no statements are typed, nothing but its line is told
-pub record Exits (order : Order) (talks : Bool) (status : ℕ) (before after : Input) (start written quiet told : Output) : Type 0 where
+pub record Exits (form : Form) (talks : Bool) (status : ℕ) (before after : Input) (start written quiet told : Output) : Type 0 where
   pub outcome : Result (Unit {0}) Fault
   pub ended : Ended outcome before after start written
   pub status_is : status ≡ outcome_status outcome
-  pub whole : status ≡ 0 → WasWhole (IsInputOf order) before.left
+  pub whole : status ≡ 0 → WasWhole (IsInputOf form) before.left
   pub line : talks ≡ false → Tells outcome quiet told

@@ -1,7 +1,7 @@
 pub mod Completed
 pub mod Ends
 pub mod Heads
-pub mod Orders
+pub mod Forms
 pub mod Statuses
 pub mod Taken
 pub mod Whole

@@ -1,13 +1,14 @@
 -- The exit status of each fault: 1 a device or memory failed, 2 the input or the arguments are wrong. And the line that a
 -- fault is told by.
-use Rattle.std.specs.Prelude.{ℕ, ◌⊎◌, ◌++◌, List, [], codes}
+use Rattle.std.specs.Prelude.{ℕ, ◌++◌, List, [], codes}
 use Rattle.tb_records.specs.declared.faults.FrameFault.{FrameFault}
 use Rattle.tb_records.specs.declared.faults.FrameFault.TheVariants as frame
 use Rattle.tb_records.specs.declared.dumps.DumpFault.{DumpFault}
 use Rattle.tb_records.specs.declared.dumps.DumpFault.TheVariants as dump
 use Rattle.tb_records.specs.DumpFaults.{dump_fault_name}
 use Rattle.tb_records.specs.Faults.{fault_name}
-use Rattle.tb_records.specs.Transport.{Output, Sent, CutOff}
+use Rattle.tb_records.specs.Transport.{Output}
+use Rattle.tb_commands.specs.Statuses.{frame_status, dump_status, TellsLine}
 use Rattle.tb_text_commands.specs.declared.faults.Fault.{Fault}
 use Rattle.tb_text_commands.specs.declared.faults.Fault.TheVariants.{Usage, Device, NoMemory, TimeExhausted, TooLong, Frame, Dump, Arguments, Text, WasTold}
 
@@ -24,16 +25,6 @@ dump_fault_of dump.NoMemory = NoMemory
 dump_fault_of fault = Dump fault
 
 -- statuses
-
-abbrev pub frame_status : FrameFault → ℕ
-frame_status frame.Device = 1
-frame_status frame.NoMemory = 1
-frame_status fault = 2
-
-abbrev pub dump_status : DumpFault → ℕ
-dump_status dump.NoMemory = 1
-dump_status (dump.Frame fault) = frame_status fault
-dump_status fault = 2
 
 abbrev pub fault_status : Fault → ℕ
 fault_status Usage = 2
@@ -65,11 +56,7 @@ fault_line (Arguments line) = line.items
 fault_line (Text line) = line.items
 fault_line WasTold = []
 
--- a line was written, or a beginning of it, where the writer failed or took nothing
-abbrev pub Told : List ℕ → Output → Output → Type 0
-Told line before after = Sent line before after ⊎ CutOff line before after
-
 -- what is written of a fault: its line, or the page of usage
 abbrev pub TellsOf : Fault → Output → Output → Type 0
-TellsOf Usage before after = (page : List ℕ) × Told page before after
-TellsOf fault before after = Told (fault_line fault) before after
+TellsOf Usage before after = (page : List ℕ) × TellsLine page before after
+TellsOf fault before after = TellsLine (fault_line fault) before after

@@ -14,7 +14,7 @@ abbrev pub waiting : Intake → Input → Option (List ℕ)
 waiting intake input = if intake.ended then Some (rest_of intake) else prepend_known (rest_of intake) input.left
 
 -- bytes are parts of a kind, and others behind them
-pub record Leads (Part : List ℕ → Type 0) (before after : List ℕ) : Type 0 where
+pub record LeadsByParts (Part : List ℕ → Type 0) (before after : List ℕ) : Type 0 where
   pub parts : List (List ℕ)
   pub bytes : before ≡ flat_map (λ part. part) parts ++ after
   pub each : Each Part parts
@@ -32,8 +32,8 @@ Of Is (Some before) None = ⊥
 Of Is (Some before) (Some after) = Is before after
 
 -- parts of a kind were taken
-pub record Takes (Part : List ℕ → Type 0) (before after : Option (List ℕ)) : Type 0 where
-  pub how : Of (Leads Part) before after
+pub record TakesParts (Part : List ℕ → Type 0) (before after : Option (List ℕ)) : Type 0 where
+  pub how : Of (LeadsByParts Part) before after
 
 -- one was
 pub record TakesOne (Part : List ℕ → Type 0) (before after : Option (List ℕ)) : Type 0 where
@@ -60,6 +60,6 @@ pub record TakesPart (Part : List ℕ → Type 0) (before after : Intake) : Type
   pub is : Part part
 
 -- an intake holds the same as before
-pub record Holds (before after : Intake) : Type 0 where
+pub record HoldsAsBefore (before after : Intake) : Type 0 where
   pub rest : rest_of after ≡ rest_of before
   pub same : after.ended ≡ before.ended

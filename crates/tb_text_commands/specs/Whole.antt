@@ -9,8 +9,8 @@ use Rattle.tb_records.specs.Ordered.{Each}
 use Rattle.tb_records.specs.ReplyFrames.{SpellsReply}
 use Rattle.tb_text.specs.Steps.{Means}
 use Rattle.tb_text_commands.specs.Completed.{completed}
-use Rattle.tb_text_commands.specs.declared.arguments.Order.{Order}
-use Rattle.tb_text_commands.specs.declared.arguments.Order.TheVariants as order
+use Rattle.tb_text_commands.specs.declared.arguments.Form.{Form}
+use Rattle.tb_text_commands.specs.declared.arguments.Form.TheVariants as form
 use Rattle.tb_text_commands.specs.declared.completing.Standing.{Standing}
 
 -- bytes are parts of one kind, one behind the other
@@ -60,17 +60,17 @@ pub record IsDump (bytes : List ℕ) : Type 0 where
   pub items : Parts IsItem behind
 
 -- the input of a form of the program; any bytes can be explained, and a page needs none
-abbrev pub IsInputOf : Order → List ℕ → Type 0
-IsInputOf order.Script bytes = Parts IsStatement bytes
-IsInputOf order.Requests bytes = Parts IsPair bytes
-IsInputOf order.Replies bytes = Parts IsReplyFrame bytes
-IsInputOf order.Dump bytes = IsDump bytes
-IsInputOf order.Pairs bytes = IsDump bytes
-IsInputOf (order.Audit account) bytes = IsDump bytes
-IsInputOf order.Explain bytes = Unit {0}
-IsInputOf (order.Run clients_max profile) bytes = Parts IsStatement bytes
-IsInputOf order.Help bytes = Unit {0}
-IsInputOf order.Version bytes = Unit {0}
+abbrev pub IsInputOf : Form → List ℕ → Type 0
+IsInputOf form.Script bytes = Parts IsStatement bytes
+IsInputOf form.Requests bytes = Parts IsPair bytes
+IsInputOf form.Replies bytes = Parts IsReplyFrame bytes
+IsInputOf form.Dump bytes = IsDump bytes
+IsInputOf form.Pairs bytes = IsDump bytes
+IsInputOf (form.Audit account) bytes = IsDump bytes
+IsInputOf form.Explain bytes = Unit {0}
+IsInputOf (form.Run clients_max profile) bytes = Parts IsStatement bytes
+IsInputOf form.Help bytes = Unit {0}
+IsInputOf form.Version bytes = Unit {0}
 
 -- of a reader that may not tell its bytes
 abbrev pub WasWhole : (List ℕ → Type 0) → Option (List ℕ) → Type 0

@@ -1,15 +1,15 @@
 //! What the words of the command line ask for.
 ghost use Rattle.std.specs.Prelude.{◌≡◌, ◌<◌, map, string_bytes, None, Some, IfSome};
-ghost use Rattle.tb_commands.specs.Orders.{clients_of, digit_of, profile_of};
-ghost use Rattle.tb_text_commands.specs.Orders.{account_of, audit_of, order_alone, order_of, order_with, order_with_two, run_by, with_digit};
+ghost use Rattle.tb_commands.specs.Forms.{digit_of};
+ghost use Rattle.tb_text_commands.specs.Forms.{account_of, audit_of, form_alone, form_of, form_with, form_with_two, run_by, with_digit};
 
 use std::alloc::{AllocError, Global};
-use tb_commands::number;
+use tb_commands::{number, read_clients_max, read_profile};
 use tb_records::{ClientsMax, Profile};
 
 /// What the program is asked to do.
 #[derive(Clone, Copy)]
-pub enum Order {
+pub enum Form {
     /// Statements in, a script out.
     Script,
     /// A script in, statements out.
@@ -33,27 +33,27 @@ pub enum Order {
 }
 
 /// What a word asks for.
-fn order_alone(word: &str) -> Option<Order>
-    ensures { result ≡ order_alone word.now }
+fn form_alone(word: &str) -> Option<Form>
+    ensures { result ≡ form_alone word.now }
 {
     if word == "script" {
-        Some(Order::Script)
+        Some(Form::Script)
     } else if word == "requests" {
-        Some(Order::Requests)
+        Some(Form::Requests)
     } else if word == "replies" {
-        Some(Order::Replies)
+        Some(Form::Replies)
     } else if word == "dump" {
-        Some(Order::Dump)
+        Some(Form::Dump)
     } else if word == "pairs" {
-        Some(Order::Pairs)
+        Some(Form::Pairs)
     } else if word == "audit" {
-        Some(Order::Audit(None))
+        Some(Form::Audit(None))
     } else if word == "explain" {
-        Some(Order::Explain)
+        Some(Form::Explain)
     } else if word == "--help" || word == "-h" {
-        Some(Order::Help)
+        Some(Form::Help)
     } else if word == "--version" {
-        Some(Order::Version)
+        Some(Form::Version)
     } else {
         None
     }
@@ -97,77 +97,60 @@ fn account(word: &[u8]) -> Option<u128>
 }
 
 /// `audit --account`, with an id.
-fn audit_order(id: Option<u128>) -> Option<Order>
+fn audit_form(id: Option<u128>) -> Option<Form>
     ensures { result ≡ audit_of id }
 {
     match id {
-        Some(id) => Some(Order::Audit(Some(id))),
-        None => None,
-    }
-}
-
-/// From 1 to 64.
-fn clients(word: &[u8]) -> Option<ClientsMax>
-    ensures { result ≡ clients_of word.now }
-{
-    match number(word, 1, 64) {
-        Some(n) => ClientsMax::new(n as u32),
-        None => None,
-    }
-}
-
-/// 1 or 2.
-fn profile(word: &[u8]) -> Option<Profile>
-    ensures { result ≡ profile_of word.now }
-{
-    match number(word, 1, 2) {
-        Some(n) => Some(if n <= 1 { Profile::One } else { Profile::Two }),
+        Some(id) => Some(Form::Audit(Some(id))),
         None => None,
     }
 }
 
 /// `run`, with these clients and profile.
-fn run_order(clients_max: Option<ClientsMax>, profile: Option<Profile>) -> Option<Order>
+fn run_form(clients_max: Option<ClientsMax>, profile: Option<Profile>) -> Option<Form>
     ensures { result ≡ run_by clients_max profile }
 {
     match (clients_max, profile) {
-        (Some(clients_max), Some(profile)) => Some(Order::Run(clients_max, profile)),
+        (Some(clients_max), Some(profile)) => Some(Form::Run(clients_max, profile)),
         _ => None,
     }
 }
 
 /// What a word and the number of clients ask for.
-fn order_with(word: &str, clients_max: &str) -> Option<Order>
-    ensures { result ≡ order_with word.now clients_max.now }
+fn form_with(word: &str, clients_max: &str) -> Option<Form>
+    ensures { result ≡ form_with word.now clients_max.now }
 {
     if word == "run" {
-        run_order(clients(clients_max.as_bytes()), Some(Profile::One))
+        run_form(read_clients_max(clients_max.as_bytes()), Some(Profile::One))
     } else {
         None
     }
 }
 
 /// What three words ask for.
-fn order_with_two(word: &str, second: &str, last: &str) -> Option<Order>
-    ensures { result ≡ order_with_two word.now second.now last.now }
+fn form_with_two(word: &str, second: &str, last: &str) -> Option<Form>
+    ensures { result ≡ form_with_two word.now second.now last.now }
 {
     if word == "run" {
-        run_order(clients(second.as_bytes()), profile(last.as_bytes()))
+        run_form(
+            read_clients_max(second.as_bytes()),
+            read_profile(last.as_bytes()),
+        )
     } else if word == "audit" && second == "--account" {
-        audit_order(account(last.as_bytes()))
+        audit_form(account(last.as_bytes()))
     } else {
         None
     }
 }
 
 /// What the words ask for, None where they are not a form of the program's arguments.
-pub fn read_order(words: &[String]) -> Option<Order>
-    ensures { result ≡ order_of (map string_bytes words.now) }
+pub fn read_form(words: &[String]) -> Option<Form>
+    ensures { result ≡ form_of (map string_bytes words.now) }
 {
     match words {
-        [word] => order_alone(word.as_str()),
-        [word, clients_max] => order_with(word.as_str(), clients_max.as_str()),
-        [word, second, last] => order_with_two(word.as_str(), second.as_str(), last.as_str()),
+        [word] => form_alone(word.as_str()),
+        [word, clients_max] => form_with(word.as_str(), clients_max.as_str()),
+        [word, second, last] => form_with_two(word.as_str(), second.as_str(), last.as_str()),
         _ => None,
     }
 }
@@ -240,7 +223,7 @@ fn wrong_with(
         wrong_run(alloc, second, rest)
     } else if word == "audit" {
         wrong_audit(alloc, second, rest)
-    } else if order_alone(word).is_some() {
+    } else if form_alone(word).is_some() {
         wrong_more(alloc, word, second)
     } else {
         wrong_alone(alloc, word)

@@ -179,7 +179,9 @@ fn audit_item<W: Sink>(
                 time,
                 request,
             };
-            audit_entry(alloc, machine, watch, writer, &entry)
+            let audited = audit_entry(alloc, machine, watch, writer, &entry);
+            drop(entry);
+            audited
         }
         DumpItem::Mark => audit_mark(alloc, machine, writer),
     }

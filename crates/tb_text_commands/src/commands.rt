@@ -1,11 +1,11 @@
 //! The program's forms, over any reader and writer.
 ghost use Rattle.std.specs.Prelude.{◌≡◌, ◌<◌, false, IfOk, None, OnOk, Some, map, string_bytes};
-ghost use Rattle.tb_text_commands.specs.declared.arguments.Order.{Order};
+ghost use Rattle.tb_text_commands.specs.declared.arguments.Form.{Form};
 ghost use Rattle.tb_text_commands.specs.Ends.{Ended, Exits};
-ghost use Rattle.tb_text_commands.specs.Orders.{order_of};
+ghost use Rattle.tb_text_commands.specs.Forms.{form_of};
 ghost use Rattle.tb_text_commands.specs.Whole.{IsInputOf, WasWhole};
 
-use crate::arguments::{Order, read_order, wrong_words};
+use crate::arguments::{Form, read_form, wrong_words};
 use crate::auditing::audit;
 use crate::explaining::explain;
 use crate::faults::Fault;
@@ -16,11 +16,11 @@ use std::alloc::Global;
 use std::time::Clock;
 use tb_records::{Sink, Source};
 
-/// Does what the order asks for.
+/// Does what the form asks for.
 fn perform<C: Clock, R: Source, W: Sink, E: Sink>(
     alloc: Global,
     clock: &C,
-    order: Order,
+    form: Form,
     talks: bool,
     reader: &mut R,
     writer: &mut W,
@@ -28,19 +28,19 @@ fn perform<C: Clock, R: Source, W: Sink, E: Sink>(
 ) -> Result<(), Fault>
     ensures ended { Ended result (R.input reader.old) (R.input reader.new) (W.output writer.old)
         (W.output writer.new) }
-    ensures whole { OnOk result (WasWhole (IsInputOf order) (R.input reader.old).left) }
+    ensures whole { OnOk result (WasWhole (IsInputOf form) (R.input reader.old).left) }
     ensures quiet { IfOk result (λ _. faults.new ≡ faults.old) }
     ensures silent { talks ≡ false → faults.new ≡ faults.old }
 {
-    match order {
-        Order::Script => script(alloc, reader, writer),
-        Order::Requests => requests(alloc, reader, writer),
-        Order::Replies => replies(alloc, reader, writer),
-        Order::Dump => dump(alloc, reader, writer),
-        Order::Pairs => pairs(alloc, reader, writer),
-        Order::Audit(account) => audit(alloc, account, reader, writer),
-        Order::Explain => explain(alloc, reader, writer),
-        Order::Run(clients_max, profile) => {
+    match form {
+        Form::Script => script(alloc, reader, writer),
+        Form::Requests => requests(alloc, reader, writer),
+        Form::Replies => replies(alloc, reader, writer),
+        Form::Dump => dump(alloc, reader, writer),
+        Form::Pairs => pairs(alloc, reader, writer),
+        Form::Audit(account) => audit(alloc, account, reader, writer),
+        Form::Explain => explain(alloc, reader, writer),
+        Form::Run(clients_max, profile) => {
             run(
                 alloc,
                 clock,
@@ -52,8 +52,8 @@ fn perform<C: Clock, R: Source, W: Sink, E: Sink>(
                 faults,
             )
         }
-        Order::Help => put(writer, USAGE.as_bytes()),
-        Order::Version => put(writer, VERSION.as_bytes()),
+        Form::Help => put(writer, USAGE.as_bytes()),
+        Form::Version => put(writer, VERSION.as_bytes()),
     }
 }
 
@@ -84,17 +84,17 @@ pub fn command<C: Clock, R: Source, W: Sink, E: Sink>(
 ) -> u8
     ensures status { result < 3 }
     ensures quiet { result ≡ 0 → faults.new ≡ faults.old }
-    ensures usage { order_of (map string_bytes words.now) ≡ None
+    ensures usage { form_of (map string_bytes words.now) ≡ None
         → (result ≡ 2) × (reader.new ≡ reader.old) × (writer.new ≡ writer.old) }
-    ensures ended { (order : Order) → order_of (map string_bytes words.now) ≡ Some order
-        → Exits order talks result (R.input reader.old) (R.input reader.new) (W.output writer.old)
+    ensures ended { (form : Form) → form_of (map string_bytes words.now) ≡ Some form
+        → Exits form talks result (R.input reader.old) (R.input reader.new) (W.output writer.old)
         (W.output writer.new) (E.output faults.old) (E.output faults.new) }
 {
-    let Some(order) = read_order(words) else {
+    let Some(form) = read_form(words) else {
         usage_fault(alloc, words).tell(faults);
         return 2;
     };
-    match perform(alloc, clock, order, talks, reader, writer, faults) {
+    match perform(alloc, clock, form, talks, reader, writer, faults) {
         Ok(()) => 0,
         Err(fault) => {
             fault.tell(faults);

@@ -1,6 +1,6 @@
 //! Statements that leave out their moment, their client, their session or their request's number, and what stands for
 //! these.
-ghost use Rattle.std.specs.Prelude.{◌≡◌, ◌++◌, List, Option, ℕ, IfOk, OnOk};
+ghost use Rattle.std.specs.Prelude.{◌≡◌, ◌++◌, Option, ℕ, IfOk, OnOk};
 ghost use Rattle.tb_text_commands.specs.Completed.{at_moment, by_session, completed, left_out, left_out_in, left_out_of_batch, left_out_of_register, next_in, nothing, standing_behind, number_line, unless_given, without_session, written};
 ghost use Rattle.tb_text_commands.specs.declared.completing.Standing.{Standing};
 

@@ -20,6 +20,9 @@ const SAMPLE: usize = 32;
 /// What a dump begins with.
 const SIGNATURE: &[u8] = b"TBSDUMP1";
 
+/// Why a pair is not served for which no time is left.
+const LATE: &str = "its moment is above 2^63 - 1; where its request is new, no time is left";
+
 /// A frame's fault in words.
 fn frame_words(fault: FrameFault) -> &'static str {
     match fault {
@@ -69,32 +72,70 @@ fn hint(bytes: &[u8]) -> &'static str {
     }
 }
 
+/// Where `tbs` stops: at a pair or an entry, by its number and the bytes before it.
+#[derive(Clone, Copy)]
+struct Place {
+    unit: &'static str,
+    number: u64,
+    at: usize,
+}
+
+/// What is told where `tbs` stops.
+fn stops_at(alloc: Global, place: Place, words: &str, name: &str) -> Result<String, AllocError> {
+    let Place { unit, number, at } = place;
+    format!(in alloc; "{unit} {number}, at byte {at}: {words} ({name})\n")
+}
+
+/// What is told of a script that is read to its end.
+fn whole_script(alloc: Global, pairs: u64, total: usize) -> Result<String, AllocError> {
+    format!(in alloc; "a script, {pairs} pairs in {total} bytes: tbs reads it to its end\n")
+}
+
+/// What is told of a pair that cannot be read, which begins with these bytes.
+fn wrong_pair(
+    alloc: Global,
+    place: Place,
+    bytes: &[u8],
+    fault: FrameFault,
+) -> Result<String, AllocError> {
+    let mut told = stops_at(alloc, place, frame_words(fault), fault.name())?;
+    match told.push_str(hint(bytes)) {
+        Ok(()) => Ok(told),
+        Err(AllocError) => Err(AllocError),
+    }
+}
+
+/// The moment of the next pair of a script.
+fn next_moment(alloc: Global, reader: &mut Counting<&[u8]>) -> Result<Option<u64>, FrameFault> {
+    match read_timed_from(alloc, reader) {
+        Ok(Some((moment, request))) => {
+            drop(request);
+            Ok(Some(moment))
+        }
+        Ok(None) => Ok(None),
+        Err(fault) => Err(fault),
+    }
+}
+
 /// What is told of a script.
 fn explain_script(alloc: Global, bytes: &[u8]) -> Result<String, AllocError> {
     let total = bytes.len();
     let mut rest = bytes;
     for number in 1..u64::MAX {
-        let at = total.saturating_sub(rest.len());
+        let place = Place {
+            unit: "pair",
+            number,
+            at: total.saturating_sub(rest.len()),
+        };
         let mut reader = Counting::new(rest);
-        match read_timed_from(alloc, &mut reader) {
-            Ok(Some((moment, _))) if moment > LAST_MOMENT => {
-                return format!(in alloc;
-                    "pair {number}, at byte {at}: its moment is above 2^63 - 1; where its request is new, no time is left (TimeExhausted)\n"
-                );
+        match next_moment(alloc, &mut reader) {
+            Ok(Some(moment)) => {
+                if moment > LAST_MOMENT {
+                    return stops_at(alloc, place, LATE, "TimeExhausted");
+                }
             }
-            Ok(Some(_)) => {}
-            Ok(None) => {
-                let pairs = number - 1;
-                return format!(in alloc;
-                    "a script, {pairs} pairs in {total} bytes: tbs reads it to its end\n"
-                );
-            }
-            Err(fault) => {
-                let words = frame_words(fault);
-                let name = fault.name();
-                let hint = hint(rest);
-                return format!(in alloc; "pair {number}, at byte {at}: {words} ({name})\n{hint}");
-            }
+            Ok(None) => return whole_script(alloc, number - 1, total),
+            Err(fault) => return wrong_pair(alloc, place, rest, fault),
         }
         rest = reader.into_inner();
     }
@@ -120,20 +161,72 @@ fn why_not(alloc: Global, machine: &Machine<Global>, entry: &Entry) -> Result<St
     format!(in alloc; "its time is {time}, where {least} to 2^63 - 1 is allowed")
 }
 
+/// What is told of an entry that may not come next.
+fn unfit_entry(
+    alloc: Global,
+    machine: &Machine<Global>,
+    entry: &Entry,
+    place: Place,
+) -> Result<String, AllocError> {
+    let why = why_not(alloc, machine, entry)?;
+    let told = stops_at(alloc, place, why.as_str(), "NotLegal");
+    drop(why);
+    told
+}
+
+/// Something is told, where there was memory for it.
+fn told_of(told: Result<String, AllocError>) -> Result<Option<String>, AllocError> {
+    match told {
+        Ok(told) => Ok(Some(told)),
+        Err(AllocError) => Err(AllocError),
+    }
+}
+
+/// Enters an entry, or tells why it may not come next.
+fn follow_entry(
+    alloc: Global,
+    machine: &mut Machine<Global>,
+    entry: Entry,
+    place: Place,
+) -> Result<Option<String>, AllocError> {
+    if !machine.fits(&entry) {
+        let told = unfit_entry(alloc, machine, &entry, place);
+        drop(entry);
+        return told_of(told);
+    }
+    match machine.enter(entry) {
+        Ok(()) => Ok(None),
+        Err(entry) => {
+            drop(entry);
+            Err(AllocError)
+        }
+    }
+}
+
+/// Goes over to profile 2, or tells why that may not be.
+fn follow_mark(
+    alloc: Global,
+    machine: &mut Machine<Global>,
+    place: Place,
+) -> Result<Option<String>, AllocError> {
+    match machine.profile() {
+        Profile::One => {
+            machine.move_to_two();
+            Ok(None)
+        }
+        Profile::Two => told_of(stops_at(alloc, place, "a mark under profile 2", "Mark")),
+    }
+}
+
 /// Enters what stands next in a dump, or tells why it may not stand there.
 fn follow(
     alloc: Global,
     machine: &mut Machine<Global>,
     item: DumpItem,
+    place: Place,
 ) -> Result<Option<String>, AllocError> {
     match item {
-        DumpItem::Mark => match machine.profile() {
-            Profile::One => {
-                machine.move_to_two();
-                Ok(None)
-            }
-            Profile::Two => Ok(Some(format!(in alloc; "a mark under profile 2 (Mark)")?)),
-        },
+        DumpItem::Mark => follow_mark(alloc, machine, place),
         DumpItem::Entry {
             commit,
             time,
@@ -144,16 +237,14 @@ fn follow(
                 time,
                 request,
             };
-            if !machine.fits(&entry) {
-                let why = why_not(alloc, machine, &entry)?;
-                return Ok(Some(format!(in alloc; "{why} (NotLegal)")?));
-            }
-            match machine.enter(entry) {
-                Ok(()) => Ok(None),
-                Err(_) => Err(AllocError),
-            }
+            follow_entry(alloc, machine, entry, place)
         }
     }
+}
+
+/// What is told of a dump that is replayed to its end.
+fn whole_dump(alloc: Global, commit: u64, total: usize) -> Result<String, AllocError> {
+    format!(in alloc; "a dump, {commit} entries in {total} bytes: tbs replays it to its end\n")
 }
 
 /// What is told of the entries of a dump, which stand behind its head.
@@ -166,25 +257,20 @@ fn explain_entries(
     let total = bytes.len();
     let mut rest = entries;
     for number in 1..u64::MAX {
-        let at = total.saturating_sub(rest.len());
+        let place = Place {
+            unit: "entry",
+            number,
+            at: total.saturating_sub(rest.len()),
+        };
         let mut reader = Counting::new(rest);
         match read_item_from(alloc, &mut reader) {
-            Ok(Some(item)) => {
-                if let Some(why) = follow(alloc, machine, item)? {
-                    return format!(in alloc; "entry {number}, at byte {at}: {why}\n");
-                }
-            }
-            Ok(None) => {
-                let commit = machine.commit();
-                return format!(in alloc;
-                    "a dump, {commit} entries in {total} bytes: tbs replays it to its end\n"
-                );
-            }
-            Err(fault) => {
-                let words = dump_words(fault);
-                let name = fault.name();
-                return format!(in alloc; "entry {number}, at byte {at}: {words} ({name})\n");
-            }
+            Ok(Some(item)) => match follow(alloc, machine, item, place) {
+                Ok(None) => {}
+                Ok(Some(told)) => return Ok(told),
+                Err(AllocError) => return Err(AllocError),
+            },
+            Ok(None) => return whole_dump(alloc, machine.commit(), total),
+            Err(fault) => return stops_at(alloc, place, dump_words(fault), fault.name()),
         }
         rest = reader.into_inner();
     }
@@ -198,10 +284,14 @@ fn explain_behind(
     bytes: &[u8],
     entries: &[u8],
 ) -> Result<String, AllocError> {
-    let mut machine = Machine::new_in(alloc, alloc, head.profile, head.clients_max)?;
-    let told = explain_entries(alloc, &mut machine, bytes, entries);
-    drop(machine);
-    told
+    match Machine::new_in(alloc, alloc, head.profile, head.clients_max) {
+        Ok(mut machine) => {
+            let told = explain_entries(alloc, &mut machine, bytes, entries);
+            drop(machine);
+            told
+        }
+        Err(AllocError) => Err(AllocError),
+    }
 }
 
 /// What is told of a dump.

@@ -1,13 +1,15 @@
 //! Why the program ends with a status other than 0, and the line that says so.
 ghost use Rattle.std.specs.Prelude.{◌≡◌, ◌<◌, ◌≤◌, length};
 ghost use Rattle.tb_text_commands.specs.Ends.{IsOfInput};
-ghost use Rattle.tb_text_commands.specs.Statuses.{dump_fault_of, fault_status, frame_fault_of, line_named, Told, TellsOf};
+ghost use Rattle.tb_commands.specs.Statuses.{TellsLine};
+ghost use Rattle.tb_text_commands.specs.Statuses.{dump_fault_of, fault_status, frame_fault_of, line_named, TellsOf};
 
 use crate::help::USAGE;
 use arrayvec::ArrayVec;
 use std::alloc::{AllocError, Global};
 use std::format;
-use tb_records::{DumpFault, FrameFault, Sink, put_all};
+use tb_commands::put_line;
+use tb_records::{DumpFault, FrameFault, Sink};
 use tb_text::{TextFault, explain_fault};
 
 /// The bytes that the line of a name may have: `tbt: `, a name of at most 16 letters, and the line's end.
@@ -72,17 +74,10 @@ fn line_of(name: &str) -> ArrayVec<u8, LINE>
     line
 }
 
-/// Writes a line as far as the writer takes it.
-fn put_line<E: Sink>(line: &[u8], faults: &mut E)
-    ensures { Told line.now (E.output faults.old) (E.output faults.new) }
-{
-    let _ = put_all(faults, line);
-}
-
 /// Writes the line of a fault with a name.
 fn put_name<E: Sink>(name: &str, faults: &mut E)
     requires short { length name.now ≤ 26 }
-    ensures { Told (line_named name.now) (E.output faults.old) (E.output faults.new) }
+    ensures { TellsLine (line_named name.now) (E.output faults.old) (E.output faults.new) }
 {
     put_line(line_of(name).as_slice(), faults);
 }
@@ -107,27 +102,43 @@ fn further_lines(said: &[u8]) -> &[u8] {
     &[]
 }
 
+/// What stands before what is wrong: where it is for the writer of the text.
+fn position_words(alloc: Global, (line, column): (usize, usize)) -> Result<Vec<u8>, AllocError> {
+    let position = format!(in alloc; "tbt: line {line}, column {column}: ")?;
+    let words = Vec::from_slice(alloc, position.as_str().as_bytes());
+    drop(position);
+    words
+}
+
+/// Appends what is said of a fault behind its position, with its first line in these words, where there are some.
+fn put_said(lines: &mut Vec<u8>, said: &[u8], words: Option<&[u8]>) -> Result<(), AllocError> {
+    match words {
+        Some(words) => {
+            lines.extend_from_slice(words)?;
+            lines.extend_from_slice(further_lines(said))?;
+        }
+        None => lines.extend_from_slice(behind_position(said))?,
+    }
+    lines.extend_from_slice(b"\n")
+}
+
 /// The lines of a text's fault that stands at a line and a column for the writer of the text. What is wrong is said in
 /// these words, where there are some.
 fn text_lines(
     alloc: Global,
     text: &[u8],
     fault: TextFault,
-    (line, column): (usize, usize),
+    position: (usize, usize),
     words: Option<&[u8]>,
 ) -> Result<Vec<u8>, AllocError> {
+    let mut lines = position_words(alloc, position)?;
     let said = explain_fault(alloc, text, fault, (1, 1))?;
-    let position = format!(in alloc; "tbt: line {line}, column {column}: ")?;
-    let mut lines = Vec::from_slice(alloc, position.as_str().as_bytes())?;
-    match words {
-        Some(words) => {
-            lines.extend_from_slice(words)?;
-            lines.extend_from_slice(further_lines(said.as_slice()))?;
-        }
-        None => lines.extend_from_slice(behind_position(said.as_slice()))?,
+    let put = put_said(&mut lines, said.as_slice(), words);
+    drop(said);
+    match put {
+        Ok(()) => Ok(lines),
+        Err(AllocError) => Err(AllocError),
     }
-    lines.extend_from_slice(b"\n")?;
-    Ok(lines)
 }
 
 /// The line of wrong arguments.

@@ -1,7 +1,7 @@
 //! Bytes that were read and wait to be taken: statements, or replies, one by one.
 ghost use Rattle.std.specs.Prelude.{◌≡◌, [], IfOk, drop, false, take, true};
 ghost use Rattle.tb_text_commands.specs.Ends.{Ended};
-ghost use Rattle.tb_text_commands.specs.Taken.{Holds, Stays, rest_of, waiting};
+ghost use Rattle.tb_text_commands.specs.Taken.{HoldsAsBefore, Stays, rest_of, waiting};
 
 use crate::faults::Fault;
 use std::alloc::Global;
@@ -93,7 +93,7 @@ impl Intake {
 
     /// The number of bytes as far as the `;` of the next statement, where it was read.
     pub fn statement(&mut self) -> Option<usize>
-        ensures { Holds self.old self.new }
+        ensures { HoldsAsBefore self.old self.new }
     {
         let rest = self.bytes.get(self.searched..).unwrap_or(&[]);
         for (place, byte) in rest.iter().enumerate() {
@@ -111,7 +111,7 @@ impl Intake {
         None
     }
 
-    /// Moves the rest to the beginning of the memory.
+    /// Moves the rest to the start of the memory.
     fn make_room(&mut self)
         ensures bytes { self.new.bytes.items ≡ rest_of self.old }
         ensures first { self.new.at ≡ 0 }

@@ -3,13 +3,13 @@
 //!
 //! Modules, each over those before it:
 //!
-//! - `arguments`: `read_order`, what the words of the command line ask for.
+//! - `arguments`: `read_form`, what the words of the command line ask for.
 //! - `help`: the page of usage.
 //! - `faults`: why the program ends with a status other than 0, and its line.
 //! - `intake`: bytes that were read and wait to be taken.
 //! - `heads`: what stands before the operation of a statement.
 //! - `completing`: what a statement leaves out, and what stands for it.
-//! - `told`: what the statements before tell of clients.
+//! - `script_standings`: what the statements before tell of clients.
 //! - `statements`: statements, read one by one.
 //! - `objects`: records, ids and results as JSON objects.
 //! - `results`: what became of the events of the last entry.
@@ -42,11 +42,11 @@ mod lists;
 mod objects;
 mod results;
 mod running;
+mod script_standings;
 mod scripts;
 mod statements;
-mod told;
 pub mod whole_laws;
 
-pub use arguments::{Order, read_order};
+pub use arguments::{Form, read_form};
 pub use commands::command;
 pub use faults::Fault;

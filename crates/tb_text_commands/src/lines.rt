@@ -6,7 +6,8 @@ use serde::Serialize;
 use std::alloc::{AllocError, Global};
 use tb_machine::{Entry, Machine};
 use tb_records::{
-    Account, Body, DumpHead, DumpItem, Profile, Reply, ReplyBody, Request, Status, Transfer,
+    Account, Body, DumpHead, DumpItem, Operation, Profile, Reply, ReplyBody, Request, Status,
+    Transfer,
 };
 
 /// The line of an object.
@@ -39,13 +40,9 @@ fn status_name(status: Status) -> &'static str {
 
 /// The name of an operation's number.
 fn operation_name(operation: u8) -> &'static str {
-    match operation {
-        2 => "register",
-        129 => "create_accounts",
-        130 => "create_transfers",
-        131 => "lookup_accounts",
-        132 => "lookup_transfers",
-        _ => "unknown",
+    match Operation::from_code(operation) {
+        Some(operation) => operation.name(),
+        None => "unknown",
     }
 }
 

@@ -38,6 +38,11 @@ impl Serialize for Transfers<'_> {
     }
 }
 
+/// Writes an id as an object.
+fn put_id<S: Serializer>(out: &mut S, id: u128) -> Result<(), S::Error> {
+    Plain(&[("id", Shown::Digits(id))]).serialize(out)
+}
+
 /// Ids that are looked up.
 #[derive(Drop)]
 pub struct Ids<'a>(pub &'a [u128]);
@@ -48,10 +53,20 @@ impl Serialize for Ids<'_> {
     fn serialize<S: Serializer>(&self, out: &mut S) -> Result<(), S::Error> {
         out.begin_seq(None)?;
         for id in self.0 {
-            Plain(&[("id", Shown::Digits(*id))]).serialize(out)?;
+            put_id(out, *id)?;
         }
         out.end_seq()
     }
+}
+
+/// Writes the result of an event of an operation as an object.
+fn put_result<S: Serializer>(
+    out: &mut S,
+    operation: u8,
+    judged: &EventResult,
+) -> Result<(), S::Error> {
+    let shown = result_shown(operation, judged.result);
+    Plain(&[("index", Shown::Number(judged.index)), ("result", shown)]).serialize(out)
 }
 
 /// The results of the events of an operation that were not accepted.
@@ -67,9 +82,7 @@ impl Serialize for Results<'_> {
     fn serialize<S: Serializer>(&self, out: &mut S) -> Result<(), S::Error> {
         out.begin_seq(None)?;
         for result in self.results {
-            let shown = result_shown(self.operation, result.result);
-            let fields = [("index", Shown::Number(result.index)), ("result", shown)];
-            Plain(&fields).serialize(out)?;
+            put_result(out, self.operation, result)?;
         }
         out.end_seq()
     }
@@ -92,6 +105,21 @@ impl JudgedAccounts<'_> {
             _ => *event,
         }
     }
+
+    /// Writes an event, and what became of it, as an object.
+    fn put<S: Serializer>(
+        &self,
+        out: &mut S,
+        index: usize,
+        event: &Account,
+    ) -> Result<(), S::Error> {
+        let object = Object {
+            fields: &[("result", outcome_of(self.operation, self.results, index))],
+            name: "event",
+            last: &AccountObject(&self.made(index, event)),
+        };
+        object.serialize(out)
+    }
 }
 
 impl Described for JudgedAccounts<'_> {}
@@ -100,12 +128,7 @@ impl Serialize for JudgedAccounts<'_> {
     fn serialize<S: Serializer>(&self, out: &mut S) -> Result<(), S::Error> {
         out.begin_seq(None)?;
         for (index, event) in self.events.iter().enumerate() {
-            let object = Object {
-                fields: &[("result", outcome_of(self.operation, self.results, index))],
-                name: "event",
-                last: &AccountObject(&self.made(index, event)),
-            };
-            object.serialize(out)?;
+            self.put(out, index, event)?;
         }
         out.end_seq()
     }
@@ -128,6 +151,21 @@ impl JudgedTransfers<'_> {
             _ => *event,
         }
     }
+
+    /// Writes an event, and what became of it, as an object.
+    fn put<S: Serializer>(
+        &self,
+        out: &mut S,
+        index: usize,
+        event: &Transfer,
+    ) -> Result<(), S::Error> {
+        let object = Object {
+            fields: &[("result", outcome_of(self.operation, self.results, index))],
+            name: "event",
+            last: &TransferObject(&self.made(index, event)),
+        };
+        object.serialize(out)
+    }
 }
 
 impl Described for JudgedTransfers<'_> {}
@@ -136,12 +174,7 @@ impl Serialize for JudgedTransfers<'_> {
     fn serialize<S: Serializer>(&self, out: &mut S) -> Result<(), S::Error> {
         out.begin_seq(None)?;
         for (index, event) in self.events.iter().enumerate() {
-            let object = Object {
-                fields: &[("result", outcome_of(self.operation, self.results, index))],
-                name: "event",
-                last: &TransferObject(&self.made(index, event)),
-            };
-            object.serialize(out)?;
+            self.put(out, index, event)?;
         }
         out.end_seq()
     }

@@ -66,6 +66,11 @@ impl<T: Serialize> Serialize for Object<'_, T> {
     }
 }
 
+/// Writes a name, where it is meant to be there.
+fn put_name<S: Serializer>(out: &mut S, is_there: bool, name: &str) -> Result<(), S::Error> {
+    if is_there { out.str(name) } else { Ok(()) }
+}
+
 /// The flags of an account by their names; bits that are no flag as one number behind them.
 #[derive(Clone, Copy)]
 struct AccountFlags(u16);
@@ -76,11 +81,9 @@ impl Serialize for AccountFlags {
     fn serialize<S: Serializer>(&self, out: &mut S) -> Result<(), S::Error> {
         let mut rest = self.0;
         out.begin_seq(None)?;
-        for flag in AccountFlag::ALL {
-            if flag.is_in(rest) {
-                out.str(flag.name())?;
-                rest &= !flag.bit();
-            }
+        for flag in &AccountFlag::ALL {
+            put_name(out, flag.is_in(rest), flag.name())?;
+            rest &= !flag.bit();
         }
         if rest != 0 {
             out.collect_str(&rest)?;
@@ -99,11 +102,9 @@ impl Serialize for TransferFlags {
     fn serialize<S: Serializer>(&self, out: &mut S) -> Result<(), S::Error> {
         let mut rest = self.0;
         out.begin_seq(None)?;
-        for flag in TransferFlag::ALL {
-            if flag.is_in(rest) {
-                out.str(flag.name())?;
-                rest &= !flag.bit();
-            }
+        for flag in &TransferFlag::ALL {
+            put_name(out, flag.is_in(rest), flag.name())?;
+            rest &= !flag.bit();
         }
         if rest != 0 {
             out.collect_str(&rest)?;

@@ -64,7 +64,10 @@ fn enter(machine: &mut Machine<Global>, moment: u64, request: Request) -> Result
     };
     match machine.enter(entry) {
         Ok(()) => Ok(()),
-        Err(_) => Err(Fault::NoMemory),
+        Err(entry) => {
+            drop(entry);
+            Err(Fault::NoMemory)
+        }
     }
 }
 
@@ -80,6 +83,13 @@ fn stored_line(
     }
 }
 
+/// The line of a reply that refuses a request, and lets the reply go.
+fn refusal_line(alloc: Global, refusal: Reply) -> Result<Vec<u8>, AllocError> {
+    let line = reply_line(alloc, &refusal);
+    drop(refusal);
+    line
+}
+
 /// Serves a request that comes at a moment, and answers the line of its reply. A new one is entered first.
 fn serve(
     alloc: Global,
@@ -91,11 +101,37 @@ fn serve(
 {
     let client = request.client();
     match machine.class(&request) {
-        Class::New => enter(machine, moment, request)?,
-        Class::Repeat => {}
-        class => return Ok(reply_line(alloc, &Reply::refusal(&request, status_of(class)))),
+        Class::New => match enter(machine, moment, request) {
+            Ok(()) => Ok(stored_line(alloc, machine, client)),
+            Err(fault) => Err(fault),
+        },
+        Class::Repeat => {
+            drop(request);
+            Ok(stored_line(alloc, machine, client))
+        }
+        class => {
+            let refusal = Reply::refusal(&request, status_of(class));
+            drop(request);
+            Ok(refusal_line(alloc, refusal))
+        }
     }
-    Ok(stored_line(alloc, machine, client))
+}
+
+/// Serves a request that comes at a moment, and writes the line of its reply.
+fn serve_pair<C: Clock, W: Sink>(
+    alloc: Global,
+    server: &mut Server<'_, C>,
+    moment: u64,
+    request: Request,
+    writer: &mut W,
+) -> Result<(), Fault>
+    ensures { Written result (W.output writer.old) (W.output writer.new) }
+{
+    server.last = request.client();
+    match serve(alloc, &mut server.machine, moment, request) {
+        Ok(line) => put_line(writer, line),
+        Err(fault) => Err(fault),
+    }
 }
 
 /// Serves requests, and writes the lines of their replies.
@@ -108,9 +144,7 @@ fn serve_pairs<C: Clock, W: Sink>(
     ensures { Written result (W.output writer.old) (W.output writer.new) }
 {
     for (moment, request) in pairs {
-        server.last = request.client();
-        let line = serve(alloc, &mut server.machine, moment, request)?;
-        put_line(writer, line)?;
+        serve_pair(alloc, server, moment, request, writer)?;
     }
     Ok(())
 }

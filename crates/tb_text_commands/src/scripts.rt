@@ -7,13 +7,13 @@ ghost use Rattle.tb_text_commands.specs.Whole.{IsDump, IsItem, IsPair, IsReplyFr
 use crate::faults::{Fault, dump_fault, frame_fault};
 use crate::intake::Intake;
 use crate::lines::{head_line, item_line, reply_line};
+use crate::script_standings::ScriptStandings;
 use crate::statements::next_statement;
-use crate::told::Told;
 use std::alloc::{AllocError, Global};
 use tb_records::dumps::{holds_item, read_head_from, read_item_from};
 use tb_records::streams::read_timed_from;
 use tb_records::{
-    DumpItem, FrameFault, Reply, Request, Sink, Source, holds_pair, put_all, read_reply,
+    DumpItem, FrameFault, Items, Reply, Request, Sink, Source, holds_pair, put_all, read_reply,
     send_request,
 };
 use tb_text::print_request;
@@ -60,11 +60,28 @@ fn put_pairs<W: Sink>(writer: &mut W, pairs: &[(u64, Request)]) -> Result<(), Fa
 }
 
 /// Notes what requests tell, and writes their pairs.
-fn put_told<W: Sink>(told: &mut Told, writer: &mut W, pairs: &[(u64, Request)]) -> Result<(), Fault>
+fn put_told<W: Sink>(
+    told: &mut ScriptStandings,
+    writer: &mut W,
+    pairs: &[(u64, Request)],
+) -> Result<(), Fault>
     ensures { Written result (W.output writer.old) (W.output writer.new) }
 {
     told.note(pairs)?;
     put_pairs(writer, pairs)
+}
+
+/// The same of what was read, which is let go.
+fn put_read<W: Sink>(
+    told: &mut ScriptStandings,
+    writer: &mut W,
+    pairs: Items<(u64, Request)>,
+) -> Result<(), Fault>
+    ensures { Written result (W.output writer.old) (W.output writer.new) }
+{
+    let written = put_told(told, writer, pairs.as_slice());
+    drop(pairs);
+    written
 }
 
 /// Writes the script of statements, with what they leave out where the statements before tell it; where they go wrong, that
@@ -79,10 +96,10 @@ pub fn script<R: Source, W: Sink>(
     ensures whole { OnOk result (WasWhole (Parts IsStatement) (R.input reader.old).left) }
 {
     let mut intake = Intake::new(alloc);
-    let mut told = Told::new(alloc);
+    let mut told = ScriptStandings::new(alloc);
     for _ in 0..u64::MAX {
         match next_statement(alloc, &mut intake, &told, reader, writer, false)? {
-            Some(pairs) => put_told(&mut told, writer, pairs.as_slice())?,
+            Some(pairs) => put_read(&mut told, writer, pairs)?,
             None => return Ok(()),
         }
     }

@@ -75,15 +75,19 @@ fn take_text<S: Standings>(
         return Err(Fault::NoMemory);
     };
     let Ok(reading) = read_text(alloc, whole.as_slice()) else {
+        drop(whole);
         return Err(Fault::NoMemory);
     };
     match reading.fault {
         Some(fault) => {
             let fault = fault_in(alloc, intake, standings, text, whole.as_slice(), fault);
+            drop(whole);
+            drop(reading);
             intake.take(length);
             Err(fault)
         }
         None => {
+            drop(whole);
             intake.take(length);
             Ok(reading.pairs)
         }
@@ -103,6 +107,17 @@ fn take_all<S: Standings>(
     take_text(alloc, intake, standings, length)
 }
 
+/// Says that a whole text goes wrong before its end.
+fn goes_wrong_within(alloc: Global, whole: &[u8]) -> Result<bool, AllocError> {
+    let reading = read_text(alloc, whole)?;
+    let wrong = match reading.fault {
+        Some(fault) => fault.place < whole.len(),
+        None => false,
+    };
+    drop(reading);
+    Ok(wrong)
+}
+
 /// Says that the lines of the rest begin no statement, whatever follows. That needs no clock: any moment fits.
 fn goes_wrong<S: Standings>(alloc: Global, intake: &Intake, standings: &S) -> Result<bool, Fault>
     ensures { IfErr result IsOfInput }
@@ -114,11 +129,10 @@ fn goes_wrong<S: Standings>(alloc: Global, intake: &Intake, standings: &S) -> Re
     let Ok(whole) = completed(alloc, None, standings, rest) else {
         return Err(Fault::NoMemory);
     };
-    match read_text(alloc, whole.as_slice()) {
-        Ok(reading) => Ok(match reading.fault {
-            Some(fault) => fault.place < whole.len(),
-            None => false,
-        }),
+    let wrong = goes_wrong_within(alloc, whole.as_slice());
+    drop(whole);
+    match wrong {
+        Ok(wrong) => Ok(wrong),
         Err(_) => Err(Fault::NoMemory),
     }
 }

@@ -1,7 +1,8 @@
 //! Readers and writers that fail, and how often the line of faults is written.
+use crate::comparing::{holds, same};
 use crate::forms::{first_moment, words_of};
 use std::io::{self, Error, ErrorKind, Read, Write};
-use std::test::Fail;
+use std::process::Abort;
 use tb_records::{Counting, Sink, Source};
 use tb_text_commands::command;
 
@@ -49,55 +50,68 @@ const INPUTS: [(&str, &[u8]); 6] = [
     ("audit", b"TBSDUMP1\x01\0\0\0\x02\0\0\0"),
 ];
 
+/// A form whose reader fails once behind these bytes.
+fn fail_reading(rt: &(impl Abort + AllocGlobal), form: &str, bytes: &[u8]) {
+    let words = words_of(rt, &[form]);
+    let mut reader = Counting::new(Failing {
+        rest: bytes,
+        failed: false,
+    });
+    let mut writer = Counting::new(Vec::new(rt.alloc()));
+    let mut faults = Counting::new(Vec::new(rt.alloc()));
+    let status = command(
+        rt.alloc(),
+        &first_moment(),
+        words.as_slice(),
+        false,
+        &mut reader,
+        &mut writer,
+        &mut faults,
+    );
+    drop(words);
+    drop(writer);
+    let line = faults.into_inner();
+    holds(rt, status == 1, &form);
+    holds(rt, reader.failures() == 1, &form);
+    same(rt, line.as_slice(), b"tbt: Device\n");
+    drop(line);
+}
+
 /// An error of the reader is not the end of the input: the status is 1, the line Device, and the reader is asked no more.
 #[test]
-fn failing_reader(rt: HostRuntime) -> Result<(), Fail> {
+fn failing_reader(rt: HostRuntime) {
     for (form, bytes) in INPUTS {
-        let words = words_of(&rt, &[form])?;
-        let mut reader = Counting::new(Failing {
-            rest: bytes,
-            failed: false,
-        });
-        let mut writer = Counting::new(Vec::new(rt.alloc()));
-        let mut faults = Counting::new(Vec::new(rt.alloc()));
-        let status = command(
-            rt.alloc(),
-            &first_moment(),
-            words.as_slice(),
-            false,
-            &mut reader,
-            &mut writer,
-            &mut faults,
-        );
-        assert_eq!(rt; status, 1, "{form}");
-        assert_eq!(rt; reader.failures(), 1, "{form}");
-        assert_eq!(rt; faults.into_inner().as_slice(), b"tbt: Device\n".as_slice());
+        fail_reading(&rt, form, bytes);
     }
-    Ok(())
+}
+
+/// A form whose writers fail.
+fn fail_writing(rt: &(impl Abort + AllocGlobal), form: &str, bytes: &[u8]) {
+    let words = words_of(rt, &[form]);
+    let mut reader = Counting::new(bytes);
+    let mut writer = Counting::new(Closed { asked: 0 });
+    let mut faults = Counting::new(Closed { asked: 0 });
+    let status = command(
+        rt.alloc(),
+        &first_moment(),
+        words.as_slice(),
+        false,
+        &mut reader,
+        &mut writer,
+        &mut faults,
+    );
+    drop(words);
+    holds(rt, status == 1, &form);
+    holds(rt, writer.into_inner().asked == 1, &form);
+    holds(rt, faults.into_inner().asked == 1, &form);
 }
 
 /// A writer that fails is asked once, and so is one for the line of the fault.
 #[test]
-fn failing_writer(rt: HostRuntime) -> Result<(), Fail> {
+fn failing_writer(rt: HostRuntime) {
     for (form, bytes) in INPUTS {
         if form != "requests" && form != "replies" && form != "pairs" {
-            let words = words_of(&rt, &[form])?;
-            let mut reader = Counting::new(bytes);
-            let mut writer = Counting::new(Closed { asked: 0 });
-            let mut faults = Counting::new(Closed { asked: 0 });
-            let status = command(
-                rt.alloc(),
-                &first_moment(),
-                words.as_slice(),
-                false,
-                &mut reader,
-                &mut writer,
-                &mut faults,
-            );
-            assert_eq!(rt; status, 1);
-            assert_eq!(rt; writer.into_inner().asked, 1);
-            assert_eq!(rt; faults.into_inner().asked, 1);
+            fail_writing(&rt, form, bytes);
         }
     }
-    Ok(())
 }

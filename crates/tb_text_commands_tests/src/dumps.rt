@@ -1,16 +1,22 @@
 //! Dumps as objects, as scripts, joined with their replay, and explained.
-use crate::forms::{leaves, left_by};
+use crate::comparing::{holds, same};
+use crate::forms::{Row, done_by, expect_left, leaves, left_by};
 use std::process::Abort;
-use std::test::Fail;
 
-/// The entries of a history: each a commit number, a time and a statement.
-const HISTORY: [(u64, u64, &str); 5] = [
-    (1, 1, "at=1 client=7 register;\n"),
-    (
-        2,
-        3,
-        "at=3 client=7 session=1 request=1 create_accounts id=1 ledger=700 code=10, id=2 ledger=700 code=10;\n",
-    ),
+/// An entry of a history: a commit number, a time and a statement.
+type Made = (u64, u64, &'static str);
+
+const REGISTER: &str = "at=1 client=7 register;\n";
+
+const ACCOUNTS: &str =
+    "at=3 client=7 session=1 request=1 create_accounts id=1 ledger=700 code=10, id=2 ledger=700 code=10;\n";
+
+const LOOKUP: &str = "at=2000000000 client=7 session=1 request=4 lookup_accounts id=2;\n";
+
+/// The entries of a history.
+const HISTORY: [Made; 5] = [
+    (1, 1, REGISTER),
+    (2, 3, ACCOUNTS),
     (
         3,
         6,
@@ -21,11 +27,7 @@ const HISTORY: [(u64, u64, &str); 5] = [
         7,
         "at=7 client=7 session=1 request=3 create_transfers id=14 amount=40 pending_id=11 flags=post_pending_transfer;\n",
     ),
-    (
-        5,
-        2_000_000_000,
-        "at=2000000000 client=7 session=1 request=4 lookup_accounts id=2;\n",
-    ),
+    (5, 2_000_000_000, LOOKUP),
 ];
 
 /// Its audit, with the balances of account 1.
@@ -42,170 +44,219 @@ const AUDITED: &str = r#"{"profile":1,"clients_max":2}
 {"commit":"5","time":"2000000000","account":{"id":"1","debits_pending":"0","debits_posted":"40","credits_pending":"0","credits_posted":"0","user_data_128":"0","user_data_64":"0","user_data_32":0,"reserved":0,"ledger":700,"code":10,"flags":[],"timestamp":"2"}}
 "#;
 
-/// The dump of entries by profile 1 for two clients, with a mark behind so many of them.
-fn dump_of(
-    rt: &(impl Abort + AllocGlobal),
-    entries: &[(u64, u64, &str)],
-    mark: Option<usize>,
-) -> Result<Vec<u8>, Fail> {
-    let mut bytes = Vec::new(rt.alloc());
-    bytes.extend_from_slice(b"TBSDUMP1\x01\0\0\0\x02\0\0\0")?;
-    for (k, (commit, time, statement)) in entries.iter().enumerate() {
-        if mark == Some(k) {
-            bytes.extend_from_slice(b"\0\0\0\0\0\0\0\0\x02\0\0\0\0\0\0\0")?;
-        }
-        let pair = left_by(rt, &["script"], statement.as_bytes())?;
-        assert_eq!(rt; pair.status, 0);
-        bytes.extend_from_slice(&commit.to_le_bytes())?;
-        bytes.extend_from_slice(&time.to_le_bytes())?;
-        bytes.extend_from_slice(pair.output.get(8..).unwrap_or(&[]))?;
-    }
-    Ok(bytes)
+/// Appends bytes.
+fn put(rt: &impl Abort, out: &mut Vec<u8>, bytes: &[u8]) {
+    out.extend_from_slice(bytes).expect(rt, "memory");
 }
 
-/// What became of each event, real amounts, an expiry, and how account 1 stood.
-#[test]
-fn audited(rt: HostRuntime) -> Result<(), Fail> {
-    let dump = dump_of(&rt, &HISTORY, None)?;
-    leaves(
-        &rt,
-        &["audit", "--account", "1"],
-        dump.as_slice(),
-        0,
-        AUDITED,
-        "",
-    )
+/// Appends an entry of a history.
+fn put_entry(rt: &(impl Abort + AllocGlobal), out: &mut Vec<u8>, entry: &Made) {
+    let (commit, time, statement) = entry;
+    let pair = done_by(rt, &["script"], statement.as_bytes());
+    put(rt, out, &commit.to_le_bytes());
+    put(rt, out, &time.to_le_bytes());
+    put(rt, out, pair.get(8..).unwrap_or(&[]));
+    drop(pair);
+}
+
+/// The dump of entries by profile 1 for two clients, with a mark behind so many of them.
+fn dump_of(rt: &(impl Abort + AllocGlobal), entries: &[Made], mark: Option<usize>) -> Vec<u8> {
+    let mut bytes = Vec::new(rt.alloc());
+    put(rt, &mut bytes, b"TBSDUMP1\x01\0\0\0\x02\0\0\0");
+    for (k, entry) in entries.iter().enumerate() {
+        if mark == Some(k) {
+            let line = b"\0\0\0\0\0\0\0\0\x02\0\0\0\0\0\0\0";
+            put(rt, &mut bytes, line);
+        }
+        put_entry(rt, &mut bytes, entry);
+    }
+    bytes
+}
+
+/// Words over the dump of entries, with a mark behind so many of them, and what they leave.
+struct DumpRow {
+    words: &'static [&'static str],
+    entries: &'static [Made],
+    mark: Option<usize>,
+    status: u8,
+    output: &'static str,
+    line: &'static str,
+}
+
+/// Says that a row is kept.
+fn dump_leaves(rt: &(impl Abort + AllocGlobal), row: &DumpRow) {
+    let dump = dump_of(rt, row.entries, row.mark);
+    let wanted = Row {
+        words: row.words,
+        input: dump.as_slice(),
+        status: row.status,
+        output: row.output,
+        line: row.line,
+    };
+    leaves(rt, &wanted);
+    drop(dump);
+}
+
+/// The statements of a history, one behind another.
+fn text_of(rt: &(impl Abort + AllocGlobal), entries: &[Made]) -> Vec<u8> {
+    let mut text = Vec::new(rt.alloc());
+    for entry in entries {
+        put(rt, &mut text, entry.2.as_bytes());
+    }
+    text
 }
 
 /// A dump's entries are the pairs that make it.
 #[test]
-fn pairs_again(rt: HostRuntime) -> Result<(), Fail> {
-    let dump = dump_of(&rt, &HISTORY, Some(2))?;
-    let script = left_by(&rt, &["pairs"], dump.as_slice())?;
-    assert_eq!(rt; script.status, 0);
-    let mut text = Vec::new(rt.alloc());
-    for (_, _, statement) in HISTORY {
-        text.extend_from_slice(statement.as_bytes())?;
-    }
-    let back = left_by(&rt, &["requests"], script.output.as_slice())?;
-    assert_eq!(rt; back.output.as_slice(), text.as_slice());
-    Ok(())
+fn pairs_again(rt: HostRuntime) {
+    let dump = dump_of(&rt, &HISTORY, Some(2));
+    let script = done_by(&rt, &["pairs"], dump.as_slice());
+    drop(dump);
+    let back = left_by(&rt, &["requests"], script.as_slice());
+    drop(script);
+    let text = text_of(&rt, &HISTORY);
+    same(&rt, back.output.as_slice(), text.as_slice());
+    drop(text);
+    drop(back);
 }
 
-/// A dump that is cut behind any byte is never done, but between its entries.
+/// A dump that is cut is never done, but between its entries.
+fn expect_cut(rt: &(impl Abort + AllocGlobal), form: &str, dump: &[u8], length: usize) {
+    let whole = length == 16 || length == 80 || length == 96;
+    let left = left_by(rt, &[form], dump.get(..length).unwrap_or(&[]));
+    let wanted = if whole { 0 } else { 2 };
+    holds(rt, left.status == wanted, &(form, length));
+    drop(left);
+}
+
+/// The same behind any byte.
 #[test]
-fn cut_dumps(rt: HostRuntime) -> Result<(), Fail> {
-    let dump = dump_of(&rt, &HISTORY[..2], Some(1))?;
-    assert_eq!(rt; dump.len(), 416);
+fn cut_dumps(rt: HostRuntime) {
+    let dump = dump_of(&rt, &HISTORY[..2], Some(1));
+    holds(&rt, dump.len() == 416, &"the length of a dump");
     for form in ["dump", "pairs", "audit"] {
         for length in 0..416 {
-            let whole = length == 16 || length == 80 || length == 96;
-            let left = left_by(&rt, &[form], dump.get(..length).unwrap_or(&[]))?;
-            assert_eq!(rt;
-                left.status,
-                if whole { 0 } else { 2 },
-                "{form} of {length} bytes"
-            );
+            expect_cut(&rt, form, dump.as_slice(), length);
         }
     }
-    Ok(())
+    drop(dump);
 }
 
-/// Entries that do not follow from those before them.
+/// The head of the dumps, and its first entry.
+const AUDITED_REGISTER: &str = r#"{"profile":1,"clients_max":2}
+{"commit":"1","time":"1","client":"7","session":"0","request":0,"operation":"register","events":[]}
+"#;
+
+/// What became of each event, real amounts, an expiry, and how account 1 stood; whole dumps, and entries that do not follow
+/// from those before them.
+const DUMPS: [DumpRow; 6] = [
+    DumpRow {
+        words: &["audit", "--account", "1"],
+        entries: &HISTORY,
+        mark: None,
+        status: 0,
+        output: AUDITED,
+        line: "",
+    },
+    DumpRow {
+        words: &["explain"],
+        entries: &HISTORY,
+        mark: Some(3),
+        status: 0,
+        output: "a dump, 5 entries in 1136 bytes: tbs replays it to its end\n",
+        line: "",
+    },
+    DumpRow {
+        words: &["explain"],
+        entries: &[(1, 1, REGISTER), (3, 2, REGISTER)],
+        mark: None,
+        status: 0,
+        output: "entry 2, at byte 80: its commit number is 3, and 2 comes next (NotLegal)\n",
+        line: "",
+    },
+    DumpRow {
+        words: &["audit"],
+        entries: &[(1, 1, REGISTER), (3, 2, REGISTER)],
+        mark: None,
+        status: 2,
+        output: AUDITED_REGISTER,
+        line: "tbt: NotLegal\n",
+    },
+    DumpRow {
+        words: &["explain"],
+        entries: &[(1, 1, REGISTER), (2, 2, ACCOUNTS)],
+        mark: None,
+        status: 0,
+        output: "entry 2, at byte 80: its time is 2, where 3 to 2^63 - 1 is allowed (NotLegal)\n",
+        line: "",
+    },
+    DumpRow {
+        words: &["explain"],
+        entries: &[(1, 1, REGISTER), (2, 9, LOOKUP)],
+        mark: None,
+        status: 0,
+        output: "entry 2, at byte 80: its request is not new: NewerRequest (NotLegal)\n",
+        line: "",
+    },
+];
+
+/// What is told of dumps.
 #[test]
-fn explained(rt: HostRuntime) -> Result<(), Fail> {
-    let dump = dump_of(&rt, &HISTORY, Some(3))?;
-    leaves(
-        &rt,
-        &["explain"],
-        dump.as_slice(),
-        0,
-        "a dump, 5 entries in 1136 bytes: tbs replays it to its end\n",
-        "",
-    )?;
-    let (_, _, register) = HISTORY[0];
-    let twice = dump_of(&rt, &[HISTORY[0], (3, 2, register)], None)?;
-    leaves(
-        &rt,
-        &["explain"],
-        twice.as_slice(),
-        0,
-        "entry 2, at byte 80: its commit number is 3, and 2 comes next (NotLegal)\n",
-        "",
-    )?;
-    leaves(
-        &rt,
-        &["audit"],
-        twice.as_slice(),
-        2,
-        "{\"profile\":1,\"clients_max\":2}\n{\"commit\":\"1\",\"time\":\"1\",\"client\":\"7\",\"session\":\"0\",\"request\":0,\"operation\":\"register\",\"events\":[]}\n",
-        "tbt: NotLegal\n",
-    )?;
-    let early = dump_of(&rt, &[HISTORY[0], (2, 2, HISTORY[1].2)], None)?;
-    leaves(
-        &rt,
-        &["explain"],
-        early.as_slice(),
-        0,
-        "entry 2, at byte 80: its time is 2, where 3 to 2^63 - 1 is allowed (NotLegal)\n",
-        "",
-    )?;
-    let older = dump_of(&rt, &[HISTORY[0], (2, 9, HISTORY[4].2)], None)?;
-    leaves(
-        &rt,
-        &["explain"],
-        older.as_slice(),
-        0,
-        "entry 2, at byte 80: its request is not new: NewerRequest (NotLegal)\n",
-        "",
-    )?;
-    leaves(
-        &rt,
-        &["explain"],
-        b"TBSDUMP1\x03",
-        0,
-        "the head, at byte 0: the first 16 bytes are no head: TBSDUMP1, profile 1 or 2, 1 to 64 clients (Head)\n",
-        "",
-    )
+fn told_of_dumps(rt: HostRuntime) {
+    for row in &DUMPS {
+        dump_leaves(&rt, row);
+    }
 }
 
-/// Scripts: whole ones, cut ones, text in place of one.
+/// No dump.
+const NO_DUMP: Row<'static> = Row {
+    words: &["explain"],
+    input: b"TBSDUMP1\x03",
+    status: 0,
+    output: "the head, at byte 0: the first 16 bytes are no head: TBSDUMP1, profile 1 or 2, 1 to 64 clients (Head)\n",
+    line: "",
+};
+
+/// What is told of text in place of a script.
+const TEXT: &str =
+    "pair 1, at byte 0: no operation has its number (UnknownOperation)\nIt looks like text: tbt script makes a script of statements.\n";
+
+/// What is told of other bytes.
 #[test]
-fn explained_scripts(rt: HostRuntime) -> Result<(), Fail> {
-    let text = "at=1 client=7 register;\nat=9223372036854775808 client=8 register;\n";
-    let script = left_by(&rt, &["script"], text.as_bytes())?;
-    leaves(
-        &rt,
-        &["explain"],
-        script.output.as_slice(),
-        0,
+fn explained(rt: HostRuntime) {
+    leaves(&rt, &NO_DUMP);
+    let left = left_by(&rt, &["explain"], ACCOUNTS.as_bytes());
+    expect_left(&rt, left, 0, TEXT, "");
+}
+
+/// A script of two registers, as far as a place, and what is told of it.
+const SCRIPTS: [(usize, &str); 3] = [
+    (
+        112,
         "pair 2, at byte 56: its moment is above 2^63 - 1; where its request is new, no time is left (TimeExhausted)\n",
-        "",
-    )?;
-    let first = script.output.get(..56).unwrap_or(&[]);
-    leaves(
-        &rt,
-        &["explain"],
-        first,
-        0,
+    ),
+    (
+        56,
         "a script, 1 pairs in 56 bytes: tbs reads it to its end\n",
-        "",
-    )?;
-    let cut = script.output.get(..100).unwrap_or(&[]);
-    leaves(
-        &rt,
-        &["explain"],
-        cut,
-        0,
-        "pair 2, at byte 56: the bytes end within it (Short)\n",
-        "",
-    )?;
-    leaves(
-        &rt,
-        &["explain"],
-        HISTORY[1].2.as_bytes(),
-        0,
-        "pair 1, at byte 0: no operation has its number (UnknownOperation)\nIt looks like text: tbt script makes a script of statements.\n",
-        "",
-    )
+    ),
+    (100, "pair 2, at byte 56: the bytes end within it (Short)\n"),
+];
+
+/// Scripts: whole ones, and cut ones.
+#[test]
+fn explained_scripts(rt: HostRuntime) {
+    let text = "at=1 client=7 register;\nat=9223372036854775808 client=8 register;\n";
+    let script = done_by(&rt, &["script"], text.as_bytes());
+    holds(&rt, script.len() == 112, &"the length of a script");
+    for (length, output) in SCRIPTS {
+        let row = Row {
+            words: &["explain"],
+            input: script.get(..length).unwrap_or(&[]),
+            status: 0,
+            output,
+            line: "",
+        };
+        leaves(&rt, &row);
+    }
+    drop(script);
 }

@@ -1,7 +1,7 @@
 //! A form of the program over bytes in memory, and what it left.
+use crate::comparing::{holds, same};
 use std::io::{self, Error, ErrorKind};
 use std::process::Abort;
-use std::test::Fail;
 use std::time::{Clock, Duration};
 use tb_records::Counting;
 use tb_text_commands::command;
@@ -15,12 +15,13 @@ pub struct Left {
 }
 
 /// The words of a command line.
-pub fn words_of(rt: &impl AllocGlobal, words: &[&str]) -> Result<Vec<String>, Fail> {
+pub fn words_of(rt: &(impl Abort + AllocGlobal), words: &[&str]) -> Vec<String> {
     let mut owned = Vec::new(rt.alloc());
     for word in words {
-        owned.push(word.to_string(rt.alloc())?)?;
+        let copy = word.to_string(rt.alloc()).expect(rt, "memory");
+        owned.push(copy).expect(rt, "memory");
     }
-    Ok(owned)
+    owned
 }
 
 /// A clock that stands at a moment, or that cannot be read.
@@ -49,13 +50,13 @@ pub fn first_moment() -> Stopped {
 
 /// Gives words and the input to the program by a clock; where it `talks`, as if statements were typed.
 pub fn left_where(
-    rt: &impl AllocGlobal,
+    rt: &(impl Abort + AllocGlobal),
     clock: &Stopped,
     words: &[&str],
     talks: bool,
     input: &[u8],
-) -> Result<Left, Fail> {
-    let words = words_of(rt, words)?;
+) -> Left {
+    let words = words_of(rt, words);
     let mut reader = Counting::new(input);
     let mut writer = Counting::new(Vec::new(rt.alloc()));
     let mut faults = Counting::new(Vec::new(rt.alloc()));
@@ -68,30 +69,68 @@ pub fn left_where(
         &mut writer,
         &mut faults,
     );
-    Ok(Left {
+    drop(words);
+    Left {
         status,
         output: writer.into_inner(),
         line: faults.into_inner(),
-    })
+    }
 }
 
 /// Gives words and the input to the program.
-pub fn left_by(rt: &impl AllocGlobal, words: &[&str], input: &[u8]) -> Result<Left, Fail> {
+pub fn left_by(rt: &(impl Abort + AllocGlobal), words: &[&str], input: &[u8]) -> Left {
     left_where(rt, &first_moment(), words, false, input)
 }
 
-/// Says that words and an input leave this status, output and line of faults.
-pub fn leaves(
-    rt: &(impl Abort + AllocGlobal),
-    words: &[&str],
-    input: &[u8],
-    status: u8,
-    output: &str,
-    line: &str,
-) -> Result<(), Fail> {
-    let left = left_by(rt, words, input)?;
-    assert_eq!(rt; left.line.as_slice(), line.as_bytes());
-    assert_eq!(rt; left.output.as_slice(), output.as_bytes());
-    assert_eq!(rt; left.status, status);
-    Ok(())
+/// The output of words over an input that is done, of which no line is told.
+pub fn done_by(rt: &(impl Abort + AllocGlobal), words: &[&str], input: &[u8]) -> Vec<u8> {
+    let Left {
+        status,
+        output,
+        line,
+    } = left_by(rt, words, input);
+    same(rt, line.as_slice(), &[]);
+    drop(line);
+    holds(rt, status == 0, &status);
+    output
+}
+
+/// Words, an input, and what they leave: the status, the output and the line of faults.
+#[derive(Clone, Copy)]
+pub struct Row<'a> {
+    pub words: &'a [&'a str],
+    pub input: &'a [u8],
+    pub status: u8,
+    pub output: &'a str,
+    pub line: &'a str,
+}
+
+/// Says that this is left, and lets it go.
+pub fn expect_left(rt: &impl Abort, left: Left, status: u8, output: &str, line: &str) {
+    same(rt, left.line.as_slice(), line.as_bytes());
+    same(rt, left.output.as_slice(), output.as_bytes());
+    holds(rt, left.status == status, &left.status);
+    drop(left);
+}
+
+/// Says that a row is kept.
+pub fn leaves(rt: &(impl Abort + AllocGlobal), row: &Row<'_>) {
+    let left = left_by(rt, row.words, row.input);
+    expect_left(rt, left, row.status, row.output, row.line);
+}
+
+/// Says that rows are kept.
+pub fn each_leaves(rt: &(impl Abort + AllocGlobal), rows: &[Row<'_>]) {
+    for row in rows {
+        leaves(rt, row);
+    }
+}
+
+/// Says that two inputs are done by the same words, and leave the same output.
+pub fn leave_the_same(rt: &(impl Abort + AllocGlobal), words: &[&str], inputs: (&str, &str)) {
+    let first = done_by(rt, words, inputs.0.as_bytes());
+    let second = done_by(rt, words, inputs.1.as_bytes());
+    same(rt, first.as_slice(), second.as_slice());
+    drop(second);
+    drop(first);
 }

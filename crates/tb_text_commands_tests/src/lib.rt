@@ -2,6 +2,7 @@
 //!
 //! Modules, each over those before it:
 //!
+//! - `comparing`: what is compared, in one place.
 //! - `forms`: a form over bytes in memory.
 //! - `served`: statements, their scripts and replies.
 //! - `objects`: records, replies and results as JSON.
@@ -9,6 +10,8 @@
 //! - `devices`: readers and writers that fail.
 #![tactic(auto)]
 
+#[cfg(test)]
+mod comparing;
 #[cfg(test)]
 mod devices;
 #[cfg(test)]

@@ -1,9 +1,13 @@
 //! Statements, their scripts, and the replies to them.
-use crate::forms::{Stopped, first_moment, leaves, left_by, left_where};
-use std::test::Fail;
+use crate::comparing::{holds, same};
+use crate::forms::{
+    Left, Row, Stopped, done_by, each_leaves, expect_left, first_moment, leave_the_same, left_by,
+    left_where,
+};
+use std::process::Abort;
 
 /// A conversation: a register, a batch whose last account is there already, its repeat, a number that is too high.
-const TALK: &str = "at=10 client=7 register;
+const TALK: &[u8] = b"at=10 client=7 register;
 at=10 client=7 session=1 request=1 create_accounts id=1 ledger=700 code=10, id=2 ledger=700 code=10, id=2 ledger=700 code=10;
 at=11 client=7 session=1 request=1 create_accounts id=1 ledger=700 code=10, id=2 ledger=700 code=10, id=2 ledger=700 code=10;
 at=12 client=7 session=1 request=3 lookup_accounts id=1; # a comment with ; in it
@@ -21,66 +25,96 @@ const REPLIED: &str =
 
 /// A statement becomes its moment and its frame, and is printed as it was.
 #[test]
-fn register_both_ways(rt: HostRuntime) -> Result<(), Fail> {
+fn register_both_ways(rt: HostRuntime) {
     let text = "at=10 client=7 register;\n";
-    let left = left_by(&rt, &["script"], text.as_bytes())?;
-    assert_eq!(rt; left.status, 0);
-    assert_eq!(rt; left.output.len(), 56);
-    leaves(&rt, &["requests"], left.output.as_slice(), 0, text, "")
+    let script = done_by(&rt, &["script"], text.as_bytes());
+    holds(&rt, script.len() == 56, &"the length of a script");
+    let back = left_by(&rt, &["requests"], script.as_slice());
+    drop(script);
+    expect_left(&rt, back, 0, text, "");
 }
 
-/// Words in, answers out.
+/// A text whose second statement is wrong.
+const SECOND_WRONG: &[u8] =
+    b"at=10 client=7 register;\nat=10 client=0 register;\nat=10 client=8 register;";
+
+/// The line of it.
+const NOT_ZERO: &str =
+    "tbt: line 2, column 15: client is not 0\n  at=10 client=0 register;\n                ^\n  expected a number from 1 to 2^128 - 1\n";
+
+/// Words in, answers out. A wrong statement is told by its line and column, what was right before it is served, and nothing
+/// behind it. A client is not registered for a statement that is wrong.
+const TALKS: [Row<'static>; 6] = [
+    Row {
+        words: &["run", "2"],
+        input: TALK,
+        status: 0,
+        output: REPLIED,
+        line: "",
+    },
+    Row {
+        words: &["run", "64", "2"],
+        input: TALK,
+        status: 0,
+        output: REPLIED,
+        line: "",
+    },
+    Row {
+        words: &["run", "2"],
+        input: SECOND_WRONG,
+        status: 2,
+        output: "{\"client\":\"7\",\"session\":\"1\",\"request\":0,\"operation\":\"register\",\"status\":\"reply\",\"commit\":\"1\",\"results\":[]}\n",
+        line: NOT_ZERO,
+    },
+    Row {
+        words: &["run", "2"],
+        input: b"at=10 client=7",
+        status: 2,
+        output: "",
+        line: "tbt: line 1, column 15: the text ends within a statement\n  at=10 client=7\n                ^\n  expected session, request or register\n",
+    },
+    Row {
+        words: &["script"],
+        input: b"at=10 client=7\n",
+        status: 2,
+        output: "",
+        line: "tbt: line 2, column 1: the text ends within a statement\n  \n  ^\n  expected session, request or register\n",
+    },
+    Row {
+        words: &["run", "2"],
+        input: b"lookup_accounts code=1;",
+        status: 2,
+        output: "",
+        line: "tbt: line 1, column 17: 'code' cannot stand here\n  lookup_accounts code=1;\n                  ^\n  expected id or ';'\n",
+    },
+];
+
 #[test]
-fn conversation(rt: HostRuntime) -> Result<(), Fail> {
-    leaves(&rt, &["run", "2"], TALK.as_bytes(), 0, REPLIED, "")?;
-    leaves(&rt, &["run", "64", "2"], TALK.as_bytes(), 0, REPLIED, "")
+fn conversations(rt: HostRuntime) {
+    each_leaves(&rt, &TALKS);
 }
 
-/// A wrong statement is told by its line and column, what was right before it is served, and nothing behind it.
+/// What is right before a wrong statement is in the script.
 #[test]
-fn wrong_statement(rt: HostRuntime) -> Result<(), Fail> {
-    let text = b"at=10 client=7 register;\nat=10 client=0 register;\nat=10 client=8 register;";
-    let line =
-        "tbt: line 2, column 15: client is not 0\n  at=10 client=0 register;\n                ^\n  expected a number from 1 to 2^128 - 1\n";
-    let left = left_by(&rt, &["script"], text)?;
-    assert_eq!(rt; left.status, 2);
-    assert_eq!(rt; left.output.len(), 56);
-    assert_eq!(rt; left.line.as_slice(), line.as_bytes());
-    let reply =
-        "{\"client\":\"7\",\"session\":\"1\",\"request\":0,\"operation\":\"register\",\"status\":\"reply\",\"commit\":\"1\",\"results\":[]}\n";
-    leaves(&rt, &["run", "2"], text, 2, reply, line)?;
-    leaves(
-        &rt,
-        &["run", "2"],
-        b"at=10 client=7",
-        2,
-        "",
-        "tbt: line 1, column 15: the text ends within a statement\n  at=10 client=7\n                ^\n  expected session, request or register\n",
-    )?;
-    leaves(
-        &rt,
-        &["script"],
-        b"at=10 client=7\n",
-        2,
-        "",
-        "tbt: line 2, column 1: the text ends within a statement\n  \n  ^\n  expected session, request or register\n",
-    )
+fn wrong_statement(rt: HostRuntime) {
+    let left = left_by(&rt, &["script"], SECOND_WRONG);
+    holds(&rt, left.status == 2, &"the status");
+    holds(&rt, left.output.len() == 56, &"the length of a script");
+    same(&rt, left.line.as_slice(), NOT_ZERO.as_bytes());
+    drop(left);
 }
 
 /// Where statements are typed, the next one is read behind a wrong one, and the status says that one was wrong.
 #[test]
-fn typed_statements(rt: HostRuntime) -> Result<(), Fail> {
+fn typed_statements(rt: HostRuntime) {
     let text =
         b"at=10 client=7 register;\nat=10 client=0 register;\nat=18446744073709551615 client=9 register;\nat=10 client=8 register;\n";
-    let left = left_where(&rt, &first_moment(), &["run", "2"], true, text)?;
+    let left = left_where(&rt, &first_moment(), &["run", "2"], true, text);
     let wanted =
         "{\"client\":\"7\",\"session\":\"1\",\"request\":0,\"operation\":\"register\",\"status\":\"reply\",\"commit\":\"1\",\"results\":[]}\n{\"client\":\"8\",\"session\":\"2\",\"request\":0,\"operation\":\"register\",\"status\":\"reply\",\"commit\":\"2\",\"results\":[]}\n";
-    assert_eq!(rt; left.output.as_slice(), wanted.as_bytes());
     let lines =
         "tbt: line 2, column 15: client is not 0\n  at=10 client=0 register;\n                ^\n  expected a number from 1 to 2^128 - 1\ntbt: TimeExhausted\n";
-    assert_eq!(rt; left.line.as_slice(), lines.as_bytes());
-    assert_eq!(rt; left.status, 2);
-    Ok(())
+    expect_left(&rt, left, 2, wanted, lines);
 }
 
 /// Statements that leave out what is known, and the whole ones that they stand for, in a conversation: a first client, the
@@ -107,14 +141,8 @@ client=1 session=1 request=5 lookup_accounts;
 
 /// What is left out is filled in as the machine has it.
 #[test]
-fn left_out(rt: HostRuntime) -> Result<(), Fail> {
-    let whole = left_by(&rt, &["run", "2"], WHOLE.as_bytes())?;
-    assert_eq!(rt; whole.status, 0);
-    let short = left_by(&rt, &["run", "2"], SHORT.as_bytes())?;
-    assert_eq!(rt; short.line.as_slice(), b"".as_slice());
-    assert_eq!(rt; short.output.as_slice(), whole.output.as_slice());
-    assert_eq!(rt; short.status, 0);
-    Ok(())
+fn left_out(rt: HostRuntime) {
+    leave_the_same(&rt, &["run", "2"], (SHORT, WHOLE));
 }
 
 /// Accounts 1 and 2 of client 7, before which it is registered, and what is kept of them.
@@ -123,68 +151,65 @@ const BY_THE_CLOCK: &str =
 lookup_accounts id=2;
 ";
 
-/// The same at these moments: the account 2 has the timestamp of its entry, two behind that of the register.
-fn kept_at(rt: &impl AllocGlobal, timestamp: u64) -> Result<String, Fail> {
+/// What is kept of account 2, whose timestamp is that of its entry, two behind that of the register.
+fn kept_at(rt: &(impl Abort + AllocGlobal), timestamp: u64) -> String {
     let kept = format!(in rt.alloc();
         "{{\"client\":\"7\",\"session\":\"1\",\"request\":2,\"operation\":\"lookup_accounts\",\"status\":\"reply\",\"commit\":\"3\",\"results\":[{{\"id\":\"2\",\"debits_pending\":\"0\",\"debits_posted\":\"0\",\"credits_pending\":\"0\",\"credits_posted\":\"0\",\"user_data_128\":\"0\",\"user_data_64\":\"0\",\"user_data_32\":0,\"reserved\":0,\"ledger\":700,\"code\":10,\"flags\":[],\"timestamp\":\"{timestamp}\"}}]}}\n"
-    )?;
-    Ok(kept)
+    );
+    kept.expect(rt, "memory")
 }
+
+/// There is no line of faults, and account 2 is kept so at the end of the output.
+fn expect_kept(rt: &(impl Abort + AllocGlobal), left: Left, timestamp: u64) {
+    let kept = kept_at(rt, timestamp);
+    same(rt, left.line.as_slice(), b"");
+    let ends = left.output.as_slice().ends_with(kept.as_bytes());
+    holds(rt, ends, &timestamp);
+    drop(kept);
+    drop(left);
+}
+
+/// Moments of the clock, and the timestamp of account 2 by each.
+const MOMENTS: [(Option<u64>, u64); 3] = [
+    (Some(1_000_000_000), 1_000_000_002),
+    (Some(0), 3),
+    (None, 3),
+];
 
 /// A moment that is left out is the clock's. Where a clock cannot be read, it is 0.
 #[test]
-fn left_out_moments(rt: HostRuntime) -> Result<(), Fail> {
-    for (moment, timestamp) in [
-        (Some(1_000_000_000), 1_000_000_002),
-        (Some(0), 3),
-        (None, 3),
-    ] {
+fn left_out_moments(rt: HostRuntime) {
+    for (moment, timestamp) in MOMENTS {
         let clock = Stopped { moment };
-        let left = left_where(&rt, &clock, &["run", "2"], false, BY_THE_CLOCK.as_bytes())?;
-        assert_eq!(rt; left.line.as_slice(), b"".as_slice());
-        assert!(rt;
-            left.output
-                .as_slice()
-                .ends_with(kept_at(&rt, timestamp)?.as_str().as_bytes())
-        );
+        let text = BY_THE_CLOCK.as_bytes();
+        let left = left_where(&rt, &clock, &["run", "2"], false, text);
+        expect_kept(&rt, left, timestamp);
     }
-    Ok(())
 }
 
 /// Where a moment is written, it is that of the client's register too, whatever the clock shows.
 #[test]
-fn written_moments(rt: HostRuntime) -> Result<(), Fail> {
+fn written_moments(rt: HostRuntime) {
     let clock = Stopped {
         moment: Some(1_000_000_000),
     };
     let text =
         b"at=5 client=7 create_accounts id=1 ledger=700 code=10, id=2 ledger=700 code=10; at=6 lookup_accounts id=2;";
-    let left = left_where(&rt, &clock, &["run", "2"], false, text)?;
-    assert_eq!(rt; left.line.as_slice(), b"".as_slice());
-    assert!(rt;
-        left.output
-            .as_slice()
-            .ends_with(kept_at(&rt, 7)?.as_str().as_bytes())
-    );
-    Ok(())
+    let left = left_where(&rt, &clock, &["run", "2"], false, text);
+    expect_kept(&rt, left, 7);
 }
 
 /// A client that was evicted is registered again.
 #[test]
-fn left_out_behind_an_eviction(rt: HostRuntime) -> Result<(), Fail> {
-    let whole = left_by(
+fn left_out_behind_an_eviction(rt: HostRuntime) {
+    leave_the_same(
         &rt,
         &["run", "1"],
-        b"client=7 register; client=8 register; client=7 register; client=7 session=3 request=1 lookup_accounts;",
-    )?;
-    let short = left_by(
-        &rt,
-        &["run", "1"],
-        b"client=7 register; client=8 register; client=7 lookup_accounts;",
-    )?;
-    assert_eq!(rt; short.output.as_slice(), whole.output.as_slice());
-    assert_eq!(rt; short.status, 0);
-    Ok(())
+        (
+            "client=7 register; client=8 register; client=7 lookup_accounts;",
+            "client=7 register; client=8 register; client=7 register; client=7 session=3 request=1 lookup_accounts;",
+        ),
+    );
 }
 
 /// Statements for `script`, and the whole ones that they stand for.
@@ -209,150 +234,108 @@ const SCRIPTS: [(&str, &str); 4] = [
 
 /// What is left out is filled in as the statements before tell it.
 #[test]
-fn left_out_of_a_script(rt: HostRuntime) -> Result<(), Fail> {
-    for (short, whole) in SCRIPTS {
-        let whole = left_by(&rt, &["script"], whole.as_bytes())?;
-        assert_eq!(rt; whole.status, 0);
-        let short = left_by(&rt, &["script"], short.as_bytes())?;
-        assert_eq!(rt; short.output.as_slice(), whole.output.as_slice());
-        assert_eq!(rt; short.status, 0);
+fn left_out_of_a_script(rt: HostRuntime) {
+    for texts in SCRIPTS {
+        leave_the_same(&rt, &["script"], texts);
     }
-    Ok(())
 }
 
 /// The place of a fault is where it is in what was written, whatever was filled in; and what is not known is no guess.
+const FAULTS: [(&str, &str); 7] = [
+    (
+        "client=7 session=1 request=1 lookup_accounts; lookup_accounts id=1 code=2;",
+        "tbt: line 1, column 68: 'code' cannot stand here\n   lookup_accounts id=1 code=2;\n                        ^\n  expected ',' or ';'\n",
+    ),
+    (
+        "client=7 session=1 request=1 lookup_accounts;\nlookup_accounts\n  id=1 code=2;",
+        "tbt: line 3, column 8: 'code' cannot stand here\n    id=1 code=2;\n         ^\n  expected ',' or ';'\n",
+    ),
+    (
+        "client=7 session=1 request=1 lookup_accounts;\nlookup_acounts id=1;",
+        "tbt: line 2, column 10: unknown operation 'lookup_acounts'; did you mean lookup_accounts?\n  lookup_acounts id=1;\n           ^\n  expected at, create_accounts, create_transfers, lookup_accounts or lookup_transfers\n",
+    ),
+    (
+        "client=7 session=1 request=1 lookup_accounts;\nclint=7 lookup_accounts id=1;",
+        "tbt: line 2, column 4: unknown field 'clint'; did you mean client?\n  clint=7 lookup_accounts id=1;\n     ^\n  expected at, client, session or request\n",
+    ),
+    (
+        "lookup_accounts id=1;",
+        "tbt: line 1, column 1: a client comes first: write client=N before lookup_accounts\n  lookup_accounts id=1;\n  ^\n  expected at, client, session or request\n",
+    ),
+    (
+        "client=7 session=1 request=1 lookup_accounts;\nclient=7 session=1 req",
+        "tbt: line 2, column 23: unknown word 'req'\n  client=7 session=1 req\n                        ^\n  expected at or request\n",
+    ),
+    (
+        "client=7 session=1 request=4294967295 lookup_accounts; lookup_accounts;",
+        "tbt: line 1, column 56: client 7 has no session here: write session=N before lookup_accounts\n   lookup_accounts;\n   ^\n  expected at, client, session or request\n",
+    ),
+];
+
 #[test]
-fn faults_of_what_is_left_out(rt: HostRuntime) -> Result<(), Fail> {
-    for (text, line) in [
-        (
-            "client=7 session=1 request=1 lookup_accounts; lookup_accounts id=1 code=2;",
-            "tbt: line 1, column 68: 'code' cannot stand here\n   lookup_accounts id=1 code=2;\n                        ^\n  expected ',' or ';'\n",
-        ),
-        (
-            "client=7 session=1 request=1 lookup_accounts;\nlookup_accounts\n  id=1 code=2;",
-            "tbt: line 3, column 8: 'code' cannot stand here\n    id=1 code=2;\n         ^\n  expected ',' or ';'\n",
-        ),
-        (
-            "client=7 session=1 request=1 lookup_accounts;\nlookup_acounts id=1;",
-            "tbt: line 2, column 10: unknown operation 'lookup_acounts'; did you mean lookup_accounts?\n  lookup_acounts id=1;\n           ^\n  expected at, create_accounts, create_transfers, lookup_accounts or lookup_transfers\n",
-        ),
-        (
-            "client=7 session=1 request=1 lookup_accounts;\nclint=7 lookup_accounts id=1;",
-            "tbt: line 2, column 4: unknown field 'clint'; did you mean client?\n  clint=7 lookup_accounts id=1;\n     ^\n  expected at, client, session or request\n",
-        ),
-        (
-            "lookup_accounts id=1;",
-            "tbt: line 1, column 1: a client comes first: write client=N before lookup_accounts\n  lookup_accounts id=1;\n  ^\n  expected at, client, session or request\n",
-        ),
-        (
-            "client=7 session=1 request=1 lookup_accounts;\nclient=7 session=1 req",
-            "tbt: line 2, column 23: unknown word 'req'\n  client=7 session=1 req\n                        ^\n  expected at or request\n",
-        ),
-        (
-            "client=7 session=1 request=4294967295 lookup_accounts; lookup_accounts;",
-            "tbt: line 1, column 56: client 7 has no session here: write session=N before lookup_accounts\n   lookup_accounts;\n   ^\n  expected at, client, session or request\n",
-        ),
-    ] {
-        let left = left_by(&rt, &["script"], text.as_bytes())?;
-        assert_eq!(rt; left.line.as_slice(), line.as_bytes());
-        assert_eq!(rt; left.status, 2);
+fn faults_of_what_is_left_out(rt: HostRuntime) {
+    for (text, line) in FAULTS {
+        let left = left_by(&rt, &["script"], text.as_bytes());
+        same(&rt, left.line.as_slice(), line.as_bytes());
+        holds(&rt, left.status == 2, &text);
+        drop(left);
     }
-    Ok(())
 }
 
-/// A client is not registered for a statement that is wrong.
-#[test]
-fn wrong_statement_alone(rt: HostRuntime) -> Result<(), Fail> {
-    leaves(
-        &rt,
-        &["run", "2"],
-        b"lookup_accounts code=1;",
-        2,
-        "",
-        "tbt: line 1, column 17: 'code' cannot stand here\n  lookup_accounts code=1;\n                  ^\n  expected id or ';'\n",
-    )
-}
-
-/// The page of usage, and arguments that are named.
-#[test]
-fn usage(rt: HostRuntime) -> Result<(), Fail> {
-    for word in ["--help", "-h"] {
-        let left = left_by(&rt, &[word], b"")?;
-        assert_eq!(rt; left.status, 0);
-        assert!(rt; left.output.as_slice().starts_with(b"Usage: tbt FORM\n"));
-        assert_eq!(rt; left.line.len(), 0);
-    }
-    leaves(&rt, &["--version"], b"", 0, "tbt 0.1.0\n", "")?;
-    let none = left_by(&rt, &[], b"")?;
-    assert_eq!(rt; none.status, 2);
-    assert_eq!(rt; none.output.len(), 0);
-    assert!(rt; none.line.as_slice().starts_with(b"Usage: tbt FORM\n"));
-    leaves(
-        &rt,
+/// Arguments that are named, and the line that says what is wrong with them.
+const WRONG_WORDS: [(&[&str], &str); 8] = [
+    (
         &["serve"],
-        b"",
-        2,
-        "",
         "tbt: serve: unknown; tbt --help shows the forms\n",
-    )?;
-    leaves(
-        &rt,
-        &["run"],
-        b"",
-        2,
-        "",
-        "tbt: run: CLIENTS_MAX is missing, 1 to 64\n",
-    )?;
-    leaves(
-        &rt,
-        &["run", "65"],
-        b"",
-        2,
-        "",
-        "tbt: run 65: CLIENTS_MAX is 1 to 64\n",
-    )?;
-    leaves(
-        &rt,
-        &["run", "0", "2"],
-        b"",
-        2,
-        "",
-        "tbt: run 0 2: CLIENTS_MAX is 1 to 64\n",
-    )?;
-    leaves(
-        &rt,
-        &["run", "2", "3"],
-        b"",
-        2,
-        "",
-        "tbt: run 2 3: PROFILE is 1 or 2\n",
-    )?;
-    leaves(
-        &rt,
-        &["script", "x"],
-        b"",
-        2,
-        "",
-        "tbt: script x: too many words\n",
-    )?;
-    leaves(
-        &rt,
+    ),
+    (&["run"], "tbt: run: CLIENTS_MAX is missing, 1 to 64\n"),
+    (&["run", "65"], "tbt: run 65: CLIENTS_MAX is 1 to 64\n"),
+    (&["run", "0", "2"], "tbt: run 0 2: CLIENTS_MAX is 1 to 64\n"),
+    (&["run", "2", "3"], "tbt: run 2 3: PROFILE is 1 or 2\n"),
+    (&["script", "x"], "tbt: script x: too many words\n"),
+    (
         &["audit", "1"],
-        b"",
-        2,
-        "",
         "tbt: audit 1: only --account and an id may follow\n",
-    )?;
-    leaves(
-        &rt,
+    ),
+    (
         &[
             "audit",
             "--account",
             "340282366920938463463374607431768211456",
         ],
-        b"",
-        2,
-        "",
         "tbt: audit --account 340282366920938463463374607431768211456: an account's id is 0 to 2^128 - 1, in decimal digits\n",
-    )
+    ),
+];
+
+#[test]
+fn wrong_words(rt: HostRuntime) {
+    for (words, line) in WRONG_WORDS {
+        expect_left(&rt, left_by(&rt, words, b""), 2, "", line);
+    }
+}
+
+/// Words that ask for a page, what the output begins with, and what the line of faults begins with.
+const PAGES: [(&[&str], u8, &str, &str); 3] = [
+    (&["--help"], 0, "Usage: tbt FORM\n", ""),
+    (&["-h"], 0, "Usage: tbt FORM\n", ""),
+    (&[], 2, "", "Usage: tbt FORM\n"),
+];
+
+/// A text begins with this one, and is empty where it is.
+fn begins(text: &[u8], start: &str) -> bool {
+    text.starts_with(start.as_bytes()) && text.is_empty() == start.is_empty()
+}
+
+/// The pages go to the output, and without words to the faults.
+#[test]
+fn usage(rt: HostRuntime) {
+    for (words, status, output, line) in PAGES {
+        let left = left_by(&rt, words, b"");
+        holds(&rt, left.status == status, &left.status);
+        holds(&rt, begins(left.output.as_slice(), output), &output);
+        holds(&rt, begins(left.line.as_slice(), line), &line);
+        drop(left);
+    }
+    let version = left_by(&rt, &["--version"], b"");
+    expect_left(&rt, version, 0, "tbt 0.1.0\n", "");
 }

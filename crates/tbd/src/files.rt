@@ -26,6 +26,14 @@ pub fn no_memory<T: Drop>(answer: io::Result<T>) -> Result<T, Fault> {
     }
 }
 
+/// Whether output went out. Device where it did not.
+pub fn gone_out(answer: io::Result<()>) -> Result<(), Fault> {
+    match answer {
+        Ok(()) => Ok(()),
+        Err(_) => Err(Fault::Device),
+    }
+}
+
 /// The file at a path, which is made where there is none.
 pub fn made(rt: &HostRuntime, path: &str) -> Result<Real, Fault> {
     match Real::make(rt, path) {
@@ -60,11 +68,15 @@ fn dump_file(rt: &HostRuntime, real: &mut Real) -> Result<(), Fault> {
     let output = no_memory(BufWriter::with_capacity(rt.alloc(), BUFFER, rt.stdout()))?;
     let mut writer = Counting::new(output);
     let written = write_dump(rt.alloc(), real, rules, &mut writer);
-    let flushed = writer.into_inner().flush();
-    match (written, flushed) {
-        (Ok(()), Ok(())) => Ok(()),
-        (Err(fault), _) => Err(dumped_fault(fault)),
-        _ => Err(Fault::Device),
+    let mut output = writer.into_inner();
+    let flushed = output.flush();
+    drop(output);
+    match written {
+        Ok(()) => gone_out(flushed),
+        Err(fault) => {
+            drop(flushed);
+            Err(dumped_fault(fault))
+        }
     }
 }
 
@@ -102,8 +114,5 @@ pub fn check(rt: &HostRuntime, path: &str) -> Result<(), Fault> {
     let checked = checked(rt.alloc(), &mut real);
     drop(real);
     let summary = checked?;
-    match print!(rt; "{summary}") {
-        Ok(()) => Ok(()),
-        Err(_) => Err(Fault::Device),
-    }
+    gone_out(print!(rt; "{summary}"))
 }

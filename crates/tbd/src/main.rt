@@ -18,9 +18,9 @@ mod help;
 mod serving;
 mod summaries;
 
-use arguments::{Order, read_order, wrong_words};
+use arguments::{Form, read_form, wrong_words};
 use faults::Fault;
-use files::{check, dump};
+use files::{check, dump, gone_out};
 use help::{USAGE, VERSION};
 use serving::run;
 use std::io;
@@ -28,33 +28,30 @@ use std::process::ExitCode;
 use tb_commands::words;
 use tb_keep::Rules;
 
-/// Does what the order asks for, over the file of the second word.
-fn perform(rt: &HostRuntime, order: Order, words: &[String]) -> Result<(), Fault> {
+/// Does what the form asks for, over the file of the second word.
+fn perform(rt: &HostRuntime, form: Form, words: &[String]) -> Result<(), Fault> {
     let path = match words {
         [_, path, ..] => path.as_str(),
         _ => "",
     };
-    match order {
-        Order::Run(clients_max, profile) => {
+    match form {
+        Form::Run(clients_max, profile) => {
             let rules = Rules {
                 profile,
                 clients_max,
             };
             run(rt, path, rules)
         }
-        Order::Dump => dump(rt, path),
-        Order::Check => check(rt, path),
-        Order::Help => print(rt, USAGE),
-        Order::Version => print(rt, VERSION),
+        Form::Dump => dump(rt, path),
+        Form::Check => check(rt, path),
+        Form::Help => print(rt, USAGE),
+        Form::Version => print(rt, VERSION),
     }
 }
 
 /// Prints a text.
 fn print(rt: &HostRuntime, text: &str) -> Result<(), Fault> {
-    match print!(rt; "{text}") {
-        Ok(()) => Ok(()),
-        Err(_) => Err(Fault::Device),
-    }
+    gone_out(print!(rt; "{text}"))
 }
 
 /// Tells what is wrong with words that are none of the program's forms: without words, the page of usage.
@@ -63,7 +60,9 @@ fn tell_usage(rt: &HostRuntime, words: &[String]) -> io::Result<()> {
         [] => eprint!(rt; "{USAGE}"),
         words => {
             let what = wrong_words(rt.alloc(), words)?;
-            eprintln!(rt; "tbd: Usage: {what}")
+            let told = eprintln!(rt; "tbd: Usage: {what}");
+            drop(what);
+            told
         }
     }
 }
@@ -78,11 +77,11 @@ fn tell(rt: &HostRuntime, fault: Fault, words: &[String]) -> io::Result<()> {
 
 /// Does what the words ask for, and answers the exit status.
 fn command(rt: &HostRuntime, words: &[String]) -> u8 {
-    let Some(order) = read_order(words) else {
+    let Some(form) = read_form(words) else {
         let _ = tell_usage(rt, words);
         return Fault::Usage.status();
     };
-    match perform(rt, order, words) {
+    match perform(rt, form, words) {
         Ok(()) => 0,
         Err(fault) => {
             let _ = tell(rt, fault, words);
@@ -93,7 +92,11 @@ fn command(rt: &HostRuntime, words: &[String]) -> u8 {
 
 fn main(rt: HostRuntime) -> ExitCode {
     let status = match words(&rt) {
-        Ok(words) => command(&rt, words.as_slice()),
+        Ok(words) => {
+            let status = command(&rt, words.as_slice());
+            drop(words);
+            status
+        }
         Err(_) => {
             let _ = tell(&rt, Fault::Usage, &[]);
             Fault::Usage.status()

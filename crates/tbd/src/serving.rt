@@ -37,13 +37,27 @@ fn serve<D: Device + Drop, R: Source, W: Sink>(
     }
 }
 
+/// Serves a reader to standard output over the file at a path.
+fn serve_file<R: Source>(
+    rt: &HostRuntime,
+    path: &str,
+    rules: Rules,
+    reader: &mut R,
+) -> Result<(), Fault> {
+    let device = made(rt, path)?;
+    let mut writer = Counting::new(rt.stdout());
+    match serve(rt.alloc(), device, rules, reader, &mut writer) {
+        Ok(_) => Ok(()),
+        Err(fault) => Err(fault),
+    }
+}
+
 /// Serves standard input to standard output over the file at a path, which is made where there is none. What is at hand is
 /// read at once, and its replies are written at once.
 pub fn run(rt: &HostRuntime, path: &str, rules: Rules) -> Result<(), Fault> {
-    let device = made(rt, path)?;
     let input = no_memory(BufReader::with_capacity(rt.alloc(), BUFFER, rt.stdin()))?;
     let mut reader = Buffered::new(input);
-    let mut writer = Counting::new(rt.stdout());
-    let _told = serve(rt.alloc(), device, rules, &mut reader, &mut writer)?;
-    Ok(())
+    let served = serve_file(rt, path, rules, &mut reader);
+    drop(reader);
+    served
 }

@@ -1,5 +1,5 @@
 use Rattle.std.proofs.Common.{◌≡◌, ◌<◌, ◌*◌, ◌+◌, drop}
-use Rattle.tb_commands.specs.Orders.{number_from, number_of, within}
+use Rattle.tb_commands.specs.Forms.{number_from, number_of, within}
 use Rattle.tb_commands.proofs.arguments.number.Given as goal
 
 abbrev pub invariant-loop-byte : goal.invariant-loop-byte

@@ -1,5 +1,5 @@
 use Rattle.std.proofs.Common.{rules}
-use Rattle.tb_journal.proofs.Beginning.{begun}
+use Rattle.tb_journal.proofs.FirstWrite.{begun}
 use Rattle.tb_journal.proofs.creating.write_first.Goals as goal
 
 pub returns : goal.returns

@@ -1,5 +1,5 @@
 use Rattle.tb_keep.proofs.Sources.{so_holds}
-use Rattle.tb_keep.proofs.Beginnings.{is_history, is_no_history}
+use Rattle.tb_keep.proofs.WholeFiles.{is_history, is_no_history}
 use Rattle.tb_keep.proofs.dumps.history_behind.Goals as goal
 
 pub returns-in-Ok-clause-found : goal.returns-in-Ok-clause-found

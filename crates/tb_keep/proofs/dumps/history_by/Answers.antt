@@ -1,7 +1,7 @@
 use Rattle.std.proofs.Common.{sym}
 use Rattle.tb_keep.proofs.Sources.{seen_now, so_holds}
 use Rattle.tb_keep.proofs.Entered.{stays_then}
-use Rattle.tb_keep.proofs.Beginnings.{no_rules}
+use Rattle.tb_keep.proofs.WholeFiles.{no_rules}
 use Rattle.tb_keep.proofs.dumps.history_by.Goals as goal
 
 pub returns-in-Ok-clause-found : goal.returns-in-Ok-clause-found

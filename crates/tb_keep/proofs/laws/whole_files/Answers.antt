@@ -1,4 +1,4 @@
-use Rattle.tb_keep.proofs.Beginnings.{whole_stops, whole_rules, whole_no_head, whole_dumps}
+use Rattle.tb_keep.proofs.WholeFiles.{whole_stops, whole_rules, whole_no_head, whole_dumps}
 use Rattle.tb_keep.proofs.laws.whole_files.Goals as goal
 
 pub returns-clause-stops : goal.returns-clause-stops

@@ -1,5 +1,5 @@
 use Rattle.std.proofs.Common.{◌≡◌, drop}
-use Rattle.tb_text.specs.Scan.{is_given}
+use Rattle.tb_text.specs.Entries.{is_given}
 use Rattle.tb_text.proofs.scanner.is_given.Given as goal
 
 abbrev pub invariant-loop-other : goal.invariant-loop-other

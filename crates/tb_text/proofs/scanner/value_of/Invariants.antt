@@ -1,5 +1,5 @@
 use Rattle.std.proofs.Common.{◌≡◌, drop}
-use Rattle.tb_text.specs.Scan.{value_from, value_of}
+use Rattle.tb_text.specs.Entries.{value_from, value_of}
 use Rattle.tb_text.proofs.scanner.value_of.Given as goal
 
 abbrev pub invariant-loop-other : goal.invariant-loop-other

@@ -1,5 +1,5 @@
 use Rattle.std.proofs.Common.{◌≡◌, drop}
-use Rattle.tb_text_commands.specs.Orders.{account_from, account_of}
+use Rattle.tb_text_commands.specs.Forms.{account_from, account_of}
 use Rattle.tb_text_commands.proofs.arguments.account.Given as goal
 
 abbrev pub invariant-loop-byte : goal.invariant-loop-byte

@@ -1,4 +1,4 @@
-use Rattle.std.proofs.Common.{rules, ◌≡◌, ◌∙◌, false, true, sym}
+use Rattle.std.proofs.Common.{rules, ◌∙◌, false, sym}
 use Rattle.tb_text_commands.specs.Taken.{waiting}
 use Rattle.tb_text_commands.specs.Whole.{IsStatement}
 use Rattle.tb_text_commands.proofs.Taking.{served_more, served_none}

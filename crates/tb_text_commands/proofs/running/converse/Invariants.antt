@@ -1,6 +1,6 @@
 use Rattle.std.proofs.Common.{◌≡◌, false}
 use Rattle.tb_text_commands.specs.Ends.{IsWhole}
-use Rattle.tb_text_commands.specs.Taken.{Takes, waiting}
+use Rattle.tb_text_commands.specs.Taken.{TakesParts, waiting}
 use Rattle.tb_text_commands.specs.Whole.{IsStatement}
 use Rattle.tb_text_commands.proofs.running.converse.Given as goal
 
@@ -9,5 +9,5 @@ invariant-loop g l = record {
   whole : IsWhole (g.R.Source.input l.initial.reader) (g.R.Source.input l.reader) (g.W.Sink.output l.initial.writer) (g.W.Sink.output l.writer);
   quiet : l.told ≡ false → l.faults ≡ l.initial.faults;
   silent : l.talks ≡ false → l.told ≡ false;
-  taken : l.told ≡ false → Takes IsStatement (g.R.Source.input l.initial.reader).left (waiting l.intake (g.R.Source.input l.reader));
+  taken : l.told ≡ false → TakesParts IsStatement (g.R.Source.input l.initial.reader).left (waiting l.intake (g.R.Source.input l.reader));
 }

@@ -1,10 +1,10 @@
 use Rattle.tb_text_commands.specs.Ends.{IsWhole}
-use Rattle.tb_text_commands.specs.Taken.{Takes, waiting}
+use Rattle.tb_text_commands.specs.Taken.{TakesParts, waiting}
 use Rattle.tb_text_commands.specs.Whole.{IsReplyFrame}
 use Rattle.tb_text_commands.proofs.scripts.replies.Given as goal
 
 abbrev pub invariant-loop : goal.invariant-loop
 invariant-loop g l = record {
   whole : IsWhole (g.R.Source.input l.initial.reader) (g.R.Source.input l.reader) (g.W.Sink.output l.initial.writer) (g.W.Sink.output l.writer);
-  taken : Takes IsReplyFrame (g.R.Source.input l.initial.reader).left (waiting l.intake (g.R.Source.input l.reader));
+  taken : TakesParts IsReplyFrame (g.R.Source.input l.initial.reader).left (waiting l.intake (g.R.Source.input l.reader));
 }

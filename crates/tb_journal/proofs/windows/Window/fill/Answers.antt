@@ -1,7 +1,7 @@
 use Rattle.std.proofs.Common.{◌≡◌, ◌≤◌, ◌+◌, ◌-◌, ◌∙◌, ap, arith, slice_range, subst, sym, take, vec_len}
 use Rattle.std.proofs.lemmas.Slice.{between_from_start}
 use Rattle.tb_journal.specs.Handed.{GoesOnAhead}
-use Rattle.tb_journal.specs.Reading.{Held, HasAhead}
+use Rattle.tb_journal.specs.Reading.{ReadAhead, HasAhead}
 use Rattle.tb_journal.proofs.Filling.{kept_in_front, filled}
 use Rattle.tb_journal.proofs.Handing.{filled_on}
 use Rattle.tb_journal.proofs.windows.Window.fill.Goals as goal
@@ -13,7 +13,7 @@ returns-clause-ahead g c t same =
     let old = c.args.self.now.ahead in
     let moved = c.move_down.new.bytes.items in
     let buffer = c.read_behind.new.bytes.items in
-    let view : slice_range c.self.inside.bytes.items c.self.inside.used c.self.inside.filled ≡ old = ap (λ (w : Held). w.ahead) c.self.view_is in
+    let view : slice_range c.self.inside.bytes.items c.self.inside.used c.self.inside.filled ≡ old = ap (λ (w : ReadAhead). w.ahead) c.self.view_is in
     let room : k ≤ vec_len c.move_down.new.bytes = omega (arith, c.self.invariant.2, c.self.inside.bytes.ok.0, c.move_down.ensures.len) in
     let all = c.read_behind.new.bytes.ok.0 in
     let front : take k buffer ≡ old =
@@ -28,7 +28,7 @@ returns-clause-handed g c file same =
     let old = c.args.self.now.ahead in
     let moved = c.move_down.new.bytes.items in
     let buffer = c.read_behind.new.bytes.items in
-    let view : slice_range c.self.inside.bytes.items c.self.inside.used c.self.inside.filled ≡ old = ap (λ (w : Held). w.ahead) c.self.view_is in
+    let view : slice_range c.self.inside.bytes.items c.self.inside.used c.self.inside.filled ≡ old = ap (λ (w : ReadAhead). w.ahead) c.self.view_is in
     let room : k ≤ vec_len c.move_down.new.bytes = omega (arith, c.self.invariant.2, c.self.inside.bytes.ok.0, c.move_down.ensures.len) in
     let all = c.read_behind.new.bytes.ok.0 in
     let front : take k buffer ≡ old =

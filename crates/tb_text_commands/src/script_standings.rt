@@ -1,8 +1,7 @@
 //! What statements tell of clients: the one named last, their sessions, and the numbers of their requests.
 ghost use Rattle.std.specs.BTreeMap.{get};
 ghost use Rattle.std.specs.Ordering.{nat_cmp};
-ghost use Rattle.std.specs.Prelude.{◌≡◌, IfErr, unwrap_or};
-ghost use Rattle.tb_text_commands.specs.Completed.{standing_behind};
+ghost use Rattle.std.specs.Prelude.{IfErr, unwrap_or};
 ghost use Rattle.tb_text_commands.specs.declared.completing.Standing.TheVariants.{Unknown};
 ghost use Rattle.tb_text_commands.specs.Ends.{IsOfInput};
 
@@ -14,12 +13,12 @@ use tb_records::Request;
 
 /// What the statements before tell.
 #[derive(Drop)]
-pub struct Told {
+pub struct ScriptStandings {
     last: Option<u128>,
     clients: BTreeMap<u128, Standing>,
 }
 
-impl Standings for Told {
+impl Standings for ScriptStandings {
     ghost last = { λ told. told.last };
 
     ghost standing = { λ told client. unwrap_or (get nat_cmp told.clients client) Unknown };
@@ -41,10 +40,10 @@ impl Standings for Told {
     }
 }
 
-impl Told {
+impl ScriptStandings {
     /// Nothing is told.
-    pub fn new(alloc: Global) -> Told {
-        Told {
+    pub fn new(alloc: Global) -> ScriptStandings {
+        ScriptStandings {
             last: None,
             clients: BTreeMap::new(alloc),
         }

@@ -4,8 +4,8 @@ use Rattle.std.specs.Option.{option_and_then}
 use Rattle.std.specs.Cmp.Lexicographic.{pointwise}
 use Rattle.tb_records.specs.declared.limits.Profile.{Profile}
 use Rattle.tb_records.specs.declared.limits.Profile.TheVariants.{One, Two}
-use Rattle.tb_commands.specs.declared.arguments.Order.{Order}
-use Rattle.tb_commands.specs.declared.arguments.Order.TheVariants.{Run, Dump, Replay}
+use Rattle.tb_commands.specs.declared.arguments.Form.{Form}
+use Rattle.tb_commands.specs.declared.arguments.Form.TheVariants.{Run, Dump, Replay}
 
 -- the value of a digit, 0 to 9
 abbrev pub digit_of : ℕ → Option ℕ
@@ -38,12 +38,12 @@ profile_by (Some n) = Some (if nat_le n 1 then One else Two)
 abbrev pub profile_of : List ℕ → Option Profile
 profile_of word = profile_by (within 1 2 (number_of word))
 
-abbrev pub run_by : Option ℕ → Option Profile → Option Order
+abbrev pub run_by : Option ℕ → Option Profile → Option Form
 run_by None profile = None
 run_by (Some clients) None = None
 run_by (Some clients) (Some profile) = Some (Run clients profile)
 
-abbrev pub dump_by : Option ℕ → Option Order
+abbrev pub dump_by : Option ℕ → Option Form
 dump_by None = None
 dump_by (Some clients) = Some (Dump clients None)
 
@@ -51,7 +51,7 @@ dump_by (Some clients) = Some (Dump clients None)
 abbrev pub commit_of : List ℕ → Option ℕ
 commit_of word = within 0 (2 ^ 63 - 1) (number_of word)
 
-abbrev pub dump_at_by : Option ℕ → Option ℕ → Option Order
+abbrev pub dump_at_by : Option ℕ → Option ℕ → Option Form
 dump_at_by None at = None
 dump_at_by (Some clients) None = None
 dump_at_by (Some clients) (Some at) = Some (Dump clients (Some at))
@@ -66,26 +66,26 @@ abbrev pub is_replay : List ℕ → Bool
 is_replay word = pointwise nat_eq word (codes "replay")
 
 -- `replay`
-abbrev pub order_alone : List ℕ → Option Order
-order_alone word = if is_replay word then Some Replay else None
+abbrev pub form_alone : List ℕ → Option Form
+form_alone word = if is_replay word then Some Replay else None
 
 -- `run CLIENTS_MAX` or `dump CLIENTS_MAX`
-abbrev pub order_with : List ℕ → List ℕ → Option Order
-order_with word clients =
+abbrev pub form_with : List ℕ → List ℕ → Option Form
+form_with word clients =
     if is_run word then run_by (clients_of clients) (Some One)
     else if is_dump word then dump_by (clients_of clients)
     else None
 
 -- `run CLIENTS_MAX PROFILE` or `dump CLIENTS_MAX AT`
-abbrev pub order_with_two : List ℕ → List ℕ → List ℕ → Option Order
-order_with_two word clients last =
+abbrev pub form_with_two : List ℕ → List ℕ → List ℕ → Option Form
+form_with_two word clients last =
     if is_run word then run_by (clients_of clients) (profile_of last)
     else if is_dump word then dump_at_by (clients_of clients) (commit_of last)
     else None
 
-abbrev pub order_of : List (List ℕ) → Option Order
-order_of [] = None
-order_of (word ∷ []) = order_alone word
-order_of (word ∷ clients ∷ []) = order_with word clients
-order_of (word ∷ clients ∷ last ∷ []) = order_with_two word clients last
-order_of (word ∷ clients ∷ last ∷ more ∷ rest) = None
+abbrev pub form_of : List (List ℕ) → Option Form
+form_of [] = None
+form_of (word ∷ []) = form_alone word
+form_of (word ∷ clients ∷ []) = form_with word clients
+form_of (word ∷ clients ∷ last ∷ []) = form_with_two word clients last
+form_of (word ∷ clients ∷ last ∷ more ∷ rest) = None

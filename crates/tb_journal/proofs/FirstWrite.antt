@@ -3,10 +3,10 @@ use Rattle.std.proofs.Common.{◌≡◌, ◌⊎◌, inl, inr, ℕ, ◌≤◌, �
 use Rattle.std.proofs.lemmas.List.{append-nil, drop_all}
 use Rattle.std.specs.List.{starts_with}
 use Rattle.tb_journal.specs.declared.faults.Fault.{Fault}
-use Rattle.tb_journal.specs.Device.{Disk, IsKept, Torn, LeavesOnly, overwritten}
+use Rattle.tb_journal.specs.Device.{Disk, IsOnDisk, Torn, LeavesOnly, overwritten}
 use Rattle.tb_journal.specs.Contents.{magic, NotAJournal, Records, walk, contents, recorded, journal_of}
 use Rattle.tb_journal.specs.Steps.{IsAtRest, Overwrites}
-use Rattle.tb_journal.specs.Creating.{is_torn_from, is_blank, IsUnborn, Begins}
+use Rattle.tb_journal.specs.Creating.{is_torn_from, is_blank, IsUnborn, WritesFirst}
 use Rattle.tb_journal.proofs.Walks.{walk-ends}
 use Rattle.tb_journal.proofs.Moments.{started, weaker}
 use Rattle.tb_journal.proofs.Steps.{short_front}
@@ -38,19 +38,19 @@ torn_short file c short torn = omega (arith, short, torn.no_longer)
 whole : (file : List ℕ) → length file ≤ 9 → overwritten file 0 (journal_of []) ≡ journal_of []
 whole file short = ap (λ (l : List ℕ). journal_of [] ++ l) (drop_all 9 file (omega (arith, short))) ∙ append-nil (journal_of [])
 
-pub begun : (before after : Disk) (result : Result (Unit {0}) Fault) → is_blank before.seen ≡ true → Overwrites 0 (journal_of []) result before after → Begins result before after
+pub begun : (before after : Disk) (result : Result (Unit {0}) Fault) → is_blank before.seen ≡ true → Overwrites 0 (journal_of []) result before after → WritesFirst result before after
 begun before after result blank write = record {
   ok = done result write.ok;
   any_moment = weaker before after (Torn 0 9 before.seen) IsUnborn (λ c torn. unborn c (torn_short before.seen c (blank_short before.seen blank) torn)) write.any_moment;
   cause = write.cause;
 }
   where
-    done : (r : Result (Unit {0}) Fault) → OnOk r ((after.seen ≡ overwritten before.seen 0 (journal_of [])) × IsKept after) → OnOk r (IsAtRest after × (recorded after.seen ≡ []))
+    done : (r : Result (Unit {0}) Fault) → OnOk r ((after.seen ≡ overwritten before.seen 0 (journal_of [])) × IsOnDisk after) → OnOk r (IsAtRest after × (recorded after.seen ≡ []))
     done (Err f) so = tt
     done (Ok x) so =
         let is : after.seen ≡ journal_of [] = so.0 ∙ whole before.seen (blank_short before.seen blank) in
         rests after [] (ap contents is) (is ∙ ap (λ (f : List ℕ). take 8 f ++ 0 ∷ []) (sym is)) so.1
 
 -- before anything is written
-pub still_blank : (disk : Disk) → IsKept disk → is_blank disk.seen ≡ true → ((c : List ℕ) → disk.left_since disk.moment c → disk.may_leave c) → LeavesOnly disk disk IsUnborn
+pub still_blank : (disk : Disk) → IsOnDisk disk → is_blank disk.seen ≡ true → ((c : List ℕ) → disk.left_since disk.moment c → disk.may_leave c) → LeavesOnly disk disk IsUnborn
 still_blank disk kept blank now = started disk IsUnborn (λ c left. subst IsUnborn (sym (kept c (now c left))) (unborn disk.seen (blank_short disk.seen blank)))

@@ -1,0 +1,166 @@
+#!/usr/bin/env python3
+"""Counts the definitions that public contracts reach.
+
+    checks/cited.py [CRATE ..]          a row for each library, and the sum
+    checks/cited.py --list [CRATE ..]   also the definitions of specs/ that no public contract reaches
+
+A public contract is one of a function that the crate exports: of a `pub fn` of an exported name or module, of a trait for an exported
+type, and of what a ghost line of such an impl says, but for its invariant, which no caller sees. What it reaches are the definitions of
+specs/ that it names, in its own crate or another, and those that these name, and so on. A line counts where it is no import, no comment
+and not blank.
+
+It reads the sources alone: a name is found by the imports of its file. docs/ARCHITECTURE.md gives its numbers.
+"""
+import os
+import re
+import sys
+
+TOP = os.path.dirname(os.path.dirname(os.path.abspath(__file__)))
+IMPORT = re.compile(r"\s*(?:ghost )?use Rattle\.(\w+)\.(specs|proofs)\.([\w.]+)\.\{([^}]*)\}")
+HEAD = re.compile(r"^ *((?:abbrev |unfoldable |data |record |pub (?=record|data))*)(?:pub )?((?:record |data )?[^\s(){}:]+)(?= .*:)(?! =)")
+NAME = re.compile(r"[^\s(){}\[\],.;λ]+")
+FUNCTION = re.compile(r"^( *)pub (?:const |unsafe )*fn (\w+)")
+TRAIT_FUNCTION = re.compile(r"^( *)(?:const |unsafe )*fn (\w+)")
+IMPL = re.compile(r"^impl\b(?:<.*?>)? (?:.* for )?&?(?:mut )?(\w+)")
+TOOLS = ("tb_uses", "tb_bench", "tb_read", "tb_recorded", "tb_refusals", "tb_refusing")
+
+
+def read(path):
+    with open(path, encoding="utf-8") as file:
+        return file.read().splitlines()
+
+
+def crates():
+    names = [re.match(r"(\w+)", line)[1] for line in read(f"{TOP}/crates.txt") if re.match(r"\w", line)]
+    return [it for it in names if it not in TOOLS and not it.endswith("_tests")]
+
+
+def is_counted(line):
+    return line.strip() and not line.lstrip().startswith(("--", "use ", "pub mod "))
+
+
+def imports(lines):
+    """By name, the definitions that a file imports from specs/."""
+    found = {}
+    for line in lines:
+        match = IMPORT.match(line)
+        if match and match[2] == "specs":
+            for name in match[4].split(","):
+                found[name.strip()] = (match[1], match[3], name.strip())
+    return found
+
+
+def definitions(crate):
+    """Of each definition of specs/: the number of its lines, and the definitions that it names."""
+    found = {}
+    folder = f"{TOP}/crates/{crate}/specs"
+    for file in sorted(os.listdir(folder)) if os.path.isdir(folder) else ():
+        if not file.endswith(".antt"):
+            continue
+        module, lines = file[:-5], read(f"{folder}/{file}")
+        known, blocks, name = imports(lines), {}, None
+        for line in lines:
+            if not is_counted(line):
+                continue
+            head, indent = HEAD.match(line), len(line) - len(line.lstrip())
+            is_field = name in blocks and blocks[name]["indent"] < indent and head and not head[1]
+            if head and indent <= 2 and not is_field:
+                name = head[2]
+                blocks.setdefault(name, {"indent": indent, "lines": 0, "names": set()})
+            if name in blocks and not line.startswith("module"):
+                blocks[name]["lines"] += 1
+                blocks[name]["names"] |= set(NAME.findall(line))
+        for name, block in blocks.items():
+            named = {(crate, module, it) for it in block["names"] if it in blocks and it != name}
+            named |= {known[it] for it in block["names"] if it in known}
+            found[crate, module, name] = (block["lines"], named)
+    return found
+
+
+def exported(crate):
+    """The names and the public modules of a crate's root file."""
+    path = f"{TOP}/crates/{crate}/src/lib.rt"
+    text = "\n".join(read(path)) if os.path.exists(path) else ""
+    names = set()
+    for match in re.finditer(r"pub use [\w:]+::(?:\{([^}]*)\}|(\w+));", text):
+        names |= {it.strip() for it in (match[1] or match[2]).split(",") if it.strip()}
+    return names, set(re.findall(r"^pub mod (\w+);", text, re.M))
+
+
+def clause_lines(lines, at):
+    """The lines of a function's signature and clauses."""
+    indent = len(lines[at]) - len(lines[at].lstrip())
+    found = []
+    for line in lines[at:]:
+        if line == " " * indent + "{" or line == " " * indent + "}":
+            break
+        found.append(line)
+        if line.endswith(" {") and not re.search(r"\b(requires|ensures|invariant)\b", line) and line.count("{") > line.count("}") and len(found) == 1:
+            break
+        if line == " " * indent + "{}" or line.endswith(";"):
+            break
+    return found
+
+
+def contracts(crate):
+    """The definitions that the crate's public contracts name."""
+    names, modules = exported(crate)
+    found = set()
+    for at, _, files in os.walk(f"{TOP}/crates/{crate}/src"):
+        for file in files:
+            lines = read(f"{at}/{file}") if file.endswith(".rt") else []
+            known, is_public, of_trait = imports(lines), False, False
+            in_module = os.path.relpath(f"{at}/{file}", f"{TOP}/crates/{crate}/src").split("/")[0].removesuffix(".rt") in modules
+            for number, line in enumerate(lines):
+                impl = IMPL.match(line)
+                if line.startswith("impl"):
+                    is_public = bool(impl) and (impl[1] in names or in_module)
+                    of_trait = " for " in line
+                elif line and not line.startswith((" ", "}", "/", "{", "#", "ghost", ")", "where")):
+                    is_public = in_module or any(it in names for it in re.findall(r"(?:fn|struct|enum|trait) (\w+)", line)) and "pub" in line
+                    of_trait = "trait" in line
+                text = []
+                if is_public and re.match(r"\s+ghost (?!use|invariant)", line):
+                    text = [line]
+                    for more in lines[number + 1:]:
+                        if text[-1].rstrip().endswith("};"):
+                            break
+                        text.append(more)
+                elif is_public and (FUNCTION.match(line) or of_trait and TRAIT_FUNCTION.match(line)):
+                    text = clause_lines(lines, number)
+                for it in text:
+                    found |= {known[name] for name in NAME.findall(it) if name in known}
+    return found
+
+
+def main():
+    words = sys.argv[1:]
+    listed = "--list" in words
+    wanted = [it for it in words if it != "--list"] or crates()
+    every = {}
+    for crate in crates():
+        every |= definitions(crate)
+    reached, left = set(), set()
+    for crate in crates():
+        left |= contracts(crate)
+    while left:
+        one = left.pop()
+        if one in every and one not in reached:
+            reached.add(one)
+            left |= every[one][1]
+    total = [0, 0]
+    print("| crate | lines that public contracts reach | all lines of definitions |\n|---|---|---|")
+    for crate in wanted:
+        own = {it: every[it][0] for it in every if it[0] == crate}
+        row = [sum(count for it, count in own.items() if it in reached), sum(own.values())]
+        total = [total[0] + row[0], total[1] + row[1]]
+        if row[1]:
+            print(f"| {crate} | {row[0]} | {row[1]} |")
+        for it in sorted(own) if listed else ():
+            if it not in reached:
+                print(f"    {it[1]}.{it[2]}: {own[it]} lines")
+    print(f"| all | {total[0]} | {total[1]} |")
+
+
+if __name__ == "__main__":
+    main()
