@@ -8,7 +8,7 @@ use Rattle.avl_tree.specs.declared.tree.Tree.TheVariants.{Fork'}
 use Rattle.avl_tree.proofs.Steps.{GoesLeft, GoesRight}
 
 module _ {K V A : Type 0} {cmp : K → K → Ordering} {k : K} where
-  pub exchanges_left : {h : ℕ} {p : _} {t l r : Tree K V A} {a : K} {b : V} → t ≡ Fork' h p l r a b → GoesLeft cmp k (entries l) (a, b) (entries r) → IsAvl (Fork' h p l r a b) → (did : Bool) (l' : Tree K V A) (v v' : V) → Exchanges (is_at (cmp k)) l v did l' v' → Exchanges (is_at (cmp k)) t v did (Fork' h p l' r a b) v'
+  pub exchanges_left : {h : ℕ} {p : _} {t l r : Tree K V A} {a : K} {b : V} → t ≡ Fork' h p a l r b → GoesLeft cmp k (entries l) (a, b) (entries r) → IsAvl (Fork' h p a l r b) → (did : Bool) (l' : Tree K V A) (v v' : V) → Exchanges (is_at (cmp k)) l v did l' v' → Exchanges (is_at (cmp k)) t v did (Fork' h p a l' r b) v'
   exchanges_left {r = r} {a = a} {b = b} is w avl true l' v v' x =
       let height = x.height in
       rw is (record {
@@ -18,9 +18,9 @@ module _ {K V A : Type 0} {cmp : K → K → Ordering} {k : K} where
         written = ap (λ m. m ++ (a, b) ∷ entries r) x.written ∙ sym (w.written v);
       })
   exchanges_left {h = h} {p = p} {r = r} {a = a} {b = b} is w avl false l' v v' x =
-      rw is (w.found ∙ x.0, ap (λ m. Fork' h p m r a b) x.1, x.2)
+      rw is (w.found ∙ x.0, ap (λ m. Fork' h p a m r b) x.1, x.2)
 
-  pub exchanges_right : {h : ℕ} {p : _} {t l r : Tree K V A} {a : K} {b : V} → t ≡ Fork' h p l r a b → GoesRight cmp k (entries l) (a, b) (entries r) → IsAvl (Fork' h p l r a b) → (did : Bool) (r' : Tree K V A) (v v' : V) → Exchanges (is_at (cmp k)) r v did r' v' → Exchanges (is_at (cmp k)) t v did (Fork' h p l r' a b) v'
+  pub exchanges_right : {h : ℕ} {p : _} {t l r : Tree K V A} {a : K} {b : V} → t ≡ Fork' h p a l r b → GoesRight cmp k (entries l) (a, b) (entries r) → IsAvl (Fork' h p a l r b) → (did : Bool) (r' : Tree K V A) (v v' : V) → Exchanges (is_at (cmp k)) r v did r' v' → Exchanges (is_at (cmp k)) t v did (Fork' h p a l r' b) v'
   exchanges_right {l = l} {a = a} {b = b} is w avl true r' v v' x =
       let height = x.height in
       rw is (record {
@@ -30,4 +30,4 @@ module _ {K V A : Type 0} {cmp : K → K → Ordering} {k : K} where
         written = ap (λ m. entries l ++ (a, b) ∷ m) x.written ∙ sym (w.written v);
       })
   exchanges_right {h = h} {p = p} {l = l} {a = a} {b = b} is w avl false r' v v' x =
-      rw is (w.found ∙ x.0, ap (λ m. Fork' h p l m a b) x.1, x.2)
+      rw is (w.found ∙ x.0, ap (λ m. Fork' h p a l m b) x.1, x.2)

@@ -13,7 +13,7 @@ use Rattle.avl_tree.proofs.Steps.{GoesLeft, GoesRight, StandsHere}
 use denote.Ref.{MutBor}
 
 module _ {K V A : Type 0} where
-  pub keeps : {h : ℕ} {p : _} {l l' r r' : Tree K V A} {a : K} {b b' : V} → IsAvl (Fork' h p l r a b) → KeepsLinks l l' → KeepsLinks r r' → KeepsLinks (Fork' h p l r a b) (Fork' h p l' r' a b')
+  pub keeps : {h : ℕ} {p : _} {l l' r r' : Tree K V A} {a : K} {b b' : V} → IsAvl (Fork' h p a l r b) → KeepsLinks l l' → KeepsLinks r r' → KeepsLinks (Fork' h p a l r b) (Fork' h p a l' r' b')
   keeps avl k m =
       let left = k.height in
       let right = m.height in
@@ -23,7 +23,7 @@ module _ {K V A : Type 0} where
   same avl = record { balanced = avl; height = refl }
 
 module _ {F K V A R : Type 0} (c : Mut F (MutBor V × Unit {0}) (R × (MutBor V × Unit {0}))) {cmp : K → K → Ordering} {k : K} where
-  pub changes_left : {h : ℕ} {p : _} {t l r : Tree K V A} {a : K} {b : V} → t ≡ Fork' h p l r a b → GoesLeft cmp k (entries l) (a, b) (entries r) → IsAvl (Fork' h p l r a b) → (o : Option R) (l' : Tree K V A) (f f' : F) → Changes c (is_at (cmp k)) l f o f' l' → Changes c (is_at (cmp k)) t f o f' (Fork' h p l' r a b)
+  pub changes_left : {h : ℕ} {p : _} {t l r : Tree K V A} {a : K} {b : V} → t ≡ Fork' h p a l r b → GoesLeft cmp k (entries l) (a, b) (entries r) → IsAvl (Fork' h p a l r b) → (o : Option R) (l' : Tree K V A) (f f' : F) → Changes c (is_at (cmp k)) l f o f' l' → Changes c (is_at (cmp k)) t f o f' (Fork' h p a l' r b)
   changes_left {r = r} {a = a} {b = b} is w avl (Some v) l' f f' x =
       rw is (
         record {
@@ -36,9 +36,9 @@ module _ {F K V A R : Type 0} (c : Mut F (MutBor V × Unit {0}) (R × (MutBor V 
         keeps avl x.1 (same avl.1),
       )
   changes_left {h = h} {p = p} {r = r} {a = a} {b = b} is w avl None l' f f' x =
-      rw is (w.found ∙ x.0, x.1, ap (λ m. Fork' h p m r a b) x.2)
+      rw is (w.found ∙ x.0, x.1, ap (λ m. Fork' h p a m r b) x.2)
 
-  pub changes_right : {h : ℕ} {p : _} {t l r : Tree K V A} {a : K} {b : V} → t ≡ Fork' h p l r a b → GoesRight cmp k (entries l) (a, b) (entries r) → IsAvl (Fork' h p l r a b) → (o : Option R) (r' : Tree K V A) (f f' : F) → Changes c (is_at (cmp k)) r f o f' r' → Changes c (is_at (cmp k)) t f o f' (Fork' h p l r' a b)
+  pub changes_right : {h : ℕ} {p : _} {t l r : Tree K V A} {a : K} {b : V} → t ≡ Fork' h p a l r b → GoesRight cmp k (entries l) (a, b) (entries r) → IsAvl (Fork' h p a l r b) → (o : Option R) (r' : Tree K V A) (f f' : F) → Changes c (is_at (cmp k)) r f o f' r' → Changes c (is_at (cmp k)) t f o f' (Fork' h p a l r' b)
   changes_right {l = l} {a = a} {b = b} is w avl (Some v) r' f f' x =
       rw is (
         record {
@@ -51,9 +51,9 @@ module _ {F K V A R : Type 0} (c : Mut F (MutBor V × Unit {0}) (R × (MutBor V 
         keeps avl (same avl.0) x.1,
       )
   changes_right {h = h} {p = p} {l = l} {a = a} {b = b} is w avl None r' f f' x =
-      rw is (w.found ∙ x.0, x.1, ap (λ m. Fork' h p l m a b) x.2)
+      rw is (w.found ∙ x.0, x.1, ap (λ m. Fork' h p a l m b) x.2)
 
-  pub changes_here : {h : ℕ} {p : _} {t l r : Tree K V A} {a : K} {b : V} (b' : V) → t ≡ Fork' h p l r a b → StandsHere cmp k (entries l) (a, b) (entries r) → IsAvl (Fork' h p l r a b) → (v : R) (f f' : F) → CalledAtMut c f b v f' b' → Changes c (is_at (cmp k)) t f (Some v) f' (Fork' h p l r a b')
+  pub changes_here : {h : ℕ} {p : _} {t l r : Tree K V A} {a : K} {b : V} (b' : V) → t ≡ Fork' h p a l r b → StandsHere cmp k (entries l) (a, b) (entries r) → IsAvl (Fork' h p a l r b) → (v : R) (f f' : F) → CalledAtMut c f b v f' b' → Changes c (is_at (cmp k)) t f (Some v) f' (Fork' h p a l r b')
   changes_here {b = b} b' is w avl v f f' called =
       rw is (
         record {

@@ -13,4 +13,4 @@ module _ {K V : Type 0} (cmp : K → K → Ordering) (k : K) where
 
   pub first_left : {A : Type 0} (l : Tree K V A) (zs : List (K × V)) → l ≢ Empty → first_to cmp k (entries l ++ zs) ≡ first_to cmp k (entries l)
   first_left Empty zs n = absurd (n refl)
-  first_left (Fork' h p l r a b) zs n = at_first (entries l) (a, b) (entries r) zs
+  first_left (Fork' h p a l r b) zs n = at_first (entries l) (a, b) (entries r) zs

@@ -20,7 +20,7 @@ module _ {K V : Type 0} (compare : K → Ordering) (l r : Search (K × V)) (e : 
 -- the entries of the shape are those of the nodes
 pub entries-search_of : {K V A : Type 0} (t : Tree K V A) → entries_of (search_of t) ≡ entries t
 entries-search_of Empty = refl
-entries-search_of (Fork' h p l r k v) =
+entries-search_of (Fork' h p k l r v) =
     ap (λ m. m ++ (k, v) ∷ entries_of (search_of r)) (entries-search_of l) ∙ ap (λ m. entries l ++ (k, v) ∷ m) (entries-search_of r)
 
 -- no path is longer than the tree is high
@@ -34,7 +34,7 @@ path-fork compare l r e n a b =
 
 pub path-le-height : {K V A : Type 0} (compare : K → Ordering) (t : Tree K V A) → IsAvl t → path_length compare (search_of t) ≤ stored_height t
 path-le-height compare Empty a = omega arith
-path-le-height compare (Fork' h p l r k v) a =
+path-le-height compare (Fork' h p k l r v) a =
     let x = path-le-height compare l a.0 in
     let y = path-le-height compare r a.1 in
     let z = path-fork compare (search_of l) (search_of r) (k, v) (max (stored_height l) (stored_height r)) (omega (arith, x)) (omega (arith, y)) in
@@ -65,7 +65,7 @@ least_cases a b (suc (suc h)) n m e p q x y =
 -- a balanced tree has at least the nodes that its height needs
 pub least-le-length : {K V A : Type 0} (t : Tree K V A) → IsAvl t → least (stored_height t) ≤ length (entries t)
 least-le-length Empty a = omega arith
-least-le-length (Fork' h p l r k v) a =
+least-le-length (Fork' h p k l r v) a =
     let x = least-le-length l a.0 in
     let y = least-le-length r a.1 in
     let z = least_cases (stored_height l) (stored_height r) h (length (entries l)) (length (entries r)) a.2 a.3.0 a.3.1 x y in

@@ -24,7 +24,7 @@ other_way c true f f' x y x' y' r p = p
 other_way c false f f' x y x' y' r p = p
 
 module _ {F K V A R : Type 0} (c : Taking F V R) (b : Bool) {cmp : K → K → Ordering} {k : K} {h : ℕ} {p : _} {t l r : Tree K V A} {a : K} {z : V} where
-  pub beside_left : (d : V) → t ≡ Fork' h p l r a z → GoesLeft cmp k (entries l) (a, z) (entries r) → IsAvl (Fork' h p l r a z) → (o : Option R) (l' : Tree K V A) (f f' : F) (d' : V) → ChangesBeside c b (is_at (cmp k)) d l f o f' d' l' → ChangesBeside c b (is_at (cmp k)) d t f o f' d' (Fork' h p l' r a z)
+  pub beside_left : (d : V) → t ≡ Fork' h p a l r z → GoesLeft cmp k (entries l) (a, z) (entries r) → IsAvl (Fork' h p a l r z) → (o : Option R) (l' : Tree K V A) (f f' : F) (d' : V) → ChangesBeside c b (is_at (cmp k)) d l f o f' d' l' → ChangesBeside c b (is_at (cmp k)) d t f o f' d' (Fork' h p a l' r z)
   beside_left d is w avl (Some v) l' f f' d' x =
       let y = x.0 in
       rw is (
@@ -37,9 +37,9 @@ module _ {F K V A R : Type 0} (c : Taking F V R) (b : Bool) {cmp : K → K → O
         },
         keeps avl x.1 (same avl.1),
       )
-  beside_left d is w avl None l' f f' d' x = rw is (w.found ∙ x.0, x.1, x.2, ap (λ u. Fork' h p u r a z) x.3)
+  beside_left d is w avl None l' f f' d' x = rw is (w.found ∙ x.0, x.1, x.2, ap (λ u. Fork' h p a u r z) x.3)
 
-  pub beside_right : (d : V) → t ≡ Fork' h p l r a z → GoesRight cmp k (entries l) (a, z) (entries r) → IsAvl (Fork' h p l r a z) → (o : Option R) (r' : Tree K V A) (f f' : F) (d' : V) → ChangesBeside c b (is_at (cmp k)) d r f o f' d' r' → ChangesBeside c b (is_at (cmp k)) d t f o f' d' (Fork' h p l r' a z)
+  pub beside_right : (d : V) → t ≡ Fork' h p a l r z → GoesRight cmp k (entries l) (a, z) (entries r) → IsAvl (Fork' h p a l r z) → (o : Option R) (r' : Tree K V A) (f f' : F) (d' : V) → ChangesBeside c b (is_at (cmp k)) d r f o f' d' r' → ChangesBeside c b (is_at (cmp k)) d t f o f' d' (Fork' h p a l r' z)
   beside_right d is w avl (Some v) r' f f' d' x =
       let y = x.0 in
       rw is (
@@ -52,9 +52,9 @@ module _ {F K V A R : Type 0} (c : Taking F V R) (b : Bool) {cmp : K → K → O
         },
         keeps avl (same avl.0) x.1,
       )
-  beside_right d is w avl None r' f f' d' x = rw is (w.found ∙ x.0, x.1, x.2, ap (λ u. Fork' h p l u a z) x.3)
+  beside_right d is w avl None r' f f' d' x = rw is (w.found ∙ x.0, x.1, x.2, ap (λ u. Fork' h p a l u z) x.3)
 
-  pub beside_here : (d : V) → t ≡ Fork' h p l r a z → StandsHere cmp k (entries l) (a, z) (entries r) → IsAvl (Fork' h p l r a z) → (o : Option R) (z' : V) (f f' : F) (d' : V) → IsSome o → IfSome o (λ v. CalledAtBoth c b f d z v f' d' z') → ChangesBeside c b (is_at (cmp k)) d t f o f' d' (Fork' h p l r a z')
+  pub beside_here : (d : V) → t ≡ Fork' h p a l r z → StandsHere cmp k (entries l) (a, z) (entries r) → IsAvl (Fork' h p a l r z) → (o : Option R) (z' : V) (f f' : F) (d' : V) → IsSome o → IfSome o (λ v. CalledAtBoth c b f d z v f' d' z') → ChangesBeside c b (is_at (cmp k)) d t f o f' d' (Fork' h p a l r z')
   beside_here d is w avl (Some v) z' f f' d' there y =
       rw is (
         record {
@@ -68,7 +68,7 @@ module _ {F K V A R : Type 0} (c : Taking F V R) (b : Bool) {cmp : K → K → O
       )
   beside_here d is w avl None z' f f' d' there y = absurd (cc)
 
-  pub apart_left : (u : Tree K V A) (k2 : K) → t ≡ Fork' h p l r a z → GoesLeft cmp k (entries l) (a, z) (entries r) → IsAvl (Fork' h p l r a z) → (o : Option R) (l' u' : Tree K V A) (f f' : F) → ChangesApart c (not b) (is_at (cmp k2)) (is_at (cmp k)) u l f o f' u' l' → ChangesApart c b (is_at (cmp k)) (is_at (cmp k2)) t u f o f' (Fork' h p l' r a z) u'
+  pub apart_left : (u : Tree K V A) (k2 : K) → t ≡ Fork' h p a l r z → GoesLeft cmp k (entries l) (a, z) (entries r) → IsAvl (Fork' h p a l r z) → (o : Option R) (l' u' : Tree K V A) (f f' : F) → ChangesApart c (not b) (is_at (cmp k2)) (is_at (cmp k)) u l f o f' u' l' → ChangesApart c b (is_at (cmp k)) (is_at (cmp k2)) t u f o f' (Fork' h p a l' r z) u'
   apart_left u k2 is w avl (Some v) l' u' f f' x =
       let y = x.0 in
       rw is (
@@ -87,9 +87,9 @@ module _ {F K V A R : Type 0} (c : Taking F V R) (b : Bool) {cmp : K → K → O
         x.1,
       )
   apart_left u k2 is w avl None l' u' f f' x =
-      rw is (elim x.0 [ inl n ↦ inr n | inr n ↦ inl (w.found ∙ n) ], x.1, ap (λ u. Fork' h p u r a z) x.3, x.2)
+      rw is (elim x.0 [ inl n ↦ inr n | inr n ↦ inl (w.found ∙ n) ], x.1, ap (λ u. Fork' h p a u r z) x.3, x.2)
 
-  pub apart_right : (u : Tree K V A) (k2 : K) → t ≡ Fork' h p l r a z → GoesRight cmp k (entries l) (a, z) (entries r) → IsAvl (Fork' h p l r a z) → (o : Option R) (r' u' : Tree K V A) (f f' : F) → ChangesApart c (not b) (is_at (cmp k2)) (is_at (cmp k)) u r f o f' u' r' → ChangesApart c b (is_at (cmp k)) (is_at (cmp k2)) t u f o f' (Fork' h p l r' a z) u'
+  pub apart_right : (u : Tree K V A) (k2 : K) → t ≡ Fork' h p a l r z → GoesRight cmp k (entries l) (a, z) (entries r) → IsAvl (Fork' h p a l r z) → (o : Option R) (r' u' : Tree K V A) (f f' : F) → ChangesApart c (not b) (is_at (cmp k2)) (is_at (cmp k)) u r f o f' u' r' → ChangesApart c b (is_at (cmp k)) (is_at (cmp k2)) t u f o f' (Fork' h p a l r' z) u'
   apart_right u k2 is w avl (Some v) r' u' f f' x =
       let y = x.0 in
       rw is (
@@ -108,9 +108,9 @@ module _ {F K V A R : Type 0} (c : Taking F V R) (b : Bool) {cmp : K → K → O
         x.1,
       )
   apart_right u k2 is w avl None r' u' f f' x =
-      rw is (elim x.0 [ inl n ↦ inr n | inr n ↦ inl (w.found ∙ n) ], x.1, ap (λ u. Fork' h p l u a z) x.3, x.2)
+      rw is (elim x.0 [ inl n ↦ inr n | inr n ↦ inl (w.found ∙ n) ], x.1, ap (λ u. Fork' h p a l u z) x.3, x.2)
 
-  pub apart_here : (u : Tree K V A) (k2 : K) → t ≡ Fork' h p l r a z → StandsHere cmp k (entries l) (a, z) (entries r) → IsAvl (Fork' h p l r a z) → (o : Option R) (z' : V) (u' : Tree K V A) (f f' : F) → ChangesBeside c b (is_at (cmp k2)) z u f o f' z' u' → ChangesApart c b (is_at (cmp k)) (is_at (cmp k2)) t u f o f' (Fork' h p l r a z') u'
+  pub apart_here : (u : Tree K V A) (k2 : K) → t ≡ Fork' h p a l r z → StandsHere cmp k (entries l) (a, z) (entries r) → IsAvl (Fork' h p a l r z) → (o : Option R) (z' : V) (u' : Tree K V A) (f f' : F) → ChangesBeside c b (is_at (cmp k2)) z u f o f' z' u' → ChangesApart c b (is_at (cmp k)) (is_at (cmp k2)) t u f o f' (Fork' h p a l r z') u'
   apart_here u k2 is w avl (Some v) z' u' f f' x =
       let y = x.0 in
       rw is (
@@ -128,7 +128,7 @@ module _ {F K V A R : Type 0} (c : Taking F V R) (b : Bool) {cmp : K → K → O
         keeps avl (same avl.0) (same avl.1),
         x.1,
       )
-  apart_here u k2 is w avl None z' u' f f' x = rw is (inr x.0, x.1, ap (λ y. Fork' h p l r a y) x.2, x.3)
+  apart_here u k2 is w avl None z' u' f f' x = rw is (inr x.0, x.1, ap (λ y. Fork' h p a l r y) x.2, x.3)
 
 -- one key is below the other: where the lower one goes or stands, and where both values are written
 module _ {K : Type 0} {cmp : K → K → Ordering} (o : IsTotalOrder cmp) (low high : K) where
@@ -178,8 +178,8 @@ module _ {K : Type 0} {cmp : K → K → Ordering} (o : IsTotalOrder cmp) (low h
           let y = stands_here o high (set_value (is_at (cmp low)) l v) e r q (after v e s (x.written v)) in
           ap (λ es. set_value (is_at (cmp high)) es w) (x.written v) ∙ y.written w
 
-module _ {F K V A R : Type 0} (c : Taking F V R) (b : Bool) {cmp : K → K → Ordering} (o : IsTotalOrder cmp) (low high : K) {h : ℕ} {p : _} {t l r : Tree K V A} {a : K} {z : V} (is : t ≡ Fork' h p l r a z) (avl : IsAvl (Fork' h p l r a z)) (s : IsOrdered cmp (entries l ++ (a, z) ∷ entries r)) where
-  pub both_right : Greater ≡ cmp low a → Greater ≡ cmp high a → (v : Option R) (r' : Tree K V A) (f f' : F) → ChangesBoth c b (is_at (cmp low)) (is_at (cmp high)) r f v f' r' → ChangesBoth c b (is_at (cmp low)) (is_at (cmp high)) t f v f' (Fork' h p l r' a z)
+module _ {F K V A R : Type 0} (c : Taking F V R) (b : Bool) {cmp : K → K → Ordering} (o : IsTotalOrder cmp) (low high : K) {h : ℕ} {p : _} {t l r : Tree K V A} {a : K} {z : V} (is : t ≡ Fork' h p a l r z) (avl : IsAvl (Fork' h p a l r z)) (s : IsOrdered cmp (entries l ++ (a, z) ∷ entries r)) where
+  pub both_right : Greater ≡ cmp low a → Greater ≡ cmp high a → (v : Option R) (r' : Tree K V A) (f f' : F) → ChangesBoth c b (is_at (cmp low)) (is_at (cmp high)) r f v f' r' → ChangesBoth c b (is_at (cmp low)) (is_at (cmp high)) t f v f' (Fork' h p a l r' z)
   both_right m n (Some v) r' f f' x =
       let y = x.0 in
       rw is (
@@ -202,10 +202,10 @@ module _ {F K V A R : Type 0} (c : Taking F V R) (b : Bool) {cmp : K → K → O
           | inr q ↦ inr ((goes_right o high (entries l) (a, z) (entries r) n s).found ∙ q)
         ],
         x.1,
-        ap (λ u. Fork' h p l u a z) x.2,
+        ap (λ u. Fork' h p a l u z) x.2,
       )
 
-  pub both_left : Less ≡ cmp low a → Less ≡ cmp high a → (v : Option R) (l' : Tree K V A) (f f' : F) → ChangesBoth c b (is_at (cmp low)) (is_at (cmp high)) l f v f' l' → ChangesBoth c b (is_at (cmp low)) (is_at (cmp high)) t f v f' (Fork' h p l' r a z)
+  pub both_left : Less ≡ cmp low a → Less ≡ cmp high a → (v : Option R) (l' : Tree K V A) (f f' : F) → ChangesBoth c b (is_at (cmp low)) (is_at (cmp high)) l f v f' l' → ChangesBoth c b (is_at (cmp low)) (is_at (cmp high)) t f v f' (Fork' h p a l' r z)
   both_left m n (Some v) l' f f' x =
       let y = x.0 in
       rw is (
@@ -228,10 +228,10 @@ module _ {F K V A R : Type 0} (c : Taking F V R) (b : Bool) {cmp : K → K → O
           | inr q ↦ inr ((goes_left o high (entries l) (a, z) (entries r) n s).found ∙ q)
         ],
         x.1,
-        ap (λ u. Fork' h p u r a z) x.2,
+        ap (λ u. Fork' h p a u r z) x.2,
       )
 
-  pub both_apart : Less ≡ cmp low a → Greater ≡ cmp high a → (v : Option R) (l' r' : Tree K V A) (f f' : F) → ChangesApart c b (is_at (cmp low)) (is_at (cmp high)) l r f v f' l' r' → ChangesBoth c b (is_at (cmp low)) (is_at (cmp high)) t f v f' (Fork' h p l' r' a z)
+  pub both_apart : Less ≡ cmp low a → Greater ≡ cmp high a → (v : Option R) (l' r' : Tree K V A) (f f' : F) → ChangesApart c b (is_at (cmp low)) (is_at (cmp high)) l r f v f' l' r' → ChangesBoth c b (is_at (cmp low)) (is_at (cmp high)) t f v f' (Fork' h p a l' r' z)
   both_apart m n (Some v) l' r' f f' x =
       let y = x.0 in
       rw is (
@@ -254,10 +254,10 @@ module _ {F K V A R : Type 0} (c : Taking F V R) (b : Bool) {cmp : K → K → O
           | inr q ↦ inr ((goes_right o high (entries l) (a, z) (entries r) n s).found ∙ q)
         ],
         x.1,
-        λ i. Fork' h p (x.2 i) (x.3 i) a z,
+        λ i. Fork' h p a (x.2 i) (x.3 i) z,
       )
 
-  pub both_here_right : Equal ≡ cmp low a → Greater ≡ cmp high a → (v : Option R) (r' : Tree K V A) (z' : V) (f f' : F) → ChangesBeside c b (is_at (cmp high)) z r f v f' z' r' → ChangesBoth c b (is_at (cmp low)) (is_at (cmp high)) t f v f' (Fork' h p l r' a z')
+  pub both_here_right : Equal ≡ cmp low a → Greater ≡ cmp high a → (v : Option R) (r' : Tree K V A) (z' : V) (f f' : F) → ChangesBeside c b (is_at (cmp high)) z r f v f' z' r' → ChangesBoth c b (is_at (cmp low)) (is_at (cmp high)) t f v f' (Fork' h p a l r' z')
   both_here_right m n (Some v) r' z' f f' x =
       let y = x.0 in
       rw is (
@@ -274,9 +274,9 @@ module _ {F K V A R : Type 0} (c : Taking F V R) (b : Bool) {cmp : K → K → O
         keeps avl (same avl.0) x.1,
       )
   both_here_right m n None r' z' f f' x =
-      rw is (inr ((goes_right o high (entries l) (a, z) (entries r) n s).found ∙ x.0), x.1, λ i. Fork' h p l (x.3 i) a (x.2 i))
+      rw is (inr ((goes_right o high (entries l) (a, z) (entries r) n s).found ∙ x.0), x.1, λ i. Fork' h p a l (x.3 i) (x.2 i))
 
-  pub both_left_here : Less ≡ cmp low a → Equal ≡ cmp high a → (v : Option R) (l' : Tree K V A) (z' : V) (f f' : F) → ChangesBeside c (not b) (is_at (cmp low)) z l f v f' z' l' → ChangesBoth c b (is_at (cmp low)) (is_at (cmp high)) t f v f' (Fork' h p l' r a z')
+  pub both_left_here : Less ≡ cmp low a → Equal ≡ cmp high a → (v : Option R) (l' : Tree K V A) (z' : V) (f f' : F) → ChangesBeside c (not b) (is_at (cmp low)) z l f v f' z' l' → ChangesBoth c b (is_at (cmp low)) (is_at (cmp high)) t f v f' (Fork' h p a l' r z')
   both_left_here m n (Some v) l' z' f f' x =
       let y = x.0 in
       rw is (
@@ -293,7 +293,7 @@ module _ {F K V A R : Type 0} (c : Taking F V R) (b : Bool) {cmp : K → K → O
         keeps avl x.1 (same avl.1),
       )
   both_left_here m n None l' z' f f' x =
-      rw is (inl ((goes_left o low (entries l) (a, z) (entries r) m s).found ∙ x.0), x.1, λ i. Fork' h p (x.3 i) r a (x.2 i))
+      rw is (inl ((goes_left o low (entries l) (a, z) (entries r) m s).found ∙ x.0), x.1, λ i. Fork' h p a (x.3 i) r (x.2 i))
 
 -- two keys of which one is below the other are not at one place, so the order of the writes makes no difference
 module _ {K : Type 0} {cmp : K → K → Ordering} (o : IsTotalOrder cmp) (low high : K) (q : cmp low high ≡ Less) where

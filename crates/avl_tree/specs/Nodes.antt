@@ -21,12 +21,12 @@ entry n = (n.key, n.value)
 -- the entries of a tree from the left to the right
 abbrev pub entries : {K V A : Type 0} → Tree K V A → List (K × V)
 entries Empty = []
-entries (Fork' h p l r k v) = entries l ++ (k, v) ∷ entries r
+entries (Fork' h p k l r v) = entries l ++ (k, v) ∷ entries r
 
 -- the height that the link to a tree keeps
 abbrev pub stored_height : {K V A : Type 0} → Tree K V A → ℕ
 stored_height Empty = 0
-stored_height (Fork' h p l r k v) = h
+stored_height (Fork' h p k l r v) = h
 
 -- neither height is more than this above the other
 abbrev pub DifferByAtMost : ℕ → ℕ → ℕ → Type 0
@@ -35,7 +35,7 @@ DifferByAtMost by l r = (l ≤ r + by) × (r ≤ l + by)
 -- each height is right, and no two sides of a node differ by more than one
 abbrev pub IsAvl : {K V A : Type 0} → Tree K V A → Type 0
 IsAvl Empty = Unit {0}
-IsAvl (Fork' h p l r k v) =
+IsAvl (Fork' h p k l r v) =
     IsAvl l
     × IsAvl r
     × (h ≡ max (stored_height l) (stored_height r) + 1)
@@ -44,7 +44,7 @@ IsAvl (Fork' h p l r k v) =
 -- the root of a balanced tree, after one of its sides has become one level higher or lower
 abbrev pub IsNearlyAvl : {K V A : Type 0} → Tree K V A → Type 0
 IsNearlyAvl Empty = Unit {0}
-IsNearlyAvl (Fork' h p l r k v) =
+IsNearlyAvl (Fork' h p k l r v) =
     IsAvl l
     × IsAvl r
     × (max (stored_height l) (stored_height r) < 250)
@@ -53,7 +53,7 @@ IsNearlyAvl (Fork' h p l r k v) =
 -- the sides of the root differ by at most one, and h is its height over them
 abbrev pub IsLevelAt : {K V A : Type 0} → ℕ → Tree K V A → Type 0
 IsLevelAt h Empty = Unit {0}
-IsLevelAt h (Fork' _ p l r k v) =
+IsLevelAt h (Fork' _ p k l r v) =
     DifferByAtMost 1 (stored_height l) (stored_height r)
     × (h ≡ max (stored_height l) (stored_height r) + 1)
 
@@ -64,7 +64,7 @@ IsHeightOver l r h = (max l r ≤ h) × (h ≤ max l r + 1) × (DifferByAtMost 1
 -- t after its root is balanced again: the same entries, and a height that its sides allow
 abbrev pub SettlesTo : {K V A : Type 0} → Tree K V A → Tree K V A → Type 0
 SettlesTo Empty u = u ≡ Empty
-SettlesTo (Fork' h p l r k v) u =
+SettlesTo (Fork' h p k l r v) u =
     IsAvl u
     × (entries u ≡ entries l ++ (k, v) ∷ entries r)
     × IsHeightOver (stored_height l) (stored_height r) (stored_height u)
@@ -90,7 +90,7 @@ pub record LeadsTo {K V A : Type 0} (cmp : K → K → Ordering) (k : K) (t u : 
 -- the shape of the tree, with its entries
 abbrev pub search_of : {K V A : Type 0} → Tree K V A → Search (K × V)
 search_of Empty = leaf
-search_of (Fork' h p l r k v) = fork (search_of l) (k, v) (search_of r)
+search_of (Fork' h p k l r v) = fork (search_of l) (k, v) (search_of r)
 
 -- a tree of height h has height h' after an insert
 abbrev pub IsGrown : ℕ → ℕ → Type 0
@@ -115,22 +115,22 @@ IsShrunkAsTold told h h' = IsShrunk h h' × IsTold told h h'
 -- the root has no left side
 abbrev pub HasNoLeft : {K V A : Type 0} → Tree K V A → Type 0
 HasNoLeft Empty = Unit {0}
-HasNoLeft (Fork' h p l r k v) = l ≡ Empty
+HasNoLeft (Fork' h p k l r v) = l ≡ Empty
 
 -- the root has a left side
 abbrev pub HasLeft : {K V A : Type 0} → Tree K V A → Type 0
 HasLeft Empty = ⊥
-HasLeft (Fork' h p l r k v) = l ≢ Empty
+HasLeft (Fork' h p k l r v) = l ≢ Empty
 
 -- the entries of the two sides of the root
 abbrev pub beside_root : {K V A : Type 0} → Tree K V A → List (K × V)
 beside_root Empty = []
-beside_root (Fork' h p l r k v) = entries l ++ entries r
+beside_root (Fork' h p k l r v) = entries l ++ entries r
 
 -- the entry of the root
 abbrev pub root_entry : {K V A : Type 0} → Tree K V A → Option (K × V)
 root_entry Empty = None
-root_entry (Fork' h p l r k v) = Some (k, v)
+root_entry (Fork' h p k l r v) = Some (k, v)
 
 -- a tree t and a value v after the value at the key that passes the test was exchanged for v, where there is one
 pub record Exchanged {K V A : Type 0} (test : K → Bool) (t : Tree K V A) (v : V) (t' : Tree K V A) (v' : V) : Type 0 where
@@ -146,12 +146,12 @@ Exchanges test t v false t' v' = (lookup test (entries t) ≡ None) × (t' ≡ t
 -- the nodes of a chain through left sides have no right side
 abbrev pub IsSpareChain : {K V A : Type 0} → Tree K V A → Type 0
 IsSpareChain Empty = Unit {0}
-IsSpareChain (Fork' h p l r k v) = IsSpareChain l × (r ≡ Empty)
+IsSpareChain (Fork' h p k l r v) = IsSpareChain l × (r ≡ Empty)
 
 -- how many nodes such a chain has
 abbrev pub chain_length : {K V A : Type 0} → Tree K V A → ℕ
 chain_length Empty = 0
-chain_length (Fork' h p l r k v) = chain_length l + 1
+chain_length (Fork' h p k l r v) = chain_length l + 1
 
 -- what the fields of a map keep: a balanced tree whose keys rise, its size, and a count of all nodes that fits
 pub record IsWhole {K V A : Type 0} (cmp : K → K → Ordering) (root : Tree K V A) (len spare : ℕ) : Type 0 where

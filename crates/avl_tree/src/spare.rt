@@ -38,9 +38,9 @@ fn free<K: Drop, V: Drop, A: Allocator>(mut chain: Tree<K, V, A>) {
             Tree::Empty => return,
             Tree::Fork(_, node) => {
                 let Node {
+                    key: _,
                     left,
                     right: _,
-                    key: _,
                     value: _,
                 } = Box::into_inner(node);
                 chain = left;
@@ -56,9 +56,9 @@ fn make<K: Default + Drop, V: Default + Drop, A: Allocator>(
     ensures bare { IfOk result (λ b. IsBare b.value) }
 {
     let node = Node {
+        key: K::default(),
         left: Tree::Empty,
         right: Tree::Empty,
-        key: K::default(),
         value: V::default(),
     };
     match Box::new(alloc, node) {

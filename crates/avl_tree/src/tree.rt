@@ -18,13 +18,14 @@ pub enum Tree<K, V, A: Allocator> {
 
 /// A node.
 ///
-/// A search reads the sides and the key alone, so they stand first, side by side. What a spare node holds is never read.
+/// A search reads the key and one of the sides, so they stand first, and the key before both: where a link holds a handle of its
+/// allocator, both sides and the key take more than the rest of a cache line. What a spare node holds is never read.
 #[cycle(avl)]
 #[derive(Drop)]
 pub struct Node<K, V, A: Allocator> {
+    pub key: K,
     pub left: Tree<K, V, A>,
     pub right: Tree<K, V, A>,
-    pub key: K,
     pub value: V,
 }
 

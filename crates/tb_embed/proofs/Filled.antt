@@ -6,7 +6,7 @@ use Rattle.tb_machine.specs.declared.serving.RunFault.{RunFault}
 use Rattle.tb_machine.specs.declared.serving.RunFault.TheVariants as fault
 use Rattle.tb_machine.specs.Histories.{State}
 use Rattle.tb_machine.specs.Scripts.{Pair}
-use Rattle.tb_machine.specs.Runs.{answer_bytes, Turns}
+use Rattle.tb_machine.specs.Runs.{answer_bytes, AnswersPair}
 use Rattle.tb_embed.specs.Filling.{Fills}
 
 -- a room as a writer: what was written begins with its name
@@ -28,13 +28,13 @@ named_same named name front bytes e = (ap head_of e, ap tail_of e)
 module _ (lent name named empty at stalled stalls : ℕ) (was is kept held : Bool) (start room bytes : List ℕ) (S T : State) (p : Pair)
     (same : name ≡ lent) (at_start : empty ≡ 0) (within : at ≤ length room) (full : is ≡ true → at ≡ length room) (back : lent ≡ named → bytes ≡ room) where
   abbrev Served : Result (Unit {0}) RunFault → Type 0
-  Served result = Turns result S T p (room_output name empty start stalled was kept) (room_output named at room stalls is held)
+  Served result = AnswersPair result S T p (room_output name empty start stalled was kept) (room_output named at room stalls is held)
 
   abbrev Begun : Result (Unit {0}) RunFault → Type 0
-  Begun result = Turns result S T p (room_output name 0 start stalled was kept) (room_output named at room stalls is held)
+  Begun result = AnswersPair result S T p (room_output name 0 start stalled was kept) (room_output named at room stalls is held)
 
   begun : (result : Result (Unit {0}) RunFault) → Served result → Begun result
-  begun result turn = subst (λ (n : ℕ). Turns result S T p (room_output name n start stalled was kept) (room_output named at room stalls is held)) at_start turn
+  begun result turn = subst (λ (n : ℕ). AnswersPair result S T p (room_output name n start stalled was kept) (room_output named at room stalls is held)) at_start turn
 
   bytes_are : named ≡ name → room ≡ bytes
   bytes_are e = sym (back (sym (e ∙ same)))

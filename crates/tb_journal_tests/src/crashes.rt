@@ -1,29 +1,33 @@
 //! What is read again after a crash, at each moment and with each tear of a small run.
-use crate::steps::{ONE_RECORD, THREE_RECORDS, commit_two, expect, expect_at, expect_done, opened};
+use crate::steps::{ONE_RECORD, THREE_RECORDS, commit_two, expect, expect_at, opened, sure};
 use std::alloc::Global;
 use std::process::Abort;
 use tb_journal::Memory;
 
 /// What a torn write leaves in its range: bytes of the batch, zeros, and ones.
-const BLOCKS: [u8; 22] = [
-    0, 0, 0, 0x7a, 0xa3, 0x64, 0x60, //
-    255, 6, 0, 0, 0x53, 0x98, 0x6c, 0xa5, 115, 101, 99, 111, 110, 100, //
-    0,
+const TORN: &[[u8; 22]] = &[
+    [
+        0, 0, 0, 0x7a, 0xa3, 0x64, 0x60, //
+        255, 6, 0, 0, 0x53, 0x98, 0x6c, 0xa5, 115, 101, 99, 111, 110, 100, //
+        0,
+    ],
+    [0; 22],
+    [255; 22],
 ];
-
-const ZEROS: [u8; 22] = [0; 22];
-
-const ONES: [u8; 22] = [255; 22];
 
 /// What a crash leaves.
 pub(crate) fn left_after(rt: &impl Abort, file: &Memory, moment: usize, torn: &[u8]) -> Vec<u8> {
-    assert!(rt; moment <= file.moments());
-    file.after_crash(moment, torn).expect(rt, "memory")
+    expect(rt, moment <= file.moments());
+    sure(rt, file.after_crash(moment, torn))
 }
 
 /// Says whether the bytes are those of all three records. Any byte but 0 is an open gate, and stays as it was.
 fn is_whole(bytes: &[u8]) -> bool {
-    bytes.get(..18) == THREE_RECORDS.get(..18) && bytes.get(19..) == THREE_RECORDS.get(19..)
+    let mut whole = THREE_RECORDS;
+    if let Some(gate) = bytes.get(18) {
+        whole[18] = *gate;
+    }
+    bytes == whole.as_slice()
 }
 
 /// Opens what a crash leaves, and says how many records it has: one, or the whole batch as well.
@@ -40,6 +44,7 @@ fn records_after(
     expect(rt, bytes == ONE_RECORD.as_slice() || is_whole(bytes));
     let count = journal.count();
     drop(journal);
+    drop(left);
     count
 }
 
@@ -52,8 +57,8 @@ pub(crate) fn expect_records(
     least: usize,
     most: usize,
 ) {
-    for bytes in [&BLOCKS, &ZEROS, &ONES] {
-        for len in 0..=22 {
+    for bytes in TORN {
+        for len in 0..23 {
             let (torn, _) = bytes.split_at(len);
             let count = records_after(rt, alloc, file, moment, torn);
             expect_at(rt, moment as u64, least <= count && count <= most);
@@ -66,7 +71,7 @@ fn a_crash_leaves_the_whole_batch_or_none_of_it(rt: HostRuntime) {
     let alloc = rt.alloc();
     let mut journal = opened(&rt, alloc, &ONE_RECORD);
     let begin = journal.device().moments();
-    expect_done(&rt, commit_two(&mut journal));
+    sure(&rt, commit_two(&mut journal));
     let file = journal.device();
     expect(&rt, file.moments() == begin + 4);
     // Before the write of the blocks, behind it, and behind the sync.
@@ -83,7 +88,7 @@ fn a_crash_leaves_the_whole_batch_or_none_of_it(rt: HostRuntime) {
 fn an_open_gate_counts_with_all_its_batch(rt: HostRuntime) {
     let alloc = rt.alloc();
     let mut journal = opened(&rt, alloc, &ONE_RECORD);
-    expect_done(&rt, commit_two(&mut journal));
+    sure(&rt, commit_two(&mut journal));
     let gate = journal.device().moments().saturating_sub(1);
     for byte in 0..=255u8 {
         let count = records_after(&rt, alloc, journal.device(), gate, &[byte]);

@@ -1,6 +1,6 @@
 //! Files that are opened, refused or created over: worked rows.
 use crate::scans::expect_records;
-use crate::steps::{created, expect, expect_bytes, file_of, opened};
+use crate::steps::{created, expect, expect_bytes, expect_journal, file_of, opened};
 use std::alloc::Global;
 use std::process::Abort;
 use tb_journal::{Fault, Memory, OpenFault, Refusal, create, recover};
@@ -23,8 +23,7 @@ const BAD_CHECKSUM: [u8; 17] = [
 #[test]
 fn what_stands_behind_the_records_is_cut_off(rt: HostRuntime) {
     let journal = opened(&rt, rt.alloc(), &MORE_BEHIND);
-    expect(&rt, journal.count() == 1);
-    expect_bytes(&rt, journal.device().bytes(), &EMPTY_RECORD);
+    expect_journal(&rt, &journal, &EMPTY_RECORD, 1, 0);
     drop(journal);
 }
 
@@ -57,7 +56,7 @@ fn another_file_is_left_alone(rt: HostRuntime) {
 #[test]
 fn a_creation_that_was_cut_short_is_made_again(rt: HostRuntime) {
     let journal = created(&rt, rt.alloc(), &[84, 66, 0, 0]);
-    expect_bytes(&rt, journal.device().bytes(), b"TBJRNL01\0");
+    expect_journal(&rt, &journal, b"TBJRNL01\0", 0, 0);
     drop(journal);
 }
 

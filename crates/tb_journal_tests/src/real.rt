@@ -1,5 +1,5 @@
 //! Journals over files of the system, in the folder that the tests run in.
-use crate::steps::{ONE_RECORD, THREE_RECORDS, expect, expect_bytes, expect_done};
+use crate::steps::{ONE_RECORD, THREE_RECORDS, expect, expect_bytes, sure};
 use std::fs;
 use std::fs::{File, Files};
 use std::process::Abort;
@@ -21,7 +21,7 @@ const DAMAGED: [u8; 19] = [
 
 /// Opens a file that is there.
 fn file_at<R: Abort + Files<File = File>>(rt: &R, path: &str) -> Real {
-    Real::open(rt, path).ok().expect(rt, "a file")
+    sure(rt, Real::open(rt, path))
 }
 
 /// Says whether a file that is not opened is locked; otherwise it is for what the system answers.
@@ -34,30 +34,29 @@ fn is_locked<R: Abort + Files<File = File>>(rt: &R, path: &str) -> bool {
 
 /// A file has these bytes.
 fn expect_file<R: Abort + Files<File = File> + AllocGlobal>(rt: &R, path: &str, want: &[u8]) {
-    let found = fs::read(rt, path).ok().expect(rt, "a file");
+    let found = sure(rt, fs::read(rt, path));
     expect_bytes(rt, &found, want);
     drop(found);
 }
 
 /// Makes a journal of one record. As long as it is held no other opens its file.
 fn make<R: Abort + Files<File = File> + AllocGlobal>(rt: &R, path: &str) {
-    let real = Real::make(rt, path).ok().expect(rt, "a file");
-    let mut journal = create(rt.alloc(), real).ok().expect(rt, "a journal");
-    expect_done(rt, journal.append(&[97, 98]));
-    expect_done(rt, journal.commit());
-    let locked = is_locked(rt, path);
+    let real = sure(rt, Real::make(rt, path));
+    let mut journal = sure(rt, create(rt.alloc(), real));
+    sure(rt, journal.append(&[97, 98]));
+    sure(rt, journal.commit());
+    expect(rt, is_locked(rt, path));
     drop(journal);
-    expect(rt, locked);
 }
 
 /// Opens the journal again, and commits two records more.
 fn go_on<R: Abort + Files<File = File> + AllocGlobal>(rt: &R, path: &str) {
     let real = file_at(rt, path);
-    let mut journal = recover(rt.alloc(), real).ok().expect(rt, "a journal");
+    let mut journal = sure(rt, recover(rt.alloc(), real));
     expect(rt, journal.count() == 1);
-    expect_done(rt, journal.append(&[]));
-    expect_done(rt, journal.append(b"second"));
-    expect_done(rt, journal.commit());
+    sure(rt, journal.append(&[]));
+    sure(rt, journal.append(b"second"));
+    sure(rt, journal.commit());
     drop(journal);
 }
 
@@ -69,7 +68,7 @@ fn a_journal_in_a_file(rt: HostRuntime) {
     expect_file(&rt, path, &ONE_RECORD);
     go_on(&rt, path);
     expect_file(&rt, path, &THREE_RECORDS);
-    expect(&rt, fs::remove_file(&rt, path).is_ok());
+    sure(&rt, fs::remove_file(&rt, path));
 }
 
 /// Opens the journal of a file: the number of its records, or why it is refused.
@@ -99,10 +98,10 @@ fn expect_opened<R: Abort + Files<File = File> + AllocGlobal>(
     left: &[u8],
 ) {
     let path = "a_file_that_is_opened.tbj";
-    expect(rt, fs::write(rt, path, bytes).is_ok());
+    sure(rt, fs::write(rt, path, bytes));
     expect(rt, opened(rt, path) == want);
     expect_file(rt, path, left);
-    expect(rt, fs::remove_file(rt, path).is_ok());
+    sure(rt, fs::remove_file(rt, path));
 }
 
 #[test]

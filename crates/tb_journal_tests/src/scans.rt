@@ -1,10 +1,9 @@
 //! Files that are read record by record, in pieces: worked rows.
-ghost use Rattle.std.specs.Prelude.{IfSome};
 ghost use Rattle.tb_journal.specs.Memory.{memory_disk};
 ghost use Rattle.tb_journal.specs.Ready.{IsReady};
 
 use crate::steps::{
-    ONE_RECORD, THREE_RECORDS, commit_both, expect, expect_at, file_of, file_of_two, sevens,
+    ONE_RECORD, THREE_RECORDS, commit_both, expect, expect_at, file_of, file_of_two, sevens, sure,
 };
 use std::alloc::Global;
 use std::process::Abort;
@@ -12,6 +11,9 @@ use tb_journal::{Extent, Fault, Journal, Memory, OpenFault, Refusal, Scan, creat
 
 /// A file is read in pieces of so many bytes.
 const PIECE: usize = 65_536;
+
+/// The last block of the three records is not whole.
+const DAMAGED: Refusal = Refusal::Damaged { at: 26 };
 
 /// Reads these records from a file, one by one, and then what stands behind them. Says where they end.
 fn expect_scan(
@@ -21,7 +23,7 @@ fn expect_scan(
     records: &[&[u8]],
     behind: Result<bool, OpenFault>,
 ) -> Extent {
-    let mut scan = Scan::start(alloc, file).ok().expect(rt, "a journal");
+    let mut scan = sure(rt, Scan::start(alloc, file));
     for want in records {
         expect(rt, scan.next(file) == Ok(true));
         expect(rt, scan.record() == *want);
@@ -97,7 +99,7 @@ fn a_record_stands_in_two_pieces(rt: HostRuntime) {
 #[test]
 fn the_last_block_is_cut_at_each_byte(rt: HostRuntime) {
     let alloc = rt.alloc();
-    let damaged = Err(OpenFault::Refused(Refusal::Damaged { at: 26 }));
+    let damaged = Err(OpenFault::Refused(DAMAGED));
     for len in 26..40 {
         let (bytes, _) = THREE_RECORDS.split_at(len);
         // Of a gate alone nothing was written.
@@ -111,61 +113,76 @@ fn damage_is_told_behind_good_records(rt: HostRuntime) {
     let alloc = rt.alloc();
     let mut bytes = THREE_RECORDS;
     bytes[39] = 101;
-    let damaged = Err(OpenFault::Refused(Refusal::Damaged { at: 26 }));
+    let damaged = Err(OpenFault::Refused(DAMAGED));
     let _extent = expect_records(&rt, alloc, &bytes, &[b"ab", &[]], damaged);
     let mut file = file_of(&rt, alloc, &bytes);
     let answer = count_of(alloc, &mut file);
     drop(file);
-    expect(
-        &rt,
-        answer == Err(OpenFault::Refused(Refusal::Damaged { at: 26 })),
-    );
+    expect(&rt, answer == Err(OpenFault::Refused(DAMAGED)));
 }
 
-/// A start takes a sync and a look; each piece more takes a look, as does the end.
+/// What is counted where the call of a number fails. A start takes a sync and a look; each piece more takes a look, as
+/// does the end.
+const COUNTS: &[(u64, Result<usize, OpenFault>)] = &[
+    (1, Err(OpenFault::Device(Fault::Failed))),
+    (2, Err(OpenFault::Device(Fault::Failed))),
+    (3, Err(OpenFault::Device(Fault::Failed))),
+    (4, Err(OpenFault::Device(Fault::Failed))),
+    (5, Ok(2)),
+];
+
 #[test]
 fn each_call_fails_in_turn(rt: HostRuntime) {
     let alloc = rt.alloc();
     let long = sevens(&rt, alloc, 2 * PIECE);
     let mut file = file_of_two(&rt, alloc, b"ab", &long);
     drop(long);
-    for number in 1..=4 {
-        file.fail_at(number);
-        let answer = count_of(alloc, &mut file);
-        expect_at(&rt, number, answer == Err(OpenFault::Device(Fault::Failed)));
+    for (number, want) in COUNTS {
+        file.fail_at(*number);
+        expect_at(&rt, *number, count_of(alloc, &mut file) == *want);
     }
-    file.fail_at(5);
+    drop(file);
+}
+
+/// The file of a journal of this record and another, where there is memory for it.
+fn some_file(alloc: Global, record: &[u8]) -> Option<Memory> {
+    let file = Memory::new(alloc, Vec::new(alloc)).ok()?;
+    match create(alloc, file) {
+        Ok(journal) => {
+            let mut journal = journal;
+            match commit_both(&mut journal, record, b"ab") {
+                Ok(()) => Some(journal.into_device()),
+                Err(_) => {
+                    drop(journal);
+                    None
+                }
+            }
+        }
+        Err(failed) => {
+            drop(failed);
+            None
+        }
+    }
+}
+
+/// Reads a file of a long record to its end, where there is memory for it.
+fn count_long(alloc: Global) -> Option<Result<usize, OpenFault>> {
+    let long = vec![in alloc; 7u8; 2 * PIECE].ok()?;
+    let given = some_file(alloc, &long);
+    drop(long);
+    let mut file = given?;
     let answer = count_of(alloc, &mut file);
     drop(file);
-    expect(&rt, answer == Ok(2));
-}
-
-/// A journal without records, where there is memory for it.
-fn some_journal(alloc: Global) -> Option<Journal<Memory>>
-    ensures { IfSome result (IsReady memory_disk) }
-{
-    create(alloc, Memory::new(alloc, Vec::new(alloc)).ok()?).ok()
-}
-
-/// The file of a journal of two records, where there is memory for it.
-fn some_file(alloc: Global) -> Option<Memory> {
-    let long = vec![in alloc; 7u8; 2 * PIECE].ok()?;
-    let mut journal = some_journal(alloc)?;
-    commit_both(&mut journal, &long, b"ab").ok()?;
-    Some(journal.into_device())
+    Some(answer)
 }
 
 /// Where no memory is left the fault says so: `rt try --test --fail-alloc n` refuses the nth allocation of each test,
 /// that of the window and its growth among them.
 #[test]
 fn a_growth_may_be_refused(rt: HostRuntime) {
-    let alloc = rt.alloc();
-    if let Some(mut file) = some_file(alloc) {
-        let answer = count_of(alloc, &mut file);
-        drop(file);
-        expect(
-            &rt,
-            answer == Ok(2) || answer == Err(OpenFault::Device(Fault::Memory)),
-        );
+    match count_long(rt.alloc()) {
+        Some(Ok(count)) => expect(&rt, count == 2),
+        Some(Err(fault)) => expect(&rt, fault == OpenFault::Device(Fault::Memory)),
+        None => {}
     }
 }

@@ -43,24 +43,24 @@ pub(crate) fn expect_bytes(rt: &impl Abort, found: &[u8], want: &[u8]) {
     expect(rt, found == want);
 }
 
-/// What a call answers that a test wants to succeed.
-pub(crate) fn expect_done(rt: &impl Abort, answer: Result<(), Fault>)
-    ensures { answer ≡ Ok tt }
+/// The value of a call that a test wants to succeed.
+pub(crate) fn sure<T: Drop, E: Drop>(rt: &impl Abort, answer: Result<T, E>) -> T
+    ensures { answer ≡ Ok result }
 {
-    assert!(rt; answer == Ok(()));
+    answer.ok().expect(rt, "no fault")
 }
 
 /// So many bytes, each of them 7.
 pub(crate) fn sevens(rt: &impl Abort, alloc: Global, len: usize) -> Vec<u8>
     ensures { vec_len result ≡ len }
 {
-    vec![in alloc; 7u8; len].ok().expect(rt, "memory")
+    sure(rt, vec![in alloc; 7u8; len])
 }
 
 /// A file of these bytes, all of them on the disk.
 pub(crate) fn file_of(rt: &impl Abort, alloc: Global, bytes: &[u8]) -> Memory {
-    let bytes = Vec::from_slice(alloc, bytes).ok().expect(rt, "memory");
-    Memory::new(alloc, bytes).ok().expect(rt, "memory")
+    let bytes = sure(rt, Vec::from_slice(alloc, bytes));
+    sure(rt, Memory::new(alloc, bytes))
 }
 
 /// Creates a journal in a file of these bytes.
@@ -68,7 +68,7 @@ pub(crate) fn created(rt: &impl Abort, alloc: Global, bytes: &[u8]) -> Journal<M
     ensures { IsReady memory_disk result }
 {
     let file = file_of(rt, alloc, bytes);
-    create(alloc, file).ok().expect(rt, "a journal")
+    sure(rt, create(alloc, file))
 }
 
 /// Opens a journal's file, of which all bytes are on the disk.
@@ -76,7 +76,7 @@ pub(crate) fn opened(rt: &impl Abort, alloc: Global, bytes: &[u8]) -> Journal<Me
     ensures { IsReady memory_disk result }
 {
     let file = file_of(rt, alloc, bytes);
-    recover(alloc, file).ok().expect(rt, "a journal")
+    sure(rt, recover(alloc, file))
 }
 
 /// Compares the bytes of a journal's file, the number of the records in it, and of those that wait.
@@ -88,15 +88,8 @@ pub(crate) fn expect_journal(
     waiting: usize,
 ) {
     expect_bytes(rt, journal.device().bytes(), bytes);
-    expect(rt, journal.count() == count && journal.waiting() == waiting);
-}
-
-/// Lets a record wait.
-pub(crate) fn wait(journal: &mut Journal<Memory>, record: &[u8]) -> Result<(), Fault>
-    requires { IsReady memory_disk journal.old }
-    ensures { OnOk result (IsReady memory_disk journal.new) }
-{
-    journal.append(record)
+    expect(rt, journal.count() == count);
+    expect(rt, journal.waiting() == waiting);
 }
 
 /// Commits an empty record, and `second`, as one batch.
@@ -116,14 +109,14 @@ pub(crate) fn commit_both(
     requires { IsReady memory_disk journal.old }
     ensures { OnOk result (IsReady memory_disk journal.new) }
 {
-    wait(journal, first)?;
-    wait(journal, second)?;
+    journal.append(first)?;
+    journal.append(second)?;
     journal.commit()
 }
 
 /// The file of a journal of two records.
 pub(crate) fn file_of_two(rt: &impl Abort, alloc: Global, first: &[u8], second: &[u8]) -> Memory {
     let mut journal = created(rt, alloc, &[]);
-    expect_done(rt, commit_both(&mut journal, first, second));
+    sure(rt, commit_both(&mut journal, first, second));
     journal.into_device()
 }

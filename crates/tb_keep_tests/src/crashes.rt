@@ -3,7 +3,7 @@ ghost use Rattle.tb_journal.specs.Memory.{memory_disk};
 ghost use Rattle.tb_keep.specs.Keeping.{IsFresh};
 
 use crate::scripts::{
-    bytes_left, bytes_of, created, expect, file_of, kept, ledger, outcome, replies, rules, script,
+    bytes_left, bytes_of, created, expect, file_of, kept, outcome, replies, rules, script,
     script_from, serve, sure,
 };
 use std::alloc::Global;
@@ -12,17 +12,17 @@ use tb_journal::{Fault, Memory, OpenFault};
 use tb_keep::{Keeper, StartFault, create};
 
 /// What a torn write leaves in its range.
-const TORN: [&[u8]; 4] = [&[], &[0; 40], &[255; 40], &[255]];
+const TORN: &[&[u8]] = &[&[], &[0; 40], &[255; 40], &[255]];
 
 /// The pair from which on a client sends again where so many entries are in the file: that of the last one.
-const AGAIN: [usize; 5] = [0, 0, 1, 2, 5];
+const AGAIN: &[usize] = &[0, 0, 1, 2, 5];
 
 /// The ledger of a file with these bytes.
 fn started(rt: &impl Abort, alloc: Global, left: &[u8]) -> Keeper<Memory>
     ensures { IsFresh memory_disk result }
 {
     let file = file_of(rt, alloc, left);
-    ledger(rt, Keeper::start(alloc, file, rules(rt)))
+    sure(rt, Keeper::start(alloc, file, rules(rt)))
 }
 
 /// The number of its entries.
@@ -54,8 +54,11 @@ fn expect_goes_on(rt: &impl Abort, alloc: Global, left: &[u8], told: &[u8], entr
     let from = AGAIN.get(commit as usize).expect(rt, "at most 4 entries");
     let again = script_from(rt, alloc, *from);
     let (well, replies, last) = served_again(rt, alloc, left, &again);
-    expect(rt, entries.0 <= commit && commit <= entries.1);
-    expect(rt, well && last == 4 && told.ends_with(&replies));
+    expect(rt, entries.0 <= commit);
+    expect(rt, commit <= entries.1);
+    expect(rt, well);
+    expect(rt, last == 4);
+    expect(rt, told.ends_with(&replies));
 }
 
 /// Crashes at a moment, with the last write torn in each way.
@@ -67,10 +70,11 @@ fn expect_crash(
     moment: usize,
     entries: (u64, u64),
 ) {
-    assert!(rt; moment <= file.moments());
+    expect(rt, moment <= file.moments());
     for torn in TORN {
         let left = sure(rt, file.after_crash(moment, torn));
         expect_goes_on(rt, alloc, &left, told, entries);
+        drop(left);
     }
 }
 
@@ -108,19 +112,18 @@ fn is_told(rt: &impl Abort, alloc: Global, length: usize, count: usize) -> bool 
     replies(rt, alloc, &script(rt, alloc, count)).len() <= length
 }
 
-/// The entries that so many bytes of replies rest on. The fourth is that of the last pair.
+/// The pairs of which the last rests on one entry, on two, on three and on four.
+const RESTING: &[usize] = &[1, 2, 3, 6];
+
+/// The entries that so many bytes of replies rest on.
 fn entries_told(rt: &impl Abort, alloc: Global, length: usize) -> u64 {
-    if is_told(rt, alloc, length, 6) {
-        4
-    } else if is_told(rt, alloc, length, 3) {
-        3
-    } else if is_told(rt, alloc, length, 2) {
-        2
-    } else if is_told(rt, alloc, length, 1) {
-        1
-    } else {
-        0
+    let mut entries = 0u64;
+    for count in RESTING {
+        if is_told(rt, alloc, length, *count) {
+            entries = entries.saturating_add(1);
+        }
     }
+    entries
 }
 
 /// Serves the script over a keeper; gives the file as it reads, and the replies.

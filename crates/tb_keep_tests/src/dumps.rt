@@ -1,5 +1,5 @@
 //! The history of a kept file, read without a write.
-use crate::scripts::{expect, file_of, kept, rules, same, script};
+use crate::scripts::{expect, file_of, kept, rules, same, script, sure};
 use std::alloc::Global;
 use std::process::Abort;
 use tb_journal::{Fault, Memory, OpenFault};
@@ -19,7 +19,7 @@ fn dump_of(rt: &impl Abort, alloc: Global) -> Vec<u8> {
     let mut reader = Counting::new(script.as_slice());
     let mut writer = Counting::new(Vec::new(alloc));
     let result = dump(alloc, rules(rt).clients_max, None, &mut reader, &mut writer);
-    expect(rt, result.is_ok());
+    sure(rt, result);
     writer.into_inner()
 }
 

@@ -2,9 +2,7 @@
 ghost use Rattle.tb_journal.specs.Memory.{memory_disk};
 ghost use Rattle.tb_journal.specs.Ready.{IsReady};
 
-use crate::scripts::{
-    bytes_of, change, created, expect, file_of, outcome, rules, same, script, sure,
-};
+use crate::scripts::{bytes_of, change, created, expect, file_of, outcome, rules, same, sure};
 use std::alloc::Global;
 use std::process::Abort;
 use tb_journal::{Fault, Journal, Memory, OpenFault, Refusal};
@@ -39,7 +37,7 @@ fn append_some(rt: &impl Abort, journal: &mut Journal<Memory>, bytes: &[u8])
 /// A file of these records, of which an empty one is left out.
 fn file_with(rt: &impl Abort, alloc: Global, first: &[u8], second: &[u8], third: &[u8]) -> Memory {
     let file = file_of(rt, alloc, &[]);
-    let mut journal = tb_journal::create(alloc, file).ok().expect(rt, "a journal");
+    let mut journal = sure(rt, tb_journal::create(alloc, file));
     append_some(rt, &mut journal, first);
     append_some(rt, &mut journal, second);
     append_some(rt, &mut journal, third);
@@ -72,7 +70,8 @@ fn a_new_file(rt: HostRuntime) {
 pub fn expect_fault(rt: &impl Abort, alloc: Global, bytes: &[u8], rules: Rules, fault: StartFault) {
     let file = file_of(rt, alloc, bytes);
     let (found, left) = outcome(rt, alloc, Keeper::open(alloc, file, rules));
-    expect(rt, found == Some(fault) && same(&left, bytes));
+    expect(rt, found == Some(fault));
+    expect(rt, same(&left, bytes));
 }
 
 const HEAD: [u8; 6] = [84, 66, 75, 49, 1, 2];
@@ -87,118 +86,160 @@ const THIRD: usize = 94;
 
 const IN_THIRD: usize = 102;
 
-/// The entry of a register of client 7: its commit number, its time, and the frame.
-fn entry(rt: &impl Abort, alloc: Global, commit: u8, time: u8) -> Vec<u8> {
-    let numbers = [commit, 0, 0, 0, 0, 0, 0, 0, time, 0, 0, 0, 0, 0, 0, 0];
-    let mut bytes = sure(rt, Vec::from_slice(alloc, &numbers));
-    let pair = script(rt, alloc, 1);
-    sure(
-        rt,
-        bytes.extend_from_slice(pair.get(8..).unwrap_or_default()),
-    );
-    bytes
-}
+/// The entry of a register of client 7: its commit number 1, its time 10, and the frame.
+const FIRST: [u8; 64] = [
+    1, 0, 0, 0, 0, 0, 0, 0, 10, 0, 0, 0, 0, 0, 0, 0, //
+    7, 0, 0, 0, 0, 0, 0, 0, 0, 0, 0, 0, 0, 0, 0, 0, //
+    0, 0, 0, 0, 0, 0, 0, 0, 0, 0, 0, 0, 2, 0, 0, 0, //
+    0, 0, 0, 0, 0, 0, 0, 0, 0, 0, 0, 0, 0, 0, 0, 0,
+];
 
-/// The fault of an entry.
-fn unfit(place: u64, cause: Unfit) -> StartFault {
-    StartFault::Entry(RestoreFault { place, cause })
-}
+/// The same with commit number 2.
+const EARLY: [u8; 64] = [
+    2, 0, 0, 0, 0, 0, 0, 0, 10, 0, 0, 0, 0, 0, 0, 0, //
+    7, 0, 0, 0, 0, 0, 0, 0, 0, 0, 0, 0, 0, 0, 0, 0, //
+    0, 0, 0, 0, 0, 0, 0, 0, 0, 0, 0, 0, 2, 0, 0, 0, //
+    0, 0, 0, 0, 0, 0, 0, 0, 0, 0, 0, 0, 0, 0, 0, 0,
+];
 
-/// A record that is too short.
-fn too_short(place: u64) -> StartFault {
-    StartFault::Record {
-        place,
-        fault: FrameFault::Short,
-    }
-}
+/// The same at the time 11.
+const AGAIN: [u8; 64] = [
+    2, 0, 0, 0, 0, 0, 0, 0, 11, 0, 0, 0, 0, 0, 0, 0, //
+    7, 0, 0, 0, 0, 0, 0, 0, 0, 0, 0, 0, 0, 0, 0, 0, //
+    0, 0, 0, 0, 0, 0, 0, 0, 0, 0, 0, 0, 2, 0, 0, 0, //
+    0, 0, 0, 0, 0, 0, 0, 0, 0, 0, 0, 0, 0, 0, 0, 0,
+];
+
+/// The first 15 bytes of an entry.
+const SHORT: [u8; 15] = [1, 0, 0, 0, 0, 0, 0, 0, 10, 0, 0, 0, 0, 0, 0];
 
 /// The block at this offset is damaged.
 pub fn damaged(at: usize) -> StartFault {
     StartFault::Journal(OpenFault::Refused(Refusal::Damaged { at }))
 }
 
-/// A file of these records is refused.
-fn refused(
-    rt: &impl Abort,
-    alloc: Global,
-    first: &[u8],
-    second: &[u8],
-    third: &[u8],
-    fault: StartFault,
-) {
-    let bytes = bytes_with(rt, alloc, first, second, third);
-    expect_fault(rt, alloc, &bytes, rules(rt), fault);
+/// The records of a file, of which an empty one is left out; the offset of a byte that is changed, or NOWHERE; and the
+/// fault.
+type Row = (
+    &'static [u8],
+    &'static [u8],
+    &'static [u8],
+    usize,
+    StartFault,
+);
+
+const NOWHERE: usize = usize::MAX;
+
+/// Files of these records are refused.
+fn expect_refused(rt: &impl Abort, alloc: Global, rows: &[Row]) {
+    for (first, second, third, at, fault) in rows {
+        let mut bytes = bytes_with(rt, alloc, first, second, third);
+        change(&mut bytes, *at, 77);
+        expect_fault(rt, alloc, &bytes, rules(rt), *fault);
+        drop(bytes);
+    }
 }
 
-/// The same where the byte at an offset is changed.
-fn refused_with(
-    rt: &impl Abort,
-    alloc: Global,
-    at: usize,
-    first: &[u8],
-    second: &[u8],
-    third: &[u8],
-    fault: StartFault,
-) {
-    let mut bytes = bytes_with(rt, alloc, first, second, third);
-    change(&mut bytes, at, 77);
-    expect_fault(rt, alloc, &bytes, rules(rt), fault);
-}
+/// The first record is an entry, or another text, or is damaged.
+const WITHOUT_HEAD: &[Row] = &[
+    (&FIRST, &[], &[], NOWHERE, StartFault::Head),
+    (b"TBK2\x01\x02", &[], &[], NOWHERE, StartFault::Head),
+    (
+        &HEAD,
+        &[],
+        &[],
+        17,
+        StartFault::Journal(OpenFault::Refused(Refusal::Damaged { at: 8 })),
+    ),
+];
 
-/// The first record is no head, or is damaged.
 #[test]
 fn files_without_a_head(rt: HostRuntime) {
-    let alloc = rt.alloc();
-    let first = entry(&rt, alloc, 1, 10);
-    refused(&rt, alloc, &first, &[], &[], StartFault::Head);
-    refused(
-        &rt,
-        alloc,
-        &[84, 66, 75, 50, 1, 2],
-        &[],
-        &[],
-        StartFault::Head,
-    );
-    refused_with(&rt, alloc, 17, &HEAD, &[], &[], damaged(8));
+    expect_refused(&rt, rt.alloc(), WITHOUT_HEAD);
 }
 
-/// Files of one record behind the head or of two, where one is too short.
-fn expect_short(rt: &impl Abort, alloc: Global, first: &[u8], short: &[u8]) {
-    refused(rt, alloc, &HEAD, short, &[], too_short(1));
-    refused(rt, alloc, &HEAD, first, short, too_short(2));
-}
-
-/// Files where one entry may not come next: an early one, or the first one again.
-fn expect_unfit(rt: &impl Abort, alloc: Global, first: &[u8], early: &[u8], again: &[u8]) {
-    refused(rt, alloc, &HEAD, early, &[], unfit(1, Unfit::Commit));
-    refused(rt, alloc, &HEAD, first, early, unfit(2, Unfit::Time));
-    refused(rt, alloc, &HEAD, first, again, unfit(2, Unfit::NotNew));
-}
-
-/// Of an entry that may not come next and a damaged block the one is told that stands first.
-fn expect_first(rt: &impl Abort, alloc: Global, first: &[u8], early: &[u8]) {
-    refused_with(
-        rt,
-        alloc,
-        IN_THIRD,
+/// Files of one record behind the head or of two, where one is too short, or may not come next: an early one, or the first
+/// one again. Of an entry that may not come next and a damaged block the one is told that stands first.
+const REFUSED: &[Row] = &[
+    (
         &HEAD,
-        early,
-        first,
-        unfit(1, Unfit::Commit),
-    );
-    refused_with(rt, alloc, IN_SECOND, &HEAD, first, early, damaged(SECOND));
-    refused_with(rt, alloc, IN_THIRD, &HEAD, first, first, damaged(THIRD));
-}
+        &SHORT,
+        &[],
+        NOWHERE,
+        StartFault::Record {
+            place: 1,
+            fault: FrameFault::Short,
+        },
+    ),
+    (
+        &HEAD,
+        &FIRST,
+        &SHORT,
+        NOWHERE,
+        StartFault::Record {
+            place: 2,
+            fault: FrameFault::Short,
+        },
+    ),
+    (
+        &HEAD,
+        &EARLY,
+        &[],
+        NOWHERE,
+        StartFault::Entry(RestoreFault {
+            place: 1,
+            cause: Unfit::Commit,
+        }),
+    ),
+    (
+        &HEAD,
+        &FIRST,
+        &EARLY,
+        NOWHERE,
+        StartFault::Entry(RestoreFault {
+            place: 2,
+            cause: Unfit::Time,
+        }),
+    ),
+    (
+        &HEAD,
+        &FIRST,
+        &AGAIN,
+        NOWHERE,
+        StartFault::Entry(RestoreFault {
+            place: 2,
+            cause: Unfit::NotNew,
+        }),
+    ),
+    (
+        &HEAD,
+        &EARLY,
+        &FIRST,
+        IN_THIRD,
+        StartFault::Entry(RestoreFault {
+            place: 1,
+            cause: Unfit::Commit,
+        }),
+    ),
+    (
+        &HEAD,
+        &FIRST,
+        &EARLY,
+        IN_SECOND,
+        StartFault::Journal(OpenFault::Refused(Refusal::Damaged { at: SECOND })),
+    ),
+    (
+        &HEAD,
+        &FIRST,
+        &FIRST,
+        IN_THIRD,
+        StartFault::Journal(OpenFault::Refused(Refusal::Damaged { at: THIRD })),
+    ),
+];
 
 #[test]
 fn records_that_are_refused(rt: HostRuntime) {
-    let alloc = rt.alloc();
-    let first = entry(&rt, alloc, 1, 10);
-    let early = entry(&rt, alloc, 2, 10);
-    let again = entry(&rt, alloc, 2, 11);
-    expect_short(&rt, alloc, &first, first.get(..15).unwrap_or_default());
-    expect_unfit(&rt, alloc, &first, &early, &again);
-    expect_first(&rt, alloc, &first, &early);
+    expect_refused(&rt, rt.alloc(), REFUSED);
 }
 
 /// A file of a head is refused by other rules.
@@ -230,31 +271,44 @@ fn a_text_is_no_journal(rt: HostRuntime) {
     expect_fault(&rt, rt.alloc(), b"a text", rules(&rt), foreign());
 }
 
+/// Says whether a file is as it was, or, where it was opened, a new one.
+fn is_kept_or_new(left: &[u8], bytes: &[u8], opened: bool) -> bool {
+    same(left, bytes) || opened && is_new(left)
+}
+
 /// `start` opens what is there, and creates where nothing is.
 fn expect_start(rt: &impl Abort, alloc: Global, bytes: &[u8], want: Option<StartFault>) {
     let file = file_of(rt, alloc, bytes);
     let (found, left) = outcome(rt, alloc, Keeper::start(alloc, file, rules(rt)));
     expect(rt, found == want);
-    expect(rt, same(&left, bytes) || want.is_none() && is_new(&left));
+    expect(rt, is_kept_or_new(&left, bytes, want.is_none()));
 }
 
-/// Files that `start` opens, creates or refuses.
+/// Files that `start` opens, creates or refuses. The last one but one is whole.
+fn expect_starts(rt: &impl Abort, alloc: Global, whole: &[u8]) {
+    expect_start(rt, alloc, &[], None);
+    expect_start(rt, alloc, b"TBJRN\0\0", None);
+    expect_start(rt, alloc, b"TBJRNL01\0behind", None);
+    expect_start(rt, alloc, whole, None);
+    expect_start(rt, alloc, b"a text", Some(foreign()));
+}
+
 #[test]
 fn starts(rt: HostRuntime) {
     let alloc = rt.alloc();
-    let whole = bytes_with(&rt, alloc, &HEAD, &[], &[]);
-    expect_start(&rt, alloc, &[], None);
-    expect_start(&rt, alloc, b"TBJRN\0\0", None);
-    expect_start(&rt, alloc, b"TBJRNL01\0behind", None);
-    expect_start(&rt, alloc, &whole, None);
-    expect_start(&rt, alloc, b"a text", Some(foreign()));
+    expect_starts(&rt, alloc, &bytes_with(&rt, alloc, &HEAD, &[], &[]));
+}
+
+/// No ledger is created in a file of these bytes, which is as it was.
+fn expect_not_created(rt: &impl Abort, alloc: Global, bytes: &[u8]) {
+    let file = file_of(rt, alloc, bytes);
+    let (found, left) = outcome(rt, alloc, create(alloc, file, rules(rt)));
+    let not_empty = StartFault::Journal(OpenFault::Device(Fault::NotEmpty));
+    expect(rt, found == Some(not_empty));
+    expect(rt, same(&left, bytes));
 }
 
 #[test]
 fn nothing_is_created_where_something_stands(rt: HostRuntime) {
-    let alloc = rt.alloc();
-    let file = file_of(&rt, alloc, b"a text");
-    let (found, left) = outcome(&rt, alloc, create(alloc, file, rules(&rt)));
-    let not_empty = StartFault::Journal(OpenFault::Device(Fault::NotEmpty));
-    expect(&rt, found == Some(not_empty) && same(&left, b"a text"));
+    expect_not_created(&rt, rt.alloc(), b"a text");
 }

@@ -1,5 +1,5 @@
 //! Scripts by the bytes that the formats give, and what serves them.
-ghost use Rattle.std.specs.Prelude.{IfOk};
+ghost use Rattle.std.specs.Prelude.{◌≡◌, true, Ok};
 ghost use Rattle.tb_journal.specs.Memory.{memory_disk};
 ghost use Rattle.tb_keep.specs.Keeping.{IsFresh};
 
@@ -83,13 +83,17 @@ pub const LOOK_UP: [Line; 4] = [
     2 << 120,
 ];
 
-/// The value of a call that fails for want of memory alone, which the tests have.
-pub fn sure<T: Drop, E: Drop>(rt: &impl Abort, answer: Result<T, E>) -> T {
-    answer.ok().expect(rt, "memory")
+/// The value of a call that a test wants to succeed.
+pub fn sure<T: Drop, E: Drop>(rt: &impl Abort, answer: Result<T, E>) -> T
+    ensures { answer ≡ Ok result }
+{
+    answer.ok().expect(rt, "no fault")
 }
 
 /// What a test wants to hold.
-pub fn expect(rt: &impl Abort, holds: bool) {
+pub fn expect(rt: &impl Abort, holds: bool)
+    ensures { holds ≡ true }
+{
     assert!(rt; holds);
 }
 
@@ -146,26 +150,12 @@ pub fn file_of(rt: &impl Abort, alloc: Global, bytes: &[u8]) -> Memory {
     sure(rt, Memory::new(alloc, copy))
 }
 
-/// The ledger that a call gives.
-pub fn ledger(rt: &impl Abort, given: Result<Keeper<Memory>, NotKept<Memory>>) -> Keeper<Memory>
-    requires { IfOk given (IsFresh memory_disk) }
-    ensures { IsFresh memory_disk result }
-{
-    match given {
-        Ok(keeper) => keeper,
-        Err(failed) => {
-            drop(failed);
-            panic!(rt; "no ledger")
-        }
-    }
-}
-
 /// A ledger that is created in a new file.
 pub fn created(rt: &impl Abort, alloc: Global) -> Keeper<Memory>
     ensures { IsFresh memory_disk result }
 {
     let file = file_of(rt, alloc, &[]);
-    ledger(rt, create(alloc, file, rules(rt)))
+    sure(rt, create(alloc, file, rules(rt)))
 }
 
 /// The bytes of a keeper's file. The keeper is let go.
@@ -227,6 +217,6 @@ pub fn replies(rt: &impl Abort, alloc: Global, script: &[u8]) -> Vec<u8> {
         &mut reader,
         &mut writer,
     );
-    expect(rt, result.is_ok());
+    sure(rt, result);
     writer.into_inner()
 }

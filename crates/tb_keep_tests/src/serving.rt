@@ -4,8 +4,8 @@ ghost use Rattle.tb_keep.specs.Keeping.{IsFresh};
 
 use crate::crashes::entries_in;
 use crate::scripts::{
-    LOOK_UP, TRANSFER, bytes_of, change, created, expect, file_of, kept, ledger, put_pair, replies,
-    rules, same, script, serve, sure,
+    LOOK_UP, TRANSFER, bytes_of, change, created, expect, file_of, kept, put_pair, replies, rules,
+    same, script, serve, sure,
 };
 use std::alloc::Global;
 use std::io::BufReader;
@@ -31,7 +31,7 @@ fn sent_again(rt: &impl Abort, alloc: Global, bytes: &[u8]) -> (Vec<u8>, Vec<u8>
     let mut last = Vec::new(alloc);
     put_pair(rt, &mut last, &LOOK_UP);
     let file = file_of(rt, alloc, bytes);
-    let mut again = ledger(rt, Keeper::open(alloc, file, rules(rt)));
+    let mut again = sure(rt, Keeper::open(alloc, file, rules(rt)));
     let (well, told) = serve(alloc, &mut again, &last);
     expect(rt, well);
     (told, bytes_of(rt, alloc, again))
@@ -47,10 +47,11 @@ fn a_repeat_after_an_opening_gets_its_first_reply(rt: HostRuntime) {
 }
 
 /// What serving left.
-#[derive(Drop)]
+#[derive(Clone, Copy)]
 struct Outcome {
     result: Result<u64, KeepFault>,
-    replies: Vec<u8>,
+    /// The bytes of the replies.
+    told: usize,
     /// The moments of the file that it took.
     moments: usize,
     /// The records of the file.
@@ -68,9 +69,12 @@ fn served<R: Source>(alloc: Global, keeper: Keeper<Memory>, reader: &mut R) -> O
     let moments = keeper.journal().device().moments().saturating_sub(before);
     let records = keeper.journal().count();
     drop(keeper);
+    let replies = writer.into_inner();
+    let told = replies.len();
+    drop(replies);
     Outcome {
         result,
-        replies: writer.into_inner(),
+        told,
         moments,
         records,
     }
@@ -79,7 +83,9 @@ fn served<R: Source>(alloc: Global, keeper: Keeper<Memory>, reader: &mut R) -> O
 /// What serving a script over a new file leaves, where all of it is at hand.
 fn served_at_hand(rt: &impl Abort, alloc: Global, script: &[u8]) -> Outcome {
     let mut reader = Buffered::new(sure(rt, BufReader::with_capacity(alloc, 4096, script)));
-    served(alloc, created(rt, alloc), &mut reader)
+    let served = served(alloc, created(rt, alloc), &mut reader);
+    drop(reader);
+    served
 }
 
 /// What serving a script over a new file leaves, where one pair at a time is at hand.
@@ -89,18 +95,23 @@ fn served_by_turns(rt: &impl Abort, alloc: Global, script: &[u8]) -> Outcome {
 }
 
 /// Six pairs were served, by so many moments of the file, and stand behind the head.
-fn expect_six(rt: &impl Abort, served: &Outcome, moments: usize) {
+fn expect_six(rt: &impl Abort, served: Outcome, moments: usize) {
     expect(rt, served.result == Ok(6));
-    expect(rt, served.moments == moments && served.records == 5);
+    expect(rt, served.moments == moments);
+    expect(rt, served.records == 5);
+}
+
+/// The script is served where all of it is at hand, and by turns.
+fn expect_commits(rt: &impl Abort, alloc: Global, script: &[u8]) {
+    // A commit is two writes, each with a sync: one for all entries, or one for each of the four.
+    expect_six(rt, served_at_hand(rt, alloc, script), 4);
+    expect_six(rt, served_by_turns(rt, alloc, script), 16);
 }
 
 #[test]
 fn pairs_at_hand_share_a_commit(rt: HostRuntime) {
     let alloc = rt.alloc();
-    let script = script(&rt, alloc, 6);
-    // A commit is two writes, each with a sync: one for all entries, or one for each of the four.
-    expect_six(&rt, &served_at_hand(&rt, alloc, &script), 4);
-    expect_six(&rt, &served_by_turns(&rt, alloc, &script), 16);
+    expect_commits(&rt, alloc, &script(&rt, alloc, 6));
     expect(&rt, HELD_BYTES_MAX == 1048576);
 }
 
@@ -111,32 +122,33 @@ fn three(rt: &impl Abort, alloc: Global) -> Vec<u8> {
     bytes
 }
 
+/// A fault ended serving behind the register and the accounts: the replies to them have 48 bytes each.
+fn expect_ended(rt: &impl Abort, served: Outcome, fault: RunFault) {
+    expect(rt, served.result == Err(KeepFault::Serving(fault)));
+    expect(rt, served.told == 96);
+}
+
 #[test]
 fn a_frame_cut_short_ends_serving(rt: HostRuntime) {
     let alloc = rt.alloc();
     let mut bytes = three(&rt, alloc);
     bytes.truncate(bytes.len().saturating_sub(1));
     let served = served_by_turns(&rt, alloc, &bytes);
-    expect(
-        &rt,
-        served.result == Err(KeepFault::Serving(RunFault::Frame(FrameFault::Short))),
-    );
-    // The replies to the register and the accounts, 48 bytes each.
-    expect(&rt, served.replies.len() == 96);
+    expect_ended(&rt, served, RunFault::Frame(FrameFault::Short));
 }
+
+/// The bytes of the first two pairs, with their moments.
+const FIRST_TWO: usize = 368;
 
 /// The third pair, with a byte changed, ends serving, and the two before it were committed and told.
 fn expect_two(rt: &impl Abort, alloc: Global, at: usize, value: u8, fault: RunFault) {
     let mut bytes = three(rt, alloc);
-    let first_two = script(rt, alloc, 2).len();
-    change(&mut bytes, first_two.saturating_add(at), value);
+    change(&mut bytes, FIRST_TWO.saturating_add(at), value);
     let served = served_at_hand(rt, alloc, &bytes);
-    expect(rt, served.result == Err(KeepFault::Serving(fault)));
-    // The replies to the register and the accounts, 48 bytes each, and their records behind the head, by one commit.
-    expect(
-        rt,
-        served.replies.len() == 96 && served.records == 3 && served.moments == 4,
-    );
+    expect_ended(rt, served, fault);
+    // Their records stand behind the head, by one commit.
+    expect(rt, served.records == 3);
+    expect(rt, served.moments == 4);
 }
 
 #[test]

@@ -1,4 +1,4 @@
--- What a verdict of 0 tells: each line of its tables fails.
+-- What a verdict of 0 tells: each test of its tables fails.
 use Rattle.std.proofs.Common.{◌≡◌, ◌≢◌, ℕ, ◌+◌, ◌*◌, ◌≤◌, Bool, true, false, not, ◌&&◌, if◌then◌else◌, eqb, ltb, ◌==◌, List, [], ◌∷◌, Option, Some, None, option_map, bit_and, bit_or, refl, sym, ap, subst, ◌∙◌, arith, ltb-false}
 use Rattle.std.proofs.lemmas.Bool.Decides.{nat_tests}
 use Rattle.std.proofs.lemmas.Bool.{and_parts, and_from}
@@ -10,22 +10,22 @@ use Rattle.tb_records.proofs.ByKey.{found_key}
 use Rattle.tb_ledger.specs.declared.tables.transfers.State.{State}
 use Rattle.tb_ledger.specs.declared.tables.transfers.State.TheVariants.{Open, Posted, Voided, Expired}
 use Rattle.tb_ledger.specs.Books.{Books, has, closed, debits_limited, credits_limited, pending, resolves, is_open, is_posted, is_voided, is_expired, state_of, stands_closed, account_at, account_now, as_it_stands, transfer_at, debits_pending, debits_posted, credits_pending, credits_posted}
-use Rattle.tb_ledger.specs.Verdicts.{Line, first_of, first_code, is_not, int_max, max_time, account_own_lines, account_exists_lines, account_new_lines, account_verdict, transfer_own_lines, transfer_exists_lines, failed_lines, transfer_verdict, filled, filled_amount, filled_from, given_or, differs, id_code, resolve_own_lines, named_lines, closed_lines, closed_at, named_code, resolve_code, single_own_lines, pair_lines, pair_code, amount_lines, single_code, balanced_amount, balanced_between}
+use Rattle.tb_ledger.specs.Verdicts.{Test, first_of, first_code, is_not, int_max, max_time, account_own_tests, account_exists_tests, account_new_tests, account_verdict, transfer_own_tests, transfer_exists_tests, failed_tests, transfer_verdict, filled, filled_amount, filled_from, given_or, differs, id_code, resolve_own_tests, named_tests, closed_tests, closed_at, named_code, resolve_code, single_own_tests, pair_tests, pair_code, amount_tests, single_code, balanced_amount, balanced_between}
 use Rattle.tb_ledger.specs.Kept.{blank}
 use Rattle.tb_ledger.proofs.FoundPairs.{FoundPair}
 use Rattle.tb_ledger.specs.Found.{FoundPending}
 
--- no line's code is 0
-abbrev pub coded : List Line → Bool
+-- no test's code is 0
+abbrev pub coded : List Test → Bool
 coded [] = true
-coded (line ∷ lines) = not (line.0 == 0) && coded lines
+coded (test ∷ tests) = not (test.0 == 0) && coded tests
 
-pub fail : (lines : List Line) → coded lines ≡ true → first_of lines ≡ 0 → Each (λ line. line.1 ≡ false) lines
+pub fail : (tests : List Test) → coded tests ≡ true → first_of tests ≡ 0 → Each (λ test. test.1 ≡ false) tests
 fail [] is_coded zero_is = tt
-fail (line ∷ lines) is_coded zero_is = by line.1 refl (and_parts (not (line.0 == 0)) (coded lines) is_coded) (fail lines) zero_is
+fail (test ∷ tests) is_coded zero_is = by test.1 refl (and_parts (not (test.0 == 0)) (coded tests) is_coded) (fail tests) zero_is
   where
-    by : (b : Bool) → line.1 ≡ b → (not (line.0 == 0) ≡ true) × (coded lines ≡ true) → (coded lines ≡ true → first_of lines ≡ 0 → Each (λ line. line.1 ≡ false) lines) → (if b then line.0 else first_of lines) ≡ 0 → (line.1 ≡ false) × Each (λ line. line.1 ≡ false) lines
-    by true e parts later is = let test : not (eqb line.0 0) ≡ true = parts.0 in absurd (grind (arith, nat_tests))
+    by : (b : Bool) → test.1 ≡ b → (not (test.0 == 0) ≡ true) × (coded tests ≡ true) → (coded tests ≡ true → first_of tests ≡ 0 → Each (λ test. test.1 ≡ false) tests) → (if b then test.0 else first_of tests) ≡ 0 → (test.1 ≡ false) × Each (λ test. test.1 ≡ false) tests
+    by true e parts later is = let tested : not (eqb test.0 0) ≡ true = parts.0 in absurd (grind (arith, nat_tests))
     by false e parts later is = (e, later parts.1 is)
 
 pub none_fails : (codes : List ℕ) → first_code codes ≡ 0 → Each (λ code. code ≡ 0) codes
@@ -36,7 +36,7 @@ none_fails (code ∷ codes) is = by (eqb code 0) refl (none_fails codes) is
     by true e later is = let here : code ≡ 0 = grind (arith, nat_tests) in (here, later is)
     by false e later is = absurd (grind (arith, nat_tests))
 
--- numbers that a line doesn't tell apart
+-- numbers that a test doesn't tell apart
 pub same_numbers : (x y : ℕ) → is_not x y ≡ false → x ≡ y
 same_numbers x y is = by (eqb x y) refl is
   where
@@ -63,18 +63,18 @@ closed_flag B a is = by (stands_closed B a) is
 
 -- an accepted account is new
 pub new_account : (B : Books) (a : Account) → account_verdict B a ≡ 0 → account_at B a.id ≡ None
-new_account B a ok = by (account_at B a.id) (none_fails (first_of (account_own_lines a) ∷ first_of (account_exists_lines (account_now B a.id) a) ∷ first_of (account_new_lines a) ∷ []) ok).1.0
+new_account B a ok = by (account_at B a.id) (none_fails (first_of (account_own_tests a) ∷ first_of (account_exists_tests (account_now B a.id) a) ∷ first_of (account_new_tests a) ∷ []) ok).1.0
   where
-    by : (o : Option Account) → first_of (account_exists_lines (option_map (as_it_stands B) o) a) ≡ 0 → o ≡ None
+    by : (o : Option Account) → first_of (account_exists_tests (option_map (as_it_stands B) o) a) ≡ 0 → o ≡ None
     by None is = refl
-    by (Some e) is = let lines = fail (account_exists_lines (Some (as_it_stands B e)) a) refl is in let there : true ≡ false = lines.1.1.1.1.1.1.0 in absurd (cc)
+    by (Some e) is = let tests = fail (account_exists_tests (Some (as_it_stands B e)) a) refl is in let there : true ≡ false = tests.1.1.1.1.1.1.0 in absurd (cc)
 
 -- an accepted account has no sums yet, and nothing is reserved
 pub plain_account : (B : Books) (a : Account) → account_verdict B a ≡ 0 → a ≡ blank a
 plain_account B a ok =
-    let groups = none_fails (first_of (account_own_lines a) ∷ first_of (account_exists_lines (account_now B a.id) a) ∷ first_of (account_new_lines a) ∷ []) ok in
-    let own = fail (account_own_lines a) refl groups.0 in
-    let new = fail (account_new_lines a) refl groups.1.1.0 in
+    let groups = none_fails (first_of (account_own_tests a) ∷ first_of (account_exists_tests (account_now B a.id) a) ∷ first_of (account_new_tests a) ∷ []) ok in
+    let own = fail (account_own_tests a) refl groups.0 in
+    let new = fail (account_new_tests a) refl groups.1.1.0 in
     let reserved = same_numbers a.reserved 0 own.1.0 in
     let debits_pending = same_numbers a.debits_pending 0 new.1.0 in
     let debits_posted = same_numbers a.debits_posted 0 new.1.1.0 in
@@ -91,11 +91,11 @@ own_code B t time ok = (none_fails (id_code B t ∷ (if resolves t then resolve_
 
 -- an id that is free, no transfer has
 pub id_free : (B : Books) (t : Transfer) → id_code B t ≡ 0 → transfer_at B t.id ≡ None
-id_free B t free = by (transfer_at B t.id) (none_fails (first_of (transfer_own_lines t) ∷ first_of (transfer_exists_lines (transfer_at B t.id) (filled B t)) ∷ first_of (failed_lines B.failed t) ∷ []) free).1.0
+id_free B t free = by (transfer_at B t.id) (none_fails (first_of (transfer_own_tests t) ∷ first_of (transfer_exists_tests (transfer_at B t.id) (filled B t)) ∷ first_of (failed_tests B.failed t) ∷ []) free).1.0
   where
-    by : (o : Option Transfer) → first_of (transfer_exists_lines o (filled B t)) ≡ 0 → o ≡ None
+    by : (o : Option Transfer) → first_of (transfer_exists_tests o (filled B t)) ≡ 0 → o ≡ None
     by None is = refl
-    by (Some e) is = let lines = fail (transfer_exists_lines (Some e) (filled B t)) refl is in let there : true ≡ false = lines.1.1.1.1.1.1.1.1.1.1.1.0 in absurd (cc)
+    by (Some e) is = let tests = fail (transfer_exists_tests (Some e) (filled B t)) refl is in let there : true ≡ false = tests.1.1.1.1.1.1.1.1.1.1.1.0 in absurd (cc)
 
 -- an accepted transfer is new
 pub new_transfer : (B : Books) (t : Transfer) (time : ℕ) → transfer_verdict B t time ≡ 0 → transfer_at B t.id ≡ None
@@ -123,31 +123,31 @@ pub filled_found : (B : Books) (t p : Transfer) → resolves t ≡ true → tran
 filled_found B t p is found = rw (is, found) refl
 
 -- a post or void, filled from the pending transfer that it names
-pub found_from : (B : Books) (t p : Transfer) → transfer_at B t.pending_id ≡ Some p → first_of (resolve_own_lines t) ≡ 0 → first_of (named_lines t p (state_of B p)) ≡ 0 → FoundPending B (filled_from p t)
+pub found_from : (B : Books) (t p : Transfer) → transfer_at B t.pending_id ≡ Some p → first_of (resolve_own_tests t) ≡ 0 → first_of (named_tests t p (state_of B p)) ≡ 0 → FoundPending B (filled_from p t)
 found_from B t p named own_is named_is =
-    let own = fail (resolve_own_lines t) refl own_is in
-    let lines = fail (named_lines t p (state_of B p)) refl named_is in record {
+    let own = fail (resolve_own_tests t) refl own_is in
+    let tests = fail (named_tests t p (state_of B p)) refl named_is in record {
       p = p;
       named = named;
-      held = and_from (pending p) (is_open (state_of B p)) (is_true (pending p) lines.0) (open_of (state_of B p) lines.1.1.1.1.1.1.1.0 lines.1.1.1.1.1.1.1.1.0 lines.1.1.1.1.1.1.1.1.1.0);
+      held = and_from (pending p) (is_open (state_of B p)) (is_true (pending p) tests.0) (open_of (state_of B p) tests.1.1.1.1.1.1.1.0 tests.1.1.1.1.1.1.1.1.0 tests.1.1.1.1.1.1.1.1.1.0);
       not_pending = own.1.0;
       not_both = own.0;
-      debit_same = given_same t.debit_account_id p.debit_account_id lines.1.0;
-      credit_same = given_same t.credit_account_id p.credit_account_id lines.1.1.0;
-      ledger_same = given_same t.ledger p.ledger lines.1.1.1.0;
-      at_most = ltb-false p.amount (filled_amount p t) lines.1.1.1.1.1.0;
+      debit_same = given_same t.debit_account_id p.debit_account_id tests.1.0;
+      credit_same = given_same t.credit_account_id p.credit_account_id tests.1.1.0;
+      ledger_same = given_same t.ledger p.ledger tests.1.1.1.0;
+      at_most = ltb-false p.amount (filled_amount p t) tests.1.1.1.1.1.0;
     }
 
 pub found_pending : (B : Books) (t : Transfer) (time : ℕ) → resolves t ≡ true → transfer_verdict B t time ≡ 0 → FoundPending B (filled B t)
 found_pending B t time is ok = by (transfer_at B t.pending_id) refl codes.1.0
   where
-    codes : (first_of (resolve_own_lines t) ≡ 0) × Each (λ code. code ≡ 0) (named_code B t (transfer_at B t.pending_id) ∷ [])
-    codes = none_fails (first_of (resolve_own_lines t) ∷ named_code B t (transfer_at B t.pending_id) ∷ []) (subst (λ b. (if b then resolve_code B t else single_code B t time) ≡ 0) is (own_code B t time ok))
+    codes : (first_of (resolve_own_tests t) ≡ 0) × Each (λ code. code ≡ 0) (named_code B t (transfer_at B t.pending_id) ∷ [])
+    codes = none_fails (first_of (resolve_own_tests t) ∷ named_code B t (transfer_at B t.pending_id) ∷ []) (subst (λ b. (if b then resolve_code B t else single_code B t time) ≡ 0) is (own_code B t time ok))
 
     by : (o : Option Transfer) → transfer_at B t.pending_id ≡ o → named_code B t o ≡ 0 → FoundPending B (filled B t)
     by None e z = absurd (omega arith)
     by (Some p) e z =
-        let named = (none_fails (first_of (named_lines t p (state_of B p)) ∷ first_of (closed_lines t (closed_at B p.debit_account_id) (closed_at B p.credit_account_id)) ∷ []) z).0 in
+        let named = (none_fails (first_of (named_tests t p (state_of B p)) ∷ first_of (closed_tests t (closed_at B p.debit_account_id) (closed_at B p.credit_account_id)) ∷ []) z).0 in
         subst (FoundPending B) (sym (filled_found B t p is e)) (found_from B t p e codes.0 named)
 
 -- a pair of accounts that is there
@@ -157,11 +157,11 @@ pair_of B t time d c d_is c_is apart ok = by (balanced_amount (as_it_stands B d)
     limit : (b l : Bool) (x y : ℕ) → b ≡ true → l ≡ b → (l && ltb x y) ≡ false → y ≤ x
     limit b l x y is same test = ltb-false x y (subst (λ k. (k && ltb x y) ≡ false) (same ∙ is) test)
 
-    by : (amount : ℕ) → first_code (first_of (pair_lines (as_it_stands B d) (as_it_stands B c) t) ∷ first_of (amount_lines (as_it_stands B d) (as_it_stands B c) t amount time) ∷ []) ≡ 0 → FoundPair B (record t { amount = amount; timestamp = time })
+    by : (amount : ℕ) → first_code (first_of (pair_tests (as_it_stands B d) (as_it_stands B c) t) ∷ first_of (amount_tests (as_it_stands B d) (as_it_stands B c) t amount time) ∷ []) ≡ 0 → FoundPair B (record t { amount = amount; timestamp = time })
     by amount z =
-        let codes = none_fails (first_of (pair_lines (as_it_stands B d) (as_it_stands B c) t) ∷ first_of (amount_lines (as_it_stands B d) (as_it_stands B c) t amount time) ∷ []) z in
-        let pair = fail (pair_lines (as_it_stands B d) (as_it_stands B c) t) refl codes.0 in
-        let room = fail (amount_lines (as_it_stands B d) (as_it_stands B c) t amount time) refl codes.1.0 in
+        let codes = none_fails (first_of (pair_tests (as_it_stands B d) (as_it_stands B c) t) ∷ first_of (amount_tests (as_it_stands B d) (as_it_stands B c) t amount time) ∷ []) z in
+        let pair = fail (pair_tests (as_it_stands B d) (as_it_stands B c) t) refl codes.0 in
+        let room = fail (amount_tests (as_it_stands B d) (as_it_stands B c) t amount time) refl codes.1.0 in
         let d_id : d.id ≡ t.debit_account_id = found_key (λ a. a.id) t.debit_account_id d B.accounts d_is in
         let c_id : c.id ≡ t.credit_account_id = found_key (λ a. a.id) t.credit_account_id c B.accounts c_is in
         let ledgers : d.ledger ≡ c.ledger = same_numbers d.ledger c.ledger pair.0 in
@@ -185,8 +185,8 @@ pair_of B t time d c d_is c_is apart ok = by (balanced_amount (as_it_stands B d)
 pub found_pair : (B : Books) (t : Transfer) (time : ℕ) → resolves t ≡ false → transfer_verdict B t time ≡ 0 → FoundPair B (record t { amount = balanced_between (account_now B t.debit_account_id) (account_now B t.credit_account_id) t; timestamp = time })
 found_pair B t time is ok =
     let single : single_code B t time ≡ 0 = subst (λ b. (if b then resolve_code B t else single_code B t time) ≡ 0) is (own_code B t time ok) in
-    let codes = none_fails (first_of (single_own_lines t) ∷ pair_code (account_now B t.debit_account_id) (account_now B t.credit_account_id) t time ∷ []) single in
-    let own = fail (single_own_lines t) refl codes.0 in
+    let codes = none_fails (first_of (single_own_tests t) ∷ pair_code (account_now B t.debit_account_id) (account_now B t.credit_account_id) t time ∷ []) single in
+    let own = fail (single_own_tests t) refl codes.0 in
     by (other_numbers t.debit_account_id t.credit_account_id own.1.1.1.1.0) (account_at B t.debit_account_id) (account_at B t.credit_account_id) refl refl codes.1.0
   where
     by : t.debit_account_id ≢ t.credit_account_id → (d c : Option Account) → account_at B t.debit_account_id ≡ d → account_at B t.credit_account_id ≡ c → pair_code (option_map (as_it_stands B) d) (option_map (as_it_stands B) c) t time ≡ 0 → FoundPair B (record t { amount = balanced_between (option_map (as_it_stands B) d) (option_map (as_it_stands B) c) t; timestamp = time })
@@ -195,8 +195,8 @@ found_pair B t time is ok =
     by apart (Some d) (Some c) e f z = pair_of B t time d c e f apart z
 
 -- a transfer that is right by itself names two accounts
-pub accounts_apart : (t : Transfer) → first_of (single_own_lines t) ≡ 0 → t.debit_account_id ≢ t.credit_account_id
-accounts_apart t own = other_numbers t.debit_account_id t.credit_account_id (fail (single_own_lines t) refl own).1.1.1.1.0
+pub accounts_apart : (t : Transfer) → first_of (single_own_tests t) ≡ 0 → t.debit_account_id ≢ t.credit_account_id
+accounts_apart t own = other_numbers t.debit_account_id t.credit_account_id (fail (single_own_tests t) refl own).1.1.1.1.0
 
 -- a stamp changes nothing of what a post or void finds
 pub found_stamped : (B : Books) (f : Transfer) (time : ℕ) → FoundPending B f → FoundPending B (record f { timestamp = time })

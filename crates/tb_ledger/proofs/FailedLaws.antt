@@ -9,24 +9,24 @@ use Rattle.tb_records.specs.declared.transfer_results.CreateTransferResult.{Crea
 use Rattle.tb_records.specs.TransferResults.{transfer_result_code}
 use Rattle.tb_ledger.specs.Batches.{is_final}
 use Rattle.tb_ledger.specs.Found.{Judges}
-use Rattle.tb_ledger.specs.Verdicts.{Line, first_of, first_code, transfer_own_lines, transfer_exists_lines, filled, resolve_code, single_code, transfer_verdict}
+use Rattle.tb_ledger.specs.Verdicts.{Test, first_of, first_code, transfer_own_tests, transfer_exists_tests, filled, resolve_code, single_code, transfer_verdict}
 use Rattle.tb_ledger.proofs.VerdictLaws.{any-found}
 
--- no line fails a transfer for good
-abbrev never : List Line → Bool
+-- no test fails a transfer for good
+abbrev never : List Test → Bool
 never [] = true
-never (line ∷ lines) = not (is_final line.0) && never lines
+never (test ∷ tests) = not (is_final test.0) && never tests
 
-never_final : (lines : List Line) → never lines ≡ true → is_final (first_of lines) ≡ false
+never_final : (tests : List Test) → never tests ≡ true → is_final (first_of tests) ≡ false
 never_final [] is = refl
-never_final (line ∷ lines) is = by line.1 (and_parts (not (is_final line.0)) (never lines) is) (never_final lines)
+never_final (test ∷ tests) is = by test.1 (and_parts (not (is_final test.0)) (never tests) is) (never_final tests)
   where
     passes : (b : Bool) → not b ≡ true → b ≡ false
     passes true e = absurd (cc)
     passes false e = refl
 
-    by : (b : Bool) → (not (is_final line.0) ≡ true) × (never lines ≡ true) → (never lines ≡ true → is_final (first_of lines) ≡ false) → is_final (if b then line.0 else first_of lines) ≡ false
-    by true parts later = passes (is_final line.0) parts.0
+    by : (b : Bool) → (not (is_final test.0) ≡ true) × (never tests ≡ true) → (never tests ≡ true → is_final (first_of tests) ≡ false) → is_final (if b then test.0 else first_of tests) ≡ false
+    by true parts later = passes (is_final test.0) parts.0
     by false parts later = later parts.1
 
 -- where the id has failed before, the verdict is no final one
@@ -38,19 +38,19 @@ before a b d a_is b_is = by (a == 0) refl (b == 0) refl
     by true e false f = rw f b_is
     by false e y f = rw e a_is
 
-there_final : (o : Option Transfer) (f : Transfer) → is_final (first_of (transfer_exists_lines o f)) ≡ false
+there_final : (o : Option Transfer) (f : Transfer) → is_final (first_of (transfer_exists_tests o f)) ≡ false
 there_final None f = refl
-there_final (Some e) f = never_final (transfer_exists_lines (Some e) f) refl
+there_final (Some e) f = never_final (transfer_exists_tests (Some e) f) refl
 
 -- a transfer that fails for good has not failed before
 pub final_is_new : (B : Books) (t : Transfer) (time code : ℕ) → code ≡ transfer_verdict B t time → is_final code ≡ true → option_map_or (list_any (λ id. id == t.id)) B.failed false ≡ false
 final_is_new B t time code code_is final = by (option_map_or (list_any (λ id. id == t.id)) B.failed false) (sym (ap is_final code_is) ∙ final)
   where
-    by : (b : Bool) → is_final (first_code (first_code (first_of (transfer_own_lines t) ∷ first_of (transfer_exists_lines (transfer_at B t.id) (filled B t)) ∷ first_of ((68, b) ∷ []) ∷ []) ∷ (if resolves t then resolve_code B t else single_code B t time) ∷ [])) ≡ true → b ≡ false
+    by : (b : Bool) → is_final (first_code (first_code (first_of (transfer_own_tests t) ∷ first_of (transfer_exists_tests (transfer_at B t.id) (filled B t)) ∷ first_of ((68, b) ∷ []) ∷ []) ∷ (if resolves t then resolve_code B t else single_code B t time) ∷ [])) ≡ true → b ≡ false
     by false h = refl
     by true h =
-        let free = before (first_of (transfer_own_lines t)) (first_of (transfer_exists_lines (transfer_at B t.id) (filled B t))) (if resolves t then resolve_code B t else single_code B t time)
-        (never_final (transfer_own_lines t) refl) (there_final (transfer_at B t.id) (filled B t)) in
+        let free = before (first_of (transfer_own_tests t)) (first_of (transfer_exists_tests (transfer_at B t.id) (filled B t))) (if resolves t then resolve_code B t else single_code B t time)
+        (never_final (transfer_own_tests t) refl) (there_final (transfer_at B t.id) (filled B t)) in
         absurd (cc)
 
 -- as a function answers it

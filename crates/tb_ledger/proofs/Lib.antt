@@ -9,7 +9,7 @@ pub mod CuttingLaws
 pub mod MeaningLaws
 pub mod Entries
 pub mod Index
-pub mod Trails
+pub mod UndoLogs
 pub mod Parts
 pub mod Pairs
 pub mod States
@@ -28,4 +28,4 @@ pub mod ReadLaws
 pub mod FailedLaws
 pub mod Profiles
 pub mod Many
-pub mod KnownKeys
+pub mod AbsentKeys

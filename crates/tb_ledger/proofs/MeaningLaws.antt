@@ -9,7 +9,7 @@ use Rattle.tb_records.proofs.ByKey.{sum_by-same, sum_by-put, find-put_other, eac
 use Rattle.tb_ledger.specs.Books.{Books, pending, posts, voids, resolves, resolver, expires_at, is_due, state_of, is_open, holds, moves, transfer_at, debit, credit, pending_on, posted_on}
 use Rattle.tb_ledger.specs.Verdicts.{recorded_transfer, filled}
 use Rattle.tb_ledger.specs.Sound.{transfer_key}
-use Rattle.tb_ledger.specs.Meanings.{IsHeld, HeldWhileOpen, Settles, SettlesBoth}
+use Rattle.tb_ledger.specs.Meanings.{IsHeld, HeldWhileOpen, SettlesSide, SettlesBoth}
 use Rattle.tb_ledger.proofs.Sides.{open_parts, open_from, not_true, share_none, share_whole, no_more}
 use Rattle.tb_ledger.proofs.SoundLaws.{filled_flags}
 use Rattle.tb_ledger.proofs.VerdictLaws.{recorded_pending, filled_pending_id}
@@ -66,7 +66,7 @@ abbrev with_one : Books → Transfer → Books
 with_one B f = record B { transfers = put transfer_key f B.transfers }
 
 -- one side
-settles_on : (side other : Transfer → ℕ) (B : Books) (f : Transfer) (found : FoundPending B f) → resolves f ≡ true → Rising transfer_key B.transfers → side f ≡ side found.p → Settles side B f found.p
+settles_on : (side other : Transfer → ℕ) (B : Books) (f : Transfer) (found : FoundPending B f) → resolves f ≡ true → Rising transfer_key B.transfers → side f ≡ side found.p → SettlesSide side B f found.p
 settles_on side other B f found is rising same = record { pending_leaves = leaves; posted_comes = comes }
   where
     still : (t : Transfer) → t.id ≢ f.pending_id → holds (with_one B f) t ≡ holds B t

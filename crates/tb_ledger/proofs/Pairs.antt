@@ -9,7 +9,7 @@ use Rattle.tb_ledger.specs.declared.tables.accounts.Side.{Side}
 use Rattle.tb_ledger.specs.declared.tables.accounts.AccountRow.{AccountRow}
 use Rattle.tb_ledger.specs.declared.tables.transfers.TransferRow.{TransferRow}
 use Rattle.tb_ledger.specs.Books.{pending, is_open, closing_debit, closing_credit, debit, credit}
-use Rattle.tb_ledger.specs.Kept.{account_row_key, transfer_row_key, row_holds, HasSide, HasBoth, HasSums, gained, released, released_and_gained, settled, Takes, on_debits, on_credits, accounts_gained, accounts_released, accounts_released_and_gained, new_transfer_row}
+use Rattle.tb_ledger.specs.Kept.{account_row_key, transfer_row_key, row_holds, HasSide, HasBoth, HasSums, gained, released, released_and_gained, settled, CanTake, on_debits, on_credits, accounts_gained, accounts_released, accounts_released_and_gained, new_transfer_row}
 use Rattle.tb_ledger.proofs.Parts.{released_here, released_other, held_enough, gained_here, gained_other}
 
 -- each record is what is found by its key
@@ -71,11 +71,11 @@ module _ (before after : List TransferRow) (d c : ℕ) (on_d on_c : Side → Sid
 
 -- a transfer that is no post or void
 pub sums_gained : (accounts : List AccountRow) (transfers : List TransferRow) (t : Transfer) → Rising account_row_key accounts
-    → ((a : AccountRow) → find (λ a. a.created.id == t.debit_account_id) accounts ≡ Some a → Takes closing_debit t a.debits)
-    → ((a : AccountRow) → find (λ a. a.created.id == t.credit_account_id) accounts ≡ Some a → Takes closing_credit t a.credits)
+    → ((a : AccountRow) → find (λ a. a.created.id == t.debit_account_id) accounts ≡ Some a → CanTake closing_debit t a.debits)
+    → ((a : AccountRow) → find (λ a. a.created.id == t.credit_account_id) accounts ≡ Some a → CanTake closing_credit t a.credits)
     → Each (HasSums transfers) accounts → Each (HasSums (put transfer_row_key (new_transfer_row t) transfers)) (accounts_gained t accounts)
 sums_gained accounts transfers t rising takes_d takes_c =
-    sums_pair transfers (put transfer_row_key (new_transfer_row t) transfers) t.debit_account_id t.credit_account_id (gained closing_debit t) (gained closing_credit t) (Takes closing_debit t) (Takes closing_credit t)
+    sums_pair transfers (put transfer_row_key (new_transfer_row t) transfers) t.debit_account_id t.credit_account_id (gained closing_debit t) (gained closing_credit t) (CanTake closing_debit t) (CanTake closing_credit t)
     (gained_here debit closing_debit transfers t) (gained_other debit closing_debit transfers t)
     (gained_here credit closing_credit transfers t) (gained_other credit closing_credit transfers t)
     accounts rising takes_d takes_c
@@ -97,7 +97,7 @@ module _ (side : Transfer → ℕ) (closes : Transfer → Bool) (transfers : Lis
   abbrev left : List TransferRow
   left = replaced transfer_row_key (settled s p) transfers
 
-  pub takes_rest : (x : Side) → HasSide side closes transfers (side p.recorded) x → Takes closes r (released closes p.recorded x)
+  pub takes_rest : (x : Side) → HasSide side closes transfers (side p.recorded) x → CanTake closes r (released closes p.recorded x)
   takes_rest x has =
       (omega (arith, held_enough side closes transfers p s found holds over x has, has.fit), free)
     where

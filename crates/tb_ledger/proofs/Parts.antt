@@ -10,7 +10,7 @@ use Rattle.tb_ledger.specs.declared.tables.transfers.State.TheVariants.{Open}
 use Rattle.tb_ledger.specs.declared.tables.accounts.Side.{Side}
 use Rattle.tb_ledger.specs.declared.tables.transfers.TransferRow.{TransferRow}
 use Rattle.tb_ledger.specs.Books.{pending, voids, moves, is_open}
-use Rattle.tb_ledger.specs.Kept.{transfer_row_key, row_holds, bit, pending_share, posted_share, closing_share, HasSide, gained, released, settled, Takes, new_side}
+use Rattle.tb_ledger.specs.Kept.{transfer_row_key, row_holds, bit, pending_share, posted_share, closing_share, HasSide, gained, released, settled, CanTake, new_side}
 
 pub both_hold : (a b : Bool) → a && b ≡ true → (a ≡ true) × (b ≡ true)
 both_hold true b e = (refl, e)
@@ -130,7 +130,7 @@ module _ (side : Transfer → ℕ) (closes : Transfer → Bool) (transfers : Lis
     parts_fit false true = omega arith
     parts_fit false false = omega arith
 
-    pub gained_here : (x : Side) → Takes closes t x → HasSide side closes transfers (side t) x → HasSide side closes more (side t) (gained closes t x)
+    pub gained_here : (x : Side) → CanTake closes t x → HasSide side closes transfers (side t) x → HasSide side closes more (side t) (gained closes t x)
     gained_here x takes has =
         let id = side t in
         let e : eqb (side t) (side t) ≡ true = grind (arith, nat_tests) in

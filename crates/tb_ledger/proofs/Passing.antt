@@ -8,18 +8,18 @@ use Rattle.tb_records.proofs.ByKey.{changed_found, replaced-changed}
 use Rattle.tb_ledger.specs.declared.tables.accounts.AccountRow.{AccountRow}
 use Rattle.tb_ledger.specs.declared.tables.transfers.TransferRow.{TransferRow}
 use Rattle.tb_ledger.specs.declared.tables.timeouts.Timeout.{Timeout}
-use Rattle.tb_ledger.specs.declared.tables.trail.Undo.{Undo}
-use Rattle.tb_ledger.specs.declared.tables.trail.Undo.TheVariants.{Account}
-use Rattle.tb_ledger.specs.Trail.{undo_account, undo_transfer, undo_timeouts, unwound_accounts, unwound_transfers, unwound_timeouts, CanUndo, CanUnwind, IsNoted}
+use Rattle.tb_ledger.specs.declared.tables.undo_log.Undo.{Undo}
+use Rattle.tb_ledger.specs.declared.tables.undo_log.Undo.TheVariants.{Account}
+use Rattle.tb_ledger.specs.UndoLog.{undo_account, undo_transfer, undo_timeouts, unwound_accounts, unwound_transfers, unwound_timeouts, CanUndo, CanUnwind, IsNoted}
 use Rattle.tb_ledger.specs.Books.{closing_debit, closing_credit}
 use Rattle.tb_ledger.specs.Kept.{account_row_key, row_now, gained, released_and_gained, on_debits, on_credits, accounts_gained}
-use Rattle.tb_ledger.specs.Exchanges.{as_recorded, Exchanges, ExchangesIn, row_at}
+use Rattle.tb_ledger.specs.Exchanges.{as_recorded, Exchanges, ExchangesIn, account_row_at}
 use Rattle.tb_ledger.specs.Verdicts.{pair_code}
 use Rattle.tb_ledger.specs.Settlings.{CanSettle, Settles, SettlesIn}
 use Rattle.tb_ledger.proofs.Settled.{both_written, found_still, refound}
 use Rattle.tb_ledger.specs.Tables.{Stored}
 use Rattle.tb_ledger.specs.Noted.{Noted, with_noted}
-use Rattle.tb_ledger.proofs.Trails.{grown_by_two}
+use Rattle.tb_ledger.proofs.UndoLogs.{grown_by_two}
 
 -- a row put in its own place changes nothing
 replaced_same : {X : Type 0} (key : X → ℕ) (x : X) (xs : List X) → find (λ y. key y == key x) xs ≡ Some x → replaced key x xs ≡ xs
@@ -30,12 +30,12 @@ replaced_same key x (y ∷ ys) found = by (eqb (key y) (key x)) (replaced_same k
     by true later is = let same : x ≡ y = cc in ap (λ z. z ∷ ys) same
     by false later is = ap (λ zs. y ∷ zs) (later is)
 
-pub passed_in : (t : Transfer) (time : ℕ) (trail grown : Noted) (accounts later : List AccountRow) (d c d' c' : AccountRow) (r : Result ℕ CreateTransferResult) → t.debit_account_id ≢ t.credit_account_id
-    → row_at accounts t.debit_account_id ≡ Some d → row_at accounts t.credit_account_id ≡ Some c → Exchanges t time trail d c r d' c' grown → later ≡ replaced account_row_key c' (replaced account_row_key d' accounts)
-    → ExchangesIn t time trail accounts r later grown
-passed_in t time trail grown accounts later d c d' c' (Ok amount) apart d_is c_is passes wrote =
+pub passed_in : (t : Transfer) (time : ℕ) (undo_log grown : Noted) (accounts later : List AccountRow) (d c d' c' : AccountRow) (r : Result ℕ CreateTransferResult) → t.debit_account_id ≢ t.credit_account_id
+    → account_row_at accounts t.debit_account_id ≡ Some d → account_row_at accounts t.credit_account_id ≡ Some c → Exchanges t time undo_log d c r d' c' grown → later ≡ replaced account_row_key c' (replaced account_row_key d' accounts)
+    → ExchangesIn t time undo_log accounts r later grown
+passed_in t time undo_log grown accounts later d c d' c' (Ok amount) apart d_is c_is passes wrote =
     let recorded = as_recorded t amount time in
-    let code : pair_code (option_map row_now (row_at accounts t.debit_account_id)) (option_map row_now (row_at accounts t.credit_account_id)) t time ≡ 0 = rw (d_is, c_is) passes.0 in
+    let code : pair_code (option_map row_now (account_row_at accounts t.debit_account_id)) (option_map row_now (account_row_at accounts t.credit_account_id)) t time ≡ 0 = rw (d_is, c_is) passes.0 in
     let gains : AccountRow → AccountRow = on_debits (gained closing_debit recorded) in
     let gives : AccountRow → AccountRow = on_credits (gained closing_credit recorded) in
     let first : changed account_row_key t.debit_account_id gains accounts ≡ replaced account_row_key d' accounts =
@@ -54,16 +54,16 @@ passed_in t time trail grown accounts later d c d' c' (Ok amount) apart d_is c_i
         notes = passes.1.3;
       },
     )
-passed_in t time trail grown accounts later d c d' c' (Err refusal) apart d_is c_is refused wrote =
+passed_in t time undo_log grown accounts later d c d' c' (Err refusal) apart d_is c_is refused wrote =
     let first : replaced account_row_key d' accounts ≡ accounts = rw refused.1.0 (replaced_same account_row_key d accounts (refound account_row_key t.debit_account_id d accounts d_is)) in
     let second : replaced account_row_key c' accounts ≡ accounts = rw refused.1.1 (replaced_same account_row_key c accounts (refound account_row_key t.credit_account_id c accounts c_is)) in
-    let is : pair_code (option_map row_now (row_at accounts t.debit_account_id)) (option_map row_now (row_at accounts t.credit_account_id)) t time ≡ transfer_result_code refusal = rw (d_is, c_is) refused.0.0 in
+    let is : pair_code (option_map row_now (account_row_at accounts t.debit_account_id)) (option_map row_now (account_row_at accounts t.credit_account_id)) t time ≡ transfer_result_code refusal = rw (d_is, c_is) refused.0.0 in
     ((is, refused.0.1), (wrote ∙ ap (replaced account_row_key c') first ∙ second, refused.1.2))
 
-pub settled_in : (p r : Transfer) (trail grown : Noted) (accounts later : List AccountRow) (d c d' c' : AccountRow) (x : Result (Unit {0}) CreateTransferResult) → r.debit_account_id ≢ r.credit_account_id
-    → row_at accounts r.debit_account_id ≡ Some d → row_at accounts r.credit_account_id ≡ Some c → CanSettle p r d.debits → CanSettle p r c.credits → Settles p r trail d c x d' c' grown → later ≡ replaced account_row_key c' (replaced account_row_key d' accounts)
-    → SettlesIn p r trail accounts x later grown
-settled_in p r trail grown accounts later d c d' c' (Ok x) apart d_is c_is can_d can_c passes wrote = record {
+pub settled_in : (p r : Transfer) (undo_log grown : Noted) (accounts later : List AccountRow) (d c d' c' : AccountRow) (x : Result (Unit {0}) CreateTransferResult) → r.debit_account_id ≢ r.credit_account_id
+    → account_row_at accounts r.debit_account_id ≡ Some d → account_row_at accounts r.credit_account_id ≡ Some c → CanSettle p r d.debits → CanSettle p r c.credits → Settles p r undo_log d c x d' c' grown → later ≡ replaced account_row_key c' (replaced account_row_key d' accounts)
+    → SettlesIn p r undo_log accounts x later grown
+settled_in p r undo_log grown accounts later d c d' c' (Ok x) apart d_is c_is can_d can_c passes wrote = record {
   debit = d;
   credit = c;
   debit_there = d_is;
@@ -74,7 +74,7 @@ settled_in p r trail grown accounts later d c d' c' (Ok x) apart d_is c_is can_d
     passes.1.2,
   );
 }
-settled_in p r trail grown accounts later d c d' c' (Err code) apart d_is c_is can_d can_c refused wrote =
+settled_in p r undo_log grown accounts later d c d' c' (Err code) apart d_is c_is can_d can_c refused wrote =
     let first : replaced account_row_key d' accounts ≡ accounts = rw refused.1.0 (replaced_same account_row_key d accounts (refound account_row_key r.debit_account_id d accounts d_is)) in
     let second : replaced account_row_key c' accounts ≡ accounts = rw refused.1.1 (replaced_same account_row_key c accounts (refound account_row_key r.credit_account_id c accounts c_is)) in
     record { debit = d; credit = c; debit_there = d_is; credit_there = c_is; judged = refused.0; leaves = (wrote ∙ ap (replaced account_row_key c') first ∙ second, refused.1.2) }
@@ -97,22 +97,22 @@ can_two : (us : List Undo) (d c : AccountRow) (ts : Stored Timeout) → CanUnwin
 can_two [] d c ts can = (tt, (tt, tt))
 can_two (w ∷ us) d c ts can = (subst (CanUndo w) (sym (unwound_timeouts_two us d c ts)) can.0, can_two us d c ts can.1)
 
-pub noted_two : (d_id c_id : ℕ) (takes gives : AccountRow → AccountRow) (d c : AccountRow) (accounts later : List AccountRow) (trail mid grown : Noted) → ((y : AccountRow) → account_row_key (takes y) ≡ account_row_key y) → ((y : AccountRow) → account_row_key (gives y) ≡ account_row_key y)
-    → mid ≡ with_noted (Account d) trail → grown ≡ with_noted (Account c) mid
-    → d_id ≢ c_id → row_at accounts d_id ≡ Some d → row_at accounts c_id ≡ Some c → later ≡ changed account_row_key c_id gives (changed account_row_key d_id takes accounts) → IsNoted 2 accounts later trail grown
-noted_two d_id c_id takes gives d c accounts later trail mid grown same same' first_noted then_noted apart d_is c_is changes =
+pub noted_two : (d_id c_id : ℕ) (takes gives : AccountRow → AccountRow) (d c : AccountRow) (accounts later : List AccountRow) (undo_log mid grown : Noted) → ((y : AccountRow) → account_row_key (takes y) ≡ account_row_key y) → ((y : AccountRow) → account_row_key (gives y) ≡ account_row_key y)
+    → mid ≡ with_noted (Account d) undo_log → grown ≡ with_noted (Account c) mid
+    → d_id ≢ c_id → account_row_at accounts d_id ≡ Some d → account_row_at accounts c_id ≡ Some c → later ≡ changed account_row_key c_id gives (changed account_row_key d_id takes accounts) → IsNoted 2 accounts later undo_log grown
+noted_two d_id c_id takes gives d c accounts later undo_log mid grown same same' first_noted then_noted apart d_is c_is changes =
     let between = changed account_row_key d_id takes accounts in
     let still = found_still d_id c_id takes c accounts same apart c_is in
     let second : replaced account_row_key c later ≡ between = ap (replaced account_row_key c) changes ∙ replaced-changed account_row_key c_id gives c between same' still in
     let first : replaced account_row_key d between ≡ accounts = replaced-changed account_row_key d_id takes d accounts same d_is in
-    grown_by_two (Account d) (Account c) trail mid grown first_noted then_noted (λ pushed. record {
-      undo_accounts = ap (λ us. unwound_accounts us later) pushed ∙ unwound_two trail.changes (Account d) (Account c) later ∙ ap (unwound_accounts trail.changes) (ap (replaced account_row_key d) second ∙ first);
-      undo_transfers = λ rows. ap (λ us. unwound_transfers us rows) pushed ∙ unwound_transfers_two trail.changes d c rows;
-      undo_timeouts = λ ts. ap (λ us. unwound_timeouts us ts) pushed ∙ unwound_timeouts_two trail.changes d c ts;
-      can_unwind = λ ts can. subst (λ us. CanUnwind us ts) (sym pushed) (can_two trail.changes d c ts can);
+    grown_by_two (Account d) (Account c) undo_log mid grown first_noted then_noted (λ pushed. record {
+      undo_accounts = ap (λ us. unwound_accounts us later) pushed ∙ unwound_two undo_log.changes (Account d) (Account c) later ∙ ap (unwound_accounts undo_log.changes) (ap (replaced account_row_key d) second ∙ first);
+      undo_transfers = λ rows. ap (λ us. unwound_transfers us rows) pushed ∙ unwound_transfers_two undo_log.changes d c rows;
+      undo_timeouts = λ ts. ap (λ us. unwound_timeouts us ts) pushed ∙ unwound_timeouts_two undo_log.changes d c ts;
+      can_unwind = λ ts can. subst (λ us. CanUnwind us ts) (sym pushed) (can_two undo_log.changes d c ts can);
     })
 
-pub noted_passed : (t : Transfer) (d c : AccountRow) (accounts later : List AccountRow) (trail mid grown : Noted) → mid ≡ with_noted (Account d) trail → grown ≡ with_noted (Account c) mid
-    → t.debit_account_id ≢ t.credit_account_id → row_at accounts t.debit_account_id ≡ Some d → row_at accounts t.credit_account_id ≡ Some c → later ≡ accounts_gained t accounts → IsNoted 2 accounts later trail grown
-noted_passed t d c accounts later trail mid grown first_noted then_noted apart d_is c_is gains =
-    noted_two t.debit_account_id t.credit_account_id (on_debits (gained closing_debit t)) (on_credits (gained closing_credit t)) d c accounts later trail mid grown (λ y. refl) (λ y. refl) first_noted then_noted apart d_is c_is gains
+pub noted_passed : (t : Transfer) (d c : AccountRow) (accounts later : List AccountRow) (undo_log mid grown : Noted) → mid ≡ with_noted (Account d) undo_log → grown ≡ with_noted (Account c) mid
+    → t.debit_account_id ≢ t.credit_account_id → account_row_at accounts t.debit_account_id ≡ Some d → account_row_at accounts t.credit_account_id ≡ Some c → later ≡ accounts_gained t accounts → IsNoted 2 accounts later undo_log grown
+noted_passed t d c accounts later undo_log mid grown first_noted then_noted apart d_is c_is gains =
+    noted_two t.debit_account_id t.credit_account_id (on_debits (gained closing_debit t)) (on_credits (gained closing_credit t)) d c accounts later undo_log mid grown (λ y. refl) (λ y. refl) first_noted then_noted apart d_is c_is gains

@@ -8,7 +8,7 @@ use Rattle.tb_records.proofs.ByKey.{sum_by-same, sum_by-through, find-map, found
 use Rattle.tb_ledger.specs.declared.tables.accounts.AccountRow.{AccountRow}
 use Rattle.tb_ledger.specs.declared.tables.transfers.TransferRow.{TransferRow}
 use Rattle.tb_ledger.specs.Books.{Books, closed, pending, moves, is_open, holds, state_of, closing_debit, closing_credit, stands_closed, as_it_stands, account_at, account_now, debit, credit, pending_on, posted_on}
-use Rattle.tb_ledger.specs.Kept.{account_row_key, books_of, row_closed, row_now, row_holds, bit, pending_share, posted_share, closing_share, HasSums, HasState, Takes}
+use Rattle.tb_ledger.specs.Kept.{account_row_key, books_of, row_closed, row_now, row_holds, bit, pending_share, posted_share, closing_share, HasSums, HasState, CanTake}
 use Rattle.tb_ledger.proofs.FoundPairs.{FoundPair}
 
 -- a bit that counts how many there are says whether there is one
@@ -93,7 +93,7 @@ module _ (accounts : List AccountRow) (transfers : List TransferRow) (failed : L
 
     -- an accepted transfer's accounts can take it
     module _ (t : Transfer) (moves_t : FoundPair B t) (sums : Each (HasSums transfers) accounts) where
-      pub takes_debit : (a : AccountRow) → find (λ a. a.created.id == t.debit_account_id) accounts ≡ Some a → Takes closing_debit t a.debits
+      pub takes_debit : (a : AccountRow) → find (λ a. a.created.id == t.debit_account_id) accounts ≡ Some a → CanTake closing_debit t a.debits
       takes_debit a found =
           let has = each-find (HasSums transfers) (λ a. a.created.id == t.debit_account_id) a accounts sums found in
           let same = found_key account_row_key t.debit_account_id a accounts found in
@@ -103,7 +103,7 @@ module _ (accounts : List AccountRow) (transfers : List TransferRow) (failed : L
           let open_still = closed_stands t.debit_account_id a has found ∙ ap (stands_closed B) (sym it) ∙ moves_t.debit_open in
           (omega (arith, held, posted, moves_t.debits_fit), λ _. (neither (closed a.created) a.debits.held_closed a.credits.held_closed open_still).0)
 
-      pub takes_credit : (a : AccountRow) → find (λ a. a.created.id == t.credit_account_id) accounts ≡ Some a → Takes closing_credit t a.credits
+      pub takes_credit : (a : AccountRow) → find (λ a. a.created.id == t.credit_account_id) accounts ≡ Some a → CanTake closing_credit t a.credits
       takes_credit a found =
           let has = each-find (HasSums transfers) (λ a. a.created.id == t.credit_account_id) a accounts sums found in
           let same = found_key account_row_key t.credit_account_id a accounts found in

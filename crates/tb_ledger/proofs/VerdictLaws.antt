@@ -11,7 +11,7 @@ use Rattle.tb_records.specs.declared.transfer_results.CreateTransferResult.TheVa
 use Rattle.tb_records.specs.AccountResults.{account_result_code}
 use Rattle.tb_records.specs.TransferResults.{transfer_result_code}
 use Rattle.tb_ledger.specs.Books.{Books, has, closed, posts, resolves, pending, transfer_at, account_now, as_it_stands, state_of, debit, credit}
-use Rattle.tb_ledger.specs.Verdicts.{recorded_transfer, Line, closed_lines, closed_at, named_lines, named_code, resolve_own_lines, resolve_code, transfer_verdict, first_of, first_code, account_own_lines, account_exists_lines, account_new_lines, account_verdict, transfer_own_lines, transfer_exists_lines, failed_lines, filled, filled_from, single_own_lines, balanced_amount, balanced_between, single_code, pair_code, id_code, closed_lines}
+use Rattle.tb_ledger.specs.Verdicts.{recorded_transfer, Test, closed_tests, closed_at, named_tests, named_code, resolve_own_tests, resolve_code, transfer_verdict, first_of, first_code, account_own_tests, account_exists_tests, account_new_tests, account_verdict, transfer_own_tests, transfer_exists_tests, failed_tests, filled, filled_from, single_own_tests, balanced_amount, balanced_between, single_code, pair_code, id_code, closed_tests}
 use Rattle.tb_ledger.specs.declared.tables.rows.Rows.{Rows}
 use Rattle.tb_ledger.specs.Kept.{books_in, IsKept, row_now, row_closed, HasSums, HasState}
 use Rattle.tb_records.proofs.ByKey.{find-map, each-find}
@@ -25,7 +25,7 @@ use Rattle.tb_records.specs.Ordered.{Each}
 use Rattle.tb_ledger.specs.Sound.{ledger_at}
 use Rattle.tb_ledger.proofs.FoundPairs.{FoundPair}
 use Rattle.tb_ledger.specs.Found.{FoundPending}
-use Rattle.tb_ledger.specs.Exchanges.{row_at}
+use Rattle.tb_ledger.specs.Exchanges.{account_row_at}
 use Rattle.tb_ledger.specs.Settlings.{closed_code}
 
 -- an id is found among ids
@@ -45,40 +45,40 @@ only (suc n) = let e : (suc n == 0) ≡ false = grind (arith, nat_tests) in rw e
 second_code : (x y z : ℕ) → x ≡ 0 → (y ≡ 0 → ⊥) → first_code (x ∷ y ∷ z ∷ []) ≡ y
 second_code x y z none refused = let e : (y == 0) ≡ false = grind (arith, nat_tests) in rw (none, e) refl
 
-account_refused : (a e : Account) → first_of (account_exists_lines (Some e) a) ≡ 0 → ⊥
-account_refused a e is = let there : true ≡ false = (fail (account_exists_lines (Some e) a) refl is).1.1.1.1.1.1.0 in absurd (cc)
+account_refused : (a e : Account) → first_of (account_exists_tests (Some e) a) ≡ 0 → ⊥
+account_refused a e is = let there : true ≡ false = (fail (account_exists_tests (Some e) a) refl is).1.1.1.1.1.1.0 in absurd (cc)
 
-transfer_refused : (f e : Transfer) → first_of (transfer_exists_lines (Some e) f) ≡ 0 → ⊥
-transfer_refused f e is = let there : true ≡ false = (fail (transfer_exists_lines (Some e) f) refl is).1.1.1.1.1.1.1.1.1.1.1.0 in absurd (cc)
+transfer_refused : (f e : Transfer) → first_of (transfer_exists_tests (Some e) f) ≡ 0 → ⊥
+transfer_refused f e is = let there : true ≡ false = (fail (transfer_exists_tests (Some e) f) refl is).1.1.1.1.1.1.1.1.1.1.1.0 in absurd (cc)
 
-account_there_code : (B : Books) (a e : Account) → first_of (account_own_lines a) ≡ 0 → account_now B a.id ≡ Some e → first_of (account_exists_lines (Some e) a) ≡ account_verdict B a
-account_there_code B a e own found = rw found (sym (second_code _ _ (first_of (account_new_lines a)) own (account_refused a e)))
+account_there_code : (B : Books) (a e : Account) → first_of (account_own_tests a) ≡ 0 → account_now B a.id ≡ Some e → first_of (account_exists_tests (Some e) a) ≡ account_verdict B a
+account_there_code B a e own found = rw found (sym (second_code _ _ (first_of (account_new_tests a)) own (account_refused a e)))
 
 -- an account whose id is there is refused
-pub account_there_judged : (B : Books) (a e : Account) (refusal : CreateAccountResult) → first_of (account_own_lines a) ≡ 0 → account_now B a.id ≡ Some e → account_result_code refusal ≡ first_of (account_exists_lines (Some e) a)
+pub account_there_judged : (B : Books) (a e : Account) (refusal : CreateAccountResult) → first_of (account_own_tests a) ≡ 0 → account_now B a.id ≡ Some e → account_result_code refusal ≡ first_of (account_exists_tests (Some e) a)
     → (account_verdict B a ≡ account_result_code refusal) × (account_result_code refusal ≢ 0)
 account_there_judged B a e refusal own found is = (sym (is ∙ account_there_code B a e own found), λ none. account_refused a e (sym is ∙ none))
 
-pub account_new_code : (B : Books) (a : Account) → first_of (account_own_lines a) ≡ 0 → account_now B a.id ≡ None → first_of (account_new_lines a) ≡ account_verdict B a
-account_new_code B a own found = rw (found, own) (sym (only (first_of (account_new_lines a))))
+pub account_new_code : (B : Books) (a : Account) → first_of (account_own_tests a) ≡ 0 → account_now B a.id ≡ None → first_of (account_new_tests a) ≡ account_verdict B a
+account_new_code B a own found = rw (found, own) (sym (only (first_of (account_new_tests a))))
 
 -- filling
 pub filled_missing : (B : Books) (t : Transfer) → resolves t ≡ true → transfer_at B t.pending_id ≡ None → filled B t ≡ t
 filled_missing B t is found = rw (is, found) refl
 
 -- a transfer whose id is there
-id_there : (B : Books) (t e : Transfer) → first_of (transfer_own_lines t) ≡ 0 → transfer_at B t.id ≡ Some e
-    → first_of (transfer_exists_lines (Some e) (filled B t)) ≡ id_code B t
-id_there B t e own found = rw found (sym (second_code _ _ (first_of (failed_lines B.failed t)) own (transfer_refused (filled B t) e)))
+id_there : (B : Books) (t e : Transfer) → first_of (transfer_own_tests t) ≡ 0 → transfer_at B t.id ≡ Some e
+    → first_of (transfer_exists_tests (Some e) (filled B t)) ≡ id_code B t
+id_there B t e own found = rw found (sym (second_code _ _ (first_of (failed_tests B.failed t)) own (transfer_refused (filled B t) e)))
 
-pub id_there_judged : (B : Books) (t e : Transfer) (refusal : CreateTransferResult) → first_of (transfer_own_lines t) ≡ 0 → transfer_at B t.id ≡ Some e → transfer_result_code refusal ≡ first_of (transfer_exists_lines (Some e) (filled B t))
+pub id_there_judged : (B : Books) (t e : Transfer) (refusal : CreateTransferResult) → first_of (transfer_own_tests t) ≡ 0 → transfer_at B t.id ≡ Some e → transfer_result_code refusal ≡ first_of (transfer_exists_tests (Some e) (filled B t))
     → (id_code B t ≡ transfer_result_code refusal) × (transfer_result_code refusal ≢ 0)
 id_there_judged B t e refusal own found is = (sym (is ∙ id_there B t e own found), λ none. transfer_refused (filled B t) e (sym is ∙ none))
 
 -- a transfer whose id isn't there
-pub id_free : (B : Books) (t : Transfer) → first_of (transfer_own_lines t) ≡ 0 → transfer_at B t.id ≡ None
-    → first_of (failed_lines B.failed t) ≡ id_code B t
-id_free B t own found = rw (own, found) (sym (only (first_of (failed_lines B.failed t))))
+pub id_free : (B : Books) (t : Transfer) → first_of (transfer_own_tests t) ≡ 0 → transfer_at B t.id ≡ None
+    → first_of (failed_tests B.failed t) ≡ id_code B t
+id_free B t own found = rw (own, found) (sym (only (first_of (failed_tests B.failed t))))
 
 pub balanced_found : (B : Books) (t : Transfer) (d c : Account) → account_now B t.debit_account_id ≡ Some d → account_now B t.credit_account_id ≡ Some c
     → balanced_amount d c t ≡ balanced_between (account_now B t.debit_account_id) (account_now B t.credit_account_id) t
@@ -116,11 +116,11 @@ closed_stands_at rows kept id = ap (λ o. option_map_or closed o false) (account
 
 -- whether both accounts of a pending transfer are closed, by their rows
 pub closed_by_rows : {A : Type 0} (rows : Rows A) → IsKept rows → (t p : Transfer) (d c : AccountRow) → find (λ a. a.created.id == p.debit_account_id) rows.accounts.items ≡ Some d → find (λ a. a.created.id == p.credit_account_id) rows.accounts.items ≡ Some c
-    → (code : ℕ) → code ≡ first_of (closed_lines t (row_closed d) (row_closed c)) → code ≡ first_of (closed_lines t (closed_at (books_in rows) p.debit_account_id) (closed_at (books_in rows) p.credit_account_id))
+    → (code : ℕ) → code ≡ first_of (closed_tests t (row_closed d) (row_closed c)) → code ≡ first_of (closed_tests t (closed_at (books_in rows) p.debit_account_id) (closed_at (books_in rows) p.credit_account_id))
 closed_by_rows rows kept t p d c d_is c_is code is =
     let debit = closed_stands_at rows kept p.debit_account_id ∙ ap (λ o. option_map_or row_closed o false) d_is in
     let credit = closed_stands_at rows kept p.credit_account_id ∙ ap (λ o. option_map_or row_closed o false) c_is in
-    is ∙ sym (ap (λ b. first_of (closed_lines t b (closed_at (books_in rows) p.credit_account_id))) debit ∙ ap (λ b. first_of (closed_lines t (row_closed d) b)) credit)
+    is ∙ sym (ap (λ b. first_of (closed_tests t b (closed_at (books_in rows) p.credit_account_id))) debit ∙ ap (λ b. first_of (closed_tests t (row_closed d) b)) credit)
 
 -- the account that a recorded transfer names is there
 some_from : {X Y : Type 0} (g : X → Y) (y : Y) (o : Option X) → option_map g o ≡ Some y → IsSome o
@@ -146,32 +146,32 @@ debit_there rows kept id p found = named_there rows debit kept.sound.debits.name
 pub credit_there : {A : Type 0} (rows : Rows A) → IsKept rows → (id : ℕ) (p : TransferRow) → find (λ row. row.recorded.id == id) rows.transfers.items ≡ Some p → IsSome (find (λ a. a.created.id == p.recorded.credit_account_id) rows.accounts.items)
 credit_there rows kept id p found = named_there rows credit kept.sound.credits.named id p found
 
--- lines behind the first
-abbrev later : List Line → List Line
+-- tests behind the first
+abbrev later : List Test → List Test
 later [] = []
-later (line ∷ lines) = lines
+later (test ∷ tests) = tests
 
 -- the state counts only where the transfer is pending
-named_same : (t p : Transfer) (s s' : State) → (pending p ≡ true → s ≡ s') → first_of (named_lines t p s) ≡ first_of (named_lines t p s')
+named_same : (t p : Transfer) (s s' : State) → (pending p ≡ true → s ≡ s') → first_of (named_tests t p s) ≡ first_of (named_tests t p s')
 named_same t p s s' same = by (pending p) same
   where
-    by : (b : Bool) → (b ≡ true → s ≡ s') → (if not b then 26 else first_of (later (named_lines t p s))) ≡ (if not b then 26 else first_of (later (named_lines t p s')))
-    by true same = ap (λ s. first_of (later (named_lines t p s))) (same refl)
+    by : (b : Bool) → (b ≡ true → s ≡ s') → (if not b then 26 else first_of (later (named_tests t p s))) ≡ (if not b then 26 else first_of (later (named_tests t p s')))
+    by true same = ap (λ s. first_of (later (named_tests t p s))) (same refl)
     by false same = refl
 
 -- a post or void and the row that it names
 pub named_row : {A : Type 0} (rows : Rows A) → IsKept rows → (id : ℕ) (p : TransferRow) → find (λ row. row.recorded.id == id) rows.transfers.items ≡ Some p → (t : Transfer) (named closed_code : ℕ)
-    → named ≡ first_of (named_lines t p.recorded p.state) → closed_code ≡ first_of (closed_lines t (closed_at (books_in rows) p.recorded.debit_account_id) (closed_at (books_in rows) p.recorded.credit_account_id))
+    → named ≡ first_of (named_tests t p.recorded p.state) → closed_code ≡ first_of (closed_tests t (closed_at (books_in rows) p.recorded.debit_account_id) (closed_at (books_in rows) p.recorded.credit_account_id))
     → named_code (books_in rows) t (Some p.recorded) ≡ first_code (named ∷ closed_code ∷ [])
 named_row rows kept id p found t named closed_code named_is closed_is =
     let B = books_in rows in
     let has = each-find (HasState rows.transfers.items rows.time) (λ row. row.recorded.id == id) p rows.transfers.items kept.kept.states found in
-    let same : named ≡ first_of (named_lines t p.recorded (state_of B p.recorded)) = named_is ∙ named_same t p.recorded p.state (state_of B p.recorded) has.state_is in
-    ap (λ n. first_code (n ∷ first_of (closed_lines t (closed_at B p.recorded.debit_account_id) (closed_at B p.recorded.credit_account_id)) ∷ [])) (sym same) ∙ ap (λ n. first_code (named ∷ n ∷ [])) (sym closed_is)
+    let same : named ≡ first_of (named_tests t p.recorded (state_of B p.recorded)) = named_is ∙ named_same t p.recorded p.state (state_of B p.recorded) has.state_is in
+    ap (λ n. first_code (n ∷ first_of (closed_tests t (closed_at B p.recorded.debit_account_id) (closed_at B p.recorded.credit_account_id)) ∷ [])) (sym same) ∙ ap (λ n. first_code (named ∷ n ∷ [])) (sym closed_is)
 
 -- a post or void that fits its pending transfer has found it
 pub pending_fits : {A : Type 0} (rows : Rows A) → IsKept rows → (p : TransferRow) (t : Transfer) → find (λ row. row.recorded.id == t.pending_id) rows.transfers.items ≡ Some p → resolves t ≡ true
-    → first_of (resolve_own_lines t) ≡ 0 → first_of (named_lines t p.recorded p.state) ≡ 0 → FoundPending (books_in rows) (filled_from p.recorded t)
+    → first_of (resolve_own_tests t) ≡ 0 → first_of (named_tests t p.recorded p.state) ≡ 0 → FoundPending (books_in rows) (filled_from p.recorded t)
 pending_fits rows kept p t found resolving own named =
     let B = books_in rows in
     let has = each-find (HasState rows.transfers.items rows.time) (λ row. row.recorded.id == t.pending_id) p rows.transfers.items kept.kept.states found in
@@ -185,10 +185,10 @@ pub pair_second : (x y : ℕ) → x ≡ 0 → first_code (x ∷ y ∷ []) ≡ y
 pair_second x y passed = rw passed (only y)
 
 -- a post or void that is right by itself: one that names no transfer, and one that does
-pub resolve_missing : (B : Books) (t : Transfer) → first_of (resolve_own_lines t) ≡ 0 → transfer_at B t.pending_id ≡ None → resolve_code B t ≡ transfer_result_code PendingTransferNotFound
+pub resolve_missing : (B : Books) (t : Transfer) → first_of (resolve_own_tests t) ≡ 0 → transfer_at B t.pending_id ≡ None → resolve_code B t ≡ transfer_result_code PendingTransferNotFound
 resolve_missing B t own none = rw (own, none) refl
 
-pub resolve_found : (B : Books) (t p : Transfer) → first_of (resolve_own_lines t) ≡ 0 → transfer_at B t.pending_id ≡ Some p → resolve_code B t ≡ named_code B t (Some p)
+pub resolve_found : (B : Books) (t p : Transfer) → first_of (resolve_own_tests t) ≡ 0 → transfer_at B t.pending_id ≡ Some p → resolve_code B t ≡ named_code B t (Some p)
 resolve_found B t p own found = rw (own, found) (only (named_code B t (Some p)))
 
 -- a transfer whose id is free has the verdict of its kind
@@ -239,18 +239,18 @@ pub recorded_pending : (B : Books) (t f : Transfer) (time : ℕ) → resolves t 
 recorded_pending B t f time resolving ok is = found_stamped B f time (subst (λ f. FoundPending B f) (sym is) (found_pending B t time resolving ok))
 
 -- a transfer between two accounts that is wrong by itself, and one that isn't
-pub own_refused : (B : Books) (t : Transfer) (time code : ℕ) → code ≡ first_of (single_own_lines t) → code ≢ 0 → single_code B t time ≡ code
+pub own_refused : (B : Books) (t : Transfer) (time code : ℕ) → code ≡ first_of (single_own_tests t) → code ≢ 0 → single_code B t time ≡ code
 own_refused B t time code is refused =
-    let some : eqb (first_of (single_own_lines t)) 0 ≡ false = let differs : first_of (single_own_lines t) ≢ 0 = λ e. refused (is ∙ e) in grind (arith, nat_tests) in
-    let here : single_code B t time ≡ first_of (single_own_lines t) = rw some refl in
+    let some : eqb (first_of (single_own_tests t)) 0 ≡ false = let differs : first_of (single_own_tests t) ≢ 0 = λ e. refused (is ∙ e) in grind (arith, nat_tests) in
+    let here : single_code B t time ≡ first_of (single_own_tests t) = rw some refl in
     here ∙ sym is
 
-pair_left : (B : Books) (t : Transfer) (time : ℕ) → first_of (single_own_lines t) ≡ 0 → single_code B t time ≡ pair_code (account_now B t.debit_account_id) (account_now B t.credit_account_id) t time
+pair_left : (B : Books) (t : Transfer) (time : ℕ) → first_of (single_own_tests t) ≡ 0 → single_code B t time ≡ pair_code (account_now B t.debit_account_id) (account_now B t.credit_account_id) t time
 pair_left B t time own = rw own (only (pair_code (account_now B t.debit_account_id) (account_now B t.credit_account_id) t time))
 
 -- its verdict, by the rows of its accounts
-pub verdict_by_rows : {A : Type 0} (rows : Rows A) → IsKept rows → (t : Transfer) (time : ℕ) → id_code (books_in rows) t ≡ 0 → resolves t ≡ false → first_of (single_own_lines t) ≡ 0
-    → transfer_verdict (books_in rows) t time ≡ pair_code (option_map row_now (row_at rows.accounts.items t.debit_account_id)) (option_map row_now (row_at rows.accounts.items t.credit_account_id)) t time
+pub verdict_by_rows : {A : Type 0} (rows : Rows A) → IsKept rows → (t : Transfer) (time : ℕ) → id_code (books_in rows) t ≡ 0 → resolves t ≡ false → first_of (single_own_tests t) ≡ 0
+    → transfer_verdict (books_in rows) t time ≡ pair_code (option_map row_now (account_row_at rows.accounts.items t.debit_account_id)) (option_map row_now (account_row_at rows.accounts.items t.credit_account_id)) t time
 verdict_by_rows rows kept t time free single own =
     let B = books_in rows in
     single_verdict B t time free single ∙ pair_left B t time own ∙ ap₂ (λ d c. pair_code d c t time) (account_stands rows kept t.debit_account_id) (account_stands rows kept t.credit_account_id)

@@ -1,12 +1,12 @@
 -- What it takes to enter a batch.
 use Rattle.std.specs.Prelude.{ℕ, ◌≡◌, ◌+◌, ◌*◌, ◌≤◌, [], max, vec_capacity}
 use Rattle.tb_ledger.specs.declared.batches.buffers.Buffers.{Buffers}
-use Rattle.tb_ledger.specs.declared.tables.trail.TheConstants.{TRAIL_PER_EVENT}
+use Rattle.tb_ledger.specs.declared.tables.undo_log.TheConstants.{UNDOS_PER_EVENT}
 use Rattle.tb_ledger.specs.Verdicts.{max_time}
 
 -- an undo log and a list of results with the capacity for n events; no result is there yet
 pub record AreMadeFor {A : Type 0} (n : ℕ) (buffers : Buffers A) : Type 0 where
-  pub log : TRAIL_PER_EVENT * n ≤ buffers.log.capacity
+  pub log : UNDOS_PER_EVENT * n ≤ buffers.log.capacity
   pub results : n ≤ vec_capacity buffers.refused
   pub none : buffers.refused.items ≡ []
 

@@ -195,8 +195,8 @@ abbrev pub state_given_by : Transfer → State
 state_given_by r = if posts r then Posted else Voided
 
 -- a side can take t: the sums fit, and where t closes it, nothing holds it closed
-abbrev pub Takes : (Transfer → Bool) → Transfer → Side → Type 0
-Takes closes t s = (s.pending + s.posted + t.amount ≤ int_max) × ((pending t && closes t) ≡ true → s.held_closed ≡ false)
+abbrev pub CanTake : (Transfer → Bool) → Transfer → Side → Type 0
+CanTake closes t s = (s.pending + s.posted + t.amount ≤ int_max) × ((pending t && closes t) ≡ true → s.held_closed ≡ false)
 
 -- an account without sums and without what is reserved, as each one is created
 abbrev pub blank : Account → Account

@@ -16,7 +16,7 @@ pub mod Found
 pub mod Exchanges
 pub mod Settlings
 pub mod Noted
-pub mod Trail
+pub mod UndoLog
 pub mod Capacity
 pub mod Steps
 pub mod Entering

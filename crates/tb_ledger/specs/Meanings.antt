@@ -17,7 +17,7 @@ abbrev pub HeldWhileOpen : Type 0
 HeldWhileOpen = (B : Books) (p : Transfer) → (holds B p ≡ true) ↔ IsHeld B p
 
 -- on one side of the accounts: the record f of a post or void of p takes p's whole amount out of the pending sum, and that of a post puts its own into the posted one
-pub record Settles (side : Transfer → ℕ) (B : Books) (f p : Transfer) : Type 0 where
+pub record SettlesSide (side : Transfer → ℕ) (B : Books) (f p : Transfer) : Type 0 where
   pub pending_leaves : (id : ℕ) → pending_on side (record B { transfers = put transfer_key f B.transfers }) id + (if side p == id then p.amount else 0) ≡ pending_on side B id
   pub posted_comes : (id : ℕ) → posted_on side (record B { transfers = put transfer_key f B.transfers }) id ≡ posted_on side B id + (if (side p == id) && posts f then f.amount else 0)
 
@@ -26,8 +26,8 @@ pub record SettlesNamed (B : Books) (t r : Transfer) : Type 0 where
   pub p : Transfer
   pub named : transfer_at B t.pending_id ≡ Some p
   pub held : holds B p ≡ true
-  pub debits : Settles debit B r p
-  pub credits : Settles credit B r p
+  pub debits : SettlesSide debit B r p
+  pub credits : SettlesSide credit B r p
 
 -- every post or void that is accepted, as it is recorded
 abbrev pub SettlesBoth : Type 0

@@ -2,34 +2,34 @@
 use Rattle.std.specs.Prelude.{ℕ, ◌≡◌, ◌+◌, ◌*◌, ◌^◌, ◌<◌, ◌≤◌, ◌==◌, true, map, find, Some, None}
 use Rattle.tb_records.specs.declared.records.Transfer.{Transfer}
 use Rattle.tb_ledger.specs.declared.tables.rows.Rows.{Rows}
-use Rattle.tb_ledger.specs.declared.tables.trail.TheConstants.{TRAIL_PER_EVENT}
+use Rattle.tb_ledger.specs.declared.tables.undo_log.TheConstants.{UNDOS_PER_EVENT}
 use Rattle.tb_ledger.specs.declared.tables.transfers.TransferRow.{TransferRow}
 use Rattle.tb_ledger.specs.Books.{resolves, transfer_at}
 use Rattle.tb_ledger.specs.Capacity.{Capacity, capacity_of, Uses}
 use Rattle.tb_ledger.specs.Found.{FoundPending}
 use Rattle.tb_ledger.specs.Kept.{books_in, IsKept, PrecedesTimeouts}
 use Rattle.tb_ledger.specs.Noted.{Noted, HasCapacityFor}
-use Rattle.tb_ledger.specs.Trail.{IsStep, unwound_accounts, unwound_transfers, unwound_timeouts}
+use Rattle.tb_ledger.specs.UndoLog.{IsStep, unwound_accounts, unwound_transfers, unwound_timeouts}
 
 -- ready for one event with the stamp
-pub record IsReady {A : Type 0} (HasCapacity : ℕ → Capacity → Type 0) (rows : Rows A) (noted : Noted) (stamp : ℕ) : Type 0 where
+pub record IsPrepared {A : Type 0} (HasCapacity : ℕ → Capacity → Type 0) (rows : Rows A) (noted : Noted) (stamp : ℕ) : Type 0 where
   pub kept : IsKept rows
   pub capacity : HasCapacity 1 (capacity_of rows)
   pub stamped : PrecedesTimeouts rows stamp
-  pub log : HasCapacityFor TRAIL_PER_EVENT noted
+  pub log : HasCapacityFor UNDOS_PER_EVENT noted
 
 -- ready for n events in a row, the first with the stamp
-pub record IsReadyFor {A : Type 0} (HasCapacity : ℕ → Capacity → Type 0) (n : ℕ) (rows : Rows A) (noted : Noted) (stamp : ℕ) : Type 0 where
+pub record IsPreparedFor {A : Type 0} (HasCapacity : ℕ → Capacity → Type 0) (n : ℕ) (rows : Rows A) (noted : Noted) (stamp : ℕ) : Type 0 where
   pub kept : IsKept rows
   pub capacity : HasCapacity n (capacity_of rows)
   pub stamped : PrecedesTimeouts rows stamp
   pub in_range : stamp + n < 2 ^ 64
-  pub log : TRAIL_PER_EVENT * n ≤ noted.capacity
+  pub log : UNDOS_PER_EVENT * n ≤ noted.capacity
 
 -- after one event: rows that are kept, from which the log leads back
 pub record Leaves {A : Type 0} (rows later : Rows A) (noted grown : Noted) : Type 0 where
   pub kept : IsKept later
-  pub step : IsStep TRAIL_PER_EVENT rows later noted grown
+  pub step : IsStep UNDOS_PER_EVENT rows later noted grown
   pub capacity : Uses 1 (capacity_of rows) (capacity_of later)
 
 -- after n events: rows that are kept, at the same time

@@ -7,7 +7,7 @@ use Rattle.std.specs.Map.{values_of}
 use Rattle.tb_records.specs.Ordered.{replaced, Each, Rising}
 use Rattle.avl_tree.specs.Map.{Map, entries}
 use Rattle.avl_tree.specs.Search.{least}
-use Rattle.tb_ledger.specs.declared.tables.known.Known.{Known}
+use Rattle.tb_ledger.specs.declared.tables.absent_ids.AbsentIds.{AbsentIds}
 
 -- of a map that is made once there is something to keep: its pairs, its rows, and the number of spare nodes
 abbrev pub pairs_in : {K V : Type 0} → Option (Map K V) → List (K × V)
@@ -30,12 +30,12 @@ pub record IsTable {V : Type 0} (key : V → ℕ) (es : List (ℕ × V)) : Type 
   pub rising : Rising key (values_of es)
 
 -- by what a table knows of its keys, k may be one: it is at most the top, and where ids were sought, unlike each that was not found (0 stands for no id)
-pub record MayBeKey (known : Known) (k : ℕ) : Type 0 where
+pub record MayBeKey (known : AbsentIds) (k : ℕ) : Type 0 where
   pub at_most : k ≤ known.top
   pub unlike : known.sought ≡ true → Each (λ id. 0 < id → k ≢ id) known.absent
 
 -- a table, and what it knows of its keys
-pub record IsKnown {V : Type 0} (key : V → ℕ) (known : Known) (es : List (ℕ × V)) : Type 0 where
+pub record KnowsAbsent {V : Type 0} (key : V → ℕ) (known : AbsentIds) (es : List (ℕ × V)) : Type 0 where
   pub table : IsTable key es
   pub may : Each (λ row. MayBeKey known (key row)) (values_of es)
 

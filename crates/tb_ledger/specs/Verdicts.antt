@@ -1,5 +1,5 @@
--- The verdict on an account and on a transfer: the code of the first line of a table that holds, and 0 where none does.
--- The groups of lines stand in the order in which an event meets them.
+-- The verdict on an account and on a transfer: the code of the first test of a table that holds, and 0 where none does.
+-- The groups of tests stand in the order in which an event meets them.
 use Rattle.std.specs.Prelude.{ℕ, Bool, true, false, not, ◌&&◌, ◌==◌, ◌+◌, ◌-◌, ◌*◌, min, nat_lt, List, [], ◌∷◌, Option, Some, None, if◌then◌else◌}
 use Rattle.std.specs.List.{list_any}
 use Rattle.std.specs.Option.{option_map_or}
@@ -14,22 +14,22 @@ use Rattle.tb_records.specs.TransferResults.{transfer_result_code}
 use Rattle.tb_ledger.specs.declared.tables.transfers.State.{State}
 use Rattle.tb_ledger.specs.Books.{Books, has, closed, debits_limited, credits_limited, pending, posts, voids, resolves, balancing_debit, balancing_credit, balancing, closing, transfer_at, state_of, is_posted, is_voided, is_expired, account_now}
 
--- a line of a table: its code, and whether it holds
-abbrev pub Line : Type 0
-Line = ℕ × Bool
+-- a test of a table: its code, and whether it holds
+abbrev pub Test : Type 0
+Test = ℕ × Bool
 
--- a line of an account, and one of a transfer: the code is that of a result
-abbrev pub account_line : CreateAccountResult → Bool → Line
-account_line result holds = (account_result_code result, holds)
+-- a test of an account, and one of a transfer: the code is that of a result
+abbrev pub account_test : CreateAccountResult → Bool → Test
+account_test result holds = (account_result_code result, holds)
 
-abbrev pub transfer_line : CreateTransferResult → Bool → Line
-transfer_line result holds = (transfer_result_code result, holds)
+abbrev pub transfer_test : CreateTransferResult → Bool → Test
+transfer_test result holds = (transfer_result_code result, holds)
 
-abbrev pub first_of : List Line → ℕ
+abbrev pub first_of : List Test → ℕ
 first_of [] = 0
-first_of (line ∷ lines) = if line.1 then line.0 else first_of lines
+first_of (test ∷ tests) = if test.1 then test.0 else first_of tests
 
--- groups of lines one after another: the first code that isn't 0
+-- groups of tests one after another: the first code that isn't 0
 abbrev pub first_code : List ℕ → ℕ
 first_code [] = 0
 first_code (code ∷ codes) = if code == 0 then first_code codes else code
@@ -46,42 +46,42 @@ is_not x y = not (x == y)
 
 -- an account
 
-abbrev pub account_own_lines : Account → List Line
-account_own_lines a =
-    account_line account.TimestampMustBeZero (is_not a.timestamp 0)
-    ∷ account_line account.ReservedField (is_not a.reserved 0)
-    ∷ account_line account.ReservedFlag (has 0xFFD0 a.flags)
-    ∷ account_line account.IdMustNotBeZero (a.id == 0)
-    ∷ account_line account.IdMustNotBeIntMax (a.id == int_max)
+abbrev pub account_own_tests : Account → List Test
+account_own_tests a =
+    account_test account.TimestampMustBeZero (is_not a.timestamp 0)
+    ∷ account_test account.ReservedField (is_not a.reserved 0)
+    ∷ account_test account.ReservedFlag (has 0xFFD0 a.flags)
+    ∷ account_test account.IdMustNotBeZero (a.id == 0)
+    ∷ account_test account.IdMustNotBeIntMax (a.id == int_max)
     ∷ []
 
 -- where the id is there, e is the account as it stands
-abbrev pub account_exists_lines : Option Account → Account → List Line
-account_exists_lines None a = []
-account_exists_lines (Some e) a =
-    account_line account.ExistsWithDifferentFlags (is_not a.flags e.flags)
-    ∷ account_line account.ExistsWithDifferentUserData128 (is_not a.user_data_128 e.user_data_128)
-    ∷ account_line account.ExistsWithDifferentUserData64 (is_not a.user_data_64 e.user_data_64)
-    ∷ account_line account.ExistsWithDifferentUserData32 (is_not a.user_data_32 e.user_data_32)
-    ∷ account_line account.ExistsWithDifferentLedger (is_not a.ledger e.ledger)
-    ∷ account_line account.ExistsWithDifferentCode (is_not a.code e.code)
-    ∷ account_line account.Exists true
+abbrev pub account_exists_tests : Option Account → Account → List Test
+account_exists_tests None a = []
+account_exists_tests (Some e) a =
+    account_test account.ExistsWithDifferentFlags (is_not a.flags e.flags)
+    ∷ account_test account.ExistsWithDifferentUserData128 (is_not a.user_data_128 e.user_data_128)
+    ∷ account_test account.ExistsWithDifferentUserData64 (is_not a.user_data_64 e.user_data_64)
+    ∷ account_test account.ExistsWithDifferentUserData32 (is_not a.user_data_32 e.user_data_32)
+    ∷ account_test account.ExistsWithDifferentLedger (is_not a.ledger e.ledger)
+    ∷ account_test account.ExistsWithDifferentCode (is_not a.code e.code)
+    ∷ account_test account.Exists true
     ∷ []
 
-abbrev pub account_new_lines : Account → List Line
-account_new_lines a =
-    account_line account.FlagsAreMutuallyExclusive (has 2 a.flags && has 4 a.flags)
-    ∷ account_line account.DebitsPendingMustBeZero (is_not a.debits_pending 0)
-    ∷ account_line account.DebitsPostedMustBeZero (is_not a.debits_posted 0)
-    ∷ account_line account.CreditsPendingMustBeZero (is_not a.credits_pending 0)
-    ∷ account_line account.CreditsPostedMustBeZero (is_not a.credits_posted 0)
-    ∷ account_line account.LedgerMustNotBeZero (a.ledger == 0)
-    ∷ account_line account.CodeMustNotBeZero (a.code == 0)
+abbrev pub account_new_tests : Account → List Test
+account_new_tests a =
+    account_test account.FlagsAreMutuallyExclusive (has 2 a.flags && has 4 a.flags)
+    ∷ account_test account.DebitsPendingMustBeZero (is_not a.debits_pending 0)
+    ∷ account_test account.DebitsPostedMustBeZero (is_not a.debits_posted 0)
+    ∷ account_test account.CreditsPendingMustBeZero (is_not a.credits_pending 0)
+    ∷ account_test account.CreditsPostedMustBeZero (is_not a.credits_posted 0)
+    ∷ account_test account.LedgerMustNotBeZero (a.ledger == 0)
+    ∷ account_test account.CodeMustNotBeZero (a.code == 0)
     ∷ []
 
 -- present: the account of that id as it stands, if there is one
 abbrev pub account_code : Option Account → Account → ℕ
-account_code present a = first_code (first_of (account_own_lines a) ∷ first_of (account_exists_lines present a) ∷ first_of (account_new_lines a) ∷ [])
+account_code present a = first_code (first_of (account_own_tests a) ∷ first_of (account_exists_tests present a) ∷ first_of (account_new_tests a) ∷ [])
 
 abbrev pub account_verdict : Books → Account → ℕ
 account_verdict B a = account_code (account_now B a.id) a
@@ -92,12 +92,12 @@ recorded_account a time = record a { timestamp = time }
 
 -- a transfer: what either kind is asked first
 
-abbrev pub transfer_own_lines : Transfer → List Line
-transfer_own_lines t =
-    transfer_line transfer.TimestampMustBeZero (is_not t.timestamp 0)
-    ∷ transfer_line transfer.ReservedFlag (has 0xFF00 t.flags)
-    ∷ transfer_line transfer.IdMustNotBeZero (t.id == 0)
-    ∷ transfer_line transfer.IdMustNotBeIntMax (t.id == int_max)
+abbrev pub transfer_own_tests : Transfer → List Test
+transfer_own_tests t =
+    transfer_test transfer.TimestampMustBeZero (is_not t.timestamp 0)
+    ∷ transfer_test transfer.ReservedFlag (has 0xFF00 t.flags)
+    ∷ transfer_test transfer.IdMustNotBeZero (t.id == 0)
+    ∷ transfer_test transfer.IdMustNotBeIntMax (t.id == int_max)
     ∷ []
 
 -- a post or void takes the value of p, the pending transfer that it names, where its own is 0
@@ -126,42 +126,42 @@ abbrev pub filled : Books → Transfer → Transfer
 filled B t = if resolves t then option_map_or (λ p. filled_from p t) (transfer_at B t.pending_id) t else t
 
 -- where the id is there, e is the recorded transfer; f is the event, filled
-abbrev pub transfer_exists_lines : Option Transfer → Transfer → List Line
-transfer_exists_lines None f = []
-transfer_exists_lines (Some e) f =
-    transfer_line transfer.ExistsWithDifferentFlags (is_not f.flags e.flags)
-    ∷ transfer_line transfer.ExistsWithDifferentPendingId (is_not f.pending_id e.pending_id)
-    ∷ transfer_line transfer.ExistsWithDifferentTimeout (is_not f.timeout e.timeout)
-    ∷ transfer_line transfer.ExistsWithDifferentDebitAccountId (is_not f.debit_account_id e.debit_account_id)
-    ∷ transfer_line transfer.ExistsWithDifferentCreditAccountId (is_not f.credit_account_id e.credit_account_id)
-    ∷ transfer_line transfer.ExistsWithDifferentAmount (if balancing f then nat_lt f.amount e.amount else is_not f.amount e.amount)
-    ∷ transfer_line transfer.ExistsWithDifferentUserData128 (is_not f.user_data_128 e.user_data_128)
-    ∷ transfer_line transfer.ExistsWithDifferentUserData64 (is_not f.user_data_64 e.user_data_64)
-    ∷ transfer_line transfer.ExistsWithDifferentUserData32 (is_not f.user_data_32 e.user_data_32)
-    ∷ transfer_line transfer.ExistsWithDifferentLedger (is_not f.ledger e.ledger)
-    ∷ transfer_line transfer.ExistsWithDifferentCode (is_not f.code e.code)
-    ∷ transfer_line transfer.Exists true
+abbrev pub transfer_exists_tests : Option Transfer → Transfer → List Test
+transfer_exists_tests None f = []
+transfer_exists_tests (Some e) f =
+    transfer_test transfer.ExistsWithDifferentFlags (is_not f.flags e.flags)
+    ∷ transfer_test transfer.ExistsWithDifferentPendingId (is_not f.pending_id e.pending_id)
+    ∷ transfer_test transfer.ExistsWithDifferentTimeout (is_not f.timeout e.timeout)
+    ∷ transfer_test transfer.ExistsWithDifferentDebitAccountId (is_not f.debit_account_id e.debit_account_id)
+    ∷ transfer_test transfer.ExistsWithDifferentCreditAccountId (is_not f.credit_account_id e.credit_account_id)
+    ∷ transfer_test transfer.ExistsWithDifferentAmount (if balancing f then nat_lt f.amount e.amount else is_not f.amount e.amount)
+    ∷ transfer_test transfer.ExistsWithDifferentUserData128 (is_not f.user_data_128 e.user_data_128)
+    ∷ transfer_test transfer.ExistsWithDifferentUserData64 (is_not f.user_data_64 e.user_data_64)
+    ∷ transfer_test transfer.ExistsWithDifferentUserData32 (is_not f.user_data_32 e.user_data_32)
+    ∷ transfer_test transfer.ExistsWithDifferentLedger (is_not f.ledger e.ledger)
+    ∷ transfer_test transfer.ExistsWithDifferentCode (is_not f.code e.code)
+    ∷ transfer_test transfer.Exists true
     ∷ []
 
 -- by profile 2, an id that failed for good
-abbrev pub failed_lines : Option (List ℕ) → Transfer → List Line
-failed_lines failed t = transfer_line transfer.IdAlreadyFailed (option_map_or (list_any (λ id. id == t.id)) failed false) ∷ []
+abbrev pub failed_tests : Option (List ℕ) → Transfer → List Test
+failed_tests failed t = transfer_test transfer.IdAlreadyFailed (option_map_or (list_any (λ id. id == t.id)) failed false) ∷ []
 
 abbrev pub id_code : Books → Transfer → ℕ
-id_code B t = first_code (first_of (transfer_own_lines t) ∷ first_of (transfer_exists_lines (transfer_at B t.id) (filled B t)) ∷ first_of (failed_lines B.failed t) ∷ [])
+id_code B t = first_code (first_of (transfer_own_tests t) ∷ first_of (transfer_exists_tests (transfer_at B t.id) (filled B t)) ∷ first_of (failed_tests B.failed t) ∷ [])
 
 -- a post or void
 
-abbrev pub resolve_own_lines : Transfer → List Line
-resolve_own_lines t =
-    transfer_line transfer.FlagsAreMutuallyExclusive (posts t && voids t)
-    ∷ transfer_line transfer.FlagsAreMutuallyExclusive (pending t)
-    ∷ transfer_line transfer.FlagsAreMutuallyExclusive (balancing t)
-    ∷ transfer_line transfer.FlagsAreMutuallyExclusive (closing t)
-    ∷ transfer_line transfer.PendingIdMustNotBeZero (t.pending_id == 0)
-    ∷ transfer_line transfer.PendingIdMustNotBeIntMax (t.pending_id == int_max)
-    ∷ transfer_line transfer.PendingIdMustBeDifferent (t.pending_id == t.id)
-    ∷ transfer_line transfer.TimeoutReservedForPendingTransfer (is_not t.timeout 0)
+abbrev pub resolve_own_tests : Transfer → List Test
+resolve_own_tests t =
+    transfer_test transfer.FlagsAreMutuallyExclusive (posts t && voids t)
+    ∷ transfer_test transfer.FlagsAreMutuallyExclusive (pending t)
+    ∷ transfer_test transfer.FlagsAreMutuallyExclusive (balancing t)
+    ∷ transfer_test transfer.FlagsAreMutuallyExclusive (closing t)
+    ∷ transfer_test transfer.PendingIdMustNotBeZero (t.pending_id == 0)
+    ∷ transfer_test transfer.PendingIdMustNotBeIntMax (t.pending_id == int_max)
+    ∷ transfer_test transfer.PendingIdMustBeDifferent (t.pending_id == t.id)
+    ∷ transfer_test transfer.TimeoutReservedForPendingTransfer (is_not t.timeout 0)
     ∷ []
 
 -- x is given, and it isn't y
@@ -169,25 +169,25 @@ abbrev pub differs : ℕ → ℕ → Bool
 differs x y = is_not x 0 && is_not x y
 
 -- p is the pending transfer that t names, and s its state; the amount is the filled one
-abbrev pub named_lines : Transfer → Transfer → State → List Line
-named_lines t p s =
-    transfer_line transfer.PendingTransferNotPending (not (pending p))
-    ∷ transfer_line transfer.PendingTransferHasDifferentDebitAccountId (differs t.debit_account_id p.debit_account_id)
-    ∷ transfer_line transfer.PendingTransferHasDifferentCreditAccountId (differs t.credit_account_id p.credit_account_id)
-    ∷ transfer_line transfer.PendingTransferHasDifferentLedger (differs t.ledger p.ledger)
-    ∷ transfer_line transfer.PendingTransferHasDifferentCode (differs t.code p.code)
-    ∷ transfer_line transfer.ExceedsPendingTransferAmount (nat_lt p.amount (filled_amount p t))
-    ∷ transfer_line transfer.PendingTransferHasDifferentAmount (voids t && nat_lt (filled_amount p t) p.amount)
-    ∷ transfer_line transfer.PendingTransferAlreadyPosted (is_posted s)
-    ∷ transfer_line transfer.PendingTransferAlreadyVoided (is_voided s)
-    ∷ transfer_line transfer.PendingTransferExpired (is_expired s)
+abbrev pub named_tests : Transfer → Transfer → State → List Test
+named_tests t p s =
+    transfer_test transfer.PendingTransferNotPending (not (pending p))
+    ∷ transfer_test transfer.PendingTransferHasDifferentDebitAccountId (differs t.debit_account_id p.debit_account_id)
+    ∷ transfer_test transfer.PendingTransferHasDifferentCreditAccountId (differs t.credit_account_id p.credit_account_id)
+    ∷ transfer_test transfer.PendingTransferHasDifferentLedger (differs t.ledger p.ledger)
+    ∷ transfer_test transfer.PendingTransferHasDifferentCode (differs t.code p.code)
+    ∷ transfer_test transfer.ExceedsPendingTransferAmount (nat_lt p.amount (filled_amount p t))
+    ∷ transfer_test transfer.PendingTransferHasDifferentAmount (voids t && nat_lt (filled_amount p t) p.amount)
+    ∷ transfer_test transfer.PendingTransferAlreadyPosted (is_posted s)
+    ∷ transfer_test transfer.PendingTransferAlreadyVoided (is_voided s)
+    ∷ transfer_test transfer.PendingTransferExpired (is_expired s)
     ∷ []
 
 -- whether the accounts of p, as they stand, are closed
-abbrev pub closed_lines : Transfer → Bool → Bool → List Line
-closed_lines t debit_closed credit_closed =
-    transfer_line transfer.DebitAccountAlreadyClosed (posts t && debit_closed)
-    ∷ transfer_line transfer.CreditAccountAlreadyClosed (posts t && credit_closed)
+abbrev pub closed_tests : Transfer → Bool → Bool → List Test
+closed_tests t debit_closed credit_closed =
+    transfer_test transfer.DebitAccountAlreadyClosed (posts t && debit_closed)
+    ∷ transfer_test transfer.CreditAccountAlreadyClosed (posts t && credit_closed)
     ∷ []
 
 abbrev pub closed_at : Books → ℕ → Bool
@@ -196,36 +196,36 @@ closed_at B id = option_map_or closed (account_now B id) false
 abbrev pub named_code : Books → Transfer → Option Transfer → ℕ
 named_code B t None = transfer_result_code transfer.PendingTransferNotFound
 named_code B t (Some p) = first_code (
-    first_of (named_lines t p (state_of B p))
-    ∷ first_of (closed_lines t (closed_at B p.debit_account_id) (closed_at B p.credit_account_id))
+    first_of (named_tests t p (state_of B p))
+    ∷ first_of (closed_tests t (closed_at B p.debit_account_id) (closed_at B p.credit_account_id))
     ∷ [])
 
 abbrev pub resolve_code : Books → Transfer → ℕ
-resolve_code B t = first_code (first_of (resolve_own_lines t) ∷ named_code B t (transfer_at B t.pending_id) ∷ [])
+resolve_code B t = first_code (first_of (resolve_own_tests t) ∷ named_code B t (transfer_at B t.pending_id) ∷ [])
 
 -- any other transfer
 
-abbrev pub single_own_lines : Transfer → List Line
-single_own_lines t =
-    transfer_line transfer.DebitAccountIdMustNotBeZero (t.debit_account_id == 0)
-    ∷ transfer_line transfer.DebitAccountIdMustNotBeIntMax (t.debit_account_id == int_max)
-    ∷ transfer_line transfer.CreditAccountIdMustNotBeZero (t.credit_account_id == 0)
-    ∷ transfer_line transfer.CreditAccountIdMustNotBeIntMax (t.credit_account_id == int_max)
-    ∷ transfer_line transfer.AccountsMustBeDifferent (t.debit_account_id == t.credit_account_id)
-    ∷ transfer_line transfer.PendingIdMustBeZero (is_not t.pending_id 0)
-    ∷ transfer_line transfer.TimeoutReservedForPendingTransfer (not (pending t) && is_not t.timeout 0)
-    ∷ transfer_line transfer.ClosingTransferMustBePending (not (pending t) && closing t)
-    ∷ transfer_line transfer.LedgerMustNotBeZero (t.ledger == 0)
-    ∷ transfer_line transfer.CodeMustNotBeZero (t.code == 0)
+abbrev pub single_own_tests : Transfer → List Test
+single_own_tests t =
+    transfer_test transfer.DebitAccountIdMustNotBeZero (t.debit_account_id == 0)
+    ∷ transfer_test transfer.DebitAccountIdMustNotBeIntMax (t.debit_account_id == int_max)
+    ∷ transfer_test transfer.CreditAccountIdMustNotBeZero (t.credit_account_id == 0)
+    ∷ transfer_test transfer.CreditAccountIdMustNotBeIntMax (t.credit_account_id == int_max)
+    ∷ transfer_test transfer.AccountsMustBeDifferent (t.debit_account_id == t.credit_account_id)
+    ∷ transfer_test transfer.PendingIdMustBeZero (is_not t.pending_id 0)
+    ∷ transfer_test transfer.TimeoutReservedForPendingTransfer (not (pending t) && is_not t.timeout 0)
+    ∷ transfer_test transfer.ClosingTransferMustBePending (not (pending t) && closing t)
+    ∷ transfer_test transfer.LedgerMustNotBeZero (t.ledger == 0)
+    ∷ transfer_test transfer.CodeMustNotBeZero (t.code == 0)
     ∷ []
 
 -- the two accounts as they stand
-abbrev pub pair_lines : Account → Account → Transfer → List Line
-pair_lines d c t =
-    transfer_line transfer.AccountsMustHaveTheSameLedger (is_not d.ledger c.ledger)
-    ∷ transfer_line transfer.TransferMustHaveTheSameLedgerAsAccounts (is_not t.ledger d.ledger)
-    ∷ transfer_line transfer.DebitAccountAlreadyClosed (closed d)
-    ∷ transfer_line transfer.CreditAccountAlreadyClosed (closed c)
+abbrev pub pair_tests : Account → Account → Transfer → List Test
+pair_tests d c t =
+    transfer_test transfer.AccountsMustHaveTheSameLedger (is_not d.ledger c.ledger)
+    ∷ transfer_test transfer.TransferMustHaveTheSameLedgerAsAccounts (is_not t.ledger d.ledger)
+    ∷ transfer_test transfer.DebitAccountAlreadyClosed (closed d)
+    ∷ transfer_test transfer.CreditAccountAlreadyClosed (closed c)
     ∷ []
 
 -- what a balancing transfer may move at most
@@ -242,26 +242,26 @@ abbrev pub balanced_amount : Account → Account → Transfer → ℕ
 balanced_amount d c t = if balancing_credit t then min (balanced_debit d t) (credit_room c) else balanced_debit d t
 
 -- the two accounts as they stand, and the amount, balanced
-abbrev pub amount_lines : Account → Account → Transfer → ℕ → ℕ → List Line
-amount_lines d c t amount time =
-    transfer_line transfer.OverflowsDebitsPending (pending t && nat_lt int_max (d.debits_pending + amount))
-    ∷ transfer_line transfer.OverflowsCreditsPending (pending t && nat_lt int_max (c.credits_pending + amount))
-    ∷ transfer_line transfer.OverflowsDebitsPosted (nat_lt int_max (d.debits_posted + amount))
-    ∷ transfer_line transfer.OverflowsCreditsPosted (nat_lt int_max (c.credits_posted + amount))
-    ∷ transfer_line transfer.OverflowsDebits (nat_lt int_max (d.debits_pending + d.debits_posted + amount))
-    ∷ transfer_line transfer.OverflowsCredits (nat_lt int_max (c.credits_pending + c.credits_posted + amount))
-    ∷ transfer_line transfer.OverflowsTimeout (nat_lt max_time (time + t.timeout * 1000000000))
-    ∷ transfer_line transfer.ExceedsCredits (debits_limited d && nat_lt d.credits_posted (d.debits_pending + d.debits_posted + amount))
-    ∷ transfer_line transfer.ExceedsDebits (credits_limited c && nat_lt c.debits_posted (c.credits_pending + c.credits_posted + amount))
+abbrev pub amount_tests : Account → Account → Transfer → ℕ → ℕ → List Test
+amount_tests d c t amount time =
+    transfer_test transfer.OverflowsDebitsPending (pending t && nat_lt int_max (d.debits_pending + amount))
+    ∷ transfer_test transfer.OverflowsCreditsPending (pending t && nat_lt int_max (c.credits_pending + amount))
+    ∷ transfer_test transfer.OverflowsDebitsPosted (nat_lt int_max (d.debits_posted + amount))
+    ∷ transfer_test transfer.OverflowsCreditsPosted (nat_lt int_max (c.credits_posted + amount))
+    ∷ transfer_test transfer.OverflowsDebits (nat_lt int_max (d.debits_pending + d.debits_posted + amount))
+    ∷ transfer_test transfer.OverflowsCredits (nat_lt int_max (c.credits_pending + c.credits_posted + amount))
+    ∷ transfer_test transfer.OverflowsTimeout (nat_lt max_time (time + t.timeout * 1000000000))
+    ∷ transfer_test transfer.ExceedsCredits (debits_limited d && nat_lt d.credits_posted (d.debits_pending + d.debits_posted + amount))
+    ∷ transfer_test transfer.ExceedsDebits (credits_limited c && nat_lt c.debits_posted (c.credits_pending + c.credits_posted + amount))
     ∷ []
 
 abbrev pub pair_code : Option Account → Option Account → Transfer → ℕ → ℕ
 pair_code None c t time = transfer_result_code transfer.DebitAccountNotFound
 pair_code (Some d) None t time = transfer_result_code transfer.CreditAccountNotFound
-pair_code (Some d) (Some c) t time = first_code (first_of (pair_lines d c t) ∷ first_of (amount_lines d c t (balanced_amount d c t) time) ∷ [])
+pair_code (Some d) (Some c) t time = first_code (first_of (pair_tests d c t) ∷ first_of (amount_tests d c t (balanced_amount d c t) time) ∷ [])
 
 abbrev pub single_code : Books → Transfer → ℕ → ℕ
-single_code B t time = first_code (first_of (single_own_lines t) ∷ pair_code (account_now B t.debit_account_id) (account_now B t.credit_account_id) t time ∷ [])
+single_code B t time = first_code (first_of (single_own_tests t) ∷ pair_code (account_now B t.debit_account_id) (account_now B t.credit_account_id) t time ∷ [])
 
 -- either kind
 

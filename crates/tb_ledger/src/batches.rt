@@ -2,7 +2,7 @@
 ghost use Rattle.std.specs.Prelude.{◌≡◌, ◌+◌, ◌^◌, ◌<◌, ◌≤◌, ◌++◌, length, vec_len, vec_capacity};
 ghost use Rattle.tb_ledger.specs.Batches.{blocks, blocks_after, timed_from, results_from};
 ghost use Rattle.tb_ledger.specs.Kept.{books_in, IsKept};
-ghost use Rattle.tb_ledger.specs.Steps.{IsReadyFor};
+ghost use Rattle.tb_ledger.specs.Steps.{IsPreparedFor};
 
 pub(crate) mod buffers;
 pub(crate) mod chains;
@@ -12,7 +12,7 @@ mod results;
 use crate::batches::chains::{block_length, run_block};
 use crate::batches::events::Event;
 use crate::tables::rows::Rows;
-use crate::tables::trail::Trail;
+use crate::tables::undo_log::UndoLog;
 use std::alloc::Allocator;
 use tb_records::EventResult;
 
@@ -29,12 +29,12 @@ fn look_ahead<E: Event, A: Allocator + Clone>(rows: &mut Rows<A>, rest: &[E], in
 /// Runs the chains of a batch, whose first event has the timestamp `time`. Each event that isn't accepted adds its result.
 pub(crate) fn run_batch<E: Event, A: Allocator + Clone, R: Allocator>(
     rows: &mut Rows<A>,
-    trail: &mut Trail<A>,
+    undo_log: &mut UndoLog<A>,
     results: &mut Vec<EventResult, R>,
     events: &[E],
     time: u64,
 )
-    requires ready { IsReadyFor E.HasCapacity (length events.now) rows.old trail.old time }
+    requires ready { IsPreparedFor E.HasCapacity (length events.now) rows.old undo_log.old time }
     requires results_capacity { vec_len results.old + length events.now ≤ vec_capacity results.old }
     requires index_fits { length events.now < 2 ^ 32 }
     ensures books { books_in rows.new
@@ -54,7 +54,7 @@ pub(crate) fn run_batch<E: Event, A: Allocator + Clone, R: Allocator>(
     while !rest.is_empty() {
         let (block, later) = rest.split_at(block_length(rest));
         look_ahead(rows, rest, index, block.len());
-        run_block(rows, trail, results, block, index, stamp);
+        run_block(rows, undo_log, results, block, index, stamp);
         index += block.len() as u32;
         stamp += block.len() as u64;
         rest = later;

@@ -9,7 +9,7 @@ ghost use Rattle.tb_ledger.specs.Sound.{IdsRise};
 ghost use Rattle.tb_ledger.specs.Tables.{IsShortSearch};
 ghost use Rattle.tb_ledger.specs.Verdicts.{max_time};
 
-use crate::batches::buffers::{Buffers, SMALL_BATCH, make_buffers};
+use crate::batches::buffers::{Buffers, make_buffers};
 use crate::batches::events::Event;
 use crate::batches::run_batch;
 use crate::changes::expiry::expire;
@@ -29,7 +29,7 @@ use tb_records::{Account, EventResult, Profile, Transfer};
 pub struct Ledger<A: Allocator + Clone> {
     alloc: A,
     rows: Rows<A>,
-    /// What a small batch made last, for the next one.
+    /// What a batch made, for the next one.
     kept: Option<Buffers<A>>,
 }
 
@@ -86,8 +86,8 @@ fn enter_within<E: Event, A: Allocator + Clone>(
     buffers.hand_out(global)
 }
 
-/// Enters a batch at the time `t`, with the capacity for its records, in the buffers that the last small batch left. Those of a
-/// large one are let go.
+/// Enters a batch at the time `t`, with the capacity for its records, in the buffers that the last batch left where they are large
+/// enough.
 fn enter<E: Event, A: Allocator + Clone>(
     rows: &mut Rows<A>,
     kept: &mut Option<Buffers<A>>,
@@ -108,11 +108,7 @@ fn enter<E: Event, A: Allocator + Clone>(
 {
     make_buffers(kept, alloc, global, events.len())?;
     let Some(buffers) = kept else { unreachable!() };
-    let refused = enter_within(rows, buffers, global, t, events);
-    if events.len() > SMALL_BATCH {
-        *kept = None;
-    }
-    Ok(refused)
+    Ok(enter_within(rows, buffers, global, t, events))
 }
 
 impl<A: Allocator + Clone> Ledger<A> {

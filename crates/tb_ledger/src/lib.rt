@@ -3,14 +3,14 @@
 //! Modules, in layers, each over those before it. All are private but `laws` and `worked_rows`.
 //!
 //! - `tables`: what a ledger keeps.
-//!   - `known`: what a table knows of its keys without a search: the greatest, and absent ids.
+//!   - `absent_ids`: what a table knows of its keys without a search: the greatest, and absent ids.
 //!   - `map`: rows by rising key over an `AvlMap`; a finite map for all that stands above.
 //!   - `accounts`: the row of an account, 128 bytes.
 //!   - `transfers`: the row of a transfer, 128 bytes.
 //!   - `timeouts`: those of open pending transfers, by the moment at which they end.
 //!   - `rows`: all tables.
 //!   - `index`: how the timeouts follow the rows.
-//!   - `trail`: the undo log of a chain.
+//!   - `undo_log`: the undo log of a chain.
 //! - `verdicts`: the result of an event, by the tables as they stand.
 //!   - `blanks`: what a post or void takes over from the pending transfer that it names.
 //!   - `account`: what is wrong with an account.
@@ -29,7 +29,7 @@
 //!   - `events`: what a batch asks of its events.
 //!   - `results`: the results of a broken chain; where a result becomes its number.
 //!   - `chains`: all of a chain, or nothing of it.
-//!   - `buffers`: memory for the undo log and the results, kept from one small batch to the next.
+//!   - `buffers`: memory for the undo log and the results, kept from one batch to the next.
 //! - `lookups`: look-ups of many ids, eight at a time.
 //! - `ledgers`: `Ledger`, all that the crates above call.
 //! - `laws`: laws of the definitions: functions that do nothing.

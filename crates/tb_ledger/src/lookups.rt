@@ -1,4 +1,4 @@
-//! Look-ups of many ids, eight at a time: their searches go on by turns, so that their waits for memory overlap.
+//! Look-ups of many ids, eight at a time: their searches go on interleaved, so that their waits for memory overlap.
 ghost use Rattle.std.specs.Prelude.{◌≡◌, ◌+◌, ◌≤◌, ◌++◌, length, vec_len, vec_capacity};
 ghost use Rattle.std.specs.List.{filter_map};
 ghost use Rattle.std.specs.Option.{option_copied, option_map};

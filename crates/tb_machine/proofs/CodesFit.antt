@@ -7,7 +7,7 @@ use Rattle.tb_records.specs.declared.records.EventResult.{EventResult}
 use Rattle.tb_records.specs.Ordered.{Each}
 use Rattle.tb_records.specs.RecordBytes.{IsResult}
 use Rattle.tb_ledger.specs.Books.{Books, resolves, account_now, transfer_at, state_of}
-use Rattle.tb_ledger.specs.Verdicts.{Line, first_of, first_code, account_own_lines, account_exists_lines, account_new_lines, account_code, transfer_own_lines, transfer_exists_lines, failed_lines, filled, id_code, resolve_own_lines, named_lines, closed_lines, closed_at, named_code, resolve_code, single_own_lines, pair_lines, amount_lines, balanced_amount, pair_code, single_code}
+use Rattle.tb_ledger.specs.Verdicts.{Test, first_of, first_code, account_own_tests, account_exists_tests, account_new_tests, account_code, transfer_own_tests, transfer_exists_tests, failed_tests, filled, id_code, resolve_own_tests, named_tests, closed_tests, closed_at, named_code, resolve_code, single_own_tests, pair_tests, amount_tests, balanced_amount, pair_code, single_code}
 use Rattle.tb_ledger.specs.Batches.{Kind, Timed, Failure, account_events, transfer_events, timed, blocks, code_in_chain, failure_from, undone_code, undone, chain_outcome, block_after, blocks_after, batch_after, results_from}
 use Rattle.tb_machine.proofs.Rows.{some_one}
 use Rattle.tb_machine.proofs.Judging.{both_of}
@@ -18,17 +18,17 @@ IsShort code = code ≤ 99
 
 -- the tables
 
-abbrev short : List Line → Bool
+abbrev short : List Test → Bool
 short [] = true
-short (line ∷ lines) = leb line.0 99 && short lines
+short (test ∷ tests) = leb test.0 99 && short tests
 
-first_short : (lines : List Line) → short lines ≡ true → IsShort (first_of lines)
+first_short : (tests : List Test) → short tests ≡ true → IsShort (first_of tests)
 first_short [] is = omega arith
-first_short (line ∷ lines) is =
-    let parts = both_of (leb line.0 99) (short lines) is in
-    by line.1 (leb-true line.0 99 parts.0) (first_short lines parts.1)
+first_short (test ∷ tests) is =
+    let parts = both_of (leb test.0 99) (short tests) is in
+    by test.1 (leb-true test.0 99 parts.0) (first_short tests parts.1)
   where
-    by : (b : Bool) → line.0 ≤ 99 → IsShort (first_of lines) → IsShort (if b then line.0 else first_of lines)
+    by : (b : Bool) → test.0 ≤ 99 → IsShort (first_of tests) → IsShort (if b then test.0 else first_of tests)
     by true here later = here
     by false here later = later
 
@@ -43,10 +43,10 @@ codes_short (code ∷ codes) each = by (code == 0) each.0 (codes_short codes eac
 -- verdicts
 
 code_of_account : (present : Option Account) (a : Account) → IsShort (account_code present a)
-code_of_account present a = codes_short (first_of (account_own_lines a) ∷ first_of (account_exists_lines present a) ∷ first_of (account_new_lines a) ∷ [])
-    (first_short (account_own_lines a) refl, (first_short (account_exists_lines present a) (there present), (first_short (account_new_lines a) refl, tt)))
+code_of_account present a = codes_short (first_of (account_own_tests a) ∷ first_of (account_exists_tests present a) ∷ first_of (account_new_tests a) ∷ [])
+    (first_short (account_own_tests a) refl, (first_short (account_exists_tests present a) (there present), (first_short (account_new_tests a) refl, tt)))
   where
-    there : (o : Option Account) → short (account_exists_lines o a) ≡ true
+    there : (o : Option Account) → short (account_exists_tests o a) ≡ true
     there None = refl
     there (Some e) = refl
 
@@ -54,31 +54,31 @@ pub short_account : (B : Books) (a : Account) (time : ℕ) → IsShort (account_
 short_account B a time = code_of_account (account_now B a.id) a
 
 short_id : (B : Books) (t : Transfer) → IsShort (id_code B t)
-short_id B t = codes_short (first_of (transfer_own_lines t) ∷ first_of (transfer_exists_lines (transfer_at B t.id) (filled B t)) ∷ first_of (failed_lines B.failed t) ∷ [])
-    (first_short (transfer_own_lines t) refl, (first_short (transfer_exists_lines (transfer_at B t.id) (filled B t)) (there (transfer_at B t.id) (filled B t)), (first_short (failed_lines B.failed t) refl, tt)))
+short_id B t = codes_short (first_of (transfer_own_tests t) ∷ first_of (transfer_exists_tests (transfer_at B t.id) (filled B t)) ∷ first_of (failed_tests B.failed t) ∷ [])
+    (first_short (transfer_own_tests t) refl, (first_short (transfer_exists_tests (transfer_at B t.id) (filled B t)) (there (transfer_at B t.id) (filled B t)), (first_short (failed_tests B.failed t) refl, tt)))
   where
-    there : (o : Option Transfer) (f : Transfer) → short (transfer_exists_lines o f) ≡ true
+    there : (o : Option Transfer) (f : Transfer) → short (transfer_exists_tests o f) ≡ true
     there None f = refl
     there (Some e) f = refl
 
 short_named : (B : Books) (t : Transfer) (o : Option Transfer) → IsShort (named_code B t o)
 short_named B t None = omega arith
-short_named B t (Some p) = codes_short (first_of (named_lines t p (state_of B p)) ∷ first_of (closed_lines t (closed_at B p.debit_account_id) (closed_at B p.credit_account_id)) ∷ [])
-    (first_short (named_lines t p (state_of B p)) refl, (first_short (closed_lines t (closed_at B p.debit_account_id) (closed_at B p.credit_account_id)) refl, tt))
+short_named B t (Some p) = codes_short (first_of (named_tests t p (state_of B p)) ∷ first_of (closed_tests t (closed_at B p.debit_account_id) (closed_at B p.credit_account_id)) ∷ [])
+    (first_short (named_tests t p (state_of B p)) refl, (first_short (closed_tests t (closed_at B p.debit_account_id) (closed_at B p.credit_account_id)) refl, tt))
 
 short_resolve : (B : Books) (t : Transfer) → IsShort (resolve_code B t)
-short_resolve B t = codes_short (first_of (resolve_own_lines t) ∷ named_code B t (transfer_at B t.pending_id) ∷ [])
-    (first_short (resolve_own_lines t) refl, (short_named B t (transfer_at B t.pending_id), tt))
+short_resolve B t = codes_short (first_of (resolve_own_tests t) ∷ named_code B t (transfer_at B t.pending_id) ∷ [])
+    (first_short (resolve_own_tests t) refl, (short_named B t (transfer_at B t.pending_id), tt))
 
 short_pair : (d c : Option Account) (t : Transfer) (time : ℕ) → IsShort (pair_code d c t time)
 short_pair None c t time = omega arith
 short_pair (Some d) None t time = omega arith
-short_pair (Some d) (Some c) t time = codes_short (first_of (pair_lines d c t) ∷ first_of (amount_lines d c t (balanced_amount d c t) time) ∷ [])
-    (first_short (pair_lines d c t) refl, (first_short (amount_lines d c t (balanced_amount d c t) time) refl, tt))
+short_pair (Some d) (Some c) t time = codes_short (first_of (pair_tests d c t) ∷ first_of (amount_tests d c t (balanced_amount d c t) time) ∷ [])
+    (first_short (pair_tests d c t) refl, (first_short (amount_tests d c t (balanced_amount d c t) time) refl, tt))
 
 short_single : (B : Books) (t : Transfer) (time : ℕ) → IsShort (single_code B t time)
-short_single B t time = codes_short (first_of (single_own_lines t) ∷ pair_code (account_now B t.debit_account_id) (account_now B t.credit_account_id) t time ∷ [])
-    (first_short (single_own_lines t) refl, (short_pair (account_now B t.debit_account_id) (account_now B t.credit_account_id) t time, tt))
+short_single B t time = codes_short (first_of (single_own_tests t) ∷ pair_code (account_now B t.debit_account_id) (account_now B t.credit_account_id) t time ∷ [])
+    (first_short (single_own_tests t) refl, (short_pair (account_now B t.debit_account_id) (account_now B t.credit_account_id) t time, tt))
 
 pub short_transfer : (B : Books) (t : Transfer) (time : ℕ) → IsShort (transfer_events.verdict B t time)
 short_transfer B t time = codes_short (id_code B t ∷ (if resolves t then resolve_code B t else single_code B t time) ∷ []) (short_id B t, (by (resolves t), tt))

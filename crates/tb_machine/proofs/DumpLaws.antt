@@ -18,7 +18,7 @@ one_entry e f xs ys fits other is =
     let frame = spelled_once e.request f.request xs ys fits.request other.request numbers.2 in
     ((λ i. record { commit = numbers.0 i; time = numbers.1 i; request = frame.0 i }), frame.1)
 
--- no entry stands at the beginning of the bytes
+-- no entry stands at the prefix of the bytes
 abbrev Ends : List ℕ → Type 0
 Ends b = (e : Entry) (rest : List ℕ) → IsDumpedEntry e → b ≡ dumped e ++ rest → ⊥
 

@@ -1,5 +1,5 @@
 -- A whole dump: the pairs so far, and one more.
-use Rattle.std.proofs.Common.{◌≡◌, ℕ, ◌+◌, ◌-◌, ◌^◌, ◌≤◌, ◌⊎◌, Bool, true, false, cond, ◌&&◌, List, [], ◌∷◌, ◌++◌, length, Option, Some, None, Ok, Err, inl, inr, eq-eqb, ne_eqb, ltb, ltb-true, leb-true, eqb-true, refl, sym, ap, subst, ◌∙◌, arith, append_assoc, append-nil, length-append}
+use Rattle.std.proofs.Common.{◌≡◌, ℕ, ◌+◌, ◌-◌, ◌^◌, ◌≤◌, ◌⊎◌, Bool, true, false, cond, ◌&&◌, List, [], ◌∷◌, ◌++◌, length, Option, Some, None, Ok, Err, inl, inr, eq-eqb, ne_eqb, ltb, ltb-true, leb-true, refl, sym, ap, subst, ◌∙◌, arith, append_assoc, append-nil, length-append}
 use Rattle.std.proofs.lemmas.Bool.{lt-ltb, le-ltb, cases_lt}
 use Rattle.tb_records.specs.declared.limits.Profile.TheVariants.{One}
 use Rattle.tb_records.specs.DumpBytes.{head_bytes, mark_bytes, entry_bytes, IsClients}
@@ -194,14 +194,6 @@ module _ (clients_max : ℕ) (at : Option ℕ) where
       head_alone : (at : Option ℕ) → head_bytes One clients_max ≡ head_bytes One clients_max ++ history_bytes (place_in at []) []
       head_alone None = sym (append-nil (head_bytes One clients_max))
       head_alone (Some a) = sym (ap (λ place. head_bytes One clients_max ++ history_bytes place []) (ap (λ b. cond b (Some a) None) (le-ltb a 0 (omega arith))) ∙ append-nil (head_bytes One clients_max))
-
-  -- where a mark is due, profile 1 serves
-  pub due_by_one : (k : ℕ) (S : State) (before middle : Input) (first written : Output) → Dumping k S before middle first written → marks_at at S.commit ≡ true → profile_of S.books ≡ One
-  due_by_one k S before middle first written d due = d.by_one (unplaced at (history_of clients_max at d.pairs) (sym (ap (marks_at at) d.count) ∙ due))
-    where
-      unplaced : (at : Option ℕ) (h : List Entry) → marks_at at (length h) ≡ true → place_in at h ≡ None
-      unplaced None h due = refl
-      unplaced (Some a) h due = ap (λ b. cond b (Some a) None) (le-ltb a (length h) (let is = eqb-true a (length h) due in omega (arith, is)))
 
   module _ (k : ℕ) (S T : State) (before middle after : Input) (first written next : Output) (d : Dumping k S before middle first written) (p : Pair) (read : Reads (p ∷ []) middle after) where
     abbrev h : List Entry

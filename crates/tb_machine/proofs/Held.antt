@@ -1,6 +1,5 @@
 -- The entry that holds a repeat, and what a status and a history that goes on say of a request.
 use Rattle.std.proofs.Common.{◌≡◌, ℕ, ◌+◌, ⊎_elim, true, List, ◌∷◌, ◌++◌, length, Option, Some, None, refl, sym, ap, ◌∙◌, subst, IsTrue, arith}
-use Rattle.std.specs.Option.{option_map}
 use Rattle.tb_records.specs.declared.limits.Profile.{Profile}
 use Rattle.tb_records.specs.declared.replies.Status.TheVariants as status
 use Rattle.tb_records.specs.Messages.{Message, Answer, is_register}
@@ -14,8 +13,8 @@ use Rattle.tb_machine.specs.Histories.{is_lawful, IsLegal, after, answer_by, ans
 use Rattle.tb_machine.specs.HistoryLaws.{IsStored, NotNewAgain}
 use Rattle.tb_machine.specs.Dumps.{after_with}
 use Rattle.tb_machine.specs.MarkedLaws.{next_in, NotNewAgainWith}
-use Rattle.tb_machine.specs.Answering.{Holds, Answers}
-use Rattle.tb_machine.proofs.Rows.{some_one, row_found}
+use Rattle.tb_machine.specs.Answering.{Holds, IsAnswer}
+use Rattle.tb_machine.proofs.Rows.{row_found}
 use Rattle.tb_machine.proofs.Legal.{legal_front, legal_at}
 use Rattle.tb_machine.proofs.Judging.{Follows, new_by, may_come}
 use Rattle.tb_machine.proofs.ReachedBy.{Before, session_numbered}
@@ -68,12 +67,8 @@ module _ (profile : Profile) (clients_max : ℕ) where
           alone = is_stored.alone;
         }
 
-    -- as its client's row keeps the reply
-    pub held_by_row : (a : Answer) → option_map (λ (row : Row). row.reply) (row_of (after profile clients_max h).rows r.client) ≡ Some a → Holds profile clients_max h r a.commit
-    held_by_row a kept = held a.commit (ap (λ (b : Answer). b.commit) (sym (answered_is ∙ some_one (sym (ap (option_map (λ (row : Row). row.reply)) is_stored.stored) ∙ kept))))
-
   -- an answer tells which entry holds the request
-  pub answers : (h : List Entry) (r : Message) (a : Answer) → IsLegal profile clients_max h → IsTrue (is_lawful r) → a ≡ answer_to (after profile clients_max h) r → Answers profile clients_max h r a
+  pub answers : (h : List Entry) (r : Message) (a : Answer) → IsLegal profile clients_max h → IsTrue (is_lawful r) → a ≡ answer_to (after profile clients_max h) r → IsAnswer profile clients_max h r a
   answers h r a legal lawful is = (is, λ reply. held h r legal lawful (status_reply (class_of (after profile clients_max h).rows r) (row_of (after profile clients_max h).rows r.client) r (sym (ap (λ (b : Answer). b.status) is) ∙ reply)) a.commit (ap (λ (b : Answer). b.commit) is))
 
 -- a request that is entered is new again only as a register whose client has no row any more

@@ -18,7 +18,7 @@ use Rattle.tb_records.proofs.ByKey.{each-map, each-both}
 use Rattle.tb_sessions.proofs.LaterRows.{each_admitted}
 use Rattle.tb_machine.proofs.Rows.{some_one, row_found, each_found}
 use Rattle.tb_machine.proofs.Judging.{Follows, new_by, Repeats, repeat_by, out_by}
-use Rattle.tb_machine.proofs.ReachedBy.{StandsBy, ReachedBy, Behind, Leads, leads_split, reached_after, session_register, session_numbered}
+use Rattle.tb_machine.proofs.ReachedBy.{StandsBy, ReachedBy, Behind, LeadsTo, leads_split, reached_after, session_register, session_numbered}
 use Rattle.tb_machine.proofs.MarkLeads.{whole_alike, legal_leads, begun, reached_with}
 
 pub one_key_with : OneKeyWith
@@ -71,10 +71,6 @@ registers_are r s client a b = message_is r s client (a.session ∙ sym b.sessio
 pub each_mid : {X : Type 0} (P : X → Type 0) (xs : List X) (x : X) (ys : List X) → Each P (xs ++ x ∷ ys) → P x
 each_mid P [] x ys each = each.0
 each_mid P (z ∷ zs) x ys each = each_mid P zs x ys each.1
-
-each_around : {X : Type 0} (P : X → Type 0) (xs : List X) (x : X) (ys : List X) → Each P (xs ++ x ∷ ys) → Each P (xs ++ ys)
-each_around P [] x ys each = each.1
-each_around P (z ∷ zs) x ys each = (each.0, each_around P zs x ys each.1)
 
 others_differ : (front : List Entry) (e : Entry) (rest : List Entry) → KeysDiffer (front ++ e ∷ rest) → Each (λ (other : Entry). key_of other ≢ key_of e) (front ++ rest)
 others_differ [] e rest differ = differ.0
@@ -157,14 +153,14 @@ module _ (state : List Entry → State) where
           let its = row_found (λ (row : Row). row.client ≡ client → least ≤ row.session) (state p).rows e.request.client found.0 floor.0 found.1 in
           omega (arith, session_numbered e found.2.numbered, found.2.session, its.0 (its.1 ∙ same))
 
-  floor_after : (p h : List Entry) (client least : ℕ) → Leads state p h → Floor (state p) client least → Floor (state (p ++ h)) client least
+  floor_after : (p h : List Entry) (client least : ℕ) → LeadsTo state p h → Floor (state p) client least → Floor (state (p ++ h)) client least
   floor_after p [] client least leads floor = subst (λ l. Floor (state l) client least) (sym (append-nil p)) floor
   floor_after p (e ∷ es) client least leads floor =
       subst (λ l. Floor (state l) client least) (append_assoc p (e ∷ []) es)
       (floor_after (p ++ e ∷ []) es client least leads.1 (floor_on p e client least leads.0 floor))
 
   -- there after h, and no more after the entries m behind it, whatever entries k follow
-  module _ (h m k : List Entry) (r : Message) (first : ReachedBy state h) (second : ReachedBy state (h ++ m)) (leads : Leads state h m) (later : Leads state (h ++ m) k)
+  module _ (h m k : List Entry) (r : Message) (first : ReachedBy state h) (second : ReachedBy state (h ++ m)) (leads : LeadsTo state h m) (later : LeadsTo state (h ++ m) k)
       (there : HasSession (state h) r.client r.session) (gone : HasSession (state (h ++ m)) r.client r.session → ⊥) where
     issued : r.session ≤ (state h).commit
     issued = let its = row_found (λ (row : Row). row.session ≤ (state h).commit) (state h).rows r.client there.0 first.sessions there.1 in omega (arith, its.0, there.2)
@@ -197,13 +193,13 @@ pub stays_out_with : StaysOutWith
 stays_out_with profile clients_max mark h m k r legal there gone numbered =
     out_by (row_of (after_with profile clients_max mark (h ++ (m ++ k))).rows r.client) r numbered later
   where
-    whole : Leads (next_in profile clients_max mark) [] (h ++ (m ++ k))
+    whole : LeadsTo (next_in profile clients_max mark) [] (h ++ (m ++ k))
     whole = legal_leads profile clients_max mark (h ++ (m ++ k)) legal
 
-    parts : Leads (next_in profile clients_max mark) [] h × Leads (next_in profile clients_max mark) h (m ++ k)
+    parts : LeadsTo (next_in profile clients_max mark) [] h × LeadsTo (next_in profile clients_max mark) h (m ++ k)
     parts = leads_split (next_in profile clients_max mark) [] h (m ++ k) whole
 
-    rest : Leads (next_in profile clients_max mark) h m × Leads (next_in profile clients_max mark) (h ++ m) k
+    rest : LeadsTo (next_in profile clients_max mark) h m × LeadsTo (next_in profile clients_max mark) (h ++ m) k
     rest = leads_split (next_in profile clients_max mark) h m k parts.1
 
     reached_h : ReachedBy (next_in profile clients_max mark) h

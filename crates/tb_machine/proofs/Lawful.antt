@@ -47,14 +47,6 @@ lawful_numbers r lawful =
     apart : {a b : ℕ} → eqb a b ≡ false → a ≢ b
     apart {a} {b} e same = let equal : eqb a b ≡ true = eq-eqb a b same in cc
 
--- there are no more events than items
-pub count_few : (body : Body) → count body ≤ item_count body
-count_few Register = omega arith
-count_few (CreateAccounts events) = omega arith
-count_few (CreateTransfers events) = omega arith
-count_few (LookupAccounts ids) = omega arith
-count_few (LookupTransfers ids) = omega arith
-
 -- the reply of a register names the session that it made, any other's a session from before its commit
 pub right_answer : (client session request commit : ℕ) (body : Body) (answer : ReplyBody) → client ≢ 0 → session ≢ 0
     → (is_register body ≡ true → (request ≡ 0) × (session ≡ commit)) → (is_register body ≡ false → (request ≢ 0) × (session < commit))

@@ -1,4 +1,4 @@
--- Legal histories: their beginnings, their ends, and one entry more.
+-- Legal histories: their prefixes, their ends, and one entry more.
 use Rattle.std.proofs.Common.{◌≡◌, ℕ, List, [], ◌∷◌, ◌++◌, fold, refl, IsTrue}
 use Rattle.tb_records.specs.declared.limits.Profile.{Profile}
 use Rattle.tb_machine.specs.declared.entries.Entry.{Entry}
@@ -28,7 +28,7 @@ module _ (profile : Profile) (clients_max : ℕ) where
   pub legal_snoc : (h : List Entry) (e : Entry) → IsLegal profile clients_max h → IsTrue (fits (after profile clients_max h) e) → IsLegal profile clients_max (h ++ e ∷ [])
   legal_snoc h e legal next = legal_join (start profile clients_max) h (e ∷ []) legal (next, tt)
 
-  -- a beginning
+  -- a prefix
   pub legal_front : (h m : List Entry) → IsLegal profile clients_max (h ++ m) → IsLegal profile clients_max h
   legal_front h m legal = (legal_split (start profile clients_max) h m legal).0
 

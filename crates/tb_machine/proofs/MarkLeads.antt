@@ -10,7 +10,7 @@ use Rattle.tb_machine.specs.MarkedLaws.{next_in}
 use Rattle.tb_machine.proofs.Judging.{MayCome, may_come, comes}
 use Rattle.tb_machine.proofs.Legal.{after_snoc}
 use Rattle.tb_machine.proofs.Marked.{with_marked, with_snoc_in}
-use Rattle.tb_machine.proofs.ReachedBy.{ReachedBy, Leads, leads_split, started, reached_after}
+use Rattle.tb_machine.proofs.ReachedBy.{ReachedBy, LeadsTo, leads_split, started, reached_after}
 
 -- two states with the same rows and the same commit number
 pub record Alike (S T : State) : Type 0 where
@@ -22,7 +22,7 @@ alike_same S T is = record { rows = ap (λ (S : State). S.rows) is; commit = ap 
 
 module _ (profile : Profile) (clients_max : ℕ) where
   -- without a mark
-  none_leads : (p es : List Entry) → LegalFrom (after profile clients_max p) es → Leads (next_in profile clients_max None) p es
+  none_leads : (p es : List Entry) → LegalFrom (after profile clients_max p) es → LeadsTo (next_in profile clients_max None) p es
   none_leads p [] legal = tt
   none_leads p (e ∷ es) legal =
       let is : after profile clients_max (p ++ e ∷ []) ≡ step (after profile clients_max p) e = after_snoc profile clients_max p e in (
@@ -64,8 +64,8 @@ module _ (profile : Profile) (clients_max : ℕ) where
         by false e = let less : length p < n = grind (arith, nat_tests) in alike_same (N p) (after profile clients_max p) (early p less)
 
     -- entries up to the mark, and what is behind them
-    front_leads : (p a b : List Entry) → length (p ++ a) ≤ n → LegalFrom (after profile clients_max p) a → Leads N (p ++ a) b → Leads N p (a ++ b)
-    front_leads p [] b le legal later = subst (λ l. Leads N l b) (append-nil p) later
+    front_leads : (p a b : List Entry) → length (p ++ a) ≤ n → LegalFrom (after profile clients_max p) a → LeadsTo N (p ++ a) b → LeadsTo N p (a ++ b)
+    front_leads p [] b le legal later = subst (λ l. LeadsTo N l b) (append-nil p) later
     front_leads p (e ∷ es) b le legal later =
         let less : length p < n = omega (arith, le, length-append p (e ∷ es)) in
         let most : length (p ++ e ∷ []) ≤ n = omega (arith, less, length-append p (e ∷ [])) in
@@ -80,11 +80,11 @@ module _ (profile : Profile) (clients_max : ℕ) where
           front_leads (p ++ e ∷ []) es b
               (subst (λ l. length l ≤ n) (sym (append_assoc p (e ∷ []) es)) le)
               (subst (λ (S : State). LegalFrom S es) (sym is) legal.1)
-              (subst (λ l. Leads N l b) (sym (append_assoc p (e ∷ []) es)) later),
+              (subst (λ l. LeadsTo N l b) (sym (append_assoc p (e ∷ []) es)) later),
         )
 
     -- entries behind the mark
-    behind_leads : (p es : List Entry) → n ≤ length p → LegalFrom (N p) es → Leads N p es
+    behind_leads : (p es : List Entry) → n ≤ length p → LegalFrom (N p) es → LeadsTo N p es
     behind_leads p [] within legal = tt
     behind_leads p (e ∷ es) within legal =
         let more : n ≤ length (p ++ e ∷ []) = omega (arith, within, length-append p (e ∷ [])) in
@@ -97,23 +97,23 @@ module _ (profile : Profile) (clients_max : ℕ) where
           behind_leads (p ++ e ∷ []) es more (subst (λ (S : State). LegalFrom S es) (sym is) legal.1),
         )
 
-    mark_leads : (h : List Entry) → IsLegal profile clients_max (take n h) → LegalFrom (marked_after profile clients_max (take n h)) (drop n h) → Leads N [] h
+    mark_leads : (h : List Entry) → IsLegal profile clients_max (take n h) → LegalFrom (marked_after profile clients_max (take n h)) (drop n h) → LeadsTo N [] h
     mark_leads h front behind =
-        subst (λ l. Leads N [] l) (take-append-drop n h)
+        subst (λ l. LeadsTo N [] l) (take-append-drop n h)
         (front_leads [] (take n h) (drop n h) (omega (arith, length-take n h)) front (by (leb n (length h)) refl))
       where
-        by : (b : Bool) → leb n (length h) ≡ b → Leads N (take n h) (drop n h)
+        by : (b : Bool) → leb n (length h) ≡ b → LeadsTo N (take n h) (drop n h)
         by true e =
             let here : n ≡ length (take n h) = omega (arith, length-take n h, leb-true n (length h) e) in
             behind_leads (take n h) (drop n h) (omega (arith, here)) (subst (λ (S : State). LegalFrom S (drop n h)) (sym (at_mark (take n h) here)) behind)
         by false e =
             let less : length h < n = grind (arith, nat_tests) in
-            subst (λ l. Leads N (take n h) l) (sym (drop_all n h (omega (arith, less)))) tt
+            subst (λ l. LeadsTo N (take n h) l) (sym (drop_all n h (omega (arith, less)))) tt
 
     past : (h : List Entry) → length h ≤ n → after_with profile clients_max (Some n) h ≡ to_two (after profile clients_max h)
     past h le = λ i. fold step (marked_after profile clients_max (take_all n h le i)) (drop_all n h le i)
 
-  pub legal_leads : (mark : Option ℕ) (h : List Entry) → IsLegalWith profile clients_max mark h → Leads (next_in profile clients_max mark) [] h
+  pub legal_leads : (mark : Option ℕ) (h : List Entry) → IsLegalWith profile clients_max mark h → LeadsTo (next_in profile clients_max mark) [] h
   legal_leads None h legal = none_leads [] h legal
   legal_leads (Some n) h legal = mark_leads n h legal.0 legal.1
 

@@ -40,7 +40,7 @@ keys_snoc : (p : List Entry) (e : Entry) → KeysDiffer p → Each (λ (other : 
 keys_snoc [] e differ each = (tt, tt)
 keys_snoc (x ∷ xs) e differ each = (each_snoc (λ (later : Entry). key_of later ≢ key_of x) xs e differ.0 each.0, keys_snoc xs e differ.1 each.1)
 
--- the states in which the entries behind a beginning are executed
+-- the states in which the entries behind a prefix are executed
 module _ (state : List Entry → State) where
   -- the row was made by an entry of the history, which it names
   pub record StandsBy (p : List Entry) (row : Row) : Type 0 where
@@ -68,15 +68,15 @@ module _ (state : List Entry → State) where
     pub commit : (state (p ++ e ∷ [])).commit ≡ e.commit
 
   -- each of the entries behind p
-  abbrev pub Leads : List Entry → List Entry → Type 0
-  Leads p [] = Unit {0}
-  Leads p (e ∷ es) = Behind p e × Leads (p ++ e ∷ []) es
+  abbrev pub LeadsTo : List Entry → List Entry → Type 0
+  LeadsTo p [] = Unit {0}
+  LeadsTo p (e ∷ es) = Behind p e × LeadsTo (p ++ e ∷ []) es
 
-  pub leads_split : (p a b : List Entry) → Leads p (a ++ b) → Leads p a × Leads (p ++ a) b
-  leads_split p [] b leads = (tt, subst (λ l. Leads l b) (sym (append-nil p)) leads)
+  pub leads_split : (p a b : List Entry) → LeadsTo p (a ++ b) → LeadsTo p a × LeadsTo (p ++ a) b
+  leads_split p [] b leads = (tt, subst (λ l. LeadsTo l b) (sym (append-nil p)) leads)
   leads_split p (e ∷ es) b leads =
       let rest = leads_split (p ++ e ∷ []) es b leads.1 in
-      ((leads.0, rest.0), subst (λ l. Leads l b) (append_assoc p (e ∷ []) es) rest.1)
+      ((leads.0, rest.0), subst (λ l. LeadsTo l b) (append_assoc p (e ∷ []) es) rest.1)
 
   pub started : (state []).rows ≡ [] → (state []).commit ≡ 0 → ReachedBy []
   started rows commit = record {
@@ -184,6 +184,6 @@ module _ (state : List Entry → State) where
     }
 
   -- what each entry keeps, the entries keep
-  pub reached_after : (p h : List Entry) → ReachedBy p → Leads p h → ReachedBy (p ++ h)
+  pub reached_after : (p h : List Entry) → ReachedBy p → LeadsTo p h → ReachedBy (p ++ h)
   reached_after p [] reached leads = subst ReachedBy (sym (append-nil p)) reached
   reached_after p (e ∷ es) reached leads = subst ReachedBy (append_assoc p (e ∷ []) es) (reached_after (p ++ e ∷ []) es (reached_on p e reached leads.0) leads.1)

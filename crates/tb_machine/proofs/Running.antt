@@ -12,13 +12,13 @@ use Rattle.tb_machine.specs.declared.serving.RunFault.{RunFault}
 use Rattle.tb_machine.specs.declared.serving.RunFault.TheVariants as fault
 use Rattle.tb_machine.specs.Histories.{State, start, step, after, answer_to}
 use Rattle.tb_machine.specs.Scripts.{Pair, entry_of, is_entered, after_pair, with_pair, accepted, replies_from, replies_to}
-use Rattle.tb_machine.specs.Runs.{IsPair, Spell, Reads, IsTimely, answer_bytes, Turns, HasTimes, state_after, Served, EndsBy, Ran}
+use Rattle.tb_machine.specs.Runs.{IsPair, Spell, Reads, IsTimely, answer_bytes, AnswersPair, HasTimes, state_after, Served, EndsBy, Ran}
 use Rattle.tb_machine.specs.Serving.{RunsOn}
 use Rattle.tb_machine.proofs.Rows.{each_snoc}
 use Rattle.tb_machine.proofs.Legal.{fold_snoc, after_snoc}
 
 -- a pair that was read, and a fault in answering it
-pub served_fault : (f : RunFault) (S T : State) (p : Pair) (before after : Input) (start written : Output) → Reads (p ∷ []) before after → Turns (Err f) S T p start written → RunsOn (Err f) S T before after start written
+pub served_fault : (f : RunFault) (S T : State) (p : Pair) (before after : Input) (start written : Output) → Reads (p ∷ []) before after → AnswersPair (Err f) S T p start written → RunsOn (Err f) S T before after start written
 served_fault (fault.Frame f) S T p before after start written read turn = inr (record { pair = p; read = read; turn = turn })
 served_fault fault.NoMemory S T p before after start written read turn = record { pair = p; read = read; turn = turn }
 served_fault fault.TimeExhausted S T p before after start written read turn = record { pair = p; read = read; turn = turn }
@@ -120,9 +120,6 @@ module _ (profile : Profile) (clients_max : ℕ) where
     pub state : S ≡ state_after profile clients_max pairs
     pub served : Served profile clients_max pairs before middle first written
 
-  pub serving_none : (S : State) (i : Input) (o : Output) → S ≡ start profile clients_max → Serving 0 S i i o o
-  serving_none S i o is = record { pairs = []; long = refl; state = is; served = record { read = reads_none i; times = tt; replied = sends_none o; spelled = tt } }
-
   pub serving_on : (k : ℕ) (S T : State) (before middle after : Input) (first written next : Output) → Serving k S before middle first written → RunsOn (Ok true) S T middle after written next → Serving (k + 1) T before after first next
   serving_on k S T before middle after first written next s n =
       let turn = subst (λ (U : State). IsTimely U n.pair × (T ≡ after_pair U n.pair) × Sent (answer_bytes U n.pair) written next × IsReply (answer_to (after_pair U n.pair) n.pair.1)) s.state n.turn in
@@ -177,9 +174,6 @@ module _ (profile : Profile) (clients_max : ℕ) where
     served = s.served;
     ended = ends_by f s.pairs T middle after written next (subst (λ (U : State). RunsOn (Err f) U T middle after written next) s.state e);
   }
-
-  pub ran_too_long : (S : State) (before middle : Input) (first written : Output) → Serving (2 ^ 64 - 1) S before middle first written → Ran profile clients_max (Err fault.TooLong) before middle first written
-  ran_too_long S before middle first written s = record { pairs = s.pairs; middle = middle; replied = written; served = s.served; ended = (s.long, refl, refl) }
 
   pub ran_nowhere : (i : Input) (o : Output) → Ran profile clients_max (Err fault.NoMemory) i i o o
   ran_nowhere i o = record { pairs = []; middle = i; replied = o; served = record { read = reads_none i; times = tt; replied = sends_none o; spelled = tt }; ended = inl (refl, refl, refl) }

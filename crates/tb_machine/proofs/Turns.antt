@@ -16,7 +16,7 @@ use Rattle.tb_machine.specs.Scripts.{Pair, entry_of, has_time, after_pair}
 use Rattle.tb_records.specs.ReplyFrames.{reply_bytes, IsReply}
 use Rattle.tb_records.specs.Transport.{Output, Sent, CutOff}
 use Rattle.tb_machine.specs.declared.serving.RunFault.{RunFault}
-use Rattle.tb_machine.specs.Runs.{is_new_in, Turns}
+use Rattle.tb_machine.specs.Runs.{is_new_in, AnswersPair}
 use Rattle.tb_machine.specs.Serving.{Delivers}
 use Rattle.tb_records.proofs.ByKey.{find-put_here, find-replaced_here}
 use Rattle.tb_machine.proofs.Lawful.{lawful_numbers}
@@ -91,7 +91,7 @@ refused S r class a is other told = ap (λ (c : Class). answer_by c (row_of S.ro
 pub entered_turn : (result : Result (Unit {0}) RunFault) (S T : State) (p : Pair) (before after : Output)
     → IsLawful p.1 → class_of S.rows p.1 ≡ New → has_time S p ≡ true → T ≡ step S (entry_of S p)
     → Delivers result (reply_bytes (reply_at S (entry_of S p))) before after → OnOk result (IsReply (reply_at S (entry_of S p)))
-    → Turns result S T p before after
+    → AnswersPair result S T p before after
 entered_turn result S T p before after lawful class time entered sent fits = by result sent fits
   where
     new : is_new_in S p ≡ true
@@ -102,32 +102,7 @@ entered_turn result S T p before after lawful class time entered sent fits = by 
 
     by : (result : Result (Unit {0}) RunFault)
         → Delivers result (reply_bytes (reply_at S (entry_of S p))) before after → OnOk result (IsReply (reply_at S (entry_of S p)))
-        → Turns result S T p before after
+        → AnswersPair result S T p before after
     by (Ok done) sent fits = ((λ _. time), entered ∙ sym (after_new S p new time), subst (λ (b : Answer). Sent (reply_bytes b) before after) (sym answer_is) sent, subst IsReply (sym answer_is) fits)
-    by (Err f) sent fits = subst (λ (f : RunFault). Turns (Err f) S T p before after) (sym sent.0)
+    by (Err f) sent fits = subst (λ (f : RunFault). AnswersPair (Err f) S T p before after) (sym sent.0)
         ((λ _. time), entered ∙ sym (after_new S p new time), refl, subst (λ (b : Answer). CutOff (reply_bytes b) before after) (sym answer_is) sent.1)
-
-pub known_turn : (result : Result (Unit {0}) RunFault) (S : State) (p : Pair) (before after : Output) → class_of S.rows p.1 ≢ New
-    → Delivers result (reply_bytes (answer_to S p.1)) before after → OnOk result (IsReply (answer_to S p.1))
-    → Turns result S S p before after
-known_turn result S p before after known sent fits = by result sent fits
-  where
-    not_new : (class : Class) → class ≢ New → is_new class ≡ false
-    not_new New other = absurd (other refl)
-    not_new class other = refl
-
-    old : is_new_in S p ≡ false
-    old = not_new (class_of S.rows p.1) known
-
-    stays : after_pair S p ≡ S
-    stays = after_known S p old
-
-    timely : is_new_in S p ≡ true → has_time S p ≡ true
-    timely new = absurd (true≢false (sym new ∙ old))
-
-    by : (result : Result (Unit {0}) RunFault)
-        → Delivers result (reply_bytes (answer_to S p.1)) before after → OnOk result (IsReply (answer_to S p.1))
-        → Turns result S S p before after
-    by (Ok done) sent fits = (timely, sym stays, subst (λ (U : State). Sent (reply_bytes (answer_to U p.1)) before after) (sym stays) sent, subst (λ (U : State). IsReply (answer_to U p.1)) (sym stays) fits)
-    by (Err f) sent fits = subst (λ (f : RunFault). Turns (Err f) S S p before after) (sym sent.0)
-        (timely, sym stays, refl, subst (λ (U : State). CutOff (reply_bytes (answer_to U p.1)) before after) (sym stays) sent.1)

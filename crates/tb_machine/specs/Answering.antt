@@ -20,7 +20,7 @@ pub record Holds (profile : Profile) (clients_max : ℕ) (h : List Entry) (r : M
   pub alone : Each (λ (other : Entry). key_of other ≢ key_of entry) (front ++ rest)
 
 -- an answer after the history; where it is a reply, the entry that it names holds the request
-abbrev pub Answers : Profile → ℕ → List Entry → Message → Answer → Type 0
-Answers profile clients_max h r reply =
+abbrev pub IsAnswer : Profile → ℕ → List Entry → Message → Answer → Type 0
+IsAnswer profile clients_max h r reply =
     (reply ≡ answer_to (after profile clients_max h) r)
     × (reply.status ≡ status.Reply → Holds profile clients_max h r reply.commit)

@@ -32,7 +32,7 @@ changed_profile due S = if due then to_two S else S
 abbrev pub added_bytes : Option ℕ → State → Pair → List ℕ
 added_bytes at S p = mark_before (marks_at at S.commit) ++ dumped (entry_of S p)
 
--- the bytes were written, or the writer's fault left a beginning of them
+-- the bytes were written, or the writer's fault left a prefix of them
 abbrev pub Written : Result (Unit {0}) FrameFault → List ℕ → Output → Output → Type 0
 Written result bytes before after = MatchResult result (λ _. Sent bytes before after) (λ f. (f ≡ Device) × CutOff bytes before after)
 

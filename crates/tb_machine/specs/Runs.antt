@@ -44,12 +44,12 @@ answer_bytes S p = reply_bytes (answer_to (after_pair S p) p.1)
 -- a pair is answered: by the reply that its entry has once it is entered, or by the one that its request has as it stands,
 -- whose numbers fit, so that what is written is read as that reply and no other;
 -- where the reply could not be written, the machine has moved on all the same, and a repeat gets that reply
-abbrev pub Turns : Result (Unit {0}) RunFault → State → State → Pair → Output → Output → Type 0
-Turns (Ok done) S T p before after = IsTimely S p × (T ≡ after_pair S p) × Sent (answer_bytes S p) before after × IsReply (answer_to (after_pair S p) p.1)
-Turns (Err (fault.Frame f)) S T p before after = IsTimely S p × (T ≡ after_pair S p) × (f ≡ Device) × CutOff (answer_bytes S p) before after
-Turns (Err fault.NoMemory) S T p before after = (is_new_in S p ≡ true) × (has_time S p ≡ true) × (T ≡ S) × (after ≡ before)
-Turns (Err fault.TimeExhausted) S T p before after = (is_new_in S p ≡ true) × (has_time S p ≡ false) × (T ≡ S) × (after ≡ before)
-Turns (Err fault.TooLong) S T p before after = ⊥
+abbrev pub AnswersPair : Result (Unit {0}) RunFault → State → State → Pair → Output → Output → Type 0
+AnswersPair (Ok done) S T p before after = IsTimely S p × (T ≡ after_pair S p) × Sent (answer_bytes S p) before after × IsReply (answer_to (after_pair S p) p.1)
+AnswersPair (Err (fault.Frame f)) S T p before after = IsTimely S p × (T ≡ after_pair S p) × (f ≡ Device) × CutOff (answer_bytes S p) before after
+AnswersPair (Err fault.NoMemory) S T p before after = (is_new_in S p ≡ true) × (has_time S p ≡ true) × (T ≡ S) × (after ≡ before)
+AnswersPair (Err fault.TimeExhausted) S T p before after = (is_new_in S p ≡ true) × (has_time S p ≡ false) × (T ≡ S) × (after ≡ before)
+AnswersPair (Err fault.TooLong) S T p before after = ⊥
 
 -- a fault in reading: nothing was written
 pub record Unread (f : FrameFault) (middle after : Input) (replied written : Output) : Type 0 where
@@ -90,7 +90,7 @@ module _ (profile : Profile) (clients_max : ℕ) where
     pub time : has_time (state_after ps) pair ≡ has
     pub silent : written ≡ replied
 
-  -- one more pair was read, and a beginning of the reply to it was written
+  -- one more pair was read, and a prefix of the reply to it was written
   pub record BreaksOff (ps : List Pair) (middle after : Input) (replied written : Output) : Type 0 where
     pub pair : Pair
     pub read : Reads (pair ∷ []) middle after

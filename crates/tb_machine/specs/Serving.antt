@@ -8,7 +8,7 @@ use Rattle.tb_machine.specs.declared.serving.RunFault.{RunFault}
 use Rattle.tb_machine.specs.declared.serving.RunFault.TheVariants as fault
 use Rattle.tb_machine.specs.Histories.{State, step}
 use Rattle.tb_machine.specs.Scripts.{Pair, entry_of, has_time}
-use Rattle.tb_machine.specs.Runs.{Reads, Turns, Unread, Ends}
+use Rattle.tb_machine.specs.Runs.{Reads, AnswersPair, Unread, Ends}
 
 -- nothing is held back where the next pair, or the next item of a dump, may have to be waited for
 abbrev pub IsPromptForPair : Input → Output → Type 0
@@ -17,11 +17,11 @@ IsPromptForPair input output = holds_pair input.at_hand ≡ false → output.hel
 abbrev pub IsPromptForItem : Input → Output → Type 0
 IsPromptForItem input output = holds_item input.at_hand ≡ false → output.held ≡ false
 
--- the bytes were written, or the device failed and left a beginning of them
+-- the bytes were written, or the device failed and left a prefix of them
 abbrev pub IsSent : Result (Unit {0}) FrameFault → List ℕ → Output → Output → Type 0
 IsSent result bytes before after = MatchResult result (λ _. Sent bytes before after) (λ f. (f ≡ Device) × CutOff bytes before after)
 
--- the bytes were written, or the writer's fault left a beginning of them
+-- the bytes were written, or the writer's fault left a prefix of them
 abbrev pub Delivers : Result (Unit {0}) RunFault → List ℕ → Output → Output → Type 0
 Delivers result bytes before after = MatchResult result (λ _. Sent bytes before after) (λ f. (f ≡ fault.Frame Device) × CutOff bytes before after)
 
@@ -37,7 +37,7 @@ EntersPair (Err (fault.Frame f)) S T p = ⊥
 pub record Next (result : Result (Unit {0}) RunFault) (S T : State) (before middle : Input) (start written : Output) : Type 0 where
   pub pair : Pair
   pub read : Reads (pair ∷ []) before middle
-  pub turn : Turns result S T pair start written
+  pub turn : AnswersPair result S T pair start written
 
 -- the next pair was served, or there is none, or a fault came
 abbrev pub RunsOn : Result Bool RunFault → State → State → Input → Input → Output → Output → Type 0

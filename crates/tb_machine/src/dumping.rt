@@ -155,7 +155,7 @@ fn dump_next<R: Source, W: Sink>(
 /// Where `at` is given, a mark is written directly before the first entry whose commit number is above it, and from that
 /// request on profile 2 serves. Answers the number of entries written, of which none is held back any more. The head is written before the script is read. On a
 /// fault the entries of all earlier pairs are written, and the rest of the script is unread; where the writer failed, a
-/// beginning of what is next was written too.
+/// prefix of what is next was written too.
 pub fn dump<R: Source, W: Sink>(
     alloc: Global,
     clients_max: ClientsMax,

@@ -98,7 +98,7 @@ fn pass_on_before_item<R: Source, W: Sink>(reader: &R, writer: &mut W)
 
 /// Replays a dump: reads its head and its entries one by one, enters each that may come next into a machine, writes the
 /// reply to it, and answers the number of replies written, of which none is held back any more. On a fault the replies to all earlier entries are written, and
-/// the rest of the dump is unread; where the writer failed, a beginning of the next reply was written too.
+/// the rest of the dump is unread; where the writer failed, a prefix of the next reply was written too.
 pub fn replay<R: Source, W: Sink>(
     alloc: Global,
     reader: &mut R,

@@ -7,13 +7,14 @@ ghost use Rattle.tb_records.specs.Transport.{Sent};
 ghost use Rattle.tb_sessions.specs.Judged.{class_of, row_of};
 ghost use Rattle.tb_machine.specs.Histories.{status_of, answer_to, fits};
 ghost use Rattle.tb_machine.specs.RunFaults.{run_fault_number, run_fault_name};
-ghost use Rattle.tb_machine.specs.Runs.{is_new_in, Turns, Ran};
+ghost use Rattle.tb_machine.specs.Runs.{is_new_in, AnswersPair, Ran};
 ghost use Rattle.tb_machine.specs.Scripts.{entry_of, has_time};
 ghost use Rattle.tb_machine.specs.Serving.{EntersPair, Delivers, IsPromptForPair, RunsOn};
 
 use crate::entries::Entry;
 use crate::machines::Machine;
-use std::alloc::{AllocError, Global};
+use bumpalo::Bump;
+use std::alloc::{AllocError, Allocator, Global};
 use std::fmt;
 use tb_records::streams::read_timed_from;
 use tb_records::{
@@ -109,8 +110,8 @@ pub fn status_of(class: Class) -> Status
 }
 
 /// Enters a new request that comes at a moment. The time is found before any memory is taken.
-pub(crate) fn enter(
-    machine: &mut Machine<Global>,
+pub(crate) fn enter<A: Allocator + Clone>(
+    machine: &mut Machine<A>,
     moment: u64,
     request: Request,
 ) -> Result<(), RunFault>
@@ -125,7 +126,7 @@ pub(crate) fn enter(
 }
 
 /// The reply that a client's row keeps.
-pub(crate) fn stored(machine: &Machine<Global>, client: u128) -> &Reply
+pub(crate) fn stored<A: Allocator + Clone>(machine: &Machine<A>, client: u128) -> &Reply
     requires { is_some (row_of machine.now.rows client) ≡ true }
     ensures { option_map (λ (row : Row). row.reply) (row_of machine.now.rows client) ≡ Some result.now }
 {
@@ -145,14 +146,14 @@ fn send<W: Sink>(writer: &mut W, reply: &Reply) -> Result<(), RunFault>
 }
 
 /// Enters a new request that comes at a moment, and writes the reply to it.
-fn answer_new<W: Sink>(
-    machine: &mut Machine<Global>,
+fn answer_new<A: Allocator + Clone, W: Sink>(
+    machine: &mut Machine<A>,
     writer: &mut W,
     moment: u64,
     request: Request,
 ) -> Result<(), RunFault>
     requires { class_of machine.old.rows request ≡ Class.New }
-    ensures { Turns result machine.old machine.new (moment, request) (W.output writer.old)
+    ensures { AnswersPair result machine.old machine.new (moment, request) (W.output writer.old)
         (W.output writer.new) }
 {
     let Some(entry) = machine.next_entry(request, moment) else {
@@ -166,8 +167,8 @@ fn answer_new<W: Sink>(
 }
 
 /// Answers a request that is not new: a repeat by the stored reply, any other by a refusal.
-fn answer_known<W: Sink>(
-    machine: &Machine<Global>,
+fn answer_known<A: Allocator + Clone, W: Sink>(
+    machine: &Machine<A>,
     writer: &mut W,
     request: &Request,
     class: Class,
@@ -187,13 +188,13 @@ fn answer_known<W: Sink>(
 /// Serves a request that comes at a moment: a new one is entered first, and the reply is written. Where a new one finds no
 /// time or no memory, nothing is written and the machine is as it was; where the writer failed, a new one has been entered
 /// all the same, and sent again it is a repeat that gets its reply.
-pub fn serve_pair<W: Sink>(
-    machine: &mut Machine<Global>,
+pub fn serve_pair<A: Allocator + Clone, W: Sink>(
+    machine: &mut Machine<A>,
     writer: &mut W,
     moment: u64,
     request: Request,
 ) -> Result<(), RunFault>
-    ensures { Turns result machine.old machine.new (moment, request) (W.output writer.old)
+    ensures { AnswersPair result machine.old machine.new (moment, request) (W.output writer.old)
         (W.output writer.new) }
 {
     match machine.class(&request) {
@@ -204,9 +205,9 @@ pub fn serve_pair<W: Sink>(
 
 /// Serves the next pair of a script: false where there is none. The reader is asked only where nothing is held back, or a
 /// whole pair is at hand.
-fn serve_next<R: Source, W: Sink>(
+fn serve_next<A: Allocator + Clone, R: Source, W: Sink>(
     alloc: Global,
-    machine: &mut Machine<Global>,
+    machine: &mut Machine<A>,
     reader: &mut R,
     writer: &mut W,
 ) -> Result<bool, RunFault>
@@ -232,11 +233,10 @@ pub(crate) fn pass_on_before_waiting<R: Source, W: Sink>(reader: &R, writer: &mu
     }
 }
 
-/// Serves a script of pairs, a moment and the frame of a request each, until it ends, and answers the number of replies
-/// written, of which none is held back any more. On a fault the replies to all earlier pairs are written, and the rest of
-/// the script is unread; where the writer failed, a beginning of the next reply was written too.
-pub fn run<R: Source, W: Sink>(
-    alloc: Global,
+/// Serves a script, with the records of the machine in memory of `alloc`.
+fn run_in<A: Allocator + Clone, R: Source, W: Sink>(
+    global: Global,
+    alloc: A,
     profile: Profile,
     clients_max: ClientsMax,
     reader: &mut R,
@@ -246,10 +246,10 @@ pub fn run<R: Source, W: Sink>(
         (W.output writer.old) (W.output writer.new) }
     ensures passed { IfOk result (λ _. (W.output writer.new).held ≡ false) }
 {
-    let mut machine = Machine::new_in(alloc, alloc, profile, clients_max)?;
+    let mut machine = Machine::new_in(global, alloc, profile, clients_max)?;
     for k in 0..u64::MAX {
         pass_on_before_waiting(reader, writer);
-        let more = match serve_next(alloc, &mut machine, reader, writer) {
+        let more = match serve_next(global, &mut machine, reader, writer) {
             Ok(more) => more,
             Err(fault) => {
                 drop(machine);
@@ -264,4 +264,32 @@ pub fn run<R: Source, W: Sink>(
     }
     drop(machine);
     Err(RunFault::TooLong)
+}
+
+/// Serves a script of pairs, a moment and the frame of a request each, until it ends, and answers the number of replies
+/// written, of which none is held back any more. On a fault the replies to all earlier pairs are written, and the rest of
+/// the script is unread; where the writer failed, a prefix of the next reply was written too.
+pub fn run<R: Source, W: Sink>(
+    alloc: Global,
+    profile: Profile,
+    clients_max: ClientsMax,
+    reader: &mut R,
+    writer: &mut W,
+) -> Result<u64, RunFault>
+    ensures ran { Ran profile clients_max result (R.input reader.old) (R.input reader.new)
+        (W.output writer.old) (W.output writer.new) }
+    ensures passed { IfOk result (λ _. (W.output writer.new).held ≡ false) }
+{
+    // Blocks of a pool lie side by side, and go back all at once. Those of one over malloc begin 16 bytes past a cache line, as
+    // malloc's do, and each pool below moves them by 16 more: so over three others a node begins at a line.
+    let first = Bump::new(alloc);
+    let second = Bump::new(&first);
+    let third = Bump::new(&second);
+    let pool = Bump::new(&third);
+    let served = run_in(alloc, &pool, profile, clients_max, reader, writer);
+    drop(pool);
+    drop(third);
+    drop(second);
+    drop(first);
+    served
 }

@@ -12,7 +12,7 @@ use Rattle.tb_machine.proofs.Rows.{row_found}
 use Rattle.tb_machine.proofs.Judging.{repeat_by}
 use Rattle.tb_machine.proofs.Reached.{Stands, reached}
 use Rattle.tb_machine.proofs.Held.{answers, new_again}
-use Rattle.tb_published.specs.Lines.{Opening, LegalIn, AnswersIn, after_in}
+use Rattle.tb_published.specs.Openings.{Opening, LegalIn, IsAnswerIn, after_in}
 use Rattle.tb_published.specs.SeenLaws.{NeverNotYet}
 
 -- a row keeps a reply, so the answer to a repeat has that status, and any other the status of its class
@@ -39,7 +39,7 @@ status_is o h r legal = status_by (class_of (after_in o h).rows r) (row_of (afte
 
 -- an answer to a lawful request tells which entry holds it
 pub answers_ok : {E : Type 0} (o : Opening) (h : List Entry) (r : Message) (result : Result Answer E) → LegalIn o h → IsLawful r
-    → IfOk result (λ (a : Answer). a ≡ answer_to (after_in o h) r) → IfOk result (λ (a : Answer). LegalIn o h × AnswersIn o h r a)
+    → IfOk result (λ (a : Answer). a ≡ answer_to (after_in o h) r) → IfOk result (λ (a : Answer). LegalIn o h × IsAnswerIn o h r a)
 answers_ok o h r (Ok a) legal lawful is = (legal, answers o.profile o.clients_max h r a legal (ap is_none lawful) is)
 answers_ok o h r (Err e) legal lawful is = tt
 

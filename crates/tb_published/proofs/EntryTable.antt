@@ -16,9 +16,10 @@ use Rattle.tb_published.specs.declared.faults.Taken.TheVariants as taken
 use Rattle.tb_published.specs.declared.faults.TakeFault.{TakeFault}
 use Rattle.tb_published.specs.declared.faults.TakeFault.TheVariants as fault
 use Rattle.tb_published.specs.Entering.{EntersBy}
-use Rattle.tb_published.specs.Lines.{Opening, LegalIn, after_in, Line}
-use Rattle.tb_published.specs.Orders.{TwoCopies}
-use Rattle.tb_published.specs.Taking.{Enters, Takes, ShowsAll}
+use Rattle.tb_published.specs.Openings.{Opening, LegalIn, after_in}
+use Rattle.tb_published.specs.Prefixes.{Prefix}
+use Rattle.tb_published.specs.PostedEntries.{TwoCopies}
+use Rattle.tb_published.specs.Taking.{Enters, TakesRequest, ShowsAll}
 use Rattle.tb_published.specs.Ties.{Ties}
 use Rattle.tb_published.proofs.Prefixes.{prefix_trans, prefix_whole}
 
@@ -46,7 +47,7 @@ module _ (o : Opening) (h : List Entry) (r : Message) (now : ℕ) where
       entered (Err (fault.Unpublished c)) by = by
 
 -- what a publisher keeps, with the entry or without it
-module _ {o : Opening} {h : List Entry} {S : State} {offered : Line} {copies : TwoCopies} where
+module _ {o : Opening} {h : List Entry} {S : State} {offered : Prefix} {copies : TwoCopies} where
   tied_new : (e : Entry) (T : State) (m : List Entry) → Ties o h S offered copies → IsTrue (fits S e) → T ≡ step S e → m ≡ h ++ e ∷ [] → Ties o m T offered copies
   tied_new e T m t next state grown = record {
     legal = subst (LegalIn o) (sym grown) (legal_snoc o.profile o.clients_max h e t.legal (subst (λ (T : State). IsTrue (fits T e)) t.machine_is next));
@@ -73,7 +74,7 @@ module _ {o : Opening} {h : List Entry} {S : State} {offered : Line} {copies : T
 
 -- what is entered behind all that is shown, and can't be shown then
 module _ (o : Opening) (h : List Entry) (r : Message) (now : ℕ) where
-  pub takes_unshown : (t : Taken) (f : TakeFault) (m s : List Entry) → Enters o h r now (Ok t) m → IsPrefix h s → ShowsAll (Err f) m s → Takes o h r now (Err f) m s
+  pub takes_unshown : (t : Taken) (f : TakeFault) (m s : List Entry) → Enters o h r now (Ok t) m → IsPrefix h s → ShowsAll (Err f) m s → TakesRequest o h r now (Err f) m s
   takes_unshown (taken.Committed c) (fault.Unpublished d) m s by pre ends =
       let count : length m ≡ length h + 1 = ap length by.3 ∙ length-append h (entry_of (after_in o h) (now, r) ∷ []) in
       let same : c ≡ d = omega (arith, by.2, ends.0, count) in

@@ -4,7 +4,8 @@ use mathlib.Core.List.{IsPrefix}
 use Rattle.tb_machine.specs.declared.entries.Entry.{Entry}
 use Rattle.tb_machine.specs.Histories.{fits, step}
 use Rattle.tb_machine.proofs.Legal.{after_snoc, legal_front, legal_at}
-use Rattle.tb_published.specs.Lines.{Opening, LegalIn, after_in, Line, state_of, Begins, EndsWith}
+use Rattle.tb_published.specs.Openings.{Opening, LegalIn, after_in}
+use Rattle.tb_published.specs.Prefixes.{Prefix, state_of, IsPrefixOf, EndsWith}
 use Rattle.tb_published.proofs.Prefixes.{prefix_shorter, prefix_whole}
 
 pub one_more : (xs ys : List Entry) (e : Entry) → IsPrefix xs ys → EndsWith ys e → length ys ≡ length xs + 1 → ys ≡ xs ++ e ∷ []
@@ -20,7 +21,7 @@ next_fits o h m e is legal = legal_at o.profile o.clients_max h e [] (subst (Leg
 pub next_state : (o : Opening) (h m : List Entry) (e : Entry) → m ≡ h ++ e ∷ [] → after_in o m ≡ step (after_in o h) e
 next_state o h m e is = ap (after_in o) is ∙ after_snoc o.profile o.clients_max h e
 
-pub comes : (l m both : Line) (e : Entry) → m.opening ≡ l.opening → LegalIn m.opening m.list → Begins l both → Begins m both → EndsWith m.list e
+pub comes : (l m both : Prefix) (e : Entry) → m.opening ≡ l.opening → LegalIn m.opening m.list → IsPrefixOf l both → IsPrefixOf m both → EndsWith m.list e
     → length m.list ≡ length l.list + 1 → IsTrue (fits (state_of l) e) × (state_of m ≡ step (state_of l) e)
 comes l m both e same legal mine its ends len =
     let pre = prefix_shorter l.list m.list both.list mine.1 its.1 (omega arith) in
@@ -29,6 +30,6 @@ comes l m both e same legal mine its ends len =
       ap (λ (o : Opening). after_in o m.list) same ∙ next_state l.opening l.list m.list e is,
     )
 
--- a beginning of a legal history is legal
+-- a prefix of a legal history is legal
 pub legal_prefix : (o : Opening) (h m : List Entry) → IsPrefix h m → LegalIn o m → LegalIn o h
 legal_prefix o h m p legal = legal_front o.profile o.clients_max h p.0 (subst (LegalIn o) (sym p.1) legal)

@@ -4,21 +4,21 @@ use mathlib.Core.Option.{some, some-injective}
 use lib.ListN.{get_elem?}
 use Rattle.crossbeam_utils.specs.Register.{Admits, Turns, TurnsAt, Forks, Merges}
 use Rattle.atomic_table.proofs.Lists.{at_set, at_snoc}
-use Rattle.tb_published.specs.Lines.{Line, Begins, with_entry}
-use Rattle.tb_published.specs.Orders.{Order, absorbed, Follows, line_after}
+use Rattle.tb_published.specs.Prefixes.{Prefix, IsPrefixOf, with_entry}
+use Rattle.tb_published.specs.PostedEntries.{PostedEntry, absorbed, Follows, prefix_after}
 use Rattle.tb_published.specs.Sharing.{Shows, Sees, Swapped}
 use Rattle.tb_published.proofs.Prefixes.{prefix_self, prefix_trans, prefix_shorter}
 
--- beginnings
+-- prefixes
 
-pub begins_self : (l : Line) → Begins l l
+pub begins_self : (l : Prefix) → IsPrefixOf l l
 begins_self l = (refl, prefix_self l.list)
 
-pub begins_trans : (l m n : Line) → Begins l m → Begins m n → Begins l n
+pub begins_trans : (l m n : Prefix) → IsPrefixOf l m → IsPrefixOf m n → IsPrefixOf l n
 begins_trans l m n first then_it = (first.0 ∙ then_it.0, prefix_trans l.list m.list n.list first.1 then_it.1)
 
--- of two beginnings of one line the shorter begins the longer
-pub shorter_begins : (l m both : Line) → Begins l both → Begins m both → length l.list ≤ length m.list → Begins l m
+-- of two prefixes of one prefix the shorter begins the longer
+pub shorter_begins : (l m both : Prefix) → IsPrefixOf l both → IsPrefixOf m both → length l.list ≤ length m.list → IsPrefixOf l m
 shorter_begins l m both mine its less = (mine.0 ∙ sym its.0, prefix_shorter l.list m.list both.list mine.1 its.1 less)
 
 some_one : {X : Type 0} {x y : X} → Some x ≡ Some y → x ≡ y
@@ -30,33 +30,33 @@ none_some x e = cc
 -- one step
 
 -- a reader or the writer moves on to what is shown, which begins with all that was shown before
-pub sees : (seat : ℕ) (v : Option Line) (x y : Line) → Begins x y → TurnsAt Shows seat v x y Sees
+pub sees : (seat : ℕ) (v : Option Prefix) (x y : Prefix) → IsPrefixOf x y → TurnsAt Shows seat v x y Sees
 sees seat v x y up views shows at = (
   Some y,
   (λ j l e.
-      ⊎_elim (λ (t : (j ≡ seat) × (Some y ≡ Some l)). subst (λ (z : Line). Begins z y) (some_one t.1) (begins_self y))
+      ⊎_elim (λ (t : (j ≡ seat) × (Some y ≡ Some l)). subst (λ (z : Prefix). IsPrefixOf z y) (some_one t.1) (begins_self y))
       (λ (t : (j ≢ seat) × (get_elem? views j ≡ some (Some l))). begins_trans l x y (shows j l t.1) up)
       (at_set views seat j (Some y) (Some l) e)),
   (refl, before v at),
 )
   where
-    before : (v : Option Line) → get_elem? views seat ≡ some v → IfSome v (λ l. Begins l y)
+    before : (v : Option Prefix) → get_elem? views seat ≡ some v → IfSome v (λ l. IsPrefixOf l y)
     before None at = tt
     before (Some l) at = begins_trans l x y (shows seat l at) up
 
-pub looks : (seat : ℕ) (v : Option Line) → Turns Shows seat v (λ x. x) Sees
+pub looks : (seat : ℕ) (v : Option Prefix) → Turns Shows seat v (λ x. x) Sees
 looks seat v x = sees seat v x x (begins_self x)
 
 -- a place that has seen nothing
 pub admits : Admits Shows None
 admits x views shows seat l at = ⊎_elim (shows seat l) (λ e. absurd (none_some l e)) (at_snoc views None (Some l) seat at)
 
-pub starts : (x : Line) → Shows x (None ∷ [])
+pub starts : (x : Prefix) → Shows x (None ∷ [])
 starts x zero l at = absurd (none_some l (some-injective None (Some l) at))
 starts x (suc seat) l at = absurd cc
 
 -- the writer tells what it has seen, and a place that has seen nothing takes it over
-pub forks : (seat : ℕ) (v : Option Line) → Forks Shows seat v v v
+pub forks : (seat : ℕ) (v : Option Prefix) → Forks Shows seat v v v
 forks seat v x views shows here j l at =
     ⊎_elim (λ e.
     ⊎_elim (λ (t : (j ≡ seat) × (v ≡ Some l)). shows seat l (here ∙ ap some t.1))
@@ -65,7 +65,7 @@ forks seat v x views shows here j l at =
     (λ (same : v ≡ Some l). shows seat l (here ∙ ap some same))
     (at_snoc (set views seat v) v (Some l) j at)
 
-pub merges : (seat : ℕ) (v : Option Line) (other : ℕ) (w : Option Line) → Merges Shows seat v other w w None
+pub merges : (seat : ℕ) (v : Option Prefix) (other : ℕ) (w : Option Prefix) → Merges Shows seat v other w w None
 merges seat v other w x views shows here apart there j l at =
     let its : get_elem? views other ≡ some w = ⊎_elim (λ (t : (other ≡ seat) × (w ≡ w)). absurd (apart t.0)) (λ (t : (other ≢ seat) × (get_elem? views other ≡ some w)). t.1) (at_set views seat other w w there) in
     ⊎_elim (λ (t : (j ≡ other) × (None ≡ Some l)). absurd (none_some l t.1))
@@ -75,34 +75,34 @@ merges seat v other w x views shows here apart there j l at =
     (at_set views seat j w (Some l) t.1))
     (at_set (set views seat w) other j None (Some l) at)
 
--- the orders of a writer
+-- what a writer posts
 
-absorbed_next : (l : Line) (o : Order) → o.front ≡ with_entry l o.entry → absorbed l o ≡ o.front
-absorbed_next l o is = ap (λ b. cond b o.front l) (eq-eqb (length o.front.list) (length l.list + 1) (ap (λ (m : Line). length m.list) is ∙ length-append l.list (o.entry ∷ [])))
+absorbed_next : (l : Prefix) (o : PostedEntry) → o.front ≡ with_entry l o.entry → absorbed l o ≡ o.front
+absorbed_next l o is = ap (λ b. cond b o.front l) (eq-eqb (length o.front.list) (length l.list + 1) (ap (λ (m : Prefix). length m.list) is ∙ length-append l.list (o.entry ∷ [])))
 
--- a copy that takes in the orders behind it has the last one's front
-pub absorb_all : (l : Line) (os : List Order) → Follows l os → fold absorbed l os ≡ line_after l os
+-- a copy that takes in the posted entries behind it has the last one's front
+pub absorb_all : (l : Prefix) (os : List PostedEntry) → Follows l os → fold absorbed l os ≡ prefix_after l os
 absorb_all l [] follows = refl
-absorb_all l (o ∷ os) follows = ap (λ (m : Line). fold absorbed m os) (absorbed_next l o follows.0) ∙ absorb_all o.front os follows.1
+absorb_all l (o ∷ os) follows = ap (λ (m : Prefix). fold absorbed m os) (absorbed_next l o follows.0) ∙ absorb_all o.front os follows.1
 
-pub line_begins : (l : Line) (os : List Order) → Follows l os → Begins l (line_after l os)
-line_begins l [] follows = begins_self l
-line_begins l (o ∷ os) follows =
-    begins_trans l o.front (line_after o.front os)
-    (subst (λ (m : Line). Begins l m) (sym follows.0) (refl, (o.entry ∷ [], refl)))
-    (line_begins o.front os follows.1)
+pub posted_extend : (l : Prefix) (os : List PostedEntry) → Follows l os → IsPrefixOf l (prefix_after l os)
+posted_extend l [] follows = begins_self l
+posted_extend l (o ∷ os) follows =
+    begins_trans l o.front (prefix_after o.front os)
+    (subst (λ (m : Prefix). IsPrefixOf l m) (sym follows.0) (refl, (o.entry ∷ [], refl)))
+    (posted_extend o.front os follows.1)
 
 -- a swap of copies with them
-pub turns : (seat : ℕ) (v : Option Line) (l : Line) (os : List Order) → Follows l os → (next : Line) → next ≡ fold absorbed l os → TurnsAt Shows seat v l next Sees
-turns seat v l os follows next is = sees seat v l next (subst (λ (m : Line). Begins l m) (sym (is ∙ absorb_all l os follows)) (line_begins l os follows))
+pub turns : (seat : ℕ) (v : Option Prefix) (l : Prefix) (os : List PostedEntry) → Follows l os → (next : Prefix) → next ≡ fold absorbed l os → TurnsAt Shows seat v l next Sees
+turns seat v l os follows next is = sees seat v l next (subst (λ (m : Prefix). IsPrefixOf l m) (sym (is ∙ absorb_all l os follows)) (posted_extend l os follows))
 
 -- what a swap leaves
-pub swapped : {E : Type 0} (result : Result (Unit {0}) E) (l : Line) (os : List Order) (v : Option Line) (m : Line) (left : List Order) (w : Option Line) → Follows l os
+pub swapped : {E : Type 0} (result : Result (Unit {0}) E) (l : Prefix) (os : List PostedEntry) (v : Option Prefix) (m : Prefix) (left : List PostedEntry) (w : Option Prefix) → Follows l os
     → MatchResult result (λ _. (m ≡ fold absorbed l os) × (left ≡ [])) (λ _. (m ≡ l) × (left ≡ os))
     → MatchResult result (λ _. Sees v l m w) (λ _. w ≡ v)
-    → Swapped result (record { shown = l; orders = os; seen = v }) (record { shown = m; orders = left; seen = w })
+    → Swapped result (record { shown = l; posted = os; seen = v }) (record { shown = m; posted = left; seen = w })
 swapped (Ok done) l os v m left w follows values rule =
-    let is : m ≡ line_after l os = values.0 ∙ absorb_all l os follows in
-    let seen : w ≡ Some (line_after l os) = rule.0 ∙ ap Some is in
-    λ i. record { shown = is i; orders = values.1 i; seen = seen i }
-swapped (Err e) l os v m left w follows values rule = λ i. record { shown = values.0 i; orders = values.1 i; seen = rule i }
+    let is : m ≡ prefix_after l os = values.0 ∙ absorb_all l os follows in
+    let seen : w ≡ Some (prefix_after l os) = rule.0 ∙ ap Some is in
+    λ i. record { shown = is i; posted = values.1 i; seen = seen i }
+swapped (Err e) l os v m left w follows values rule = λ i. record { shown = values.0 i; posted = values.1 i; seen = rule i }

@@ -6,9 +6,9 @@ use Rattle.tb_records.specs.Messages.{Message, is_register}
 use Rattle.tb_sessions.specs.Judged.{row_of}
 use Rattle.tb_machine.specs.declared.entries.Entry.{Entry}
 use Rattle.tb_machine.specs.Histories.{answer_to}
-use Rattle.tb_published.specs.Lines.{Opening, LegalIn, after_in, OneBegins}
+use Rattle.tb_published.specs.Openings.{Opening, LegalIn, after_in, OneBegins}
 
--- of two beginnings of one list, one begins with the other
+-- of two prefixes of one list, one begins with the other
 abbrev pub OneHistory : Type 0
 OneHistory = (whole xs ys : List Entry) → IsPrefix xs whole → IsPrefix ys whole → OneBegins xs ys
 

@@ -11,7 +11,7 @@ use Rattle.tb_published.specs.declared.faults.Taken.{Taken}
 use Rattle.tb_published.specs.declared.faults.Taken.TheVariants as taken
 use Rattle.tb_published.specs.declared.faults.TakeFault.{TakeFault}
 use Rattle.tb_published.specs.declared.faults.TakeFault.TheVariants as fault
-use Rattle.tb_published.specs.Lines.{Opening, HoldsIn, after_in}
+use Rattle.tb_published.specs.Openings.{Opening, HoldsIn, after_in}
 
 -- the class of a request after a history
 abbrev pub class_in : Opening → List Entry → Message → Class
@@ -28,11 +28,11 @@ Enters o h r now (Err (fault.Unpublished c)) m = ⊥
 
 -- it is taken: entered, and shown by the copies, which show s afterwards. It is not judged before they show all of h; where
 -- they could not, h stays as it was, and where they could not show its entry, they still show all of h
-abbrev pub Takes : Opening → List Entry → Message → ℕ → Result Taken TakeFault → List Entry → List Entry → Type 0
-Takes o h r now (Ok t) m s = Enters o h r now (Ok t) m × (s ≡ m)
-Takes o h r now (Err (fault.Unpublished c)) m s = (c ≡ length m) × (length s < length m) × ((m ≡ h) ⊎ (Enters o h r now (Ok (taken.Committed c)) m × (s ≡ h)))
-Takes o h r now (Err fault.NoMemory) m s = Enters o h r now (Err fault.NoMemory) m × (s ≡ m)
-Takes o h r now (Err fault.TimeExhausted) m s = Enters o h r now (Err fault.TimeExhausted) m × (s ≡ m)
+abbrev pub TakesRequest : Opening → List Entry → Message → ℕ → Result Taken TakeFault → List Entry → List Entry → Type 0
+TakesRequest o h r now (Ok t) m s = Enters o h r now (Ok t) m × (s ≡ m)
+TakesRequest o h r now (Err (fault.Unpublished c)) m s = (c ≡ length m) × (length s < length m) × ((m ≡ h) ⊎ (Enters o h r now (Ok (taken.Committed c)) m × (s ≡ h)))
+TakesRequest o h r now (Err fault.NoMemory) m s = Enters o h r now (Err fault.NoMemory) m × (s ≡ m)
+TakesRequest o h r now (Err fault.TimeExhausted) m s = Enters o h r now (Err fault.TimeExhausted) m × (s ≡ m)
 
 -- the whole history is shown, or less than it
 abbrev pub ShowsAll : Result ℕ TakeFault → List Entry → List Entry → Type 0

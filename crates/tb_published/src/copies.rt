@@ -1,7 +1,7 @@
 //! The two copies, and how the writer shows what they have taken in.
 ghost use Rattle.std.specs.Prelude.{◌≡◌, ◌++◌, ◌∷◌, [], IfOk, MatchResult};
 ghost use Rattle.left_right.specs.Sides.{view};
-ghost use Rattle.tb_published.specs.Orders.{Follows, showing};
+ghost use Rattle.tb_published.specs.PostedEntries.{Follows, showing};
 ghost use Rattle.tb_published.specs.Sharing.{Swapped};
 
 use crate::front::Front;
@@ -17,7 +17,7 @@ use std::alloc::{AllocError, Global};
 use std::marker::Model;
 use std::sync::Wait;
 
-/// The copies as their writer has them. Contracts see what they show, the orders that they have not taken in, and what
+/// The copies as their writer has them. Contracts see what they show, the posted entries that they have not taken in, and what
 /// the writer has seen. It is not Drop: `end` ends it.
 pub struct Copies<J: Naming>
 where
@@ -32,14 +32,14 @@ where
 {
     ghost use Rattle.std.specs.Prelude.{drop};
     ghost use Rattle.left_right.specs.Sides.{view as known};
-    ghost use Rattle.tb_published.specs.Orders.{TwoCopies};
+    ghost use Rattle.tb_published.specs.PostedEntries.{TwoCopies};
 
     ghost Value = { TwoCopies };
 
     ghost view = { λ c.
         record {
           shown = c.writer.desk.shown.value;
-          orders = drop c.writer.behind c.writer.log.items;
+          posted = drop c.writer.behind c.writer.log.items;
           seen = known c.writer.desk.place;
         } };
 }
@@ -49,7 +49,7 @@ impl<J: Naming> Copies<J> {
     fn new(alloc: Global, front: &Front, seats: SeatCount) -> Result<Copies<J>, AllocError>
         requires named { front.now.opening ≡ J.opening }
         requires empty { front.now.list ≡ [] }
-        ensures { IfOk result (λ copies. (copies.shown ≡ front.now) × (copies.orders ≡ [])) }
+        ensures { IfOk result (λ copies. (copies.shown ≡ front.now) × (copies.posted ≡ [])) }
     {
         let first = Replica::new(alloc, front)?;
         let second = match Replica::new(alloc, front) {
@@ -82,10 +82,10 @@ impl<J: Naming> Copies<J> {
         Ok(copies)
     }
 
-    /// Has the copies take in their orders, and shows what they have then. Where a copy finds no memory, they show what
-    /// they showed, and the orders wait.
+    /// Has the copies take in what was posted, and shows what they have then. Where a copy finds no memory, they show what
+    /// they showed, and what was posted waits.
     fn swapped<W: Wait>(self, rt: &W) -> (Copies<J>, Result<(), AllocError>)
-        requires { Follows self.shown self.orders }
+        requires { Follows self.shown self.posted }
         ensures { Swapped result.1 self result.0 }
     {
         let Copies { writer } = self;
@@ -95,19 +95,19 @@ impl<J: Naming> Copies<J> {
 
     /// As `swapped`, in place.
     pub(crate) fn swap<W: Wait>(&mut self, rt: &W) -> Result<(), AllocError>
-        requires { Follows self.old.shown self.old.orders }
+        requires { Follows self.old.shown self.old.posted }
         ensures { Swapped result self.old self.new }
     {
         replace_with(self, rt, Copies::swapped)
     }
 
-    /// One order more; it comes back where there is no room for it.
-    pub(crate) fn append(&mut self, order: Posted<J>) -> Result<(), Posted<J>>
+    /// One posted entry more; it comes back where there is no room for it.
+    pub(crate) fn append(&mut self, posted: Posted<J>) -> Result<(), Posted<J>>
         ensures { MatchResult result
-            (λ _. self.new ≡ record self.old { orders = self.old.orders ++ order ∷ [] })
-            (λ back. (back ≡ order) × (self.new ≡ self.old)) }
+            (λ _. self.new ≡ record self.old { posted = self.old.posted ++ posted ∷ [] })
+            (λ back. (back ≡ posted) × (self.new ≡ self.old)) }
     {
-        self.writer.append(order)
+        self.writer.append(posted)
     }
 
     /// The copy that is shown.

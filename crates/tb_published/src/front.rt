@@ -1,6 +1,7 @@
-//! Beginnings of a history as tokens: each tells how many entries it has, and the entries themselves to proofs alone.
+//! Prefixes of a history as tokens: each tells how many entries it has, and the entries themselves to proofs alone.
 ghost use Rattle.std.specs.Prelude.{◌≡◌, ◌+◌, ◌<◌, ◌^◌, [], length, IsTrue, IfSome, MatchBool};
-ghost use Rattle.tb_published.specs.Lines.{LegalIn, state_of, with_entry, Begins, longer};
+ghost use Rattle.tb_published.specs.Openings.{LegalIn};
+ghost use Rattle.tb_published.specs.Prefixes.{state_of, with_entry, IsPrefixOf, longer};
 ghost use Rattle.tb_published.specs.Counting.{head_of};
 ghost use Rattle.tb_machine.specs.Histories.{fits};
 
@@ -15,9 +16,9 @@ pub struct Law;
 impl Rule<Entry, u64> for Law {
     ghost use Rattle.std.specs.Prelude.{[]};
     ghost use base.Fml.{ftrue};
-    ghost use Rattle.tb_published.specs.Counting.{IsKept};
+    ghost use Rattle.tb_published.specs.Counting.{CountsEntries};
 
-    ghost holds = { λ cells log. IsKept cells log };
+    ghost holds = { λ cells log. CountsEntries cells log };
 
     ghost first = { [] };
 
@@ -56,7 +57,7 @@ impl Plain<Entry, Entry, u64> for Add {
     ghost state = { λ entry. None };
 }
 
-/// A beginning of a legal history.
+/// A prefix of a legal history.
 #[derive(Drop)]
 pub struct Front {
     profile: Profile,
@@ -68,9 +69,9 @@ pub struct Front {
 impl Model for Front {
     ghost use Rattle.std.specs.Prelude.{◌≡◌, length};
     ghost use Rattle.tb_machine.specs.Histories.{IsLegal};
-    ghost use Rattle.tb_published.specs.Lines.{Line};
+    ghost use Rattle.tb_published.specs.Prefixes.{Prefix};
 
-    ghost Value = { Line };
+    ghost Value = { Prefix };
 
     ghost view = { λ f.
         record {
@@ -115,8 +116,8 @@ impl Front {
     pub fn longer(&self, other: &Front) -> Front
         requires { other.now.opening ≡ self.now.opening }
         ensures longer { result ≡ longer self.now other.now }
-        ensures this { Begins self.now result }
-        ensures that { Begins other.now result }
+        ensures this { IsPrefixOf self.now result }
+        ensures that { IsPrefixOf other.now result }
     {
         let mut both = self.seen.again();
         both.learn(&other.seen);
@@ -162,26 +163,26 @@ type Head = Word<Entry, u64, Law>;
 
 /// The word that counts the entries of a history, and the front of all of them.
 #[derive(Drop)]
-pub struct Chronicle {
+pub struct HistoryHead {
     head: Head,
     front: Front,
 }
 
-impl Model for Chronicle {
+impl Model for HistoryHead {
     ghost use Rattle.std.specs.Prelude.{◌≡◌};
-    ghost use Rattle.tb_published.specs.Lines.{Line};
+    ghost use Rattle.tb_published.specs.Prefixes.{Prefix};
     ghost use Rattle.tb_published.specs.Counting.{head_of};
 
-    ghost Value = { Line };
+    ghost Value = { Prefix };
 
     ghost view = { λ c. c.front };
 
     ghost invariant = { λ c. c.head ≡ head_of c.front.opening.book };
 }
 
-impl Chronicle {
-    /// The chronicle of an empty history that is to keep these rules. It takes no memory.
-    pub fn new(profile: Profile, clients_max: ClientsMax) -> Chronicle
+impl HistoryHead {
+    /// The head of an empty history that is to keep these rules. It takes no memory.
+    pub fn new(profile: Profile, clients_max: ClientsMax) -> HistoryHead
         ensures rules { (result.opening.profile ≡ profile)
             × (result.opening.clients_max ≡ clients_max) }
         ensures empty { result.list ≡ [] }
@@ -193,7 +194,7 @@ impl Chronicle {
             count: 0,
             seen,
         };
-        Chronicle {
+        HistoryHead {
             head: Word::tracked(0, &mut first),
             front,
         }

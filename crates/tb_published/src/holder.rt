@@ -6,32 +6,32 @@ use crate::publisher::Publisher;
 use std::sync::Wait;
 
 /// A publisher, and the handle by which its drop waits for the seats that are reading.
-pub struct Held<J: Naming, W: Wait + Drop> {
+pub struct HeldPublisher<J: Naming, W: Wait + Drop> {
     /// The publisher.
     pub publisher: Publisher<J>,
     rt: W,
 }
 
-impl<J: Naming, W: Wait + Drop> Held<J, W> {
+impl<J: Naming, W: Wait + Drop> HeldPublisher<J, W> {
     /// Holds a publisher.
-    pub fn new(publisher: Publisher<J>, rt: W) -> Held<J, W>
+    pub fn new(publisher: Publisher<J>, rt: W) -> HeldPublisher<J, W>
         ensures { result.publisher ≡ publisher }
     {
-        Held { publisher, rt }
+        HeldPublisher { publisher, rt }
     }
 
     /// Gives the publisher back, not closed.
     pub fn into_publisher(self) -> Publisher<J>
         ensures { result ≡ self.publisher }
     {
-        let Held { publisher, rt: _ } = self;
+        let HeldPublisher { publisher, rt: _ } = self;
         publisher
     }
 }
 
-impl<J: Naming, W: Wait + Drop> Drop for Held<J, W> {
+impl<J: Naming, W: Wait + Drop> Drop for HeldPublisher<J, W> {
     fn drop(self) {
-        let Held { publisher, rt } = self;
+        let HeldPublisher { publisher, rt } = self;
         publisher.close(&rt);
     }
 }

@@ -7,7 +7,7 @@ pub fn never_not_yet()
     ensures { NeverNotYet }
 {}
 
-/// Of two beginnings of one history, as the lists that two seats have seen, one begins with the other.
+/// Of two prefixes of one history, as the lists that two seats have seen, one begins with the other.
 pub fn one_history()
     ensures { OneHistory }
 {}

@@ -6,7 +6,7 @@
 //! - `naming`: `Naming`, the name of an opening, a type parameter.
 //! - `limits`: `SeatCount`.
 //! - `faults`: what became of a request that was taken, why a call is refused.
-//! - `front`: `Front`, a prefix of the history as a token over a book that counts entries; `Chronicle`, the head of the
+//! - `front`: `Front`, a prefix of the history as a token over a book that counts entries; `HistoryHead`, the head of the
 //!   history, which alone adds to it.
 //! - `replica`: `Replica`, a copy, which is a machine and a front; `Posted`, what the writer hands to the copies.
 //! - `rule`: the rule of the copies: all that any reader has seen is a prefix of what is shown.
@@ -17,7 +17,7 @@
 //! - `seat`: `Seat`, what a client thread reads through.
 //! - `told`: `Told`, what the publisher tells seats.
 //! - `publisher`: `Publisher`, the one writer.
-//! - `holder`: `Held`, a publisher that closes when it is dropped.
+//! - `holder`: `HeldPublisher`, a publisher that closes when it is dropped.
 //! - `opening`: `Opening`, by which rules a publisher begins; `open`, a publisher and its seats.
 //! - `laws`: what follows of what seats have seen: functions that do nothing.
 #![tactic(auto)]
@@ -40,7 +40,7 @@ mod seat;
 mod told;
 
 pub use faults::{OpenFault, SeatFault, TakeFault, Taken};
-pub use holder::Held;
+pub use holder::HeldPublisher;
 pub use limits::SeatCount;
 pub use naming::Naming;
 pub use opening::{Opening, open};

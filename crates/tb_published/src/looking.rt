@@ -2,7 +2,8 @@
 ghost use Rattle.std.specs.Prelude.{◌≡◌, IfOk, IfErr, IfSome, MatchOption};
 ghost use Rattle.std.specs.Fn.{FnOnceReturnsAt};
 ghost use Rattle.left_right.specs.Sides.{view};
-ghost use Rattle.tb_published.specs.Lines.{LegalIn, after_in, Begins};
+ghost use Rattle.tb_published.specs.Openings.{LegalIn, after_in};
+ghost use Rattle.tb_published.specs.Prefixes.{IsPrefixOf};
 ghost use Rattle.tb_published.specs.Sharing.{Knows, Looked};
 
 use crate::front::Front;
@@ -28,7 +29,7 @@ pub(crate) fn enter<J: Naming>(
     requires knows { Knows (view place.place) front.now }
     requires named { front.now.opening ≡ J.opening }
     ensures known { IfOk result (λ r. Knows (view r.0.place) r.1) }
-    ensures begins { IfOk result (λ r. Begins front.now r.1) }
+    ensures begins { IfOk result (λ r. IsPrefixOf front.now r.1) }
     ensures named { IfOk result (λ r. r.1.opening ≡ J.opening) }
     ensures legal { IfOk result (λ r. LegalIn J.opening r.1.list) }
     ensures value { IfOk result (λ r. r.0.part.value ≡ r.1) }

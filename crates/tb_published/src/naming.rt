@@ -4,7 +4,7 @@ use std::marker::Brand;
 /// Which opening it is, as a parameter of each type that belongs to it: so the name outlasts a lock and a channel. A
 /// program picks it once, where it calls a function that is generic in it.
 pub trait Naming {
-    ghost use Rattle.tb_published.specs.Lines.{Opening};
+    ghost use Rattle.tb_published.specs.Openings.{Opening};
 
     ghost opening: { Opening };
 }

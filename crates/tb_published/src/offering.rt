@@ -1,28 +1,29 @@
-//! How the writer makes orders of the history's entries.
+//! How the writer posts the history's entries.
 ghost use Rattle.std.specs.Prelude.{◌≡◌, MatchOption};
 ghost use mathlib.Core.List.{IsPrefix};
-ghost use Rattle.tb_published.specs.Lines.{LegalIn, with_entry};
+ghost use Rattle.tb_published.specs.Openings.{LegalIn};
+ghost use Rattle.tb_published.specs.Prefixes.{with_entry};
 
-use crate::front::Chronicle;
+use crate::front::HistoryHead;
 use crate::naming::Naming;
 use crate::replica::Posted;
 use std::alloc::Global;
 use tb_machine::Entry;
 
-/// The order of the next entry that the chronicle has not counted, which is counted then. None where all are, or where
+/// The next entry that the head of the history has not counted, to be posted, which is counted then. None where all are, or where
 /// there is no memory for the entry's copy.
-pub(crate) fn next_order<J: Naming>(
+pub(crate) fn next_posted<J: Naming>(
     global: Global,
-    offered: &mut Chronicle,
+    offered: &mut HistoryHead,
     history: &[Entry],
 ) -> Option<Posted<J>>
     requires named { offered.old.opening ≡ J.opening }
     requires begins { IsPrefix offered.old.list history.now }
     requires legal { LegalIn J.opening history.now }
     ensures { MatchOption result (offered.new ≡ offered.old)
-        (λ order.
-        (order.front ≡ offered.new)
-        × (offered.new ≡ with_entry offered.old order.entry)
+        (λ posted.
+        (posted.front ≡ offered.new)
+        × (offered.new ≡ with_entry offered.old posted.entry)
         × IsPrefix offered.new.list history.now) }
 {
     let count = offered.front().len();

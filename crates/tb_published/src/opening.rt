@@ -1,9 +1,9 @@
 //! How an opening is made.
 ghost use Rattle.std.specs.Prelude.{◌≡◌, [], All, IfOk, vec_len};
-ghost use Rattle.tb_published.specs.Lines.{line};
+ghost use Rattle.tb_published.specs.Prefixes.{prefix};
 
 use crate::faults::OpenFault;
-use crate::front::Chronicle;
+use crate::front::HistoryHead;
 use crate::limits::SeatCount;
 use crate::naming::Naming;
 use crate::publisher::Publisher;
@@ -16,18 +16,18 @@ use tb_records::{ClientsMax, Profile};
 /// An opening before it has its name: the rules that its history is to keep. Contracts see it as the opening.
 #[derive(Drop)]
 pub struct Opening {
-    chronicle: Chronicle,
+    head: HistoryHead,
 }
 
 impl Model for Opening {
     ghost use Rattle.std.specs.Prelude.{◌≡◌, []};
-    ghost use Rattle.tb_published.specs.Lines.{Opening};
+    ghost use Rattle.tb_published.specs.Openings.{Opening};
 
     ghost Value = { Opening };
 
-    ghost view = { λ o. o.chronicle.opening };
+    ghost view = { λ o. o.head.opening };
 
-    ghost invariant = { λ o. o.chronicle.list ≡ [] };
+    ghost invariant = { λ o. o.head.list ≡ [] };
 }
 
 impl Opening {
@@ -36,7 +36,7 @@ impl Opening {
         ensures { (result.profile ≡ profile) × (result.clients_max ≡ clients_max) }
     {
         Opening {
-            chronicle: Chronicle::new(profile, clients_max),
+            head: HistoryHead::new(profile, clients_max),
         }
     }
 
@@ -44,15 +44,15 @@ impl Opening {
     pub(crate) fn rules(&self) -> (Profile, ClientsMax)
         ensures { (result.0 ≡ self.now.profile) × (result.1 ≡ self.now.clients_max) }
     {
-        self.chronicle.front().rules()
+        self.head.front().rules()
     }
 
-    /// The chronicle of its empty history.
-    pub(crate) fn into_chronicle(self) -> Chronicle
-        ensures { result ≡ line self [] }
+    /// The head of its empty history.
+    pub(crate) fn into_head(self) -> HistoryHead
+        ensures { result ≡ prefix self [] }
     {
-        let Opening { chronicle } = self;
-        chronicle
+        let Opening { head } = self;
+        head
     }
 }
 

@@ -1,16 +1,16 @@
 //! The writer: it enters requests into the history, and has the copies show it.
 ghost use Rattle.std.specs.Prelude.{◌≡◌, ◌↔◌, ◌<◌, ◌≤◌, [], length, IsTrue, IsFalse, IfOk};
 ghost use mathlib.Core.List.{IsPrefix};
-ghost use Rattle.tb_published.specs.Lines.{LegalIn, after_in, OneBegins};
-ghost use Rattle.tb_published.specs.Taking.{Enters, Takes, ShowsAll};
+ghost use Rattle.tb_published.specs.Openings.{LegalIn, after_in, OneBegins};
+ghost use Rattle.tb_published.specs.Taking.{Enters, TakesRequest, ShowsAll};
 
 use crate::copies::Copies;
 use crate::entering::enter_into;
 use crate::faults::{OpenFault, TakeFault, Taken};
-use crate::front::Chronicle;
+use crate::front::HistoryHead;
 use crate::limits::SeatCount;
 use crate::naming::Naming;
-use crate::offering::next_order;
+use crate::offering::next_posted;
 use crate::opening::Opening;
 use crate::replica::{Posted, Replica};
 use crate::seat::Seat;
@@ -23,7 +23,7 @@ use std::sync::Wait;
 use tb_machine::{Entry, Machine};
 use tb_records::Request;
 
-/// The one writer of an opening. Contracts see its history, and what the copies show of it. It is not Drop: a `Held`
+/// The one writer of an opening. Contracts see its history, and what the copies show of it. It is not Drop: a `HeldPublisher`
 /// closes it.
 pub struct Publisher<J: Naming>
 where
@@ -32,8 +32,8 @@ where
     copies: Copies<J>,
     history: Vec<Entry>,
     machine: Machine<Global>,
-    offered: Chronicle,
-    /// An order that the copies had no room for.
+    offered: HistoryHead,
+    /// A posted entry that the copies had no room for.
     waiting: Option<Posted<J>>,
     global: Global,
 }
@@ -42,8 +42,9 @@ impl<J: Naming> Model for Publisher<J>
 where
     Replica<J>: Absorb<Posted<J>, State = Replica<J>>,
 {
-    ghost use Rattle.tb_published.specs.Orders.{and_waiting};
-    ghost use Rattle.tb_published.specs.Ties.{Ends, Ties};
+    ghost use Rattle.tb_published.specs.PostedEntries.{and_waiting};
+    ghost use Rattle.tb_published.specs.Openings.{Ends};
+    ghost use Rattle.tb_published.specs.Ties.{Ties};
 
     ghost Value = { Ends };
 
@@ -72,7 +73,7 @@ impl<J: Naming> Publisher<J> {
                 return Err(AllocError);
             }
         };
-        let offered = opening.into_chronicle();
+        let offered = opening.into_head();
         let copies = match Copies::begin(alloc, rt, offered.front(), seats) {
             Ok(copies) => copies,
             Err(AllocError) => {
@@ -126,7 +127,7 @@ impl<J: Naming> Publisher<J> {
         Told::new(self.copies.shown().front().again())
     }
 
-    /// Says whether the copies show all that a seat has seen: then that is a beginning of the history. Of what is shown and
+    /// Says whether the copies show all that a seat has seen: then that is a prefix of the history. Of what is shown and
     /// what a seat has seen, one list begins with the other.
     pub fn beside(&self, seat: &Seat<J>) -> bool
         ensures one { OneBegins self.now.shown seat.now }
@@ -166,7 +167,7 @@ impl<J: Naming> Publisher<J> {
     /// history's old length comes before the request is judged, and leaves the history as it was; Unpublished of one more
     /// comes after it was entered, and the copies show all but its entry.
     pub fn take<W: Wait>(&mut self, rt: &W, request: Request, now: u64) -> Result<Taken, TakeFault>
-        ensures history { Takes J.opening self.old.history request now result self.new.history self.new.shown }
+        ensures history { TakesRequest J.opening self.old.history request now result self.new.history self.new.shown }
         ensures shown { IsPrefix self.old.shown self.new.shown }
     {
         if let Err(fault) = self.show(rt) {
@@ -217,27 +218,27 @@ impl<J: Naming> Publisher<J> {
         self.hand_over()
     }
 
-    /// Makes the order of the next entry, where none waits.
+    /// Makes the next entry ready to be posted, where none waits.
     fn pick_one(&mut self)
         ensures { self.new ≡ self.old }
     {
         if self.waiting.is_none() {
-            let next = next_order(self.global, &mut self.offered, self.history.as_slice());
+            let next = next_posted(self.global, &mut self.offered, self.history.as_slice());
             drop(replace(&mut self.waiting, next));
         }
     }
 
-    /// Hands over the order that waits; false where none does, or there is no room for it.
+    /// Hands over the posted entry that waits; false where none does, or there is no room for it.
     fn hand_over(&mut self) -> bool
         ensures { self.new ≡ self.old }
     {
-        let Some(order) = self.waiting.take() else {
+        let Some(posted) = self.waiting.take() else {
             return false;
         };
-        match self.copies.append(order) {
+        match self.copies.append(posted) {
             Ok(()) => true,
-            Err(order) => {
-                drop(self.waiting.replace(order));
+            Err(posted) => {
+                drop(self.waiting.replace(posted));
                 false
             }
         }

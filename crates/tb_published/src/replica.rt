@@ -1,7 +1,7 @@
-//! A copy of the machine, and the orders that bring it entries.
+//! A copy of the machine, and the posted entries that it takes in.
 ghost use Rattle.std.specs.Prelude.{◌≡◌, ◌+◌, ◌==◌, [], length, IfOk, IsTrue};
 ghost use Rattle.tb_machine.specs.Histories.{fits, step};
-ghost use Rattle.tb_published.specs.Lines.{line, state_of, with_entry, EndsWith};
+ghost use Rattle.tb_published.specs.Prefixes.{prefix, state_of, with_entry, EndsWith};
 
 use crate::front::Front;
 use crate::naming::Naming;
@@ -10,7 +10,7 @@ use std::alloc::{AllocError, Global};
 use std::marker::{Model, PhantomData};
 use tb_machine::{Entry, Machine};
 
-/// An order to the copies: an entry, and the front that ends with it.
+/// A posted entry: an entry, and the front that ends with it.
 #[derive(Drop)]
 pub struct Posted<J: Naming> {
     entry: Entry,
@@ -20,10 +20,10 @@ pub struct Posted<J: Naming> {
 
 impl<J: Naming> Model for Posted<J> {
     ghost use Rattle.std.specs.Prelude.{◌≡◌};
-    ghost use Rattle.tb_published.specs.Lines.{EndsWith};
-    ghost use Rattle.tb_published.specs.Orders.{Order};
+    ghost use Rattle.tb_published.specs.Prefixes.{EndsWith};
+    ghost use Rattle.tb_published.specs.PostedEntries.{PostedEntry};
 
-    ghost Value = { Order };
+    ghost Value = { PostedEntry };
 
     ghost view = { λ o. record { entry = o.entry; front = o.front } };
 
@@ -31,7 +31,7 @@ impl<J: Naming> Model for Posted<J> {
 }
 
 impl<J: Naming> Posted<J> {
-    /// The order to take in an entry with which a front ends.
+    /// An entry with which a front ends, to be taken in.
     pub(crate) fn new(entry: Entry, front: Front) -> Posted<J>
         requires named { front.opening ≡ J.opening }
         requires last { EndsWith front.list entry }
@@ -55,9 +55,9 @@ pub struct Replica<J: Naming> {
 
 impl<J: Naming> Model for Replica<J> {
     ghost use Rattle.std.specs.Prelude.{◌≡◌};
-    ghost use Rattle.tb_published.specs.Lines.{Line, state_of};
+    ghost use Rattle.tb_published.specs.Prefixes.{Prefix, state_of};
 
-    ghost Value = { Line };
+    ghost Value = { Prefix };
 
     ghost view = { λ r. r.front };
 
@@ -95,15 +95,15 @@ impl<J: Naming> Replica<J> {
         &self.front
     }
 
-    /// Says that an order brings the entry behind the copy's. The writer sends no other.
-    fn comes_next(&self, order: &Posted<J>) -> bool
-        ensures one { result ≡ (length order.now.front.list == length self.now.list + 1) }
-        ensures fits { IsTrue result → IsTrue (fits (state_of self.now) order.now.entry) }
-        ensures leads { IsTrue result → state_of order.now.front ≡ step (state_of self.now) order.now.entry }
+    /// Says that a posted entry is the one behind the copy's. The writer sends no other.
+    fn comes_next(&self, posted: &Posted<J>) -> bool
+        ensures one { result ≡ (length posted.now.front.list == length self.now.list + 1) }
+        ensures fits { IsTrue result → IsTrue (fits (state_of self.now) posted.now.entry) }
+        ensures leads { IsTrue result → state_of posted.now.front ≡ step (state_of self.now) posted.now.entry }
     {
-        let its = order.front.len();
+        let its = posted.front.len();
         let mine = self.front.len();
-        let both = self.front.longer(&order.front);
+        let both = self.front.longer(&posted.front);
         drop(both);
         if its <= mine {
             return false;
@@ -113,7 +113,7 @@ impl<J: Naming> Replica<J> {
 }
 
 impl<J: Naming> Absorb<Posted<J>> for Replica<J> {
-    ghost use Rattle.tb_published.specs.Orders.{absorbed};
+    ghost use Rattle.tb_published.specs.PostedEntries.{absorbed};
 
     type State = Replica<J>;
 
@@ -122,26 +122,26 @@ impl<J: Naming> Absorb<Posted<J>> for Replica<J> {
     ghost applied = { absorbed };
 
     /// The first copy takes in an entry by a copy of its own.
-    fn absorb_first(&mut self, order: &Posted<J>, _other: &Replica<J>) -> Result<(), AllocError> {
-        if !self.comes_next(order) {
+    fn absorb_first(&mut self, posted: &Posted<J>, _other: &Replica<J>) -> Result<(), AllocError> {
+        if !self.comes_next(posted) {
             return Ok(());
         }
-        self.machine.apply(&order.entry)?;
-        self.front = order.front.again();
+        self.machine.apply(&posted.entry)?;
+        self.front = posted.front.again();
         Ok(())
     }
 
-    /// The second copy takes the order's entry itself.
-    fn absorb_second(&mut self, order: Posted<J>, _other: &Replica<J>) -> Result<(), Posted<J>> {
-        if !self.comes_next(&order) {
-            drop(order);
+    /// The second copy takes the posted entry itself.
+    fn absorb_second(&mut self, posted: Posted<J>, _other: &Replica<J>) -> Result<(), Posted<J>> {
+        if !self.comes_next(&posted) {
+            drop(posted);
             return Ok(());
         }
         let Posted {
             entry,
             front,
             of: _,
-        } = order;
+        } = posted;
         match self.machine.enter(entry) {
             Ok(()) => {
                 self.front = front;

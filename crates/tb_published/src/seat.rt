@@ -8,7 +8,7 @@ ghost use Rattle.tb_sessions.specs.Judged.{class_of};
 ghost use Rattle.tb_ledger.specs.Books.{found_accounts, found_transfers};
 ghost use Rattle.tb_machine.specs.Histories.{answer_to};
 ghost use Rattle.tb_published.specs.declared.faults.SeatFault.TheVariants as seat_fault;
-ghost use Rattle.tb_published.specs.Lines.{LegalIn, AnswersIn, after_in, longer_of, OneBegins};
+ghost use Rattle.tb_published.specs.Openings.{LegalIn, IsAnswerIn, after_in, longer_of, OneBegins};
 ghost use Rattle.tb_published.specs.Sharing.{Knows};
 
 use crate::faults::SeatFault;
@@ -27,7 +27,7 @@ use tb_records::{Account, Reply, Request, Status, Transfer};
 type Gap = [u64; 8];
 
 /// A place at the copies from which one thread reads, without a lock and without waiting. Contracts see it as the
-/// beginning of the history that it has seen, which only grows.
+/// prefix of the history that it has seen, which only grows.
 #[derive(Drop)]
 #[repr(C)]
 pub struct Seat<J: Naming> {
@@ -114,7 +114,7 @@ impl<J: Naming> Seat<J> {
         ensures begins { IsPrefix self.old self.new }
         ensures answer { IfOk result
             (λ reply.
-            LegalIn J.opening self.new × AnswersIn J.opening self.new request.now reply) }
+            LegalIn J.opening self.new × IsAnswerIn J.opening self.new request.now reply) }
         ensures fault { IfErr result (λ f. f ≡ seat_fault.NoCopy → self.new ≡ self.old) }
     {
         let global = self.global;

@@ -1,13 +1,13 @@
 //! What the publisher tells seats.
 ghost use Rattle.std.specs.Prelude.{◌≡◌, ◌↔◌, ◌≤◌, length, IsTrue};
-ghost use Rattle.tb_published.specs.Lines.{OneBegins};
+ghost use Rattle.tb_published.specs.Openings.{OneBegins};
 
 use crate::front::Front;
 use crate::naming::Naming;
 use crate::seat::Seat;
 use std::marker::{Model, PhantomData};
 
-/// A beginning of the history that was shown, for seats to learn. Contracts see it as its entries.
+/// A prefix of the history that was shown, for seats to learn. Contracts see it as its entries.
 #[derive(Drop)]
 pub struct Told<J: Naming> {
     front: Front,

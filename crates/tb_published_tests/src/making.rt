@@ -5,7 +5,7 @@ ghost use Rattle.std.specs.Prelude.{◌≡◌};
 use std::alloc::Global;
 use std::process::Abort;
 use std::sync::Wait;
-use tb_published::{Held, Naming, Opening, Publisher, Seat, SeatCount, Taken, open};
+use tb_published::{HeldPublisher, Naming, Opening, Publisher, Seat, SeatCount, Taken, open};
 use tb_records::{Account, Body, ClientsMax, Items, Profile, Request, Transfer};
 
 /// A request's client, session and number.
@@ -86,12 +86,12 @@ pub(crate) fn opened<J: Naming, R: Wait + Abort>(
     alloc: Global,
     opening: Opening,
     seats: u32,
-) -> (Held<J, &R>, Vec<Seat<J>>)
+) -> (HeldPublisher<J, &R>, Vec<Seat<J>>)
     requires { opening ≡ J.opening }
 {
     let count = SeatCount::new(seats).expect(rt, "seats");
     let (publisher, seats) = open(alloc, rt, opening, count).expect(rt, "a publisher");
-    (Held::new(publisher, rt), seats)
+    (HeldPublisher::new(publisher, rt), seats)
 }
 
 /// Takes a request at moment 10.

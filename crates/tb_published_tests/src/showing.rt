@@ -7,7 +7,7 @@ use std::alloc::Global;
 use std::marker::Brand;
 use std::process::Abort;
 use std::sync::Wait;
-use tb_published::{Held, Naming, Opening, Publisher, Seat, Taken};
+use tb_published::{HeldPublisher, Naming, Opening, Publisher, Seat, Taken};
 use tb_records::{Profile, Request, Status};
 
 /// A seat has seen so many entries, and finds this status for a request.
@@ -44,7 +44,7 @@ fn enter_and_show<J: Naming, R: Wait + Abort>(rt: &R, alloc: Global, opening: Op
     requires { opening ≡ J.opening }
 {
     let (held, mut seats) = opened::<J, R>(rt, alloc, opening, 1);
-    let mut held = Held::new(held.into_publisher(), rt);
+    let mut held = HeldPublisher::new(held.into_publisher(), rt);
     let seat = seats.iter_mut().next().expect(rt, "a seat");
     expect_shown(rt, &mut held.publisher, seat);
     drop(seats);

@@ -6,7 +6,7 @@ use crate::clients::Left;
 use crate::doors::Serving;
 use crate::faults::{Fault, add};
 use crate::keys::count_twice;
-use crate::places::{Line, rebuild};
+use crate::places::{PlacedRequests, rebuild};
 use crate::records::Log;
 use crate::rules::Rules;
 use std::alloc::Global;
@@ -14,11 +14,11 @@ use tb_machine::Entry;
 use tb_published::Naming;
 use tb_service::{Ended, Finished};
 
-/// Takes a closed port in: its places join the line, and the log is left.
+/// Takes a closed port in: its places join the others, and the log is left.
 fn take_in<J: Naming, S: Serving>(
     finished: &mut Finished<J>,
     one: Left<S>,
-    line: &mut Line,
+    placed: &mut PlacedRequests,
     logs: &mut Vec<Log>,
 ) -> Result<(), Fault>
     requires { S.service ≡ Some finished.old.service }
@@ -36,7 +36,7 @@ fn take_in<J: Naming, S: Serving>(
         return Err(fault);
     }
     let placed = match finished.offered_by(closed) {
-        Ok(places) => line.add(places.as_slice(), log.offered.as_slice()),
+        Ok(places) => placed.add(places.as_slice(), log.offered.as_slice()),
         Err(closed) => {
             drop(closed);
             Err(Fault::NoMemory)
@@ -55,14 +55,14 @@ fn take_in<J: Naming, S: Serving>(
 fn gather<J: Naming, S: Serving>(
     finished: &mut Finished<J>,
     left: Vec<Left<S>>,
-    line: &mut Line,
+    placed: &mut PlacedRequests,
     logs: &mut Vec<Log>,
 ) -> Result<(), Fault>
     requires { S.service ≡ Some finished.old.service }
 {
     let mut taken = Ok(());
     for one in left {
-        taken = taken.and(take_in(finished, one, line, logs));
+        taken = taken.and(take_in(finished, one, placed, logs));
     }
     taken
 }
@@ -73,14 +73,14 @@ fn check(
     alloc: Global,
     rules: Rules,
     history: &[Entry],
-    line: &Line,
+    placed: &PlacedRequests,
     logs: &[Log],
 ) -> Result<Tally, Fault> {
     let mut tally = check_answers(alloc, rules, history, logs)?;
     tally.commits = history.len();
-    tally.offered = line.len();
-    tally.count_wrong(line.misplaced());
-    tally.count_wrong(rebuild(alloc, rules, line, history)?);
+    tally.offered = placed.len();
+    tally.count_wrong(placed.misplaced());
+    tally.count_wrong(rebuild(alloc, rules, placed, history)?);
     tally.count_wrong(count_twice(alloc, history)?);
     Ok(tally)
 }
@@ -100,19 +100,19 @@ pub fn audit<J: Naming, S: Serving>(
         drop(left);
         return Err(Fault::Unserved);
     }
-    let mut line = Line::new(alloc);
+    let mut placed = PlacedRequests::new(alloc);
     let mut logs = Vec::new(alloc);
-    let tally = match gather(finished, left, &mut line, &mut logs) {
+    let tally = match gather(finished, left, &mut placed, &mut logs) {
         Ok(()) => check(
             alloc,
             rules,
             finished.publisher.history(),
-            &line,
+            &placed,
             logs.as_slice(),
         ),
         Err(fault) => Err(fault),
     };
     drop(logs);
-    drop(line);
+    drop(placed);
     tally
 }

@@ -9,7 +9,7 @@ use tb_sessions::Class;
 
 /// The requests of all ports by their places, and what is wrong with these.
 #[derive(Drop)]
-pub struct Line {
+pub struct PlacedRequests {
     requests: Vec<Option<Asked>>,
     misplaced: u64,
 }
@@ -19,10 +19,10 @@ fn do_rise(places: &[u64]) -> bool {
     places.windows(2).all(|pair| pair[0] < pair[1])
 }
 
-impl Line {
-    /// A line with no place.
-    pub fn new(alloc: Global) -> Line {
-        Line {
+impl PlacedRequests {
+    /// No place yet.
+    pub fn new(alloc: Global) -> PlacedRequests {
+        PlacedRequests {
             requests: Vec::new(alloc),
             misplaced: 0,
         }
@@ -33,7 +33,7 @@ impl Line {
         self.requests.len()
     }
 
-    /// Makes room for a place.
+    /// Takes memory for a place.
     fn reach(&mut self, place: usize) -> Result<(), Fault> {
         let missing = place.saturating_sub(self.requests.len());
         let requests = &mut self.requests;
@@ -138,15 +138,15 @@ fn take_turn(
     }
 }
 
-/// Serves the line by a machine of the empty history, and counts where the history has something else.
+/// Serves the requests by their places by a machine of the empty history, and counts where the history has something else.
 fn serve(
     alloc: Global,
     machine: &mut Machine<Global>,
-    line: &Line,
+    placed: &PlacedRequests,
     history: &[Entry],
 ) -> Result<u64, Fault> {
     let mut wrong = 0u64;
-    for (at, asked) in line.requests.iter().enumerate() {
+    for (at, asked) in placed.requests.iter().enumerate() {
         if let Some(asked) = asked {
             let place = (at as u64).saturating_add(1);
             wrong = wrong.saturating_add(take_turn(alloc, machine, place, *asked, history)?);
@@ -156,11 +156,16 @@ fn serve(
     Ok(wrong.saturating_add(missing))
 }
 
-/// Serves the line in one thread, and counts where the history has something else.
-pub fn rebuild(alloc: Global, rules: Rules, line: &Line, history: &[Entry]) -> Result<u64, Fault> {
+/// Serves the requests by their places in one thread, and counts where the history has something else.
+pub fn rebuild(
+    alloc: Global,
+    rules: Rules,
+    placed: &PlacedRequests,
+    history: &[Entry],
+) -> Result<u64, Fault> {
     match rules.machine(alloc) {
         Ok(mut machine) => {
-            let wrong = serve(alloc, &mut machine, line, history);
+            let wrong = serve(alloc, &mut machine, placed, history);
             drop(machine);
             wrong
         }

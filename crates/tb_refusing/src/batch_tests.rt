@@ -9,7 +9,8 @@ use std::process::Abort;
 use tb_machine::Machine;
 use tb_records::{Body, ClientsMax, Items, Profile, Transfer, TransferFlag};
 
-/// The undo log has room for four changes of each event, and a change has at most so many bytes: a row, and which change it is.
+/// The undo log has room for four changes of each event, and of the next power of two of them; a change has at most so many bytes:
+/// a row, and which change it is.
 const LOG: u64 = 4 * 144;
 
 /// What is kept of an event has at most so many bytes, with the links of its trees: a transfer's row, a timeout, an id that
@@ -86,10 +87,18 @@ fn ask(rt: &impl Abort, alloc: Global, profile: Profile, count: u32, chained: bo
     asked
 }
 
-/// A batch's undo log is one growth, and the greatest; all that it asks for is the log's room and that of its records. The
-/// batch of two accounts before it asks for a log too.
-fn expect_bounded(rt: &impl Abort, alloc: Global, profile: Profile, count: u32, chained: bool) {
+/// The undo log of a batch of so many events, of which the next power of two is given, is one growth, and the greatest; all that the
+/// batch asks for is the log's room and that of its records. The batch of two accounts before it asks for a log too.
+fn expect_bounded(
+    rt: &impl Abort,
+    alloc: Global,
+    profile: Profile,
+    size: (u32, u32),
+    chained: bool,
+) {
+    let (count, power) = size;
     let asked = ask(rt, alloc, profile, count, chained);
+    let log = LOG * u64::from(power);
     let count = u64::from(count);
     let Tally {
         bytes,
@@ -97,17 +106,18 @@ fn expect_bounded(rt: &impl Abort, alloc: Global, profile: Profile, count: u32, 
         ..
     } = asked;
     holds(rt, bytes >= 128 * count, "bytes, too few", bytes);
-    holds(rt, greatest <= LOG * count.max(2), "a growth", greatest);
-    holds(rt, bytes <= (LOG + KEPT) * count, "bytes", bytes);
+    holds(rt, greatest <= log.max(LOG * 2), "a growth", greatest);
+    holds(rt, bytes <= log + KEPT * count, "bytes", bytes);
 }
 
-/// A batch asks for so many bytes an event at most, whether its events stand alone or in one chain.
+/// A batch asks for so many bytes an event at most, and as many for its log as the next power of two of events has, whether its
+/// events stand alone or in one chain.
 #[test]
 fn bytes_of_a_batch(rt: HostRuntime) {
     for profile in [Profile::One, Profile::Two] {
-        for count in [1, 2, 20, 300] {
-            expect_bounded(&rt, rt.alloc(), profile, count, false);
-            expect_bounded(&rt, rt.alloc(), profile, count, true);
+        for size in [(1, 1), (2, 2), (20, 32), (300, 512)] {
+            expect_bounded(&rt, rt.alloc(), profile, size, false);
+            expect_bounded(&rt, rt.alloc(), profile, size, true);
         }
     }
 }

@@ -1,4 +1,4 @@
-//! An allocator that refuses one growth, and counts its blocks and the bytes that it is asked for.
+//! An allocator that refuses one growth, or all from one on, and counts its blocks and the bytes that it is asked for.
 use std::alloc::{AllocError, Allocator};
 use std::cell::Cell;
 
@@ -7,8 +7,10 @@ use std::cell::Cell;
 pub struct Tally {
     /// The growths that were asked for.
     pub asked: u64,
-    /// The growth that is refused; 0 for none.
+    /// The first growth that is refused; 0 for none.
     pub refused_at: u64,
+    /// The last one that is refused.
+    pub refused_until: u64,
     /// The blocks taken and not given back.
     pub blocks: u64,
     /// The bytes of all growths that were asked for.
@@ -17,7 +19,8 @@ pub struct Tally {
     pub greatest: u64,
 }
 
-/// An allocator over another one, that refuses one growth, once, and counts its blocks and bytes.
+/// An allocator over another one, that refuses one growth, once, or all from one on until it relents, and counts its blocks and
+/// bytes.
 pub struct Refusing<B: Allocator> {
     inner: B,
     tally: Cell<Tally>,
@@ -26,16 +29,35 @@ pub struct Refusing<B: Allocator> {
 impl<B: Allocator> Refusing<B> {
     /// Refuses the growth with this number, from 1; none where that is 0.
     pub fn new(inner: B, refused_at: u64) -> Refusing<B> {
+        Refusing::within(inner, refused_at, refused_at)
+    }
+
+    /// Refuses the growth with this number, from 1, and all behind it until it relents; none where that is 0.
+    pub fn from(inner: B, refused_at: u64) -> Refusing<B> {
+        let refused_until = if refused_at == 0 { 0 } else { u64::MAX };
+        Refusing::within(inner, refused_at, refused_until)
+    }
+
+    /// Refuses the growths from one number up to another.
+    fn within(inner: B, refused_at: u64, refused_until: u64) -> Refusing<B> {
         Refusing {
             inner,
             tally: Cell::new(Tally {
                 asked: 0,
                 refused_at,
+                refused_until,
                 blocks: 0,
                 bytes: 0,
                 greatest: 0,
             }),
         }
+    }
+
+    /// Refuses no growth any more.
+    pub fn relent(&self) {
+        let mut now = self.tally.get();
+        now.refused_until = 0;
+        self.tally.set(now);
     }
 
     /// What was asked of it.
@@ -56,7 +78,7 @@ fn refuses(tally: &Cell<Tally>, size: usize) -> bool {
     now.asked = now.asked.wrapping_add(1);
     now.bytes = now.bytes.wrapping_add(size as u64);
     now.greatest = now.greatest.max(size as u64);
-    let refused = now.asked == now.refused_at;
+    let refused = now.refused_at <= now.asked && now.asked <= now.refused_until;
     if !refused {
         now.blocks = now.blocks.wrapping_add(1);
     }

@@ -8,6 +8,7 @@
 //! - `map_tests`: each growth of a map refused.
 //! - `machine_tests`: each growth of a ledger's rows refused, below `Machine::apply`.
 //! - `batch_tests`: how many bytes a batch of transfers asks for.
+//! - `pool_tests`: each chunk of a pool with a ledger's rows refused, below `serve_pair`.
 //! - `device_tests`: each read and each write fails, or takes nothing.
 #![tactic(auto)]
 
@@ -25,3 +26,5 @@ mod device_tests;
 mod machine_tests;
 #[cfg(test)]
 mod map_tests;
+#[cfg(test)]
+mod pool_tests;

@@ -20,7 +20,7 @@ const LATE: u64 = 2_000_000_000;
 
 /// The worked rows that are served.
 #[derive(Clone, Copy, PartialEq, Eq)]
-enum Rows {
+pub(crate) enum Rows {
     /// From the first register to the transfer of 100.
     First,
     /// The chain that its second event breaks, and that event's id again.
@@ -32,8 +32,8 @@ enum Rows {
 /// A request, and the moment at which it comes.
 #[derive(Drop)]
 pub(crate) struct Turn {
-    moment: u64,
-    request: Request,
+    pub moment: u64,
+    pub request: Request,
 }
 
 fn account(id: u128) -> Account {
@@ -179,7 +179,7 @@ pub(crate) fn register(rt: &impl Abort) -> Turn {
 }
 
 /// The requests of the rows.
-fn turns(rt: &impl Abort, alloc: Global, rows: Rows) -> Vec<Turn> {
+pub(crate) fn turns(rt: &impl Abort, alloc: Global, rows: Rows) -> Vec<Turn> {
     let mut all = Vec::new(alloc);
     add_one(rt, &mut all, register(rt));
     add_one(rt, &mut all, two_accounts(rt, alloc));
@@ -191,7 +191,7 @@ fn turns(rt: &impl Abort, alloc: Global, rows: Rows) -> Vec<Turn> {
 /// What a machine shows: its last commit number and time, the commit number of client 7's stored reply, its accounts 1 and 2,
 /// and those of the rows' transfers that are there.
 #[derive(Drop)]
-struct Shown {
+pub(crate) struct Shown {
     commit: u64,
     time: u64,
     stored: Option<u64>,
@@ -210,7 +210,7 @@ impl Shown {
     }
 }
 
-fn look<A: Allocator + Clone>(rt: &impl Abort, machine: &Machine<A>) -> Shown {
+pub(crate) fn look<A: Allocator + Clone>(rt: &impl Abort, machine: &Machine<A>) -> Shown {
     Shown {
         commit: machine.commit(),
         time: machine.time(),
@@ -221,7 +221,11 @@ fn look<A: Allocator + Clone>(rt: &impl Abort, machine: &Machine<A>) -> Shown {
 }
 
 /// A machine shows the same as before.
-fn expect_same<A: Allocator + Clone>(rt: &impl Abort, machine: &Machine<A>, before: &Shown) {
+pub(crate) fn expect_same<A: Allocator + Clone>(
+    rt: &impl Abort,
+    machine: &Machine<A>,
+    before: &Shown,
+) {
     let now = look(rt, machine);
     let same = now.same(before);
     drop(now);
@@ -317,7 +321,7 @@ fn expect_left<A: Allocator + Clone>(
 
 /// What the last row gives: the codes, and what is pending and posted. By profile 2 the id that broke the chain has failed for
 /// good.
-fn expect_last<A: Allocator + Clone>(
+pub(crate) fn expect_last<A: Allocator + Clone>(
     rt: &impl Abort,
     alloc: Global,
     machine: &Machine<A>,

@@ -8,7 +8,7 @@ use Rattle.tb_service.specs.declared.orders.Order.{Order}
 use Rattle.tb_service.specs.declared.rule.View.{View}
 use Rattle.tb_service.specs.declared.ends.Ended.{Ended}
 use Rattle.tb_service.specs.declared.ends.Ended.TheVariants as way
-use Rattle.tb_service.specs.Line.{requests_in, requests_of, is_closed}
+use Rattle.tb_service.specs.Sent.{requests_in, requests_of, is_closed}
 use Rattle.tb_service.specs.Names.{Name}
 use Rattle.tb_service.specs.Ports.{Offers, AreNumbered}
 use Rattle.tb_service.specs.Rule.{taken_in, Accounts}

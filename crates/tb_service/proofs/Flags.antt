@@ -6,8 +6,8 @@ use native.Mathlib.Decide.{ℕ_discrete}
 use Rattle.tb_service.specs.declared.orders.Order.{Order}
 use Rattle.tb_service.specs.declared.orders.What.{What}
 use Rattle.tb_service.specs.declared.orders.What.TheVariants.{One, Many, Close}
-use Rattle.tb_service.specs.Line.{closes, is_closed}
-use Rattle.tb_service.proofs.Lines.{is_closed-append, is_closed-other}
+use Rattle.tb_service.specs.Sent.{closes, is_closed}
+use Rattle.tb_service.proofs.SentOrders.{is_closed-append, is_closed-other}
 
 pub not_close : (what : What) → what ≢ Close → closes what ≡ false
 not_close (One request) other = refl

@@ -1,4 +1,4 @@
-pub mod Lines
+pub mod SentOrders
 pub mod Steps
 pub mod Flags
 pub mod Turns

@@ -7,7 +7,7 @@ use Rattle.tb_records.specs.Messages.{Message}
 use Rattle.tb_machine.specs.declared.entries.Entry.{Entry}
 use Rattle.tb_machine.specs.Scripts.{Pair, entry_of, is_entered}
 use Rattle.tb_published.specs.declared.faults.TakeFault.{TakeFault}
-use Rattle.tb_published.specs.Lines.{Opening, after_in}
+use Rattle.tb_published.specs.Openings.{Opening, after_in}
 use Rattle.tb_service.specs.declared.ends.Ended.{Ended}
 use Rattle.tb_service.specs.History.{accepted_in, Turn, requests_at, unless, kept}
 use Rattle.tb_service.specs.Places.{places_from, HaveOwners}

@@ -7,15 +7,15 @@ use Rattle.crossbeam_channel.specs.Claims.{Pass, view}
 use Rattle.tb_records.specs.Messages.{Message}
 use Rattle.tb_machine.specs.declared.entries.Entry.{Entry}
 use Rattle.tb_published.specs.declared.faults.TakeFault.{TakeFault}
-use Rattle.tb_published.specs.Lines.{Opening}
+use Rattle.tb_published.specs.Openings.{Opening}
 use Rattle.tb_service.specs.declared.orders.Order.{Order}
 use Rattle.tb_service.specs.declared.rule.View.{View}
 use Rattle.tb_service.specs.declared.clerk.Clerk.{Clerk}
-use Rattle.tb_service.specs.Line.{requests_in}
+use Rattle.tb_service.specs.Sent.{requests_in}
 use Rattle.tb_service.specs.Places.{requests, ports, HaveOwners}
 use Rattle.tb_service.specs.Names.{service_of}
 use Rattle.tb_service.specs.History.{Serves, ServesOn}
-use Rattle.tb_service.specs.Clerks.{room_of, Uses}
+use Rattle.tb_service.specs.Clerks.{server_state, Uses}
 use Rattle.tb_service.specs.Desks.{ServesOrders}
 use Rattle.tb_service.specs.Servers.{Finishes}
 use Rattle.tb_service.proofs.Turns.{serves_on_none, serves_on_more, serves_on_at}
@@ -65,7 +65,7 @@ places_after taken longer order a b c d before is room served shown =
     ap ports is ∙ ports-append taken (order ∷ []) ∙ ap (λ (l : List ℕ). ports taken ++ l) (append-nil more) ∙ ap (λ (l : List ℕ). l ++ more) (before ∙ sym room) ∙ sym served ∙ sym shown
 
 module _ {J W M G : Type 0} where
-  -- room
+  -- state
 
   pub uses_none : (c : Clerk J W M G) → Uses 0 c c
   uses_none c = record { ports = omega arith; refused = omega arith; places = refl; refusals = refl }
@@ -78,28 +78,28 @@ module _ {J W M G : Type 0} where
   module _ (o : Opening) (tells : M → ℕ → M → Type 0) (passes : G → ℕ → G → Type 0) where
     -- no order was taken
     pub orders_none : (p q : Pass Order View) (c d : Clerk J W M G) → (view q).taken ≡ (view p).taken → (view q).ports ≡ (view p).ports → service_of q ≡ service_of p
-        → room_of d ≡ room_of c → d.refused.items ≡ c.refused.items → ServesOrders o tells passes p c q d
+        → server_state d ≡ server_state c → d.refused.items ≡ c.refused.items → ServesOrders o tells passes p c q d
     orders_none p q c d taken made named room refused = record {
       orders = [];
       taken = taken ∙ sym (append-nil (view p).taken);
       owned = All-nil (λ (o : Order). o.port < (view p).ports);
-      served = serves_on_at o tells passes (room_of c) (room_of c) (room_of c) (room_of d) (length c.ports.items + 1) (length c.ports.items + 1) [] c.refused.items c.refused.items c.refused.items d.refused.items
-          refl refl refl (sym refused) (sym room) (serves_on_none o tells passes (room_of c) (length c.ports.items + 1) c.refused.items);
+      served = serves_on_at o tells passes (server_state c) (server_state c) (server_state c) (server_state d) (length c.ports.items + 1) (length c.ports.items + 1) [] c.refused.items c.refused.items c.refused.items d.refused.items
+          refl refl refl (sym refused) (sym room) (serves_on_none o tells passes (server_state c) (length c.ports.items + 1) c.refused.items);
       made = made;
       named = named;
     }
 
-    -- an order was taken, by a clerk who had made room, and shown
+    -- an order was taken, by a clerk who had taken memory, and shown
     pub orders_one : (p q : Pass Order View) (order : Order) (c c' d' d : Clerk J W M G) → (view q).taken ≡ (view p).taken ++ order ∷ [] → order.port < (view p).ports → (view q).ports ≡ (view p).ports → service_of q ≡ service_of p
-        → room_of c' ≡ room_of c → c'.ports.items ≡ c.ports.items → c'.refused.items ≡ c.refused.items
-        → ServesOn o tells passes (room_of c') (length c'.ports.items + 1) (requests_in order.what) c'.refused.items d'.refused.items (room_of d')
-        → room_of d ≡ room_of d' → d.refused.items ≡ d'.refused.items → ServesOrders o tells passes p c q d
+        → server_state c' ≡ server_state c → c'.ports.items ≡ c.ports.items → c'.refused.items ≡ c.refused.items
+        → ServesOn o tells passes (server_state c') (length c'.ports.items + 1) (requests_in order.what) c'.refused.items d'.refused.items (server_state d')
+        → server_state d ≡ server_state d' → d.refused.items ≡ d'.refused.items → ServesOrders o tells passes p c q d
     orders_one p q order c c' d' d taken owned made named room ports_are refused served shown kept = record {
       orders = order ∷ [];
       taken = taken;
       owned = All-cons (λ (o : Order). o.port < (view p).ports) order [] owned (All-nil (λ (o : Order). o.port < (view p).ports));
-      served = subst (λ (l : List Message). ServesOn o tells passes (room_of c) (length c.ports.items + 1) l c.refused.items d.refused.items (room_of d)) (sym (append-nil (requests_in order.what)))
-          (serves_on_at o tells passes (room_of c') (room_of c) (room_of d') (room_of d) (length c'.ports.items + 1) (length c.ports.items + 1) (requests_in order.what)
+      served = subst (λ (l : List Message). ServesOn o tells passes (server_state c) (length c.ports.items + 1) l c.refused.items d.refused.items (server_state d)) (sym (append-nil (requests_in order.what)))
+          (serves_on_at o tells passes (server_state c') (server_state c) (server_state d') (server_state d) (length c'.ports.items + 1) (length c.ports.items + 1) (requests_in order.what)
           c'.refused.items c.refused.items d'.refused.items d.refused.items
           room (ap (λ (l : List ℕ). length l + 1) ports_are) refused (sym kept) (sym shown) served);
       made = made;
@@ -118,8 +118,8 @@ module _ {J W M G : Type 0} where
           orders = these.orders ++ those.orders;
           taken = those.taken ∙ ap (λ (l : List Order). l ++ those.orders) these.taken ∙ append_assoc (view p).taken these.orders those.orders;
           owned = All-append (λ (o : Order). o.port < (view p).ports) these.orders those.orders these.owned (subst (λ (n : ℕ). All (λ (o : Order). o.port < n) those.orders) these.made those.owned);
-          served = subst (λ (l : List Message). ServesOn o tells passes (room_of c) (length c.ports.items + 1) l c.refused.items e.refused.items (room_of e)) (sym (requests-append these.orders those.orders))
-              (serves_on_more o tells passes (room_of c) (room_of d) (room_of e) (length c.ports.items + 1) (length d.ports.items + 1) (requests these.orders) (requests those.orders)
+          served = subst (λ (l : List Message). ServesOn o tells passes (server_state c) (length c.ports.items + 1) l c.refused.items e.refused.items (server_state e)) (sym (requests-append these.orders those.orders))
+              (serves_on_more o tells passes (server_state c) (server_state d) (server_state e) (length c.ports.items + 1) (length d.ports.items + 1) (requests these.orders) (requests those.orders)
               c.refused.items d.refused.items e.refused.items (omega arith) these.served those.served);
           made = those.made ∙ these.made;
           named = those.named ∙ these.named;
@@ -128,7 +128,7 @@ module _ {J W M G : Type 0} where
     -- all that a run did, which begins with no order taken
     pub finishes : (p q : Pass Order View) (c d : Clerk J W M G) (taken : List Message) (refused : List (ℕ × TakeFault)) (history : List Entry)
         → (view p).taken ≡ [] → ports (view p).taken ≡ c.ports.items → c.refused.items ≡ [] → ServesOrders o tells passes p c q d
-        → taken ≡ requests (view q).taken → refused ≡ d.refused.items → history ≡ (room_of d).history → Finishes o tells passes (room_of c) taken refused history
+        → taken ≡ requests (view q).taken → refused ≡ d.refused.items → history ≡ (server_state d).history → Finishes o tells passes (server_state c) taken refused history
     finishes p q c d taken refused history fresh places blameless run taken_is refused_is history_is =
         let begin : length c.ports.items + 1 ≡ 1 = ap (λ (l : List ℕ). length l + 1) (sym places ∙ ap ports fresh) in
         let orders : taken ≡ requests run.orders = taken_is ∙ ap requests (run.taken ∙ ap (λ (l : List Order). l ++ run.orders) fresh) in
@@ -136,7 +136,7 @@ module _ {J W M G : Type 0} where
         record {
           moments = d.moments;
           gate = d.gate;
-          serves = subst (λ (t : ℕ × List Message × List (ℕ × TakeFault) × List Entry). Serves o tells passes (room_of c) t.0 t.1 t.2 (record { history = t.3; moments = d.moments; gate = d.gate }))
+          serves = subst (λ (t : ℕ × List Message × List (ℕ × TakeFault) × List Entry). Serves o tells passes (server_state c) t.0 t.1 t.2 (record { history = t.3; moments = d.moments; gate = d.gate }))
               (λ i. (begin i, sym orders i, sym faults i, sym history_is i)) run.served.serves;
         }
 

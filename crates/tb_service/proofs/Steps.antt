@@ -10,9 +10,9 @@ use Rattle.atomic_table.proofs.Lists.{at_set}
 use Rattle.tb_records.specs.Messages.{Message}
 use Rattle.tb_service.specs.declared.orders.Order.{Order}
 use Rattle.tb_service.specs.declared.rule.View.{View}
-use Rattle.tb_service.specs.Line.{requests_in, requests_of, is_closed, has_none_of, ends_at_close}
+use Rattle.tb_service.specs.Sent.{requests_in, requests_of, is_closed, has_none_of, ends_at_close}
 use Rattle.tb_service.specs.Rule.{spent, port_view, server_view, server_with, sent, taken_in, IsPort, IsServer, Fits, Queued, Accounts}
-use Rattle.tb_service.proofs.Lines.{requests_of-append, requests_of-none, is_closed-none, requests_of-own, requests_of-other, is_closed-own, is_closed-other, has_none_of-other, ends_at_close-own, ends_at_close-other, nothing_behind, has_none_here}
+use Rattle.tb_service.proofs.SentOrders.{requests_of-append, requests_of-none, is_closed-none, requests_of-own, requests_of-other, is_closed-own, is_closed-other, has_none_of-other, ends_at_close-own, ends_at_close-other, nothing_behind, has_none_here}
 
 -- a fact of every view, after one is set or one is added
 
@@ -32,18 +32,13 @@ at_end (x ∷ xs) a b (suc j) e = ⊎_elim inl (λ t. inr (ap suc t.0, t.1)) (at
 all_snoc : (F : ℕ → View → Type 0) (views : List View) (w : View) → All F views → F (length views) w → All F (views ++ w ∷ [])
 all_snoc F views w all last j u e = ⊎_elim (all j u) (λ (x : (j ≡ length views) × (w ≡ u)). subst (λ (y : ℕ × View). F y.0 y.1) (λ i. (sym x.0 i, x.1 i)) last) (at_end views w u j e)
 
-below_length : (l : List View) (j : ℕ) (u : View) → get_elem? l j ≡ some u → j < length l
-below_length [] j u e = absurd (some-ne-none u (sym e))
-below_length (x ∷ xs) zero u e = omega arith
-below_length (x ∷ xs) (suc j) u e = let h = below_length xs j u e in omega arith
-
 -- the pass of one who isn't there
 
-no_port : (line : List Order) (ports : ℕ) (seat : ℕ → ℕ) (pass : ℕ) (v : View) → v.offers ≡ false → v.offers ≡ true → IsPort line ports seat pass v
-no_port line ports seat pass v is says = absurd (true≢false (sym says ∙ is))
+no_port : (sent_orders : List Order) (ports : ℕ) (seat : ℕ → ℕ) (pass : ℕ) (v : View) → v.offers ≡ false → v.offers ≡ true → IsPort sent_orders ports seat pass v
+no_port sent_orders ports seat pass v is says = absurd (true≢false (sym says ∙ is))
 
-no_server : (line taken : List Order) (ports : ℕ) (seat : ℕ → ℕ) (reader pass : ℕ) (v : View) → v.serves ≡ false → v.serves ≡ true → IsServer line taken ports seat reader pass v
-no_server line taken ports seat reader pass v is says = absurd (true≢false (sym says ∙ is))
+no_server : (sent_orders taken : List Order) (ports : ℕ) (seat : ℕ → ℕ) (reader pass : ℕ) (v : View) → v.serves ≡ false → v.serves ≡ true → IsServer sent_orders taken ports seat reader pass v
+no_server sent_orders taken ports seat reader pass v is says = absurd (true≢false (sym says ∙ is))
 
 -- the first pass is the server's
 pub begins : Queued [] (server_view 0 [] ∷ [])
@@ -61,7 +56,7 @@ begins = record {
       pass v e;
 }
 
--- the port of an order in the line was made
+-- the port of an order that was sent was made
 made_below : (a : List Order) (o : Order) (b : List Order) (ports n : ℕ) → ports ≡ n → ((p : ℕ) → ports ≤ p → has_none_of p (a ++ o ∷ b) ≡ true) → o.port < n
 made_below a o b ports n is unmade =
     let below : o.port < ports = lt_of_not-le (λ le. has_none_here a o b (unmade o.port le)) in
@@ -72,12 +67,12 @@ pub takes : (pass : ℕ) (v : View) → v.serves ≡ true → Pops Queued pass v
 takes pass v serves o items views h at =
     let w : View = server_with v v.ports (v.taken ++ o ∷ []) in
     let mine = (h.fits pass v at).1 serves in
-    let line : List Order = h.taken ++ o ∷ items in
+    let sent_orders : List Order = h.taken ++ o ∷ items in
     let taken : List Order = h.taken ++ o ∷ [] in
-    let same : line ≡ taken ++ items = sym (append_assoc h.taken (o ∷ []) items) in
-    let fits : All (Fits line taken h.ports h.seat h.reader) (set views pass w) =
-    all_set (Fits line taken h.ports h.seat h.reader) views pass w (
-      no_port line h.ports h.seat pass w mine.apart,
+    let same : sent_orders ≡ taken ++ items = sym (append_assoc h.taken (o ∷ []) items) in
+    let fits : All (Fits sent_orders taken h.ports h.seat h.reader) (set views pass w) =
+    all_set (Fits sent_orders taken h.ports h.seat h.reader) views pass w (
+      no_port sent_orders h.ports h.seat pass w mine.apart,
       λ _. record {
         mine = mine.mine;
         takes = ap (λ l. l ++ o ∷ []) mine.takes;
@@ -119,14 +114,14 @@ opens pass v serves items views h at =
     let left : View = server_with v (v.ports + 1) v.taken in
     let right : View = port_view v.ports [] false in
     let mine = (h.fits pass v at).1 serves in
-    let line : List Order = h.taken ++ items in
+    let sent_orders : List Order = h.taken ++ items in
     let set_views : List View = set views pass left in
     let n : ℕ = length set_views in
     let seat : ℕ → ℕ = moved h.seat v.ports n in
-    let none : has_none_of v.ports line ≡ true = h.unmade v.ports (omega arith) in
-    let fits : All (Fits line h.taken (h.ports + 1) seat h.reader) set_views =
-    all_set (Fits line h.taken (h.ports + 1) seat h.reader) views pass left (
-      no_port line (h.ports + 1) seat pass left mine.apart,
+    let none : has_none_of v.ports sent_orders ≡ true = h.unmade v.ports (omega arith) in
+    let fits : All (Fits sent_orders h.taken (h.ports + 1) seat h.reader) set_views =
+    all_set (Fits sent_orders h.taken (h.ports + 1) seat h.reader) views pass left (
+      no_port sent_orders (h.ports + 1) seat pass left mine.apart,
       λ _. record {
         mine = mine.mine;
         takes = mine.takes;
@@ -155,14 +150,14 @@ opens pass v serves items views h at =
       seat = seat;
       unmade = λ p le. h.unmade p (omega arith);
       ended = h.ended;
-      fits = all_snoc (Fits line h.taken (h.ports + 1) seat h.reader) set_views right fits (
+      fits = all_snoc (Fits sent_orders h.taken (h.ports + 1) seat h.reader) set_views right fits (
         (λ _. record {
           seated = moved_here h.seat v.ports n v.ports refl;
           made = (let m = mine.makes in omega arith);
-          offers = requests_of-none v.ports line none;
-          ends = is_closed-none v.ports line none;
+          offers = requests_of-none v.ports sent_orders none;
+          ends = is_closed-none v.ports sent_orders none;
         }),
-        no_server line h.taken (h.ports + 1) seat h.reader n right refl,
+        no_server sent_orders h.taken (h.ports + 1) seat h.reader n right refl,
       );
     }
 
@@ -171,19 +166,19 @@ pub sends : (n pass : ℕ) (v : View) (o : Order) → v.offers ≡ true → o.po
 sends n pass v o offers own fresh items views room h at =
     let w : View = sent v o in
     let mine = (h.fits pass v at).0 offers in
-    let line : List Order = h.taken ++ items in
-    let longer : List Order = line ++ o ∷ [] in
+    let sent_orders : List Order = h.taken ++ items in
+    let longer : List Order = sent_orders ++ o ∷ [] in
     let same : longer ≡ h.taken ++ (items ++ o ∷ []) = append_assoc h.taken items (o ∷ []) in
-    let before : is_closed v.port line ≡ false = mine.ends ∙ fresh in
-    let apart : (j : ℕ) (u : View) → j ≢ pass → IsPort line h.ports h.seat j u → o.port ≢ u.port =
+    let before : is_closed v.port sent_orders ≡ false = mine.ends ∙ fresh in
+    let apart : (j : ℕ) (u : View) → j ≢ pass → IsPort sent_orders h.ports h.seat j u → o.port ≢ u.port =
     λ j u other its e. other (sym its.seated ∙ ap h.seat (sym e ∙ own) ∙ mine.seated) in
     let fits : All (Fits longer h.taken h.ports h.seat h.reader) (set views pass w) =
     all_set (Fits longer h.taken h.ports h.seat h.reader) views pass w (
       (λ _. record {
         seated = mine.seated;
         made = mine.made;
-        offers = requests_of-own line o v.port own ∙ ap (λ (l : List Message). l ++ requests_in o.what) mine.offers;
-        ends = is_closed-own line o v.port own before;
+        offers = requests_of-own sent_orders o v.port own ∙ ap (λ (l : List Message). l ++ requests_in o.what) mine.offers;
+        ends = is_closed-own sent_orders o v.port own before;
       }),
       λ s. absurd (true≢false (sym offers ∙ ((h.fits pass v at).1 s).apart)),
     )
@@ -191,8 +186,8 @@ sends n pass v o offers own fresh items views room h at =
       (λ says. let its = (h.fits j u e).0 says in record {
         seated = its.seated;
         made = its.made;
-        offers = requests_of-other line o u.port (apart j u other its) ∙ its.offers;
-        ends = is_closed-other line o u.port (apart j u other its) ∙ its.ends;
+        offers = requests_of-other sent_orders o u.port (apart j u other its) ∙ its.offers;
+        ends = is_closed-other sent_orders o u.port (apart j u other its) ∙ its.ends;
       }),
       λ s. let its = (h.fits j u e).1 s in record {
         mine = its.mine;
@@ -202,7 +197,7 @@ sends n pass v o offers own fresh items views room h at =
         knows = λ k. let known = its.knows k in record {
           seated = known.seated;
           made = known.made;
-          offers = requests_of-other line o u.known_port (λ e. other (its.mine ∙ sym known.seated ∙ ap h.seat (sym e ∙ own) ∙ mine.seated)) ∙ known.offers;
+          offers = requests_of-other sent_orders o u.known_port (λ e. other (its.mine ∙ sym known.seated ∙ ap h.seat (sym e ∙ own) ∙ mine.seated)) ∙ known.offers;
         };
       },
     )) in (
@@ -212,11 +207,11 @@ sends n pass v o offers own fresh items views room h at =
         ports = h.ports;
         reader = h.reader;
         seat = h.seat;
-        unmade = λ p le. ap (has_none_of p) (sym same) ∙ has_none_of-other line o p (λ e. let b = mine.made in absurd (omega arith)) (h.unmade p le);
+        unmade = λ p le. ap (has_none_of p) (sym same) ∙ has_none_of-other sent_orders o p (λ e. let b = mine.made in absurd (omega arith)) (h.unmade p le);
         ended = λ p. ap (ends_at_close p) (sym same)
             ∙ dite (ℕ_discrete o.port p)
-            (λ e. ends_at_close-own p line o (ap (λ (k : ℕ). is_closed k line) (sym e ∙ own) ∙ before) (h.ended p))
-            (λ other. ends_at_close-other p line o other (h.ended p));
+            (λ e. ends_at_close-own p sent_orders o (ap (λ (k : ℕ). is_closed k sent_orders) (sym e ∙ own) ∙ before) (h.ended p))
+            (λ other. ends_at_close-other p sent_orders o other (h.ended p));
         fits = subst (λ (l : List Order). All (Fits l h.taken h.ports h.seat h.reader) (set views pass w)) same fits;
       },
       refl,
@@ -227,15 +222,15 @@ pub merges : (pass : ℕ) (v : View) (other : ℕ) (u : View) → v.serves ≡ t
 merges pass v other u serves offers items views h at two at' =
     let both : View = taken_in v u in
     let mine = (h.fits pass v at).1 serves in
-    let line : List Order = h.taken ++ items in
+    let sent_orders : List Order = h.taken ++ items in
     let set_views : List View = set views pass both in
     let was : get_elem? views other ≡ some u = ⊎_elim (λ x. absurd (two x.0)) (λ x. x.1) (at_set views pass other both u at') in
     let theirs = (h.fits other u was).0 offers in
     let seat : ℕ → ℕ = moved h.seat u.port h.reader in
-    let Now : ℕ → View → Type 0 = λ j y. j ≢ other → Fits line h.taken h.ports seat h.reader j y in
+    let Now : ℕ → View → Type 0 = λ j y. j ≢ other → Fits sent_orders h.taken h.ports seat h.reader j y in
     let now : All Now set_views = all_set Now views pass both
     (λ _. (
-      no_port line h.ports seat pass both mine.apart,
+      no_port sent_orders h.ports seat pass both mine.apart,
       λ _. record {
         mine = mine.mine;
         takes = mine.takes;
@@ -260,8 +255,8 @@ merges pass v other u serves offers items views h at two at' =
       seat = seat;
       unmade = h.unmade;
       ended = h.ended;
-      fits = all_set (Fits line h.taken h.ports seat h.reader) set_views other spent
-          (no_port line h.ports seat other spent refl, no_server line h.taken h.ports seat h.reader other spent refl)
+      fits = all_set (Fits sent_orders h.taken h.ports seat h.reader) set_views other spent
+          (no_port sent_orders h.ports seat other spent refl, no_server sent_orders h.taken h.ports seat h.reader other spent refl)
           (λ j y apart e. now j y e apart);
     }
 

@@ -3,7 +3,7 @@ use Rattle.std.proofs.Common.{◌≡◌, ℕ, suc, ◌+◌, ◌<◌, List, [], �
 use Rattle.tb_records.specs.Messages.{Message}
 use Rattle.tb_machine.specs.Scripts.{Pair}
 use Rattle.tb_published.specs.declared.faults.TakeFault.{TakeFault}
-use Rattle.tb_published.specs.Lines.{Opening}
+use Rattle.tb_published.specs.Openings.{Opening}
 use Rattle.tb_service.specs.History.{accepted_in, Turn, requests_at, moments_at, unless, kept, at_place, refused_from, Leads}
 use Rattle.tb_service.specs.ToldLaws.{IsOneWay, OneList, OneOutcome}
 

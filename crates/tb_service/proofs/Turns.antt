@@ -13,9 +13,9 @@ use Rattle.tb_published.specs.declared.faults.TakeFault.{TakeFault}
 use Rattle.tb_published.specs.declared.faults.TakeFault.TheVariants as fault
 use Rattle.tb_published.specs.declared.faults.Taken.{Taken}
 use Rattle.tb_published.specs.declared.faults.Taken.TheVariants as taken
-use Rattle.tb_published.specs.Lines.{Opening, after_in}
+use Rattle.tb_published.specs.Openings.{Opening, after_in}
 use Rattle.tb_published.specs.Taking.{Enters}
-use Rattle.tb_service.specs.History.{accepted_in, Turn, requests_at, moments_at, places_at, unless, kept, at_place, refused_from, IsLawful, turn_of, HasTurn, AreLawful, Leads, Room, Serves, ServesOn}
+use Rattle.tb_service.specs.History.{accepted_in, Turn, requests_at, moments_at, places_at, unless, kept, at_place, refused_from, FaultIsRight, turn_of, HasTurn, FaultsAreRight, Leads, ServerState, Serves, ServesOn}
 
 -- lists of turns, one behind the other
 
@@ -49,12 +49,12 @@ refused_from-append n m (t ∷ ts) ys is =
 kept_one : (t : Turn) → kept (t ∷ []) ≡ unless t.fault (t.moment, t.request)
 kept_one t = append-nil (unless t.fault (t.moment, t.request))
 
-lawful-append : (o : Opening) (h : List Entry) (xs ys : List Turn) → AreLawful o h xs → AreLawful o (accepted_in o h (kept xs)) ys → AreLawful o h (xs ++ ys)
+lawful-append : (o : Opening) (h : List Entry) (xs ys : List Turn) → FaultsAreRight o h xs → FaultsAreRight o (accepted_in o h (kept xs)) ys → FaultsAreRight o h (xs ++ ys)
 lawful-append o h [] ys these those = those
 lawful-append o h (t ∷ ts) ys these those =
     let same : accepted_in o h (kept (t ∷ ts)) ≡ accepted_in o (accepted_in o h (kept (t ∷ []))) (kept ts) =
     ap (accepted_in o h) (ap (λ (l : List Pair). l ++ kept ts) (sym (kept_one t))) ∙ accepted-append o h (kept (t ∷ [])) (kept ts) in
-    (these.0, lawful-append o (accepted_in o h (kept (t ∷ []))) ts ys these.1 (subst (λ (m : List Entry). AreLawful o m ys) same those))
+    (these.0, lawful-append o (accepted_in o h (kept (t ∷ []))) ts ys these.1 (subst (λ (m : List Entry). FaultsAreRight o m ys) same those))
 
 leads-append : {S : Type 0} (step : S → ℕ → S → Type 0) (x y z : S) (ks ls : List ℕ) → Leads step x ks y → Leads step y ls z → Leads step x (ks ++ ls) z
 leads-append {S} step x y z [] ls these those = subst (λ (s : S). Leads step s ls z) (sym these) those
@@ -65,10 +65,10 @@ length-requests_at [] = refl
 length-requests_at (t ∷ ts) = ap suc (length-requests_at ts)
 
 module _ {M G : Type 0} (o : Opening) (tells : M → ℕ → M → Type 0) (passes : G → ℕ → G → Type 0) where
-  pub serves_none : (x : Room M G) (n : ℕ) → Serves o tells passes x n [] [] x
+  pub serves_none : (x : ServerState M G) (n : ℕ) → Serves o tells passes x n [] [] x
   serves_none x n = record { turns = []; served = refl; lawful = tt; refusals = refl; history = refl; moments = refl; gate = refl }
 
-  pub serves_more : (x y z : Room M G) (n m : ℕ) (rs ss : List Message) (fs gs : List (ℕ × TakeFault)) → n + length rs ≡ m
+  pub serves_more : (x y z : ServerState M G) (n m : ℕ) (rs ss : List Message) (fs gs : List (ℕ × TakeFault)) → n + length rs ≡ m
       → Serves o tells passes x n rs fs y → Serves o tells passes y m ss gs z → Serves o tells passes x n (rs ++ ss) (fs ++ gs) z
   serves_more x y z n m rs ss fs gs is these those =
       let xs : List Turn = these.turns in
@@ -77,7 +77,7 @@ module _ {M G : Type 0} (o : Opening) (tells : M → ℕ → M → Type 0) (pass
       record {
         turns = xs ++ ys;
         served = requests_at-append xs ys ∙ (λ i. these.served i ++ those.served i);
-        lawful = lawful-append o x.history xs ys these.lawful (subst (λ (h : List Entry). AreLawful o h ys) (sym these.history) those.lawful);
+        lawful = lawful-append o x.history xs ys these.lawful (subst (λ (h : List Entry). FaultsAreRight o h ys) (sym these.history) those.lawful);
         refusals = refused_from-append n m xs ys m_is ∙ (λ i. these.refusals i ++ those.refusals i);
         history = ap (accepted_in o x.history) (kept-append xs ys) ∙ accepted-append o x.history (kept xs) (kept ys)
             ∙ ap (λ (h : List Entry). accepted_in o h (kept ys)) these.history ∙ those.history;
@@ -88,7 +88,7 @@ module _ {M G : Type 0} (o : Opening) (tells : M → ℕ → M → Type 0) (pass
       }
 
   -- one turn
-  pub serves_one : (x y : Room M G) (n : ℕ) (t : Turn) → IsLawful o x.history t → accepted_in o x.history (unless t.fault (t.moment, t.request)) ≡ y.history
+  pub serves_one : (x y : ServerState M G) (n : ℕ) (t : Turn) → FaultIsRight o x.history t → accepted_in o x.history (unless t.fault (t.moment, t.request)) ≡ y.history
       → tells x.moments t.moment y.moments → passes x.gate n y.gate → Serves o tells passes x n (t.request ∷ []) (at_place n t.fault) y
   serves_one x y n t lawful history told passed = record {
     turns = t ∷ [];
@@ -100,10 +100,10 @@ module _ {M G : Type 0} (o : Opening) (tells : M → ℕ → M → Type 0) (pass
     gate = (y.gate, passed, refl);
   }
 
-  pub serves_on_none : (x : Room M G) (n : ℕ) (fs : List (ℕ × TakeFault)) → ServesOn o tells passes x n [] fs fs x
+  pub serves_on_none : (x : ServerState M G) (n : ℕ) (fs : List (ℕ × TakeFault)) → ServesOn o tells passes x n [] fs fs x
   serves_on_none x n fs = record { more = []; added = sym (append-nil fs); serves = serves_none x n }
 
-  pub serves_on_more : (x y z : Room M G) (n m : ℕ) (rs ss : List Message) (a b c : List (ℕ × TakeFault)) → n + length rs ≡ m
+  pub serves_on_more : (x y z : ServerState M G) (n m : ℕ) (rs ss : List Message) (a b c : List (ℕ × TakeFault)) → n + length rs ≡ m
       → ServesOn o tells passes x n rs a b y → ServesOn o tells passes y m ss b c z → ServesOn o tells passes x n (rs ++ ss) a c z
   serves_on_more x y z n m rs ss a b c is these those = record {
     more = these.more ++ those.more;
@@ -112,14 +112,14 @@ module _ {M G : Type 0} (o : Opening) (tells : M → ℕ → M → Type 0) (pass
   }
 
   -- the same, of equal things
-  pub serves_on_at : (x x' y y' : Room M G) (n n' : ℕ) (rs : List Message) (a a' b b' : List (ℕ × TakeFault)) → x ≡ x' → n ≡ n' → a ≡ a' → b ≡ b' → y ≡ y'
+  pub serves_on_at : (x x' y y' : ServerState M G) (n n' : ℕ) (rs : List Message) (a a' b b' : List (ℕ × TakeFault)) → x ≡ x' → n ≡ n' → a ≡ a' → b ≡ b' → y ≡ y'
       → ServesOn o tells passes x n rs a b y → ServesOn o tells passes x' n' rs a' b' y'
   serves_on_at x x' y y' n n' rs a a' b b' xs ns as' bs ys =
-      subst (λ (t : Room M G × ℕ × List (ℕ × TakeFault) × List (ℕ × TakeFault) × Room M G). ServesOn o tells passes t.0 t.1 rs t.2 t.3 t.4) (λ i. (xs i, ns i, as' i, bs i, ys i))
+      subst (λ (t : ServerState M G × ℕ × List (ℕ × TakeFault) × List (ℕ × TakeFault) × ServerState M G). ServesOn o tells passes t.0 t.1 rs t.2 t.3 t.4) (λ i. (xs i, ns i, as' i, bs i, ys i))
 
   -- one turn at the place n of a request that is kept, and of one that is left out
 
-  pub serves_on_kept : (x y : Room M G) (n place moment : ℕ) (r : Message) (a : List (ℕ × TakeFault)) → place ≡ n → HasTurn o x.history (turn_of moment r None) y.history
+  pub serves_on_kept : (x y : ServerState M G) (n place moment : ℕ) (r : Message) (a : List (ℕ × TakeFault)) → place ≡ n → HasTurn o x.history (turn_of moment r None) y.history
       → tells x.moments moment y.moments → passes x.gate place y.gate → ServesOn o tells passes x n (r ∷ []) a a y
   serves_on_kept x y n place moment r a here turn told passed = record {
     more = [];
@@ -127,7 +127,7 @@ module _ {M G : Type 0} (o : Opening) (tells : M → ℕ → M → Type 0) (pass
     serves = serves_one x y n (turn_of moment r None) turn.lawful turn.history told (subst (λ (k : ℕ). passes x.gate k y.gate) here passed);
   }
 
-  pub serves_on_refused : (x y : Room M G) (n place moment : ℕ) (r : Message) (f : TakeFault) (a b : List (ℕ × TakeFault)) → place ≡ n → b ≡ a ++ (place, f) ∷ []
+  pub serves_on_refused : (x y : ServerState M G) (n place moment : ℕ) (r : Message) (f : TakeFault) (a b : List (ℕ × TakeFault)) → place ≡ n → b ≡ a ++ (place, f) ∷ []
       → HasTurn o x.history (turn_of moment r (Some f)) y.history
       → tells x.moments moment y.moments → passes x.gate place y.gate → ServesOn o tells passes x n (r ∷ []) a b y
   serves_on_refused x y n place moment r f a b here added turn told passed = record {

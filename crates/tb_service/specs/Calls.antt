@@ -5,7 +5,7 @@ use Rattle.tb_records.specs.declared.replies.Status.TheVariants as status
 use Rattle.tb_records.specs.Messages.{Message}
 use Rattle.tb_machine.specs.declared.entries.Entry.{Entry}
 use Rattle.tb_machine.specs.Histories.{answer_to}
-use Rattle.tb_published.specs.Lines.{Opening, LegalIn, after_in}
+use Rattle.tb_published.specs.Openings.{Opening, LegalIn, after_in}
 
 -- After some list between the two, with which the seat was asked, the answer to the request was NotYet.
 pub record WasNotYet (o : Opening) (old new : List Entry) (request : Message) : Type 0 where

@@ -7,9 +7,9 @@ use Rattle.tb_service.specs.declared.rule.View.{View}
 use Rattle.tb_service.specs.declared.clerk.Clerk.{Clerk}
 use Rattle.tb_service.specs.Names.{service_of}
 use Rattle.tb_service.specs.Places.{requests}
-use Rattle.tb_published.specs.Lines.{Opening}
+use Rattle.tb_published.specs.Openings.{Opening}
 use Rattle.tb_service.specs.History.{ServesOn}
-use Rattle.tb_service.specs.Clerks.{room_of}
+use Rattle.tb_service.specs.Clerks.{server_state}
 
 -- Orders of ports that were made were taken at the inbox, and their requests had their turns at the clerk; the number of ports and
 -- the name stay.
@@ -18,6 +18,6 @@ pub record ServesOrders {J W M G : Type 0} (o : Opening) (tells : M → ℕ → 
   pub orders : List Order
   pub taken : (view after).taken ≡ (view before).taken ++ orders
   pub owned : All (λ (order : Order). order.port < (view before).ports) orders
-  pub served : ServesOn o tells passes (room_of old) (length old.ports.items + 1) (requests orders) old.refused.items new.refused.items (room_of new)
+  pub served : ServesOn o tells passes (server_state old) (length old.ports.items + 1) (requests orders) old.refused.items new.refused.items (server_state new)
   pub made : (view after).ports ≡ (view before).ports
   pub named : service_of after ≡ service_of before

@@ -2,11 +2,11 @@
 use Rattle.std.specs.Prelude.{ℕ, ◌≡◌, ◌-◌, ◌<◌, true, List, [], ◌++◌, map, slice_get, Some}
 use Rattle.tb_records.specs.Messages.{Message}
 use Rattle.tb_published.specs.declared.faults.TakeFault.{TakeFault}
-use Rattle.tb_published.specs.Ties.{Ends}
+use Rattle.tb_published.specs.Openings.{Ends}
 use Rattle.tb_service.specs.declared.ends.Ended.{Ended}
 use Rattle.tb_service.specs.declared.ends.Ended.TheVariants as way
 use Rattle.tb_service.specs.declared.rule.View.{View}
-use Rattle.tb_service.specs.Line.{is_closed}
+use Rattle.tb_service.specs.Sent.{is_closed}
 use Rattle.tb_service.specs.Names.{Name}
 use Rattle.tb_service.specs.Places.{ports}
 
@@ -26,7 +26,7 @@ pub record IsServed (v : View) (owners : List ℕ) (ended : Ended) : Type 0 wher
   pub placed : ports v.taken ≡ owners
   pub over : ended ≡ way.Closed → (p : ℕ) → p < v.ports → is_closed p v.taken ≡ true
 
--- The requests at these places, from 1, are a beginning of what a port offered, in its order; all of it, where the run ended since
+-- The requests at these places, from 1, are a prefix of what a port offered, in its order; all of it, where the run ended since
 -- each port was closed.
 pub record IsOffered (offered taken : List Message) (places : List ℕ) (ended : Ended) : Type 0 where
   pub rest : List Message

@@ -8,7 +8,7 @@ use Rattle.tb_machine.specs.declared.entries.Entry.{Entry}
 use Rattle.tb_machine.specs.Scripts.{Pair, has_time, accepted}
 use Rattle.tb_published.specs.declared.faults.TakeFault.{TakeFault}
 use Rattle.tb_published.specs.declared.faults.TakeFault.TheVariants as fault
-use Rattle.tb_published.specs.Lines.{Opening, after_in}
+use Rattle.tb_published.specs.Openings.{Opening, after_in}
 
 -- the history that moments and requests make
 abbrev pub accepted_in : Opening → List Entry → List Pair → List Entry
@@ -62,21 +62,21 @@ Fares class timely (Some fault.TimeExhausted) = (class ≡ New) × (timely ≡ f
 Fares class timely (Some (fault.Unpublished c)) = ⊥
 
 -- a turn after the history h
-abbrev pub IsLawful : Opening → List Entry → Turn → Type 0
-IsLawful o h t = let S = after_in o h in Fares (class_of S.rows t.request) (has_time S (t.moment, t.request)) t.fault
+abbrev pub FaultIsRight : Opening → List Entry → Turn → Type 0
+FaultIsRight o h t = let S = after_in o h in Fares (class_of S.rows t.request) (has_time S (t.moment, t.request)) t.fault
 
 abbrev pub turn_of : ℕ → Message → Option TakeFault → Turn
 turn_of moment r fault = record { moment = moment; request = r; fault = fault }
 
 -- a turn makes the history m of h
 pub record HasTurn (o : Opening) (h : List Entry) (t : Turn) (m : List Entry) : Type 0 where
-  pub lawful : IsLawful o h t
+  pub lawful : FaultIsRight o h t
   pub history : accepted_in o h (unless t.fault (t.moment, t.request)) ≡ m
 
 -- each turn after what the earlier ones made of h
-abbrev pub AreLawful : Opening → List Entry → List Turn → Type 0
-AreLawful o h [] = Unit {0}
-AreLawful o h (t ∷ ts) = IsLawful o h t × AreLawful o (accepted_in o h (kept (t ∷ []))) ts
+abbrev pub FaultsAreRight : Opening → List Entry → List Turn → Type 0
+FaultsAreRight o h [] = Unit {0}
+FaultsAreRight o h (t ∷ ts) = FaultIsRight o h t × FaultsAreRight o (accepted_in o h (kept (t ∷ []))) ts
 
 -- steps with these numbers lead from x to y
 abbrev pub Leads : {S : Type 0} → (S → ℕ → S → Type 0) → S → List ℕ → S → Type 0
@@ -84,7 +84,7 @@ Leads step x [] y = x ≡ y
 Leads {S} step x (k ∷ ks) y = (z : S) × step x k z × Leads step z ks y
 
 -- what a server has: its history, where its moments come from, and its gate
-pub record Room (M G : Type 0) : Type 0 where
+pub record ServerState (M G : Type 0) : Type 0 where
   pub history : List Entry
   pub moments : M
   pub gate : G
@@ -92,17 +92,17 @@ pub record Room (M G : Type 0) : Type 0 where
 module _ {M G : Type 0} (o : Opening) (tells : M → ℕ → M → Type 0) (passes : G → ℕ → G → Type 0) where
   -- The requests had their turns, from the place n on, and these were left out. The new history is what the others made of the
   -- old one, each with the moment that was told for it; the gate was passed with each place.
-  pub record Serves (before : Room M G) (n : ℕ) (requests : List Message) (refused : List (ℕ × TakeFault)) (after : Room M G) : Type 0 where
+  pub record Serves (before : ServerState M G) (n : ℕ) (requests : List Message) (refused : List (ℕ × TakeFault)) (after : ServerState M G) : Type 0 where
     pub turns : List Turn
     pub served : requests_at turns ≡ requests
-    pub lawful : AreLawful o before.history turns
+    pub lawful : FaultsAreRight o before.history turns
     pub refusals : refused_from n turns ≡ refused
     pub history : accepted_in o before.history (kept turns) ≡ after.history
     pub moments : Leads tells before.moments (moments_at turns) after.moments
     pub gate : Leads passes before.gate (places_at n turns) after.gate
 
   -- the same, with what was left out added to a list
-  pub record ServesOn (before : Room M G) (n : ℕ) (requests : List Message) (earlier refused : List (ℕ × TakeFault)) (after : Room M G) : Type 0 where
+  pub record ServesOn (before : ServerState M G) (n : ℕ) (requests : List Message) (earlier refused : List (ℕ × TakeFault)) (after : ServerState M G) : Type 0 where
     pub more : List (ℕ × TakeFault)
     pub added : refused ≡ earlier ++ more
     pub serves : Serves before n requests more after

@@ -1,5 +1,5 @@
 -- what public contracts cite
-pub mod Line
+pub mod Sent
 pub mod Places
 pub mod Names
 pub mod Ports

@@ -4,9 +4,9 @@ use Rattle.std.specs.List.{All, Contains}
 use Rattle.tb_records.specs.Messages.{Message}
 use Rattle.tb_machine.specs.declared.entries.Entry.{Entry}
 use Rattle.tb_published.specs.declared.faults.TakeFault.{TakeFault}
-use Rattle.tb_published.specs.Lines.{Opening}
+use Rattle.tb_published.specs.Openings.{Opening}
 use Rattle.tb_service.specs.declared.ends.Ended.{Ended}
-use Rattle.tb_service.specs.History.{Room}
+use Rattle.tb_service.specs.History.{ServerState}
 use Rattle.tb_service.specs.Places.{places_from, HaveOwners}
 use Rattle.tb_service.specs.Finished.{IsOffered}
 use Rattle.tb_service.specs.Servers.{Finishes}
@@ -26,7 +26,7 @@ pub record GrowsByOffers (count : ℕ) (offered : ℕ → List Message) (before 
 -- What a run says, and of each port what its audit says, make it so.
 abbrev pub NoneInvented : {M G : Type 0} → Opening → (M → ℕ → M → Type 0) → (G → ℕ → G → Type 0) → Type 0
 NoneInvented {M} {G} o tells passes =
-    (before : Room M G) (taken : List Message) (owners : List ℕ) (refused : List (ℕ × TakeFault)) (history : List Entry) (count : ℕ) (offered : ℕ → List Message) (ended : Ended)
+    (before : ServerState M G) (taken : List Message) (owners : List ℕ) (refused : List (ℕ × TakeFault)) (history : List Entry) (count : ℕ) (offered : ℕ → List Message) (ended : Ended)
     → Finishes o tells passes before taken refused history
     → HaveOwners count taken owners
     → ((p : ℕ) → p < count → IsOffered (offered p) taken (places_from p 1 owners) ended)

@@ -3,7 +3,7 @@ use Rattle.std.specs.Prelude.{ℕ, ◌≡◌, ◌==◌, ◌+◌, ◌<◌, List, 
 use Rattle.std.specs.List.{All}
 use Rattle.tb_records.specs.Messages.{Message}
 use Rattle.tb_service.specs.declared.orders.Order.{Order}
-use Rattle.tb_service.specs.Line.{requests_in}
+use Rattle.tb_service.specs.Sent.{requests_in}
 
 -- the requests of all ports, by place
 abbrev pub requests : List Order → List Message

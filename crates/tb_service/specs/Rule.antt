@@ -1,11 +1,11 @@
--- The rule of the queue: the orders taken and then those queued are one line, and each pass knows its part of it.
+-- The rule of the queue: the orders taken and then those queued are all that were sent, and each pass knows its part of them.
 use Rattle.std.specs.Prelude.{ℕ, Bool, true, false, ◌≡◌, ◌<◌, ◌≤◌, List, [], ◌++◌}
 use mathlib.Core.Option.{some}
 use lib.ListN.{get_elem?}
 use Rattle.tb_records.specs.Messages.{Message}
 use Rattle.tb_service.specs.declared.orders.Order.{Order}
 use Rattle.tb_service.specs.declared.rule.View.{View}
-use Rattle.tb_service.specs.Line.{requests_in, closes, requests_of, is_closed, has_none_of, ends_at_close}
+use Rattle.tb_service.specs.Sent.{requests_in, closes, requests_of, is_closed, has_none_of, ends_at_close}
 
 -- a pass that knows nothing
 abbrev pub spent : View
@@ -30,32 +30,32 @@ sent v o = record v { offered = v.offered ++ requests_in o.what; closed = closes
 abbrev pub taken_in : View → View → View
 taken_in v u = record v { knows = true; known_port = u.port; known = u.offered }
 
--- the one pass of a port, whose requests in the line are what it offered
-pub record IsPort (line : List Order) (ports : ℕ) (seat : ℕ → ℕ) (pass : ℕ) (v : View) : Type 0 where
+-- the one pass of a port, whose requests that were sent are what it offered
+pub record IsPort (sent_orders : List Order) (ports : ℕ) (seat : ℕ → ℕ) (pass : ℕ) (v : View) : Type 0 where
   pub seated : seat v.port ≡ pass
   pub made : v.port < ports
-  pub offers : requests_of v.port line ≡ v.offered
-  pub ends : is_closed v.port line ≡ v.closed
+  pub offers : requests_of v.port sent_orders ≡ v.offered
+  pub ends : is_closed v.port sent_orders ≡ v.closed
 
 -- a port that the server took in: it offers nothing more
-pub record IsKnown (line : List Order) (ports : ℕ) (seat : ℕ → ℕ) (reader : ℕ) (v : View) : Type 0 where
+pub record HasJoined (sent_orders : List Order) (ports : ℕ) (seat : ℕ → ℕ) (reader : ℕ) (v : View) : Type 0 where
   pub seated : seat v.known_port ≡ reader
   pub made : v.known_port < ports
-  pub offers : requests_of v.known_port line ≡ v.known
+  pub offers : requests_of v.known_port sent_orders ≡ v.known
 
 -- the one pass of the server, which knows the orders taken
-pub record IsServer (line taken : List Order) (ports : ℕ) (seat : ℕ → ℕ) (reader pass : ℕ) (v : View) : Type 0 where
+pub record IsServer (sent_orders taken : List Order) (ports : ℕ) (seat : ℕ → ℕ) (reader pass : ℕ) (v : View) : Type 0 where
   pub mine : pass ≡ reader
   pub takes : v.taken ≡ taken
   pub makes : v.ports ≡ ports
   pub apart : v.offers ≡ false
-  pub knows : v.knows ≡ true → IsKnown line ports seat reader v
+  pub knows : v.knows ≡ true → HasJoined sent_orders ports seat reader v
 
 abbrev pub Fits : List Order → List Order → ℕ → (ℕ → ℕ) → ℕ → ℕ → View → Type 0
-Fits line taken ports seat reader pass v =
-    (v.offers ≡ true → IsPort line ports seat pass v) × (v.serves ≡ true → IsServer line taken ports seat reader pass v)
+Fits sent_orders taken ports seat reader pass v =
+    (v.offers ≡ true → IsPort sent_orders ports seat pass v) × (v.serves ≡ true → IsServer sent_orders taken ports seat reader pass v)
 
--- The orders taken and then those queued are one line, in which each port's requests are what it offered, in order, and nothing
+-- The orders taken and then those queued are all that were sent: in them each port's requests are what it offered, in order, and nothing
 -- of a port stands behind its close. `seat` names each port's pass, which is the server's once it took the port in.
 pub record Queued (items : List Order) (views : List View) : Type 0 where
   pub taken : List Order

@@ -3,8 +3,8 @@ use Rattle.std.specs.Prelude.{ℕ, ◌≡◌, List, length}
 use Rattle.tb_records.specs.Messages.{Message}
 use Rattle.tb_machine.specs.declared.entries.Entry.{Entry}
 use Rattle.tb_published.specs.declared.faults.TakeFault.{TakeFault}
-use Rattle.tb_published.specs.Lines.{Opening}
-use Rattle.tb_service.specs.History.{Room, Leads}
+use Rattle.tb_published.specs.Openings.{Opening}
+use Rattle.tb_service.specs.History.{ServerState, Leads}
 use Rattle.tb_service.specs.Servers.{Finishes}
 
 -- from each state one number alone can be told, and one state is left
@@ -15,10 +15,10 @@ IsOneWay {S} step = (x y z : S) (k l : ℕ) → step x k y → step x l z → (k
 abbrev pub OneList : {S : Type 0} → (S → ℕ → S → Type 0) → Type 0
 OneList {S} step = (x y z : S) (ks ls : List ℕ) → Leads step x ks y → Leads step x ls z → length ks ≡ length ls → (ks ≡ ls) × (y ≡ z)
 
--- two runs from one room that took the same requests and left the same ones out end with the same history
+-- two runs from one state that took the same requests and left the same ones out end with the same history
 abbrev pub OneOutcome : {M G : Type 0} → Opening → (M → ℕ → M → Type 0) → (G → ℕ → G → Type 0) → Type 0
 OneOutcome {M} {G} o tells passes =
-    (before : Room M G) (taken : List Message) (refused : List (ℕ × TakeFault)) (history other : List Entry)
+    (before : ServerState M G) (taken : List Message) (refused : List (ℕ × TakeFault)) (history other : List Entry)
     → Finishes o tells passes before taken refused history
     → Finishes o tells passes before taken refused other
     → history ≡ other

@@ -1,7 +1,7 @@
 //! A call: a request is handed over, and a seat is asked for its reply.
 ghost use Rattle.std.specs.Prelude.{IfOk};
 ghost use mathlib.Core.List.{IsPrefix};
-ghost use Rattle.tb_published.specs.Lines.{LegalIn, AnswersIn};
+ghost use Rattle.tb_published.specs.Openings.{LegalIn, IsAnswerIn};
 
 use std::mem::replace;
 use std::thread;
@@ -16,10 +16,10 @@ pub(crate) fn ask<J: Naming>(
     mut reply: Reply,
 ) -> Result<Reply, SeatFault>
     requires legal { LegalIn J.opening seat.old }
-    requires answer { AnswersIn J.opening seat.old request.now reply }
+    requires answer { IsAnswerIn J.opening seat.old request.now reply }
     ensures begins { IsPrefix seat.old seat.new }
     ensures answer { IfOk result
-        (λ reply. LegalIn J.opening seat.new × AnswersIn J.opening seat.new request.now reply) }
+        (λ reply. LegalIn J.opening seat.new × IsAnswerIn J.opening seat.new request.now reply) }
 {
     for _ in 0..turns {
         let newest = match seat.answer(request) {

@@ -6,7 +6,7 @@ use crate::gates::{Gate, Moments};
 use crate::orders::{Order, What};
 use std::alloc::AllocError;
 use std::sync::Wait;
-use tb_published::{Held, Naming, Publisher, TakeFault};
+use tb_published::{HeldPublisher, Naming, Publisher, TakeFault};
 use tb_records::Request;
 
 /// An order has at most this many requests.
@@ -23,7 +23,7 @@ fn enter<J: Naming>(publisher: &mut Publisher<J>, request: Request, now: u64) ->
 /// Enters requests, and keeps the port of each place and the refusals.
 #[derive(Drop)]
 pub struct Clerk<J: Naming, W: Wait + Drop, M: Moments + Drop, G: Gate + Drop> {
-    pub held: Held<J, W>,
+    pub held: HeldPublisher<J, W>,
     pub moments: M,
     pub gate: G,
     pub ports: Vec<u32>,
@@ -32,14 +32,14 @@ pub struct Clerk<J: Naming, W: Wait + Drop, M: Moments + Drop, G: Gate + Drop> {
 
 impl<J: Naming, W: Wait + Drop, M: Moments + Drop, G: Gate + Drop> Clerk<J, W, M, G> {
     ghost use Rattle.std.specs.Prelude.{replicate};
-    ghost use Rattle.tb_service.specs.Line.{requests_in};
+    ghost use Rattle.tb_service.specs.Sent.{requests_in};
     ghost use Rattle.tb_service.specs.History.{ServesOn};
-    ghost use Rattle.tb_service.specs.Clerks.{room_of, HasRoom, Uses};
+    ghost use Rattle.tb_service.specs.Clerks.{server_state, HasCapacity, Uses};
 
-    /// Makes room for the requests of one order.
-    pub fn room(&mut self) -> Result<(), AllocError>
-        ensures room { OnOk result (HasRoom 8 self.new) }
-        ensures same { (room_of self.new ≡ room_of self.old)
+    /// Takes memory for the requests of one order.
+    pub fn reserve(&mut self) -> Result<(), AllocError>
+        ensures capacity { OnOk result (HasCapacity 8 self.new) }
+        ensures same { (server_state self.new ≡ server_state self.old)
             × (self.new.ports.items ≡ self.old.ports.items)
             × (self.new.refused.items ≡ self.old.refused.items) }
     {
@@ -49,11 +49,11 @@ impl<J: Naming, W: Wait + Drop, M: Moments + Drop, G: Gate + Drop> Clerk<J, W, M
 
     /// One request has its turn.
     fn serve(&mut self, port: u32, request: Request)
-        requires { HasRoom 1 self.old }
-        ensures served { ServesOn J.opening M.tells G.passes (room_of self.old) (length self.old.ports.items + 1)
-            (request ∷ []) self.old.refused.items self.new.refused.items (room_of self.new) }
+        requires { HasCapacity 1 self.old }
+        ensures served { ServesOn J.opening M.tells G.passes (server_state self.old) (length self.old.ports.items + 1)
+            (request ∷ []) self.old.refused.items self.new.refused.items (server_state self.new) }
         ensures ports { self.new.ports.items ≡ self.old.ports.items ++ port ∷ [] }
-        ensures room { Uses 1 self.old self.new }
+        ensures capacity { Uses 1 self.old self.new }
     {
         self.ports.push_reserved(port);
         let place = self.ports.len() as u64;
@@ -66,9 +66,9 @@ impl<J: Naming, W: Wait + Drop, M: Moments + Drop, G: Gate + Drop> Clerk<J, W, M
 
     /// Requests have their turns, one after another.
     fn serve_all(&mut self, port: u32, requests: Vec<Request>)
-        requires { HasRoom (length requests.items) self.old }
-        ensures served { ServesOn J.opening M.tells G.passes (room_of self.old) (length self.old.ports.items + 1)
-            requests.items self.old.refused.items self.new.refused.items (room_of self.new) }
+        requires { HasCapacity (length requests.items) self.old }
+        ensures served { ServesOn J.opening M.tells G.passes (server_state self.old) (length self.old.ports.items + 1)
+            requests.items self.old.refused.items self.new.refused.items (server_state self.new) }
         ensures ports { self.new.ports.items ≡ self.old.ports.items ++ replicate (length requests.items) port }
     {
         for request in requests {
@@ -78,10 +78,10 @@ impl<J: Naming, W: Wait + Drop, M: Moments + Drop, G: Gate + Drop> Clerk<J, W, M
 
     /// The requests of an order have their turns.
     pub fn serve_order(&mut self, order: Order)
-        requires { HasRoom 8 self.old }
-        ensures served { ServesOn J.opening M.tells G.passes (room_of self.old) (length self.old.ports.items + 1)
+        requires { HasCapacity 8 self.old }
+        ensures served { ServesOn J.opening M.tells G.passes (server_state self.old) (length self.old.ports.items + 1)
             (requests_in order.what) self.old.refused.items self.new.refused.items
-            (room_of self.new) }
+            (server_state self.new) }
         ensures ports { self.new.ports.items
             ≡ self.old.ports.items ++ replicate (length (requests_in order.what)) order.port }
     {
@@ -95,10 +95,10 @@ impl<J: Naming, W: Wait + Drop, M: Moments + Drop, G: Gate + Drop> Clerk<J, W, M
 
     /// Shows what was entered. Where there is no memory for it, a later call shows the rest.
     pub fn show<R: Wait>(&mut self, rt: &R)
-        ensures same { (room_of self.new ≡ room_of self.old)
+        ensures same { (server_state self.new ≡ server_state self.old)
             × (self.new.ports.items ≡ self.old.ports.items)
             × (self.new.refused.items ≡ self.old.refused.items) }
-        ensures room { (vec_capacity self.new.ports ≡ vec_capacity self.old.ports)
+        ensures capacity { (vec_capacity self.new.ports ≡ vec_capacity self.old.ports)
             × (vec_capacity self.new.refused ≡ vec_capacity self.old.refused) }
     {
         let _ = self.held.publisher.show(rt);

@@ -3,7 +3,7 @@ ghost use Rattle.std.specs.Prelude.{◌≡◌, ℕ, ◌<◌, true, IfOk};
 ghost use Rattle.crossbeam_channel.specs.Claims.{view, IsSeatAt};
 ghost use Rattle.crossbeam_channel.specs.Ends.{sends_on};
 ghost use Rattle.tb_service.specs.declared.ends.Ended.TheVariants as way;
-ghost use Rattle.tb_service.specs.Line.{is_closed};
+ghost use Rattle.tb_service.specs.Sent.{is_closed};
 ghost use Rattle.tb_service.specs.Places.{ports, places_from};
 
 use crate::ends::Ended;
@@ -70,7 +70,7 @@ fn places_of(alloc: Global, port: u32, ports: &[u32]) -> Result<Vec<u64>, AllocE
 
 impl<J: Naming> Finished<J> {
     ghost use Rattle.std.specs.Prelude.{IfErr};
-    ghost use Rattle.tb_published.specs.Lines.{LegalIn};
+    ghost use Rattle.tb_published.specs.Openings.{LegalIn};
     ghost use Rattle.tb_service.specs.Places.{requests};
     ghost use Rattle.tb_service.specs.Names.{service_of};
     ghost use Rattle.tb_service.specs.Finished.{IsOffered};

@@ -3,11 +3,11 @@ ghost use Rattle.std.specs.Prelude.{◌≡◌, ℕ, true, false, length, slice_i
 ghost use Rattle.std.proofs.Props.{props};
 ghost use Rattle.crossbeam_channel.specs.Claims.{view, IsSeatAt};
 ghost use Rattle.crossbeam_channel.specs.Ends.{sends_on, receives_on};
-ghost use Rattle.tb_service.specs.Line.{is_closed};
+ghost use Rattle.tb_service.specs.Sent.{is_closed};
 
 use crate::orders::{Order, What};
 use crate::ports::Port;
-use crate::rule::{Opens, Receiver, Sender, Takes, View};
+use crate::rule::{Opens, Receiver, Sender, TakesOrder, View};
 use crossbeam_channel::{Pass, bounded_with};
 use std::alloc::{AllocError, Global};
 use std::sync::Wait;
@@ -79,7 +79,7 @@ impl Inbox {
         ensures same { ((view self.new.pass).ports ≡ (view self.old.pass).ports)
             × (service_of self.new.pass ≡ service_of self.old.pass) }
     {
-        let Ok(order) = self.receiver.recv_as::<Takes, R>(rt, &mut self.pass) else {
+        let Ok(order) = self.receiver.recv_as::<TakesOrder, R>(rt, &mut self.pass) else {
             return None;
         };
         if let What::Close = &order.what {

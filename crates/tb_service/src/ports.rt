@@ -65,7 +65,7 @@ impl Model for Closed {
 impl Port {
     ghost use Rattle.std.specs.Prelude.{◌++◌, ◌∷◌, ◌<◌, ◌≤◌, ◌⊎◌, false, IfOk, MatchResult};
     ghost use mathlib.Core.List.{IsPrefix};
-    ghost use Rattle.tb_published.specs.Lines.{LegalIn, AnswersIn};
+    ghost use Rattle.tb_published.specs.Openings.{LegalIn, IsAnswerIn};
     ghost use Rattle.tb_service.specs.Rule.{port_view};
     ghost use Rattle.tb_service.specs.Ports.{offers_of};
     ghost use Rattle.tb_service.specs.Calls.{WasNotYet};
@@ -155,7 +155,7 @@ impl Port {
         ensures begins { IsPrefix seat.old seat.new }
         ensures answer { IfOk result
             (λ reply.
-            LegalIn J.opening seat.new × AnswersIn J.opening seat.new request.now reply) }
+            LegalIn J.opening seat.new × IsAnswerIn J.opening seat.new request.now reply) }
         ensures offered { (self.new.offered ≡ self.old.offered)
             ⊎ ((self.new.offered ≡ self.old.offered ++ request.now ∷ [])
             × WasNotYet J.opening seat.old seat.new request.now) }

@@ -62,16 +62,16 @@ impl Lesson<Order, View> for Sends {
 }
 
 /// The server takes an order.
-pub struct Takes;
+pub struct TakesOrder;
 
-impl Outcome<Order, View> for Takes {
+impl Outcome<Order, View> for TakesOrder {
     ghost use Rattle.std.specs.Prelude.{[], ◌∷◌, ◌++◌, ◌<◌};
     ghost use Rattle.tb_service.specs.Rule.{server_with};
 
     ghost then = { λ v o w. (w ≡ server_with v v.ports (v.taken ++ o ∷ [])) × (o.port < v.ports) };
 }
 
-impl Lesson<Order, View> for Takes {
+impl Lesson<Order, View> for TakesOrder {
     ghost fact = { λ v items. Unit {0} };
 }
 

@@ -25,11 +25,11 @@ impl<J: Naming, W: Wait + Drop, M: Moments + Drop, G: Gate + Drop> Desk<J, W, M,
     ghost use Rattle.std.specs.Prelude.{ℕ, ◌+◌, ◌++◌, ◌<◌, true, length, List, IfSome, Some};
     ghost use Rattle.tb_service.specs.declared.orders.Order.{Order};
     ghost use Rattle.tb_service.specs.declared.ends.Ended.TheVariants as way;
-    ghost use Rattle.tb_service.specs.Line.{is_closed};
+    ghost use Rattle.tb_service.specs.Sent.{is_closed};
     ghost use Rattle.tb_service.specs.Places.{requests};
     ghost use Rattle.tb_service.specs.Names.{service_of};
     ghost use Rattle.tb_service.specs.History.{ServesOn};
-    ghost use Rattle.tb_service.specs.Clerks.{room_of};
+    ghost use Rattle.tb_service.specs.Clerks.{server_state};
     ghost use Rattle.tb_service.specs.Desks.{ServesOrders};
 
     /// Takes one order and serves it; or says that all is over.
@@ -43,7 +43,7 @@ impl<J: Naming, W: Wait + Drop, M: Moments + Drop, G: Gate + Drop> Desk<J, W, M,
         if self.inbox.is_over() {
             return Some(Ended::Closed);
         }
-        if self.clerk.room().is_err() {
+        if self.clerk.reserve().is_err() {
             return Some(Ended::NoMemory);
         }
         let order = self.inbox.take(rt)?;
@@ -81,14 +81,14 @@ impl<J: Naming, W: Wait + Drop, M: Moments + Drop, G: Gate + Drop> Model for Ser
     ghost use Rattle.std.specs.Prelude.{◌≡◌, []};
     ghost use Rattle.crossbeam_channel.specs.Claims.{view as known};
     ghost use Rattle.tb_service.specs.Names.{service_of};
-    ghost use Rattle.tb_service.specs.Clerks.{room_of};
+    ghost use Rattle.tb_service.specs.Clerks.{server_state};
     ghost use Rattle.tb_service.specs.Servers.{Start};
 
     ghost Value = { Start M G };
 
     ghost view = { λ s.
         record {
-          room = room_of s.desk.clerk;
+          state = server_state s.desk.clerk;
           service = service_of s.desk.inbox.pass;
           port_count = (known s.desk.inbox.pass).ports;
         } };
@@ -99,7 +99,7 @@ impl<J: Naming, W: Wait + Drop, M: Moments + Drop, G: Gate + Drop> Model for Ser
 
 impl<J: Naming, W: Wait + Drop, M: Moments + Drop, G: Gate + Drop> Server<J, W, M, G> {
     ghost use Rattle.tb_service.specs.Names.{service_of};
-    ghost use Rattle.tb_service.specs.Clerks.{room_of};
+    ghost use Rattle.tb_service.specs.Clerks.{server_state};
     ghost use Rattle.tb_service.specs.Places.{HaveOwners};
     ghost use Rattle.tb_service.specs.Servers.{Finishes};
 
@@ -107,7 +107,7 @@ impl<J: Naming, W: Wait + Drop, M: Moments + Drop, G: Gate + Drop> Server<J, W, 
         requires fresh { (view inbox.pass).taken ≡ [] }
         requires unused { clerk.ports.items ≡ [] }
         requires blameless { clerk.refused.items ≡ [] }
-        ensures room { result.room ≡ room_of clerk }
+        ensures state { result.state ≡ server_state clerk }
         ensures ports { (result.service ≡ service_of inbox.pass)
             × (result.port_count ≡ (view inbox.pass).ports) }
     {
@@ -120,7 +120,7 @@ impl<J: Naming, W: Wait + Drop, M: Moments + Drop, G: Gate + Drop> Server<J, W, 
     /// Serves what the ports offer, until each of them is closed, or there is no memory for the places of one order more. Each
     /// request that is taken was offered by one of the ports that `service` gave out.
     pub fn run<R: Wait>(self, rt: &R) -> Finished<J>
-        ensures served { Finishes J.opening M.tells G.passes self.room result.taken result.refused
+        ensures served { Finishes J.opening M.tells G.passes self.state result.taken result.refused
             result.publisher.history }
         ensures ports { HaveOwners self.port_count result.taken result.owners }
         ensures same { result.service ≡ self.service }

@@ -12,7 +12,7 @@ use crate::ports::Port;
 use crate::server::Server;
 use std::alloc::{AllocError, Global};
 use std::sync::Wait;
-use tb_published::{Held, Naming, Publisher};
+use tb_published::{HeldPublisher, Naming, Publisher};
 
 // The ports of a queue that has none, numbered from 0.
 fn make_ports(inbox: &mut Inbox, alloc: Global, count: u32) -> Result<Vec<Port>, AllocError>
@@ -45,13 +45,13 @@ pub fn service<J: Naming, W: Wait + Drop, M: Moments + Drop, G: Gate + Drop>(
 ) -> Result<(Server<J, W, M, G>, Vec<Port>), AllocError>
     ensures begins { IfOk result
         (λ made.
-        made.0.room
+        made.0.state
         ≡ record { history = publisher.history; moments = moments; gate = gate }) }
     ensures ports { IfOk result
         (λ made. AreNumbered made.0.service 0 made.1.items × (length made.1.items ≡ count)) }
     ensures count { IfOk result (λ made. made.0.port_count ≡ count) }
 {
-    let held = Held::new(publisher, rt);
+    let held = HeldPublisher::new(publisher, rt);
     let mut inbox = match Inbox::new(alloc) {
         Ok(inbox) => inbox,
         Err(AllocError) => {

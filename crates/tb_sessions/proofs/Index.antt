@@ -18,7 +18,7 @@ use Rattle.tb_records.proofs.Entries.{found-row, own-replaced, own-inserted, own
 use Rattle.tb_sessions.specs.declared.rows.Row.{Row}
 use Rattle.tb_sessions.specs.Judged.{client_of}
 use Rattle.tb_sessions.specs.Admission.{oldest, driven_out}
-use Rattle.tb_sessions.specs.Indexed.{kept_row, client_at, IsLinked, IsIndexed, IsFirstBehind, IsReady}
+use Rattle.tb_sessions.specs.Indexed.{kept_row, client_at, IsLinked, IsIndexed, IsFirstBehind, FindsOldest}
 use Rattle.tb_sessions.proofs.LookUps.{decide, at_itself, removed_here, removed_other, set_here, set_other, put_here, put_other, first_least, each_found}
 
 pub inside : {X : Type 0} {x y : X} → Some x ≡ Some y → x ≡ y
@@ -205,7 +205,7 @@ module _ {n : ℕ} {rows : Map ℕ Row} {clients : Map ℕ ℕ} (i : IsIndexed n
 
   pub index_out : (r : Row) (k d : ℕ) {rows' : Map ℕ Row} {clients' : Map ℕ ℕ} → kept_row rows k ≡ Some r → client_at clients d ≡ Some k
       → entries rows' ≡ remove_entry (is_at (nat_cmp k)) (entries rows) → entries clients' ≡ remove_entry (is_at (nat_cmp d)) (entries clients)
-      → rows'.spare ≡ rows.spare + 1 → clients'.spare ≡ clients.spare + 1 → IsReady n rows' clients'
+      → rows'.spare ≡ rows.spare + 1 → clients'.spare ≡ clients.spare + 1 → FindsOldest n rows' clients'
   index_out r k d {rows'} {clients'} here stood is is_clients spare clients_spare =
       let a = length-remove_entry_found nat_cmp k r (entries rows) here in
       let b = length-remove_entry_found nat_cmp d k (entries clients) stood in
@@ -372,7 +372,7 @@ oldest_first {n} {rows} {clients} i c k r first here commit =
         omega (arith, low, most, commit)
 
 -- the first of the clients in a full table: it has a row of its commit
-pub first_row : {n : ℕ} {rows : Map ℕ Row} {clients : Map ℕ ℕ} → IsReady n rows clients → n ≤ length (entries rows) → (c k : ℕ) → slice_get (entries clients) 0 ≡ Some (c, k) → (r : Row) × (kept_row rows k ≡ Some r) × (r.commit ≡ c)
+pub first_row : {n : ℕ} {rows : Map ℕ Row} {clients : Map ℕ ℕ} → FindsOldest n rows clients → n ≤ length (entries rows) → (c k : ℕ) → slice_get (entries clients) 0 ≡ Some (c, k) → (r : Row) × (kept_row rows k ≡ Some r) × (r.commit ≡ c)
 first_row {clients = clients} i full c k is =
     let kept = i.indexed.linked.kept c k (first_found (entries clients) c k is) in
     (kept.0, kept.1, i.first full c k kept.0 is kept.1)
@@ -380,7 +380,7 @@ first_row {clients = clients} i full c k is =
 pub first_out : (es es' : List (ℕ × ℕ)) (c k : ℕ) → es ≡ (c, k) ∷ es' → es' ≡ remove_entry (is_at (nat_cmp c)) es
 first_out es es' c k is = sym (ap (λ m. remove_entry (is_at (nat_cmp c)) m) is ∙ ap (λ b. cond b es' ((c, k) ∷ remove_entry (is_at (nat_cmp c)) es')) (at_itself c))
 
-pub evictee_is : {n : ℕ} {rows : Map ℕ Row} {clients : Map ℕ ℕ} → IsReady n rows clients → n ≤ length (entries rows) → (c k : ℕ) → slice_get (entries clients) 0 ≡ Some (c, k) → Some k ≡ option_map client_of (driven_out n (values_of (entries rows)))
+pub evictee_is : {n : ℕ} {rows : Map ℕ Row} {clients : Map ℕ ℕ} → FindsOldest n rows clients → n ≤ length (entries rows) → (c k : ℕ) → slice_get (entries clients) 0 ≡ Some (c, k) → Some k ≡ option_map client_of (driven_out n (values_of (entries rows)))
 evictee_is {n} {rows} {clients} i full c k is =
     let row = first_row i full c k is in
     let size = length-values_of (entries rows) in
@@ -397,7 +397,7 @@ none_first {n} {rows} {clients} i full none = by (entries clients) i.even none
     by (e ∷ es) even none = cc
 
 -- two empty maps with capacity for all
-pub index_empty : {n : ℕ} {rows : Map ℕ Row} {clients : Map ℕ ℕ} → entries rows ≡ [] → entries clients ≡ [] → 0 < n → n ≤ rows.spare → n ≤ clients.spare → IsReady n rows clients
+pub index_empty : {n : ℕ} {rows : Map ℕ Row} {clients : Map ℕ ℕ} → entries rows ≡ [] → entries clients ≡ [] → 0 < n → n ≤ rows.spare → n ≤ clients.spare → FindsOldest n rows clients
 unfolding IsStrictlySortedBy
 index_empty {n} {rows} {clients} no_rows no_clients some rows_room clients_room =
     let a = ap length no_rows in

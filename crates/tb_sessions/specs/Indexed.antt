@@ -53,6 +53,6 @@ pub record IsFirstBehind (rows : Map ℕ Row) (clients : Map ℕ ℕ) (later : �
   pub behind : later ≢ commit
 
 -- the same, and where the table is full the first of the clients is the one whose session ends next
-pub record IsReady (clients_max : ℕ) (rows : Map ℕ Row) (clients : Map ℕ ℕ) : Type 0 where
+pub record FindsOldest (clients_max : ℕ) (rows : Map ℕ Row) (clients : Map ℕ ℕ) : Type 0 where
   pub indexed : IsIndexed clients_max rows clients
   pub first : clients_max ≤ length (entries rows) → IsFirstDue rows clients

@@ -1,7 +1,7 @@
 //! The clients in the order in which their sessions end where the table is full.
 ghost use Rattle.std.specs.Prelude.{IfSome};
 ghost use Rattle.std.specs.Option.{IfNone};
-ghost use Rattle.tb_sessions.specs.Indexed.{IsIndexed, IsFirstDue, IsFirstBehind, IsReady};
+ghost use Rattle.tb_sessions.specs.Indexed.{IsIndexed, IsFirstDue, IsFirstBehind, FindsOldest};
 
 use crate::rows::Row;
 use avl_tree::AvlMap;
@@ -32,7 +32,7 @@ pub fn bring_up(
     clients: &mut AvlMap<u64, u128, Global>,
 )
     requires { IsIndexed clients_max rows.now clients.old }
-    ensures { IsReady clients_max rows.now clients.new }
+    ensures { FindsOldest clients_max rows.now clients.new }
 {
     if rows.len() < clients_max {
         return;

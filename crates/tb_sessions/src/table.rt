@@ -27,13 +27,13 @@ impl Model for Sessions {
     ghost use Rattle.std.specs.Map.{values_of};
     ghost use Rattle.avl_tree.specs.Map.{entries};
     ghost use Rattle.tb_sessions.specs.Admission.{Table};
-    ghost use Rattle.tb_sessions.specs.Indexed.{IsReady};
+    ghost use Rattle.tb_sessions.specs.Indexed.{FindsOldest};
 
     ghost Value = { Table };
 
     ghost view = { λ s. record { clients_max = s.clients_max; rows = values_of (entries s.rows) } };
 
-    ghost invariant = { λ s. IsReady s.clients_max s.rows s.clients };
+    ghost invariant = { λ s. FindsOldest s.clients_max s.rows s.clients };
 }
 
 impl Sessions {

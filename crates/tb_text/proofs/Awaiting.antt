@@ -6,11 +6,11 @@ use Rattle.std.specs.Option.{option_and_then}
 use Rattle.std.specs.List.{All, Contains, filter}
 use Rattle.std.proofs.lemmas.List.{take-append-drop}
 use Rattle.std.proofs.lemmas.List.Elements.{All-nil, All-cons, All-weaker, All-contains, filter_passes, Contains-push, Contains-append_left, Contains-append_right, Contains-get_or}
+use Rattle.tb_records.specs.declared.operations.Operation.{Operation}
+use Rattle.tb_records.specs.declared.operations.Operation.TheVariants.{Register, CreateAccounts, CreateTransfers, LookupAccounts, LookupTransfers}
 use Rattle.tb_text.specs.declared.awaited.Awaited.{Awaited}
 use Rattle.tb_text.specs.declared.words.Field.{Field}
 use Rattle.tb_text.specs.declared.words.Field.TheVariants as field
-use Rattle.tb_text.specs.declared.words.Operation.{Operation}
-use Rattle.tb_text.specs.declared.words.Operation.TheVariants.{Register, CreateAccounts, CreateTransfers, LookupAccounts, LookupTransfers}
 use Rattle.tb_text.specs.declared.words.Word.{Word}
 use Rattle.tb_text.specs.declared.words.Word.TheVariants as word
 use Rattle.tb_text.specs.declared.places.Lexeme.{Lexeme}
@@ -22,7 +22,7 @@ use Rattle.tb_text.specs.Entries.{is_word_byte, is_positive}
 use Rattle.tb_text.specs.Scan.{Scan, behind, step, run, gap, item_count, pushed, closed_at, parted_at, valued_at, joined_at, entered, moved, within, spelling, taken, wanted, may_stand, word_named, number_left, word_left, word_grown, begins_word, decimal_grown, appended, finished, rests}
 use Rattle.tb_text.specs.Steps.{BeginsStatements, Scans}
 use Rattle.tb_text.specs.Awaited.{GoesOn, Awaits, AwaitsBehind, MayStand, OnNextLine, awaits_equals, awaits_bar, is_given_place, is_opened_place, has_operation, awaits_comma, awaits_semicolon}
-use Rattle.tb_text.proofs.EachWord.{all_word_bytes, begins_with_letter, letter_first, word_bytes, named_by_text, word_place, stands_at, place_below}
+use Rattle.tb_text.proofs.EachWord.{all_word_bytes, begins_with_letter, known}
 use Rattle.tb_text.proofs.Runs.{run_append, run_behind}
 use Rattle.tb_text.proofs.Tokens.{one_step, at_gap, line_end, stands_spelling, taken_between, word_through, gap_letter}
 use Rattle.tb_text.proofs.Ongoing.{Each, Within, IsClear, IsOngoing, Stands, read_goes_on}
@@ -118,7 +118,7 @@ is_clear text s u h e =
 not_whole : (s : Scan) (w : Word) (p q : List ℕ) → p ++ q ≡ word_text w → may_stand s w ≡ false → all_word_bytes q ≡ true → run (spelling s p) (q ++ 10 ∷ []) ≡ None
 unfolding step
 not_whole s w p [] e refuses letters =
-    let named : word_named p ≡ Some w = ap word_named (sym (append_end p) ∙ e) ∙ named_by_text w in
+    let named : word_named p ≡ Some w = ap word_named (sym (append_end p) ∙ e) ∙ (known w).named in
     let refused : may_stand (spelling s p) w ≡ false = stands_spelling s p w ∙ refuses in
     ap (λ (o : Option Word). option_and_then (λ t. run t []) (option_and_then (λ t. gap t 10) (option_and_then (λ v. cond (may_stand (spelling s p) v) (Some (taken (spelling s p) v)) None) o))) named
     ∙ ap (λ (b : Bool). option_and_then (λ t. run t []) (option_and_then (λ t. gap t 10) (cond b (Some (taken (spelling s p) w)) None))) refused
@@ -136,7 +136,7 @@ not_whole s w p (b ∷ q) e refuses letters =
     by false later = refl
 
 not_taken : (s : Scan) (w : Word) → IsClear s → may_stand s w ≡ false → run s (word_text w ++ 10 ∷ []) ≡ None
-not_taken s w h refuses = from (word_text w) refl (letter_first w) (word_bytes w)
+not_taken s w h refuses = from (word_text w) refl (known w).letter (known w).bytes
   where
     from : (text : List ℕ) → text ≡ word_text w → begins_with_letter text ≡ true → all_word_bytes text ≡ true → run s (text ++ 10 ∷ []) ≡ None
     from [] e l a = absurd cc
@@ -169,7 +169,7 @@ each_found p (x ∷ xs) =
     (All-weaker (IsFound p xs) (IsFound p (x ∷ xs)) (λ y h t. found_later p x y xs (h t)) xs (each_found p xs))
 
 among_all : (w : Word) → Contains all_words w
-among_all w = subst (Contains all_words) (stands_at w) (Contains-get_or all_words (word_place w) word.AmountMax (place_below w))
+among_all w = subst (Contains all_words) (known w).stands (Contains-get_or all_words (known w).place word.AmountMax (known w).below)
 
 word_both : (s : Scan) (w : Word) → IsClear s → Contains (filter (may_stand s) all_words) w ↔ Runs s (word_text w ++ 10 ∷ [])
 word_both s w h = (so, only)

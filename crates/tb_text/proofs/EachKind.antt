@@ -2,6 +2,8 @@
 use Rattle.std.proofs.Common.{◌≡◌, ℕ, ◌+◌, ◌^◌, ◌<◌, Bool, true, false, ◌&&◌, ◌==◌, List, [], ◌∷◌, ◌++◌, length, Option, Some, refl, sym, ap, ◌∙◌, arith}
 use Rattle.std.specs.Prelude.{nat_lt}
 use Rattle.std.proofs.lemmas.Bool.Decides.{nat_tests}
+use Rattle.tb_records.specs.declared.operations.Operation.{Operation}
+use Rattle.tb_records.specs.declared.operations.Operation.TheVariants.{Register, CreateAccounts, CreateTransfers, LookupAccounts, LookupTransfers}
 use Rattle.tb_records.specs.declared.records.Account.{Account}
 use Rattle.tb_records.specs.declared.records.Transfer.{Transfer}
 use Rattle.tb_records.specs.RecordBytes.{IsAccount, IsTransfer}
@@ -9,15 +11,13 @@ use Rattle.tb_records.specs.Messages.{Message}
 use Rattle.tb_records.specs.Frames.{IsId}
 use Rattle.tb_text.specs.declared.words.Field.{Field}
 use Rattle.tb_text.specs.declared.words.Field.TheVariants as field
-use Rattle.tb_text.specs.declared.words.Operation.{Operation}
-use Rattle.tb_text.specs.declared.words.Operation.TheVariants.{Register, CreateAccounts, CreateTransfers, LookupAccounts, LookupTransfers}
 use Rattle.tb_text.specs.declared.places.Place.{Place}
 use Rattle.tb_text.specs.declared.places.Place.TheVariants.{Opened, Parted}
 use Rattle.tb_text.specs.Entries.{Entry, may_have}
 use Rattle.tb_text.specs.Scan.{Scan, run, awaits_field, finished}
 use Rattle.tb_text.specs.Printed.{entries_text, entry_text, account_entries, transfer_entries, account_text, transfer_text, id_text}
 use Rattle.tb_text.proofs.Tokens.{IsBetween, IsEnd, at_gap}
-use Rattle.tb_text.proofs.Flags.{at, SameBits}
+use Rattle.tb_text.proofs.NamedFlags.{at, SameBits}
 use Rattle.tb_text.proofs.Entries.{told, InOrder, all_at, entries_through, none_or}
 use Rattle.tb_text.proofs.Orders.{small_128, accounts_in_order, transfers_in_order}
 use Rattle.tb_text.proofs.Items.{mid, IsKind, account_back, transfer_back}

@@ -4,10 +4,10 @@ use Rattle.std.specs.Prelude.{nat_le, nat_lt}
 use Rattle.std.specs.Option.{option_and_then, is_none}
 use Rattle.std.proofs.lemmas.Bool.Decides.{nat_tests}
 use Rattle.tb_records.specs.Messages.{Message, number_fault, is_register, item_count as body_count}
+use Rattle.tb_records.specs.declared.operations.Operation.{Operation}
+use Rattle.tb_records.specs.declared.operations.Operation.TheVariants.{Register, CreateAccounts, CreateTransfers, LookupAccounts, LookupTransfers}
 use Rattle.tb_text.specs.declared.words.Field.{Field}
 use Rattle.tb_text.specs.declared.words.Field.TheVariants as field
-use Rattle.tb_text.specs.declared.words.Operation.{Operation}
-use Rattle.tb_text.specs.declared.words.Operation.TheVariants.{Register, CreateAccounts, CreateTransfers, LookupAccounts, LookupTransfers}
 use Rattle.tb_text.specs.declared.words.Word.{Word}
 use Rattle.tb_text.specs.declared.words.Word.TheVariants as word
 use Rattle.tb_text.specs.declared.places.Lexeme.{Lexeme}
@@ -20,7 +20,7 @@ use Rattle.tb_text.specs.Scan.{Scan, behind, step, step_at, run, gap, is_at_rest
 use Rattle.tb_text.specs.Scan.{item_count, with_account, with_transfer, with_id, pushed, finished, when_lawful, request_of, closed_at, valued_at, appended, decimal_grown, hexadecimal_grown, number_left}
 use Rattle.tb_text.specs.Steps.{BeginsStatements}
 use Rattle.std.specs.Fmt.{decimal}
-use Rattle.tb_text.proofs.EachWord.{all_word_bytes, word_bytes}
+use Rattle.tb_text.proofs.EachWord.{all_word_bytes, known}
 use Rattle.tb_text.proofs.Runs.{run_behind}
 use Rattle.tb_text.proofs.Tokens.{IsBetween, one_step, at_gap, space, word_on, word_through, taken_between}
 use Rattle.tb_text.proofs.Numbers.{entry_through}
@@ -297,7 +297,7 @@ spelled_is s e =
 ends_spelled : (s : Scan) → s.lexeme ≡ Spelled → IsBegun s s.spelled → Stands s.operation s.place s.given s.header (item_count s) → CanEnd s
 ends_spelled s e begun h =
     let w = begun.word in
-    let letters = all_behind s.spelled begun.rest (ap all_word_bytes begun.whole ∙ word_bytes w) in
+    let letters = all_behind s.spelled begun.rest (ap all_word_bytes begun.whole ∙ (known w).bytes) in
     subst CanEnd (sym (spelled_is s e))
     (leads (spelling s s.spelled) (taken s w) (begun.rest ++ 32 ∷ [])
     (λ rest. ap (run (spelling s s.spelled)) (append_assoc begun.rest (32 ∷ []) rest)

@@ -4,10 +4,10 @@ use Rattle.std.proofs.lemmas.Nat.{or_shifted, or_comm}
 use Rattle.std.specs.Prelude.{bit_or}
 use Rattle.std.specs.Fmt.{decimal}
 use Rattle.std.proofs.lemmas.Bool.Decides.{nat_tests}
+use Rattle.tb_records.specs.declared.operations.Operation.{Operation}
 use Rattle.tb_text.specs.declared.words.Field.{Field}
 use Rattle.tb_text.specs.declared.words.Field.TheVariants as field
 use Rattle.tb_text.specs.declared.words.Word.TheVariants as word
-use Rattle.tb_text.specs.declared.words.Operation.{Operation}
 use Rattle.tb_text.specs.declared.words.Flag.{Flag}
 use Rattle.tb_text.specs.Words.{field_max, field_index, field_name, same_field, flag_bit, flags_of}
 use Rattle.tb_text.specs.Entries.{Entry, may_have, is_given, is_positive, value_from}
@@ -15,7 +15,7 @@ use Rattle.tb_text.specs.Scan.{Scan, run, may_stand, awaits_field, entered}
 use Rattle.tb_text.specs.Printed.{entry_text, further_text, entries_text, flags_text, unnamed}
 use Rattle.tb_text.proofs.Tokens.{IsBetween, IsEnd, space}
 use Rattle.tb_text.proofs.Numbers.{entry_through}
-use Rattle.tb_text.proofs.Flags.{at, flag_entries, SameBits, flags_through, flags_make}
+use Rattle.tb_text.proofs.NamedFlags.{at, flag_entries, SameBits, flags_through, flags_make}
 use Rattle.std.proofs.lemmas.List.{append-nil}
 
 -- the entries that a printed one is read as

@@ -4,10 +4,10 @@ use Rattle.std.specs.Prelude.{nat_lt}
 use Rattle.std.specs.Option.{option_and_then}
 use Rattle.tb_records.specs.declared.faults.FrameFault.{FrameFault}
 use Rattle.tb_records.specs.Messages.{Message, number_fault}
+use Rattle.tb_records.specs.declared.operations.Operation.{Operation}
+use Rattle.tb_records.specs.declared.operations.Operation.TheVariants.{Register, CreateAccounts, CreateTransfers, LookupAccounts, LookupTransfers}
 use Rattle.tb_text.specs.declared.words.Field.{Field}
 use Rattle.tb_text.specs.declared.words.Field.TheVariants as field
-use Rattle.tb_text.specs.declared.words.Operation.{Operation}
-use Rattle.tb_text.specs.declared.words.Operation.TheVariants.{Register, CreateAccounts, CreateTransfers, LookupAccounts, LookupTransfers}
 use Rattle.tb_text.specs.declared.places.Lexeme.{Lexeme}
 use Rattle.tb_text.specs.declared.places.Lexeme.TheVariants.{Gap, Comment, Spelled, Zero, Prefix, Decimal, Hexadecimal}
 use Rattle.tb_text.specs.declared.places.Place.{Place}

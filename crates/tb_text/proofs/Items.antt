@@ -4,14 +4,14 @@ use Rattle.std.specs.Prelude.{nat_lt}
 use Rattle.std.specs.List.{AllByRecursion}
 use Rattle.std.specs.Option.{option_and_then}
 use Rattle.std.proofs.lemmas.Bool.Decides.{nat_tests}
+use Rattle.tb_records.specs.declared.operations.Operation.{Operation}
+use Rattle.tb_records.specs.declared.operations.Operation.TheVariants.{CreateAccounts, CreateTransfers}
 use Rattle.tb_records.specs.declared.records.Account.{Account}
 use Rattle.tb_records.specs.declared.records.Transfer.{Transfer}
 use Rattle.tb_records.specs.RecordBytes.{IsAccount, IsTransfer}
 use Rattle.tb_records.specs.Messages.{Message}
 use Rattle.tb_text.specs.declared.words.Field.{Field}
 use Rattle.tb_text.specs.declared.words.Field.TheVariants as field
-use Rattle.tb_text.specs.declared.words.Operation.{Operation}
-use Rattle.tb_text.specs.declared.words.Operation.TheVariants.{CreateAccounts, CreateTransfers}
 use Rattle.tb_text.specs.Words.{same_field}
 use Rattle.tb_text.specs.declared.places.Lexeme.TheVariants.{Gap}
 use Rattle.tb_text.specs.declared.places.Place.{Place}

@@ -3,7 +3,7 @@ pub mod EachWord
 pub mod Runs
 pub mod Tokens
 pub mod Numbers
-pub mod Flags
+pub mod NamedFlags
 pub mod Entries
 pub mod Orders
 pub mod Items

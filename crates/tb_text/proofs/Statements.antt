@@ -11,11 +11,11 @@ use Rattle.tb_records.specs.RecordBytes.{IsAccount, IsTransfer}
 use Rattle.tb_records.specs.Messages.{Message, asked, number_fault, is_register, item_count, items_max, IsLawful}
 use Rattle.tb_records.specs.Frames.{IsId, IsRequest, BodyFits}
 use Rattle.tb_records.specs.Inputs.{IsTimed}
+use Rattle.tb_records.specs.declared.operations.Operation.{Operation}
+use Rattle.tb_records.specs.declared.operations.Operation.TheVariants.{Register, CreateAccounts, CreateTransfers, LookupAccounts, LookupTransfers}
 use Rattle.tb_text.specs.declared.words.Field.{Field}
 use Rattle.tb_text.specs.declared.words.Field.TheVariants as field
 use Rattle.tb_text.specs.declared.words.Word.TheVariants as word
-use Rattle.tb_text.specs.declared.words.Operation.{Operation}
-use Rattle.tb_text.specs.declared.words.Operation.TheVariants.{Register, CreateAccounts, CreateTransfers, LookupAccounts, LookupTransfers}
 use Rattle.tb_text.specs.declared.places.Place.TheVariants.{Opened}
 use Rattle.tb_text.specs.Words.{word_text, same_field}
 use Rattle.tb_text.specs.Entries.{Entry, value_of, suits}
@@ -24,7 +24,7 @@ use Rattle.std.proofs.lemmas.Bool.Decides.{nat_tests}
 use Rattle.tb_text.specs.Steps.{Means}
 use Rattle.tb_text.specs.Printed.{entries_text, header_entries, items_text, account_text, transfer_text, id_text, body_text, statement_text, printed}
 use Rattle.tb_text.proofs.Tokens.{IsEnd, one_step, at_gap, space, line_end, word_through}
-use Rattle.tb_text.proofs.Flags.{at}
+use Rattle.tb_text.proofs.NamedFlags.{at}
 use Rattle.tb_text.proofs.Entries.{told, InOrder, all_at, entries_through, value_told, none_or}
 use Rattle.tb_text.proofs.Orders.{small_64, small_32, small_128}
 use Rattle.tb_text.proofs.Items.{mid, items_through, low, low_32}

@@ -5,9 +5,9 @@ use Rattle.std.specs.Option.{option_and_then}
 use Rattle.std.proofs.lemmas.Bool.Decides.{nat_tests}
 use Rattle.std.proofs.lemmas.List.{append-nil}
 use Rattle.tb_records.specs.Messages.{Message, IsLawful}
+use Rattle.tb_records.specs.declared.operations.Operation.{Operation}
 use Rattle.tb_text.specs.declared.words.Field.{Field}
 use Rattle.tb_text.specs.declared.words.Field.TheVariants as field
-use Rattle.tb_text.specs.declared.words.Operation.{Operation}
 use Rattle.tb_text.specs.declared.words.Word.TheVariants as word
 use Rattle.tb_text.specs.declared.places.Place.{Place}
 use Rattle.tb_text.specs.declared.places.Place.TheVariants.{Head, Named, Wanted, Given, Opened, Parted}

@@ -13,7 +13,7 @@ use Rattle.tb_text.specs.declared.places.Lexeme.TheVariants.{Gap}
 use Rattle.tb_text.specs.Words.{word_text, all_words}
 use Rattle.tb_text.specs.Entries.{is_space, is_digit, is_word_byte}
 use Rattle.tb_text.specs.Scan.{Scan, step, run, gap, may_stand, taken, spelling, word_named, word_grown, begins_word}
-use Rattle.tb_text.proofs.EachWord.{is_letter, all_word_bytes, begins_with_letter, letter_first, word_bytes, named_by_text, word_place, stands_at, place_below}
+use Rattle.tb_text.proofs.EachWord.{is_letter, all_word_bytes, begins_with_letter, known}
 use Rattle.tb_text.proofs.Facts.{if_false, if_true, and_both, and_left, and_right}
 
 -- between words, numbers and marks
@@ -51,8 +51,8 @@ begins p q = (bytes_decides p (take (length p) (p ++ q))).1 (sym (take_at p q (l
 
 begins_so : (s : Scan) (w : Word) (p q : List ℕ) → p ++ q ≡ word_text w → may_stand s w ≡ true → begins_word s p ≡ true
 begins_so s w p q e h =
-    list_any_at (λ v. may_stand s v && starts_with nat_eq (word_text v) p) all_words (word_place w) word.AmountMax (place_below w)
-    (subst (λ (v : Word). (may_stand s v && starts_with nat_eq (word_text v) p) ≡ true) (sym (stands_at w))
+    list_any_at (λ v. may_stand s v && starts_with nat_eq (word_text v) p) all_words (known w).place word.AmountMax (known w).below
+    (subst (λ (v : Word). (may_stand s v && starts_with nat_eq (word_text v) p) ≡ true) (sym (known w).stands)
     (and_both (may_stand s w) (starts_with nat_eq (word_text w) p) h (subst (λ (t : List ℕ). starts_with nat_eq t p ≡ true) e (begins p q))))
 
 pub stands_spelling : (s : Scan) (p : List ℕ) (w : Word) → may_stand (spelling s p) w ≡ may_stand s w
@@ -81,7 +81,7 @@ left_at s p d o = option_and_then (λ t. gap t d) (option_and_then (λ v. cond (
 word_whole : (s : Scan) (w : Word) (p : List ℕ) (d : ℕ) → p ≡ word_text w → may_stand s w ≡ true → is_word_byte d ≡ false → step (spelling s p) d ≡ gap (taken s w) d
 unfolding step
 word_whole s w p d e h n =
-    let named : word_named p ≡ Some w = ap word_named e ∙ named_by_text w in
+    let named : word_named p ≡ Some w = ap word_named e ∙ (known w).named in
     let stands : may_stand (spelling s p) w ≡ true = stands_spelling s p w ∙ h in
     ap (λ (b : Bool). cond b (word_grown (spelling s p) (p ++ d ∷ [])) (left_at s p d (word_named p))) n
     ∙ (ap (left_at s p d) named ∙ (ap (λ (b : Bool). option_and_then (λ t. gap t d) (cond b (Some (taken (spelling s p) w)) None)) stands ∙ ap (λ (t : Scan). gap t d) (taken_spelling s p w)))
@@ -127,7 +127,7 @@ gap_letter s b h =
     ∙ (if_false (is_digit b) _ _ (no_digit b h) ∙ if_true (is_word_byte b) _ _ (a_word_byte b h))))
 
 pub word_through : (s : Scan) (w : Word) (d : ℕ) (rest : List ℕ) → IsBetween s → may_stand s w ≡ true → is_word_byte d ≡ false → run s (word_text w ++ d ∷ rest) ≡ run (taken s w) (d ∷ rest)
-word_through s w d rest between h n = from (word_text w) refl (letter_first w) (word_bytes w)
+word_through s w d rest between h n = from (word_text w) refl (known w).letter (known w).bytes
   where
     from : (text : List ℕ) → text ≡ word_text w → begins_with_letter text ≡ true → all_word_bytes text ≡ true → run s (text ++ d ∷ rest) ≡ run (taken s w) (d ∷ rest)
     from [] e l a = absurd cc

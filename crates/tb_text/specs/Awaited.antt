@@ -1,11 +1,11 @@
 -- What could stand next in a text: by the texts of statements that go on so.
 use Rattle.std.specs.Prelude.{ℕ, Bool, true, false, ◌&&◌, ◌≡◌, ◌+◌, nat_lt, List, [], ◌∷◌, ◌++◌, Option, Some, None, IsSome, ◌↔◌}
 use Rattle.std.specs.List.{Contains, filter}
+use Rattle.tb_records.specs.declared.operations.Operation.{Operation}
 use Rattle.tb_text.specs.declared.awaited.Awaited.{Awaited}
 use Rattle.tb_text.specs.declared.places.Place.{Place}
 use Rattle.tb_text.specs.declared.places.Place.TheVariants.{Named, Given, Opened}
 use Rattle.tb_text.specs.declared.words.Field.TheVariants as field
-use Rattle.tb_text.specs.declared.words.Operation.{Operation}
 use Rattle.tb_text.specs.declared.words.Word.{Word}
 use Rattle.tb_text.specs.Words.{same_field, word_text, all_words}
 use Rattle.tb_text.specs.Scan.{Scan, item_count, may_stand, step, wanted}

@@ -3,14 +3,15 @@
 use Rattle.std.specs.Prelude.{ℕ, Bool, not, ◌==◌, ◌*◌, ◌/◌, ◌%◌, ◌^◌, List, [], ◌∷◌, ◌++◌, length, map, filter, flat_map, if◌then◌else◌, codes}
 use Rattle.std.specs.Fmt.{decimal}
 use Rattle.tb_records.specs.Messages.{Message}
+use Rattle.tb_records.specs.Operations.{operation_name}
 use Rattle.tb_records.specs.declared.bodies.Body.{Body}
 use Rattle.tb_records.specs.declared.bodies.Body.TheVariants as body
+use Rattle.tb_records.specs.declared.operations.Operation.{Operation}
+use Rattle.tb_records.specs.declared.operations.Operation.TheVariants.{Register, CreateAccounts, CreateTransfers, LookupAccounts, LookupTransfers}
 use Rattle.tb_records.specs.declared.records.Account.{Account}
 use Rattle.tb_records.specs.declared.records.Transfer.{Transfer}
 use Rattle.tb_text.specs.declared.words.Field.TheVariants as field
 use Rattle.tb_text.specs.declared.words.Flag.{Flag}
-use Rattle.tb_text.specs.declared.words.Operation.{Operation}
-use Rattle.tb_text.specs.declared.words.Operation.TheVariants.{Register, CreateAccounts, CreateTransfers}
 use Rattle.tb_text.specs.Words.{field_name, same_field, flags_of, flag_bit, flag_name}
 use Rattle.tb_text.specs.Entries.{Entry}
 
@@ -112,11 +113,11 @@ items_text text [] = []
 items_text text (x ∷ xs) = 32 ∷ text x ++ more_text text xs
 
 unfoldable pub body_text : Body → List ℕ
-body_text body.Register = codes "register"
-body_text (body.CreateAccounts events) = codes "create_accounts" ++ items_text account_text events
-body_text (body.CreateTransfers events) = codes "create_transfers" ++ items_text transfer_text events
-body_text (body.LookupAccounts ids) = codes "lookup_accounts" ++ items_text id_text ids
-body_text (body.LookupTransfers ids) = codes "lookup_transfers" ++ items_text id_text ids
+body_text body.Register = operation_name Register
+body_text (body.CreateAccounts events) = operation_name CreateAccounts ++ items_text account_text events
+body_text (body.CreateTransfers events) = operation_name CreateTransfers ++ items_text transfer_text events
+body_text (body.LookupAccounts ids) = operation_name LookupAccounts ++ items_text id_text ids
+body_text (body.LookupTransfers ids) = operation_name LookupTransfers ++ items_text id_text ids
 
 unfoldable pub statement_text : ℕ × Message → List ℕ
 statement_text pair = entries_text Register (field.At, pair.0) (header_entries pair.1) ++ 32 ∷ body_text pair.1.body ++ codes ";\n"

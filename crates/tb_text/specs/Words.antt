@@ -1,9 +1,17 @@
 -- The words of statements: their texts, the fields and flags of each operation, and the greatest number of a field.
-use Rattle.std.specs.Prelude.{ℕ, Bool, true, false, ◌==◌, ◌-◌, ◌^◌, List, [], ◌∷◌, codes}
+use Rattle.std.specs.Option.{option_map_or}
+use Rattle.std.specs.Prelude.{ℕ, Bool, true, false, ◌==◌, ◌-◌, ◌^◌, List, [], ◌∷◌, Option, Some, None, codes}
+use Rattle.tb_records.specs.AccountFlags.{account_flag_bit, account_flag_name}
+use Rattle.tb_records.specs.Operations.{operation_name}
+use Rattle.tb_records.specs.TransferFlags.{transfer_flag_bit, transfer_flag_name}
+use Rattle.tb_records.specs.declared.account_flags.AccountFlag.{AccountFlag}
+use Rattle.tb_records.specs.declared.account_flags.AccountFlag.TheVariants as account
+use Rattle.tb_records.specs.declared.operations.Operation.{Operation}
+use Rattle.tb_records.specs.declared.operations.Operation.TheVariants.{Register, CreateAccounts, CreateTransfers, LookupAccounts, LookupTransfers}
+use Rattle.tb_records.specs.declared.transfer_flags.TransferFlag.{TransferFlag}
+use Rattle.tb_records.specs.declared.transfer_flags.TransferFlag.TheVariants as transfer
 use Rattle.tb_text.specs.declared.words.Field.{Field}
 use Rattle.tb_text.specs.declared.words.Field.TheVariants.{At, Client, Session, Request, Id, DebitsPending, DebitsPosted, CreditsPending, CreditsPosted, DebitAccountId, CreditAccountId, Amount, PendingId, UserData128, UserData64, UserData32, Reserved, Timeout, Ledger, Code, Flags, Timestamp}
-use Rattle.tb_text.specs.declared.words.Operation.{Operation}
-use Rattle.tb_text.specs.declared.words.Operation.TheVariants.{Register, CreateAccounts, CreateTransfers, LookupAccounts, LookupTransfers}
 use Rattle.tb_text.specs.declared.words.Flag.{Flag}
 use Rattle.tb_text.specs.declared.words.Flag.TheVariants as flag
 use Rattle.tb_text.specs.declared.words.Word.{Word}
@@ -134,59 +142,40 @@ has_field CreateTransfers f = has_transfer_field f
 has_field LookupAccounts f = field_index f == 4
 has_field LookupTransfers f = field_index f == 4
 
-abbrev pub operation_name : Operation → List ℕ
-operation_name Register = codes "register"
-operation_name CreateAccounts = codes "create_accounts"
-operation_name CreateTransfers = codes "create_transfers"
-operation_name LookupAccounts = codes "lookup_accounts"
-operation_name LookupTransfers = codes "lookup_transfers"
+-- the flag of accounts that a word names
+abbrev pub account_flag : Flag → Option AccountFlag
+account_flag flag.Linked = Some account.Linked
+account_flag flag.DebitsMustNotExceedCredits = Some account.DebitsMustNotExceedCredits
+account_flag flag.CreditsMustNotExceedDebits = Some account.CreditsMustNotExceedDebits
+account_flag flag.History = Some account.History
+account_flag flag.Imported = Some account.Imported
+account_flag flag.Closed = Some account.Closed
+account_flag f = None
 
+-- and of transfers
+abbrev pub transfer_flag : Flag → Option TransferFlag
+transfer_flag flag.Linked = Some transfer.Linked
+transfer_flag flag.Imported = Some transfer.Imported
+transfer_flag flag.Pending = Some transfer.Pending
+transfer_flag flag.PostPendingTransfer = Some transfer.PostPendingTransfer
+transfer_flag flag.VoidPendingTransfer = Some transfer.VoidPendingTransfer
+transfer_flag flag.BalancingDebit = Some transfer.BalancingDebit
+transfer_flag flag.BalancingCredit = Some transfer.BalancingCredit
+transfer_flag flag.ClosingDebit = Some transfer.ClosingDebit
+transfer_flag flag.ClosingCredit = Some transfer.ClosingCredit
+transfer_flag f = None
+
+-- the name that such a flag has
 abbrev pub flag_name : Flag → List ℕ
-flag_name flag.Linked = codes "linked"
-flag_name flag.DebitsMustNotExceedCredits = codes "debits_must_not_exceed_credits"
-flag_name flag.CreditsMustNotExceedDebits = codes "credits_must_not_exceed_debits"
-flag_name flag.History = codes "history"
-flag_name flag.Imported = codes "imported"
-flag_name flag.Closed = codes "closed"
-flag_name flag.Pending = codes "pending"
-flag_name flag.PostPendingTransfer = codes "post_pending_transfer"
-flag_name flag.VoidPendingTransfer = codes "void_pending_transfer"
-flag_name flag.BalancingDebit = codes "balancing_debit"
-flag_name flag.BalancingCredit = codes "balancing_credit"
-flag_name flag.ClosingDebit = codes "closing_debit"
-flag_name flag.ClosingCredit = codes "closing_credit"
+flag_name f = option_map_or account_flag_name (account_flag f) (option_map_or transfer_flag_name (transfer_flag f) [])
 
 -- a flag's bit in an account, 0 where accounts do not have it
 abbrev pub account_bit : Flag → ℕ
-account_bit flag.Linked = 1
-account_bit flag.DebitsMustNotExceedCredits = 2
-account_bit flag.CreditsMustNotExceedDebits = 4
-account_bit flag.History = 8
-account_bit flag.Imported = 16
-account_bit flag.Closed = 32
-account_bit flag.Pending = 0
-account_bit flag.PostPendingTransfer = 0
-account_bit flag.VoidPendingTransfer = 0
-account_bit flag.BalancingDebit = 0
-account_bit flag.BalancingCredit = 0
-account_bit flag.ClosingDebit = 0
-account_bit flag.ClosingCredit = 0
+account_bit f = option_map_or account_flag_bit (account_flag f) 0
 
 -- and in a transfer
 abbrev pub transfer_bit : Flag → ℕ
-transfer_bit flag.Linked = 1
-transfer_bit flag.DebitsMustNotExceedCredits = 0
-transfer_bit flag.CreditsMustNotExceedDebits = 0
-transfer_bit flag.History = 0
-transfer_bit flag.Imported = 256
-transfer_bit flag.Closed = 0
-transfer_bit flag.Pending = 2
-transfer_bit flag.PostPendingTransfer = 4
-transfer_bit flag.VoidPendingTransfer = 8
-transfer_bit flag.BalancingDebit = 16
-transfer_bit flag.BalancingCredit = 32
-transfer_bit flag.ClosingDebit = 64
-transfer_bit flag.ClosingCredit = 128
+transfer_bit f = option_map_or transfer_flag_bit (transfer_flag f) 0
 
 -- and in the events of an operation
 abbrev pub flag_bit : Operation → Flag → ℕ

@@ -2,7 +2,7 @@
 //!
 //! Modules, each over those before it:
 //!
-//! - `words`: fields, operations and flags, by name.
+//! - `words`: fields and flags by name, and which of them each operation has; operations are those of tb_records.
 //! - `places`: where a reader stands: in a word or number, and among the parts of a statement.
 //! - `scanner`: the reader, a byte at a time.
 //! - `reading`: `read_text`, a text as requests, or its fault's place, line and column.
@@ -34,4 +34,4 @@ pub use messages::{explain_fault, word_around};
 pub use places::{Lexeme, Place, Refusal};
 pub use printing::{print_request, print_requests};
 pub use reading::{Reading, TextFault, position, read_text};
-pub use words::{Field, Flag, Operation, Word};
+pub use words::{Field, Flag, Word, flags, has_field};

@@ -7,8 +7,9 @@ use crate::awaited::{Awaited, awaited_behind};
 use crate::nearest::nearest_word;
 use crate::reading::{TextFault, position};
 use crate::scanner::word_named;
-use crate::words::{Field, Operation, Word};
+use crate::words::{Field, Word};
 use std::alloc::{AllocError, Global};
+use tb_records::Operation;
 
 /// The most bytes of a line that are shown.
 const SHOWN_MAX: usize = 100;

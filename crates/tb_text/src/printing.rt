@@ -3,13 +3,14 @@ ghost use Rattle.std.specs.Prelude.{◌≡◌, ◌<◌, ◌^◌, ◌++◌, ◌�
 ghost use Rattle.std.specs.Fmt.{decimal};
 ghost use Rattle.tb_records.specs.Frames.{BodyFits, IsId};
 ghost use Rattle.tb_records.specs.Inputs.{IsTimed};
+ghost use Rattle.tb_records.specs.Operations.{operation_name};
 ghost use Rattle.tb_records.specs.RecordBytes.{IsAccount, IsTransfer};
 ghost use Rattle.tb_text.specs.Printed.{entry_text, flags_text, value_text, unnamed, further_text, entries_text, header_entries, account_entries, transfer_entries, account_text, transfer_text, id_text, more_text, items_text, body_text, statement_text, printed};
-ghost use Rattle.tb_text.specs.Words.{flag_name, operation_name};
+ghost use Rattle.tb_text.specs.Words.{flag_name};
 
-use crate::words::{Field, Flag, Operation};
+use crate::words::{Field, Flag, flags};
 use std::alloc::{AllocError, Global};
-use tb_records::{Account, Body, Request, Transfer};
+use tb_records::{Account, Body, Operation, Request, Transfer};
 
 /// Appends a number in decimal digits.
 fn put_number(alloc: Global, out: &mut Vec<u8>, n: u128) -> Result<(), AllocError>
@@ -51,7 +52,7 @@ fn put_flags(
 {
     let mut mark = b'=';
     let mut bits = number;
-    for flag in operation.flags() {
+    for flag in flags(operation) {
         if bits % 2 != 0 {
             put_flag(out, mark, *flag)?;
             mark = b'|';
@@ -298,7 +299,7 @@ fn put_body(alloc: Global, out: &mut Vec<u8>, body: &Body) -> Result<(), AllocEr
     ensures fits { OnOk result (BodyFits body.now) }
 {
     match body {
-        Body::Register => out.extend_from_slice(b"register"),
+        Body::Register => out.extend_from_slice(Operation::Register.name().as_bytes()),
         Body::CreateAccounts(events) => {
             put_operation(alloc, out, Operation::CreateAccounts, events.as_slice())
         }

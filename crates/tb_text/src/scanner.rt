@@ -9,11 +9,11 @@ ghost use Rattle.tb_text.specs.Awaited.{has_operation};
 ghost use Rattle.tb_text.specs.Steps.{Steps, Scans};
 
 use crate::places::{Lexeme, Place, Refusal};
-use crate::words::{Field, Flag, Operation, Word, words};
+use crate::words::{Field, Flag, Word, has_field, words};
 use std::alloc::{AllocError, Global};
 use std::marker::Model;
 use std::mem;
-use tb_records::{Account, Body, ITEMS_MAX, Items, Request, Transfer};
+use tb_records::{Account, Body, ITEMS_MAX, Items, Operation, Request, Transfer};
 
 /// The statements read so far, and as much as there is of the next one.
 #[derive(Drop)]
@@ -243,7 +243,7 @@ fn may_have(operation: Option<Operation>, field: Field) -> bool
     ensures { result ≡ may_have operation field }
 {
     match operation {
-        Some(operation) => operation.has_field(field),
+        Some(operation) => has_field(operation, field),
         None => field.is_header(),
     }
 }

@@ -3,9 +3,9 @@ ghost use Rattle.std.specs.Prelude.{◌≡◌, ◌<◌, ◌+◌, ◌-◌, ◌^�
 ghost use Rattle.tb_records.specs.Inputs.{IsTimed};
 ghost use Rattle.tb_records.specs.Messages.{Message, asked};
 ghost use Rattle.tb_records.specs.declared.bodies.Body.TheVariants.{CreateAccounts as AccountsBody, Register};
+ghost use Rattle.tb_records.specs.declared.operations.Operation.TheVariants.{CreateAccounts, CreateTransfers};
 ghost use Rattle.tb_text.specs.declared.words.Field.TheVariants.{Amount, Client, Code, Flags, Id};
 ghost use Rattle.tb_text.specs.declared.words.Flag.TheVariants.{Pending};
-ghost use Rattle.tb_text.specs.declared.words.Operation.TheVariants.{CreateAccounts, CreateTransfers};
 ghost use Rattle.tb_text.specs.declared.words.Word.TheVariants.{AmountMax, Field as FieldWord, Flag as FlagWord};
 ghost use Rattle.tb_text.specs.Entries.{account_of};
 ghost use Rattle.tb_text.specs.Grammar.{Mark, Name, Number, Says, Text, number_as, number_of};

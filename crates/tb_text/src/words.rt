@@ -1,6 +1,10 @@
 //! The words of statements: fields, operations and flags, by the names that TigerBeetle's clients use.
 ghost use Rattle.std.specs.Prelude.{◌≡◌, IfSome, Some};
-ghost use Rattle.tb_text.specs.Words.{field_name, field_index, field_max, has_account_field, has_transfer_field, is_header_field, has_field, operation_name, flag_name, flags_of, account_bit, transfer_bit, flag_bit, word_text, all_words};
+ghost use Rattle.tb_records.specs.AccountFlags.{account_flag_name};
+ghost use Rattle.tb_records.specs.TransferFlags.{transfer_flag_name};
+ghost use Rattle.tb_text.specs.Words.{field_name, field_index, field_max, has_account_field, has_transfer_field, is_header_field, has_field, account_flag, transfer_flag, flag_name, flags_of, account_bit, transfer_bit, flag_bit, word_text, all_words};
+
+use tb_records::{AccountFlag, Operation, TransferFlag};
 
 /// A field of a statement: of what stands before the operation, or of an event.
 #[derive(Clone, Copy, Debug, PartialEq, Eq)]
@@ -33,17 +37,7 @@ pub enum Field {
     Timestamp,
 }
 
-/// An operation, as a statement names it.
-#[derive(Clone, Copy, Debug, PartialEq, Eq)]
-pub enum Operation {
-    Register,
-    CreateAccounts,
-    CreateTransfers,
-    LookupAccounts,
-    LookupTransfers,
-}
-
-/// A flag of an account or of a transfer.
+/// A word for a flag of accounts, of transfers or of both.
 #[derive(Clone, Copy, Debug, PartialEq, Eq)]
 pub enum Flag {
     Linked,
@@ -321,66 +315,85 @@ impl Field {
     }
 }
 
-impl Operation {
-    /// The operation's name.
-    pub fn name(self) -> &'static str
-        ensures { result.now ≡ operation_name self }
-    {
-        match self {
-            Operation::Register => "register",
-            Operation::CreateAccounts => "create_accounts",
-            Operation::CreateTransfers => "create_transfers",
-            Operation::LookupAccounts => "lookup_accounts",
-            Operation::LookupTransfers => "lookup_transfers",
-        }
+/// The flags of an operation's events, in the order of their bits.
+pub fn flags(operation: Operation) -> &'static [Flag]
+    ensures { result.now ≡ flags_of operation }
+{
+    match operation {
+        Operation::CreateAccounts => &ACCOUNT_FLAGS,
+        Operation::CreateTransfers => &TRANSFER_FLAGS,
+        Operation::Register => &[],
+        Operation::LookupAccounts => &[],
+        Operation::LookupTransfers => &[],
     }
+}
 
-    /// The flags of the operation's events, in the order of their bits.
-    pub fn flags(self) -> &'static [Flag]
-        ensures { result.now ≡ flags_of self }
-    {
-        match self {
-            Operation::CreateAccounts => &ACCOUNT_FLAGS,
-            Operation::CreateTransfers => &TRANSFER_FLAGS,
-            Operation::Register => &[],
-            Operation::LookupAccounts => &[],
-            Operation::LookupTransfers => &[],
-        }
-    }
-
-    /// Says that the operation's events, or its ids, have the field.
-    pub fn has_field(self, field: Field) -> bool
-        ensures { result ≡ has_field self field }
-    {
-        match self {
-            Operation::Register => false,
-            Operation::CreateAccounts => field.is_of_accounts(),
-            Operation::CreateTransfers => field.is_of_transfers(),
-            Operation::LookupAccounts => field.index() == 4,
-            Operation::LookupTransfers => field.index() == 4,
-        }
+/// Says that an operation's events, or its ids, have a field.
+pub fn has_field(operation: Operation, field: Field) -> bool
+    ensures { result ≡ has_field operation field }
+{
+    match operation {
+        Operation::Register => false,
+        Operation::CreateAccounts => field.is_of_accounts(),
+        Operation::CreateTransfers => field.is_of_transfers(),
+        Operation::LookupAccounts => field.index() == 4,
+        Operation::LookupTransfers => field.index() == 4,
     }
 }
 
 impl Flag {
+    /// The flag of accounts that the word names; None where accounts have none of that name.
+    pub fn account_flag(self) -> Option<AccountFlag>
+        ensures value { result ≡ account_flag self }
+        ensures named { IfSome result (λ flag. account_flag_name flag ≡ flag_name self) }
+    {
+        match self {
+            Flag::Linked => Some(AccountFlag::Linked),
+            Flag::DebitsMustNotExceedCredits => Some(AccountFlag::DebitsMustNotExceedCredits),
+            Flag::CreditsMustNotExceedDebits => Some(AccountFlag::CreditsMustNotExceedDebits),
+            Flag::History => Some(AccountFlag::History),
+            Flag::Imported => Some(AccountFlag::Imported),
+            Flag::Closed => Some(AccountFlag::Closed),
+            Flag::Pending
+            | Flag::PostPendingTransfer
+            | Flag::VoidPendingTransfer
+            | Flag::BalancingDebit
+            | Flag::BalancingCredit
+            | Flag::ClosingDebit
+            | Flag::ClosingCredit => None,
+        }
+    }
+
+    /// The flag of transfers that the word names; None where transfers have none of that name.
+    pub fn transfer_flag(self) -> Option<TransferFlag>
+        ensures value { result ≡ transfer_flag self }
+        ensures named { IfSome result (λ flag. transfer_flag_name flag ≡ flag_name self) }
+    {
+        match self {
+            Flag::Linked => Some(TransferFlag::Linked),
+            Flag::Imported => Some(TransferFlag::Imported),
+            Flag::Pending => Some(TransferFlag::Pending),
+            Flag::PostPendingTransfer => Some(TransferFlag::PostPendingTransfer),
+            Flag::VoidPendingTransfer => Some(TransferFlag::VoidPendingTransfer),
+            Flag::BalancingDebit => Some(TransferFlag::BalancingDebit),
+            Flag::BalancingCredit => Some(TransferFlag::BalancingCredit),
+            Flag::ClosingDebit => Some(TransferFlag::ClosingDebit),
+            Flag::ClosingCredit => Some(TransferFlag::ClosingCredit),
+            Flag::DebitsMustNotExceedCredits
+            | Flag::CreditsMustNotExceedDebits
+            | Flag::History
+            | Flag::Closed => None,
+        }
+    }
+
     /// The flag's name.
     pub fn name(self) -> &'static str
         ensures { result.now ≡ flag_name self }
     {
-        match self {
-            Flag::Linked => "linked",
-            Flag::DebitsMustNotExceedCredits => "debits_must_not_exceed_credits",
-            Flag::CreditsMustNotExceedDebits => "credits_must_not_exceed_debits",
-            Flag::History => "history",
-            Flag::Imported => "imported",
-            Flag::Closed => "closed",
-            Flag::Pending => "pending",
-            Flag::PostPendingTransfer => "post_pending_transfer",
-            Flag::VoidPendingTransfer => "void_pending_transfer",
-            Flag::BalancingDebit => "balancing_debit",
-            Flag::BalancingCredit => "balancing_credit",
-            Flag::ClosingDebit => "closing_debit",
-            Flag::ClosingCredit => "closing_credit",
+        match (self.account_flag(), self.transfer_flag()) {
+            (Some(flag), _) => flag.name(),
+            (None, Some(flag)) => flag.name(),
+            (None, None) => "",
         }
     }
 
@@ -388,20 +401,9 @@ impl Flag {
     fn account_bit(self) -> u128
         ensures { result ≡ account_bit self }
     {
-        match self {
-            Flag::Linked => 1,
-            Flag::DebitsMustNotExceedCredits => 2,
-            Flag::CreditsMustNotExceedDebits => 4,
-            Flag::History => 8,
-            Flag::Imported => 16,
-            Flag::Closed => 32,
-            Flag::Pending => 0,
-            Flag::PostPendingTransfer => 0,
-            Flag::VoidPendingTransfer => 0,
-            Flag::BalancingDebit => 0,
-            Flag::BalancingCredit => 0,
-            Flag::ClosingDebit => 0,
-            Flag::ClosingCredit => 0,
+        match self.account_flag() {
+            Some(flag) => flag.bit() as u128,
+            None => 0,
         }
     }
 
@@ -409,20 +411,9 @@ impl Flag {
     fn transfer_bit(self) -> u128
         ensures { result ≡ transfer_bit self }
     {
-        match self {
-            Flag::Linked => 1,
-            Flag::DebitsMustNotExceedCredits => 0,
-            Flag::CreditsMustNotExceedDebits => 0,
-            Flag::History => 0,
-            Flag::Imported => 256,
-            Flag::Closed => 0,
-            Flag::Pending => 2,
-            Flag::PostPendingTransfer => 4,
-            Flag::VoidPendingTransfer => 8,
-            Flag::BalancingDebit => 16,
-            Flag::BalancingCredit => 32,
-            Flag::ClosingDebit => 64,
-            Flag::ClosingCredit => 128,
+        match self.transfer_flag() {
+            Some(flag) => flag.bit() as u128,
+            None => 0,
         }
     }
 

@@ -1,7 +1,7 @@
 //! A caller of the published copies: a writer takes and tells, a client thread learns and asks.
 ghost use Rattle.std.specs.Prelude.{◌≡◌, Ok, IfOk};
-ghost use Rattle.tb_published.specs.Lines.{AnswersIn, LegalIn};
-ghost use Rattle.tb_published.specs.Taking.{Takes};
+ghost use Rattle.tb_published.specs.Openings.{IsAnswerIn, LegalIn};
+ghost use Rattle.tb_published.specs.Taking.{TakesRequest};
 
 use std::sync::Wait;
 use tb_published::{Naming, Publisher, Seat, SeatFault, TakeFault, Taken, Told};
@@ -17,7 +17,7 @@ pub fn take_and_tell<J: Naming, W: Wait>(
 ) -> Result<(Taken, Told<J>), TakeFault>
     ensures taken { IfOk result
         (λ answer.
-        Takes J.opening publisher.old.history request now (Ok answer.0)
+        TakesRequest J.opening publisher.old.history request now (Ok answer.0)
         publisher.new.history publisher.new.shown) }
     ensures told { IfOk result (λ answer. answer.1 ≡ publisher.new.shown) }
 {
@@ -33,7 +33,7 @@ pub fn learn_and_ask<J: Naming>(
     request: &Request,
 ) -> Result<Reply, SeatFault>
     ensures legal { IfOk result (λ _. LegalIn J.opening seat.new) }
-    ensures answer { IfOk result (λ reply. AnswersIn J.opening seat.new request.now reply) }
+    ensures answer { IfOk result (λ reply. IsAnswerIn J.opening seat.new request.now reply) }
 {
     seat.learn(told);
     seat.answer(request)

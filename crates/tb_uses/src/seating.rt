@@ -2,7 +2,7 @@
 //! seen, and of what they answer.
 ghost use Rattle.std.specs.Prelude.{◌≡◌, IsTrue, IfOk, IfSome};
 ghost use mathlib.Core.List.{IsPrefix};
-ghost use Rattle.tb_published.specs.Lines.{AnswersIn, LegalIn, OneBegins};
+ghost use Rattle.tb_published.specs.Openings.{IsAnswerIn, LegalIn, OneBegins};
 
 use tb_published::{Naming, Publisher, Seat, SeatFault};
 use tb_records::{Reply, Request};
@@ -20,8 +20,8 @@ pub fn are_within<J: Naming>(publisher: &Publisher<J>, one: &Seat<J>, two: &Seat
     publisher.beside(one) && publisher.beside(two)
 }
 
-/// Asks two seats the same, and answers both replies: each is the one-thread ledger's after a beginning of the publisher's one
-/// legal history, and that beginning has all that the seat had seen before. None where a seat has seen what is not shown.
+/// Asks two seats the same, and answers both replies: each is the one-thread ledger's after a prefix of the publisher's one
+/// legal history, and that prefix has all that the seat had seen before. None where a seat has seen what is not shown.
 pub fn ask_two<J: Naming>(
     publisher: &Publisher<J>,
     one: &mut Seat<J>,
@@ -41,8 +41,8 @@ pub fn ask_two<J: Naming>(
         (λ answers.
         IfSome answers
         (λ both.
-        AnswersIn J.opening one.new request.now both.0
-        × AnswersIn J.opening two.new request.now both.1)) }
+        IsAnswerIn J.opening one.new request.now both.0
+        × IsAnswerIn J.opening two.new request.now both.1)) }
 {
     let first = one.answer(request);
     let second = two.answer(request);

@@ -59,7 +59,7 @@ fn run_closed<J: Naming, W: Wait + Drop, M: Moments + Drop, G: Gate + Drop, R: W
     requires own { (closed.service ≡ server.service) × (closed.number ≡ 0) }
     ensures { IfOk result
         (λ finished.
-        GrowsByOffers 1 (λ port. closed.offered) server.room.history
+        GrowsByOffers 1 (λ port. closed.offered) server.state.history
         finished.publisher.history) }
 {
     laws::none_invented::<J, M, G>();
@@ -89,7 +89,7 @@ fn run_one<J: Naming, W: Wait + Drop, M: Moments + Drop, G: Gate + Drop, R: Wait
     requires fresh { port.offered ≡ [] }
     ensures { IfOk result
         (λ finished.
-        GrowsByOffers 1 (λ port. request ∷ []) server.room.history
+        GrowsByOffers 1 (λ port. request ∷ []) server.state.history
         finished.publisher.history) }
 {
     match hand_over(rt, port, request) {

@@ -1,19 +1,19 @@
-//! The undo log of a batch, and its results. Those of a small batch are kept for the next one.
+//! The undo log of a batch, and its results: both are kept for the next one.
+//!
+//! What an arena is given back it never gives out again. So a log goes only where the next batch needs a larger one, which is then
+//! twice as large or more, and all logs of a ledger together take at most twice the largest. That one has 4.7 MB, for 8190 events.
 ghost use Rattle.std.specs.Prelude.{◌≡◌, ◌≤◌, [], IsSome, IfOk, IfSome, OnOk, vec_capacity};
 ghost use Rattle.tb_ledger.specs.Entering.{AreMadeFor};
 
-use crate::tables::trail::Trail;
+use crate::tables::undo_log::UndoLog;
 use std::alloc::{AllocError, Allocator, Global};
 use std::mem;
 use tb_records::EventResult;
 
-/// A batch of more events is large.
-pub(crate) const SMALL_BATCH: usize = 64;
-
 /// The undo log of a batch's chains, and its results.
 #[derive(Drop)]
 pub(crate) struct Buffers<A: Allocator + Clone> {
-    pub log: Trail<A>,
+    pub log: UndoLog<A>,
     pub refused: Vec<EventResult>,
 }
 
@@ -23,8 +23,8 @@ impl<A: Allocator + Clone> Buffers<A> {
         requires { events ≤ 8190 }
         ensures { IfOk result (AreMadeFor events) }
     {
-        let log = Trail::with_capacity(alloc, events)?;
         let refused = Vec::with_capacity(global, events)?;
+        let log = UndoLog::with_capacity(alloc, events)?;
         Ok(Buffers { log, refused })
     }
 

@@ -3,13 +3,13 @@ ghost use Rattle.std.specs.Prelude.{◌≡◌, ◌+◌, ◌^◌, ◌<◌, ◌≤
 ghost use Rattle.tb_ledger.specs.Batches.{block_length, block_after, timed_from, results_from};
 ghost use Rattle.tb_ledger.specs.Found.{Judges};
 ghost use Rattle.tb_ledger.specs.Kept.{books_in};
-ghost use Rattle.tb_ledger.specs.Steps.{IsReady, IsReadyFor, Leaves, LeavesAfter};
-ghost use Rattle.tb_ledger.specs.Trail.{Stays};
+ghost use Rattle.tb_ledger.specs.Steps.{IsPrepared, IsPreparedFor, Leaves, LeavesAfter};
+ghost use Rattle.tb_ledger.specs.UndoLog.{Stays};
 
 use crate::batches::events::Event;
 use crate::batches::results::break_off;
 use crate::tables::rows::Rows;
-use crate::tables::trail::{Trail, unwind};
+use crate::tables::undo_log::{UndoLog, unwind};
 use std::alloc::Allocator;
 use tb_records::EventResult;
 
@@ -33,13 +33,13 @@ pub(crate) fn block_length<E: Event>(events: &[E]) -> usize
 /// accepted adds its result.
 pub(crate) fn run_block<E: Event, A: Allocator + Clone, R: Allocator>(
     rows: &mut Rows<A>,
-    trail: &mut Trail<A>,
+    undo_log: &mut UndoLog<A>,
     results: &mut Vec<EventResult, R>,
     block: &[E],
     index: u32,
     time: u64,
 )
-    requires ready { IsReadyFor E.HasCapacity (length block.now) rows.old trail.old time }
+    requires ready { IsPreparedFor E.HasCapacity (length block.now) rows.old undo_log.old time }
     requires results_capacity { vec_len results.old + length block.now ≤ vec_capacity results.old }
     requires index_fits { index + length block.now < 2 ^ 32 }
     ensures books { books_in rows.new
@@ -50,21 +50,21 @@ pub(crate) fn run_block<E: Event, A: Allocator + Clone, R: Allocator>(
         (block_after E.kind (books_in rows.old) (timed_from time block.now)).codes }
     ensures results_len { vec_len results.new ≤ vec_len results.old + length block.now }
     ensures results_capacity { vec_capacity results.new ≡ vec_capacity results.old }
-    ensures leaves { LeavesAfter (length block.now) rows.old rows.new trail.old trail.new }
+    ensures leaves { LeavesAfter (length block.now) rows.old rows.new undo_log.old undo_log.new }
 {
     // an event that is refused changes nothing, so one that stands alone has nothing to undo
-    trail.start(block.len() > 1);
+    undo_log.start(block.len() > 1);
     let mut i = 0;
     let mut stamp = time;
     while i < block.len() {
         let event = &block[i];
-        match take_in_chain(event, i + 1 == block.len(), rows, trail, stamp) {
+        match take_in_chain(event, i + 1 == block.len(), rows, undo_log, stamp) {
             Ok(()) => {
                 i += 1;
                 stamp += 1;
             }
             Err(refusal) => {
-                unwind(rows, trail);
+                unwind(rows, undo_log);
                 event.refuse(rows, refusal);
                 break_off(results, block, index, i, refusal);
                 return;
@@ -78,10 +78,10 @@ fn take_in_chain<E: Event, A: Allocator + Clone>(
     event: &E,
     last: bool,
     rows: &mut Rows<A>,
-    trail: &mut Trail<A>,
+    undo_log: &mut UndoLog<A>,
     time: u64,
 ) -> Result<(), E::Refusal>
-    requires ready { IsReady E.HasCapacity rows.old trail.old time }
+    requires ready { IsPrepared E.HasCapacity rows.old undo_log.old time }
     ensures judged { Judges E.code_of result
         (if last && E.kind.linked event.now then
         2
@@ -91,12 +91,12 @@ fn take_in_chain<E: Event, A: Allocator + Clone>(
         (books_in rows.new ≡ E.kind.recorded (books_in rows.old) event.now time) }
     ensures fresh { IfErr result
         (λ refusal. E.IsNew (books_in rows.old).failed event.now (E.code_of refusal)) }
-    ensures refused { OnErr result (Stays rows.old rows.new trail.old trail.new) }
-    ensures leaves { Leaves rows.old rows.new trail.old trail.new }
+    ensures refused { OnErr result (Stays rows.old rows.new undo_log.old undo_log.new) }
+    ensures leaves { Leaves rows.old rows.new undo_log.old undo_log.new }
 {
     if last && event.linked() {
         Err(E::chain_open())
     } else {
-        event.take(rows, trail, time)
+        event.take(rows, undo_log, time)
     }
 }

@@ -3,13 +3,13 @@ ghost use Rattle.std.specs.Prelude.{◌≡◌, ℕ, ◌+◌, ◌==◌, true, fal
 ghost use Rattle.tb_ledger.specs.Found.{Judges};
 ghost use Rattle.tb_ledger.specs.Capacity.{Capacity, capacity_of, Uses};
 ghost use Rattle.tb_ledger.specs.Kept.{books_in, IsKept};
-ghost use Rattle.tb_ledger.specs.Steps.{IsReady, Leaves, StaysButFailed};
-ghost use Rattle.tb_ledger.specs.Trail.{Stays};
+ghost use Rattle.tb_ledger.specs.Steps.{IsPrepared, Leaves, StaysButFailed};
+ghost use Rattle.tb_ledger.specs.UndoLog.{Stays};
 
 use crate::changes::account::take_account;
 use crate::changes::transfer::{note_failed, take_transfer};
 use crate::tables::rows::Rows;
-use crate::tables::trail::Trail;
+use crate::tables::undo_log::UndoLog;
 use std::alloc::Allocator;
 use tb_records::{Account, CreateAccountResult, CreateTransferResult, Transfer};
 
@@ -49,25 +49,25 @@ pub trait Event: Copy {
     fn chain_open() -> Self::Refusal
         ensures { code_of result ≡ 2 };
 
-    /// Looks for the ids of the first eight events by turns, where there are so many. The rows stay.
+    /// Looks for the ids of the first eight events interleaved, where there are so many. The rows stay.
     fn look_ahead<A: Allocator + Clone>(events: &[Self], rows: &mut Rows<A>)
         ensures { rows.new ≡ rows.old };
 
-    /// Judges the event as of its timestamp, and records it where it passes. The trail leads back to before it.
+    /// Judges the event as of its timestamp, and records it where it passes. The undo log leads back to before it.
     fn take<A: Allocator + Clone>(
         &self,
         rows: &mut Rows<A>,
-        trail: &mut Trail<A>,
+        undo_log: &mut UndoLog<A>,
         time: u64,
     ) -> Result<(), Self::Refusal>
-        requires ready { IsReady HasCapacity rows.old trail.old time }
+        requires ready { IsPrepared HasCapacity rows.old undo_log.old time }
         ensures judged { Judges code_of result (kind.verdict (books_in rows.old) self.now time) }
         ensures done { OnOk result
             (books_in rows.new ≡ kind.recorded (books_in rows.old) self.now time) }
         ensures fresh { IfErr result
             (λ refusal. IsNew (books_in rows.old).failed self.now (code_of refusal)) }
-        ensures refused { OnErr result (Stays rows.old rows.new trail.old trail.new) }
-        ensures leaves { Leaves rows.old rows.new trail.old trail.new };
+        ensures refused { OnErr result (Stays rows.old rows.new undo_log.old undo_log.new) }
+        ensures leaves { Leaves rows.old rows.new undo_log.old undo_log.new };
 
     /// Notes what the event's refusal leaves behind.
     fn refuse<A: Allocator + Clone>(&self, rows: &mut Rows<A>, refusal: Self::Refusal)
@@ -129,10 +129,10 @@ impl Event for Account {
     fn take<A: Allocator + Clone>(
         &self,
         rows: &mut Rows<A>,
-        trail: &mut Trail<A>,
+        undo_log: &mut UndoLog<A>,
         time: u64,
     ) -> Result<(), CreateAccountResult> {
-        take_account(rows, trail, self, time)
+        take_account(rows, undo_log, self, time)
     }
 
     fn refuse<A: Allocator + Clone>(&self, rows: &mut Rows<A>, refusal: CreateAccountResult) {
@@ -198,10 +198,10 @@ impl Event for Transfer {
     fn take<A: Allocator + Clone>(
         &self,
         rows: &mut Rows<A>,
-        trail: &mut Trail<A>,
+        undo_log: &mut UndoLog<A>,
         time: u64,
     ) -> Result<(), CreateTransferResult> {
-        take_transfer(rows, trail, self, time)
+        take_transfer(rows, undo_log, self, time)
     }
 
     fn refuse<A: Allocator + Clone>(&self, rows: &mut Rows<A>, refusal: CreateTransferResult) {

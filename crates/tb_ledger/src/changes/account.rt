@@ -5,7 +5,7 @@ ghost use Rattle.tb_ledger.specs.Books.{account_at};
 ghost use Rattle.tb_records.specs.AccountResults.{account_result_code};
 ghost use Rattle.tb_ledger.specs.Found.{Judges};
 ghost use Rattle.tb_ledger.specs.Kept.{books_in, IsKept, account_row_key, blank, new_row};
-ghost use Rattle.tb_ledger.specs.Trail.{Stays, IsNoted};
+ghost use Rattle.tb_ledger.specs.UndoLog.{Stays, IsNoted};
 ghost use Rattle.tb_ledger.specs.Steps.{Leaves};
 ghost use Rattle.tb_ledger.specs.Noted.{HasCapacityFor};
 ghost use Rattle.tb_records.specs.Ordered.{put};
@@ -14,7 +14,7 @@ ghost use Rattle.tb_ledger.specs.Sound.{Sound, account_key};
 use crate::tables::accounts::AccountRow;
 use crate::tables::map::Table;
 use crate::tables::rows::Rows;
-use crate::tables::trail::{TRAIL_PER_EVENT, Trail, Undo};
+use crate::tables::undo_log::{UNDOS_PER_EVENT, Undo, UndoLog};
 use crate::verdicts::account::judge_account;
 use std::alloc::Allocator;
 use tb_records::{Account, CreateAccountResult};
@@ -22,32 +22,32 @@ use tb_records::{Account, CreateAccountResult};
 /// Judges an account, and records it with its timestamp where it passes.
 pub(crate) fn take_account<A: Allocator + Clone>(
     rows: &mut Rows<A>,
-    trail: &mut Trail<A>,
+    undo_log: &mut UndoLog<A>,
     a: &Account,
     time: u64,
 ) -> Result<(), CreateAccountResult>
     requires kept { IsKept rows.old }
     requires capacity { 0 < rows.old.accounts.spare }
-    requires log { HasCapacityFor TRAIL_PER_EVENT trail.old }
+    requires log { HasCapacityFor UNDOS_PER_EVENT undo_log.old }
     ensures judged { Judges account_result_code result
         (account_events.verdict (books_in rows.old) a.now time) }
     ensures done { OnOk result
         (books_in rows.new ≡ account_events.recorded (books_in rows.old) a.now time) }
-    ensures refused { OnErr result (Stays rows.old rows.new trail.old trail.new) }
-    ensures leaves { Leaves rows.old rows.new trail.old trail.new }
+    ensures refused { OnErr result (Stays rows.old rows.new undo_log.old undo_log.new) }
+    ensures leaves { Leaves rows.old rows.new undo_log.old undo_log.new }
 {
     judge_account(rows, a)?;
     let mut recorded = *a;
     recorded.timestamp = time;
-    record_account(rows, trail, &recorded);
+    record_account(rows, undo_log, &recorded);
     Ok(())
 }
 
 /// Adds an account as it is recorded.
-fn record_account<A: Allocator + Clone>(rows: &mut Rows<A>, trail: &mut Trail<A>, a: &Account)
+fn record_account<A: Allocator + Clone>(rows: &mut Rows<A>, undo_log: &mut UndoLog<A>, a: &Account)
     requires kept { IsKept rows.old }
     requires capacity { 0 < rows.old.accounts.spare }
-    requires log { HasCapacityFor TRAIL_PER_EVENT trail.old }
+    requires log { HasCapacityFor UNDOS_PER_EVENT undo_log.old }
     requires fresh { account_at (books_in rows.old) a.now.id ≡ None }
     requires plain { a.now ≡ blank a.now }
     requires sound { Sound
@@ -56,19 +56,19 @@ fn record_account<A: Allocator + Clone>(rows: &mut Rows<A>, trail: &mut Trail<A>
     ensures books { books_in rows.new
         ≡ record (books_in rows.old)
         { accounts = put account_key a.now (books_in rows.old).accounts } }
-    ensures leaves { Leaves rows.old rows.new trail.old trail.new }
+    ensures leaves { Leaves rows.old rows.new undo_log.old undo_log.new }
 {
-    add_account_row(&mut rows.accounts, trail, a);
+    add_account_row(&mut rows.accounts, undo_log, a);
 }
 
 /// Adds the row of an account: no transfer names it yet.
 fn add_account_row<A: Allocator + Clone>(
     accounts: &mut Table<AccountRow, A>,
-    trail: &mut Trail<A>,
+    undo_log: &mut UndoLog<A>,
     a: &Account,
 )
     requires capacity { 0 < accounts.old.spare }
-    requires log { length trail.old.changes < trail.old.capacity }
+    requires log { length undo_log.old.changes < undo_log.old.capacity }
     requires plain { a.now ≡ blank a.now }
     requires fresh { find (λ row. row.created.id == a.now.id) accounts.old.items ≡ None }
     ensures accounts { accounts.new
@@ -76,8 +76,8 @@ fn add_account_row<A: Allocator + Clone>(
           items = put account_row_key (new_row a.now) accounts.old.items;
           spare = accounts.old.spare - 1;
         } }
-    ensures noted { IsNoted 1 accounts.old.items accounts.new.items trail.old trail.new }
+    ensures noted { IsNoted 1 accounts.old.items accounts.new.items undo_log.old undo_log.new }
 {
-    trail.note(Undo::AddedAccount(a.id));
+    undo_log.note(Undo::AddedAccount(a.id));
     accounts.insert_reserved(AccountRow::new(a));
 }

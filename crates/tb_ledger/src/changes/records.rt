@@ -3,13 +3,13 @@ ghost use Rattle.std.specs.Prelude.{◌≡◌, ◌-◌, ◌^◌, ◌<◌, ◌≤
 ghost use Rattle.tb_records.specs.Ordered.{put, Rising};
 ghost use Rattle.tb_ledger.specs.Verdicts.{int_max};
 ghost use Rattle.tb_ledger.specs.Kept.{transfer_row_key, times_out, listed, CanList, new_transfer_row};
-ghost use Rattle.tb_ledger.specs.Trail.{IsMarked};
+ghost use Rattle.tb_ledger.specs.UndoLog.{IsMarked};
 
 use crate::tables::index::list;
 use crate::tables::map::Table;
 use crate::tables::timeouts::Timeouts;
-use crate::tables::trail::Trail;
 use crate::tables::transfers::TransferRow;
+use crate::tables::undo_log::UndoLog;
 use std::alloc::Allocator;
 use tb_records::Transfer;
 
@@ -26,11 +26,11 @@ pub(crate) fn row_of(recorded: Transfer) -> TransferRow
 pub(crate) fn add_row<A: Allocator + Clone>(
     transfers: &mut Table<TransferRow, A>,
     timeouts: &mut Timeouts<A>,
-    trail: &mut Trail<A>,
+    undo_log: &mut UndoLog<A>,
     row: &TransferRow,
 )
     requires capacity { 0 < transfers.old.spare }
-    requires log { length trail.old.changes < trail.old.capacity }
+    requires log { length undo_log.old.changes < undo_log.old.capacity }
     requires fresh { find (λ t. t.recorded.id == row.now.recorded.id) transfers.old.items ≡ None }
     requires can_list { times_out row.now ≡ true → CanList row.now timeouts.old }
     ensures transfers { transfers.new
@@ -40,10 +40,10 @@ pub(crate) fn add_row<A: Allocator + Clone>(
         } }
     ensures timeouts { timeouts.new ≡ listed row.now timeouts.old }
     ensures rising { Rising transfer_row_key transfers.old.items }
-    ensures marked { IsMarked 1 transfers.old.items transfers.new.items timeouts.old timeouts.new trail.old
-        trail.new }
+    ensures marked { IsMarked 1 transfers.old.items transfers.new.items timeouts.old timeouts.new undo_log.old
+        undo_log.new }
 {
-    trail.note_added(row);
+    undo_log.note_added(row);
     transfers.insert_reserved(*row);
     list(timeouts, row);
 }

@@ -2,11 +2,11 @@
 ghost use Rattle.std.specs.Prelude.{◌≡◌, ◌≢◌, ◌^◌, ◌<◌, ◌==◌, true, length, find, Some, IsSome, OnOk, OnErr};
 ghost use Rattle.tb_ledger.specs.Batches.{transfer_events};
 ghost use Rattle.tb_ledger.specs.Books.{resolves};
-ghost use Rattle.tb_ledger.specs.Exchanges.{row_at};
+ghost use Rattle.tb_ledger.specs.Exchanges.{account_row_at};
 ghost use Rattle.tb_ledger.specs.Kept.{books_in, IsKept, transfer_row_key, times_out, unlisted, IsListed, settled, state_given_by};
 ghost use Rattle.tb_ledger.specs.Capacity.{HasTransfers};
-ghost use Rattle.tb_ledger.specs.Steps.{IsReady, IsResolution, Leaves};
-ghost use Rattle.tb_ledger.specs.Trail.{Stays, IsMarked};
+ghost use Rattle.tb_ledger.specs.Steps.{IsPrepared, IsResolution, Leaves};
+ghost use Rattle.tb_ledger.specs.UndoLog.{Stays, IsMarked};
 ghost use Rattle.tb_ledger.specs.Noted.{HasCapacityFor};
 ghost use Rattle.tb_ledger.specs.Settlings.{closed_code, CanSettle, Settles, SettlesIn};
 ghost use Rattle.tb_ledger.specs.Verdicts.{id_code};
@@ -22,8 +22,8 @@ use crate::tables::index::unlist;
 use crate::tables::map::{Keyed, Table};
 use crate::tables::rows::Rows;
 use crate::tables::timeouts::Timeouts;
-use crate::tables::trail::{TRAIL_PER_EVENT, Trail};
 use crate::tables::transfers::{State, TransferRow};
+use crate::tables::undo_log::{UNDOS_PER_EVENT, UndoLog};
 use crate::verdicts::resolving::{Resolution, judge_closed, judge_resolving};
 use std::alloc::Allocator;
 use tb_records::{CreateTransferResult, Transfer, TransferFlag};
@@ -31,11 +31,11 @@ use tb_records::{CreateTransferResult, Transfer, TransferFlag};
 /// Judges a post or void whose id is free, and records it, filled and stamped, where it passes.
 pub(crate) fn take_resolving<A: Allocator + Clone>(
     rows: &mut Rows<A>,
-    trail: &mut Trail<A>,
+    undo_log: &mut UndoLog<A>,
     t: &Transfer,
     time: u64,
 ) -> Result<(), CreateTransferResult>
-    requires ready { IsReady HasTransfers rows.old trail.old time }
+    requires ready { IsPrepared HasTransfers rows.old undo_log.old time }
     requires free { id_code (books_in rows.old) t.now ≡ 0 }
     requires resolving { resolves t.now ≡ true }
     requires plain { t.now.flags < 2 ^ 8 }
@@ -43,27 +43,27 @@ pub(crate) fn take_resolving<A: Allocator + Clone>(
         (transfer_events.verdict (books_in rows.old) t.now time) }
     ensures done { OnOk result
         (books_in rows.new ≡ transfer_events.recorded (books_in rows.old) t.now time) }
-    ensures refused { OnErr result (Stays rows.old rows.new trail.old trail.new) }
-    ensures leaves { Leaves rows.old rows.new trail.old trail.new }
+    ensures refused { OnErr result (Stays rows.old rows.new undo_log.old undo_log.new) }
+    ensures leaves { Leaves rows.old rows.new undo_log.old undo_log.new }
 {
     let Resolution { pending, filled } = judge_resolving(rows, t)?;
     let pending = *pending;
     let mut recorded = filled;
     recorded.timestamp = time;
-    settle(rows, trail, &pending, &recorded)
+    settle(rows, undo_log, &pending, &recorded)
 }
 
 /// Judges a post or void, filled and stamped, of the pending transfer `p` by the accounts, and records it where it passes. A void
 /// passes closed accounts too.
 fn settle<A: Allocator + Clone>(
     rows: &mut Rows<A>,
-    trail: &mut Trail<A>,
+    undo_log: &mut UndoLog<A>,
     p: &TransferRow,
     r: &Transfer,
 ) -> Result<(), CreateTransferResult>
     requires kept { IsKept rows.old }
     requires capacity { 0 < rows.old.transfers.spare }
-    requires log { HasCapacityFor TRAIL_PER_EVENT trail.old }
+    requires log { HasCapacityFor UNDOS_PER_EVENT undo_log.old }
     requires resolution { IsResolution rows.old p.now r.now }
     ensures judged { Judges transfer_result_code result
         (closed_code (books_in rows.old) r.now p.now.recorded) }
@@ -71,40 +71,40 @@ fn settle<A: Allocator + Clone>(
         (books_in rows.new
         ≡ record (books_in rows.old)
         { transfers = put transfer_key r.now (books_in rows.old).transfers }) }
-    ensures refused { OnErr result (Stays rows.old rows.new trail.old trail.new) }
-    ensures leaves { Leaves rows.old rows.new trail.old trail.new }
+    ensures refused { OnErr result (Stays rows.old rows.new undo_log.old undo_log.new) }
+    ensures leaves { Leaves rows.old rows.new undo_log.old undo_log.new }
 {
-    settle_accounts(&mut rows.accounts, trail, &p.recorded(), r)?;
+    settle_accounts(&mut rows.accounts, undo_log, &p.recorded(), r)?;
     let state = state_given(r);
-    close_row(&mut rows.transfers, &mut rows.timeouts, trail, p, state);
+    close_row(&mut rows.transfers, &mut rows.timeouts, undo_log, p, state);
     let row = row_of(*r);
-    add_row(&mut rows.transfers, &mut rows.timeouts, trail, &row);
+    add_row(&mut rows.transfers, &mut rows.timeouts, undo_log, &row);
     Ok(())
 }
 
-/// Judges a post or void by its accounts, and settles both where it passes. Where changes are noted the trail gets both rows from
+/// Judges a post or void by its accounts, and settles both where it passes. Where changes are noted the undo log gets both rows from
 /// before.
 fn settle_accounts<A: Allocator + Clone>(
     accounts: &mut Table<AccountRow, A>,
-    trail: &mut Trail<A>,
+    undo_log: &mut UndoLog<A>,
     p: &Transfer,
     r: &Transfer,
 ) -> Result<(), CreateTransferResult>
     requires apart { r.now.debit_account_id ≢ r.now.credit_account_id }
-    requires debit { IsSome (row_at accounts.old.items r.now.debit_account_id) }
-    requires credit { IsSome (row_at accounts.old.items r.now.credit_account_id) }
-    requires can_debit { (a : AccountRow) → row_at accounts.old.items r.now.debit_account_id ≡ Some a
+    requires debit { IsSome (account_row_at accounts.old.items r.now.debit_account_id) }
+    requires credit { IsSome (account_row_at accounts.old.items r.now.credit_account_id) }
+    requires can_debit { (a : AccountRow) → account_row_at accounts.old.items r.now.debit_account_id ≡ Some a
         → CanSettle p.now r.now a.debits }
-    requires can_credit { (a : AccountRow) → row_at accounts.old.items r.now.credit_account_id ≡ Some a
+    requires can_credit { (a : AccountRow) → account_row_at accounts.old.items r.now.credit_account_id ≡ Some a
         → CanSettle p.now r.now a.credits }
-    ensures settled { SettlesIn p.now r.now trail.old accounts.old.items result accounts.new.items trail.new }
+    ensures settled { SettlesIn p.now r.now undo_log.old accounts.old.items result accounts.new.items undo_log.new }
     ensures capacity { accounts.new.spare ≡ accounts.old.spare }
 {
     let settled = accounts.update_two(
         r.debit_account_id,
         r.credit_account_id,
         &mut |debit: &mut AccountRow, credit: &mut AccountRow| settle_rows(
-            debit, credit, p, r, trail,
+            debit, credit, p, r, undo_log,
         ),
     );
     match settled {
@@ -113,21 +113,21 @@ fn settle_accounts<A: Allocator + Clone>(
     }
 }
 
-/// Judges a post or void by the rows of its accounts, and settles both where it passes. The rows from before go to the trail from
+/// Judges a post or void by the rows of its accounts, and settles both where it passes. The rows from before go to the undo log from
 /// here, and not through the search that calls this.
 fn settle_rows<A: Allocator + Clone>(
     debit: &mut AccountRow,
     credit: &mut AccountRow,
     p: &Transfer,
     r: &Transfer,
-    trail: &mut Trail<A>,
+    undo_log: &mut UndoLog<A>,
 ) -> Result<(), CreateTransferResult>
-    ensures settled { Settles p.now r.now trail.old debit.old credit.old result debit.new credit.new trail.new }
+    ensures settled { Settles p.now r.now undo_log.old debit.old credit.old result debit.new credit.new undo_log.new }
     ensures same_debit { debit.new.created ≡ debit.old.created }
     ensures same_credit { credit.new.created ≡ credit.old.created }
 {
     judge_closed(r, debit, credit)?;
-    trail.note_pair(debit, credit);
+    undo_log.note_pair(debit, credit);
     debit.set_debits(settle_side(
         debit.debits(),
         p,
@@ -149,21 +149,21 @@ fn settle_rows<A: Allocator + Clone>(
 fn close_row<A: Allocator + Clone>(
     transfers: &mut Table<TransferRow, A>,
     timeouts: &mut Timeouts<A>,
-    trail: &mut Trail<A>,
+    undo_log: &mut UndoLog<A>,
     p: &TransferRow,
     state: State,
 )
-    requires log { length trail.old.changes < trail.old.capacity }
+    requires log { length undo_log.old.changes < undo_log.old.capacity }
     requires found { find (λ row. row.recorded.id == p.now.recorded.id) transfers.old.items ≡ Some p.now }
     requires is_listed { times_out p.now ≡ true → IsListed timeouts.old.items p.now }
     ensures transfers { transfers.new
         ≡ record transfers.old
         { items = replaced transfer_row_key (settled state p.now) transfers.old.items } }
     ensures timeouts { timeouts.new ≡ unlisted p.now timeouts.old }
-    ensures marked { IsMarked 1 transfers.old.items transfers.new.items timeouts.old timeouts.new trail.old
-        trail.new }
+    ensures marked { IsMarked 1 transfers.old.items transfers.new.items timeouts.old timeouts.new undo_log.old
+        undo_log.new }
 {
-    trail.note_changed(p);
+    undo_log.note_changed(p);
     let closed = transfers.update(
         p.key(),
         &mut |row: &mut TransferRow| {

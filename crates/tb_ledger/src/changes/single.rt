@@ -7,17 +7,17 @@ ghost use Rattle.tb_records.specs.TransferResults.{transfer_result_code};
 ghost use Rattle.tb_ledger.specs.Found.{Judges};
 ghost use Rattle.tb_ledger.specs.Capacity.{HasTransfers};
 ghost use Rattle.tb_ledger.specs.Kept.{books_in};
-ghost use Rattle.tb_ledger.specs.Steps.{IsReady, Leaves};
-ghost use Rattle.tb_ledger.specs.Trail.{Stays};
+ghost use Rattle.tb_ledger.specs.Steps.{IsPrepared, Leaves};
+ghost use Rattle.tb_ledger.specs.UndoLog.{Stays};
 ghost use Rattle.tb_ledger.specs.Verdicts.{id_code};
-ghost use Rattle.tb_ledger.specs.Exchanges.{Exchanges, ExchangesIn, row_at};
+ghost use Rattle.tb_ledger.specs.Exchanges.{Exchanges, ExchangesIn, account_row_at};
 
 use crate::changes::records::{add_row, row_of};
 use crate::changes::sides::gain_side;
 use crate::tables::accounts::AccountRow;
 use crate::tables::map::Table;
 use crate::tables::rows::Rows;
-use crate::tables::trail::Trail;
+use crate::tables::undo_log::UndoLog;
 use crate::verdicts::single::{between, single_own};
 use std::alloc::Allocator;
 use tb_records::{CreateTransferResult, Transfer, TransferFlag};
@@ -25,11 +25,11 @@ use tb_records::{CreateTransferResult, Transfer, TransferFlag};
 /// Judges a transfer between two accounts whose id is free, and records it, balanced and stamped, where it passes.
 pub(crate) fn take_single<A: Allocator + Clone>(
     rows: &mut Rows<A>,
-    trail: &mut Trail<A>,
+    undo_log: &mut UndoLog<A>,
     t: &Transfer,
     time: u64,
 ) -> Result<(), CreateTransferResult>
-    requires ready { IsReady HasTransfers rows.old trail.old time }
+    requires ready { IsPrepared HasTransfers rows.old undo_log.old time }
     requires free { id_code (books_in rows.old) t.now ≡ 0 }
     requires single { resolves t.now ≡ false }
     requires plain { t.now.flags < 2 ^ 8 }
@@ -37,36 +37,36 @@ pub(crate) fn take_single<A: Allocator + Clone>(
         (transfer_events.verdict (books_in rows.old) t.now time) }
     ensures done { OnOk result
         (books_in rows.new ≡ transfer_events.recorded (books_in rows.old) t.now time) }
-    ensures refused { OnErr result (Stays rows.old rows.new trail.old trail.new) }
-    ensures leaves { Leaves rows.old rows.new trail.old trail.new }
+    ensures refused { OnErr result (Stays rows.old rows.new undo_log.old undo_log.new) }
+    ensures leaves { Leaves rows.old rows.new undo_log.old undo_log.new }
 {
     single_own(t)?;
-    let amount = exchange(&mut rows.accounts, trail, t, time)?;
+    let amount = exchange(&mut rows.accounts, undo_log, t, time)?;
     let mut recorded = *t;
     recorded.amount = amount;
     recorded.timestamp = time;
     let row = row_of(recorded);
-    add_row(&mut rows.transfers, &mut rows.timeouts, trail, &row);
+    add_row(&mut rows.transfers, &mut rows.timeouts, undo_log, &row);
     Ok(())
 }
 
 /// Judges a transfer between two accounts, and changes their rows where it passes: the amount that it moves. Where changes are noted
-/// the trail gets both rows from before.
+/// the undo log gets both rows from before.
 fn exchange<A: Allocator + Clone>(
     accounts: &mut Table<AccountRow, A>,
-    trail: &mut Trail<A>,
+    undo_log: &mut UndoLog<A>,
     t: &Transfer,
     time: u64,
 ) -> Result<u128, CreateTransferResult>
     requires { t.now.debit_account_id ≢ t.now.credit_account_id }
-    ensures exchanged { ExchangesIn t.now time trail.old accounts.old.items result accounts.new.items trail.new }
+    ensures exchanged { ExchangesIn t.now time undo_log.old accounts.old.items result accounts.new.items undo_log.new }
     ensures capacity { accounts.new.spare ≡ accounts.old.spare }
 {
     let exchanged = accounts.update_two(
         t.debit_account_id,
         t.credit_account_id,
         &mut |debit: &mut AccountRow, credit: &mut AccountRow| exchange_rows(
-            debit, credit, t, time, trail,
+            debit, credit, t, time, undo_log,
         ),
     );
     match exchanged {
@@ -76,20 +76,20 @@ fn exchange<A: Allocator + Clone>(
 }
 
 /// Judges a transfer by the rows of its accounts, and changes both where it passes: the amount that it moves. The rows from before go
-/// to the trail from here, and not through the search that calls this.
+/// to the undo log from here, and not through the search that calls this.
 fn exchange_rows<A: Allocator + Clone>(
     debit: &mut AccountRow,
     credit: &mut AccountRow,
     t: &Transfer,
     time: u64,
-    trail: &mut Trail<A>,
+    undo_log: &mut UndoLog<A>,
 ) -> Result<u128, CreateTransferResult>
-    ensures exchanged { Exchanges t.now time trail.old debit.old credit.old result debit.new credit.new trail.new }
+    ensures exchanged { Exchanges t.now time undo_log.old debit.old credit.old result debit.new credit.new undo_log.new }
     ensures same_debit { debit.new.created ≡ debit.old.created }
     ensures same_credit { credit.new.created ≡ credit.old.created }
 {
     let amount = between(debit, credit, t, time)?;
-    trail.note_pair(debit, credit);
+    undo_log.note_pair(debit, credit);
     let mut recorded = *t;
     recorded.amount = amount;
     recorded.timestamp = time;
@@ -108,7 +108,7 @@ fn missing<A: Allocator + Clone>(
     t: &Transfer,
 ) -> CreateTransferResult
     ensures { result
-        ≡ (if is_some (row_at accounts.now.items t.now.debit_account_id) then
+        ≡ (if is_some (account_row_at accounts.now.items t.now.debit_account_id) then
         CreateTransferResult.CreditAccountNotFound
         else
         CreateTransferResult.DebitAccountNotFound) }

@@ -7,13 +7,13 @@ ghost use Rattle.tb_records.specs.TransferResults.{transfer_result_code};
 ghost use Rattle.tb_ledger.specs.Found.{Judges};
 ghost use Rattle.tb_ledger.specs.Capacity.{HasTransfers, Uses, capacity_of};
 ghost use Rattle.tb_ledger.specs.Kept.{books_in, IsKept};
-ghost use Rattle.tb_ledger.specs.Steps.{IsReady, Leaves, StaysButFailed};
-ghost use Rattle.tb_ledger.specs.Trail.{Stays};
+ghost use Rattle.tb_ledger.specs.Steps.{IsPrepared, Leaves, StaysButFailed};
+ghost use Rattle.tb_ledger.specs.UndoLog.{Stays};
 
 use crate::changes::resolving::take_resolving;
 use crate::changes::single::take_single;
 use crate::tables::rows::Rows;
-use crate::tables::trail::Trail;
+use crate::tables::undo_log::UndoLog;
 use crate::verdicts::transfer::{judge_id, resolving};
 use std::alloc::Allocator;
 use tb_records::{CreateTransferResult, Transfer};
@@ -21,23 +21,23 @@ use tb_records::{CreateTransferResult, Transfer};
 /// Judges a transfer, and records it where it passes.
 pub(crate) fn take_transfer<A: Allocator + Clone>(
     rows: &mut Rows<A>,
-    trail: &mut Trail<A>,
+    undo_log: &mut UndoLog<A>,
     t: &Transfer,
     time: u64,
 ) -> Result<(), CreateTransferResult>
-    requires ready { IsReady HasTransfers rows.old trail.old time }
+    requires ready { IsPrepared HasTransfers rows.old undo_log.old time }
     ensures judged { Judges transfer_result_code result
         (transfer_events.verdict (books_in rows.old) t.now time) }
     ensures done { OnOk result
         (books_in rows.new ≡ transfer_events.recorded (books_in rows.old) t.now time) }
-    ensures refused { OnErr result (Stays rows.old rows.new trail.old trail.new) }
-    ensures leaves { Leaves rows.old rows.new trail.old trail.new }
+    ensures refused { OnErr result (Stays rows.old rows.new undo_log.old undo_log.new) }
+    ensures leaves { Leaves rows.old rows.new undo_log.old undo_log.new }
 {
     judge_id(rows, t)?;
     if resolving(t) {
-        take_resolving(rows, trail, t, time)
+        take_resolving(rows, undo_log, t, time)
     } else {
-        take_single(rows, trail, t, time)
+        take_single(rows, undo_log, t, time)
     }
 }
 

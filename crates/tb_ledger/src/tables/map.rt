@@ -6,7 +6,7 @@ ghost use Rattle.tb_records.specs.Ordered.{put, replaced, taken_out, Rising};
 ghost use Rattle.avl_tree.specs.Map.{entries};
 ghost use Rattle.tb_ledger.specs.Tables.{IsTable, IsShortSearch, KeepsKey, ChangedRow, KeepsKeys, ChangedRows};
 
-use crate::tables::known::{Known, unfound};
+use crate::tables::absent_ids::{AbsentIds, unfound};
 use avl_tree::AvlMap;
 use std::alloc::{AllocError, Allocator};
 use std::marker::Model;
@@ -32,17 +32,17 @@ impl Keyed for u128 {
 pub struct Table<V: Keyed, A: Allocator + Clone> {
     rows: Option<AvlMap<u128, V, A>>,
     /// What is known of their keys. It stays where rows are taken out.
-    known: Known,
+    absent_ids: AbsentIds,
 }
 
 impl<V: Keyed, A: Allocator + Clone> Model for Table<V, A> {
-    ghost use Rattle.tb_ledger.specs.Tables.{pairs_in, rows_in, spare_in, IsKnown, Stored};
+    ghost use Rattle.tb_ledger.specs.Tables.{pairs_in, rows_in, spare_in, KnowsAbsent, Stored};
 
     ghost Value = { Stored V };
 
     ghost view = { λ t. record { items = rows_in t.rows; spare = spare_in t.rows } };
 
-    ghost invariant = { λ t. IsKnown V.key t.known (pairs_in t.rows) };
+    ghost invariant = { λ t. KnowsAbsent V.key t.absent_ids (pairs_in t.rows) };
 }
 
 /// So many rows no longer stand in a core's own memory, where a search for one of them hardly waits.
@@ -167,7 +167,7 @@ impl<V: Keyed, A: Allocator + Clone> Table<V, A> {
     {
         Table {
             rows: None,
-            known: Known::new(),
+            absent_ids: AbsentIds::new(),
         }
     }
 
@@ -175,7 +175,7 @@ impl<V: Keyed, A: Allocator + Clone> Table<V, A> {
     pub fn get(&self, id: u128) -> Option<&V>
         ensures { option_copied result ≡ find (λ row. V.key row == id) self.now.items }
     {
-        if self.known.excludes(id) {
+        if self.absent_ids.excludes(id) {
             return None;
         }
         match &self.rows {
@@ -184,7 +184,7 @@ impl<V: Keyed, A: Allocator + Clone> Table<V, A> {
         }
     }
 
-    /// The rows with eight keys, each as [`Table::get`] gives it. The searches go on by turns.
+    /// The rows with eight keys, each as [`Table::get`] gives it. The searches go on interleaved.
     pub fn get_many<'a>(&'a self, ids: &[u128; 8]) -> [Option<&'a V>; 8]
         ensures { map option_copied result
             ≡ map (λ id. find (λ row. V.key row == id) self.now.items) ids.now }
@@ -195,27 +195,27 @@ impl<V: Keyed, A: Allocator + Clone> Table<V, A> {
         }
     }
 
-    /// A search for the ids by turns spares time: the rows are so many that a search for one waits for memory, and most of the
+    /// A search for the ids interleaved spares time: the rows are so many that a search for one waits for memory, and most of the
     /// ids may be there.
     fn is_worth_seeking(&self, ids: &[u128; 8]) -> bool {
         match &self.rows {
-            Some(rows) => MANY_ROWS <= rows.len() && self.known.is_worth_seeking(ids),
+            Some(rows) => MANY_ROWS <= rows.len() && self.absent_ids.is_worth_seeking(ids),
             None => false,
         }
     }
 
-    /// Looks for eight ids by turns, and keeps in mind those that aren't there: the next search for one of them is spared. Where
+    /// Looks for eight ids interleaved, and keeps in mind those that aren't there: the next search for one of them is spared. Where
     /// rows are few, or most ids are above all keys, nothing is looked for.
     pub fn seek(&mut self, ids: &[u128; 8])
         ensures { self.new ≡ self.old }
     {
         if !self.is_worth_seeking(ids) {
-            self.known.sought = false;
+            self.absent_ids.sought = false;
             return;
         }
         let absent = unfound(ids, &self.get_many(ids));
-        self.known.absent = absent;
-        self.known.sought = true;
+        self.absent_ids.absent = absent;
+        self.absent_ids.sought = true;
     }
 
     /// The row with the key, and the number of nodes that the search met.
@@ -254,7 +254,7 @@ impl<V: Keyed, A: Allocator + Clone> Table<V, A> {
         ensures table { self.new ≡ record { items = put V.key row self.old.items; spare = self.old.spare - 1 } }
         ensures rising { Rising V.key self.old.items }
     {
-        self.known.admit(row.key());
+        self.absent_ids.admit(row.key());
         match &mut self.rows {
             Some(rows) => insert_row(rows, row),
             None => {}

@@ -1,9 +1,9 @@
-//! The verdict on an account: its own lines, then those of an account that is there, or of a new one.
+//! The verdict on an account: its own tests, then those of an account that is there, or of a new one.
 ghost use Rattle.std.specs.Prelude.{◌≡◌, Some};
 ghost use Rattle.tb_records.specs.AccountResults.{account_result_code};
 ghost use Rattle.tb_ledger.specs.Found.{Judges};
 ghost use Rattle.tb_ledger.specs.Kept.{books_in, IsKept, row_now};
-ghost use Rattle.tb_ledger.specs.Verdicts.{account_verdict, first_of, account_exists_lines, account_own_lines, account_new_lines};
+ghost use Rattle.tb_ledger.specs.Verdicts.{account_verdict, first_of, account_exists_tests, account_own_tests, account_new_tests};
 
 use crate::tables::accounts::AccountRow;
 use crate::tables::rows::Rows;
@@ -27,7 +27,7 @@ pub(crate) fn judge_account<A: Allocator + Clone>(
 
 /// What of an account is wrong by itself.
 fn account_own(a: &Account) -> Result<(), CreateAccountResult>
-    ensures { Judges account_result_code result (first_of (account_own_lines a.now)) }
+    ensures { Judges account_result_code result (first_of (account_own_tests a.now)) }
 {
     if a.timestamp != 0 {
         return Err(CreateAccountResult::TimestampMustBeZero);
@@ -50,7 +50,7 @@ fn account_own(a: &Account) -> Result<(), CreateAccountResult>
 /// How an account differs from the one that has its id.
 fn account_there(a: &Account, e: &AccountRow) -> CreateAccountResult
     ensures { account_result_code result
-        ≡ first_of (account_exists_lines (Some (row_now e.now)) a.now) }
+        ≡ first_of (account_exists_tests (Some (row_now e.now)) a.now) }
 {
     let there = e.as_it_stands();
     if a.flags != there.flags {
@@ -76,7 +76,7 @@ fn account_there(a: &Account, e: &AccountRow) -> CreateAccountResult
 
 /// What is wrong with an account whose id is free.
 fn account_new(a: &Account) -> Result<(), CreateAccountResult>
-    ensures { Judges account_result_code result (first_of (account_new_lines a.now)) }
+    ensures { Judges account_result_code result (first_of (account_new_tests a.now)) }
 {
     if a.has(AccountFlag::DebitsMustNotExceedCredits)
         && a.has(AccountFlag::CreditsMustNotExceedDebits)

@@ -1,11 +1,11 @@
-//! The verdict on a post or void: its own lines, those of the pending transfer that it names, the closed accounts.
+//! The verdict on a post or void: its own tests, those of the pending transfer that it names, the closed accounts.
 ghost use Rattle.std.specs.Prelude.{◌≡◌, ◌≢◌, ◌==◌, true, Some, find, IfOk, IfErr};
 ghost use Rattle.tb_ledger.specs.Books.{resolves};
 ghost use Rattle.tb_records.specs.TransferResults.{transfer_result_code};
 ghost use Rattle.tb_ledger.specs.Found.{FoundPending, Judges};
 ghost use Rattle.tb_ledger.specs.Kept.{books_in, row_closed, IsKept};
 ghost use Rattle.tb_ledger.specs.Settlings.{closed_code};
-ghost use Rattle.tb_ledger.specs.Verdicts.{closed_lines, filled, first_of, resolve_code, resolve_own_lines, differs, named_lines};
+ghost use Rattle.tb_ledger.specs.Verdicts.{closed_tests, filled, first_of, resolve_code, resolve_own_tests, differs, named_tests};
 
 use crate::tables::accounts::AccountRow;
 use crate::tables::rows::Rows;
@@ -60,7 +60,7 @@ pub(crate) fn judge_resolving<'a, A: Allocator + Clone>(
 
 /// What is wrong by itself with a post or void.
 fn resolve_own(t: &Transfer) -> Result<(), CreateTransferResult>
-    ensures { Judges transfer_result_code result (first_of (resolve_own_lines t.now)) }
+    ensures { Judges transfer_result_code result (first_of (resolve_own_tests t.now)) }
 {
     if t.is_post() && t.is_void() {
         return Err(CreateTransferResult::FlagsAreMutuallyExclusive);
@@ -85,7 +85,7 @@ fn resolve_own(t: &Transfer) -> Result<(), CreateTransferResult>
 
 /// Whether a post or void fits the pending transfer that it names.
 fn resolve_named(t: &Transfer, p: &Transfer, state: State) -> Result<(), CreateTransferResult>
-    ensures { Judges transfer_result_code result (first_of (named_lines t.now p.now state)) }
+    ensures { Judges transfer_result_code result (first_of (named_tests t.now p.now state)) }
 {
     if !p.is_pending() {
         return Err(CreateTransferResult::PendingTransferNotPending);
@@ -131,7 +131,7 @@ pub(crate) fn judge_closed(
     credit: &AccountRow,
 ) -> Result<(), CreateTransferResult>
     ensures { Judges transfer_result_code result
-        (first_of (closed_lines t.now (row_closed debit.now) (row_closed credit.now))) }
+        (first_of (closed_tests t.now (row_closed debit.now) (row_closed credit.now))) }
 {
     if !t.is_post() {
         return Ok(());

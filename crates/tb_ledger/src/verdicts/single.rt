@@ -1,9 +1,9 @@
-//! The verdict on a transfer between two accounts: its own lines, the pair of accounts, the amount.
+//! The verdict on a transfer between two accounts: its own tests, the pair of accounts, the amount.
 ghost use Rattle.std.specs.Prelude.{◌≡◌, ◌+◌, ◌*◌, ◌-◌, nat_lt, Some, IfOk};
 ghost use Rattle.tb_records.specs.TransferResults.{transfer_result_code};
 ghost use Rattle.tb_ledger.specs.Found.{Judges};
 ghost use Rattle.tb_ledger.specs.Kept.{row_now};
-ghost use Rattle.tb_ledger.specs.Verdicts.{first_of, int_max, max_time, balanced_amount, amount_lines, pair_code, pair_lines, single_own_lines};
+ghost use Rattle.tb_ledger.specs.Verdicts.{first_of, int_max, max_time, balanced_amount, amount_tests, pair_code, pair_tests, single_own_tests};
 
 use crate::tables::accounts::{AccountRow, Side};
 use tb_records::{
@@ -12,7 +12,7 @@ use tb_records::{
 
 /// What is wrong by itself with a transfer that is no post or void.
 pub(crate) fn single_own(t: &Transfer) -> Result<(), CreateTransferResult>
-    ensures { Judges transfer_result_code result (first_of (single_own_lines t.now)) }
+    ensures { Judges transfer_result_code result (first_of (single_own_tests t.now)) }
 {
     if t.debit_account_id == 0 {
         return Err(CreateTransferResult::DebitAccountIdMustNotBeZero);
@@ -68,7 +68,7 @@ pub(crate) fn between(
 /// Whether two accounts can exchange money.
 fn pair(d: &AccountRow, c: &AccountRow, t: &Transfer) -> Result<(), CreateTransferResult>
     ensures { Judges transfer_result_code result
-        (first_of (pair_lines (row_now d.now) (row_now c.now) t.now)) }
+        (first_of (pair_tests (row_now d.now) (row_now c.now) t.now)) }
 {
     if d.ledger() != c.ledger() {
         return Err(CreateTransferResult::AccountsMustHaveTheSameLedger);
@@ -118,7 +118,7 @@ fn amounts(
     time: u64,
 ) -> Result<(), CreateTransferResult>
     ensures { Judges transfer_result_code result
-        (first_of (amount_lines (row_now d.now) (row_now c.now) t.now amount time)) }
+        (first_of (amount_tests (row_now d.now) (row_now c.now) t.now amount time)) }
 {
     let pending = t.is_pending();
     let debits = d.debits();

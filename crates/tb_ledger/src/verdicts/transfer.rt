@@ -6,7 +6,7 @@ ghost use Rattle.tb_records.specs.TransferResults.{transfer_result_code};
 ghost use Rattle.tb_ledger.specs.Books.{resolves, balancing};
 ghost use Rattle.tb_ledger.specs.Found.{Judges};
 ghost use Rattle.tb_ledger.specs.Kept.{books_in};
-ghost use Rattle.tb_ledger.specs.Verdicts.{failed_lines, filled, first_of, id_code, transfer_exists_lines, is_not, transfer_own_lines};
+ghost use Rattle.tb_ledger.specs.Verdicts.{failed_tests, filled, first_of, id_code, transfer_exists_tests, is_not, transfer_own_tests};
 
 use crate::tables::rows::Rows;
 use crate::verdicts::blanks::filled;
@@ -38,7 +38,7 @@ pub(crate) fn judge_id<A: Allocator + Clone>(
 
 /// What of a transfer is wrong whatever its kind.
 fn transfer_own(t: &Transfer) -> Result<(), CreateTransferResult>
-    ensures judged { Judges transfer_result_code result (first_of (transfer_own_lines t.now)) }
+    ensures judged { Judges transfer_result_code result (first_of (transfer_own_tests t.now)) }
     ensures plain { OnOk result (t.now.flags < 2 ^ 8) }
 {
     if t.timestamp != 0 {
@@ -63,7 +63,7 @@ fn repeated<A: Allocator + Clone>(
     e: &Transfer,
 ) -> CreateTransferResult
     ensures { transfer_result_code result
-        ≡ first_of (transfer_exists_lines (Some e.now) (filled (books_in rows.now) t.now)) }
+        ≡ first_of (transfer_exists_tests (Some e.now) (filled (books_in rows.now) t.now)) }
 {
     if resolving(t) {
         match rows.transfers.get(t.pending_id) {
@@ -77,7 +77,7 @@ fn repeated<A: Allocator + Clone>(
 
 /// How a transfer, filled, differs from the recorded one that has its id.
 fn transfer_there(f: &Transfer, e: &Transfer) -> CreateTransferResult
-    ensures { transfer_result_code result ≡ first_of (transfer_exists_lines (Some e.now) f.now) }
+    ensures { transfer_result_code result ≡ first_of (transfer_exists_tests (Some e.now) f.now) }
 {
     if f.flags != e.flags {
         return CreateTransferResult::ExistsWithDifferentFlags;
@@ -136,7 +136,7 @@ fn judge_failed<A: Allocator + Clone>(
     t: &Transfer,
 ) -> Result<(), CreateTransferResult>
     ensures { Judges transfer_result_code result
-        (first_of (failed_lines (books_in rows.now).failed t.now)) }
+        (first_of (failed_tests (books_in rows.now).failed t.now)) }
 {
     if failed_before(rows, t) {
         return Err(CreateTransferResult::IdAlreadyFailed);

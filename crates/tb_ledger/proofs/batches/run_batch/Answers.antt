@@ -2,7 +2,7 @@ use Rattle.std.proofs.Common.{◌≡◌, ◌<◌, ◌+◌, ◌++◌, length, sub
 use Rattle.std.proofs.lemmas.Bool.Decides.{nat_tests}
 use Rattle.tb_ledger.specs.Batches.{blocks, block_after, blocks_after, timed_from, results_from}
 use Rattle.tb_ledger.specs.Capacity.{capacity_of}
-use Rattle.tb_ledger.specs.Steps.{IsReadyFor}
+use Rattle.tb_ledger.specs.Steps.{IsPreparedFor}
 use Rattle.tb_ledger.specs.Kept.{books_in}
 use Rattle.tb_ledger.proofs.BlockLaws.{length-codes, length-timed_from}
 use Rattle.tb_ledger.proofs.Capacities.{uses_none}
@@ -52,7 +52,7 @@ run_block-requires-clause-ready g c =
     let cut = c.split_at.ensures in
     let ready = c.requires.ready in
     let parts : length rest ≡ length later + length block = omega (arith, cut.front_len, cut.back_len) in
-    let its : IsReadyFor g.E.Event.HasCapacity (length block) rows c.loop-rest.trail c.loop-rest.stamp = record {
+    let its : IsPreparedFor g.E.Event.HasCapacity (length block) rows c.loop-rest.undo_log c.loop-rest.stamp = record {
       kept = v.kept;
       capacity = g.met.E.Event.leaves_rest (length later) (length block) (capacity_of rows) (capacity_of rows) (subst (λ k. g.E.Event.HasCapacity k (capacity_of rows)) parts v.capacity) (uses_none (length later) (capacity_of rows));
       stamped = omega (arith, ready.stamped, v.time, v.stamp);

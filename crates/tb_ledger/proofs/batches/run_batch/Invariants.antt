@@ -12,7 +12,7 @@ invariant-loop-rest g l = let kind = g.E.Event.kind in let start = l.initial.row
   stamp : l.stamp ≡ l.time + l.index;
   kept : IsKept l.rows;
   time : l.rows.time ≡ start.time;
-  log : l.trail.capacity ≡ l.initial.trail.capacity;
+  log : l.undo_log.capacity ≡ l.initial.undo_log.capacity;
   capacity : g.E.Event.HasCapacity (length l.rest) (capacity_of l.rows);
   results_len : vec_len l.results ≤ vec_len l.initial.results + l.index;
   results_capacity : vec_capacity l.results ≡ vec_capacity l.initial.results;

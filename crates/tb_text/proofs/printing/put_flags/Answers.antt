@@ -2,7 +2,7 @@ use Rattle.std.proofs.Common.{arith}
 use Rattle.std.proofs.lemmas.Grind.{common_steps}
 use Rattle.tb_text.specs.declared.words.Flag.TheVariants as flag
 use Rattle.tb_text.specs.Printed.{unnamed}
-use Rattle.tb_text.proofs.Flags.{flag_printed, flag_skipped, flags_printed}
+use Rattle.tb_text.proofs.NamedFlags.{flag_printed, flag_skipped, flags_printed}
 use Rattle.tb_text.proofs.printing.put_flags.Goals.{then-bits-ne0+in_ok-put_flag, else-bits-ne0}
 use Rattle.tb_text.proofs.printing.put_flags.Goals as goal
 

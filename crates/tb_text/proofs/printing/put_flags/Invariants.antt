@@ -1,6 +1,6 @@
 use Rattle.std.proofs.Common.{◌≡◌, ◌++◌, drop}
 use Rattle.tb_text.specs.Printed.{flags_text, unnamed}
-use Rattle.tb_text.proofs.Flags.{flags_from}
+use Rattle.tb_text.proofs.NamedFlags.{flags_from}
 use Rattle.tb_text.proofs.printing.put_flags.Given as goal
 
 abbrev pub invariant-loop-flag : goal.invariant-loop-flag

@@ -1,7 +1,7 @@
 use Rattle.std.proofs.Common.{refl, inl, inr, codes, [], ◌∷◌}
+use Rattle.tb_records.specs.declared.operations.Operation.TheVariants as operation
 use Rattle.tb_text.specs.declared.words.Field.TheVariants as field
 use Rattle.tb_text.specs.declared.words.Flag.TheVariants as flag
-use Rattle.tb_text.specs.declared.words.Operation.TheVariants as operation
 use Rattle.tb_text.specs.declared.words.Word.TheVariants as word
 use Rattle.tb_text.specs.Grammar.{Name, Number, Mark, blank, last_comment, token, one_value, more_values, valued, no_entry, more_entries, last_event, more_events, full_statement, no_statement, more_statements}
 use Rattle.tb_text.proofs.text_laws.worked_events.Goals as goal

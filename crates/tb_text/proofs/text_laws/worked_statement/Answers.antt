@@ -1,6 +1,6 @@
 use Rattle.std.proofs.Common.{refl, inl, codes, [], ◌∷◌}
+use Rattle.tb_records.specs.declared.operations.Operation.TheVariants as operation
 use Rattle.tb_text.specs.declared.words.Field.TheVariants as field
-use Rattle.tb_text.specs.declared.words.Operation.TheVariants as operation
 use Rattle.tb_text.specs.declared.words.Word.TheVariants as word
 use Rattle.tb_text.specs.Grammar.{Name, Number, Mark, nothing, blank, token, one_value, valued, no_entry, more_entries, statement, no_statement, more_statements}
 use Rattle.tb_text.proofs.text_laws.worked_statement.Goals as goal

@@ -15,7 +15,7 @@ returns-in-Ok g c =
     λ p lt. let first : 0 ≡ p = omega arith in
     subst (λ (t : List ℕ). IsOffered sent left.taken t left.ended)
     (c.in-Ok.ensures.places ∙ ap (λ (n : ℕ). places_from n 1 left.owners) (c.requires.own.1 ∙ first)) c.in-Ok.ensures.offered in
-    let grown = c.none_invented.ensures c.args.server.room left.taken left.owners left.refused left.publisher.history 1 (λ p. sent) left.ended
+    let grown = c.none_invented.ensures c.args.server.state left.taken left.owners left.refused left.publisher.history 1 (λ p. sent) left.ended
     c.run-finished.ensures.served have audits in
     let same : left.publisher.history ≡ c.offered_by.new.self.publisher.history = ap (λ (f : Finish). f.publisher.history) (sym c.offered_by.ensures.same) in
-    subst (λ (h : List Entry). GrowsByOffers 1 (λ p. sent) c.args.server.room.history h) same grown
+    subst (λ (h : List Entry). GrowsByOffers 1 (λ p. sent) c.args.server.state.history h) same grown

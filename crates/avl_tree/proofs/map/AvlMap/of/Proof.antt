@@ -53,7 +53,7 @@ module _ (K V A : RattleType) (g : Allocator.Ghosts A.Denot) where
 
   gone : (x : Tr.Denot) (f : Last (Tr.exit no) x) → T (blank (left (Tr.exit no) x f))
   gone Empty f = tt
-  gone (Fork' h p l r k v) f = tt
+  gone (Fork' h p k l r v) f = tt
 
 pub of_spec : {M : Type 1} → statement M
 of_spec 𝓤 𝓛 𝓜 𝓡 wired K V A LK LV LA CK o od e ed pe ped po pod c cd g d ac acd dd _ _ _ _ _ _ _ _ =

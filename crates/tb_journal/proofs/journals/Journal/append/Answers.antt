@@ -1,3 +1,4 @@
+use Rattle.std.proofs.lemmas.Grind.{common_steps}
 use Rattle.std.proofs.Common.{ap, arith, length}
 use Rattle.tb_journal.specs.Contents.{at_rest}
 use Rattle.tb_journal.specs.Ready.{Kept}
@@ -17,3 +18,6 @@ returns-then-content-self-clause-failed g c is = cc
 
 pub returns-then-content-self-clause-not_empty : goal.returns-then-content-self-clause-not_empty
 returns-then-content-self-clause-not_empty g c is = cc
+
+pub invariant_of-self : goal.invariant_of-self
+invariant_of-self g c = grind (arith, common_steps)

@@ -2,14 +2,14 @@ use Rattle.std.proofs.Common.{◌≡◌, ◌+◌, ◌-◌, ◌++◌, [], length,
 use Rattle.tb_ledger.specs.Batches.{results_from, block_after, timed_from}
 use Rattle.tb_ledger.specs.Capacity.{capacity_of, Uses}
 use Rattle.tb_ledger.specs.Kept.{books_in}
-use Rattle.tb_ledger.specs.Trail.{unwound_accounts, unwound_transfers, unwound_timeouts}
+use Rattle.tb_ledger.specs.UndoLog.{unwound_accounts, unwound_transfers, unwound_timeouts}
 use Rattle.tb_ledger.proofs.Capacities.{uses_none, uses_more, uses_both, uses_unwound}
 use Rattle.tb_ledger.proofs.CodeLaws.{results-none}
 use Rattle.tb_ledger.proofs.BlockLaws.{failure-later, all-later, broken-here, passed-here}
 use Rattle.tb_ledger.proofs.RowLaws.{ledger_back, books_back}
 use Rattle.tb_ledger.proofs.batches.chains.run_block.Goals as goal
 
--- an event that is refused leaves rows and trail, so the rows that the trail leads back to are those from before the chain
+-- an event that is refused leaves rows and undo log, so the rows that the log leads back to are those from before the chain
 
 pub unwind-requires : goal.unwind-requires
 unwind-requires g c =
@@ -86,7 +86,7 @@ loop-i-preserved g c =
       stamp = omega (arith, v.stamp);
       within = omega (arith, c.loop-i-test.true);
       uses = uses_more (c.loop-i.i + 1) (c.loop-i.i + 1) _ _ (omega arith) (uses_both c.loop-i.i 1 _ _ _ v.uses t.leaves.capacity);
-      trail = omega (arith, s.grows.length, v.trail);
+      undo_log = omega (arith, s.grows.length, v.undo_log);
       log = s.grows.capacity ∙ v.log;
     }
 
@@ -114,7 +114,7 @@ take_in_chain-requires g c =
         kept = v.kept;
         capacity = g.met.E.Event.leaves_rest i 1 start (capacity_of c.loop-i.rows) some v.uses;
         stamped = omega (arith, ready.stamped, v.time, v.stamp);
-        log = omega (arith, v.trail, v.log, ap (λ t. t.capacity) c.start.ensures, ready.log, c.loop-i-test.true);
+        log = omega (arith, v.undo_log, v.log, ap (λ t. t.capacity) c.start.ensures, ready.log, c.loop-i-test.true);
       };
     }
 
@@ -130,7 +130,7 @@ refuse-requires-clause-capacity g c =
     let parts : length block ≡ length block - (i + 1) + (i + 1) = omega (arith, c.loop-i-test.true) in
     let some : g.E.Event.HasCapacity (i + 1) start = g.met.E.Event.leaves_rest (length block - (i + 1)) (i + 1) start start (subst (λ k. g.E.Event.HasCapacity k start) parts c.requires.ready.capacity) (uses_none (length block - (i + 1)) start) in
     let same = u.timeouts ∙ (λ i. unwound_timeouts (stays.1 i).changes (stays.0 i).timeouts) ∙ back.undo_timeouts in
-    let uses = uses_unwound i c.args.rows.now c.take_in_chain.new.rows c.unwind.new.rows c.take_in_chain.new.trail (subst (λ rows. Uses i start (capacity_of rows)) (sym stays.0) v.uses) u same in
+    let uses = uses_unwound i c.args.rows.now c.take_in_chain.new.rows c.unwind.new.rows c.take_in_chain.new.undo_log (subst (λ rows. Uses i start (capacity_of rows)) (sym stays.0) v.uses) u same in
     g.met.E.Event.leaves_rest i 1 start (capacity_of c.unwind.new.rows) some uses
 
 pub refuse-requires-clause-fresh : goal.refuse-requires-clause-fresh
@@ -152,7 +152,7 @@ returns-in-Err-clause-leaves g c =
     let stays = c.in-Err.ensures.refused in
     let back = v.back c.loop-i-test.true in
     let same = u.timeouts ∙ (λ i. unwound_timeouts (stays.1 i).changes (stays.0 i).timeouts) ∙ back.undo_timeouts in
-    let uses = uses_unwound i c.args.rows.now c.take_in_chain.new.rows c.unwind.new.rows c.take_in_chain.new.trail (subst (λ rows. Uses i start (capacity_of rows)) (sym stays.0) v.uses) u same in
+    let uses = uses_unwound i c.args.rows.now c.take_in_chain.new.rows c.unwind.new.rows c.take_in_chain.new.undo_log (subst (λ rows. Uses i start (capacity_of rows)) (sym stays.0) v.uses) u same in
     record {
       kept = c.refuse.ensures.kept;
       time = c.refuse.ensures.stays.time ∙ u.time ∙ step.time ∙ v.time;

@@ -1,17 +1,17 @@
 use Rattle.std.proofs.Common.{◌≡◌, ◌+◌, ◌*◌, ◌-◌, ◌<◌, ◌≤◌, true, [], length, drop}
-use Rattle.tb_ledger.specs.declared.tables.trail.TheConstants.{TRAIL_PER_EVENT}
+use Rattle.tb_ledger.specs.declared.tables.undo_log.TheConstants.{UNDOS_PER_EVENT}
 use Rattle.tb_ledger.specs.Batches.{failure_from, all_recorded, timed_from}
 use Rattle.tb_ledger.specs.Capacity.{capacity_of, Uses}
 use Rattle.tb_ledger.specs.Kept.{books_in, IsKept}
-use Rattle.tb_ledger.specs.Trail.{LeadsBack}
+use Rattle.tb_ledger.specs.UndoLog.{LeadsBack}
 use Rattle.tb_ledger.proofs.batches.chains.run_block.Given as goal
 
 abbrev pub invariant-loop-i : goal.invariant-loop-i
 invariant-loop-i g l = let kind = g.E.Event.kind in let start = l.initial.rows in record {
   failure : failure_from kind l.i (books_in l.rows) (timed_from l.stamp (drop l.i l.block)) ≡ failure_from kind 0 (books_in start) (timed_from l.time l.block);
   all : all_recorded kind (books_in l.rows) (timed_from l.stamp (drop l.i l.block)) ≡ all_recorded kind (books_in start) (timed_from l.time l.block);
-  noting : 1 < length l.block → l.trail.noting ≡ true;
-  back : l.i < length l.block → LeadsBack start l.rows [] l.trail.changes;
+  noting : 1 < length l.block → l.undo_log.noting ≡ true;
+  back : l.i < length l.block → LeadsBack start l.rows [] l.undo_log.changes;
   failed : l.rows.failed ≡ start.failed;
   keeps : l.rows.keeps_failed ≡ start.keeps_failed;
   time : l.rows.time ≡ start.time;
@@ -20,8 +20,8 @@ invariant-loop-i g l = let kind = g.E.Event.kind in let start = l.initial.rows i
   stamp : l.stamp ≡ l.time + l.i;
   within : l.i ≤ length l.block;
   uses : Uses l.i (capacity_of start) (capacity_of l.rows);
-  trail : length l.trail.changes ≤ TRAIL_PER_EVENT * l.i;
-  log : l.trail.capacity ≡ l.initial.trail.capacity;
+  undo_log : length l.undo_log.changes ≤ UNDOS_PER_EVENT * l.i;
+  log : l.undo_log.capacity ≡ l.initial.undo_log.capacity;
 }
 
 abbrev pub decreases-loop-i : goal.decreases-loop-i

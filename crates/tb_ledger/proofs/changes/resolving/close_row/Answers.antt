@@ -1,8 +1,8 @@
 use Rattle.std.proofs.Common.{◌≡◌, ◌==◌, find, Some, refl, sym, subst, ap, ◌∙◌, rules}
 use Rattle.tb_records.specs.Ordered.{replaced}
-use Rattle.tb_ledger.specs.declared.tables.trail.Undo.TheVariants.{Transfer}
+use Rattle.tb_ledger.specs.declared.tables.undo_log.Undo.TheVariants.{Transfer}
 use Rattle.tb_ledger.specs.Kept.{settled, transfer_row_key}
-use Rattle.tb_ledger.proofs.Trails.{grown_by, undone_close, undone_timeouts, can_undone, other_accounts}
+use Rattle.tb_ledger.proofs.UndoLogs.{grown_by, undone_close, undone_timeouts, can_undone, other_accounts}
 use Rattle.tb_ledger.proofs.Settled.{stored}
 use Rattle.tb_ledger.proofs.Index.{undone_unlisted, can_relist}
 use Rattle.tb_ledger.proofs.changes.resolving.close_row.Goals as goal
@@ -38,9 +38,9 @@ returns-clause-marked g c =
     let left_is : ch.left ≡ settled c.args.state ch.row = search rules in
     let the_row : ch.row ≡ p = let e : Some ch.row ≡ Some p = sym found ∙ c.requires.found in cc in
     let closed : later ≡ replaced transfer_row_key (settled c.args.state p) transfers = ch.written ∙ ap (λ row. replaced transfer_row_key row transfers) (left_is ∙ ap (settled c.args.state) the_row) in
-    let us = c.args.trail.now.changes in
+    let us = c.args.undo_log.now.changes in
     let more = c.note_changed.new.self.changes in
-    grown_by (Transfer p) c.args.trail.now c.note_changed.new.self c.note_changed.ensures (λ pushed. record {
+    grown_by (Transfer p) c.args.undo_log.now c.note_changed.new.self c.note_changed.ensures (λ pushed. record {
       undo_accounts = other_accounts us more (Transfer p) (λ rows. refl) pushed;
       undo_transfers = undone_close us more p (settled c.args.state p) transfers later pushed closed c.requires.found;
       undo_timeouts = undone_timeouts us more (Transfer p) ts moved pushed (rw taken back);

@@ -2,15 +2,15 @@ use Rattle.std.proofs.Common.{◌≡◌, refl, sym, subst, ap, ◌∙◌, ◌==�
 use Rattle.tb_records.specs.Ordered.{put, replaced}
 use Rattle.tb_records.specs.TransferResults.{transfer_result_code}
 use Rattle.tb_ledger.specs.Books.{closing_debit, closing_credit}
-use Rattle.tb_ledger.specs.Exchanges.{row_at}
+use Rattle.tb_ledger.specs.Exchanges.{account_row_at}
 use Rattle.tb_ledger.specs.Kept.{on_debits, on_credits, released_and_gained, accounts_released_and_gained, settled, listed, IsIndex, transfer_row_key, new_transfer_row}
 use Rattle.tb_ledger.specs.Noted.{with_noted}
-use Rattle.tb_ledger.specs.declared.tables.trail.Undo.TheVariants.{Account}
-use Rattle.tb_ledger.specs.Trail.{IsMarked}
+use Rattle.tb_ledger.specs.declared.tables.undo_log.Undo.TheVariants.{Account}
+use Rattle.tb_ledger.specs.UndoLog.{IsMarked}
 use Rattle.tb_ledger.proofs.Capacities.{leaves_still, listed_spare, unlisted_spare}
 use Rattle.tb_ledger.proofs.Passing.{noted_two}
 use Rattle.tb_ledger.proofs.Refusals.{handed_on, on_err}
-use Rattle.tb_ledger.proofs.Trails.{grows_both}
+use Rattle.tb_ledger.proofs.UndoLogs.{grows_both}
 use Rattle.tb_ledger.proofs.Settled.{refound, same_debit, same_credit, apart, at_most, debit_enough, credit_enough, fresh_still, listed_before, not_timed, index_with_resolver, books_with_resolver, ledger_with_resolver}
 use Rattle.tb_ledger.proofs.VerdictLaws.{debit_there, credit_there, closed_by_rows}
 use Rattle.tb_ledger.proofs.changes.resolving.settle.Goals as goal
@@ -23,12 +23,12 @@ settle_accounts-requires-clause-apart g c =
 pub settle_accounts-requires-clause-debit : goal.settle_accounts-requires-clause-debit
 settle_accounts-requires-clause-debit g c =
     let rows = c.args.rows.now in
-    subst (λ id. IsSome (row_at rows.accounts.items id)) (sym (same_debit rows.accounts.items rows.transfers.items rows.failed.items rows.keeps_failed rows.timeouts.items rows.time c.requires.kept c.args.p.now c.args.r.now c.requires.resolution.found c.requires.resolution.pending c.requires.resolution.is_resolver)) (debit_there rows c.requires.kept c.args.r.now.pending_id c.args.p.now c.requires.resolution.found)
+    subst (λ id. IsSome (account_row_at rows.accounts.items id)) (sym (same_debit rows.accounts.items rows.transfers.items rows.failed.items rows.keeps_failed rows.timeouts.items rows.time c.requires.kept c.args.p.now c.args.r.now c.requires.resolution.found c.requires.resolution.pending c.requires.resolution.is_resolver)) (debit_there rows c.requires.kept c.args.r.now.pending_id c.args.p.now c.requires.resolution.found)
 
 pub settle_accounts-requires-clause-credit : goal.settle_accounts-requires-clause-credit
 settle_accounts-requires-clause-credit g c =
     let rows = c.args.rows.now in
-    subst (λ id. IsSome (row_at rows.accounts.items id)) (sym (same_credit rows.accounts.items rows.transfers.items rows.failed.items rows.keeps_failed rows.timeouts.items rows.time c.requires.kept c.args.p.now c.args.r.now c.requires.resolution.found c.requires.resolution.pending c.requires.resolution.is_resolver)) (credit_there rows c.requires.kept c.args.r.now.pending_id c.args.p.now c.requires.resolution.found)
+    subst (λ id. IsSome (account_row_at rows.accounts.items id)) (sym (same_credit rows.accounts.items rows.transfers.items rows.failed.items rows.keeps_failed rows.timeouts.items rows.time c.requires.kept c.args.p.now c.args.r.now c.requires.resolution.found c.requires.resolution.pending c.requires.resolution.is_resolver)) (credit_there rows c.requires.kept c.args.r.now.pending_id c.args.p.now c.requires.resolution.found)
 
 pub settle_accounts-requires-clause-can_debit : goal.settle_accounts-requires-clause-can_debit
 settle_accounts-requires-clause-can_debit g c a there =
@@ -70,8 +70,8 @@ returns-clause-judged g c =
     let p = c.args.p.now in
     let r = c.args.r.now in
     let at = c.in_ok-settle_accounts.ensures.settled in
-    let debit = ap (λ id. row_at rows.accounts.items id) (sym (same_debit rows.accounts.items rows.transfers.items rows.failed.items rows.keeps_failed rows.timeouts.items rows.time c.requires.kept c.args.p.now c.args.r.now c.requires.resolution.found c.requires.resolution.pending c.requires.resolution.is_resolver)) ∙ at.debit_there in
-    let credit = ap (λ id. row_at rows.accounts.items id) (sym (same_credit rows.accounts.items rows.transfers.items rows.failed.items rows.keeps_failed rows.timeouts.items rows.time c.requires.kept c.args.p.now c.args.r.now c.requires.resolution.found c.requires.resolution.pending c.requires.resolution.is_resolver)) ∙ at.credit_there in
+    let debit = ap (λ id. account_row_at rows.accounts.items id) (sym (same_debit rows.accounts.items rows.transfers.items rows.failed.items rows.keeps_failed rows.timeouts.items rows.time c.requires.kept c.args.p.now c.args.r.now c.requires.resolution.found c.requires.resolution.pending c.requires.resolution.is_resolver)) ∙ at.debit_there in
+    let credit = ap (λ id. account_row_at rows.accounts.items id) (sym (same_credit rows.accounts.items rows.transfers.items rows.failed.items rows.keeps_failed rows.timeouts.items rows.time c.requires.kept c.args.p.now c.args.r.now c.requires.resolution.found c.requires.resolution.pending c.requires.resolution.is_resolver)) ∙ at.credit_there in
     sym (closed_by_rows rows c.requires.kept r p.recorded at.debit at.credit debit credit 0 (sym at.judged))
 
 pub returns-clause-leaves : goal.returns-clause-leaves
@@ -87,10 +87,10 @@ returns-clause-leaves g c =
     let has = c.in_ok-settle_accounts.ensures.settled in
     let d = has.debit in
     let k = has.credit in
-    let mid = with_noted (Account d) c.args.trail.now in
+    let mid = with_noted (Account d) c.args.undo_log.now in
     let differ = apart rows.accounts.items rows.transfers.items rows.failed.items rows.keeps_failed rows.timeouts.items rows.time c.requires.kept c.args.p.now c.args.r.now c.requires.resolution.found c.requires.resolution.pending c.requires.resolution.is_resolver in
-    let noted = noted_two r.debit_account_id r.credit_account_id (on_debits (released_and_gained closing_debit p.recorded r)) (on_credits (released_and_gained closing_credit p.recorded r)) d k rows.accounts.items c.settle_accounts.new.accounts.items c.args.trail.now mid c.settle_accounts.new.trail (λ y. refl) (λ y. refl) refl (has.leaves.1 (omega (arith, c.requires.log))) differ has.debit_there has.credit_there moved_on in
-    let marked : IsMarked 2 rows.transfers.items c.add_row.new.transfers.items rows.timeouts c.add_row.new.timeouts c.settle_accounts.new.trail c.add_row.new.trail = grows_both 1 1 2 c.settle_accounts.new.trail c.close_row.new.trail c.add_row.new.trail c.close_row.ensures.marked c.add_row.ensures.marked (omega arith) (λ us vs ws first second. record {
+    let noted = noted_two r.debit_account_id r.credit_account_id (on_debits (released_and_gained closing_debit p.recorded r)) (on_credits (released_and_gained closing_credit p.recorded r)) d k rows.accounts.items c.settle_accounts.new.accounts.items c.args.undo_log.now mid c.settle_accounts.new.undo_log (λ y. refl) (λ y. refl) refl (has.leaves.1 (omega (arith, c.requires.log))) differ has.debit_there has.credit_there moved_on in
+    let marked : IsMarked 2 rows.transfers.items c.add_row.new.transfers.items rows.timeouts c.add_row.new.timeouts c.settle_accounts.new.undo_log c.add_row.new.undo_log = grows_both 1 1 2 c.settle_accounts.new.undo_log c.close_row.new.undo_log c.add_row.new.undo_log c.close_row.ensures.marked c.add_row.ensures.marked (omega arith) (λ us vs ws first second. record {
       undo_accounts = λ accounts. second.undo_accounts accounts ∙ first.undo_accounts accounts;
       undo_transfers = second.undo_transfers ∙ first.undo_transfers;
       undo_timeouts = second.undo_timeouts ∙ first.undo_timeouts;
@@ -102,7 +102,7 @@ returns-clause-leaves g c =
         failed = refl;
         keeps_failed = refl;
         time = refl;
-        grows = grows_both 2 2 4 c.args.trail.now c.settle_accounts.new.trail c.add_row.new.trail noted marked (omega arith) (λ us vs ws first second. record {
+        grows = grows_both 2 2 4 c.args.undo_log.now c.settle_accounts.new.undo_log c.add_row.new.undo_log noted marked (omega arith) (λ us vs ws first second. record {
           undo_accounts = second.undo_accounts c.settle_accounts.new.accounts.items ∙ first.undo_accounts;
           undo_transfers = second.undo_transfers ∙ first.undo_transfers rows.transfers.items;
           undo_timeouts = second.undo_timeouts ∙ first.undo_timeouts rows.timeouts;
@@ -124,8 +124,8 @@ returns-in_err-settle_accounts-clause-judged g c =
     let p = c.args.p.now in
     let r = c.args.r.now in
     let at = c.in_err-settle_accounts.ensures.settled in
-    let debit = ap (λ id. row_at rows.accounts.items id) (sym (same_debit rows.accounts.items rows.transfers.items rows.failed.items rows.keeps_failed rows.timeouts.items rows.time c.requires.kept c.args.p.now c.args.r.now c.requires.resolution.found c.requires.resolution.pending c.requires.resolution.is_resolver)) ∙ at.debit_there in
-    let credit = ap (λ id. row_at rows.accounts.items id) (sym (same_credit rows.accounts.items rows.transfers.items rows.failed.items rows.keeps_failed rows.timeouts.items rows.time c.requires.kept c.args.p.now c.args.r.now c.requires.resolution.found c.requires.resolution.pending c.requires.resolution.is_resolver)) ∙ at.credit_there in
+    let debit = ap (λ id. account_row_at rows.accounts.items id) (sym (same_debit rows.accounts.items rows.transfers.items rows.failed.items rows.keeps_failed rows.timeouts.items rows.time c.requires.kept c.args.p.now c.args.r.now c.requires.resolution.found c.requires.resolution.pending c.requires.resolution.is_resolver)) ∙ at.debit_there in
+    let credit = ap (λ id. account_row_at rows.accounts.items id) (sym (same_credit rows.accounts.items rows.transfers.items rows.failed.items rows.keeps_failed rows.timeouts.items rows.time c.requires.kept c.args.p.now c.args.r.now c.requires.resolution.found c.requires.resolution.pending c.requires.resolution.is_resolver)) ∙ at.credit_there in
     let refusal = c.in_err-settle_accounts.field-0.0 in
     let code = sym (closed_by_rows rows c.requires.kept r p.recorded at.debit at.credit debit credit (transfer_result_code refusal) (sym at.judged.0)) in
     handed_on transfer_result_code c.from_residual.result refusal _ c.from_residual.ensures.1 (code, at.judged.1)

@@ -4,16 +4,16 @@ use Rattle.tb_records.specs.TransferResults.{transfer_result_code}
 use Rattle.tb_ledger.specs.Books.{account_now}
 use Rattle.tb_ledger.specs.Exchanges.{as_recorded}
 use Rattle.tb_ledger.specs.Noted.{with_noted}
-use Rattle.tb_ledger.specs.declared.tables.trail.Undo.TheVariants.{Account}
+use Rattle.tb_ledger.specs.declared.tables.undo_log.Undo.TheVariants.{Account}
 use Rattle.tb_ledger.specs.Kept.{books_in, row_now, transfer_row_key, times_out, listed, new_transfer_row, CanList, IsIndex}
 use Rattle.tb_ledger.specs.Sound.{transfer_key}
-use Rattle.tb_ledger.specs.Verdicts.{first_of, single_own_lines, transfer_verdict, balanced_between}
+use Rattle.tb_ledger.specs.Verdicts.{first_of, single_own_tests, transfer_verdict, balanced_between}
 use Rattle.tb_ledger.proofs.Accepted.{new_transfer, accounts_apart}
 use Rattle.tb_ledger.proofs.Capacities.{leaves_still, listed_spare}
 use Rattle.tb_ledger.proofs.Index.{not_listed_yet, index_added}
 use Rattle.tb_ledger.proofs.Passing.{noted_passed}
 use Rattle.tb_ledger.proofs.Refusals.{handed_on, on_err}
-use Rattle.tb_ledger.proofs.Trails.{grows_both}
+use Rattle.tb_ledger.proofs.UndoLogs.{grows_both}
 use Rattle.tb_ledger.proofs.Settled.{no_row, books_with_single, ledger_with_single}
 use Rattle.tb_ledger.proofs.VerdictLaws.{account_stands, single_verdict, verdict_by_rows, balanced_found, recorded_pair, own_refused, recorded_single}
 use Rattle.tb_ledger.proofs.changes.single.take_single.Goals as goal
@@ -32,7 +32,7 @@ add_row-requires-clause-fresh g c =
     let rows = c.args.rows.now in
     let B = books_in rows in
     let t = c.args.t.now in
-    let own : first_of (single_own_lines t) ≡ 0 = c.in_ok-single_own.ensures in
+    let own : first_of (single_own_tests t) ≡ 0 = c.in_ok-single_own.ensures in
     let amount_is = c.in_ok-amount.amount in
     let ex = c.in_ok-amount.ensures.exchanged.1 in
     let debit = account_stands rows c.requires.ready.kept t.debit_account_id ∙ ap (option_map row_now) ex.debit_there in
@@ -50,7 +50,7 @@ add_row-requires-clause-can_list g c =
     let rows = c.args.rows.now in
     let B = books_in rows in
     let t = c.args.t.now in
-    let own : first_of (single_own_lines t) ≡ 0 = c.in_ok-single_own.ensures in
+    let own : first_of (single_own_tests t) ≡ 0 = c.in_ok-single_own.ensures in
     let amount_is = c.in_ok-amount.amount in
     let ex = c.in_ok-amount.ensures.exchanged.1 in
     let debit = account_stands rows c.requires.ready.kept t.debit_account_id ∙ ap (option_map row_now) ex.debit_there in
@@ -70,7 +70,7 @@ add_row-requires-clause-can_list g c =
 
 pub returns-clause-judged : goal.returns-clause-judged
 returns-clause-judged g c =
-    let own : first_of (single_own_lines c.args.t.now) ≡ 0 = c.in_ok-single_own.ensures in
+    let own : first_of (single_own_tests c.args.t.now) ≡ 0 = c.in_ok-single_own.ensures in
     verdict_by_rows c.args.rows.now c.requires.ready.kept c.args.t.now c.args.time c.requires.free c.requires.single own ∙ c.in_ok-amount.ensures.exchanged.0
 
 pub returns-clause-done : goal.returns-clause-done
@@ -78,7 +78,7 @@ returns-clause-done g c =
     let rows = c.args.rows.now in
     let B = books_in rows in
     let t = c.args.t.now in
-    let own : first_of (single_own_lines t) ≡ 0 = c.in_ok-single_own.ensures in
+    let own : first_of (single_own_tests t) ≡ 0 = c.in_ok-single_own.ensures in
     let amount_is = c.in_ok-amount.amount in
     let ex = c.in_ok-amount.ensures.exchanged.1 in
     let debit = account_stands rows c.requires.ready.kept t.debit_account_id ∙ ap (option_map row_now) ex.debit_there in
@@ -95,7 +95,7 @@ returns-clause-leaves g c =
     let rows = c.args.rows.now in
     let B = books_in rows in
     let t = c.args.t.now in
-    let own : first_of (single_own_lines t) ≡ 0 = c.in_ok-single_own.ensures in
+    let own : first_of (single_own_tests t) ≡ 0 = c.in_ok-single_own.ensures in
     let amount_is = c.in_ok-amount.amount in
     let ex = c.in_ok-amount.ensures.exchanged.1 in
     let debit = account_stands rows c.requires.ready.kept t.debit_account_id ∙ ap (option_map row_now) ex.debit_there in
@@ -115,14 +115,14 @@ returns-clause-leaves g c =
     let listed_is = c.add_row.ensures.timeouts ∙ ap (λ row. listed row rows.timeouts) c.row_of-row.ensures.row in
     let index : IsIndex c.add_row.new.transfers.items c.add_row.new.timeouts.items = rw (listed_is, added) (index_added rows.transfers.items rows.timeouts c.requires.ready.kept.index (new_transfer_row recorded) fresh (λ _. c.row_of-row.ensures.fits) can) in
     let apart = accounts_apart t c.in_ok-single_own.ensures in
-    let noted = noted_passed (as_recorded t amount_is c.args.time) ex.debit ex.credit rows.accounts.items c.exchange.new.accounts.items c.args.trail.now (with_noted (Account ex.debit) c.args.trail.now) c.exchange.new.trail refl (ex.notes (omega (arith, c.requires.ready.log))) apart ex.debit_there ex.credit_there ex.written in
+    let noted = noted_passed (as_recorded t amount_is c.args.time) ex.debit ex.credit rows.accounts.items c.exchange.new.accounts.items c.args.undo_log.now (with_noted (Account ex.debit) c.args.undo_log.now) c.exchange.new.undo_log refl (ex.notes (omega (arith, c.requires.ready.log))) apart ex.debit_there ex.credit_there ex.written in
     record {
       kept = ledger_with_single rows.accounts.items rows.transfers.items rows.failed.items rows.keeps_failed rows.timeouts.items rows.time c.requires.ready.kept recorded c.exchange.new.accounts.items c.add_row.new.transfers.items ex.written added c.add_row.new.timeouts.items new c.requires.single c.requires.ready.stamped moves index;
       step = record {
         failed = refl;
         keeps_failed = refl;
         time = refl;
-        grows = grows_both 2 1 4 c.args.trail.now c.exchange.new.trail c.add_row.new.trail noted c.add_row.ensures.marked (omega arith) (λ us vs ws first second. record {
+        grows = grows_both 2 1 4 c.args.undo_log.now c.exchange.new.undo_log c.add_row.new.undo_log noted c.add_row.ensures.marked (omega arith) (λ us vs ws first second. record {
           undo_accounts = second.undo_accounts c.exchange.new.accounts.items ∙ first.undo_accounts;
           undo_transfers = second.undo_transfers ∙ first.undo_transfers rows.transfers.items;
           undo_timeouts = second.undo_timeouts ∙ first.undo_timeouts rows.timeouts;
@@ -140,7 +140,7 @@ returns-clause-leaves g c =
 
 pub returns-in_err-amount-clause-judged : goal.returns-in_err-amount-clause-judged
 returns-in_err-amount-clause-judged g c =
-    let own : first_of (single_own_lines c.args.t.now) ≡ 0 = c.in_ok-single_own.ensures in
+    let own : first_of (single_own_tests c.args.t.now) ≡ 0 = c.in_ok-single_own.ensures in
     let judged = c.in_err-amount.ensures.exchanged.0 in
     let code = verdict_by_rows c.args.rows.now c.requires.ready.kept c.args.t.now c.args.time c.requires.free c.requires.single own ∙ judged.0 in
     handed_on transfer_result_code c.from_residual-in_err-amount.result c.in_err-amount.field-0.0 _ c.from_residual-in_err-amount.ensures.1 (code, judged.1)

@@ -3,7 +3,7 @@ use Rattle.tb_records.specs.TransferResults.{transfer_result_code}
 use Rattle.tb_ledger.specs.Kept.{books_in}
 use Rattle.tb_ledger.specs.Found.{FoundPending}
 use Rattle.tb_ledger.specs.Settlings.{closed_code}
-use Rattle.tb_ledger.specs.Verdicts.{filled_from, first_of, named_lines, resolve_code}
+use Rattle.tb_ledger.specs.Verdicts.{filled_from, first_of, named_tests, resolve_code}
 use Rattle.tb_ledger.proofs.Accepted.{filled_found}
 use Rattle.tb_ledger.proofs.Refusals.{err_handed_on}
 use Rattle.tb_ledger.proofs.VerdictLaws.{transfer_stands, resolve_missing, resolve_found, named_row, pending_fits, pair_first, pair_second}
@@ -25,7 +25,7 @@ returns-in_err-resolve_named-in-Some-clause-refused g c =
     let p = c.in-Some.p.now in
     let refusal = c.in_err-resolve_named-in-Some.field-0.0 in
     let judged = c.in_err-resolve_named-in-Some.ensures in
-    let named : transfer_result_code refusal ≡ first_of (named_lines t p.recorded p.state) = sym judged.0 ∙ ap (λ q. first_of (named_lines t q c.state.result)) c.recorded-pending.ensures ∙ ap (λ s. first_of (named_lines t p.recorded s)) c.state.ensures in
+    let named : transfer_result_code refusal ≡ first_of (named_tests t p.recorded p.state) = sym judged.0 ∙ ap (λ q. first_of (named_tests t q c.state.result)) c.recorded-pending.ensures ∙ ap (λ s. first_of (named_tests t p.recorded s)) c.state.ensures in
     let found = transfer_stands rows t.pending_id ∙ ap (option_map (λ p. p.recorded)) (sym c.in-Some.ensures) in
     let code = resolve_found B t p.recorded c.in_ok-resolve_own.ensures found
     ∙ named_row rows c.requires.kept t.pending_id p (sym c.in-Some.ensures) t (transfer_result_code refusal) (closed_code B t p.recorded) named refl
@@ -38,7 +38,7 @@ returns-in_ok-resolve_named-in-Some-clause-left g c =
     let B = books_in rows in
     let t = c.args.t.now in
     let p = c.in-Some.p.now in
-    let named : 0 ≡ first_of (named_lines t p.recorded p.state) = sym c.in_ok-resolve_named-in-Some.ensures ∙ ap (λ q. first_of (named_lines t q c.state.result)) c.recorded-pending.ensures ∙ ap (λ s. first_of (named_lines t p.recorded s)) c.state.ensures in
+    let named : 0 ≡ first_of (named_tests t p.recorded p.state) = sym c.in_ok-resolve_named-in-Some.ensures ∙ ap (λ q. first_of (named_tests t q c.state.result)) c.recorded-pending.ensures ∙ ap (λ s. first_of (named_tests t p.recorded s)) c.state.ensures in
     let found = transfer_stands rows t.pending_id ∙ ap (option_map (λ p. p.recorded)) (sym c.in-Some.ensures) in
     resolve_found B t p.recorded c.in_ok-resolve_own.ensures found
     ∙ named_row rows c.requires.kept t.pending_id p (sym c.in-Some.ensures) t 0 (closed_code B t p.recorded) named refl
@@ -54,6 +54,6 @@ pub returns-in_ok-resolve_named-in-Some-clause-found : goal.returns-in_ok-resolv
 returns-in_ok-resolve_named-in-Some-clause-found g c =
     let t = c.args.t.now in
     let p = c.in-Some.p.now in
-    let named : first_of (named_lines t p.recorded p.state) ≡ 0 = sym (ap (λ q. first_of (named_lines t q c.state.result)) c.recorded-pending.ensures ∙ ap (λ s. first_of (named_lines t p.recorded s)) c.state.ensures) ∙ c.in_ok-resolve_named-in-Some.ensures in
+    let named : first_of (named_tests t p.recorded p.state) ≡ 0 = sym (ap (λ q. first_of (named_tests t q c.state.result)) c.recorded-pending.ensures ∙ ap (λ s. first_of (named_tests t p.recorded s)) c.state.ensures) ∙ c.in_ok-resolve_named-in-Some.ensures in
     let fits = pending_fits c.args.rows.now c.requires.kept p t (sym c.in-Some.ensures) c.requires.resolving c.in_ok-resolve_own.ensures named in
     subst (FoundPending (books_in c.args.rows.now)) (sym (c.filled.ensures ∙ ap (λ p. filled_from p t) c.recorded-pending.ensures)) fits

@@ -2,7 +2,7 @@ use Rattle.std.proofs.Common.{Some, sym, subst, ap, ◌∙◌, option_map}
 use Rattle.tb_records.specs.TransferResults.{transfer_result_code}
 use Rattle.tb_ledger.specs.Found.{Judges}
 use Rattle.tb_ledger.specs.Kept.{books_in}
-use Rattle.tb_ledger.specs.Verdicts.{filled, first_of, transfer_exists_lines}
+use Rattle.tb_ledger.specs.Verdicts.{filled, first_of, transfer_exists_tests}
 use Rattle.tb_ledger.proofs.VerdictLaws.{transfer_stands, id_there_judged, id_free}
 use Rattle.tb_ledger.proofs.verdicts.transfer.judge_id.Goals as goal
 
@@ -11,7 +11,7 @@ returns-in-Some-clause-judged g c =
     let t = c.args.t.now in
     id_there_judged (books_in c.args.rows.now) t c.in-Some.e.now.recorded c.repeated.result c.in_ok-transfer_own.ensures.judged
     (transfer_stands c.args.rows.now t.id ∙ ap (option_map (λ t. t.recorded)) (sym c.in-Some.ensures))
-    (c.repeated.ensures ∙ ap (λ e. first_of (transfer_exists_lines (Some e) (filled (books_in c.args.rows.now) t))) c.recorded.ensures)
+    (c.repeated.ensures ∙ ap (λ e. first_of (transfer_exists_tests (Some e) (filled (books_in c.args.rows.now) t))) c.recorded.ensures)
 
 pub returns-in-None-clause-judged : goal.returns-in-None-clause-judged
 returns-in-None-clause-judged g c =

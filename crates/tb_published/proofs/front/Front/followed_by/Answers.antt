@@ -1,7 +1,7 @@
 use Rattle.std.proofs.Common.{◌≡◌, ◌+◌, ◌++◌, ◌∷◌, [], length, sym, ◌∙◌, ap, subst, IsTrue}
 use Rattle.logbook.specs.Pages.{step}
 use Rattle.tb_machine.specs.Histories.{fits}
-use Rattle.tb_published.specs.Lines.{Line, state_of}
+use Rattle.tb_published.specs.Prefixes.{Prefix, state_of}
 use Rattle.tb_published.proofs.Adding.{adds_moves, added, front_on}
 use Rattle.tb_published.proofs.front.Front.followed_by.Goals as goal
 
@@ -11,7 +11,7 @@ compare_exchange-found-requires c =
     let seen = c.again-seen.ensures in
     let pen = c.no_pen-pen.ensures in
     let offer = c.plain-offer.ensures in
-    let book : c.again-seen.result.book ≡ c.args.head.now.book = ap (λ s. s.book) seen ∙ (ap (λ (l : Line). l.opening.book) c.self.view_is ∙ sym (ap (λ w. w.book) h)) in
+    let book : c.again-seen.result.book ≡ c.args.head.now.book = ap (λ s. s.book) seen ∙ (ap (λ (l : Prefix). l.opening.book) c.self.view_is ∙ sym (ap (λ w. w.book) h)) in
     let count : length c.again-seen.result.log ≡ c.self.inside.count = ap (λ s. length s.log) seen ∙ sym c.self.invariant.0 in (
       ap (λ w. w.tracked) h,
       book,
@@ -22,7 +22,7 @@ compare_exchange-found-requires c =
 
 pub invariant_of-result : goal.invariant_of-result
 invariant_of-result c =
-    let next = subst (λ (l : Line). IsTrue (fits (state_of l) c.args.entry.now)) (sym c.self.view_is) c.requires.next in
+    let next = subst (λ (l : Prefix). IsTrue (fits (state_of l) c.args.entry.now)) (sym c.self.view_is) c.requires.next in
     let grown : c.compare_exchange-found.new.seen.log ≡ c.self.inside.seen.log ++ c.args.entry.now ∷ [] =
     added (step c.args.head.now.key c.self.inside.count (c.self.inside.count + 1) c.plain-offer.result.ask)
     (c.again-seen.result.log, (c.no_pen-pen.result.nib, c.plain-offer.result.state)) c.compare_exchange-found.result

@@ -1,6 +1,6 @@
 use Rattle.std.proofs.Common.{◌∙◌, ap, subst, sym}
 use mathlib.Core.List.{IsPrefix}
-use Rattle.tb_published.specs.Ties.{Ends}
+use Rattle.tb_published.specs.Openings.{Ends}
 use Rattle.tb_published.proofs.Tied.{within_history}
 use Rattle.tb_published.proofs.publisher.Publisher.beside.Goals as goal
 

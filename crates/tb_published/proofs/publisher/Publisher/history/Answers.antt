@@ -1,6 +1,6 @@
 use Rattle.std.proofs.Common.{subst}
 use mathlib.Core.List.{IsPrefix}
-use Rattle.tb_published.specs.Ties.{Ends}
+use Rattle.tb_published.specs.Openings.{Ends}
 use Rattle.tb_published.proofs.Tied.{shown_front}
 use Rattle.tb_published.proofs.publisher.Publisher.history.Goals as goal
 

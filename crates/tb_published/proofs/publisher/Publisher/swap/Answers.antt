@@ -1,12 +1,12 @@
 use Rattle.std.proofs.Common.{subst}
 use mathlib.Core.List.{IsPrefix}
 use Rattle.std.specs.Option.{option_to_list}
-use Rattle.tb_published.specs.Ties.{Ends}
+use Rattle.tb_published.specs.Openings.{Ends}
 use Rattle.tb_published.proofs.Tied.{follows_split, tied_swap}
 use Rattle.tb_published.proofs.publisher.Publisher.swap.Goals as goal
 
 pub swap-requires : goal.swap-requires
-swap-requires g c = let copies = c.self.inside.copies in (follows_split copies.shown copies.orders (option_to_list c.self.inside.waiting) c.self.invariant.follows).0
+swap-requires g c = let copies = c.self.inside.copies in (follows_split copies.shown copies.posted (option_to_list c.self.inside.waiting) c.self.invariant.follows).0
 
 pub invariant_of-self : goal.invariant_of-self
 invariant_of-self g c = (tied_swap c.swap.result c.self.inside.offered c.self.inside.copies c.self.inside.waiting c.swap.new.self c.self.invariant c.swap.ensures).0

@@ -1,18 +1,18 @@
 use Rattle.std.proofs.Common.{◌≡◌, ◌+◌, length, IsTrue, sym, ◌∙◌, subst, arith, eqb-true}
 use Rattle.tb_machine.specs.Histories.{fits, step}
-use Rattle.tb_published.specs.Lines.{Line, state_of}
-use Rattle.tb_published.specs.Orders.{Order}
+use Rattle.tb_published.specs.Prefixes.{Prefix, state_of}
+use Rattle.tb_published.specs.PostedEntries.{PostedEntry}
 use Rattle.tb_published.proofs.Lengthened.{comes}
 use Rattle.tb_published.proofs.replica.Replica.comes_next.Goals as goal
 
 pub returns-clause-fits : goal.returns-clause-fits
 returns-clause-fits g c = λ is.
-    let len : length c.order.inside.front.list ≡ length c.self.inside.front.list + 1 = omega (arith, eqb-true _ _ is, c.if-its-mine.false, c.len-its.ensures.count, c.len-mine.ensures.count) in
-    let both = comes c.self.inside.front c.order.inside.front c.longer-both.result c.order.inside.entry (c.order.invariant.0 ∙ sym c.self.invariant.0) c.len-its.ensures.legal c.longer-both.ensures.this c.longer-both.ensures.that c.order.invariant.1 len in
-    subst (λ (l : Line). IsTrue (fits (state_of l) c.args.order.now.entry)) c.self.view_is (subst (λ (o : Order). IsTrue (fits (state_of c.self.inside.front) o.entry)) c.order.view_is both.0)
+    let len : length c.posted.inside.front.list ≡ length c.self.inside.front.list + 1 = omega (arith, eqb-true _ _ is, c.if-its-mine.false, c.len-its.ensures.count, c.len-mine.ensures.count) in
+    let both = comes c.self.inside.front c.posted.inside.front c.longer-both.result c.posted.inside.entry (c.posted.invariant.0 ∙ sym c.self.invariant.0) c.len-its.ensures.legal c.longer-both.ensures.this c.longer-both.ensures.that c.posted.invariant.1 len in
+    subst (λ (l : Prefix). IsTrue (fits (state_of l) c.args.posted.now.entry)) c.self.view_is (subst (λ (o : PostedEntry). IsTrue (fits (state_of c.self.inside.front) o.entry)) c.posted.view_is both.0)
 
 pub returns-clause-leads : goal.returns-clause-leads
 returns-clause-leads g c = λ is.
-    let len : length c.order.inside.front.list ≡ length c.self.inside.front.list + 1 = omega (arith, eqb-true _ _ is, c.if-its-mine.false, c.len-its.ensures.count, c.len-mine.ensures.count) in
-    let both = comes c.self.inside.front c.order.inside.front c.longer-both.result c.order.inside.entry (c.order.invariant.0 ∙ sym c.self.invariant.0) c.len-its.ensures.legal c.longer-both.ensures.this c.longer-both.ensures.that c.order.invariant.1 len in
-    subst (λ (l : Line). state_of c.args.order.now.front ≡ step (state_of l) c.args.order.now.entry) c.self.view_is (subst (λ (o : Order). state_of o.front ≡ step (state_of c.self.inside.front) o.entry) c.order.view_is both.1)
+    let len : length c.posted.inside.front.list ≡ length c.self.inside.front.list + 1 = omega (arith, eqb-true _ _ is, c.if-its-mine.false, c.len-its.ensures.count, c.len-mine.ensures.count) in
+    let both = comes c.self.inside.front c.posted.inside.front c.longer-both.result c.posted.inside.entry (c.posted.invariant.0 ∙ sym c.self.invariant.0) c.len-its.ensures.legal c.longer-both.ensures.this c.longer-both.ensures.that c.posted.invariant.1 len in
+    subst (λ (l : Prefix). state_of c.args.posted.now.front ≡ step (state_of l) c.args.posted.now.entry) c.self.view_is (subst (λ (o : PostedEntry). state_of o.front ≡ step (state_of c.self.inside.front) o.entry) c.posted.view_is both.1)

@@ -1,6 +1,6 @@
 use Rattle.std.proofs.Common.{ap, subst, sym, ℕ, Bool, false, List, length, slice_index_or, ◌<◌, ◌∙◌}
 use Rattle.crossbeam_channel.specs.Claims.{view}
-use Rattle.tb_service.specs.Line.{closes, is_closed}
+use Rattle.tb_service.specs.Sent.{closes, is_closed}
 use Rattle.tb_service.specs.declared.rule.View.{View}
 use Rattle.tb_service.proofs.Steps.{takes, silent}
 use Rattle.tb_service.proofs.Flags.{not_close, flags_set, flags_kept}

@@ -12,7 +12,7 @@ returns-clause-served g c =
     let before = c.self.inside.desk in
     let after = c.serve-ended.new.self in
     let left = c.new.result in
-    subst (λ (start : Start _ _). Finishes g.J.Naming.opening g.M.Moments.tells g.G.Gate.passes start.room left.taken left.refused left.publisher.history) c.self.view_is
+    subst (λ (start : Start _ _). Finishes g.J.Naming.opening g.M.Moments.tells g.G.Gate.passes start.state left.taken left.refused left.publisher.history) c.self.view_is
     (finishes g.J.Naming.opening g.M.Moments.tells g.G.Gate.passes before.inbox.pass after.inbox.pass before.clerk after.clerk _ _ _
     c.self.invariant.0 before.places c.self.invariant.1 c.serve-ended.ensures.served
     (c.new.ensures.pass.0 ∙ ap (λ (p : Pass Order View). requests (view p).taken) c.stop-sender.ensures.same)

@@ -1,7 +1,7 @@
 use Rattle.std.proofs.Common.{◌≡◌, ◌++◌, List, subst}
 use Rattle.std.specs.Prelude.{OnOk}
+use Rattle.tb_records.specs.declared.operations.Operation.TheVariants.{CreateAccounts}
 use Rattle.tb_text.specs.declared.words.Field.TheVariants.{Id}
-use Rattle.tb_text.specs.declared.words.Operation.TheVariants.{CreateAccounts}
 use Rattle.tb_text.specs.Entries.{Entry}
 use Rattle.tb_text.specs.Printed.{entries_text, account_text}
 use Rattle.tb_text.proofs.printing.AccountEvent.put.Goals as goal

@@ -3,14 +3,14 @@ use Rattle.std.specs.Map.{values_of}
 use Rattle.avl_tree.specs.Map.{entries}
 use Rattle.tb_ledger.specs.Tables.{rows_in, MayBeKey}
 use Rattle.tb_records.proofs.ByKey.{each-taken_out}
-use Rattle.tb_ledger.proofs.KnownKeys.{OfKeys}
+use Rattle.tb_ledger.proofs.AbsentKeys.{OfKeys}
 use Rattle.tb_ledger.proofs.tables.map.Table.remove.Goals as goal
 use Rattle.tb_ledger.proofs.tables.map.Table.remove.Goals.{in-Some, in-None}
 
 pub invariant_of-self : goal.invariant_of-self
 invariant_of-self g c =
     let key = g.V.Keyed.key in
-    let may = MayBeKey c.self.inside.known in
+    let may = MayBeKey c.self.inside.absent_ids in
     elim c.match-self.branch [
       | in-Some w ↦
           let known = subst (λ m. OfKeys key may (rows_in m)) w.in-Some.is c.self.invariant.may in

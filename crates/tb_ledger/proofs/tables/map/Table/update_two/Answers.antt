@@ -2,14 +2,14 @@ use Rattle.std.proofs.Common.{◌≡◌, ◌⊎◌, inl, ◌==◌, find, None, I
 use Rattle.std.specs.Map.{values_of}
 use Rattle.avl_tree.specs.Map.{entries}
 use Rattle.tb_ledger.specs.Tables.{rows_in, MayBeKey}
-use Rattle.tb_ledger.proofs.KnownKeys.{OfKeys, known-changed}
+use Rattle.tb_ledger.proofs.AbsentKeys.{OfKeys, known-changed}
 use Rattle.tb_ledger.proofs.tables.map.Table.update_two.Goals as goal
 use Rattle.tb_ledger.proofs.tables.map.Table.update_two.Goals.{in-Some, in-None}
 
 pub invariant_of-self : goal.invariant_of-self
 invariant_of-self g c =
     let key = g.V.Keyed.key in
-    let may = MayBeKey c.self.inside.known in
+    let may = MayBeKey c.self.inside.absent_ids in
     elim c.match-self.branch [
       | in-Some w ↦
           let known = subst (λ m. OfKeys key may (rows_in m)) w.in-Some.is c.self.invariant.may in

@@ -1,6 +1,0 @@
-use Rattle.std.proofs.Common.{sym, ◌∙◌}
-use Rattle.tb_ledger.proofs.KnownKeys.{unlike-among}
-use Rattle.tb_ledger.proofs.tables.known.Known.excludes.Goals as goal
-
-pub returns : goal.returns
-returns c = λ is k may. unlike-among k c.args.id c.args.self.now.absent (may.unlike c.if-not-self.false) (sym c.is_among.ensures ∙ is)

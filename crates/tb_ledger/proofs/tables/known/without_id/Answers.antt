@@ -1,9 +1,0 @@
-use Rattle.std.proofs.Common.{sym, ap}
-use Rattle.tb_ledger.specs.Tables.{without_id}
-use Rattle.tb_ledger.proofs.KnownKeys.{eight}
-use Rattle.tb_ledger.proofs.tables.known.without_id.Goals as goal
-
-pub returns : goal.returns
-returns c =
-    rw (c.unless.ensures, c.unless-2.ensures, c.unless-3.ensures, c.unless-4.ensures, c.unless-5.ensures, c.unless-6.ensures, c.unless-7.ensures, c.unless-8.ensures)
-    (ap (λ xs. without_id c.args.id xs) (sym (eight 0 c.args.ids.now c.told-ids)))
