@@ -245,7 +245,11 @@ fn take_root<K, V, A: Allocator>(tree: &mut Tree<K, V, A>) -> Option<Box<Node<K,
                     put(&mut right, left);
                     put(tree, right);
                 }
-                Some(next) => put(tree, balance(left, next, right)),
+                Some(mut next) => {
+                    put(&mut next.left, left);
+                    put(&mut next.right, right);
+                    put(tree, balance(next));
+                }
             }
             Some(node)
         }

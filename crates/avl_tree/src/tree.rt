@@ -72,109 +72,96 @@ pub fn split<K, V, A: Allocator>(
     (left, node, right)
 }
 
-/// Puts a node with no side between two trees that differ by at most one level.
-pub fn join<K, V, A: Allocator>(
-    left: Tree<K, V, A>,
-    mut node: Box<Node<K, V, A>, A>,
-    right: Tree<K, V, A>,
-) -> Tree<K, V, A>
-    requires bare { IsBare node.value }
-    requires left { IsAvl left }
-    requires right { IsAvl right }
-    requires close { DifferByAtMost 1 (stored_height left) (stored_height right) }
-    requires height_fits { max (stored_height left) (stored_height right) < 255 }
+/// The tree of a node over its sides, which differ by at most one level.
+fn over<K, V, A: Allocator>(node: Box<Node<K, V, A>, A>) -> Tree<K, V, A>
+    requires left { IsAvl node.value.left }
+    requires right { IsAvl node.value.right }
+    requires close { DifferByAtMost 1 (stored_height node.value.left) (stored_height node.value.right) }
+    requires height_fits { max (stored_height node.value.left) (stored_height node.value.right) < 255 }
     ensures balanced { IsAvl result }
-    ensures entries { entries result ≡ entries left ++ entry node.value ∷ entries right }
-    ensures height { stored_height result ≡ max (stored_height left) (stored_height right) + 1 }
+    ensures entries { entries result ≡ entries node.value.left ++ entry node.value ∷ entries node.value.right }
+    ensures height { stored_height result
+        ≡ max (stored_height node.value.left) (stored_height node.value.right) + 1 }
 {
-    let height = height(&left).max(height(&right)) + 1;
-    put(&mut node.left, left);
-    put(&mut node.right, right);
+    let height = height(&node.left).max(height(&node.right)) + 1;
     Tree::Fork(height, node)
 }
 
-/// Joins where the left side is two levels higher.
-#[tactic(auto, using(crate::proofs::Firsts::regroup))]
-fn lean_left<K, V, A: Allocator>(
-    left: Tree<K, V, A>,
-    node: Box<Node<K, V, A>, A>,
-    right: Tree<K, V, A>,
-) -> Tree<K, V, A>
-    requires bare { IsBare node.value }
-    requires left { IsAvl left }
-    requires right { IsAvl right }
-    requires two_higher { stored_height left ≡ stored_height right + 2 }
-    requires height_fits { stored_height left < 250 }
+/// The tree of a node whose left side is two levels higher. That side's root comes over the node; or, where it leans to the
+/// right, the root of its right side comes over both.
+fn lean_left<K, V, A: Allocator>(mut node: Box<Node<K, V, A>, A>) -> Tree<K, V, A>
+    requires left { IsAvl node.value.left }
+    requires right { IsAvl node.value.right }
+    requires two_higher { stored_height node.value.left ≡ stored_height node.value.right + 2 }
+    requires height_fits { stored_height node.value.left < 250 }
     ensures balanced { IsAvl result }
-    ensures entries { entries result ≡ entries left ++ entry node.value ∷ entries right }
-    ensures height { IsGrown (stored_height left) (stored_height result) }
+    ensures entries { entries result ≡ entries node.value.left ++ entry node.value ∷ entries node.value.right }
+    ensures height { IsGrown (stored_height node.value.left) (stored_height result) }
 {
-    let Tree::Fork(_, top) = left else {
+    let Tree::Fork(_, mut top) = take(&mut node.left) else {
         unreachable!()
     };
-    let (outer, top, inner) = split(top);
-    if height(&outer) >= height(&inner) {
-        return join(outer, top, join(inner, node, right));
+    if height(&top.left) >= height(&top.right) {
+        put(&mut node.left, take(&mut top.right));
+        put(&mut top.right, over(node));
+        return over(top);
     }
-    let Tree::Fork(_, middle) = inner else {
+    let Tree::Fork(_, mut middle) = take(&mut top.right) else {
         unreachable!()
     };
-    let (below, middle, above) = split(middle);
-    join(join(outer, top, below), middle, join(above, node, right))
+    put(&mut top.right, take(&mut middle.left));
+    put(&mut node.left, take(&mut middle.right));
+    put(&mut middle.left, over(top));
+    put(&mut middle.right, over(node));
+    over(middle)
 }
 
-/// Joins where the right side is two levels higher.
-#[tactic(auto, using(crate::proofs::Firsts::regroup))]
-fn lean_right<K, V, A: Allocator>(
-    left: Tree<K, V, A>,
-    node: Box<Node<K, V, A>, A>,
-    right: Tree<K, V, A>,
-) -> Tree<K, V, A>
-    requires bare { IsBare node.value }
-    requires left { IsAvl left }
-    requires right { IsAvl right }
-    requires two_higher { stored_height right ≡ stored_height left + 2 }
-    requires height_fits { stored_height right < 250 }
+/// The tree of a node whose right side is two levels higher, as [`lean_left`] makes it.
+fn lean_right<K, V, A: Allocator>(mut node: Box<Node<K, V, A>, A>) -> Tree<K, V, A>
+    requires left { IsAvl node.value.left }
+    requires right { IsAvl node.value.right }
+    requires two_higher { stored_height node.value.right ≡ stored_height node.value.left + 2 }
+    requires height_fits { stored_height node.value.right < 250 }
     ensures balanced { IsAvl result }
-    ensures entries { entries result ≡ entries left ++ entry node.value ∷ entries right }
-    ensures height { IsGrown (stored_height right) (stored_height result) }
+    ensures entries { entries result ≡ entries node.value.left ++ entry node.value ∷ entries node.value.right }
+    ensures height { IsGrown (stored_height node.value.right) (stored_height result) }
 {
-    let Tree::Fork(_, top) = right else {
+    let Tree::Fork(_, mut top) = take(&mut node.right) else {
         unreachable!()
     };
-    let (inner, top, outer) = split(top);
-    if height(&outer) >= height(&inner) {
-        return join(join(left, node, inner), top, outer);
+    if height(&top.right) >= height(&top.left) {
+        put(&mut node.right, take(&mut top.left));
+        put(&mut top.left, over(node));
+        return over(top);
     }
-    let Tree::Fork(_, middle) = inner else {
+    let Tree::Fork(_, mut middle) = take(&mut top.left) else {
         unreachable!()
     };
-    let (below, middle, above) = split(middle);
-    join(join(left, node, below), middle, join(above, top, outer))
+    put(&mut top.left, take(&mut middle.right));
+    put(&mut node.right, take(&mut middle.left));
+    put(&mut middle.left, over(node));
+    put(&mut middle.right, over(top));
+    over(middle)
 }
 
-/// Puts a node with no side between two trees that differ by at most two levels.
-pub fn balance<K, V, A: Allocator>(
-    left: Tree<K, V, A>,
-    node: Box<Node<K, V, A>, A>,
-    right: Tree<K, V, A>,
-) -> Tree<K, V, A>
-    requires bare { IsBare node.value }
-    requires left { IsAvl left }
-    requires right { IsAvl right }
-    requires close { DifferByAtMost 2 (stored_height left) (stored_height right) }
-    requires height_fits { max (stored_height left) (stored_height right) < 250 }
+/// The tree of a node over its sides, which differ by at most two levels.
+pub fn balance<K, V, A: Allocator>(node: Box<Node<K, V, A>, A>) -> Tree<K, V, A>
+    requires left { IsAvl node.value.left }
+    requires right { IsAvl node.value.right }
+    requires close { DifferByAtMost 2 (stored_height node.value.left) (stored_height node.value.right) }
+    requires height_fits { max (stored_height node.value.left) (stored_height node.value.right) < 250 }
     ensures balanced { IsAvl result }
-    ensures entries { entries result ≡ entries left ++ entry node.value ∷ entries right }
-    ensures height { IsHeightOver (stored_height left) (stored_height right) (stored_height result) }
+    ensures entries { entries result ≡ entries node.value.left ++ entry node.value ∷ entries node.value.right }
+    ensures height { IsHeightOver (stored_height node.value.left) (stored_height node.value.right)
+        (stored_height result) }
 {
-    let (to_left, to_right) = (height(&left), height(&right));
+    let (to_left, to_right) = (height(&node.left), height(&node.right));
     if to_left > to_right + 1 {
-        lean_left(left, node, right)
+        lean_left(node)
     } else if to_right > to_left + 1 {
-        lean_right(left, node, right)
+        lean_right(node)
     } else {
-        join(left, node, right)
+        over(node)
     }
 }
 
@@ -214,10 +201,7 @@ fn rotate<K, V, A: Allocator>(tree: &mut Tree<K, V, A>)
 {
     match take(tree) {
         Tree::Empty => {}
-        Tree::Fork(_, node) => {
-            let (left, node, right) = split(node);
-            put(tree, balance(left, node, right));
-        }
+        Tree::Fork(_, node) => put(tree, balance(node)),
     }
 }
 

@@ -312,8 +312,17 @@ fn fill_items<S: Source, T: Item>(
     Ok(())
 }
 
-/// Reads a row of items, eight at a time where there are so many. The memory for them is taken before the first byte is read,
-/// and no byte behind them is.
+/// So many items go through a small block, of 128 bytes.
+fn in_small_block<T: Item>() -> usize
+    ensures some { 0 < result }
+    ensures few { result ≤ 8 }
+    ensures fit { result * T.SIZE ≤ 128 }
+{
+    if T::SIZE <= 16 { 8 } else { 1 }
+}
+
+/// Reads a row of items through a block, of 1,024 bytes where a small one is too short for them. The memory for them is taken
+/// before the first byte is read, and no byte behind them is.
 pub(crate) fn items_from<S: Source, T: Item>(
     alloc: Global,
     source: &mut S,
@@ -327,10 +336,11 @@ pub(crate) fn items_from<S: Source, T: Item>(
     ensures counted { Counts result (S.input source.old) (S.input source.new) }
 {
     let mut items = Vec::with_capacity(alloc, count)?;
-    if count < 8 {
-        fill_items(source, &mut [0; 128], 1, &mut items, count)?;
+    let few = in_small_block::<T>();
+    if count <= few {
+        fill_items(source, &mut [0; 128], few, &mut items, count)?;
     } else {
-        fill_items(source, &mut [0; 1024], 8, &mut items, count)?;
+        fill_items(source, &mut [0; 1024], 8 * few, &mut items, count)?;
     }
     Ok(items)
 }
@@ -380,8 +390,8 @@ fn put_blocks<W: Sink, T: Item>(
     Ok(())
 }
 
-/// Writes a row of items, eight at a time where they are small or so many, or stops where the writer fails or takes
-/// nothing. A short row wants no more than a small block.
+/// Writes a row of items through a block, of 1,024 bytes where a small one is too short for them, or stops where the writer
+/// fails or takes nothing. No block is made for no items.
 pub(crate) fn put_items<W: Sink, T: Item>(sink: &mut W, items: &[T]) -> Result<(), FrameFault>
     ensures sent { MatchResult result
         (λ _. Sent (flat_map T.spelling items.now) (W.output sink.old) (W.output sink.new))
@@ -390,11 +400,13 @@ pub(crate) fn put_items<W: Sink, T: Item>(sink: &mut W, items: &[T]) -> Result<(
         × CutOff (flat_map T.spelling items.now) (W.output sink.old) (W.output sink.new)) }
     ensures fit { OnOk result (All T.Fits items.now) }
 {
-    if items.len() >= 8 {
-        put_blocks(sink, &mut [0; 1024], 8, items)
-    } else if T::SIZE <= 16 {
-        put_blocks(sink, &mut [0; 128], 8, items)
+    if items.is_empty() {
+        return Ok(());
+    }
+    let few = in_small_block::<T>();
+    if items.len() <= few {
+        put_blocks(sink, &mut [0; 128], few, items)
     } else {
-        put_blocks(sink, &mut [0; 128], 1, items)
+        put_blocks(sink, &mut [0; 1024], 8 * few, items)
     }
 }
