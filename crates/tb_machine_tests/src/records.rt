@@ -1,9 +1,10 @@
 //! Accounts and transfers as lookups find them, by requests and by the machine's own calls.
 use crate::comparing::holds;
-use crate::fixtures::{account, at, found, held, post, resolved};
+use crate::fixtures::resolved;
 use crate::machines::{Ask, Numbers, enter, enter_all, first_four, machine, reply_of};
 use std::alloc::Global;
 use std::process::Abort;
+use tb_fixtures::{account, at, found, held, post};
 use tb_machine::Machine;
 use tb_records::{Account, ReplyBody, Status, Transfer};
 

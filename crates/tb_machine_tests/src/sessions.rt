@@ -1,21 +1,12 @@
 //! Registers, repeats, refusals and evictions, by scripts.
 use crate::comparing::holds;
-use crate::fixtures::transfer;
+use crate::machines::clients_max;
 use crate::scripts::Script;
-use crate::serving::{PROFILES, expect_whole, room, serve_both, serve_on, serve_steps};
+use crate::serving::{PROFILES, expect_whole, serve_both, serve_on, serve_steps};
 use crate::steps::{Step, put_steps, third};
 use std::process::Abort;
+use tb_fixtures::transfer;
 use tb_records::Status;
-
-#[test]
-fn empty_script(rt: HostRuntime) {
-    serve_steps(&rt, rt.alloc(), &PROFILES, &[]);
-}
-
-#[test]
-fn first_register(rt: HostRuntime) {
-    serve_steps(&rt, rt.alloc(), &PROFILES, &[Step::Register(7, 1)]);
-}
 
 /// The history has one entry.
 #[test]
@@ -30,11 +21,6 @@ fn register_repeated(rt: HostRuntime) {
             Step::Look(7, 1, 1, Status::Reply, 2),
         ],
     );
-}
-
-#[test]
-fn accounts_created(rt: HostRuntime) {
-    serve_on(&rt, rt.alloc(), &PROFILES, &[]);
 }
 
 #[test]
@@ -127,7 +113,7 @@ fn eviction_storm(rt: HostRuntime) {
     put_hundred(&rt, &mut script);
     put_steps(&rt, &mut script, &LAST);
     holds(&rt, script.requests == 203, &script.requests);
-    let clients_max = room(&rt, 1);
+    let clients_max = clients_max(&rt, 1);
     for profile in PROFILES {
         expect_whole(&rt, &script, clients_max, profile);
     }

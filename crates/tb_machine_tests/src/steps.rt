@@ -1,7 +1,7 @@
 //! A script as data: one step after another, with what each is to be answered.
-use crate::fixtures::{account, found};
 use crate::scripts::Script;
 use std::process::Abort;
+use tb_fixtures::{account, found};
 use tb_records::{Account, CreateAccountResult, CreateTransferResult, Operation, Status, Transfer};
 
 /// What a script asks next, and what it is to be answered.
