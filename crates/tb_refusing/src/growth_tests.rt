@@ -1,0 +1,152 @@
+//! Each growth of a ledger's rows is refused in turn, below `Machine::apply`, and each chunk of a pool with the rows, below `serve_pair`.
+//! A pool whose chunk is refused asks for a smaller one, so all chunks are refused until the want of memory was answered.
+use crate::applying::apply_turns;
+use crate::comparing::holds;
+use crate::pooling::serve_turns;
+use crate::turns::{Rows, turns};
+use crate::{Refusing, Tally};
+use std::alloc::Global;
+use std::process::Abort;
+use tb_records::Profile;
+
+/// How rows are served.
+#[derive(Clone, Copy)]
+enum Way {
+    /// By `Machine::apply`, with one growth refused.
+    Applied,
+    /// By `serve_pair` over a pool, with all growths refused from one on.
+    Pooled,
+}
+
+/// Serves the rows with a growth refused, or with none where that is 0: what was asked, and the commit numbers of the requests that were
+/// refused once.
+fn serve_over(
+    rt: &impl Abort,
+    alloc: Global,
+    way: Way,
+    profile: Profile,
+    rows: Rows,
+    refused_at: u64,
+) -> (Tally, Vec<u64>) {
+    let turns = turns(rt, alloc, rows);
+    let heap = match way {
+        Way::Applied => Refusing::new(alloc, refused_at),
+        Way::Pooled => Refusing::from(alloc, refused_at),
+    };
+    let refused = match way {
+        Way::Applied => apply_turns(rt, alloc, &heap, profile, rows, turns.as_slice()),
+        Way::Pooled => serve_turns(rt, alloc, &heap, profile, rows, turns.as_slice()),
+    };
+    let tally = heap.tally();
+    drop(heap);
+    drop(turns);
+    (tally, refused)
+}
+
+/// Serves the rows with a growth refused: all blocks come back, and one request is refused, whose commit number is added where it is not
+/// the last one.
+fn refuse(
+    rt: &impl Abort,
+    alloc: Global,
+    way: Way,
+    profile: Profile,
+    rows: Rows,
+    refused_at: u64,
+    refusing: &mut Vec<u64>,
+) {
+    let (tally, refused) = serve_over(rt, alloc, way, profile, rows, refused_at);
+    let one = tally.blocks == 0 && refused.len() == 1;
+    if refusing.last() != refused.last() {
+        let added = refusing.extend_from_slice(refused.as_slice());
+        added.expect(rt, "memory");
+    }
+    drop(refused);
+    holds(rt, one, "a growth is refused", refused_at);
+}
+
+/// Serves the rows with each of so many growths refused in turn: the commit numbers of the entries that ask for one.
+fn refuse_all(
+    rt: &impl Abort,
+    alloc: Global,
+    way: Way,
+    profile: Profile,
+    rows: Rows,
+    asked: u64,
+) -> Vec<u64> {
+    let mut refusing = Vec::new(alloc);
+    for refused_at in 1..=asked {
+        refuse(rt, alloc, way, profile, rows, refused_at, &mut refusing);
+    }
+    refusing
+}
+
+/// Serves the rows with no growth refused, with the first, with the second and so on: all blocks come back, and each refused growth
+/// refuses one request. These are the commit numbers of the entries that ask for a growth; answers how many growths are asked for.
+fn refuse_each(
+    rt: &impl Abort,
+    alloc: Global,
+    way: Way,
+    profile: Profile,
+    rows: Rows,
+    entries: &[u64],
+) -> u64 {
+    let (plain, refused) = serve_over(rt, alloc, way, profile, rows, 0);
+    let none = plain.blocks == 0 && refused.is_empty();
+    drop(refused);
+    holds(rt, none, "no growth is refused", plain.asked);
+    let refusing = refuse_all(rt, alloc, way, profile, rows, plain.asked);
+    let same = refusing.as_slice() == entries;
+    drop(refusing);
+    holds(rt, same, "the entries that ask for growths", plain.asked);
+    plain.asked
+}
+
+/// Applies the rows by both profiles.
+fn apply_each(rt: &impl Abort, alloc: Global, rows: Rows, entries: &[u64]) {
+    for profile in [Profile::One, Profile::Two] {
+        refuse_each(rt, alloc, Way::Applied, profile, rows, entries);
+    }
+}
+
+/// Serves the rows over a pool by both profiles: so many chunks are asked for.
+fn pool_each(rt: &impl Abort, alloc: Global, rows: Rows, chunks: u64, entries: &[u64]) {
+    for profile in [Profile::One, Profile::Two] {
+        let asked = refuse_each(rt, alloc, Way::Pooled, profile, rows, entries);
+        holds(rt, asked == chunks, "the chunks", asked);
+    }
+}
+
+#[test]
+fn first_rows(rt: HostRuntime) {
+    apply_each(&rt, rt.alloc(), Rows::First, &[2, 4]);
+}
+
+/// Entry 5 has two events, and entry 4 made room for three and left no row: so it asks for none.
+#[test]
+fn broken_chain(rt: HostRuntime) {
+    apply_each(&rt, rt.alloc(), Rows::Chain, &[2, 4]);
+}
+
+/// Entry 7 has two events, and entry 6 made room for two and left no row: so it asks for none.
+#[test]
+fn pending_rows(rt: HostRuntime) {
+    apply_each(&rt, rt.alloc(), Rows::Pending, &[2, 4, 5, 6]);
+}
+
+/// Accounts and a transfer.
+#[test]
+fn first_rows_in_a_pool(rt: HostRuntime) {
+    pool_each(&rt, rt.alloc(), Rows::First, 2, &[2]);
+}
+
+/// A chain that breaks.
+#[test]
+fn broken_chain_in_a_pool(rt: HostRuntime) {
+    pool_each(&rt, rt.alloc(), Rows::Chain, 3, &[2, 4]);
+}
+
+/// Pending transfers, which a post, a void and an expiry close.
+#[test]
+fn pending_rows_in_a_pool(rt: HostRuntime) {
+    pool_each(&rt, rt.alloc(), Rows::Pending, 3, &[2, 4]);
+}
