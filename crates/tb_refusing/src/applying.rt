@@ -1,12 +1,10 @@
 //! Rows' requests, each applied as an entry: where a growth is refused the entry is applied again.
-use crate::Refusing;
 use crate::comparing::holds;
-use crate::shown::{Shown, expect_last, expect_same, look};
-use crate::turns::{Rows, Turn};
+use crate::shown::{Shown, expect_same, look};
+use crate::turns::Turn;
 use std::alloc::{Allocator, Global};
 use std::process::Abort;
 use tb_machine::{Entry, Machine};
-use tb_records::{ClientsMax, Profile};
 
 /// Applies an entry that may come next, twice at the most; says whether it was refused once.
 fn apply_twice<A: Allocator + Clone>(
@@ -53,8 +51,8 @@ pub(crate) fn enter<A: Allocator + Clone>(
     refused
 }
 
-/// Enters the rows; answers the commit numbers of the entries that were refused once.
-fn enter_all<A: Allocator + Clone>(
+/// Enters the requests; answers the commit numbers of the entries that were refused once.
+pub(crate) fn enter_all<A: Allocator + Clone>(
     rt: &impl Abort,
     alloc: Global,
     machine: &mut Machine<A>,
@@ -66,23 +64,5 @@ fn enter_all<A: Allocator + Clone>(
             refused.push(machine.commit()).expect(rt, "memory");
         }
     }
-    refused
-}
-
-/// Applies the rows' requests by a machine over an allocator, and compares what the last row gives.
-pub(crate) fn apply_turns(
-    rt: &impl Abort,
-    alloc: Global,
-    heap: &Refusing<Global>,
-    profile: Profile,
-    rows: Rows,
-    turns: &[Turn],
-) -> Vec<u64> {
-    let clients_max = ClientsMax::new(2).expect(rt, "clients_max");
-    let made = Machine::new_in(alloc, heap, profile, clients_max);
-    let mut machine = made.expect(rt, "a machine");
-    let refused = enter_all(rt, alloc, &mut machine, turns);
-    expect_last(rt, alloc, &machine, rows);
-    drop(machine);
     refused
 }

@@ -1,13 +1,16 @@
 //! Each growth of a ledger's rows is refused in turn, below `Machine::apply`, and each chunk of a pool with the rows, below `serve_pair`.
 //! A pool whose chunk is refused asks for a smaller one, so all chunks are refused until the want of memory was answered.
-use crate::applying::apply_turns;
+use crate::applying::enter_all;
 use crate::comparing::holds;
-use crate::pooling::serve_turns;
-use crate::turns::{Rows, turns};
+use crate::pooling::serve_all;
+use crate::shown::expect_last;
+use crate::turns::{Rows, Turn, turns};
 use crate::{Refusing, Tally};
-use std::alloc::Global;
+use bumpalo::Bump;
+use std::alloc::{Allocator, Global};
 use std::process::Abort;
-use tb_records::Profile;
+use tb_machine::Machine;
+use tb_records::{ClientsMax, Profile};
 
 /// How rows are served.
 #[derive(Clone, Copy)]
@@ -18,9 +21,57 @@ enum Way {
     Pooled,
 }
 
+/// Serves the rows' requests by a machine whose records lie in an allocator over a heap, and compares what the last row gives. Answers the
+/// commit numbers of the requests that were refused once.
+fn serve_turns<A: Allocator + Clone>(
+    rt: &impl Abort,
+    alloc: Global,
+    rows_alloc: A,
+    heap: &Refusing<Global>,
+    way: Way,
+    profile: Profile,
+    rows: Rows,
+    turns: &[Turn],
+) -> Vec<u64> {
+    let clients_max = ClientsMax::new(2).expect(rt, "clients_max");
+    let made = Machine::new_in(alloc, rows_alloc, profile, clients_max);
+    let mut machine = made.expect(rt, "a machine");
+    let refused = match way {
+        Way::Applied => enter_all(rt, alloc, &mut machine, turns),
+        Way::Pooled => serve_all(rt, alloc, heap, &mut machine, turns),
+    };
+    expect_last(rt, alloc, &machine, rows);
+    drop(machine);
+    refused
+}
+
+/// Serves the rows over a heap.
+fn serve_over(
+    rt: &impl Abort,
+    alloc: Global,
+    heap: &Refusing<Global>,
+    way: Way,
+    profile: Profile,
+    rows: Rows,
+) -> Vec<u64> {
+    let turns = turns(rt, alloc, rows);
+    let all = turns.as_slice();
+    let refused = match way {
+        Way::Applied => serve_turns(rt, alloc, heap, heap, way, profile, rows, all),
+        Way::Pooled => {
+            let pool = Bump::new(heap);
+            let refused = serve_turns(rt, alloc, &pool, heap, way, profile, rows, all);
+            drop(pool);
+            refused
+        }
+    };
+    drop(turns);
+    refused
+}
+
 /// Serves the rows with a growth refused, or with none where that is 0: what was asked, and the commit numbers of the requests that were
 /// refused once.
-fn serve_over(
+fn serve_refused(
     rt: &impl Abort,
     alloc: Global,
     way: Way,
@@ -28,18 +79,13 @@ fn serve_over(
     rows: Rows,
     refused_at: u64,
 ) -> (Tally, Vec<u64>) {
-    let turns = turns(rt, alloc, rows);
     let heap = match way {
         Way::Applied => Refusing::new(alloc, refused_at),
         Way::Pooled => Refusing::from(alloc, refused_at),
     };
-    let refused = match way {
-        Way::Applied => apply_turns(rt, alloc, &heap, profile, rows, turns.as_slice()),
-        Way::Pooled => serve_turns(rt, alloc, &heap, profile, rows, turns.as_slice()),
-    };
+    let refused = serve_over(rt, alloc, &heap, way, profile, rows);
     let tally = heap.tally();
     drop(heap);
-    drop(turns);
     (tally, refused)
 }
 
@@ -54,7 +100,7 @@ fn refuse(
     refused_at: u64,
     refusing: &mut Vec<u64>,
 ) {
-    let (tally, refused) = serve_over(rt, alloc, way, profile, rows, refused_at);
+    let (tally, refused) = serve_refused(rt, alloc, way, profile, rows, refused_at);
     let one = tally.blocks == 0 && refused.len() == 1;
     if refusing.last() != refused.last() {
         let added = refusing.extend_from_slice(refused.as_slice());
@@ -90,7 +136,7 @@ fn refuse_each(
     rows: Rows,
     entries: &[u64],
 ) -> u64 {
-    let (plain, refused) = serve_over(rt, alloc, way, profile, rows, 0);
+    let (plain, refused) = serve_refused(rt, alloc, way, profile, rows, 0);
     let none = plain.blocks == 0 && refused.is_empty();
     drop(refused);
     holds(rt, none, "no growth is refused", plain.asked);

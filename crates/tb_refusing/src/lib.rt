@@ -9,7 +9,7 @@
 //! - `turns`: the requests of worked rows.
 //! - `shown`: what a machine shows.
 //! - `applying`: the requests, applied as entries.
-//! - `pooling`: the same served over a pool.
+//! - `pooling`: the same, served as pairs.
 //! - `growth_tests`: each growth and each chunk refused.
 //! - `batch_tests`: how many bytes a batch of transfers asks for.
 #![tactic(auto)]

@@ -1,14 +1,13 @@
-//! Rows' requests, each served by `serve_pair` over a machine whose records lie in a pool: where there is no chunk for a pair, the want
-//! of memory is answered, nothing is written, and the machine stays as it was.
+//! Rows' requests, each served by `serve_pair`: where there is no memory for a pair, that is answered, nothing is written, and the machine
+//! stays as it was.
 use crate::Refusing;
 use crate::comparing::holds;
-use crate::shown::{Shown, expect_last, expect_same, look};
-use crate::turns::{Rows, Turn};
-use bumpalo::Bump;
+use crate::shown::{Shown, expect_same, look};
+use crate::turns::Turn;
 use std::alloc::{Allocator, Global};
 use std::process::Abort;
 use tb_machine::{Machine, RunFault, serve_pair};
-use tb_records::{ClientsMax, Counting, Profile};
+use tb_records::Counting;
 
 /// A reply has at least so many bytes.
 const REPLY: u64 = 48;
@@ -63,7 +62,7 @@ fn serve_twice<A: Allocator + Clone>(
 }
 
 /// Serves the pairs; answers the commit numbers of those that were refused.
-fn serve_all<A: Allocator + Clone>(
+pub(crate) fn serve_all<A: Allocator + Clone>(
     rt: &impl Abort,
     alloc: Global,
     heap: &Refusing<Global>,
@@ -79,25 +78,5 @@ fn serve_all<A: Allocator + Clone>(
             refused.push(machine.commit()).expect(rt, "memory");
         }
     }
-    refused
-}
-
-/// Serves the rows' requests by a machine whose records lie in a pool, and compares what the last row gives.
-pub(crate) fn serve_turns(
-    rt: &impl Abort,
-    alloc: Global,
-    heap: &Refusing<Global>,
-    profile: Profile,
-    rows: Rows,
-    turns: &[Turn],
-) -> Vec<u64> {
-    let pool = Bump::new(heap);
-    let clients_max = ClientsMax::new(2).expect(rt, "clients_max");
-    let made = Machine::new_in(alloc, &pool, profile, clients_max);
-    let mut machine = made.expect(rt, "a machine");
-    let refused = serve_all(rt, alloc, heap, &mut machine, turns);
-    expect_last(rt, alloc, &machine, rows);
-    drop(machine);
-    drop(pool);
     refused
 }

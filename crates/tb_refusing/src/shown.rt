@@ -50,12 +50,7 @@ pub(crate) fn expect_same<A: Allocator + Clone>(
     let now = look(rt, machine);
     let same = now.same(before);
     drop(now);
-    holds(
-        rt,
-        same,
-        "a refused call leaves the machine",
-        before.commit,
-    );
+    holds(rt, same, "a refused call leaves the machine", before.commit);
 }
 
 /// The index and code of each result that client 7's stored reply has.

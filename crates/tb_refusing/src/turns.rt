@@ -78,7 +78,12 @@ pub(crate) fn moving(
     number: u32,
     all: &[Transfer],
 ) -> Turn {
-    numbered(rt, moment, number, transfers(alloc, all).expect(rt, "memory"))
+    numbered(
+        rt,
+        moment,
+        number,
+        transfers(alloc, all).expect(rt, "memory"),
+    )
 }
 
 /// Adds a request.
