@@ -1,17 +1,14 @@
 //! The first requests through `take` and a seat: what becomes of each, the bytes of the answer to it, and what the seat looks
 //! up then.
-ghost use Rattle.std.specs.Prelude.{◌≡◌};
-
 use crate::comparing::holds;
 use crate::frames::{Header, answered, frame};
-use crate::making::{Numbers, lookup, opened, opening, register, take, transfers, two_accounts};
+use crate::making::{Numbers, lookup, register, take, transfers, two_accounts};
 use std::alloc::Global;
-use std::marker::Brand;
 use std::process::Abort;
 use std::sync::Wait;
 use tb_fixtures::{account, at, found, transfer};
-use tb_published::{Naming, Opening, Publisher, Seat, Taken};
-use tb_records::{Profile, Request, Status};
+use tb_published::{Naming, Publisher, Seat, Taken};
+use tb_records::{Request, Status};
 
 /// What a request asks for.
 #[derive(Clone, Copy)]
@@ -249,20 +246,4 @@ pub(crate) fn expect_first<J: Naming, R: Wait + Abort>(
     expect_transfers(rt, seat);
     holds(rt, publisher.history().len() == 4, &"entries");
     holds(rt, publisher.machine().commit() == 4, &"the last entry");
-}
-
-fn take_first_rows<J: Naming, R: Wait + Abort>(rt: &R, alloc: Global, opening: Opening)
-    requires { opening ≡ J.opening }
-{
-    let (mut held, mut seats) = opened::<J, R>(rt, alloc, opening, 1);
-    let seat = seats.iter_mut().next().expect(rt, "a seat");
-    expect_first(rt, alloc, &mut held.publisher, seat);
-    drop(seats);
-    drop(held);
-}
-
-#[test]
-fn first_rows_through_take(rt: HostRuntime) {
-    let opening = opening(&rt, Profile::One, 2);
-    take_first_rows::<Brand, _>(&rt, rt.alloc(), opening);
 }
