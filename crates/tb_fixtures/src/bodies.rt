@@ -21,8 +21,3 @@ pub fn transfers(alloc: Global, all: &[Transfer]) -> Result<Body, AllocError> {
 pub fn lookup(alloc: Global, ids: &[u128]) -> Result<Body, AllocError> {
     Ok(Body::LookupAccounts(items(alloc, ids)?))
 }
-
-/// A lookup of transfers.
-pub fn transfer_lookup(alloc: Global, ids: &[u128]) -> Result<Body, AllocError> {
-    Ok(Body::LookupTransfers(items(alloc, ids)?))
-}

@@ -12,7 +12,7 @@ mod bodies;
 mod records;
 mod waiting;
 
-pub use bodies::{creation, lookup, transfer_lookup, transfers};
+pub use bodies::{creation, lookup, transfers};
 pub use records::{
     CODE, LEDGER, account, account_with, at, found, held, linked, post, transfer, transfer_with,
     void, with_timeout,

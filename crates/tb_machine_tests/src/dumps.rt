@@ -1,6 +1,6 @@
 //! Scripts that are dumped and dumps that are replayed, in memory: worked rows, by the bytes that the formats give.
 use crate::comparing::holds;
-use crate::frames::put_lines;
+use crate::frames::{REQUESTS, put_lines};
 use crate::machines::clients_max;
 use crate::scripts::put_bytes;
 use std::alloc::Global;
@@ -47,33 +47,10 @@ fn put_register(rt: &impl Abort, out: &mut Vec<u8>, moment: u64, client: u8) {
     put_lines(rt, out, &[(client as u128) << 120, REGISTER, 0]);
 }
 
-/// Accounts 1 and 2, as client 7's first request.
-const ACCOUNTS: [Line; 19] = [
-    CLIENT,
-    0x01000000000000000100000081000000,
-    0x00010000000000000000000000000000,
-    1 << 120,
-    0,
-    0,
-    0,
-    0,
-    0,
-    0,
-    END,
-    2 << 120,
-    0,
-    0,
-    0,
-    0,
-    0,
-    0,
-    END,
-];
-
 /// Appends accounts 1 and 2 at moment 10.
 fn put_accounts(rt: &impl Abort, out: &mut Vec<u8>) {
     put_bytes(rt, out, &10u64.to_le_bytes());
-    put_lines(rt, out, &ACCOUNTS);
+    put_lines(rt, out, REQUESTS[1]);
 }
 
 /// Appends a transfer of 1 to account 2 at moment 10, as client 7's request of a number below 256.

@@ -8,7 +8,7 @@
 //! - `comparing`: what is compared, in one place.
 //! - `frames`: frames in hexadecimal.
 //! - `machines`: what machines are asked.
-//! - `records`: what lookups find.
+//! - `records`: what the machine's own lookups find.
 //! - `classes`: sessions by the machine's own calls.
 //! - `serving`: scripts served.
 //! - `accounts`: accounts that are created or refused.

@@ -2,7 +2,7 @@
 use crate::comparing::holds;
 use std::alloc::{AllocError, Global};
 use std::process::Abort;
-use tb_fixtures::{account, creation, lookup, transfer, transfer_lookup, transfers};
+use tb_fixtures::{account, creation, lookup, transfer, transfers};
 use tb_machine::{Entry, Machine};
 use tb_records::{Body, ClientsMax, Profile, Request, Status, Transfer};
 use tb_sessions::Class;
@@ -23,8 +23,6 @@ pub enum Ask {
     ThreeLookedUp,
     /// A lookup of no account.
     NoneLookedUp,
-    /// A lookup of transfers 25 and 21.
-    PostsLookedUp,
     Transfer(Transfer),
 }
 
@@ -34,7 +32,6 @@ fn body_of(alloc: Global, ask: Ask) -> Result<Body, AllocError> {
         Ask::TwoAccounts => creation(alloc, &[account(1), account(2)]),
         Ask::ThreeLookedUp => lookup(alloc, &[2, 9, 1]),
         Ask::NoneLookedUp => lookup(alloc, &[]),
-        Ask::PostsLookedUp => transfer_lookup(alloc, &[25, 21]),
         Ask::Transfer(row) => transfers(alloc, &[row]),
     }
 }
