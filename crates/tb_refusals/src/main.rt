@@ -28,6 +28,7 @@ mod scripts;
 mod taking;
 mod troubles;
 
+use running::{Call, call_once};
 use scripts::{Pair, read_pairs};
 use std::alloc::Global;
 use std::env;
@@ -61,9 +62,8 @@ enum Form {
     Apply,
     /// A publisher and a seat.
     Publish(Way),
-    Run,
-    Dump,
-    Replay,
+    /// A call that ends at its first fault.
+    Once(Call),
 }
 
 /// The form that a word names.
@@ -73,9 +73,9 @@ fn form_of(word: &str) -> Option<Form> {
         "take" => Some(Form::Publish(Way::Take)),
         "offer" => Some(Form::Publish(Way::Offer)),
         "call" => Some(Form::Publish(Way::Call)),
-        "run" => Some(Form::Run),
-        "dump" => Some(Form::Dump),
-        "replay" => Some(Form::Replay),
+        "run" => Some(Form::Once(Call::Run)),
+        "dump" => Some(Form::Once(Call::Dump)),
+        "replay" => Some(Form::Once(Call::Replay)),
         _ => None,
     }
 }
@@ -145,9 +145,10 @@ fn serve<R: Threads + Wait + Eprint + Sync>(
     out: &mut Vec<u8>,
 ) -> Result<(), Trouble> {
     match form {
-        Form::Run => running::run_once(rt, alloc, clients_max, script, out),
-        Form::Dump => running::dump_once(rt, alloc, clients_max, script, out),
-        Form::Replay => running::replay_once(rt, alloc, script, out),
+        Form::Once(call) => {
+            call_once(rt, alloc, call, clients_max, script, out);
+            Ok(())
+        }
         Form::Apply => {
             let pairs = read_pairs(alloc, script)?;
             let served = applying::apply_all(rt, alloc, clients_max, pairs.as_slice(), out);
