@@ -3,7 +3,7 @@ ghost use Rattle.std.specs.Prelude.{◌≡◌};
 
 use crate::offering::{Listed, next_port};
 use crate::openings::opened;
-use crate::scripts::{Pair, put_history, put_reply};
+use crate::scripts::{Pair, Work, put_history, put_reply};
 use crate::troubles::{Trouble, Why, note};
 use std::alloc::{AllocError, Global};
 use std::sync::Wait;
@@ -215,28 +215,25 @@ fn call_over<J: Naming + Send + Sync, R: Threads + Wait + Eprint + Sync>(
 /// server's thread is refused.
 pub fn call_all<J: Naming + Send + Sync, R: Threads + Wait + Eprint + Sync>(
     rt: &R,
-    alloc: Global,
-    opening: Opening,
-    clients_max: ClientsMax,
-    pairs: &[Pair],
-    out: &mut Vec<u8>,
+    work: Work<'_>,
 ) -> Result<bool, Trouble>
-    requires { opening ≡ J.opening }
+    requires { work.opening ≡ J.opening }
 {
+    let (alloc, clients_max, pairs) = (work.alloc, work.clients_max, work.pairs);
     let count = PortCount::new(1).ok_or(Trouble::SetUp)?;
     let seats = SeatCount::new(2).ok_or(Trouble::SetUp)?;
     let moments = Listed::new(alloc, pairs)?;
-    let Some((publisher, seats)) = opened::<J, R>(rt, alloc, opening, seats) else {
+    let Some((publisher, seats)) = opened::<J, R>(rt, alloc, work.opening, seats) else {
         drop(moments);
         return Ok(false);
     };
-    let called = call_over(rt, alloc, publisher, seats, count, moments, pairs, out)?;
+    let called = call_over(rt, alloc, publisher, seats, count, moments, pairs, work.out)?;
     let Some((finished, outcome)) = called else {
         return Ok(false);
     };
     let written = match outcome {
         Ok(false) => Ok(()),
-        _ => put_history(clients_max, finished.publisher.history(), out),
+        _ => put_history(clients_max, finished.publisher.history(), work.out),
     };
     tell_end(rt, &finished);
     drop(finished.close(rt));

@@ -29,7 +29,7 @@ mod taking;
 mod troubles;
 
 use running::{Call, call_once};
-use scripts::{Pair, read_pairs};
+use scripts::{Pair, Work, read_pairs};
 use std::alloc::Global;
 use std::env;
 use std::io::{Read, Write};
@@ -101,19 +101,15 @@ fn read_words(rt: &HostRuntime) -> Result<(Form, ClientsMax), Trouble> {
 /// Serves a script by an opening. False where the opening, or its service, is refused.
 fn serve_opening<J: Naming + Send + Sync, R: Threads + Wait + Eprint + Sync>(
     rt: &R,
-    alloc: Global,
-    opening: Opening,
     way: Way,
-    clients_max: ClientsMax,
-    pairs: &[Pair],
-    out: &mut Vec<u8>,
+    work: Work<'_>,
 ) -> Result<bool, Trouble>
-    requires { opening ≡ J.opening }
+    requires { work.opening ≡ J.opening }
 {
     match way {
-        Way::Take => taking::take_all::<J, R>(rt, alloc, opening, clients_max, pairs, out),
-        Way::Offer => offering::offer_all::<J, R>(rt, alloc, opening, clients_max, pairs, out),
-        Way::Call => calling::call_all::<J, R>(rt, alloc, opening, clients_max, pairs, out),
+        Way::Take => taking::take_all::<J, R>(rt, work),
+        Way::Offer => offering::offer_all::<J, R>(rt, work),
+        Way::Call => calling::call_all::<J, R>(rt, work),
     }
 }
 
@@ -128,7 +124,14 @@ fn serve_published<R: Threads + Wait + Eprint + Sync>(
 ) -> Result<(), Trouble> {
     for _ in 0..2 {
         let opening = Opening::new(Profile::One, clients_max);
-        if serve_opening::<Brand, R>(rt, alloc, opening, way, clients_max, pairs, out)? {
+        let work = Work {
+            alloc,
+            opening,
+            clients_max,
+            pairs,
+            out: &mut *out,
+        };
+        if serve_opening::<Brand, R>(rt, way, work)? {
             return Ok(());
         }
     }
