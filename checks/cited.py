@@ -22,7 +22,7 @@ NAME = re.compile(r"[^\s(){}\[\],.;λ]+")
 FUNCTION = re.compile(r"^( *)pub (?:const |unsafe )*fn (\w+)")
 TRAIT_FUNCTION = re.compile(r"^( *)(?:const |unsafe )*fn (\w+)")
 IMPL = re.compile(r"^impl\b(?:<.*?>)? (?:.* for )?&?(?:mut )?(\w+)")
-TOOLS = ("tb_uses", "tb_bench", "tb_read", "tb_recorded", "tb_refusals", "tb_refusing")
+TOOLS = ("tb_uses", "tb_bench", "tb_read", "tb_recorded", "tb_refusals", "tb_refusing", "tb_fixtures")
 
 
 def read(path):

@@ -208,8 +208,8 @@ fn expect_exchange(
 ) {
     let mut place = value;
     let found = map.exchange(&key, &mut place);
-    assert_eq!(rt; found, old.is_some(), "key {key}");
-    assert_eq!(rt; place, old.unwrap_or(value), "key {key}");
+    holds(rt, found == old.is_some(), &key);
+    same(rt, &place, &old.unwrap_or(value), &key);
 }
 
 fn exchange_values(rt: &impl Abort, map: &mut AvlMap<u64, u128, Global>) -> Result<(), Fail> {

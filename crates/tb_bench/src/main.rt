@@ -53,7 +53,7 @@ enum Task {
     /// So many batches in a machine alone.
     Memory(u32),
     Ports(offering::Scale),
-    Reads(reading::Scale),
+    Reads(reading::Reads),
 }
 
 /// The task that words tell.
@@ -75,9 +75,9 @@ fn task_of(words: &[String]) -> Result<Task, Error> {
             }))
         }
         _ => {
-            Ok(Task::Reads(reading::Scale {
+            Ok(Task::Reads(reading::Reads {
                 threads: first,
-                reads: number(words.get(2))?,
+                each: number(words.get(2))?,
                 is_calm: kind == "calm",
             }))
         }
@@ -106,7 +106,7 @@ fn run<R: Threads + Wait + Clock + Print + Eprint + Sync>(
         ),
         Task::Memory(rounds) => taking::fill_machine(rt, alloc, rounds),
         Task::Ports(scale) => offering::measure::<Brand, R>(rt, alloc, opening()?, scale),
-        Task::Reads(scale) => reading::measure::<Brand, R>(rt, alloc, opening()?, scale),
+        Task::Reads(reads) => reading::measure::<Brand, R>(rt, alloc, opening()?, reads),
     }
 }
 

@@ -3,13 +3,13 @@ ghost use Rattle.std.specs.Prelude.{◌≡◌};
 
 use crate::requests::{first_requests, round};
 use crate::taking::take_all;
-use crate::telling::{tell_time, wanted};
+use crate::telling::{add, tell_time, wanted};
 use anyhow::{Error, anyhow};
 use std::alloc::Global;
 use std::rt::Clock;
 use std::sync::Wait;
 use std::sync::atomic::{AtomicBool, Ordering};
-use std::thread::{Threads, join};
+use std::thread::{self, Threads, join};
 use std::time::Instant;
 use tb_published::{Naming, Opening, Publisher, Seat, SeatCount, open};
 use tb_records::Request;
@@ -19,9 +19,9 @@ const IDS: [u128; 2] = [1, 1000];
 
 /// In how many threads is read, how often in each, and whether there is no writer.
 #[derive(Clone, Copy)]
-pub struct Scale {
+pub struct Reads {
     pub threads: u32,
-    pub reads: u32,
+    pub each: u32,
     pub is_calm: bool,
 }
 
@@ -47,73 +47,49 @@ fn read<J: Naming, R: Clock>(
     Some((asked, start.elapsed(rt).ok()?.as_nanos()))
 }
 
-/// Asks seats, one after another.
-fn read_all<J: Naming, R: Clock>(
-    rt: &R,
-    seats: &mut [Seat<J>],
-    request: &Request,
-    reads: u32,
-) -> Option<Times> {
-    let mut sum = (0u128, 0u128);
+/// A seat, and what its thread measured.
+#[derive(Drop)]
+struct Reader<J: Naming> {
+    seat: Seat<J>,
+    times: Option<Times>,
+}
+
+/// A reader for each seat.
+fn readers_of<J: Naming>(alloc: Global, seats: Vec<Seat<J>>) -> Result<Vec<Reader<J>>, Error> {
+    let mut readers = Vec::with_capacity(alloc, seats.len())?;
     for seat in seats {
-        let (asked, found) = read(rt, seat, request, reads)?;
+        add(&mut readers, Reader { seat, times: None })?;
+    }
+    Ok(readers)
+}
+
+/// The sums of what all threads measured; None where one could not.
+fn sum_of<J: Naming>(readers: &[Reader<J>]) -> Option<Times> {
+    let mut sum = (0u128, 0u128);
+    for reader in readers {
+        let (asked, found) = reader.times?;
         sum = (sum.0.saturating_add(asked), sum.1.saturating_add(found));
     }
     Some(sum)
 }
 
-fn both(low: Option<Times>, high: Option<Times>) -> Option<Times> {
-    let (low, high) = (low?, high?);
-    Some((low.0.saturating_add(high.0), low.1.saturating_add(high.1)))
-}
-
-/// Asks the halves of the seats in two threads.
-fn read_two<J: Naming + Send + Sync, R: Threads + Clock + Sync>(
-    rt: &R,
-    seats: &mut [Seat<J>],
-    request: &Request,
-    reads: u32,
-) -> Option<Times> {
-    let (low, high) = seats.split_at_mut(seats.len() / 2);
-    let (a, b) = join(
-        rt,
-        || read_all(rt, low, request, reads),
-        || read_all(rt, high, request, reads),
-    );
-    both(a, b)
-}
-
-/// Asks the quarters of the seats in four threads.
-fn read_four<J: Naming + Send + Sync, R: Threads + Clock + Sync>(
-    rt: &R,
-    seats: &mut [Seat<J>],
-    request: &Request,
-    reads: u32,
-) -> Option<Times> {
-    let (low, high) = seats.split_at_mut(seats.len() / 2);
-    let (a, b) = join(
-        rt,
-        || read_two(rt, low, request, reads),
-        || read_two(rt, high, request, reads),
-    );
-    both(a, b)
-}
-
 /// Asks each seat in a thread of its own, and then stops the writer.
 fn read_in_threads<J: Naming + Send + Sync, R: Threads + Clock + Sync>(
     rt: &R,
-    seats: &mut [Seat<J>],
+    readers: &mut [Reader<J>],
     request: &Request,
     reads: u32,
     stop: &AtomicBool,
 ) -> Option<Times> {
-    let times = match seats.len() {
-        1 => read_all(rt, seats, request, reads),
-        2 => read_two(rt, seats, request, reads),
-        _ => read_four(rt, seats, request, reads),
-    };
+    let threads = readers.len().max(1);
+    thread::for_each_mut(
+        rt,
+        readers,
+        threads,
+        &|_, reader: &mut Reader<J>| { reader.times = read(rt, &mut reader.seat, request, reads) },
+    );
     stop.store(true, Ordering::SeqCst);
-    times
+    sum_of(readers)
 }
 
 /// Takes the transfer of a number; false where there is no memory for its request.
@@ -162,21 +138,21 @@ fn read_beside<J: Naming + Send + Sync, R: Threads + Wait + Clock + Sync>(
     rt: &R,
     alloc: Global,
     publisher: &mut Publisher<J>,
-    seats: &mut [Seat<J>],
+    readers: &mut [Reader<J>],
     request: &Request,
-    scale: Scale,
+    task: Reads,
 ) -> (u32, Option<Times>) {
     let stop = AtomicBool::new(false);
     join(
         rt,
         || {
-            if scale.is_calm {
+            if task.is_calm {
                 0
             } else {
                 write(rt, alloc, publisher, &stop)
             }
         },
-        || read_in_threads(rt, seats, request, scale.reads, &stop),
+        || read_in_threads(rt, readers, request, task.each, &stop),
     )
 }
 
@@ -185,12 +161,12 @@ fn read_second<J: Naming + Send + Sync, R: Threads + Wait + Clock + Sync>(
     rt: &R,
     alloc: Global,
     publisher: &mut Publisher<J>,
-    seats: &mut [Seat<J>],
-    scale: Scale,
+    readers: &mut [Reader<J>],
+    task: Reads,
 ) -> Result<(u32, Option<Times>), Error> {
     let asked = first_requests(alloc)?;
     let read = match asked.get(1) {
-        Some(request) => Ok(read_beside(rt, alloc, publisher, seats, request, scale)),
+        Some(request) => Ok(read_beside(rt, alloc, publisher, readers, request, task)),
         None => Err(anyhow!("a request")),
     };
     drop(asked);
@@ -202,16 +178,30 @@ fn measure_reads<J: Naming + Send + Sync, R: Threads + Wait + Clock + Print + Ep
     rt: &R,
     alloc: Global,
     publisher: &mut Publisher<J>,
-    seats: &mut [Seat<J>],
-    scale: Scale,
+    readers: &mut [Reader<J>],
+    task: Reads,
 ) -> Result<(), Error> {
     prepare(rt, alloc, publisher)?;
-    let (taken, times) = read_second(rt, alloc, publisher, seats, scale)?;
+    let (taken, times) = read_second(rt, alloc, publisher, readers, task)?;
     let (asked, found) = wanted(times, "a seat failed")?;
-    println!(rt; "reads {} in each of {} threads", scale.reads, seats.len())?;
+    println!(rt; "reads {} in each of {} threads", task.each, readers.len())?;
     tell_time(rt, "status", asked)?;
     tell_time(rt, "lookup", found)?;
     tell_time(rt, "takes", u128::from(taken))
+}
+
+/// Measures reads of all seats, and lets them go.
+fn measure_seats<J: Naming + Send + Sync, R: Threads + Wait + Clock + Print + Eprint + Sync>(
+    rt: &R,
+    alloc: Global,
+    publisher: &mut Publisher<J>,
+    seats: Vec<Seat<J>>,
+    task: Reads,
+) -> Result<(), Error> {
+    let mut readers = readers_of(alloc, seats)?;
+    let measured = measure_reads(rt, alloc, publisher, readers.as_mut_slice(), task);
+    drop(readers);
+    measured
 }
 
 /// Opens a publisher with so many seats, and measures their reads, beside a busy writer unless it is calm.
@@ -219,14 +209,13 @@ pub fn measure<J: Naming + Send + Sync, R: Threads + Wait + Clock + Print + Epri
     rt: &R,
     alloc: Global,
     opening: Opening,
-    scale: Scale,
+    task: Reads,
 ) -> Result<(), Error>
     requires { opening ≡ J.opening }
 {
-    let seats = wanted(SeatCount::new(scale.threads), "seats")?;
-    let (mut publisher, mut seats) = open::<J, R>(alloc, rt, opening, seats)?;
-    let measured = measure_reads(rt, alloc, &mut publisher, seats.as_mut_slice(), scale);
+    let seats = wanted(SeatCount::new(task.threads), "seats")?;
+    let (mut publisher, seats) = open::<J, R>(alloc, rt, opening, seats)?;
+    let measured = measure_seats(rt, alloc, &mut publisher, seats, task);
     drop(publisher.close(rt));
-    drop(seats);
     measured
 }

@@ -2,31 +2,17 @@
 use crate::telling::add;
 use anyhow::Error;
 use std::alloc::Global;
+use tb_fixtures::{account, transfer, transfers};
 use tb_records::{Account, Body, Items, Request, Transfer};
 
 /// The number of accounts.
 const ACCOUNTS: u32 = 1000;
 
-fn account(id: u128) -> Account {
-    Account {
-        id,
-        ledger: 700,
-        code: 10,
-        ..Account::default()
-    }
-}
-
-fn transfer(id: u64) -> Transfer {
+/// A transfer of 1 between two of them.
+fn nth_transfer(id: u64) -> Transfer {
     let debit = id % u64::from(ACCOUNTS);
-    Transfer {
-        id: u128::from(id),
-        debit_account_id: u128::from(debit) + 1,
-        credit_account_id: u128::from(u64::from(ACCOUNTS) - debit),
-        amount: 1,
-        ledger: 700,
-        code: 10,
-        ..Transfer::default()
-    }
+    let credit = u64::from(ACCOUNTS) - debit;
+    transfer(u128::from(id), u128::from(debit) + 1, u128::from(credit), 1)
 }
 
 /// The two requests of client 7 that come first: a register, and the accounts.
@@ -74,12 +60,12 @@ pub fn round(alloc: Global, number: u32, requests: u32, each: u32) -> Result<Vec
 
 /// The request of a number, of so many transfers.
 fn batch(alloc: Global, number: u32, each: u32) -> Result<Request, Error> {
-    let mut transfers = Vec::with_capacity(alloc, each as usize)?;
+    let mut all = Vec::with_capacity(alloc, each as usize)?;
     let first = u64::from(number) * u64::from(each);
     for k in 0..each {
-        add(&mut transfers, transfer(first.saturating_add(u64::from(k))))?;
+        add(&mut all, nth_transfer(first.saturating_add(u64::from(k))))?;
     }
-    Ok(Request::new(7, 1, number, Body::CreateTransfers(Items::new(transfers)))?)
+    Ok(Request::new(7, 1, number, Body::CreateTransfers(Items::new(all)))?)
 }
 
 /// The requests that come before those of ports: client 100 creates the accounts, and a client of each port registers, so that
@@ -95,8 +81,7 @@ pub fn before_ports(alloc: Global, ports: u32) -> Result<Vec<Request>, Error> {
 /// The kth request of a client of one of so many ports: a transfer. The ids of all ports rise by turns.
 pub fn transfer_of(alloc: Global, client: u32, ports: u32, k: u32) -> Result<Request, Error> {
     let id = u64::from(k) * u64::from(ports) + u64::from(client);
-    let transfers = Vec::from_slice(alloc, &[transfer(id)])?;
-    let body = Body::CreateTransfers(Items::new(transfers));
+    let body = transfers(alloc, &[nth_transfer(id)])?;
     Ok(Request::new(
         u128::from(client),
         u64::from(client) + 2,

@@ -31,6 +31,12 @@ impl Kind {
             Kind::Singles | Kind::Eights => (1000, 1),
         }
     }
+
+    /// The requests of a round, from a number on.
+    fn round(self, alloc: Global, number: u32) -> Result<Vec<Request>, Error> {
+        let (count, each) = self.sizes();
+        round(alloc, number, count, each)
+    }
 }
 
 /// Takes requests with a show each.
@@ -101,17 +107,19 @@ fn put_entries(
     Ok(())
 }
 
-/// Appends the entries that requests make by a machine, one after another, of so many events each.
+/// Appends the entries that the requests of a round make by a machine, from a number on.
 fn put_next(
+    alloc: Global,
     machine: &Machine<Global>,
     entries: &mut Vec<Entry>,
-    requests: Vec<Request>,
-    each: u32,
+    kind: Kind,
+    number: u32,
 ) -> Result<(), Error> {
+    let (_, each) = kind.sizes();
     let Some(time) = machine.next_time(0, u64::from(each)) else {
-        drop(requests);
         return Err(anyhow!("a time"));
     };
+    let requests = kind.round(alloc, number)?;
     put_entries(entries, machine.commit(), time, requests, each)
 }
 
@@ -176,10 +184,8 @@ fn apply_next<R: Clock>(
     kind: Kind,
     number: u32,
 ) -> Result<Duration, Error> {
-    let (count, each) = kind.sizes();
-    let requests = round(alloc, number, count, each)?;
     let mut entries = Vec::new(alloc);
-    let applied = match put_next(machine, &mut entries, requests, each) {
+    let applied = match put_next(alloc, machine, &mut entries, kind, number) {
         Ok(()) => apply_round(rt, machine, entries.as_slice()),
         Err(fault) => Err(fault),
     };
@@ -195,8 +201,7 @@ fn take_next<J: Naming, R: Wait + Clock>(
     kind: Kind,
     number: u32,
 ) -> Result<Duration, Error> {
-    let (count, each) = kind.sizes();
-    let requests = round(alloc, number, count, each)?;
+    let requests = kind.round(alloc, number)?;
     let start = Instant::now(rt);
     take_kind(rt, publisher, kind, requests)?;
     Ok(start?.elapsed(rt)?)

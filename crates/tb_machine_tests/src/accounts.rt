@@ -1,10 +1,10 @@
 //! Accounts that are created or refused, and the most of them in one request.
 use crate::comparing::holds;
-use crate::fixtures::{account, account_with, at, found, transfer};
 use crate::scripts::Script;
 use crate::serving::{PROFILES, expect_all, serve_on};
 use crate::steps::{Step, put_steps};
 use std::process::Abort;
+use tb_fixtures::{account, account_with, at, found, transfer};
 use tb_records::{
     Account, AccountFlag, CreateAccountResult as AccountOutcome, CreateTransferResult as Outcome,
     Operation,
@@ -12,7 +12,7 @@ use tb_records::{
 
 /// Nine accounts, of which the last is right.
 #[test]
-fn accounts_refused(rt: HostRuntime) {
+fn account_refusals(rt: HostRuntime) {
     serve_on(
         &rt,
         rt.alloc(),

@@ -1,7 +1,8 @@
 //! Single transfers: those that balance an account, and sums that would pass 128 bits.
-use crate::fixtures::{account, account_with, at, both_balanced, debit_balanced, held, transfer};
+use crate::fixtures::{both_balanced, debit_balanced};
 use crate::serving::{PROFILES, serve_on};
 use crate::steps::Step;
+use tb_fixtures::{account, account_with, at, held, transfer};
 use tb_records::{
     AccountFlag, CreateAccountResult as AccountOutcome, CreateTransferResult as Outcome, Operation,
 };
@@ -75,7 +76,7 @@ fn balancing_both_ways(rt: HostRuntime) {
 }
 
 #[test]
-fn sum_overflows(rt: HostRuntime) {
+fn sums_overflow(rt: HostRuntime) {
     serve_on(
         &rt,
         rt.alloc(),

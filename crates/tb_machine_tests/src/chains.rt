@@ -1,11 +1,12 @@
 //! Linked chains that are undone or left open, and ids that failed.
-use crate::fixtures::{account, at, found, held, linked, post, transfer};
 use crate::serving::{PROFILES, serve_both, serve_on};
 use crate::steps::Step;
+use tb_fixtures::{account, at, found, held, linked, post, transfer};
 use tb_records::{CreateTransferResult as Outcome, Operation, Profile};
 
+/// A chain that its second event breaks.
 #[test]
-fn chain_undone(rt: HostRuntime) {
+fn chains_whole_or_not(rt: HostRuntime) {
     serve_on(
         &rt,
         rt.alloc(),
@@ -31,8 +32,9 @@ fn chain_undone(rt: HostRuntime) {
     );
 }
 
+/// Chains that are open at the end of their batch, one of them broken before.
 #[test]
-fn chain_open(rt: HostRuntime) {
+fn chains_left_open(rt: HostRuntime) {
     serve_on(
         &rt,
         rt.alloc(),
@@ -56,6 +58,28 @@ fn chain_open(rt: HostRuntime) {
             Step::Id(57),
             Step::Send(Operation::LookupTransfers),
             Step::First([0; 4]),
+        ],
+    );
+}
+
+/// What a chain did stays once it is whole, however the next one breaks.
+#[test]
+fn whole_chain_before_a_broken_one(rt: HostRuntime) {
+    serve_on(
+        &rt,
+        rt.alloc(),
+        &PROFILES,
+        &[
+            Step::Transfer(linked(transfer(1, 1, 2, 1)), Outcome::Ok),
+            Step::Transfer(transfer(2, 1, 2, 1), Outcome::Ok),
+            Step::Transfer(linked(transfer(3, 1, 2, 1)), Outcome::LinkedEventFailed),
+            Step::Transfer(transfer(4, 99, 2, 1), Outcome::DebitAccountNotFound),
+            Step::Send(Operation::CreateTransfers),
+            Step::First([0, 2, 0, 0]),
+            Step::Id(3),
+            Step::Id(2),
+            Step::FoundTransfer(at(14, transfer(2, 1, 2, 1))),
+            Step::Send(Operation::LookupTransfers),
         ],
     );
 }
@@ -101,7 +125,7 @@ fn failed_again(outcome: Outcome, posted: u128) -> [Step; 11] {
 }
 
 #[test]
-fn failed_ids_are_free_by_profile_one(rt: HostRuntime) {
+fn failed_id_is_refused_again(rt: HostRuntime) {
     serve_both(
         &rt,
         rt.alloc(),
@@ -114,10 +138,6 @@ fn failed_ids_are_free_by_profile_one(rt: HostRuntime) {
             Step::Send(Operation::LookupTransfers),
         ],
     );
-}
-
-#[test]
-fn failed_ids_stay_by_profile_two(rt: HostRuntime) {
     serve_both(
         &rt,
         rt.alloc(),
@@ -148,6 +168,25 @@ fn failed_ids_outlive_their_chain(rt: HostRuntime) {
             Step::Single(transfer(75, 1, 2, 1), Outcome::Ok),
             Step::Single(post(76, 999, 0), Outcome::PendingTransferNotFound),
             Step::Single(post(76, 999, 0), Outcome::IdAlreadyFailed),
+        ],
+    );
+}
+
+/// Failed ids are found again in whatever order they failed, and an id between them is free.
+#[test]
+fn failed_ids_in_any_order(rt: HostRuntime) {
+    serve_on(
+        &rt,
+        rt.alloc(),
+        &[Profile::Two],
+        &[
+            Step::Single(transfer(5, 99, 2, 1), Outcome::DebitAccountNotFound),
+            Step::Single(transfer(9, 99, 2, 1), Outcome::DebitAccountNotFound),
+            Step::Single(transfer(7, 99, 2, 1), Outcome::DebitAccountNotFound),
+            Step::Single(transfer(5, 1, 2, 1), Outcome::IdAlreadyFailed),
+            Step::Single(transfer(7, 1, 2, 1), Outcome::IdAlreadyFailed),
+            Step::Single(transfer(9, 1, 2, 1), Outcome::IdAlreadyFailed),
+            Step::Single(transfer(6, 1, 2, 1), Outcome::Ok),
         ],
     );
 }

@@ -1,12 +1,12 @@
-//! Sessions by the machine's own calls: repeats, classes, and who is evicted.
+//! Sessions by the machine's own calls: repeats and classes.
 use crate::comparing::holds;
-use crate::fixtures::transfer;
 use crate::machines::{
     Ask, Numbers, ReplyNumbers, class_of, enter, enter_all, entry_of, first_four, machine,
     reply_of, request_of,
 };
 use std::alloc::Global;
 use std::process::Abort;
+use tb_fixtures::transfer;
 use tb_machine::{Machine, answer_of};
 use tb_records::Status;
 use tb_sessions::Class;
@@ -103,98 +103,5 @@ fn each_refusal_by_its_class(rt: HostRuntime) {
     let mut machine = machine(&rt, rt.alloc(), 2);
     enter_all(&rt, rt.alloc(), &mut machine, &first_four());
     expect_classes(&rt, rt.alloc(), &machine);
-    drop(machine);
-}
-
-fn session_of(machine: &Machine<Global>, client: u128) -> Option<u64> {
-    Some(machine.reply_of(client)?.session())
-}
-
-/// A client's first request in a session has this class.
-fn expect_first(
-    rt: &impl Abort,
-    alloc: Global,
-    machine: &Machine<Global>,
-    client: u128,
-    session: u64,
-    class: Class,
-) {
-    let numbers = (client, session, 1);
-    let found = class_of(rt, alloc, machine, numbers, Ask::NoneLookedUp);
-    holds(rt, found == class, &numbers);
-}
-
-/// Registers a client, which then has this session.
-fn expect_session(
-    rt: &impl Abort,
-    alloc: Global,
-    machine: &mut Machine<Global>,
-    client: u128,
-    session: u64,
-) {
-    enter(rt, alloc, machine, (client, 0, 0), Ask::Register);
-    holds(rt, session_of(machine, client) == Some(session), &client);
-}
-
-/// Clients 7 and 8 register, and client 7 looks nothing up.
-const TWO_REGISTERED: [(Numbers, Ask); 3] = [
-    ((7, 0, 0), Ask::Register),
-    ((8, 0, 0), Ask::Register),
-    ((7, 1, 1), Ask::NoneLookedUp),
-];
-
-/// Each client that registers takes the place of the one whose reply has the least commit number. Client 8's first request
-/// is of the session that its register began.
-fn expect_evictions(rt: &impl Abort, alloc: Global, machine: &mut Machine<Global>) {
-    for (client, session, evicted, late) in [
-        (9, 4, 8, Class::NoSession),
-        (8, 5, 7, Class::SessionTooLow),
-        (7, 6, 9, Class::SessionTooLow),
-    ] {
-        expect_session(rt, alloc, machine, client, session);
-        holds(rt, session_of(machine, evicted).is_none(), &client);
-        expect_first(rt, alloc, machine, 8, 2, late);
-    }
-}
-
-#[test]
-fn least_commit_is_evicted(rt: HostRuntime) {
-    let mut machine = machine(&rt, rt.alloc(), 2);
-    enter_all(&rt, rt.alloc(), &mut machine, &TWO_REGISTERED);
-    expect_evictions(&rt, rt.alloc(), &mut machine);
-    drop(machine);
-}
-
-/// Registers clients 1 to 100, one after another.
-fn register_hundred(rt: &impl Abort, alloc: Global, machine: &mut Machine<Global>) {
-    for client in 1u64..101 {
-        enter(rt, alloc, machine, (client as u128, 0, 0), Ask::Register);
-    }
-}
-
-/// Of clients 1 to 100 all but the last have no session.
-fn expect_ninety_nine(rt: &impl Abort, alloc: Global, machine: &Machine<Global>) {
-    let mut count = 0_u32;
-    for number in 1u64..101 {
-        let numbers = (number as u128, number, 1);
-        let class = class_of(rt, alloc, machine, numbers, Ask::NoneLookedUp);
-        count = count.wrapping_add(u32::from(class == Class::NoSession));
-    }
-    holds(rt, count == 99, &count);
-}
-
-/// The last of a hundred clients has the place, and gives it to the first, who comes again.
-#[test]
-fn many_clients_in_one_place(rt: HostRuntime) {
-    let alloc = rt.alloc();
-    let mut machine = machine(&rt, alloc, 1);
-    register_hundred(&rt, alloc, &mut machine);
-    expect_ninety_nine(&rt, alloc, &machine);
-    let last = (100, 100, 1);
-    let (commit, _) = enter(&rt, alloc, &mut machine, last, Ask::NoneLookedUp);
-    holds(&rt, commit == 101, &"the commit number");
-    expect_session(&rt, alloc, &mut machine, 1, 102);
-    expect_first(&rt, alloc, &machine, 1, 1, Class::SessionTooLow);
-    expect_first(&rt, alloc, &machine, 100, 100, Class::NoSession);
     drop(machine);
 }

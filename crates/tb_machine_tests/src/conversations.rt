@@ -1,14 +1,13 @@
 //! Replies leave before the program waits: a reader that fails where it is asked for more while a reply is still held back.
 use crate::comparing::holds;
+use crate::forms::{Form, Outcome, serve};
 use crate::scripts::Script;
-use crate::serving::room;
 use crate::steps::{begin, put_steps, third};
 use std::alloc::Global;
 use std::cell::Cell;
 use std::io::{self, BufReader, Error, ErrorKind, Read, Write};
 use std::process::Abort;
-use tb_machine::{dump, replay, run};
-use tb_records::{Buffered, Counting, Profile, Sink, Source};
+use tb_records::{Buffered, Counting};
 
 /// Where a part of the input ends, and how many bytes are to be passed on before more is asked for.
 type Turn = (usize, usize);
@@ -76,30 +75,6 @@ impl Write for Holding<'_> {
     }
 }
 
-/// What serves a script, or replays its dump.
-#[derive(Clone, Copy)]
-enum Form {
-    Run,
-    Dump,
-    Replay,
-}
-
-/// Serves a reader's input; says whether all went well.
-fn serve<R: Source, W: Sink>(
-    rt: &impl Abort,
-    alloc: Global,
-    form: Form,
-    reader: &mut R,
-    writer: &mut W,
-) -> bool {
-    let clients_max = room(rt, 2);
-    match form {
-        Form::Run => run(alloc, Profile::One, clients_max, reader, writer).is_ok(),
-        Form::Dump => dump(alloc, clients_max, Some(1), reader, writer).is_ok(),
-        Form::Replay => replay(alloc, reader, writer).is_ok(),
-    }
-}
-
 /// Serves an input that comes in pieces. All is passed on at the end, and what was written is given back.
 fn converse(
     rt: &impl Abort,
@@ -123,9 +98,9 @@ fn converse(
         taken,
         passed: &passed,
     });
-    let done = serve(rt, alloc, form, &mut reader, &mut writer);
+    let outcome = serve(rt, alloc, form, &mut reader, &mut writer);
     drop(reader);
-    holds(rt, done, &piece);
+    holds(rt, outcome == Outcome::Done, &piece);
     let Holding { taken, passed } = writer.into_inner();
     holds(rt, passed.get() == taken.len(), &piece);
     taken

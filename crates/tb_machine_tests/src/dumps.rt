@@ -1,12 +1,12 @@
 //! Scripts that are dumped and dumps that are replayed, in memory: worked rows, by the bytes that the formats give.
 use crate::comparing::holds;
-use crate::frames::put_lines;
+use crate::frames::{REQUESTS, put_lines};
+use crate::machines::clients_max;
 use crate::scripts::put_bytes;
-use crate::serving::room;
 use std::alloc::Global;
 use std::process::Abort;
 use tb_machine::{RunFault, dump, replay};
-use tb_records::{ClientsMax, Counting, DumpFault, FrameFault};
+use tb_records::{Counting, DumpFault, FrameFault};
 
 /// Bytes as they are written in hex, 16 a line.
 type Line = u128;
@@ -47,33 +47,10 @@ fn put_register(rt: &impl Abort, out: &mut Vec<u8>, moment: u64, client: u8) {
     put_lines(rt, out, &[(client as u128) << 120, REGISTER, 0]);
 }
 
-/// Accounts 1 and 2, as client 7's first request.
-const ACCOUNTS: [Line; 19] = [
-    CLIENT,
-    0x01000000000000000100000081000000,
-    0x00010000000000000000000000000000,
-    1 << 120,
-    0,
-    0,
-    0,
-    0,
-    0,
-    0,
-    END,
-    2 << 120,
-    0,
-    0,
-    0,
-    0,
-    0,
-    0,
-    END,
-];
-
 /// Appends accounts 1 and 2 at moment 10.
 fn put_accounts(rt: &impl Abort, out: &mut Vec<u8>) {
     put_bytes(rt, out, &10u64.to_le_bytes());
-    put_lines(rt, out, &ACCOUNTS);
+    put_lines(rt, out, REQUESTS[1]);
 }
 
 /// Appends a transfer of 1 to account 2 at moment 10, as client 7's request of a number below 256.
@@ -94,15 +71,15 @@ fn put_failed_and_again(rt: &impl Abort, out: &mut Vec<u8>) {
     put_transfer(rt, out, 3, 77, 1);
 }
 
-/// Dumps a script, and compares the answer; gives what was written.
+/// Dumps a script for two clients, and compares the answer; gives what was written.
 fn dumped(
     rt: &impl Abort,
     alloc: Global,
-    clients_max: ClientsMax,
     at: Option<u64>,
     script: &[u8],
     answer: Result<u64, RunFault>,
 ) -> Vec<u8> {
+    let clients_max = clients_max(rt, 2);
     let mut reader = Counting::new(script);
     let mut writer = Counting::new(Vec::new(alloc));
     let result = dump(alloc, clients_max, at, &mut reader, &mut writer);
@@ -119,7 +96,7 @@ fn expect_length(
     answer: Result<u64, RunFault>,
     length: usize,
 ) {
-    let dump = dumped(rt, alloc, room(rt, 2), at, script, answer);
+    let dump = dumped(rt, alloc, at, script, answer);
     holds(rt, dump.len() == length, &length);
     drop(dump);
 }
@@ -153,7 +130,7 @@ fn dump_and_replay(rt: HostRuntime) {
     let mut script = Vec::new(alloc);
     put_register(&rt, &mut script, 10, 7);
     put_register(&rt, &mut script, 10, 7);
-    let dump = dumped(&rt, alloc, room(&rt, 2), None, &script, Ok(1));
+    let dump = dumped(&rt, alloc, None, &script, Ok(1));
     holds(&rt, dump.len() == 80, &"the length of a dump");
     expect_lines(&rt, alloc, &dump, &ONE_REGISTER);
     let replies = replayed(&rt, alloc, &dump, Ok(1));
@@ -194,7 +171,7 @@ fn expect_mark(
     want: (usize, Option<usize>, u8),
 ) {
     let (length, mark, code) = want;
-    let dump = dumped(rt, alloc, room(rt, 2), at, script, Ok(4));
+    let dump = dumped(rt, alloc, at, script, Ok(4));
     let replies = replayed(rt, alloc, &dump, Ok(4));
     holds(rt, dump.len() == length, &at);
     holds(rt, has_mark(&dump, mark), &at);
@@ -289,7 +266,7 @@ fn expect_row(rt: &impl Abort, alloc: Global, row: Row) {
 }
 
 #[test]
-fn dumps_replayed(rt: HostRuntime) {
+fn dump_faults(rt: HostRuntime) {
     for row in ROWS {
         expect_row(&rt, rt.alloc(), row);
     }

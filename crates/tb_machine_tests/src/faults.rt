@@ -1,15 +1,17 @@
 //! Scripts that end before their time: no time is left, or a frame is at fault or cut.
 use crate::comparing::holds;
+use crate::machines::clients_max;
 use crate::scripts::{Head, Script};
-use crate::serving::{PROFILES, expect, expect_bytes, room};
+use crate::serving::{PROFILES, expect, expect_bytes};
 use crate::steps::{Step, begin, put_steps, third};
+use std::alloc::Global;
 use std::process::Abort;
 use tb_machine::RunFault;
 use tb_records::{ClientsMax, FrameFault, Operation, Profile};
 
 /// Serves a script by each profile as far as its fault, for two clients at most, and lets it go.
 fn expect_fault(rt: &impl Abort, script: Script, fault: RunFault) {
-    let clients_max = room(rt, 2);
+    let clients_max = clients_max(rt, 2);
     for profile in PROFILES {
         expect(rt, &script, clients_max, profile, Err(fault));
     }
@@ -28,31 +30,19 @@ const EXHAUSTED: [Step; 5] = [
     Step::Moment(0),
 ];
 
+/// There is no time for client 8's register behind these steps.
+fn expect_exhausted(rt: &impl Abort, alloc: Global, steps: &[Step]) {
+    let mut script = Script::new(alloc);
+    put_steps(rt, &mut script, steps);
+    script.ask(rt, Head::register(8, 0));
+    expect_fault(rt, script, RunFault::TimeExhausted);
+}
+
+/// Behind an entry at the last moment, and for the first entry behind it.
 #[test]
 fn time_runs_out(rt: HostRuntime) {
-    let mut script = Script::new(rt.alloc());
-    put_steps(&rt, &mut script, &EXHAUSTED);
-    script.ask(&rt, Head::register(8, 0));
-    expect_fault(&rt, script, RunFault::TimeExhausted);
-}
-
-/// There is no time for the first entry.
-#[test]
-fn no_time_from_the_first(rt: HostRuntime) {
-    let mut script = Script::new(rt.alloc());
-    script.moment = 1 << 63;
-    script.ask(&rt, Head::register(7, 0));
-    expect_fault(&rt, script, RunFault::TimeExhausted);
-}
-
-/// The second frame ends after 47 bytes.
-#[test]
-fn second_frame_cut(rt: HostRuntime) {
-    let mut script = Script::new(rt.alloc());
-    script.register(&rt, 7, 1);
-    script.ask(&rt, Head::register(8, 0));
-    script.bytes.truncate(111);
-    expect_fault(&rt, script, RunFault::Frame(FrameFault::Short));
+    expect_exhausted(&rt, rt.alloc(), &EXHAUSTED);
+    expect_exhausted(&rt, rt.alloc(), &[Step::Moment(LAST + 1)]);
 }
 
 /// A header announces one account more than a body may have.
@@ -101,7 +91,7 @@ fn script_cut_at_each_length(rt: HostRuntime) {
     put_steps(&rt, &mut script, &third());
     holds(&rt, script.bytes.len() == 472, &"bytes of requests");
     holds(&rt, script.replies.len() == 400, &"bytes of replies");
-    let clients_max = room(&rt, 2);
+    let clients_max = clients_max(&rt, 2);
     for len in 0..473 {
         expect_cut(&rt, &script, clients_max, Profile::One, len);
         expect_cut(&rt, &script, clients_max, Profile::Two, len);

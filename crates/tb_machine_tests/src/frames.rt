@@ -7,8 +7,8 @@ use std::process::Abort;
 /// An account's last 16 bytes before it has a timestamp.
 const NEW: u128 = 0xbc0200000a0000000000000000000000;
 
-/// The frames of the three requests, 16 bytes a line. Each stands behind the moment 10, in 8 bytes.
-const REQUESTS: [&[u128]; 3] = [
+/// The frames of the three requests, 16 bytes a line: a register, two accounts, a lookup. Each stands behind the moment 10, in 8 bytes.
+pub const REQUESTS: [&[u128]; 3] = [
     &[
         0x07000000000000000000000000000000,
         0x00000000000000000000000002000000,

@@ -3,12 +3,12 @@
 //! Modules, each over those before it:
 //!
 //! - `scripts`: scripts and wanted replies, put together field by field.
-//! - `fixtures`: the accounts and transfers of the rows.
+//! - `fixtures`: transfers that balance and that close, beside those of tb_fixtures.
 //! - `steps`: a script as data: each step with its answer.
 //! - `comparing`: what is compared, in one place.
 //! - `frames`: frames in hexadecimal.
 //! - `machines`: what machines are asked.
-//! - `records`: what lookups find.
+//! - `records`: what the machine's own lookups find.
 //! - `classes`: sessions by the machine's own calls.
 //! - `serving`: scripts served.
 //! - `accounts`: accounts that are created or refused.
@@ -16,8 +16,9 @@
 //! - `chains`: chains undone or left open, and failed ids.
 //! - `pending`: posts, voids, closing and expiry.
 //! - `sessions`: registers, repeats, refusals and evictions, by scripts.
+//! - `forms`: `run`, `dump` and `replay` as one call.
 //! - `conversations`: replies leave before the program waits.
-//! - `asking`: nothing is asked again.
+//! - `asking`: nothing is asked again, and what was read is answered.
 //! - `faults`: scripts that end before their time.
 //! - `entries`: entries by themselves.
 //! - `dumps`: scripts dumped, dumps replayed.
@@ -46,6 +47,8 @@ mod entries;
 mod faults;
 #[cfg(test)]
 mod fixtures;
+#[cfg(test)]
+mod forms;
 #[cfg(test)]
 mod frames;
 #[cfg(test)]

@@ -1,10 +1,10 @@
 //! Machines that entries move on, and what is asked of them.
 use crate::comparing::holds;
-use crate::fixtures::{account, transfer};
-use std::alloc::Global;
+use std::alloc::{AllocError, Global};
 use std::process::Abort;
+use tb_fixtures::{account, creation, lookup, transfer, transfers};
 use tb_machine::{Entry, Machine};
-use tb_records::{Account, Body, ClientsMax, Items, Profile, Request, Status, Transfer};
+use tb_records::{Body, ClientsMax, Profile, Request, Status, Transfer};
 use tb_sessions::Class;
 
 /// A request's client, session and number.
@@ -23,45 +23,35 @@ pub enum Ask {
     ThreeLookedUp,
     /// A lookup of no account.
     NoneLookedUp,
-    /// A lookup of transfers 25 and 21.
-    PostsLookedUp,
     Transfer(Transfer),
 }
 
-fn lookup_of(rt: &impl Abort, alloc: Global, ids: &[u128]) -> Items<u128> {
-    Items::new(Vec::from_slice(alloc, ids).expect(rt, "memory"))
-}
-
-fn accounts_of(rt: &impl Abort, alloc: Global, rows: &[Account]) -> Body {
-    Body::CreateAccounts(Items::new(Vec::from_slice(alloc, rows).expect(rt, "memory")))
-}
-
-fn transfers_of(rt: &impl Abort, alloc: Global, rows: &[Transfer]) -> Body {
-    Body::CreateTransfers(Items::new(Vec::from_slice(alloc, rows).expect(rt, "memory")))
-}
-
-fn body_of(rt: &impl Abort, alloc: Global, ask: Ask) -> Body {
+fn body_of(alloc: Global, ask: Ask) -> Result<Body, AllocError> {
     match ask {
-        Ask::Register => Body::Register,
-        Ask::TwoAccounts => accounts_of(rt, alloc, &[account(1), account(2)]),
-        Ask::ThreeLookedUp => Body::LookupAccounts(lookup_of(rt, alloc, &[2, 9, 1])),
-        Ask::NoneLookedUp => Body::LookupAccounts(lookup_of(rt, alloc, &[])),
-        Ask::PostsLookedUp => Body::LookupTransfers(lookup_of(rt, alloc, &[25, 21])),
-        Ask::Transfer(row) => transfers_of(rt, alloc, &[row]),
+        Ask::Register => Ok(Body::Register),
+        Ask::TwoAccounts => creation(alloc, &[account(1), account(2)]),
+        Ask::ThreeLookedUp => lookup(alloc, &[2, 9, 1]),
+        Ask::NoneLookedUp => lookup(alloc, &[]),
+        Ask::Transfer(row) => transfers(alloc, &[row]),
     }
 }
 
 /// A request by its numbers.
 pub fn request_of(rt: &impl Abort, alloc: Global, numbers: Numbers, ask: Ask) -> Request {
     let (client, session, number) = numbers;
-    let body = body_of(rt, alloc, ask);
+    let body = body_of(alloc, ask).expect(rt, "memory");
     Request::new(client, session, number, body).expect(rt, "a request")
 }
 
-/// A machine by profile 1 with room for the sessions of so many clients.
-pub fn machine(rt: &impl Abort, alloc: Global, clients_max: u32) -> Machine<Global> {
-    let clients_max = ClientsMax::new(clients_max).expect(rt, "clients_max");
-    Machine::new_in(alloc, alloc, Profile::One, clients_max).expect(rt, "a machine")
+/// So many clients at most.
+pub fn clients_max(rt: &impl Abort, number: u32) -> ClientsMax {
+    ClientsMax::new(number).expect(rt, "clients_max")
+}
+
+/// A machine by profile 1 for so many clients at most.
+pub fn machine(rt: &impl Abort, alloc: Global, clients: u32) -> Machine<Global> {
+    let made = Machine::new_in(alloc, alloc, Profile::One, clients_max(rt, clients));
+    made.expect(rt, "a machine")
 }
 
 /// The class of a request.

@@ -1,10 +1,12 @@
 //! Pending transfers: their posts and voids, the closing of an account, and expiry.
-use crate::fixtures::{
-    account, account_with, at, closing, found, held, post, resolved, transfer, void, with_timeout,
-};
+use crate::fixtures::{closing, resolved};
 use crate::serving::{PROFILES, serve_both, serve_on};
 use crate::steps::Step;
-use tb_records::{AccountFlag, CreateTransferResult as Outcome, Operation, Profile};
+use tb_fixtures::{account, account_with, at, found, held, post, transfer, void, with_timeout};
+use tb_records::{
+    AccountFlag, CreateAccountResult as AccountOutcome, CreateTransferResult as Outcome, Operation,
+    Profile,
+};
 
 /// Posts of the whole, of 15 and of nothing.
 fn posts() -> [Step; 14] {
@@ -26,8 +28,9 @@ fn posts() -> [Step; 14] {
     ]
 }
 
-/// A void, a second one, voids of less and of more than the whole, and a post of what is not pending.
-fn voids() -> [Step; 14] {
+/// A void, a second one, voids of less and of more than the whole, a post of what is not pending, and a post and a void of what was
+/// posted.
+fn voids() -> [Step; 16] {
     [
         Step::Single(held(30, 40), Outcome::Ok),
         Step::Single(void(31, 30, 0), Outcome::Ok),
@@ -36,6 +39,8 @@ fn voids() -> [Step; 14] {
         Step::Single(void(34, 33, 39), Outcome::PendingTransferHasDifferentAmount),
         Step::Single(void(34, 33, 41), Outcome::ExceedsPendingTransferAmount),
         Step::Single(post(36, 31, 0), Outcome::PendingTransferNotPending),
+        Step::Single(post(26, 20, 0), Outcome::PendingTransferAlreadyPosted),
+        Step::Single(void(26, 20, 0), Outcome::PendingTransferAlreadyPosted),
         Step::Id(31),
         Step::Id(32),
         Step::Id(34),
@@ -47,7 +52,7 @@ fn voids() -> [Step; 14] {
 }
 
 #[test]
-fn posts_and_voids(rt: HostRuntime) {
+fn voids_and_resolved_pendings(rt: HostRuntime) {
     serve_both(&rt, rt.alloc(), &PROFILES, &posts(), &voids());
 }
 
@@ -77,16 +82,38 @@ fn closed_and_opened(outcome: Outcome, posted: u128) -> [Step; 16] {
 
 /// By profile 2 the transfer that came while the account was closed has failed for good.
 #[test]
-fn account_closed_and_opened(rt: HostRuntime) {
+fn closing_and_reopening(rt: HostRuntime) {
     let by_one = closed_and_opened(Outcome::Ok, 1);
     serve_on(&rt, rt.alloc(), &[Profile::One], &by_one);
     let by_two = closed_and_opened(Outcome::IdAlreadyFailed, 0);
     serve_on(&rt, rt.alloc(), &[Profile::Two], &by_two);
 }
 
+/// An account that is asked again exists with the flags that it has as it stands.
+#[test]
+fn asked_again_while_closed(rt: HostRuntime) {
+    let closed = account_with(AccountFlag::Closed, account(1));
+    let other_flags = AccountOutcome::ExistsWithDifferentFlags;
+    serve_on(
+        &rt,
+        rt.alloc(),
+        &PROFILES,
+        &[
+            Step::Single(closing(40, 0), Outcome::Ok),
+            Step::Account(account(1), other_flags),
+            Step::Account(closed, AccountOutcome::Exists),
+            Step::Send(Operation::CreateAccounts),
+            Step::Single(void(45, 40, 0), Outcome::Ok),
+            Step::Account(account(1), AccountOutcome::Exists),
+            Step::Account(closed, other_flags),
+            Step::Send(Operation::CreateAccounts),
+        ],
+    );
+}
+
 /// A pending transfer holds its amount until the very moment it expires.
 #[test]
-fn pending_transfer_expires(rt: HostRuntime) {
+fn expiry_at_the_moment(rt: HostRuntime) {
     let short = with_timeout(1, held(60, 40));
     serve_on(
         &rt,
@@ -131,7 +158,7 @@ fn closed_for_a_second(outcome: Outcome, posted: u128) -> [Step; 10] {
 
 /// By profile 2 the transfer that came while the account was closed has failed for good.
 #[test]
-fn closing_transfer_expires(rt: HostRuntime) {
+fn closing_expires_and_timeout_overflows(rt: HostRuntime) {
     let by_one = closed_for_a_second(Outcome::Ok, 1);
     serve_on(&rt, rt.alloc(), &[Profile::One], &by_one);
     let by_two = closed_for_a_second(Outcome::IdAlreadyFailed, 0);

@@ -1,6 +1,6 @@
 //! Scripts in memory, served: by `run`, and by the machine's own calls.
 use crate::comparing::holds;
-use crate::machines::apply_entry;
+use crate::machines::{apply_entry, clients_max};
 use crate::scripts::Script;
 use crate::steps::{Step, begin, put_steps};
 use std::alloc::Global;
@@ -138,14 +138,9 @@ pub fn expect_whole(rt: &impl Abort, script: &Script, clients_max: ClientsMax, p
 /// The profiles: what a script says of both is served by each.
 pub const PROFILES: [Profile; 2] = [Profile::One, Profile::Two];
 
-/// Room for so many clients.
-pub fn room(rt: &impl Abort, clients_max: u32) -> ClientsMax {
-    ClientsMax::new(clients_max).expect(rt, "clients_max")
-}
-
 /// Serves a script to its end by profiles, for two clients at most.
 pub fn expect_all(rt: &impl Abort, script: &Script, profiles: &[Profile]) {
-    let clients_max = room(rt, 2);
+    let clients_max = clients_max(rt, 2);
     for profile in profiles {
         expect_whole(rt, script, clients_max, *profile);
     }

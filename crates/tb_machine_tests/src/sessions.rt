@@ -1,21 +1,12 @@
 //! Registers, repeats, refusals and evictions, by scripts.
 use crate::comparing::holds;
-use crate::fixtures::transfer;
+use crate::machines::clients_max;
 use crate::scripts::Script;
-use crate::serving::{PROFILES, expect_whole, room, serve_both, serve_on, serve_steps};
+use crate::serving::{PROFILES, expect_whole, serve_both, serve_on, serve_steps};
 use crate::steps::{Step, put_steps, third};
 use std::process::Abort;
-use tb_records::Status;
-
-#[test]
-fn empty_script(rt: HostRuntime) {
-    serve_steps(&rt, rt.alloc(), &PROFILES, &[]);
-}
-
-#[test]
-fn first_register(rt: HostRuntime) {
-    serve_steps(&rt, rt.alloc(), &PROFILES, &[Step::Register(7, 1)]);
-}
+use tb_fixtures::{account, at, found, transfer};
+use tb_records::{CreateTransferResult, Operation, Status};
 
 /// The history has one entry.
 #[test]
@@ -33,16 +24,12 @@ fn register_repeated(rt: HostRuntime) {
 }
 
 #[test]
-fn accounts_created(rt: HostRuntime) {
-    serve_on(&rt, rt.alloc(), &PROFILES, &[]);
-}
-
-#[test]
 fn accounts_looked_up_in_order(rt: HostRuntime) {
     serve_on(&rt, rt.alloc(), &PROFILES, &third());
 }
 
-/// The transfer again gets the same reply; the request before it is older. The history has 4 entries.
+/// The transfer again gets the same reply; the request before it is older. The history has 4 entries, and what the transfer
+/// left is looked up.
 #[test]
 fn transfer_repeated_and_older(rt: HostRuntime) {
     let hundred = transfer(11, 1, 2, 100);
@@ -52,10 +39,17 @@ fn transfer_repeated_and_older(rt: HostRuntime) {
         &PROFILES,
         &third(),
         &[
-            Step::Numbered(3, hundred, Status::Reply, 4),
+            Step::Single(hundred, CreateTransferResult::Ok),
             Step::Numbered(3, hundred, Status::Reply, 4),
             Step::Again(2, Status::Older),
-            Step::Look(7, 1, 4, Status::Reply, 5),
+            Step::Id(11),
+            Step::FoundTransfer(at(14, hundred)),
+            Step::Send(Operation::LookupTransfers),
+            Step::Id(1),
+            Step::Id(2),
+            Step::FoundAccount(found([0, 100, 0, 0], 11, account(1))),
+            Step::FoundAccount(found([0, 0, 0, 100], 12, account(2))),
+            Step::Send(Operation::LookupAccounts),
         ],
     );
 }
@@ -127,7 +121,7 @@ fn eviction_storm(rt: HostRuntime) {
     put_hundred(&rt, &mut script);
     put_steps(&rt, &mut script, &LAST);
     holds(&rt, script.requests == 203, &script.requests);
-    let clients_max = room(&rt, 1);
+    let clients_max = clients_max(&rt, 1);
     for profile in PROFILES {
         expect_whole(&rt, &script, clients_max, profile);
     }

@@ -1,7 +1,7 @@
 //! A script as data: one step after another, with what each is to be answered.
-use crate::fixtures::{account, found};
 use crate::scripts::Script;
 use std::process::Abort;
+use tb_fixtures::{account, found};
 use tb_records::{Account, CreateAccountResult, CreateTransferResult, Operation, Status, Transfer};
 
 /// What a script asks next, and what it is to be answered.
@@ -35,10 +35,10 @@ pub enum Step {
     First([u128; 4]),
 }
 
-/// Client 7's next request, which looks account 1 up.
-fn look_up_first(rt: &impl Abort, script: &mut Script, account: &Account) {
+/// Client 7's next request, which looks account 1 up and finds these sums.
+fn look_up_first(rt: &impl Abort, script: &mut Script, sums: [u128; 4]) {
     script.put_id(rt, 1);
-    script.put_found_account(rt, account);
+    script.put_found_account(rt, &found(sums, 11, account(1)));
     script.send(rt, Operation::LookupAccounts);
 }
 
@@ -54,32 +54,32 @@ fn set_moment(script: &mut Script, moment: u64) {
 }
 
 /// Appends a step to a script.
-fn put_step(rt: &impl Abort, script: &mut Script, step: &Step) {
+fn put_step(rt: &impl Abort, script: &mut Script, step: Step) {
     match step {
-        Step::Moment(moment) => set_moment(script, *moment),
-        Step::Register(client, session) => script.register(rt, *client, *session),
+        Step::Moment(moment) => set_moment(script, moment),
+        Step::Register(client, session) => script.register(rt, client, session),
         Step::Look(client, session, number, status, commit) => {
-            script.look(rt, *client, *session, *number, *status, *commit)
+            script.look(rt, client, session, number, status, commit)
         }
         Step::Numbered(number, row, status, commit) => {
-            script.transfer(rt, *number, row, *status, *commit)
+            script.transfer(rt, number, &row, status, commit)
         }
-        Step::Again(number, status) => script.look_again(rt, *number, *status),
-        Step::Account(row, result) => script.put_account(rt, row, *result as u32),
-        Step::Transfer(row, result) => script.put_transfer(rt, row, *result as u32),
-        Step::Id(id) => script.put_id(rt, *id),
-        Step::FoundAccount(row) => script.put_found_account(rt, row),
-        Step::FoundTransfer(row) => script.put_found_transfer(rt, row),
-        Step::Send(operation) => script.send(rt, *operation),
-        Step::Single(row, result) => send_single(rt, script, row, *result as u32),
-        Step::First(sums) => look_up_first(rt, script, &found(*sums, 11, account(1))),
+        Step::Again(number, status) => script.look_again(rt, number, status),
+        Step::Account(row, result) => script.put_account(rt, &row, result as u32),
+        Step::Transfer(row, result) => script.put_transfer(rt, &row, result as u32),
+        Step::Id(id) => script.put_id(rt, id),
+        Step::FoundAccount(row) => script.put_found_account(rt, &row),
+        Step::FoundTransfer(row) => script.put_found_transfer(rt, &row),
+        Step::Send(operation) => script.send(rt, operation),
+        Step::Single(row, result) => send_single(rt, script, &row, result as u32),
+        Step::First(sums) => look_up_first(rt, script, sums),
     }
 }
 
 /// Appends steps to a script.
 pub fn put_steps(rt: &impl Abort, script: &mut Script, steps: &[Step]) {
     for step in steps {
-        put_step(rt, script, step);
+        put_step(rt, script, *step);
     }
 }
 

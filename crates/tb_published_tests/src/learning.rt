@@ -96,6 +96,7 @@ fn learn_in_two<J: Naming, R: Wait + Abort>(rt: &R, alloc: Global, opening: Open
     drop(held);
 }
 
+/// Client 7's first requests through `take` and one seat, and what the other seat learns then.
 #[test]
 fn two_seats_and_a_told(rt: HostRuntime) {
     let opening = opening(&rt, Profile::One, 2);

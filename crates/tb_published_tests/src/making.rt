@@ -5,38 +5,15 @@ ghost use Rattle.std.specs.Prelude.{◌≡◌};
 use std::alloc::Global;
 use std::process::Abort;
 use std::sync::Wait;
+use tb_fixtures::{account, creation, transfer};
 use tb_published::{HeldPublisher, Naming, Opening, Publisher, Seat, SeatCount, Taken, open};
-use tb_records::{Account, Body, ClientsMax, Items, Profile, Request, Transfer};
+use tb_records::{Body, ClientsMax, Profile, Request};
 
 /// A request's client, session and number.
 pub(crate) type Numbers = (u128, u64, u32);
 
-/// An account as it is asked for.
-pub(crate) fn account(id: u128) -> Account {
-    Account {
-        id,
-        ledger: 700,
-        code: 10,
-        ..Account::default()
-    }
-}
-
 /// A transfer to account 2: its id, the account that it comes from, and its amount.
 pub(crate) type Transferred = (u128, u128, u128);
-
-/// A transfer as it is asked for.
-pub(crate) fn transfer(row: Transferred) -> Transfer {
-    let (id, debit_account_id, amount) = row;
-    Transfer {
-        id,
-        debit_account_id,
-        credit_account_id: 2,
-        amount,
-        ledger: 700,
-        code: 10,
-        ..Transfer::default()
-    }
-}
 
 fn request(rt: &impl Abort, numbers: Numbers, body: Body) -> Request {
     let (client, session, number) = numbers;
@@ -48,13 +25,13 @@ pub(crate) fn register(rt: &impl Abort, client: u128) -> Request {
 }
 
 pub(crate) fn two_accounts(rt: &impl Abort, alloc: Global, numbers: Numbers) -> Request {
-    let accounts = Vec::from_slice(alloc, &[account(1), account(2)]).expect(rt, "memory");
-    request(rt, numbers, Body::CreateAccounts(Items::new(accounts)))
+    let body = creation(alloc, &[account(1), account(2)]);
+    request(rt, numbers, body.expect(rt, "memory"))
 }
 
 pub(crate) fn lookup(rt: &impl Abort, alloc: Global, numbers: Numbers, ids: &[u128]) -> Request {
-    let ids = Vec::from_slice(alloc, ids).expect(rt, "memory");
-    request(rt, numbers, Body::LookupAccounts(Items::new(ids)))
+    let body = tb_fixtures::lookup(alloc, ids);
+    request(rt, numbers, body.expect(rt, "memory"))
 }
 
 pub(crate) fn transfers(
@@ -63,8 +40,9 @@ pub(crate) fn transfers(
     numbers: Numbers,
     row: Transferred,
 ) -> Request {
-    let transfers = Vec::from_slice(alloc, &[transfer(row)]).expect(rt, "memory");
-    request(rt, numbers, Body::CreateTransfers(Items::new(transfers)))
+    let (id, debit, amount) = row;
+    let body = tb_fixtures::transfers(alloc, &[transfer(id, debit, 2, amount)]);
+    request(rt, numbers, body.expect(rt, "memory"))
 }
 
 /// A register where the number is 0, else a lookup of no account.

@@ -1,18 +1,14 @@
 //! The first requests through `take` and a seat: what becomes of each, the bytes of the answer to it, and what the seat looks
 //! up then.
-ghost use Rattle.std.specs.Prelude.{◌≡◌};
-
 use crate::comparing::holds;
 use crate::frames::{Header, answered, frame};
-use crate::making::{
-    Numbers, account, lookup, opened, opening, register, take, transfer, transfers, two_accounts,
-};
+use crate::making::{Numbers, lookup, register, take, transfers, two_accounts};
 use std::alloc::Global;
-use std::marker::Brand;
 use std::process::Abort;
 use std::sync::Wait;
-use tb_published::{Naming, Opening, Publisher, Seat, Taken};
-use tb_records::{Account, Profile, Request, Status, Transfer};
+use tb_fixtures::{account, at, found, transfer};
+use tb_published::{Naming, Publisher, Seat, Taken};
+use tb_records::{Request, Status};
 
 /// What a request asks for.
 #[derive(Clone, Copy)]
@@ -218,29 +214,18 @@ fn expect_rows<J: Naming, R: Wait + Abort>(
 /// What a seat finds for accounts 2, 9 and 1: how many entries there are, and what went from account 1 to account 2.
 fn expect_accounts<J: Naming>(rt: &impl Abort, seat: &mut Seat<J>, entries: u64, posted: u128) {
     let wanted = [
-        Account {
-            credits_posted: posted,
-            timestamp: 12,
-            ..account(2)
-        },
-        Account {
-            debits_posted: posted,
-            timestamp: 11,
-            ..account(1)
-        },
+        found([0, 0, 0, posted], 12, account(2)),
+        found([0, posted, 0, 0], 11, account(1)),
     ];
-    let (commit, found) = seat.lookup_accounts(&[2, 9, 1]).expect(rt, "accounts");
+    let (commit, accounts) = seat.lookup_accounts(&[2, 9, 1]).expect(rt, "accounts");
     holds(rt, commit == entries, &commit);
-    holds(rt, found.as_slice() == wanted.as_slice(), &posted);
-    drop(found);
+    holds(rt, accounts.as_slice() == wanted.as_slice(), &posted);
+    drop(accounts);
 }
 
 /// What a seat finds for transfers 12 and 11.
 fn expect_transfers<J: Naming>(rt: &impl Abort, seat: &mut Seat<J>) {
-    let wanted = [Transfer {
-        timestamp: 14,
-        ..transfer((11, 1, 100))
-    }];
+    let wanted = [at(14, transfer(11, 1, 2, 100))];
     let (commit, found) = seat.lookup_transfers(&[12, 11]).expect(rt, "transfers");
     holds(rt, commit == 4, &commit);
     holds(rt, found.as_slice() == wanted.as_slice(), &"transfers");
@@ -261,20 +246,4 @@ pub(crate) fn expect_first<J: Naming, R: Wait + Abort>(
     expect_transfers(rt, seat);
     holds(rt, publisher.history().len() == 4, &"entries");
     holds(rt, publisher.machine().commit() == 4, &"the last entry");
-}
-
-fn take_first_rows<J: Naming, R: Wait + Abort>(rt: &R, alloc: Global, opening: Opening)
-    requires { opening ≡ J.opening }
-{
-    let (mut held, mut seats) = opened::<J, R>(rt, alloc, opening, 1);
-    let seat = seats.iter_mut().next().expect(rt, "a seat");
-    expect_first(rt, alloc, &mut held.publisher, seat);
-    drop(seats);
-    drop(held);
-}
-
-#[test]
-fn first_rows_through_take(rt: HostRuntime) {
-    let opening = opening(&rt, Profile::One, 2);
-    take_first_rows::<Brand, _>(&rt, rt.alloc(), opening);
 }

@@ -15,6 +15,7 @@ use std::marker::Brand;
 use std::sync::Wait;
 use std::sync::atomic::{AtomicBool, Ordering};
 use std::thread::{self, Threads};
+use tb_fixtures::has_begun;
 use tb_published::{Naming, Opening, Seat, SeatCount, open};
 use tb_service::{Finished, Moments, Open, Port, PortCount, Server, service};
 
@@ -116,21 +117,6 @@ fn put_notes(notes: &mut Vec<Note>, clients: u32) -> Result<(), Fault> {
         add(notes, Note::new())?;
     }
     Ok(())
-}
-
-/// So often the clients look whether the server's thread has begun.
-const LOOKS: u32 = 1_000_000;
-
-/// Waits for the server's thread, and says whether it has begun. Where no thread can be made `join` runs the server behind
-/// the clients: an offer would then wait for ever, once the queue is full.
-fn has_begun(begun: &AtomicBool) -> bool {
-    for _ in 0..LOOKS {
-        if begun.load(Ordering::SeqCst) {
-            return true;
-        }
-        thread::yield_now();
-    }
-    false
 }
 
 /// All clients take their steps at once.

@@ -1,4 +1,5 @@
 //! A reader or a writer of which one call alone goes wrong: it is asked once for each pull and each put.
+use crate::comparing::holds;
 use std::io::{self, Error, ErrorKind, Read, Write};
 use std::process::Abort;
 use tb_records::{Counting, Sink, Source};
@@ -53,7 +54,7 @@ fn expect_answer(rt: &impl Abort, answer: io::Result<usize>, call: u32, good: u3
     } else {
         Some(0)
     };
-    assert!(rt; moved == wanted, "call {call} of {good} good ones");
+    holds(rt, moved == wanted, &call);
 }
 
 /// Six pulls, and six calls of the reader.
@@ -63,8 +64,12 @@ fn expect_pulls(rt: &impl Abort, good: u32, fails: bool) {
     for call in 0..6 {
         expect_answer(rt, reader.pull(&mut [0; 8]), call, good, fails);
     }
-    assert!(rt; Source::failures(&reader) == u64::from(fails && good < 6));
-    assert!(rt; reader.into_inner().calls == 6);
+    holds(
+        rt,
+        Source::failures(&reader) == u64::from(fails && good < 6),
+        &"pulls",
+    );
+    holds(rt, reader.into_inner().calls == 6, &"pulls");
 }
 
 /// Six puts, and six calls of the writer.
@@ -74,8 +79,12 @@ fn expect_puts(rt: &impl Abort, good: u32, fails: bool) {
     for call in 0..6 {
         expect_answer(rt, writer.put(&[7; 8]), call, good, fails);
     }
-    assert!(rt; Sink::failures(&writer) == u64::from(fails && good < 6));
-    assert!(rt; writer.into_inner().calls == 6);
+    holds(
+        rt,
+        Sink::failures(&writer) == u64::from(fails && good < 6),
+        &"puts",
+    );
+    holds(rt, writer.into_inner().calls == 6, &"puts");
 }
 
 #[test]

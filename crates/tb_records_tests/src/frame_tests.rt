@@ -1,4 +1,5 @@
 //! The vectors of requests and records, and what readers do that fail, end or stay at a fault.
+use crate::comparing::holds;
 use crate::vectors::{CREATION, REGISTER, account, creation, first, lookup, record, with};
 use std::alloc::{AllocError, Global};
 use std::io;
@@ -105,23 +106,47 @@ fn counted() -> [u8; 128] {
 
 #[test]
 fn accounts_in_bytes(rt: HostRuntime) {
-    assert!(rt; account(1, 0).to_bytes() == record(1, 0));
-    assert!(rt; Account::from_bytes(&record(2, 0)) == account(2, 0));
-    assert!(rt; Account::from_bytes(&counted()).to_bytes() == counted());
+    holds(&rt, account(1, 0).to_bytes() == record(1, 0), &"accounts");
+    holds(
+        &rt,
+        Account::from_bytes(&record(2, 0)) == account(2, 0),
+        &"accounts",
+    );
+    holds(
+        &rt,
+        Account::from_bytes(&counted()).to_bytes() == counted(),
+        &"accounts",
+    );
 }
 
 #[test]
 fn transfers_in_bytes(rt: HostRuntime) {
     let transfer = Transfer::from_bytes(&counted());
-    assert!(rt; transfer.id == 0x0f0e_0d0c_0b0a_0908_0706_0504_0302_0100);
-    assert!(rt; transfer.pending_id == 0x4f4e_4d4c_4b4a_4948_4746_4544_4342_4140);
-    assert!(rt; transfer.timeout == 0x6f6e_6d6c && transfer.flags == 0x7776);
-    assert!(rt; transfer.to_bytes() == counted());
+    holds(
+        &rt,
+        transfer.id == 0x0f0e_0d0c_0b0a_0908_0706_0504_0302_0100,
+        &"transfers",
+    );
+    holds(
+        &rt,
+        transfer.pending_id == 0x4f4e_4d4c_4b4a_4948_4746_4544_4342_4140,
+        &"transfers",
+    );
+    holds(
+        &rt,
+        transfer.timeout == 0x6f6e_6d6c && transfer.flags == 0x7776,
+        &"transfers",
+    );
+    holds(&rt, transfer.to_bytes() == counted(), &"transfers");
 }
 
 /// One of the three frames is read, of this length.
 fn expect_frame(rt: &impl Abort, alloc: Global, bytes: &[u8], frame: u32, length: usize) {
-    assert_eq!(rt; read_frame(alloc, bytes), Ok((frame, length)));
+    holds(
+        rt,
+        read_frame(alloc, bytes) == Ok((frame, length)),
+        &"a frame",
+    );
 }
 
 #[test]
@@ -147,9 +172,13 @@ fn request_faults_in_order(rt: HostRuntime) {
     ];
     for (at, byte, also, other, fault) in cases {
         let header = with(&with(&REGISTER, at, byte), also, other);
-        assert!(rt; read_frame(alloc, &header) == Err(fault), "byte {at}");
+        holds(&rt, read_frame(alloc, &header) == Err(fault), &at);
     }
-    assert!(rt; read_frame(alloc, &REGISTER[..47]) == Err(FrameFault::Short));
+    holds(
+        &rt,
+        read_frame(alloc, &REGISTER[..47]) == Err(FrameFault::Short),
+        &"a cut",
+    );
 }
 
 #[test]
@@ -164,9 +193,10 @@ fn creation_faults_in_order(rt: HostRuntime) {
     for (at, byte, low, middle, high, fault) in cases {
         let header = with(&with(&CREATION, at, byte), 32, low);
         let header = with(&with(&header, 33, middle), 34, high);
-        assert!(rt;
+        holds(
+            &rt,
             read_frame(alloc, &creation(&header)) == Err(fault),
-            "length {low}"
+            &low,
         );
     }
 }
@@ -195,9 +225,17 @@ fn read_count(alloc: Global, bytes: &[u8]) -> Result<(usize, usize), FrameFault>
 fn largest_body(rt: HostRuntime) {
     let alloc = rt.alloc();
     let most = many(alloc, 0).expect(&rt, "memory");
-    assert!(rt; read_count(alloc, most.as_slice()) == Ok((8190, 1_048_368)));
+    holds(
+        &rt,
+        read_count(alloc, most.as_slice()) == Ok((8190, 1_048_368)),
+        &"bodies",
+    );
     let more = many(alloc, 0x80).expect(&rt, "memory");
-    assert!(rt; read_count(alloc, more.as_slice()) == Err(FrameFault::TooMany));
+    holds(
+        &rt,
+        read_count(alloc, more.as_slice()) == Err(FrameFault::TooMany),
+        &"bodies",
+    );
 }
 
 #[test]
@@ -205,7 +243,11 @@ fn stream_of_frames(rt: HostRuntime) {
     let bytes = frames();
     let mut stream = RequestStream::new(Counting::new(&bytes[..]));
     for frame in [Some(1), Some(2), Some(3), None, None] {
-        assert_eq!(rt; next_frame(rt.alloc(), &mut stream), Ok(frame));
+        holds(
+            &rt,
+            next_frame(rt.alloc(), &mut stream) == Ok(frame),
+            &"a frame",
+        );
     }
 }
 
@@ -214,7 +256,7 @@ fn stream_is_cut(rt: HostRuntime) {
     let bytes = frames();
     let mut stream = RequestStream::new(Counting::new(first(&bytes, 100)));
     for answer in [Ok(Some(1)), Err(FrameFault::Short), Err(FrameFault::Short)] {
-        assert_eq!(rt; next_frame(rt.alloc(), &mut stream), answer);
+        holds(&rt, next_frame(rt.alloc(), &mut stream) == answer, &"a cut");
     }
 }
 
@@ -231,9 +273,9 @@ fn stream_of_moments(rt: HostRuntime) {
     let bytes = timed_register();
     let mut stream = RequestStream::new(Counting::new(&bytes[..]));
     let one = timed_frame(stream.next_timed(rt.alloc()));
-    assert!(rt; one == Ok(Some((10, 1))));
+    holds(&rt, one == Ok(Some((10, 1))), &"a moment");
     let next = timed_frame(stream.next_timed(rt.alloc()));
-    assert!(rt; next == Err(FrameFault::Short), "a moment alone");
+    holds(&rt, next == Err(FrameFault::Short), &"a moment alone");
 }
 
 #[test]
@@ -242,10 +284,10 @@ fn moments_of_a_reader(rt: HostRuntime) {
     let mut source = Counting::new(first(&bytes, 56));
     for answer in [Some((10, 1)), None] {
         let read = timed_frame(read_timed_from(rt.alloc(), &mut source));
-        assert!(rt; read == Ok(answer));
+        holds(&rt, read == Ok(answer), &"a moment");
     }
     let cut = timed_frame(read_timed_from(rt.alloc(), &mut Counting::new(first(&bytes, 7))));
-    assert!(rt; cut == Err(FrameFault::Short), "a cut moment");
+    holds(&rt, cut == Err(FrameFault::Short), &"a cut moment");
 }
 
 /// A creation with a reserved byte that is not 0, and a register behind it.
@@ -262,14 +304,18 @@ fn stream_stays_at_its_fault(rt: HostRuntime) {
     for calls in 1..3 {
         let mut stream = RequestStream::new(Counting::new(&bytes[..]));
         for _ in 0..calls {
-            assert!(rt; next_frame(rt.alloc(), &mut stream) == Err(FrameFault::Reserved));
+            holds(
+                &rt,
+                next_frame(rt.alloc(), &mut stream) == Err(FrameFault::Reserved),
+                &"the fault",
+            );
         }
         let unread = stream.into_source().into_inner().len();
-        assert!(rt; unread == 304, "48 bytes are read by {calls} calls");
+        holds(&rt, unread == 304, &calls);
     }
 }
 
-/// A reader that fails after some reads.
+/// A reader that fails after some reads, each of 40 bytes at most.
 #[derive(Drop)]
 struct Failing<'a> {
     rest: &'a [u8],
@@ -282,7 +328,8 @@ impl Read for Failing<'_> {
             return Err(Error::from(ErrorKind::Other));
         }
         self.good -= 1;
-        self.rest.read(buf)
+        let most = buf.len().min(40);
+        self.rest.read(&mut buf[..most])
     }
 }
 
@@ -294,8 +341,72 @@ fn reader_fails_in_mid_stream(rt: HostRuntime) {
         let mut stream = RequestStream::new(Counting::new(Failing { rest, good }));
         for _ in 0..2 {
             let answer = next_frame(rt.alloc(), &mut stream);
-            assert!(rt; answer == Err(FrameFault::Device), "after {good} reads");
+            holds(&rt, answer == Err(FrameFault::Device), &good);
         }
-        assert!(rt; stream.into_source().failures() == 1, "after {good} reads");
+        holds(&rt, stream.into_source().failures() == 1, &good);
     }
+}
+
+/// A register, a creation and a lookup, each behind the moment 10.
+fn timed_frames() -> [u8; 472] {
+    let mut bytes = [0; 472];
+    bytes[0] = 10;
+    bytes[8..56].copy_from_slice(&REGISTER);
+    bytes[56] = 10;
+    bytes[64..368].copy_from_slice(&creation(&CREATION));
+    bytes[368] = 10;
+    bytes[376..].copy_from_slice(&lookup());
+    bytes
+}
+
+/// How many of these three pairs come of a stream that is asked five times, and whether its end does. What else comes is the
+/// device's fault.
+fn take_five(
+    rt: &impl Abort,
+    alloc: Global,
+    stream: &mut RequestStream<Counting<Failing<'_>>>,
+) -> (u32, bool) {
+    let mut pairs = 0_u32;
+    for _ in 0..5 {
+        match timed_frame(stream.next_timed(alloc)) {
+            Ok(Some(_)) => pairs = pairs.wrapping_add(1),
+            Ok(None) => return (pairs, true),
+            Err(fault) => holds(rt, fault == FrameFault::Device, &"a fault"),
+        }
+    }
+    (pairs, false)
+}
+
+/// How many of the three pairs lie in so many bytes.
+fn pairs_within(read: usize) -> u32 {
+    match read {
+        0..56 => 0,
+        56..368 => 1,
+        368..472 => 2,
+        _ => 3,
+    }
+}
+
+/// The read behind so many fails: all pairs before it come, and then its fault, which stays. Says whether one failed.
+fn expect_fault(rt: &impl Abort, alloc: Global, good: u32) -> bool {
+    let bytes = timed_frames();
+    let rest = &bytes[..];
+    let mut stream = RequestStream::new(Counting::new(Failing { rest, good }));
+    let (pairs, ended) = take_five(rt, alloc, &mut stream);
+    let source = stream.into_source();
+    let failures = source.failures();
+    let read = bytes.len().wrapping_sub(source.into_inner().rest.len());
+    holds(rt, pairs == pairs_within(read), &good);
+    holds(rt, failures == u64::from(!ended), &good);
+    !ended
+}
+
+/// Each read of three pairs fails in turn: of a moment, of a header in two pieces, of each record in three or four.
+#[test]
+fn each_read_of_a_stream_fails(rt: HostRuntime) {
+    let mut failed = 0_u32;
+    for good in 0..100 {
+        failed = failed.wrapping_add(u32::from(expect_fault(&rt, rt.alloc(), good)));
+    }
+    holds(&rt, (19..100).contains(&failed), &failed);
 }

@@ -2,6 +2,7 @@
 //!
 //! Modules, each over those before it:
 //!
+//! - `comparing`: what is compared, in one place.
 //! - `vectors`: frames and records in bytes, and as values.
 //! - `frame_tests`: requests and records as they are read.
 //! - `reply_tests`: replies, and frames as they are written.
@@ -12,6 +13,8 @@
 
 #[cfg(test)]
 mod asking_tests;
+#[cfg(test)]
+mod comparing;
 #[cfg(test)]
 mod frame_tests;
 #[cfg(test)]

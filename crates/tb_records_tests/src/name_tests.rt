@@ -1,4 +1,5 @@
 //! The bits and codes of the reference and their names, each way.
+use crate::comparing::holds;
 use crate::vectors::account;
 use std::alloc::Global;
 use std::fmt::Display;
@@ -165,11 +166,19 @@ fn is_account_flag(flag: AccountFlag, bit: u16, name: &str) -> bool {
 #[test]
 fn account_flags_by_name(rt: HostRuntime) {
     for (flag, (bit, name)) in AccountFlag::ALL.iter().zip(ACCOUNT_FLAGS.iter()) {
-        assert!(rt; is_account_flag(*flag, *bit, name));
+        holds(&rt, is_account_flag(*flag, *bit, name), &"flags");
     }
-    assert!(rt; AccountFlag::from_name(b"pending").is_none());
-    assert!(rt; marked(32).is_closed() && !marked(31).is_closed());
-    assert!(rt; marked(1).is_linked() && !marked(62).is_linked());
+    holds(&rt, AccountFlag::from_name(b"pending").is_none(), &"flags");
+    holds(
+        &rt,
+        marked(32).is_closed() && !marked(31).is_closed(),
+        &"flags",
+    );
+    holds(
+        &rt,
+        marked(1).is_linked() && !marked(62).is_linked(),
+        &"flags",
+    );
 }
 
 /// Says that the flag has this bit and name, is found by its name and in a transfer, and is none of the reserved ones, unless it is `imported`.
@@ -185,10 +194,10 @@ fn is_transfer_flag(flag: TransferFlag, bit: u16, name: &str) -> bool {
 #[test]
 fn transfer_flags_by_name(rt: HostRuntime) {
     for (flag, (bit, name)) in TransferFlag::ALL.iter().zip(TRANSFER_FLAGS.iter()) {
-        assert!(rt; is_transfer_flag(*flag, *bit, name));
+        holds(&rt, is_transfer_flag(*flag, *bit, name), &"flags");
     }
-    assert!(rt; TransferFlag::from_name(b"Linked").is_none());
-    assert!(rt; TransferFlag::from_name(b"").is_none());
+    holds(&rt, TransferFlag::from_name(b"Linked").is_none(), &"flags");
+    holds(&rt, TransferFlag::from_name(b"").is_none(), &"flags");
 }
 
 /// What a transfer is: linked, pending, a post, a void, resolving, balancing and closing.
@@ -212,9 +221,10 @@ const KINDS: [u16; 7] = [1, 2, 4, 8, 4 | 8, 16 | 32, 64 | 128];
 fn kinds_of_transfers(rt: HostRuntime) {
     for flags in 0..512 {
         let wanted = KINDS.iter().map(|kind| flags & *kind != 0);
-        assert!(rt;
+        holds(
+            &rt,
             kinds(flagged(flags)).iter().copied().eq(wanted),
-            "flags {flags}"
+            &flags,
         );
     }
 }
@@ -230,10 +240,18 @@ fn is_account_result(verdict: CreateAccountResult, code: u32, name: &str) -> boo
 #[test]
 fn account_results_by_code_and_name(rt: HostRuntime) {
     for (verdict, (code, name)) in CreateAccountResult::ALL.iter().zip(ACCOUNT_RESULTS.iter()) {
-        assert!(rt; is_account_result(*verdict, *code, name));
+        holds(&rt, is_account_result(*verdict, *code, name), &"results");
     }
-    assert!(rt; CreateAccountResult::from_code(22).is_none());
-    assert!(rt; CreateAccountResult::from_name(b"debit_account_not_found").is_none());
+    holds(
+        &rt,
+        CreateAccountResult::from_code(22).is_none(),
+        &"results",
+    );
+    holds(
+        &rt,
+        CreateAccountResult::from_name(b"debit_account_not_found").is_none(),
+        &"results",
+    );
 }
 
 /// Says that the verdict has this code and name, and is found by each.
@@ -250,11 +268,23 @@ fn transfer_results_by_code_and_name(rt: HostRuntime) {
         .iter()
         .zip(TRANSFER_RESULTS.iter())
     {
-        assert!(rt; is_transfer_result(*verdict, *code, name));
+        holds(&rt, is_transfer_result(*verdict, *code, name), &"results");
     }
-    assert!(rt; CreateTransferResult::from_code(18).is_none());
-    assert!(rt; CreateTransferResult::from_code(56).is_none());
-    assert!(rt; CreateTransferResult::from_name(b"reserved_field").is_none());
+    holds(
+        &rt,
+        CreateTransferResult::from_code(18).is_none(),
+        &"results",
+    );
+    holds(
+        &rt,
+        CreateTransferResult::from_code(56).is_none(),
+        &"results",
+    );
+    holds(
+        &rt,
+        CreateTransferResult::from_name(b"reserved_field").is_none(),
+        &"results",
+    );
 }
 
 /// Says that the operation has this code and name, and is found by each.
@@ -268,10 +298,14 @@ fn is_operation(operation: Operation, code: u8, name: &str) -> bool {
 #[test]
 fn operations_by_code_and_name(rt: HostRuntime) {
     for (operation, (code, name)) in Operation::ALL.iter().zip(OPERATIONS.iter()) {
-        assert!(rt; is_operation(*operation, *code, name));
+        holds(&rt, is_operation(*operation, *code, name), &"operations");
     }
-    assert!(rt; Operation::from_code(3).is_none());
-    assert!(rt; Operation::from_name(b"Register").is_none());
+    holds(&rt, Operation::from_code(3).is_none(), &"operations");
+    holds(
+        &rt,
+        Operation::from_name(b"Register").is_none(),
+        &"operations",
+    );
 }
 
 /// Says that the status has this code and name, and is found by each.
@@ -285,10 +319,10 @@ fn is_status(status: Status, code: u8, name: &str) -> bool {
 #[test]
 fn statuses_by_code_and_name(rt: HostRuntime) {
     for (status, (code, name)) in Status::ALL.iter().zip(STATUSES.iter()) {
-        assert!(rt; is_status(*status, *code, name));
+        holds(&rt, is_status(*status, *code, name), &"statuses");
     }
-    assert!(rt; Status::from_code(8).is_none());
-    assert!(rt; Status::from_name(b"").is_none());
+    holds(&rt, Status::from_code(8).is_none(), &"statuses");
+    holds(&rt, Status::from_name(b"").is_none(), &"statuses");
 }
 
 /// Two names are shown by this line.
@@ -300,7 +334,7 @@ fn expect_shown<A: Display + Drop, B: Display + Drop>(
     wanted: &str,
 ) {
     let line = format!(in alloc; "{one} {other}").expect(rt, "a line");
-    assert!(rt; line.as_str() == wanted);
+    holds(rt, line.as_str() == wanted, &"a line");
 }
 
 #[test]
@@ -317,6 +351,10 @@ fn names_are_shown(rt: HostRuntime) {
 
 #[test]
 fn limits_by_name(rt: HostRuntime) {
-    assert!(rt; ITEMS_MAX == 8190 && NANOSECONDS_PER_SECOND == 1_000_000_000);
-    assert!(rt; LAST_MOMENT == 9_223_372_036_854_775_807);
+    holds(
+        &rt,
+        ITEMS_MAX == 8190 && NANOSECONDS_PER_SECOND == 1_000_000_000,
+        &"limits",
+    );
+    holds(&rt, LAST_MOMENT == 9_223_372_036_854_775_807, &"limits");
 }

@@ -1,6 +1,7 @@
 //! The vectors of replies, and requests and replies as they are written.
 ghost use Rattle.std.specs.Prelude.{◌≡◌, MatchResult};
 
+use crate::comparing::holds;
 use crate::vectors::{
     CREATED, CREATION, REGISTER, REGISTERED, account, creation, found_bytes, lookup, movement,
     record, transfer, two_behind, with,
@@ -170,7 +171,7 @@ fn expect_both(rt: &impl Abort, alloc: Global, reply: Result<Reply, FrameFault>,
     let reply = reply.expect(rt, "a reply");
     let both = is_both_ways(alloc, &reply, bytes);
     drop(reply);
-    assert!(rt; both);
+    holds(rt, both, &"both ways");
 }
 
 #[test]
@@ -229,7 +230,7 @@ fn expect_appended(
     let request = request.expect(rt, "a request");
     let appended = is_appended(alloc, &request, bytes);
     drop(request);
-    assert!(rt; appended);
+    holds(rt, appended, &"appended");
 }
 
 #[test]
@@ -262,9 +263,13 @@ fn reply_faults_in_order(rt: HostRuntime) {
     ];
     for (at, byte, fault) in cases {
         let found = fault_in(alloc, &with(&REGISTERED, at, byte));
-        assert!(rt; found == Some(fault), "byte {at} is {byte}");
+        holds(&rt, found == Some(fault), &at);
     }
-    assert!(rt; fault_in(alloc, &REGISTERED[..47]) == Some(FrameFault::Short));
+    holds(
+        &rt,
+        fault_in(alloc, &REGISTERED[..47]) == Some(FrameFault::Short),
+        &"a cut",
+    );
 }
 
 #[test]
@@ -279,7 +284,7 @@ fn created_faults_in_order(rt: HostRuntime) {
     ];
     for (at, byte, fault) in cases {
         let found = fault_in(rt.alloc(), &with(&CREATED, at, byte));
-        assert!(rt; found == Some(fault), "byte {at} is {byte}");
+        holds(&rt, found == Some(fault), &at);
     }
 }
 
@@ -342,13 +347,18 @@ fn faults_of_new_replies(rt: HostRuntime) {
     ];
     for (client, request, operation, status, commit, fault) in cases {
         let found = fault_of(client, request, operation, status, commit);
-        assert!(rt;
-            found == Some(fault),
-            "operation {operation}, commit {commit}"
-        );
+        holds(&rt, found == Some(fault), &operation);
     }
-    assert!(rt; fault_of(7, 1, create, Status::Older, 0).is_none());
-    assert!(rt; fault_of(7, 0, register, Status::Reply, 1).is_none());
+    holds(
+        &rt,
+        fault_of(7, 1, create, Status::Older, 0).is_none(),
+        &"none",
+    );
+    holds(
+        &rt,
+        fault_of(7, 0, register, Status::Reply, 1).is_none(),
+        &"none",
+    );
 }
 
 #[test]
@@ -360,7 +370,7 @@ fn body_of_another_kind(rt: HostRuntime) {
         2,
         ReplyBody::Accounts(Items::new(none)),
     );
-    assert!(rt; reply.err() == Some(FrameFault::BadLength));
+    holds(&rt, reply.err() == Some(FrameFault::BadLength), &"the body");
 }
 
 /// The refusal of the fifth request, a lookup of transfer 9.
@@ -426,7 +436,7 @@ fn bodies_are_the_same(rt: HostRuntime) {
     let mistaken = body.same(&Body::Register) || body.same(&other);
     drop(other);
     drop(body);
-    assert!(rt; kept && !mistaken);
+    holds(&rt, kept && !mistaken, &"the body");
 }
 
 #[test]
@@ -439,7 +449,7 @@ fn bodies_of_other_operations(rt: HostRuntime) {
     drop(accounts);
     drop(transfers);
     drop(events);
-    assert!(rt; kept && !mistaken);
+    holds(&rt, kept && !mistaken, &"the body");
 }
 
 /// The reply that lists so many results.
@@ -475,7 +485,7 @@ fn replies_come_back(rt: HostRuntime) {
     let is_same = same(&read, &reply);
     drop(read);
     drop(reply);
-    assert!(rt; is_same);
+    holds(&rt, is_same, &"the reply");
 }
 
 #[test]
@@ -487,6 +497,14 @@ fn largest_reply(rt: HostRuntime) {
     let sent = is_sent(rt.alloc(), &most, bytes.as_slice());
     drop(bytes);
     drop(most);
-    assert!(rt; read && sent && sizes == (ITEMS_MAX, 65568));
-    assert!(rt; many(rt.alloc(), ITEMS_MAX + 1).err() == Some(FrameFault::TooMany));
+    holds(
+        &rt,
+        read && sent && sizes == (ITEMS_MAX, 65568),
+        &"the reply",
+    );
+    holds(
+        &rt,
+        many(rt.alloc(), ITEMS_MAX + 1).err() == Some(FrameFault::TooMany),
+        &"the reply",
+    );
 }

@@ -1,4 +1,5 @@
 //! What writers do that fail in a frame, or take nothing of it.
+use crate::comparing::holds;
 use crate::reply_tests::found;
 use crate::vectors::found_bytes;
 use std::alloc::Global;
@@ -60,9 +61,13 @@ fn writers_that_stop_in_a_frame(rt: HostRuntime) {
     let device = Err(FrameFault::Device);
     for room in [0, 30, 48, 100, 303] {
         let failing = writer_of(alloc, room, true);
-        assert!(rt; sends(failing, &reply, device, 1, room), "room for {room}");
+        holds(&rt, sends(failing, &reply, device, 1, room), &room);
         let full = writer_of(alloc, room, false);
-        assert!(rt; sends(full, &reply, device, 0, room), "room for {room}");
+        holds(&rt, sends(full, &reply, device, 0, room), &room);
     }
-    assert!(rt; sends(writer_of(alloc, 304, true), &reply, Ok(()), 0, 304));
+    holds(
+        &rt,
+        sends(writer_of(alloc, 304, true), &reply, Ok(()), 0, 304),
+        &"all",
+    );
 }

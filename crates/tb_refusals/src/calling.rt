@@ -3,12 +3,13 @@ ghost use Rattle.std.specs.Prelude.{◌≡◌};
 
 use crate::offering::{Listed, next_port};
 use crate::openings::opened;
-use crate::scripts::{Pair, put_history, put_reply};
+use crate::scripts::{Pair, Work, put_history, put_reply};
 use crate::troubles::{Trouble, Why, note};
 use std::alloc::{AllocError, Global};
 use std::sync::Wait;
 use std::sync::atomic::{AtomicBool, Ordering};
-use std::thread::{self, Threads, join};
+use std::thread::{Threads, join};
+use tb_fixtures::has_begun;
 use tb_published::{Naming, Opening, Publisher, Seat, SeatCount, SeatFault, TakeFault};
 use tb_records::{ClientsMax, Reply, Request, Status};
 use tb_service::{Ended, Finished, Open, Port, PortCount, service};
@@ -18,21 +19,6 @@ const CALLS: u32 = 200;
 
 /// So often a call asks its seat.
 const TURNS: u32 = 20_000;
-
-/// So often a client looks whether the server's thread has begun.
-const LOOKS: u32 = 1_000_000;
-
-/// Waits for the server's thread, and says whether it has begun. Where no thread can be made `join` runs the server behind
-/// the client: an offer would then wait for ever, once the queue is full.
-fn has_begun(begun: &AtomicBool) -> bool {
-    for _ in 0..LOOKS {
-        if begun.load(Ordering::SeqCst) {
-            return true;
-        }
-        thread::yield_now();
-    }
-    false
-}
 
 /// The server takes nothing more: a copy of the request comes back.
 fn is_gone<R: Wait>(rt: &R, alloc: Global, port: &mut Port, request: &Request) -> bool {
@@ -57,38 +43,6 @@ fn put_answer(reply: &Reply, out: &mut Vec<u8>) -> Result<bool, Trouble> {
     Ok(true)
 }
 
-/// Calls once; false where the call was refused, or the reply is NotYet though the server is not gone.
-fn call_once<J: Naming, R: Wait + Eprint>(
-    rt: &R,
-    alloc: Global,
-    port: &mut Port,
-    seat: &mut Seat<J>,
-    request: &Request,
-    out: &mut Vec<u8>,
-) -> Result<bool, Trouble> {
-    let seen = seat.seen();
-    let called = port.call(rt, seat, request, TURNS);
-    if seat.seen() < seen {
-        drop(called);
-        return Err(Trouble::Wrong(Why::SeenFell));
-    }
-    let put = match called {
-        Ok(reply) => {
-            let put = put_answer(&reply, out);
-            drop(reply);
-            put
-        }
-        Err(fault) => {
-            note_fault(rt, fault);
-            return Ok(false);
-        }
-    };
-    match put {
-        Ok(false) if is_gone(rt, alloc, port, request) => Err(Trouble::Gone),
-        put => put,
-    }
-}
-
 /// Says why a call was refused.
 fn note_fault<R: Eprint>(rt: &R, fault: SeatFault) {
     match fault {
@@ -97,21 +51,60 @@ fn note_fault<R: Eprint>(rt: &R, fault: SeatFault) {
     }
 }
 
-/// Calls until the request is answered, or the server is gone.
-fn call_until<J: Naming, R: Wait + Eprint>(
-    rt: &R,
-    alloc: Global,
-    port: &mut Port,
-    seat: &mut Seat<J>,
-    request: &Request,
-    out: &mut Vec<u8>,
-) -> Result<(), Trouble> {
-    for _ in 0..CALLS {
-        if call_once(rt, alloc, port, seat, request, out)? {
-            return Ok(());
+/// A port and the seat beside it.
+#[derive(Drop)]
+struct Client<J: Naming> {
+    port: Port,
+    seat: Seat<J>,
+}
+
+impl<J: Naming> Client<J> {
+    /// Calls once; false where the call was refused, or the reply is NotYet though the server is not gone.
+    fn call_once<R: Wait + Eprint>(
+        &mut self,
+        rt: &R,
+        alloc: Global,
+        request: &Request,
+        out: &mut Vec<u8>,
+    ) -> Result<bool, Trouble> {
+        let seen = self.seat.seen();
+        let called = self.port.call(rt, &mut self.seat, request, TURNS);
+        if self.seat.seen() < seen {
+            drop(called);
+            return Err(Trouble::Wrong(Why::SeenFell));
+        }
+        let put = match called {
+            Ok(reply) => {
+                let put = put_answer(&reply, out);
+                drop(reply);
+                put
+            }
+            Err(fault) => {
+                note_fault(rt, fault);
+                return Ok(false);
+            }
+        };
+        match put {
+            Ok(false) if is_gone(rt, alloc, &mut self.port, request) => Err(Trouble::Gone),
+            put => put,
         }
     }
-    Err(Trouble::Wrong(Why::NoAnswer))
+
+    /// Calls until the request is answered, or the server is gone.
+    fn call_until<R: Wait + Eprint>(
+        &mut self,
+        rt: &R,
+        alloc: Global,
+        request: &Request,
+        out: &mut Vec<u8>,
+    ) -> Result<(), Trouble> {
+        for _ in 0..CALLS {
+            if self.call_once(rt, alloc, request, out)? {
+                return Ok(());
+            }
+        }
+        Err(Trouble::Wrong(Why::NoAnswer))
+    }
 }
 
 /// Calls the requests of all pairs, one after another, once the server has begun. False where it has no thread.
@@ -119,8 +112,7 @@ fn call_pairs<J: Naming, R: Wait + Eprint>(
     rt: &R,
     alloc: Global,
     begun: &AtomicBool,
-    port: &mut Port,
-    seat: &mut Seat<J>,
+    client: &mut Client<J>,
     pairs: &[Pair],
     out: &mut Vec<u8>,
 ) -> Result<bool, Trouble> {
@@ -129,7 +121,7 @@ fn call_pairs<J: Naming, R: Wait + Eprint>(
         return Ok(false);
     }
     for pair in pairs {
-        call_until(rt, alloc, port, seat, &pair.request, out)?;
+        client.call_until(rt, alloc, &pair.request, out)?;
     }
     Ok(true)
 }
@@ -139,12 +131,12 @@ fn call_beside<J: Naming, R: Wait + Eprint>(
     rt: &R,
     alloc: Global,
     begun: &AtomicBool,
-    mut port: Port,
-    mut seat: Seat<J>,
+    mut client: Client<J>,
     pairs: &[Pair],
     out: &mut Vec<u8>,
 ) -> Result<bool, Trouble> {
-    let called = call_pairs(rt, alloc, begun, &mut port, &mut seat, pairs, out);
+    let called = call_pairs(rt, alloc, begun, &mut client, pairs, out);
+    let Client { port, seat } = client;
     drop(port.close(rt));
     drop(seat);
     called
@@ -162,14 +154,14 @@ fn tell_end<J: Naming, R: Eprint>(rt: &R, finished: &Finished<J>) {
     }
 }
 
-/// The last port and the last seat that are left.
-fn next_ends<J: Naming>(
+/// A client with the last port and the last seat that are left.
+fn next_client<J: Naming>(
     ports: &mut Vec<Port>,
     seats: &mut Vec<Seat<J>>,
-) -> Result<(Port, Seat<J>), Trouble> {
+) -> Result<Client<J>, Trouble> {
     let port = next_port(ports)?;
     match seats.pop() {
-        Some(seat) => Ok((port, seat)),
+        Some(seat) => Ok(Client { port, seat }),
         None => {
             drop(port);
             Err(Trouble::Wrong(Why::NoSeat))
@@ -196,8 +188,8 @@ fn call_over<J: Naming + Send + Sync, R: Threads + Wait + Eprint + Sync>(
             return Ok(None);
         }
     };
-    let (port, seat) = match next_ends(&mut ports, &mut seats) {
-        Ok(ends) => ends,
+    let client = match next_client(&mut ports, &mut seats) {
+        Ok(client) => client,
         Err(trouble) => {
             drop(server);
             drop(ports);
@@ -212,7 +204,7 @@ fn call_over<J: Naming + Send + Sync, R: Threads + Wait + Eprint + Sync>(
             begun.store(true, Ordering::SeqCst);
             server.run(rt)
         },
-        move || call_beside(rt, alloc, begun, port, seat, pairs, out),
+        move || call_beside(rt, alloc, begun, client, pairs, out),
     );
     drop(ports);
     drop(seats);
@@ -223,28 +215,25 @@ fn call_over<J: Naming + Send + Sync, R: Threads + Wait + Eprint + Sync>(
 /// server's thread is refused.
 pub fn call_all<J: Naming + Send + Sync, R: Threads + Wait + Eprint + Sync>(
     rt: &R,
-    alloc: Global,
-    opening: Opening,
-    clients_max: ClientsMax,
-    pairs: &[Pair],
-    out: &mut Vec<u8>,
+    work: Work<'_>,
 ) -> Result<bool, Trouble>
-    requires { opening ≡ J.opening }
+    requires { work.opening ≡ J.opening }
 {
+    let (alloc, clients_max, pairs) = (work.alloc, work.clients_max, work.pairs);
     let count = PortCount::new(1).ok_or(Trouble::SetUp)?;
     let seats = SeatCount::new(2).ok_or(Trouble::SetUp)?;
     let moments = Listed::new(alloc, pairs)?;
-    let Some((publisher, seats)) = opened::<J, R>(rt, alloc, opening, seats) else {
+    let Some((publisher, seats)) = opened::<J, R>(rt, alloc, work.opening, seats) else {
         drop(moments);
         return Ok(false);
     };
-    let called = call_over(rt, alloc, publisher, seats, count, moments, pairs, out)?;
+    let called = call_over(rt, alloc, publisher, seats, count, moments, pairs, work.out)?;
     let Some((finished, outcome)) = called else {
         return Ok(false);
     };
     let written = match outcome {
         Ok(false) => Ok(()),
-        _ => put_history(clients_max, finished.publisher.history(), out),
+        _ => put_history(clients_max, finished.publisher.history(), work.out),
     };
     tell_end(rt, &finished);
     drop(finished.close(rt));

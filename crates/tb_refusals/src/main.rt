@@ -28,7 +28,8 @@ mod scripts;
 mod taking;
 mod troubles;
 
-use scripts::{Pair, read_pairs};
+use running::{Call, call_once};
+use scripts::{Pair, Work, read_pairs};
 use std::alloc::Global;
 use std::env;
 use std::io::{Read, Write};
@@ -61,9 +62,8 @@ enum Form {
     Apply,
     /// A publisher and a seat.
     Publish(Way),
-    Run,
-    Dump,
-    Replay,
+    /// A call that ends at its first fault.
+    Once(Call),
 }
 
 /// The form that a word names.
@@ -73,9 +73,9 @@ fn form_of(word: &str) -> Option<Form> {
         "take" => Some(Form::Publish(Way::Take)),
         "offer" => Some(Form::Publish(Way::Offer)),
         "call" => Some(Form::Publish(Way::Call)),
-        "run" => Some(Form::Run),
-        "dump" => Some(Form::Dump),
-        "replay" => Some(Form::Replay),
+        "run" => Some(Form::Once(Call::Run)),
+        "dump" => Some(Form::Once(Call::Dump)),
+        "replay" => Some(Form::Once(Call::Replay)),
         _ => None,
     }
 }
@@ -101,19 +101,15 @@ fn read_words(rt: &HostRuntime) -> Result<(Form, ClientsMax), Trouble> {
 /// Serves a script by an opening. False where the opening, or its service, is refused.
 fn serve_opening<J: Naming + Send + Sync, R: Threads + Wait + Eprint + Sync>(
     rt: &R,
-    alloc: Global,
-    opening: Opening,
     way: Way,
-    clients_max: ClientsMax,
-    pairs: &[Pair],
-    out: &mut Vec<u8>,
+    work: Work<'_>,
 ) -> Result<bool, Trouble>
-    requires { opening ≡ J.opening }
+    requires { work.opening ≡ J.opening }
 {
     match way {
-        Way::Take => taking::take_all::<J, R>(rt, alloc, opening, clients_max, pairs, out),
-        Way::Offer => offering::offer_all::<J, R>(rt, alloc, opening, clients_max, pairs, out),
-        Way::Call => calling::call_all::<J, R>(rt, alloc, opening, clients_max, pairs, out),
+        Way::Take => taking::take_all::<J, R>(rt, work),
+        Way::Offer => offering::offer_all::<J, R>(rt, work),
+        Way::Call => calling::call_all::<J, R>(rt, work),
     }
 }
 
@@ -128,7 +124,14 @@ fn serve_published<R: Threads + Wait + Eprint + Sync>(
 ) -> Result<(), Trouble> {
     for _ in 0..2 {
         let opening = Opening::new(Profile::One, clients_max);
-        if serve_opening::<Brand, R>(rt, alloc, opening, way, clients_max, pairs, out)? {
+        let work = Work {
+            alloc,
+            opening,
+            clients_max,
+            pairs,
+            out: &mut *out,
+        };
+        if serve_opening::<Brand, R>(rt, way, work)? {
             return Ok(());
         }
     }
@@ -145,9 +148,10 @@ fn serve<R: Threads + Wait + Eprint + Sync>(
     out: &mut Vec<u8>,
 ) -> Result<(), Trouble> {
     match form {
-        Form::Run => running::run_once(rt, alloc, clients_max, script, out),
-        Form::Dump => running::dump_once(rt, alloc, clients_max, script, out),
-        Form::Replay => running::replay_once(rt, alloc, script, out),
+        Form::Once(call) => {
+            call_once(rt, alloc, call, clients_max, script, out);
+            Ok(())
+        }
         Form::Apply => {
             let pairs = read_pairs(alloc, script)?;
             let served = applying::apply_all(rt, alloc, clients_max, pairs.as_slice(), out);

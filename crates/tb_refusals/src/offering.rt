@@ -4,7 +4,7 @@ ghost use Rattle.tb_service.specs.Names.{Name};
 ghost use Rattle.tb_service.specs.Ports.{AreNumbered};
 
 use crate::openings::opened;
-use crate::scripts::{Pair, copy_all, put_history};
+use crate::scripts::{Pair, Work, copy_all, put_history};
 use crate::troubles::{Trouble, Why, expect, note};
 use std::alloc::{AllocError, Global};
 use std::sync::Wait;
@@ -283,16 +283,10 @@ fn offer_over<J: Naming, R: Wait + Eprint>(
 }
 
 /// Serves the pairs of a script, and appends the history; false where the opening or the service is refused.
-pub fn offer_all<J: Naming, R: Wait + Eprint>(
-    rt: &R,
-    alloc: Global,
-    opening: Opening,
-    clients_max: ClientsMax,
-    pairs: &[Pair],
-    out: &mut Vec<u8>,
-) -> Result<bool, Trouble>
-    requires { opening ≡ J.opening }
+pub fn offer_all<J: Naming, R: Wait + Eprint>(rt: &R, work: Work<'_>) -> Result<bool, Trouble>
+    requires { work.opening ≡ J.opening }
 {
+    let (alloc, clients_max, pairs) = (work.alloc, work.clients_max, work.pairs);
     let count = PortCount::new(2).ok_or(Trouble::SetUp)?;
     let seats = SeatCount::new(2).ok_or(Trouble::SetUp)?;
     let moments = Listed::new(alloc, pairs)?;
@@ -303,7 +297,7 @@ pub fn offer_all<J: Naming, R: Wait + Eprint>(
             return Err(trouble);
         }
     };
-    let Some((publisher, mut seats)) = opened::<J, R>(rt, alloc, opening, seats) else {
+    let Some((publisher, mut seats)) = opened::<J, R>(rt, alloc, work.opening, seats) else {
         drop(moments);
         drop(requests);
         return Ok(false);
@@ -318,7 +312,7 @@ pub fn offer_all<J: Naming, R: Wait + Eprint>(
                 requests,
                 &mut seats,
                 clients_max,
-                out,
+                work.out,
             )
         }
         Ok(None) => {

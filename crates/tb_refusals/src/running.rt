@@ -1,5 +1,4 @@
 //! `run`, `dump` and `replay`, with the kind of the fault at which they end, and the bytes that they left unread.
-use crate::troubles::Trouble;
 use std::alloc::Global;
 use tb_machine::{RunFault, dump, replay, run};
 use tb_records::{ClientsMax, Counting, DumpFault, Profile};
@@ -29,46 +28,31 @@ fn tell<R: Eprint>(rt: &R, outcome: Outcome, unread: usize) {
     let _ = eprintln!(rt; "{kind} {unread} {name}");
 }
 
-/// Serves a script.
-pub fn run_once<R: Eprint>(
-    rt: &R,
-    alloc: Global,
-    clients_max: ClientsMax,
-    script: &[u8],
-    out: &mut Vec<u8>,
-) -> Result<(), Trouble> {
-    let mut reader = Counting::new(script);
-    let mut writer = Counting::new(out);
-    let answer = run(alloc, Profile::One, clients_max, &mut reader, &mut writer);
-    tell(rt, outcome_of(answer), reader.into_inner().len());
-    Ok(())
+/// A call that ends at its first fault.
+#[derive(Clone, Copy)]
+pub enum Call {
+    Run,
+    /// With a mark behind the second entry.
+    Dump,
+    /// Of a dump.
+    Replay,
 }
 
-/// Dumps a script, with a mark behind its second entry.
-pub fn dump_once<R: Eprint>(
+/// Makes a call, and says how it ended.
+pub fn call_once<R: Eprint>(
     rt: &R,
     alloc: Global,
+    call: Call,
     clients_max: ClientsMax,
-    script: &[u8],
+    input: &[u8],
     out: &mut Vec<u8>,
-) -> Result<(), Trouble> {
-    let mut reader = Counting::new(script);
+) {
+    let mut reader = Counting::new(input);
     let mut writer = Counting::new(out);
-    let answer = dump(alloc, clients_max, Some(2), &mut reader, &mut writer);
-    tell(rt, outcome_of(answer), reader.into_inner().len());
-    Ok(())
-}
-
-/// Replays a dump.
-pub fn replay_once<R: Eprint>(
-    rt: &R,
-    alloc: Global,
-    script: &[u8],
-    out: &mut Vec<u8>,
-) -> Result<(), Trouble> {
-    let mut reader = Counting::new(script);
-    let mut writer = Counting::new(out);
-    let answer = replay(alloc, &mut reader, &mut writer);
-    tell(rt, outcome_of_replay(answer), reader.into_inner().len());
-    Ok(())
+    let outcome = match call {
+        Call::Run => outcome_of(run(alloc, Profile::One, clients_max, &mut reader, &mut writer)),
+        Call::Dump => outcome_of(dump(alloc, clients_max, Some(2), &mut reader, &mut writer)),
+        Call::Replay => outcome_of_replay(replay(alloc, &mut reader, &mut writer)),
+    };
+    tell(rt, outcome, reader.into_inner().len());
 }

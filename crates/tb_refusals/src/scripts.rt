@@ -2,6 +2,7 @@
 use crate::troubles::{Trouble, Why, expect, note};
 use std::alloc::{AllocError, Global};
 use tb_machine::Entry;
+use tb_published::Opening;
 use tb_records::dumps::{send_entry, send_head};
 use tb_records::{
     ClientsMax, Counting, DumpHead, Profile, Reply, Request, RequestStream, write_reply,
@@ -15,6 +16,16 @@ const PAIRS_MAX: u32 = 60;
 pub struct Pair {
     pub moment: u64,
     pub request: Request,
+}
+
+/// A script that publishers are to serve, and where the answers go.
+#[derive(Drop)]
+pub struct Work<'a> {
+    pub alloc: Global,
+    pub opening: Opening,
+    pub clients_max: ClientsMax,
+    pub pairs: &'a [Pair],
+    pub out: &'a mut Vec<u8>,
 }
 
 /// Appends all pairs of a script.

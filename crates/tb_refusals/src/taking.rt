@@ -2,7 +2,7 @@
 ghost use Rattle.std.specs.Prelude.{◌≡◌};
 
 use crate::openings::opened;
-use crate::scripts::{Pair, copy_of, put_history, put_reply};
+use crate::scripts::{Pair, Work, copy_of, put_history, put_reply};
 use crate::troubles::{Trouble, Why, expect, note};
 use std::alloc::Global;
 use std::sync::Wait;
@@ -190,18 +190,12 @@ fn take_over<J: Naming, R: Wait + Eprint>(
 }
 
 /// Takes the pairs of a script, and appends the seat's answers and the history; false where the opening is refused.
-pub fn take_all<J: Naming, R: Wait + Eprint>(
-    rt: &R,
-    alloc: Global,
-    opening: Opening,
-    clients_max: ClientsMax,
-    pairs: &[Pair],
-    out: &mut Vec<u8>,
-) -> Result<bool, Trouble>
-    requires { opening ≡ J.opening }
+pub fn take_all<J: Naming, R: Wait + Eprint>(rt: &R, work: Work<'_>) -> Result<bool, Trouble>
+    requires { work.opening ≡ J.opening }
 {
+    let (alloc, clients_max, pairs) = (work.alloc, work.clients_max, work.pairs);
     let count = SeatCount::new(2).ok_or(Trouble::SetUp)?;
-    let Some((mut publisher, mut seats)) = opened::<J, R>(rt, alloc, opening, count) else {
+    let Some((mut publisher, mut seats)) = opened::<J, R>(rt, alloc, work.opening, count) else {
         return Ok(false);
     };
     let taken = take_over(
@@ -211,7 +205,7 @@ pub fn take_all<J: Naming, R: Wait + Eprint>(
         &mut seats,
         clients_max,
         pairs,
-        out,
+        work.out,
     );
     drop(seats);
     drop(publisher.close(rt));

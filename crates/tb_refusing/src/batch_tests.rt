@@ -1,13 +1,13 @@
 //! How many bytes a batch of transfers asks for: the room of its undo log, and its records.
+use crate::applying::enter;
 use crate::comparing::holds;
-use crate::machine_tests::{
-    EARLY, Turn, enter, flagged, numbered, register, transfer, two_accounts,
-};
+use crate::turns::{Turn, moving, register, two_accounts};
 use crate::{Refusing, Tally};
 use std::alloc::{Allocator, Global};
 use std::process::Abort;
+use tb_fixtures::{linked, transfer};
 use tb_machine::Machine;
-use tb_records::{Body, ClientsMax, Items, Profile, Transfer, TransferFlag};
+use tb_records::{ClientsMax, Profile, Transfer};
 
 /// The undo log has room for four changes of each event, and of the next power of two of them; a change has at most so many bytes:
 /// a row, and which change it is.
@@ -17,22 +17,14 @@ const LOG: u64 = 4 * 144;
 /// failed.
 const KEPT: u64 = 192 + 80 + 80;
 
-/// A transfer of 1, linked or alone.
-fn event(id: u128, linked: bool) -> Transfer {
-    let one = transfer(id, 1);
-    if linked {
-        flagged(TransferFlag::Linked, one)
-    } else {
-        one
-    }
-}
-
 /// So many transfers of 1 each, alone or as one chain.
 fn events(rt: &impl Abort, alloc: Global, count: u32, chained: bool) -> Vec<Transfer> {
     let mut all = Vec::new(alloc);
     for k in 1..=count {
-        let one = event(100 + u128::from(k), chained && k < count);
-        all.push(one).expect(rt, "memory");
+        let one = transfer(100 + u128::from(k), 1, 2, 1);
+        let goes_on = chained && k < count;
+        let event = if goes_on { linked(one) } else { one };
+        all.push(event).expect(rt, "memory");
     }
     all
 }
@@ -40,7 +32,9 @@ fn events(rt: &impl Abort, alloc: Global, count: u32, chained: bool) -> Vec<Tran
 /// Client 7's batch of so many transfers.
 fn batch(rt: &impl Abort, alloc: Global, count: u32, chained: bool) -> Turn {
     let all = events(rt, alloc, count, chained);
-    numbered(rt, EARLY, 2, Body::CreateTransfers(Items::new(all)))
+    let turn = moving(rt, alloc, 10, 2, all.as_slice());
+    drop(all);
+    turn
 }
 
 /// Enters a request at its moment.

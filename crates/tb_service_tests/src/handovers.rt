@@ -1,9 +1,7 @@
 //! One port: eight requests in an order, a call that never asks again, and a server that is gone.
 ghost use Rattle.std.specs.Prelude.{◌≡◌, ◌≤◌};
 
-use crate::making::{
-    holds, one_port, opened, opening, register, rising, transfer, transfers, two_accounts,
-};
+use crate::making::{holds, one_port, opened, opening, register, rising, transfers, two_accounts};
 use std::alloc::Global;
 use std::marker::Brand;
 use std::process::Abort;
@@ -17,7 +15,7 @@ fn nth_request(alloc: Global, number: u32) -> Option<Request> {
     match number {
         0 => register(7),
         1 => two_accounts(alloc),
-        _ => transfers(alloc, number, transfer(u128::from(number) + 89, 10)),
+        _ => transfers(alloc, number, u128::from(number) + 89, 10),
     }
 }
 

@@ -7,8 +7,9 @@ ghost use Rattle.tb_service.specs.Ports.{AreNumbered};
 use std::alloc::Global;
 use std::process::Abort;
 use std::sync::Wait;
+use tb_fixtures::{account, creation, transfer};
 use tb_published::{Naming, Opening, Publisher, Seat, SeatCount, open};
-use tb_records::{Account, Body, ClientsMax, Items, Profile, Request, Transfer};
+use tb_records::{Body, ClientsMax, Profile, Request};
 use tb_service::{Closed, Finished, Moments, Open, Port, PortCount, Server, service};
 
 /// Moments that rise by as much each time.
@@ -35,48 +36,25 @@ pub(crate) fn rising() -> Every {
 
 pub(crate) type Started<'a, J, R> = Server<J, &'a R, Every, Open>;
 
-fn account(id: u128) -> Account {
-    Account {
-        id,
-        ledger: 700,
-        code: 10,
-        ..Account::default()
-    }
-}
-
-/// A transfer from account 1 to account 2.
-pub(crate) fn transfer(id: u128, amount: u128) -> Transfer {
-    Transfer {
-        id,
-        debit_account_id: 1,
-        credit_account_id: 2,
-        amount,
-        ledger: 700,
-        code: 10,
-        ..Transfer::default()
-    }
-}
-
 pub(crate) fn register(client: u128) -> Option<Request> {
     Request::new(client, 0, 0, Body::Register).ok()
 }
 
 /// A lookup of no account, by client 7.
 pub(crate) fn lookup(alloc: Global, number: u32) -> Option<Request> {
-    let body = Body::LookupAccounts(Items::new(Vec::new(alloc)));
+    let body = tb_fixtures::lookup(alloc, &[]).ok()?;
     Request::new(7, 1, number, body).ok()
 }
 
 /// Client 7 creates accounts 1 and 2.
 pub(crate) fn two_accounts(alloc: Global) -> Option<Request> {
-    let accounts = Vec::from_slice(alloc, &[account(1), account(2)]).ok()?;
-    let body = Body::CreateAccounts(Items::new(accounts));
+    let body = creation(alloc, &[account(1), account(2)]).ok()?;
     Request::new(7, 1, 1, body).ok()
 }
 
-/// Client 7 creates a transfer.
-pub(crate) fn transfers(alloc: Global, number: u32, row: Transfer) -> Option<Request> {
-    let body = Body::CreateTransfers(Items::new(Vec::from_slice(alloc, &[row]).ok()?));
+/// Client 7 creates a transfer of an amount from account 1 to account 2.
+pub(crate) fn transfers(alloc: Global, number: u32, id: u128, amount: u128) -> Option<Request> {
+    let body = tb_fixtures::transfers(alloc, &[transfer(id, 1, 2, amount)]).ok()?;
     Request::new(7, 1, number, body).ok()
 }
 

@@ -2,8 +2,7 @@
 ghost use Rattle.std.specs.Prelude.{◌≡◌};
 
 use crate::making::{
-    holds, lookup, offer, one_port, opened, opening, register, rising, transfer, transfers,
-    two_accounts,
+    holds, lookup, offer, one_port, opened, opening, register, rising, transfers, two_accounts,
 };
 use std::alloc::Global;
 use std::marker::Brand;
@@ -39,14 +38,14 @@ const FIRST_ROWS: [Row; 8] = [
 ];
 
 /// The one that is served behind them.
-const NEXT: [Row; 1] = [(Asked::Lookup(4), Status::Reply, 5)];
+const NEXT: Row = (Asked::Lookup(4), Status::Reply, 5);
 
 fn requested(alloc: Global, asked: Asked) -> Option<Request> {
     match asked {
         Asked::Register => register(7),
         Asked::TwoAccounts => two_accounts(alloc),
         Asked::Lookup(number) => lookup(alloc, number),
-        Asked::Transfer(amount) => transfers(alloc, 3, transfer(11, amount)),
+        Asked::Transfer(amount) => transfers(alloc, 3, 11, amount),
     }
 }
 
@@ -91,59 +90,37 @@ fn expect_answers<J: Naming>(rt: &impl Abort, alloc: Global, seats: &mut Vec<Sea
     expect_accounts(rt, seat, &[2, 9, 1], 4);
 }
 
-/// A seat that has learnt nothing answers by what it then has seen: four entries, after which the request is new, or all five.
-fn is_right_by_its_number<J: Naming>(seat: &mut Seat<J>, request: &Request) -> bool {
-    match (seat.status(request), seat.seen()) {
-        (Ok(Status::NotYet), 4) => true,
-        (Ok(Status::Reply), 5) => true,
-        _ => false,
-    }
-}
-
-/// One seat has seen the first requests; one more is served, of which both learn.
-fn expect_learning<J: Naming>(
+/// One more request is served behind the first ones, of which both seats learn.
+fn expect_learnt<J: Naming>(
     rt: &impl Abort,
     alloc: Global,
     publisher: &Publisher<J>,
     seats: &mut Vec<Seat<J>>,
 ) {
-    let request = lookup(alloc, 4).expect(rt, "a request");
     let told = publisher.tell();
     holds(rt, told.commit() == 5, "what is told");
-    let mut both = seats.iter_mut();
-    let one = both.next().expect(rt, "a seat");
-    let two = both.next().expect(rt, "another seat");
-    holds(
-        rt,
-        is_right_by_its_number(two, &request),
-        "before it is told",
-    );
-    two.learn(&told);
-    holds(
-        rt,
-        two.status(&request) == Ok(Status::Reply),
-        "once it is told",
-    );
-    one.learn(&told);
-    expect_accounts(rt, one, &[1], 5);
+    for seat in seats.iter_mut() {
+        seat.learn(&told);
+        expect_answer(rt, alloc, seat, NEXT);
+        expect_accounts(rt, seat, &[1], 5);
+    }
     drop(told);
-    drop(request);
 }
 
-/// Two services over one publisher, one after the other; one seat learns of the first requests.
+/// Two services over one publisher, one after the other.
 fn serve_twice<J: Naming, R: Wait + Abort>(rt: &R, alloc: Global, opening: Opening)
     requires { opening ≡ J.opening }
 {
     let (publisher, mut seats) = opened::<J, R>(rt, alloc, opening);
     let publisher = serve_all(rt, alloc, publisher, &FIRST_ROWS);
     expect_answers(rt, alloc, &mut seats);
-    let publisher = serve_all(rt, alloc, publisher, &NEXT);
-    expect_learning(rt, alloc, &publisher, &mut seats);
+    let publisher = serve_all(rt, alloc, publisher, &[NEXT]);
+    expect_learnt(rt, alloc, &publisher, &mut seats);
     drop(publisher.close(rt));
     drop(seats);
 }
 
 #[test]
-fn two_seats_and_a_told(rt: HostRuntime) {
+fn first_rows_through_a_port(rt: HostRuntime) {
     serve_twice::<Brand, _>(&rt, rt.alloc(), opening(&rt));
 }

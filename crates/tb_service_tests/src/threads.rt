@@ -2,7 +2,7 @@
 ghost use Rattle.std.specs.Prelude.{◌≡◌, ◌≤◌};
 
 use crate::making::{
-    holds, offer, opened, opening, ports, register, rising, transfer, two_accounts, two_ports,
+    holds, offer, opened, opening, ports, register, rising, transfers, two_accounts, two_ports,
 };
 use std::alloc::Global;
 use std::marker::Brand;
@@ -11,16 +11,14 @@ use std::sync::Wait;
 use std::sync::atomic::{AtomicU64, Ordering};
 use std::thread::{self, Threads, join};
 use tb_published::{Naming, Opening, Publisher, Seat, SeatFault};
-use tb_records::{Body, Items, Reply, Request, Status};
+use tb_records::{Reply, Request, Status};
 use tb_service::{Closed, Finished, Gate, Port, service as serve};
 
 /// The client's nth transfer, of the amount n, is its request n + 1.
 fn nth_transfer(alloc: Global, n: u32) -> Option<Request>
     requires { n ≤ 50 }
 {
-    let row = transfer(u128::from(n), u128::from(n));
-    let body = Body::CreateTransfers(Items::new(Vec::from_slice(alloc, &[row]).ok()?));
-    Request::new(7, 1, n + 1, body).ok()
+    transfers(alloc, n + 1, u128::from(n), u128::from(n))
 }
 
 /// The answer is a reply, or that the request is older than the last one.

@@ -10,7 +10,6 @@
 //! - `seating`: of tb_published: two seats beside one history.
 //! - `serving`: of tb_service: one port, one request, and the audit.
 //! - `texts`: of tb_text.
-//! - `tests`: the callers, run.
 #![tactic(auto)]
 
 pub mod ledgers;
@@ -20,6 +19,4 @@ pub mod retries;
 pub mod seating;
 pub mod serving;
 pub mod sessions;
-#[cfg(test)]
-mod tests;
 pub mod texts;

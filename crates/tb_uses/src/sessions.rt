@@ -15,31 +15,15 @@ pub fn keep(
     commit: u64,
 ) -> Result<Option<Row>, Request>
     requires later { Each (λ (row : Row). row.commit < commit) sessions.old.rows }
-    ensures kept { IfOk result
-        (λ _.
-        sessions.new
-        ≡ record sessions.old {
-          rows =
-              admitted sessions.old.clients_max sessions.old.rows
-              (record {
-                client = request.client;
-                session = reply.session;
-                request = request;
-                reply = reply;
-                commit = commit;
-              });
-        }) }
-    ensures left { IfOk result
-        (λ left.
-        left
-        ≡ leaving sessions.old.clients_max sessions.old.rows
-        (record {
-          client = request.client;
-          session = reply.session;
-          request = request;
-          reply = reply;
-          commit = commit;
-        })) }
+    ensures kept { let row : Row = record {
+      client = request.client;
+      session = reply.session;
+      request = request;
+      reply = reply;
+      commit = commit;
+    } in IfOk result
+        (λ left. (left ≡ leaving sessions.old.clients_max sessions.old.rows row)
+        × (sessions.new ≡ record sessions.old { rows = admitted sessions.old.clients_max sessions.old.rows row })) }
     ensures back { IfErr result (λ back. (back ≡ request) × (sessions.new ≡ sessions.old)) }
 {
     if !matches!(sessions.classify(&request), Class::New) {

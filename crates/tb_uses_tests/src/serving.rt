@@ -1,47 +1,16 @@
+//! A register that one port hands over, and two seats that are asked for it.
 ghost use Rattle.std.specs.Prelude.{◌≡◌};
 
-use super::*;
-use avl_tree::AvlMap;
+use crate::making::{holds, register, two_clients};
 use std::alloc::Global;
 use std::marker::Brand;
 use std::process::Abort;
 use std::sync::Wait;
-use tb_machine::Machine;
 use tb_published::{Naming, Opening, Publisher, Seat, SeatCount, open};
-use tb_records::{Body, ClientsMax, Profile, Reply, Request, Status};
+use tb_records::{Profile, Reply, Request, Status};
 use tb_service::{Moments, Open};
-
-/// Puts a key twice.
-#[test]
-fn a_key_is_put_twice(rt: HostRuntime) {
-    let mut map = AvlMap::new_in(rt.alloc());
-    assert_eq!(&rt; maps::put(&mut map, 1, 10).expect(&rt, "memory"), None);
-    assert_eq!(&rt; maps::put(&mut map, 1, 11).expect(&rt, "memory"), Some(10));
-    assert_eq!(&rt; map.len(), 1);
-    drop(map);
-}
-
-/// The register of client 7.
-fn register(rt: &impl Abort) -> Request {
-    Request::new(7, 0, 0, Body::Register).expect(rt, "a request")
-}
-
-/// Two clients may have a session.
-fn two_clients(rt: &impl Abort) -> ClientsMax {
-    ClientsMax::new(2).expect(rt, "clients_max")
-}
-
-/// Enters a register, and then the same once more.
-#[test]
-fn a_register_is_entered_once(rt: HostRuntime) {
-    let clients_max = two_clients(&rt);
-    let made = Machine::new_in(rt.alloc(), rt.alloc(), Profile::One, clients_max);
-    let mut machine = made.expect(&rt, "a machine");
-    assert!(&rt; retries::enter_once(&mut machine, register(&rt), 10).is_ok());
-    assert!(&rt; retries::enter_once(&mut machine, register(&rt), 11).is_err());
-    assert_eq!(&rt; machine.commit(), 1);
-    drop(machine);
-}
+use tb_uses::seating::ask_two;
+use tb_uses::serving::serve_one;
 
 /// Always the same moment.
 #[derive(Drop)]
@@ -78,8 +47,8 @@ fn expect_both<J: Naming>(
     let mut both = seats.iter_mut();
     let one = both.next().expect(rt, "a seat");
     let two = both.next().expect(rt, "another seat");
-    let answers = seating::ask_two(publisher, one, two, asked).expect(rt, "answers");
-    assert!(rt; are_first(&answers));
+    let answers = ask_two(publisher, one, two, asked).expect(rt, "answers");
+    holds(rt, are_first(&answers), "both of entry 1");
     drop(answers);
 }
 
@@ -90,7 +59,7 @@ fn serve_register<J: Naming, R: Wait + Abort>(rt: &R, alloc: Global, opening: Op
     let count = SeatCount::new(2).expect(rt, "seats");
     let made = open::<J, R>(alloc, rt, opening, count);
     let (publisher, mut seats) = made.expect(rt, "a publisher");
-    let served = serving::serve_one(rt, alloc, publisher, Still, Open, register(rt));
+    let served = serve_one(rt, alloc, publisher, Still, Open, register(rt));
     let finished = served.expect(rt, "a server");
     let asked = register(rt);
     expect_both(rt, &finished.publisher, &mut seats, &asked);

@@ -1,4 +1,4 @@
-use Rattle.tb_service_tests.proofs.seats.two_seats_and_a_told.Given as goal
+use Rattle.tb_service_tests.proofs.seats.first_rows_through_a_port.Given as goal
 
 -- the opening that was just made
 abbrev pub ghosts-serve_twice : goal.ghosts-serve_twice

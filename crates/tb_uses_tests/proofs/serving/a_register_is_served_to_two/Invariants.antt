@@ -1,4 +1,4 @@
-use Rattle.tb_uses.proofs.tests.a_register_is_served_to_two.Given as goal
+use Rattle.tb_uses_tests.proofs.serving.a_register_is_served_to_two.Given as goal
 
 -- the opening that was just made
 abbrev pub ghosts-serve_register : goal.ghosts-serve_register

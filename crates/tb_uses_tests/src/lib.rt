@@ -1,0 +1,15 @@
+//! The callers of tb_uses, run.
+//!
+//! Modules, each over those before it:
+//!
+//! - `making`: what the rows are made of, and one function that compares.
+//! - `keeping`: a key that is put twice, and a register that is entered twice.
+//! - `serving`: a register that is served, and two seats that are asked for it.
+#![tactic(auto)]
+
+#[cfg(test)]
+mod keeping;
+#[cfg(test)]
+mod making;
+#[cfg(test)]
+mod serving;
