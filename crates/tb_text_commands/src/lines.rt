@@ -1,6 +1,6 @@
 //! Replies and entries as lines of JSON.
-use crate::lists::{Accounts, Ids, JudgedAccounts, JudgedTransfers, Results, Transfers};
-use crate::objects::{AccountObject, Object, Plain, Shown, TransferObject};
+use crate::lists::{Ids, Judged, Records, Results};
+use crate::objects::{Object, Plain, Record, RecordObject, Shown};
 use crate::results::results_of;
 use serde::Serialize;
 use std::alloc::{AllocError, Global};
@@ -77,10 +77,8 @@ pub fn reply_line(alloc: Global, reply: &Reply) -> Result<Vec<u8>, AllocError> {
             let results = results.as_slice();
             line_with(alloc, reply, &Results { operation, results })
         }
-        ReplyBody::Accounts(accounts) => line_with(alloc, reply, &Accounts(accounts.as_slice())),
-        ReplyBody::Transfers(transfers) => {
-            line_with(alloc, reply, &Transfers(transfers.as_slice()))
-        }
+        ReplyBody::Accounts(found) => line_with(alloc, reply, &Records(found.as_slice())),
+        ReplyBody::Transfers(found) => line_with(alloc, reply, &Records(found.as_slice())),
     }
 }
 
@@ -119,10 +117,10 @@ fn entry_line(
     match request.body() {
         Body::Register => entry_with(alloc, numbers, request, &Ids(&[])),
         Body::CreateAccounts(events) => {
-            entry_with(alloc, numbers, request, &Accounts(events.as_slice()))
+            entry_with(alloc, numbers, request, &Records(events.as_slice()))
         }
         Body::CreateTransfers(events) => {
-            entry_with(alloc, numbers, request, &Transfers(events.as_slice()))
+            entry_with(alloc, numbers, request, &Records(events.as_slice()))
         }
         Body::LookupAccounts(ids) => entry_with(alloc, numbers, request, &Ids(ids.as_slice())),
         Body::LookupTransfers(ids) => entry_with(alloc, numbers, request, &Ids(ids.as_slice())),
@@ -159,6 +157,23 @@ pub fn item_line(alloc: Global, item: &DumpItem) -> Result<Vec<u8>, AllocError> 
     }
 }
 
+/// The line of the machine's last entry, with what became of each of its events.
+fn judged_with<R: Record>(
+    alloc: Global,
+    machine: &Machine<Global>,
+    entry: &Entry,
+    events: &[R],
+) -> Result<Vec<u8>, AllocError> {
+    let request = &entry.request;
+    let judged = Judged {
+        machine,
+        operation: request.operation(),
+        results: results_of(machine, request.client()),
+        events,
+    };
+    entry_with(alloc, (entry.commit, entry.time), request, &judged)
+}
+
 /// The line of the machine's last entry, with what became of each event of a batch: records that were accepted are shown
 /// as they were made.
 pub fn judged_line(
@@ -166,32 +181,10 @@ pub fn judged_line(
     machine: &Machine<Global>,
     entry: &Entry,
 ) -> Result<Vec<u8>, AllocError> {
-    let request = &entry.request;
-    let numbers = (entry.commit, entry.time);
-    let operation = request.operation();
-    let results = results_of(machine, request.client());
-    match request.body() {
-        Body::CreateAccounts(events) => {
-            let events = events.as_slice();
-            let judged = JudgedAccounts {
-                machine,
-                operation,
-                results,
-                events,
-            };
-            entry_with(alloc, numbers, request, &judged)
-        }
-        Body::CreateTransfers(events) => {
-            let events = events.as_slice();
-            let judged = JudgedTransfers {
-                machine,
-                operation,
-                results,
-                events,
-            };
-            entry_with(alloc, numbers, request, &judged)
-        }
-        _ => entry_line(alloc, numbers, request),
+    match entry.request.body() {
+        Body::CreateAccounts(events) => judged_with(alloc, machine, entry, events.as_slice()),
+        Body::CreateTransfers(events) => judged_with(alloc, machine, entry, events.as_slice()),
+        _ => entry_line(alloc, (entry.commit, entry.time), &entry.request),
     }
 }
 
@@ -200,7 +193,7 @@ pub fn expired_line(alloc: Global, time: u64, transfer: &Transfer) -> Result<Vec
     let object = Object {
         fields: &[("time", Shown::Digits(u128::from(time)))],
         name: "expired",
-        last: &TransferObject(transfer),
+        last: &RecordObject(transfer),
     };
     line(alloc, &object)
 }
@@ -218,7 +211,7 @@ pub fn balance_line(
     let object = Object {
         fields: &fields,
         name: "account",
-        last: &AccountObject(account),
+        last: &RecordObject(account),
     };
     line(alloc, &object)
 }

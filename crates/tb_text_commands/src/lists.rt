@@ -1,38 +1,22 @@
 //! Lists of records, ids and results, each item an object.
-use crate::objects::{AccountObject, Object, Plain, Shown, TransferObject, result_shown};
+use crate::objects::{Object, Plain, Record, RecordObject, Shown, result_shown};
 use crate::results::{is_accepted, outcome_of};
 use serde::{Described, Serialize, Serializer};
 use std::alloc::Global;
 use tb_machine::Machine;
-use tb_records::{Account, EventResult, Transfer};
+use tb_records::EventResult;
 
-/// Accounts.
+/// Records.
 #[derive(Drop)]
-pub struct Accounts<'a>(pub &'a [Account]);
+pub struct Records<'a, R>(pub &'a [R]);
 
-impl Described for Accounts<'_> {}
+impl<R> Described for Records<'_, R> {}
 
-impl Serialize for Accounts<'_> {
+impl<R: Record> Serialize for Records<'_, R> {
     fn serialize<S: Serializer>(&self, out: &mut S) -> Result<(), S::Error> {
         out.begin_seq(None)?;
-        for account in self.0 {
-            AccountObject(account).serialize(out)?;
-        }
-        out.end_seq()
-    }
-}
-
-/// Transfers.
-#[derive(Drop)]
-pub struct Transfers<'a>(pub &'a [Transfer]);
-
-impl Described for Transfers<'_> {}
-
-impl Serialize for Transfers<'_> {
-    fn serialize<S: Serializer>(&self, out: &mut S) -> Result<(), S::Error> {
-        out.begin_seq(None)?;
-        for transfer in self.0 {
-            TransferObject(transfer).serialize(out)?;
+        for record in self.0 {
+            RecordObject(record).serialize(out)?;
         }
         out.end_seq()
     }
@@ -88,93 +72,42 @@ impl Serialize for Results<'_> {
     }
 }
 
-/// The accounts of a machine's last entry, and what became of each: one that was created is shown as it was made.
+/// The events of a machine's last entry, and what became of each: one that was accepted is shown as the record that it made.
 #[derive(Drop)]
-pub struct JudgedAccounts<'a> {
+pub struct Judged<'a, R> {
     pub machine: &'a Machine<Global>,
     pub operation: u8,
     pub results: &'a [EventResult],
-    pub events: &'a [Account],
+    pub events: &'a [R],
 }
 
-impl JudgedAccounts<'_> {
-    /// An event as it was made, or as it was asked for where it was not accepted.
-    fn made(&self, index: usize, event: &Account) -> Account {
-        match self.machine.account(event.id) {
-            Some(made) if is_accepted(self.results, index) => made,
-            _ => *event,
-        }
-    }
-
-    /// Writes an event, and what became of it, as an object.
-    fn put<S: Serializer>(
-        &self,
-        out: &mut S,
-        index: usize,
-        event: &Account,
-    ) -> Result<(), S::Error> {
-        let object = Object {
-            fields: &[("result", outcome_of(self.operation, self.results, index))],
-            name: "event",
-            last: &AccountObject(&self.made(index, event)),
-        };
-        object.serialize(out)
-    }
-}
-
-impl Described for JudgedAccounts<'_> {}
-
-impl Serialize for JudgedAccounts<'_> {
-    fn serialize<S: Serializer>(&self, out: &mut S) -> Result<(), S::Error> {
-        out.begin_seq(None)?;
-        for (index, event) in self.events.iter().enumerate() {
-            self.put(out, index, event)?;
-        }
-        out.end_seq()
-    }
-}
-
-/// The transfers of a machine's last entry, and what became of each: one that was accepted is shown as it was recorded.
-#[derive(Drop)]
-pub struct JudgedTransfers<'a> {
-    pub machine: &'a Machine<Global>,
-    pub operation: u8,
-    pub results: &'a [EventResult],
-    pub events: &'a [Transfer],
-}
-
-impl JudgedTransfers<'_> {
+impl<R: Record> Judged<'_, R> {
     /// An event as it was recorded, or as it was asked for where it was not accepted.
-    fn made(&self, index: usize, event: &Transfer) -> Transfer {
-        match self.machine.transfer(event.id) {
+    fn made(&self, index: usize, event: &R) -> R {
+        match event.kept_by(self.machine) {
             Some(made) if is_accepted(self.results, index) => made,
             _ => *event,
         }
     }
 
     /// Writes an event, and what became of it, as an object.
-    fn put<S: Serializer>(
-        &self,
-        out: &mut S,
-        index: usize,
-        event: &Transfer,
-    ) -> Result<(), S::Error> {
+    fn put<S: Serializer>(&self, out: &mut S, index: usize, event: &R) -> Result<(), S::Error> {
         let object = Object {
             fields: &[("result", outcome_of(self.operation, self.results, index))],
             name: "event",
-            last: &TransferObject(&self.made(index, event)),
+            last: &RecordObject(&self.made(index, event)),
         };
         object.serialize(out)
     }
 }
 
-impl Described for JudgedTransfers<'_> {}
+impl<R> Described for Judged<'_, R> {}
 
-impl Serialize for JudgedTransfers<'_> {
+impl<R: Record> Serialize for Judged<'_, R> {
     fn serialize<S: Serializer>(&self, out: &mut S) -> Result<(), S::Error> {
         out.begin_seq(None)?;
-        for (index, event) in self.events.iter().enumerate() {
-            self.put(out, index, event)?;
+        for index in 0..self.events.len() {
+            self.put(out, index, &self.events[index])?;
         }
         out.end_seq()
     }

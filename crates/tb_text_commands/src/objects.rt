@@ -1,8 +1,11 @@
 //! Records, ids and results as JSON objects: the fields by their names, numbers of 64 and 128 bits as strings, flags and
 //! results by name.
 use serde::{Described, Serialize, Serializer};
+use std::alloc::Global;
+use tb_machine::Machine;
 use tb_records::{
-    Account, AccountFlag, CreateAccountResult, CreateTransferResult, Transfer, TransferFlag,
+    Account, AccountFlag, CreateAccountResult, CreateTransferResult, Operation, Transfer,
+    TransferFlag,
 };
 
 /// What a plain field shows.
@@ -147,50 +150,78 @@ fn transfer_fields(t: &Transfer) -> [Field; 11] {
     ]
 }
 
-/// Writes the object of a record: the fields before its flags, its flags and its timestamp.
-fn put_record<S: Serializer, F: Serialize>(
-    out: &mut S,
-    fields: &[Field],
-    flags: &F,
-    timestamp: u64,
-) -> Result<(), S::Error> {
-    out.begin_map(None)?;
-    put_fields(out, fields)?;
-    out.key("flags")?;
-    flags.serialize(out)?;
-    put_fields(out, &[("timestamp", Shown::Digits(u128::from(timestamp)))])?;
-    out.end_map()
+/// A record that is shown as an object.
+pub trait Record: Copy {
+    /// The fields before its flags.
+    fn fields(&self) -> [Field; 11];
+
+    /// Writes its flags.
+    fn put_flags<S: Serializer>(&self, out: &mut S) -> Result<(), S::Error>;
+
+    /// The time at which it was made.
+    fn made_at(&self) -> u64;
+
+    /// The record with the same id that a machine has.
+    fn kept_by(&self, machine: &Machine<Global>) -> Option<Self>;
 }
 
-/// An account as an object.
-#[derive(Drop)]
-pub struct AccountObject<'a>(pub &'a Account);
+impl Record for Account {
+    fn fields(&self) -> [Field; 11] {
+        account_fields(self)
+    }
 
-impl Described for AccountObject<'_> {}
+    fn put_flags<S: Serializer>(&self, out: &mut S) -> Result<(), S::Error> {
+        AccountFlags(self.flags).serialize(out)
+    }
 
-impl Serialize for AccountObject<'_> {
-    fn serialize<S: Serializer>(&self, out: &mut S) -> Result<(), S::Error> {
-        let fields = account_fields(self.0);
-        put_record(out, &fields, &AccountFlags(self.0.flags), self.0.timestamp)
+    fn made_at(&self) -> u64 {
+        self.timestamp
+    }
+
+    fn kept_by(&self, machine: &Machine<Global>) -> Option<Account> {
+        machine.account(self.id)
     }
 }
 
-/// A transfer as an object.
+impl Record for Transfer {
+    fn fields(&self) -> [Field; 11] {
+        transfer_fields(self)
+    }
+
+    fn put_flags<S: Serializer>(&self, out: &mut S) -> Result<(), S::Error> {
+        TransferFlags(self.flags).serialize(out)
+    }
+
+    fn made_at(&self) -> u64 {
+        self.timestamp
+    }
+
+    fn kept_by(&self, machine: &Machine<Global>) -> Option<Transfer> {
+        machine.transfer(self.id)
+    }
+}
+
+/// A record as an object: the fields before its flags, its flags and its timestamp.
 #[derive(Drop)]
-pub struct TransferObject<'a>(pub &'a Transfer);
+pub struct RecordObject<'a, R>(pub &'a R);
 
-impl Described for TransferObject<'_> {}
+impl<R> Described for RecordObject<'_, R> {}
 
-impl Serialize for TransferObject<'_> {
+impl<R: Record> Serialize for RecordObject<'_, R> {
     fn serialize<S: Serializer>(&self, out: &mut S) -> Result<(), S::Error> {
-        let fields = transfer_fields(self.0);
-        put_record(out, &fields, &TransferFlags(self.0.flags), self.0.timestamp)
+        let timestamp = Shown::Digits(u128::from(self.0.made_at()));
+        out.begin_map(None)?;
+        put_fields(out, &self.0.fields())?;
+        out.key("flags")?;
+        self.0.put_flags(out)?;
+        put_fields(out, &[("timestamp", timestamp)])?;
+        out.end_map()
     }
 }
 
 /// The result of an event of an operation by its name, or by its number where it has none.
 pub fn result_shown(operation: u8, code: u32) -> Shown {
-    let name = if operation == 129 {
+    let name = if operation == Operation::CreateAccounts.code() {
         CreateAccountResult::from_code(code).map(|verdict| verdict.name())
     } else {
         CreateTransferResult::from_code(code).map(|verdict| verdict.name())
