@@ -1,6 +1,6 @@
 //! Replies and entries as lines of JSON.
-use crate::lists::{Ids, Judged, Records, Results};
-use crate::objects::{Object, Plain, Record, RecordObject, Shown};
+use crate::lists::{Ids, Judged, List, Records, Results};
+use crate::objects::{Object, Plain, Record, Shown};
 use crate::results::results_of;
 use serde::Serialize;
 use std::alloc::{AllocError, Global};
@@ -9,6 +9,9 @@ use tb_records::{
     Account, Body, DumpHead, DumpItem, Operation, Profile, Reply, ReplyBody, Request, Status,
     Transfer,
 };
+
+/// The events of a register, and the results of its reply.
+const NO_IDS: &[u128] = &[];
 
 /// The line of an object.
 fn line<T: Serialize>(alloc: Global, object: &T) -> Result<Vec<u8>, AllocError> {
@@ -72,13 +75,12 @@ fn line_with<T: Serialize>(
 pub fn reply_line(alloc: Global, reply: &Reply) -> Result<Vec<u8>, AllocError> {
     let operation = reply.operation();
     match reply.body() {
-        ReplyBody::Empty => line_with(alloc, reply, &Ids(&[])),
+        ReplyBody::Empty => line_with(alloc, reply, &List(NO_IDS, Ids)),
         ReplyBody::Results(results) => {
-            let results = results.as_slice();
-            line_with(alloc, reply, &Results { operation, results })
+            line_with(alloc, reply, &List(results.as_slice(), Results(operation)))
         }
-        ReplyBody::Accounts(found) => line_with(alloc, reply, &Records(found.as_slice())),
-        ReplyBody::Transfers(found) => line_with(alloc, reply, &Records(found.as_slice())),
+        ReplyBody::Accounts(found) => line_with(alloc, reply, &List(found.as_slice(), Records)),
+        ReplyBody::Transfers(found) => line_with(alloc, reply, &List(found.as_slice(), Records)),
     }
 }
 
@@ -115,15 +117,25 @@ fn entry_line(
     request: &Request,
 ) -> Result<Vec<u8>, AllocError> {
     match request.body() {
-        Body::Register => entry_with(alloc, numbers, request, &Ids(&[])),
+        Body::Register => entry_with(alloc, numbers, request, &List(NO_IDS, Ids)),
         Body::CreateAccounts(events) => {
-            entry_with(alloc, numbers, request, &Records(events.as_slice()))
+            entry_with(alloc, numbers, request, &List(events.as_slice(), Records))
         }
         Body::CreateTransfers(events) => {
-            entry_with(alloc, numbers, request, &Records(events.as_slice()))
+            entry_with(alloc, numbers, request, &List(events.as_slice(), Records))
         }
-        Body::LookupAccounts(ids) => entry_with(alloc, numbers, request, &Ids(ids.as_slice())),
-        Body::LookupTransfers(ids) => entry_with(alloc, numbers, request, &Ids(ids.as_slice())),
+        Body::LookupAccounts(ids) => entry_with(
+            alloc,
+            numbers,
+            request,
+            &List(ids.as_slice(), Ids),
+        ),
+        Body::LookupTransfers(ids) => entry_with(
+            alloc,
+            numbers,
+            request,
+            &List(ids.as_slice(), Ids),
+        ),
     }
 }
 
@@ -169,9 +181,9 @@ fn judged_with<R: Record>(
         machine,
         operation: request.operation(),
         results: results_of(machine, request.client()),
-        events,
     };
-    entry_with(alloc, (entry.commit, entry.time), request, &judged)
+    let numbers = (entry.commit, entry.time);
+    entry_with(alloc, numbers, request, &List(events, judged))
 }
 
 /// The line of the machine's last entry, with what became of each event of a batch: records that were accepted are shown
@@ -193,7 +205,7 @@ pub fn expired_line(alloc: Global, time: u64, transfer: &Transfer) -> Result<Vec
     let object = Object {
         fields: &[("time", Shown::Digits(u128::from(time)))],
         name: "expired",
-        last: &RecordObject(transfer),
+        last: &Plain(&transfer.fields()),
     };
     line(alloc, &object)
 }
@@ -211,7 +223,7 @@ pub fn balance_line(
     let object = Object {
         fields: &fields,
         name: "account",
-        last: &RecordObject(account),
+        last: &Plain(&account.fields()),
     };
     line(alloc, &object)
 }
