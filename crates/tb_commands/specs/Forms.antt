@@ -21,10 +21,18 @@ abbrev pub number_of : List ℕ → Option ℕ
 number_of [] = None
 number_of (byte ∷ bytes) = number_from 0 (byte ∷ bytes)
 
+-- a number with one digit more, where it is at most `high`
+abbrev pub with_digit : ℕ → ℕ → ℕ → Option ℕ
+with_digit n byte high = option_and_then (λ digit. if nat_le (n * 10 + digit) high then Some (n * 10 + digit) else None) (digit_of byte)
+
 -- the number, where it is in the range
 abbrev pub within : ℕ → ℕ → Option ℕ → Option ℕ
 within low high None = None
 within low high (Some n) = if nat_le low n && nat_le n high then Some n else None
+
+-- an id, 0 to 2^128 - 1
+abbrev pub id_of : List ℕ → Option ℕ
+id_of word = within 0 (2 ^ 128 - 1) (number_of word)
 
 -- 1 to 64 clients
 abbrev pub clients_of : List ℕ → Option ℕ

@@ -1,6 +1,6 @@
 //! What the words of the command line ask for.
 ghost use Rattle.std.specs.Prelude.{◌≡◌, ◌<◌, ◌≤◌, map, string_bytes, IfSome, Some, None, if◌then◌else◌};
-ghost use Rattle.tb_commands.specs.Forms.{digit_of, number_of, within, clients_of, profile_of, commit_of, run_by, dump_by, dump_at_by, form_alone, form_with, form_with_two, form_of};
+ghost use Rattle.tb_commands.specs.Forms.{digit_of, number_of, with_digit, within, clients_of, profile_of, id_of, commit_of, form_alone, form_with, form_with_two, form_of};
 
 use tb_records::{ClientsMax, Profile};
 
@@ -17,46 +17,57 @@ pub enum Form {
 }
 
 /// The value of a digit.
-fn digit(byte: u8) -> Option<u64>
+fn digit(byte: u8) -> Option<u128>
     ensures value { result ≡ digit_of byte }
     ensures small { IfSome result (λ n. n < 10) }
 {
     if b'0' <= byte && byte <= b'9' {
-        Some((byte - b'0') as u64)
+        Some((byte - b'0') as u128)
     } else {
         None
     }
 }
 
-/// The number, where it is from `low` to `high`.
-fn in_range(n: u128, low: u64, high: u64) -> Option<u64>
-    ensures { result ≡ within low high (Some n) }
+/// A number with one digit more, where it is at most `high`.
+fn with_digit(n: u128, byte: u8, high: u128) -> Option<u128>
+    ensures { result ≡ with_digit n byte high }
 {
-    if (low as u128) <= n && n <= high as u128 {
-        Some(n as u64)
-    } else {
-        None
-    }
+    let n = n.checked_mul(10)?.checked_add(digit(byte)?)?;
+    if n <= high { Some(n) } else { None }
 }
 
-/// The number that a word spells, where it is from `low` to `high`.
-pub fn number(word: &[u8], low: u64, high: u64) -> Option<u64>
-    ensures { result ≡ within low high (number_of word.now) }
+/// The number that a word spells, where it is at most `high`.
+fn number_up_to(word: &[u8], high: u128) -> Option<u128>
+    ensures { result ≡ within 0 high (number_of word.now) }
 {
     if word.is_empty() {
         return None;
     }
     let mut n: u128 = 0;
     for byte in word {
-        if (high as u128) < n {
-            return None;
-        }
-        match digit(*byte) {
-            Some(digit) => n = n * 10 + digit as u128,
+        match with_digit(n, *byte, high) {
+            Some(more) => n = more,
             None => return None,
         }
     }
-    in_range(n, low, high)
+    Some(n)
+}
+
+/// The number that a word spells, where it is from `low` to `high`.
+pub fn number(word: &[u8], low: u64, high: u64) -> Option<u64>
+    ensures { result ≡ within low high (number_of word.now) }
+{
+    match number_up_to(word, high as u128) {
+        Some(n) if low as u128 <= n => Some(n as u64),
+        _ => None,
+    }
+}
+
+/// The id that a word spells.
+pub fn read_id(word: &[u8]) -> Option<u128>
+    ensures { result ≡ id_of word.now }
+{
+    number_up_to(word, u128::MAX)
 }
 
 /// The number of clients that a word spells, from 1 to 64.
@@ -86,36 +97,6 @@ fn commit(word: &[u8]) -> Option<u64>
     number(word, 0, i64::MAX as u64)
 }
 
-/// `run`, with these clients and profile.
-fn run_form(clients_max: Option<ClientsMax>, profile: Option<Profile>) -> Option<Form>
-    ensures { result ≡ run_by clients_max profile }
-{
-    match (clients_max, profile) {
-        (Some(clients_max), Some(profile)) => Some(Form::Run(clients_max, profile)),
-        _ => None,
-    }
-}
-
-/// `dump`, with these clients and no mark.
-fn dump_form(clients_max: Option<ClientsMax>) -> Option<Form>
-    ensures { result ≡ dump_by clients_max }
-{
-    match clients_max {
-        Some(clients_max) => Some(Form::Dump(clients_max, None)),
-        None => None,
-    }
-}
-
-/// `dump`, with these clients and a mark before the first entry above a commit.
-fn dump_form_at(clients_max: Option<ClientsMax>, at: Option<u64>) -> Option<Form>
-    ensures { result ≡ dump_at_by clients_max at }
-{
-    match (clients_max, at) {
-        (Some(clients_max), Some(at)) => Some(Form::Dump(clients_max, Some(at))),
-        _ => None,
-    }
-}
-
 /// What one word asks for.
 fn form_alone(word: &str) -> Option<Form>
     ensures { result ≡ form_alone word.now }
@@ -131,11 +112,11 @@ fn form_alone(word: &str) -> Option<Form>
 fn form_with(word: &str, clients_max: &str) -> Option<Form>
     ensures { result ≡ form_with word.now clients_max.now }
 {
-    let clients_max = read_clients_max(clients_max.as_bytes());
+    let clients_max = read_clients_max(clients_max.as_bytes())?;
     if word == "run" {
-        run_form(clients_max, Some(Profile::One))
+        Some(Form::Run(clients_max, Profile::One))
     } else if word == "dump" {
-        dump_form(clients_max)
+        Some(Form::Dump(clients_max, None))
     } else {
         None
     }
@@ -145,11 +126,11 @@ fn form_with(word: &str, clients_max: &str) -> Option<Form>
 fn form_with_two(word: &str, clients_max: &str, last: &str) -> Option<Form>
     ensures { result ≡ form_with_two word.now clients_max.now last.now }
 {
-    let clients_max = read_clients_max(clients_max.as_bytes());
+    let clients_max = read_clients_max(clients_max.as_bytes())?;
     if word == "run" {
-        run_form(clients_max, read_profile(last.as_bytes()))
+        Some(Form::Run(clients_max, read_profile(last.as_bytes())?))
     } else if word == "dump" {
-        dump_form_at(clients_max, commit(last.as_bytes()))
+        Some(Form::Dump(clients_max, Some(commit(last.as_bytes())?)))
     } else {
         None
     }

@@ -1,6 +1,7 @@
 -- Where reading stops, no statements go on.
-use Rattle.std.proofs.Common.{◌≡◌, ℕ, ◌+◌, ◌<◌, ◌≤◌, ◌⊎◌, inl, inr, false, List, [], ◌∷◌, ◌++◌, length, get_or, take, drop, Option, Some, None, refl, sym, ap, subst, ◌∙◌, arith}
+use Rattle.std.proofs.Common.{◌≡◌, ℕ, ◌+◌, ◌<◌, ◌≤◌, ◌⊎◌, inl, inr, false, List, [], ◌∷◌, ◌++◌, length, get_or, take, drop, Option, Some, None, sym, ap, subst, ◌∙◌, arith}
 use Rattle.std.specs.Option.{option_and_then}
+use Rattle.std.proofs.Math.Seq.{take-length}
 use Rattle.std.proofs.lemmas.List.{take_more, take-append-drop}
 use Rattle.tb_records.specs.Messages.{Message}
 use Rattle.tb_text.specs.Scan.{Scan, behind, step, run, is_at_rest}
@@ -29,10 +30,6 @@ nothing_goes_on text pairs others place more lt stops means = by stops.why
     by (inl here) = some_none means.last (sym means.taken ∙ stopped text place stops.last more here.0 stops.taken here.1)
     by (inr over) = absurd (omega arith)
 
-take_whole : (text : List ℕ) → take (length text) text ≡ text
-take_whole [] = refl
-take_whole (b ∷ bs) = ap (λ (t : List ℕ). b ∷ t) (take_whole bs)
-
 pub no_meaning : (text : List ℕ) (pairs others : List (ℕ × Message)) (place : ℕ) → Stops text pairs place → Means text others → ⊥
 no_meaning text pairs others place stops means = by stops.why
   where
@@ -41,7 +38,7 @@ no_meaning text pairs others place stops means = by stops.why
         nothing_goes_on text pairs others place (drop (place + 1) text) here.0 stops
         (subst (λ (t : List ℕ). Means t others) (sym (take-append-drop (place + 1) text)) means)
     by (inr over) =
-        let whole : take place text ≡ text = ap (λ (n : ℕ). take n text) over.0 ∙ take_whole text in
+        let whole : take place text ≡ text = ap (λ (n : ℕ). take n text) over.0 ∙ take-length text in
         let same = same_some stops.last means.last (sym stops.taken ∙ (ap (run (behind [])) whole ∙ means.taken)) in
         true_false (is_at_rest stops.last) (ap is_at_rest same ∙ means.whole) over.1
 

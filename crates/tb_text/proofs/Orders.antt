@@ -1,10 +1,14 @@
 -- The fields of accounts and transfers stand in the order of the records, and their numbers fit.
-use Rattle.std.proofs.Common.{ℕ, ◌-◌, ◌^◌, ◌<◌, ◌≤◌, Some, refl, arith, lit≤}
+use Rattle.std.proofs.Common.{◌≡◌, ℕ, ◌-◌, ◌^◌, ◌<◌, ◌≤◌, true, Some, refl, arith, lit≤}
+use Rattle.tb_records.specs.declared.operations.Operation.{Operation}
 use Rattle.tb_records.specs.declared.operations.Operation.TheVariants.{CreateAccounts, CreateTransfers}
 use Rattle.tb_records.specs.declared.records.Account.{Account}
 use Rattle.tb_records.specs.declared.records.Transfer.{Transfer}
 use Rattle.tb_records.specs.RecordBytes.{IsAccount, IsTransfer}
+use Rattle.tb_text.specs.declared.words.Field.{Field}
+use Rattle.tb_text.specs.declared.words.Field.TheVariants as field
 use Rattle.tb_text.specs.Printed.{account_entries, transfer_entries}
+use Rattle.tb_text.specs.Words.{field_index, field_max, has_field}
 use Rattle.tb_text.proofs.Entries.{InOrder}
 
 pub record Small (limit n : ℕ) : Type 0 where
@@ -20,131 +24,40 @@ small_64 n h = record { most = omega arith; short = omega arith }
 pub small_32 : (n : ℕ) → n < 2 ^ 32 → Small (2 ^ 32 - 1) n
 small_32 n h = record { most = omega arith; short = omega arith }
 
-pub small_16 : (n : ℕ) → n < 2 ^ 16 → Small (2 ^ 16 - 1) n
+small_16 : (n : ℕ) → n < 2 ^ 16 → Small (2 ^ 16 - 1) n
 small_16 n h = record { most = omega arith; short = omega arith }
+
+-- a field of an operation, and those behind it
+fits : {Behind : Type 0} (o : Operation) (f : Field) (k n : ℕ) → k ≤ field_index f → has_field o f ≡ true → Small (field_max f) n → Behind
+    → (k ≤ field_index f) × (has_field o f ≡ true) × (n ≤ field_max f) × (n < 10 ^ 64) × Behind
+fits o f k n le has small behind = (le, has, small.most, small.short, behind)
 
 pub accounts_in_order : (a : Account) → IsAccount a → InOrder (Some CreateAccounts) 5 (account_entries a)
 accounts_in_order a h =
-    let b = small_128 a.debits_pending h.debits_pending in
-    let c = small_128 a.debits_posted h.debits_posted in
-    let d = small_128 a.credits_pending h.credits_pending in
-    let e = small_128 a.credits_posted h.credits_posted in
-    let f = small_128 a.user_data_128 h.user_data_128 in
-    let g = small_64 a.user_data_64 h.user_data_64 in
-    let i = small_32 a.user_data_32 h.user_data_32 in
-    let j = small_32 a.reserved h.reserved in
-    let k = small_32 a.ledger h.ledger in
-    let l = small_16 a.code h.code in
-    let m = small_16 a.flags h.flags in
-    let n = small_64 a.timestamp h.timestamp in (
-      lit≤ tt,
-      refl,
-      b.most,
-      b.short,
-      (
-        lit≤ tt,
-        refl,
-        c.most,
-        c.short,
-        (
-          lit≤ tt,
-          refl,
-          d.most,
-          d.short,
-          (
-            lit≤ tt,
-            refl,
-            e.most,
-            e.short,
-            (
-              lit≤ tt,
-              refl,
-              f.most,
-              f.short,
-              (
-                lit≤ tt,
-                refl,
-                g.most,
-                g.short,
-                (
-                  lit≤ tt,
-                  refl,
-                  i.most,
-                  i.short,
-                  (
-                    lit≤ tt,
-                    refl,
-                    j.most,
-                    j.short,
-                    (lit≤ tt, refl, k.most, k.short, (lit≤ tt, refl, l.most, l.short, (lit≤ tt, refl, m.most, m.short, (lit≤ tt, refl, n.most, n.short, tt)))),
-                  ),
-                ),
-              ),
-            ),
-          ),
-        ),
-      ),
-    )
+    fits CreateAccounts field.DebitsPending 5 _ (lit≤ tt) refl (small_128 _ h.debits_pending)
+    (fits CreateAccounts field.DebitsPosted 6 _ (lit≤ tt) refl (small_128 _ h.debits_posted)
+    (fits CreateAccounts field.CreditsPending 7 _ (lit≤ tt) refl (small_128 _ h.credits_pending)
+    (fits CreateAccounts field.CreditsPosted 8 _ (lit≤ tt) refl (small_128 _ h.credits_posted)
+    (fits CreateAccounts field.UserData128 9 _ (lit≤ tt) refl (small_128 _ h.user_data_128)
+    (fits CreateAccounts field.UserData64 14 _ (lit≤ tt) refl (small_64 _ h.user_data_64)
+    (fits CreateAccounts field.UserData32 15 _ (lit≤ tt) refl (small_32 _ h.user_data_32)
+    (fits CreateAccounts field.Reserved 16 _ (lit≤ tt) refl (small_32 _ h.reserved)
+    (fits CreateAccounts field.Ledger 17 _ (lit≤ tt) refl (small_32 _ h.ledger)
+    (fits CreateAccounts field.Code 19 _ (lit≤ tt) refl (small_16 _ h.code)
+    (fits CreateAccounts field.Flags 20 _ (lit≤ tt) refl (small_16 _ h.flags)
+    (fits CreateAccounts field.Timestamp 21 _ (lit≤ tt) refl (small_64 _ h.timestamp) tt)))))))))))
 
 pub transfers_in_order : (t : Transfer) → IsTransfer t → InOrder (Some CreateTransfers) 5 (transfer_entries t)
 transfers_in_order t h =
-    let b = small_128 t.debit_account_id h.debit_account_id in
-    let c = small_128 t.credit_account_id h.credit_account_id in
-    let d = small_128 t.amount h.amount in
-    let e = small_128 t.pending_id h.pending_id in
-    let f = small_128 t.user_data_128 h.user_data_128 in
-    let g = small_64 t.user_data_64 h.user_data_64 in
-    let i = small_32 t.user_data_32 h.user_data_32 in
-    let j = small_32 t.timeout h.timeout in
-    let k = small_32 t.ledger h.ledger in
-    let l = small_16 t.code h.code in
-    let m = small_16 t.flags h.flags in
-    let n = small_64 t.timestamp h.timestamp in (
-      lit≤ tt,
-      refl,
-      b.most,
-      b.short,
-      (
-        lit≤ tt,
-        refl,
-        c.most,
-        c.short,
-        (
-          lit≤ tt,
-          refl,
-          d.most,
-          d.short,
-          (
-            lit≤ tt,
-            refl,
-            e.most,
-            e.short,
-            (
-              lit≤ tt,
-              refl,
-              f.most,
-              f.short,
-              (
-                lit≤ tt,
-                refl,
-                g.most,
-                g.short,
-                (
-                  lit≤ tt,
-                  refl,
-                  i.most,
-                  i.short,
-                  (
-                    lit≤ tt,
-                    refl,
-                    j.most,
-                    j.short,
-                    (lit≤ tt, refl, k.most, k.short, (lit≤ tt, refl, l.most, l.short, (lit≤ tt, refl, m.most, m.short, (lit≤ tt, refl, n.most, n.short, tt)))),
-                  ),
-                ),
-              ),
-            ),
-          ),
-        ),
-      ),
-    )
+    fits CreateTransfers field.DebitAccountId 5 _ (lit≤ tt) refl (small_128 _ h.debit_account_id)
+    (fits CreateTransfers field.CreditAccountId 10 _ (lit≤ tt) refl (small_128 _ h.credit_account_id)
+    (fits CreateTransfers field.Amount 11 _ (lit≤ tt) refl (small_128 _ h.amount)
+    (fits CreateTransfers field.PendingId 12 _ (lit≤ tt) refl (small_128 _ h.pending_id)
+    (fits CreateTransfers field.UserData128 13 _ (lit≤ tt) refl (small_128 _ h.user_data_128)
+    (fits CreateTransfers field.UserData64 14 _ (lit≤ tt) refl (small_64 _ h.user_data_64)
+    (fits CreateTransfers field.UserData32 15 _ (lit≤ tt) refl (small_32 _ h.user_data_32)
+    (fits CreateTransfers field.Timeout 16 _ (lit≤ tt) refl (small_32 _ h.timeout)
+    (fits CreateTransfers field.Ledger 18 _ (lit≤ tt) refl (small_32 _ h.ledger)
+    (fits CreateTransfers field.Code 19 _ (lit≤ tt) refl (small_16 _ h.code)
+    (fits CreateTransfers field.Flags 20 _ (lit≤ tt) refl (small_16 _ h.flags)
+    (fits CreateTransfers field.Timestamp 21 _ (lit≤ tt) refl (small_64 _ h.timestamp) tt)))))))))))

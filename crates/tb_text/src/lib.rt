@@ -34,4 +34,5 @@ pub use messages::{explain_fault, word_around};
 pub use places::{Lexeme, Place, Refusal};
 pub use printing::{print_request, print_requests};
 pub use reading::{Reading, TextFault, position, read_text};
+pub use scanner::{digit, word_named};
 pub use words::{Field, Flag, Word, flags, has_field};

@@ -106,11 +106,19 @@ fn put(out: &mut Vec<u8>, text: &str) -> Result<(), AllocError> {
     out.extend_from_slice(text.as_bytes())
 }
 
-/// Appends a word between `'`.
-fn put_word(out: &mut Vec<u8>, word: &[u8]) -> Result<(), AllocError> {
-    put(out, "'")?;
-    out.extend_from_slice(word)?;
-    put(out, "'")
+/// Appends texts, one behind another.
+fn put_parts(out: &mut Vec<u8>, parts: &[&[u8]]) -> Result<(), AllocError> {
+    for part in parts {
+        out.extend_from_slice(part)?;
+    }
+    Ok(())
+}
+
+/// Appends a word between `'`, and a text on each side.
+fn put_word(out: &mut Vec<u8>, before: &str, word: &[u8], behind: &str) -> Result<(), AllocError> {
+    let mark = b"'".as_slice();
+    let parts = [before.as_bytes(), mark, word, mark, behind.as_bytes()];
+    put_parts(out, &parts)
 }
 
 /// Appends a number.
@@ -162,10 +170,7 @@ fn put_byte(alloc: Global, out: &mut Vec<u8>, next: Option<u8>) -> Result<(), Al
         Some(b'\t') => put(out, "found a tab"),
         Some(b'\n') => put(out, "found the end of the line"),
         Some(b'\r') => put(out, "found the end of the line"),
-        Some(byte) if b'!' <= byte && byte <= b'~' => {
-            put(out, "found ")?;
-            put_word(out, &[byte])
-        }
+        Some(byte) if b'!' <= byte && byte <= b'~' => put_word(out, "found ", &[byte], ""),
         Some(byte) => {
             put(out, "found the byte ")?;
             put_number(alloc, out, byte as usize)
@@ -187,56 +192,40 @@ fn kind(word: Word) -> &'static str {
 fn put_unknown(out: &mut Vec<u8>, word: &[u8], awaited: &Awaited) -> Result<(), AllocError> {
     match nearest_word(word, awaited.words.as_slice()) {
         Some(known) => {
-            put(out, "unknown ")?;
-            put(out, kind(known))?;
-            put(out, " ")?;
-            put_word(out, word)?;
-            put(out, "; did you mean ")?;
-            put(out, known.text())?;
-            put(out, "?")
+            put_parts(out, &[b"unknown ".as_slice(), kind(known).as_bytes()])?;
+            put_word(out, " ", word, "; did you mean ")?;
+            put_parts(out, &[known.text().as_bytes(), b"?".as_slice()])
         }
-        None => {
-            put(out, "unknown word ")?;
-            put_word(out, word)
-        }
+        None => put_word(out, "unknown word ", word, ""),
     }
 }
 
 /// Appends that something is no number of a field.
 fn put_wrong_number(out: &mut Vec<u8>, word: &[u8], field: Field) -> Result<(), AllocError> {
     if !is_number(word) {
-        put_word(out, word)?;
-        return put(out, " is no whole number");
+        return put_word(out, "", word, " is no whole number");
     }
+    let name = field.name().as_bytes();
     if is_zero(word) {
-        put(out, field.name())?;
-        return put(out, " is not 0");
+        return put_parts(out, &[name, b" is not 0".as_slice()]);
     }
-    put_word(out, word)?;
-    put(out, " is too large for ")?;
-    put(out, field.name())
+    put_word(out, "", word, " is too large for ")?;
+    out.extend_from_slice(name)
 }
 
 /// Appends why an operation does not stand where a statement begins.
 fn put_early(out: &mut Vec<u8>, operation: Operation, awaited: &Awaited) -> Result<(), AllocError> {
-    if awaits(awaited, Field::Client) {
-        put(out, "a client comes first: write client=N before ")?;
-        return put(out, operation.name());
-    }
-    match operation {
-        Operation::Register => put(out, "a register has no session and no request"),
-        _ if awaits(awaited, Field::Request) => {
-            put(
-                out,
-                "a request's number comes first: write request=N before ",
-            )?;
-            put(out, operation.name())
-        }
-        _ => {
-            put_word(out, operation.name().as_bytes())?;
-            put(out, " cannot stand here")
-        }
-    }
+    let name = operation.name().as_bytes();
+    let before = if awaits(awaited, Field::Client) {
+        "a client comes first: write client=N before "
+    } else if matches!(operation, Operation::Register) {
+        return put(out, "a register has no session and no request");
+    } else if awaits(awaited, Field::Request) {
+        "a request's number comes first: write request=N before "
+    } else {
+        return put_word(out, "", name, " cannot stand here");
+    };
+    put_parts(out, &[before.as_bytes(), name])
 }
 
 /// Says that a word stands before the events of a statement.
@@ -255,21 +244,14 @@ fn put_wrong_word(out: &mut Vec<u8>, word: &[u8], awaited: &Awaited) -> Result<(
     match (word_named(word), awaited.number) {
         (None, _) if is_name && !awaited.words.is_empty() => put_unknown(out, word, awaited),
         (None, Some(field)) => put_wrong_number(out, word, field),
-        (None, None) => {
-            put(out, "found ")?;
-            put_word(out, word)
-        }
+        (None, None) => put_word(out, "found ", word, ""),
         (Some(Word::Operation(operation)), None) if !awaited.semicolon => {
             put_early(out, operation, awaited)
         }
         (Some(known), _) if begins_statement(known) && awaited.semicolon => {
-            put(out, "';' is missing before ")?;
-            put_word(out, word)
+            put_word(out, "';' is missing before ", word, "")
         }
-        (Some(_), _) => {
-            put_word(out, word)?;
-            put(out, " cannot stand here")
-        }
+        (Some(_), _) => put_word(out, "", word, " cannot stand here"),
     }
 }
 
@@ -312,14 +294,15 @@ fn put_line(out: &mut Vec<u8>, before: &[u8], rest: &[u8]) -> Result<(), AllocEr
     let shown_before = around(before, from).1;
     let shown_rest = around(rest, SHOWN_MAX.saturating_sub(shown_before.len())).0;
     let dots = if from == 0 { "" } else { "..." };
-    put(out, "\n  ")?;
-    put(out, dots)?;
+    let more = if shown_rest.len() < rest.len() {
+        "..."
+    } else {
+        ""
+    };
+    put_parts(out, &[b"\n  ".as_slice(), dots.as_bytes()])?;
     put_shown(out, shown_before)?;
     put_shown(out, shown_rest)?;
-    if shown_rest.len() < rest.len() {
-        put(out, "...")?;
-    }
-    put(out, "\n  ")?;
+    put_parts(out, &[more.as_bytes(), b"\n  ".as_slice()])?;
     put_indent(out, dots.as_bytes())?;
     put_indent(out, shown_before)?;
     put(out, "^")

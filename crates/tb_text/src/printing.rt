@@ -5,7 +5,7 @@ ghost use Rattle.tb_records.specs.Frames.{BodyFits, IsId};
 ghost use Rattle.tb_records.specs.Inputs.{IsTimed};
 ghost use Rattle.tb_records.specs.Operations.{operation_name};
 ghost use Rattle.tb_records.specs.RecordBytes.{IsAccount, IsTransfer};
-ghost use Rattle.tb_text.specs.Printed.{entry_text, flags_text, value_text, unnamed, further_text, entries_text, header_entries, account_entries, transfer_entries, account_text, transfer_text, id_text, more_text, items_text, body_text, statement_text, printed};
+ghost use Rattle.tb_text.specs.Printed.{entry_text, flags_text, unnamed, further_text, entries_text, header_entries, account_entries, transfer_entries, account_text, transfer_text, id_text, more_text, items_text, body_text, statement_text, printed};
 ghost use Rattle.tb_text.specs.Words.{flag_name};
 
 use crate::words::{Field, Flag, flags};
@@ -67,24 +67,7 @@ fn put_flags(
     put_number(alloc, out, rest)
 }
 
-/// Appends what stands behind a field's name: `=` and the flags of the operation's events, or a number.
-fn put_value(
-    alloc: Global,
-    out: &mut Vec<u8>,
-    operation: Operation,
-    field: Field,
-    number: u128,
-) -> Result<(), AllocError>
-    ensures { OnOk result (out.new.items ≡ out.old.items ++ value_text operation (field, number)) }
-{
-    if field.index() == Field::Flags.index() {
-        return put_flags(alloc, out, operation, number);
-    }
-    out.extend_from_slice(b"=")?;
-    put_number(alloc, out, number)
-}
-
-/// Appends a field's name and its value.
+/// Appends a field's name, `=`, and the flags of the operation's events or a number.
 fn put_entry(
     alloc: Global,
     out: &mut Vec<u8>,
@@ -95,7 +78,11 @@ fn put_entry(
     ensures { OnOk result (out.new.items ≡ out.old.items ++ entry_text operation (field, number)) }
 {
     out.extend_from_slice(field.name().as_bytes())?;
-    put_value(alloc, out, operation, field, number)
+    if field.index() == Field::Flags.index() {
+        return put_flags(alloc, out, operation, number);
+    }
+    out.extend_from_slice(b"=")?;
+    put_number(alloc, out, number)
 }
 
 /// Appends fields that stand behind others, those that are 0 left out.

@@ -73,7 +73,7 @@ pub(crate) fn is_word_byte(byte: u8) -> bool
 }
 
 /// The value of a digit to the base 16.
-fn digit(byte: u8) -> Option<u128>
+pub fn digit(byte: u8) -> Option<u128>
     ensures value { result ≡ digit_of byte }
     ensures small { IfSome result (λ d. d < 16) }
 {
@@ -187,7 +187,7 @@ fn transfer_of(given: &[(Field, u128)]) -> Transfer
 }
 
 /// The word that is written so.
-pub(crate) fn word_named(text: &[u8]) -> Option<Word>
+pub fn word_named(text: &[u8]) -> Option<Word>
     ensures { result ≡ word_named text.now }
 {
     for word in words() {
@@ -526,12 +526,9 @@ impl Scanner {
             (option_and_then (λ o. closed_at self.old o self.old.place) self.old.operation)
             self.new }
     {
-        let Some(operation) = self.operation else {
-            return Err(Refusal::Unexpected);
-        };
-        match self.place {
-            Place::Opened => self.finish(operation),
-            Place::Given(_) => match self.push(operation, Place::Opened) {
+        match (self.operation, self.place) {
+            (Some(operation), Place::Opened) => self.finish(operation),
+            (Some(operation), Place::Given(_)) => match self.push(operation, Place::Opened) {
                 Ok(()) => self.finish(operation),
                 Err(_) => Err(Refusal::Memory),
             },
@@ -545,16 +542,9 @@ impl Scanner {
             (option_and_then (λ o. parted_at self.old o self.old.place) self.old.operation)
             self.new }
     {
-        let Some(operation) = self.operation else {
-            return Err(Refusal::Unexpected);
-        };
-        match self.place {
-            Place::Given(_) => {
-                if self.has_room() {
-                    self.push(operation, Place::Parted)
-                } else {
-                    Err(Refusal::Unexpected)
-                }
+        match (self.operation, self.place) {
+            (Some(operation), Place::Given(_)) if self.has_room() => {
+                self.push(operation, Place::Parted)
             }
             _ => Err(Refusal::Unexpected),
         }

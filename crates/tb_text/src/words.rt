@@ -228,90 +228,54 @@ impl Field {
     pub fn is_header(self) -> bool
         ensures { result ≡ is_header_field self }
     {
-        match self {
-            Field::At => true,
-            Field::Client => true,
-            Field::Session => true,
-            Field::Request => true,
-            Field::Id => false,
-            Field::DebitsPending => false,
-            Field::DebitsPosted => false,
-            Field::CreditsPending => false,
-            Field::CreditsPosted => false,
-            Field::DebitAccountId => false,
-            Field::CreditAccountId => false,
-            Field::Amount => false,
-            Field::PendingId => false,
-            Field::UserData128 => false,
-            Field::UserData64 => false,
-            Field::UserData32 => false,
-            Field::Reserved => false,
-            Field::Timeout => false,
-            Field::Ledger => false,
-            Field::Code => false,
-            Field::Flags => false,
-            Field::Timestamp => false,
-        }
+        matches!(
+            self,
+            Field::At | Field::Client | Field::Session | Field::Request
+        )
     }
 
     /// Says that an account has the field.
     fn is_of_accounts(self) -> bool
         ensures { result ≡ has_account_field self }
     {
-        match self {
-            Field::At => false,
-            Field::Client => false,
-            Field::Session => false,
-            Field::Request => false,
-            Field::Id => true,
-            Field::DebitsPending => true,
-            Field::DebitsPosted => true,
-            Field::CreditsPending => true,
-            Field::CreditsPosted => true,
-            Field::DebitAccountId => false,
-            Field::CreditAccountId => false,
-            Field::Amount => false,
-            Field::PendingId => false,
-            Field::UserData128 => true,
-            Field::UserData64 => true,
-            Field::UserData32 => true,
-            Field::Reserved => true,
-            Field::Timeout => false,
-            Field::Ledger => true,
-            Field::Code => true,
-            Field::Flags => true,
-            Field::Timestamp => true,
-        }
+        matches!(
+            self,
+            Field::Id
+                | Field::DebitsPending
+                | Field::DebitsPosted
+                | Field::CreditsPending
+                | Field::CreditsPosted
+                | Field::UserData128
+                | Field::UserData64
+                | Field::UserData32
+                | Field::Reserved
+                | Field::Ledger
+                | Field::Code
+                | Field::Flags
+                | Field::Timestamp
+        )
     }
 
     /// Says that a transfer has the field.
     fn is_of_transfers(self) -> bool
         ensures { result ≡ has_transfer_field self }
     {
-        match self {
-            Field::At => false,
-            Field::Client => false,
-            Field::Session => false,
-            Field::Request => false,
-            Field::Id => true,
-            Field::DebitsPending => false,
-            Field::DebitsPosted => false,
-            Field::CreditsPending => false,
-            Field::CreditsPosted => false,
-            Field::DebitAccountId => true,
-            Field::CreditAccountId => true,
-            Field::Amount => true,
-            Field::PendingId => true,
-            Field::UserData128 => true,
-            Field::UserData64 => true,
-            Field::UserData32 => true,
-            Field::Reserved => false,
-            Field::Timeout => true,
-            Field::Ledger => true,
-            Field::Code => true,
-            Field::Flags => true,
-            Field::Timestamp => true,
-        }
+        matches!(
+            self,
+            Field::Id
+                | Field::DebitAccountId
+                | Field::CreditAccountId
+                | Field::Amount
+                | Field::PendingId
+                | Field::UserData128
+                | Field::UserData64
+                | Field::UserData32
+                | Field::Timeout
+                | Field::Ledger
+                | Field::Code
+                | Field::Flags
+                | Field::Timestamp
+        )
     }
 }
 

@@ -1,13 +1,13 @@
 -- What is taken part by part, all in all.
-use Rattle.std.proofs.Common.{◌≡◌, ℕ, Bool, true, false, cond, List, [], ◌∷◌, ◌++◌, take, drop, flat_map, IfOk, Option, Some, None, Result, Ok, refl, sym, ap, subst, ◌∙◌, append_assoc, take-append-drop}
+use Rattle.std.proofs.Common.{◌≡◌, ℕ, Bool, true, false, cond, List, [], ◌∷◌, ◌++◌, take, drop, flat_map, Option, Some, None, Ok, refl, sym, ap, ◌∙◌, append_assoc, take-append-drop}
+use Rattle.std.proofs.lemmas.Bool.{false≢true}
 use Rattle.std.specs.Io.KnownBytes.{prepend_known}
 use Rattle.tb_records.specs.Messages.{Answer}
 use Rattle.tb_records.specs.Ordered.{Each}
 use Rattle.tb_records.specs.ReplyFrames.{FoundReply}
 use Rattle.tb_records.specs.Transport.{Input}
-use Rattle.tb_text_commands.specs.declared.faults.Fault.{Fault}
 use Rattle.tb_text_commands.specs.declared.intake.Intake.{Intake}
-use Rattle.tb_text_commands.specs.Taken.{Stays, TakesParts, TakesNext, TakesNone, TakesOne, TakesPart, rest_of, waiting}
+use Rattle.tb_text_commands.specs.Taken.{Stays, TakesParts, TakesIf, TakesNone, TakesOne, TakesPart, rest_of, waiting}
 use Rattle.tb_text_commands.specs.Whole.{IsReplyFrame, Parts, WasWhole}
 
 append_nil : (xs : List ℕ) → xs ++ [] ≡ xs
@@ -52,23 +52,15 @@ takes_all P (Some a) (Some b) (Some c) t none = record {
   each = t.how.each;
 }
 
--- by an answer of what stands next
-
-pub takes_next : (P : List ℕ → Type 0) {X : Type 0} (read : Option X) (x : X) (a b c : Option (List ℕ)) → read ≡ Some x → TakesParts P a b → TakesNext P read b c → TakesParts P a c
-takes_next P {X} read x a b c is t next = takes_more P a b c t (subst (λ (o : Option X). TakesNext P o b c) is next)
-
-pub takes_whole : (P : List ℕ → Type 0) {X : Type 0} (read : Option X) (a b c : Option (List ℕ)) → read ≡ None → TakesParts P a b → TakesNext P read b c → WasWhole (Parts P) a
-takes_whole P {X} read a b c is t next = takes_all P a b c t (subst (λ (o : Option X). TakesNext P o b c) is next)
-
 -- by an answer whether there was a next part
 
-pub served_none : (P : List ℕ → Type 0) (result : Result Bool Fault) (served : Bool) (a b c : Option (List ℕ)) → result ≡ Ok served → served ≡ false → TakesParts P a b
-    → IfOk result (λ (s : Bool). s ≡ false → TakesNone b c) → WasWhole (Parts P) a
-served_none P result served a b c is stops t none = takes_all P a b c t (subst (λ (r : Result Bool Fault). IfOk r (λ (s : Bool). s ≡ false → TakesNone b c)) is none stops)
+pub takes_on : (P : List ℕ → Type 0) (more : Bool) (a b c : Option (List ℕ)) → more ≡ true → TakesParts P a b → TakesIf P more b c → TakesParts P a c
+takes_on P true a b c is t one = takes_more P a b c t one
+takes_on P false a b c is t none = absurd (false≢true is)
 
-pub served_more : (P : List ℕ → Type 0) (result : Result Bool Fault) (served : Bool) (a b c : Option (List ℕ)) → result ≡ Ok served → served ≡ true → TakesParts P a b
-    → IfOk result (λ (s : Bool). s ≡ true → TakesOne P b c) → TakesParts P a c
-served_more P result served a b c is goes t more = takes_more P a b c t (subst (λ (r : Result Bool Fault). IfOk r (λ (s : Bool). s ≡ true → TakesOne P b c)) is more goes)
+pub takes_whole : (P : List ℕ → Type 0) (more : Bool) (a b c : Option (List ℕ)) → more ≡ false → TakesParts P a b → TakesIf P more b c → WasWhole (Parts P) a
+takes_whole P false a b c is t none = takes_all P a b c t none
+takes_whole P true a b c is t one = absurd (false≢true (sym is))
 
 -- an intake and its reader
 

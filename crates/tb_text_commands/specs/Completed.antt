@@ -1,13 +1,13 @@
 -- A statement that leaves out its moment, its client, its session or its request's number, and the whole statement that
 -- it stands for.
-use Rattle.std.specs.Prelude.{ℕ, true, ◌≡◌, ◌&&◌, ◌==◌, ◌+◌, ◌^◌, nat_eq, nat_lt, option_map, List, [], ◌++◌, Option, Some, None, if◌then◌else◌, codes}
+use Rattle.std.specs.Prelude.{ℕ, true, ◌≡◌, ◌&&◌, ◌==◌, ◌+◌, ◌^◌, nat_lt, option_map, List, [], ◌++◌, Option, Some, None, if◌then◌else◌, codes}
 use Rattle.std.specs.Option.{is_some, option_and_then, option_or}
-use Rattle.std.specs.Cmp.Lexicographic.{pointwise}
 use Rattle.std.specs.Fmt.{decimal}
+use Rattle.tb_records.specs.declared.operations.Operation.TheVariants.{Register}
 use Rattle.tb_records.specs.Messages.{Answer}
 use Rattle.tb_sessions.specs.Judged.{row_of}
 use Rattle.tb_sessions.specs.declared.rows.Row.{Row}
-use Rattle.tb_text_commands.specs.Heads.{begins_operation, first_word, head_of}
+use Rattle.tb_text_commands.specs.Heads.{begins_operation, first_word, head_of, is_register, operation_named}
 use Rattle.tb_text_commands.specs.declared.heads.Given.{Given}
 use Rattle.tb_text_commands.specs.declared.completing.LeftOut.{LeftOut}
 use Rattle.tb_text_commands.specs.declared.completing.Standing.{Standing}
@@ -106,7 +106,7 @@ at_moment clock g x = record {
 -- of a client that stands so, before what stands from the operation's word on
 abbrev pub left_out : Option ℕ → Given → List ℕ → ℕ → Standing → LeftOut
 left_out clock g rest c standing =
-    if pointwise nat_eq (first_word rest) (codes "register") then at_moment clock g (left_out_of_register g c)
+    if is_register (operation_named (first_word rest)) then at_moment clock g (left_out_of_register g c)
     else if begins_operation rest then at_moment clock g (left_out_of_batch g c standing)
     else nothing
 
@@ -151,7 +151,7 @@ abbrev pub NamesRequest : List ℕ → Type 0
 NamesRequest text = is_some (head_of text).0.request ≡ true
 
 abbrev pub IsRegister : List ℕ → Type 0
-IsRegister text = first_word (head_of text).1 ≡ codes "register"
+IsRegister text = operation_named (first_word (head_of text).1) ≡ Some Register
 
 -- by this clock nothing is filled in, whatever is known of clients
 abbrev pub StandsForItself : Option ℕ → List ℕ → Type 0

@@ -1,5 +1,5 @@
 -- How a form of the program ends: whether its reader or its writer failed.
-use Rattle.std.specs.Prelude.{ℕ, Bool, true, false, ◌≡◌, ◌⊎◌, Result, Ok, Err}
+use Rattle.std.specs.Prelude.{ℕ, Bool, true, false, ◌≡◌, ◌⊎◌, List, OnOk, Result, Ok, Err}
 use Rattle.tb_records.specs.Transport.{Input, Output, risen, Refuses}
 use Rattle.tb_text_commands.specs.declared.faults.Fault.{Fault}
 use Rattle.tb_text_commands.specs.declared.faults.Fault.TheVariants.{Usage, Device, NoMemory, TimeExhausted, TooLong, Frame, Dump, Arguments, Text, WasTold}
@@ -35,6 +35,11 @@ pub record Stops (fault : Fault) (before after : Input) (start written : Output)
 abbrev pub Ended : {X : Type 0} → Result X Fault → Input → Input → Output → Output → Type 0
 Ended (Ok x) before after start written = IsWhole before after start written
 Ended (Err fault) before after start written = Stops fault before after start written
+
+-- a whole input was read, or a fault ended it
+pub record Converts (Is : List ℕ → Type 0) (result : Result (Unit {0}) Fault) (before after : Input) (start written : Output) : Type 0 where
+  pub ended : Ended result before after start written
+  pub whole : OnOk result (WasWhole Is before.left)
 
 -- the same of what only writes
 

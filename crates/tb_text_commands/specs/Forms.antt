@@ -1,8 +1,7 @@
 -- What the words of the command line ask for.
-use Rattle.std.specs.Option.{option_and_then}
-use Rattle.std.specs.Prelude.{ℕ, ◌&&◌, ◌||◌, ◌+◌, ◌-◌, ◌*◌, ◌^◌, nat_eq, nat_le, List, [], ◌∷◌, Option, Some, None, if◌then◌else◌, codes}
+use Rattle.std.specs.Prelude.{ℕ, ◌&&◌, ◌||◌, nat_eq, List, [], ◌∷◌, Option, Some, None, if◌then◌else◌, codes}
 use Rattle.std.specs.Cmp.Lexicographic.{pointwise}
-use Rattle.tb_commands.specs.Forms.{digit_of, clients_of, profile_of}
+use Rattle.tb_commands.specs.Forms.{clients_of, id_of, profile_of}
 use Rattle.tb_records.specs.declared.limits.Profile.{Profile}
 use Rattle.tb_records.specs.declared.limits.Profile.TheVariants.{One}
 use Rattle.tb_text_commands.specs.declared.arguments.Form.{Form}
@@ -21,20 +20,6 @@ form_alone word =
     else if pointwise nat_eq word (codes "--version") then Some form.Version
     else None
 
--- a number with one digit more, where it is not above the greatest id
-abbrev pub with_digit : ℕ → ℕ → Option ℕ
-with_digit n byte = option_and_then (λ digit. if nat_le (n * 10 + digit) (2 ^ 128 - 1) then Some (n * 10 + digit) else None) (digit_of byte)
-
--- the id that digits spell behind those that spelled n
-abbrev pub account_from : ℕ → List ℕ → Option ℕ
-account_from n [] = Some n
-account_from n (byte ∷ bytes) = option_and_then (λ m. account_from m bytes) (with_digit n byte)
-
--- the id of an account, in one or more decimal digits
-abbrev pub account_of : List ℕ → Option ℕ
-account_of [] = None
-account_of (byte ∷ bytes) = account_from 0 (byte ∷ bytes)
-
 abbrev pub audit_of : Option ℕ → Option Form
 audit_of None = None
 audit_of (Some id) = Some (form.Audit (Some id))
@@ -52,7 +37,7 @@ form_with word clients = if pointwise nat_eq word (codes "run") then run_by (cli
 abbrev pub form_with_two : List ℕ → List ℕ → List ℕ → Option Form
 form_with_two word second last =
     if pointwise nat_eq word (codes "run") then run_by (clients_of second) (profile_of last)
-    else if pointwise nat_eq word (codes "audit") && pointwise nat_eq second (codes "--account") then audit_of (account_of last)
+    else if pointwise nat_eq word (codes "audit") && pointwise nat_eq second (codes "--account") then audit_of (id_of last)
     else None
 
 abbrev pub form_of : List (List ℕ) → Option Form

@@ -1,10 +1,16 @@
 -- What stands before the operation of a statement: at, client, session and request, each with its number, in any order,
 -- with spaces and comments between.
-use Rattle.std.specs.Prelude.{ℕ, Bool, true, false, not, ◌&&◌, ◌||◌, ◌==◌, ◌+◌, ◌-◌, ◌*◌, ◌^◌, nat_le, nat_lt, nat_eq, List, [], ◌∷◌, length, drop, take, unwrap_or, Option, Some, None, if◌then◌else◌, codes}
-use Rattle.std.specs.Option.{option_and_then, is_none}
-use Rattle.std.specs.Cmp.Lexicographic.{pointwise}
-use Rattle.tb_text_commands.specs.declared.heads.HeadField.{HeadField}
-use Rattle.tb_text_commands.specs.declared.heads.HeadField.TheVariants.{At, Client, Session, Request}
+use Rattle.std.specs.Prelude.{ℕ, Bool, true, false, not, ◌&&◌, ◌||◌, ◌==◌, ◌+◌, ◌*◌, ◌^◌, nat_le, nat_lt, List, [], ◌∷◌, length, drop, take, unwrap_or, Option, Some, None, if◌then◌else◌}
+use Rattle.std.specs.Option.{option_and_then, is_none, is_some}
+use Rattle.tb_records.specs.declared.operations.Operation.{Operation}
+use Rattle.tb_records.specs.declared.operations.Operation.TheVariants.{Register}
+use Rattle.tb_text.specs.declared.words.Field.{Field}
+use Rattle.tb_text.specs.declared.words.Field.TheVariants as field
+use Rattle.tb_text.specs.declared.words.Word.{Word}
+use Rattle.tb_text.specs.declared.words.Word.TheVariants as word
+use Rattle.tb_text.specs.Entries.{digit_of}
+use Rattle.tb_text.specs.Scan.{word_named}
+use Rattle.tb_text.specs.Words.{is_header_field}
 use Rattle.tb_text_commands.specs.declared.heads.Given.{Given}
 
 -- the length of the spaces and comments that bytes begin with
@@ -41,13 +47,6 @@ behind_equals (b ∷ bs) = if b == 61 then Some (past_gap bs) else None
 
 -- numbers
 
-abbrev pub digit_of : ℕ → Option ℕ
-digit_of b =
-    if nat_le 48 b && nat_le b 57 then Some (b - 48)
-    else if nat_le 97 b && nat_le b 102 then Some (b - 87)
-    else if nat_le 65 b && nat_le b 70 then Some (b - 55)
-    else None
-
 -- a number with one digit more, where it is below 2^128
 abbrev pub with_value : ℕ → ℕ → ℕ → Option ℕ
 with_value base n d = if nat_lt d base && nat_lt (n * base + d) (2 ^ 128) then Some (n * base + d) else None
@@ -68,25 +67,26 @@ number_of (b ∷ c ∷ bs) = if b == 48 && c == 120 then number_from 16 0 bs els
 
 -- fields
 
-abbrev pub field_named : List ℕ → Option HeadField
-field_named word =
-    if pointwise nat_eq word (codes "at") then Some At
-    else if pointwise nat_eq word (codes "client") then Some Client
-    else if pointwise nat_eq word (codes "session") then Some Session
-    else if pointwise nat_eq word (codes "request") then Some Request
-    else None
+abbrev pub header_field : Option Word → Option Field
+header_field (Some (word.Field f)) = if is_header_field f then Some f else None
+header_field w = None
 
-abbrev pub with_field : Given → HeadField → ℕ → Given
-with_field g At n = record { moment = Some n; client = g.client; session = g.session; request = g.request }
-with_field g Client n = record { moment = g.moment; client = Some n; session = g.session; request = g.request }
-with_field g Session n = record { moment = g.moment; client = g.client; session = Some n; request = g.request }
-with_field g Request n = record { moment = g.moment; client = g.client; session = g.session; request = Some n }
+-- the field before an operation that a word names
+abbrev pub field_named : List ℕ → Option Field
+field_named text = header_field (word_named text)
+
+abbrev pub with_field : Given → Field → ℕ → Given
+with_field g field.At n = record { moment = Some n; client = g.client; session = g.session; request = g.request }
+with_field g field.Client n = record { moment = g.moment; client = Some n; session = g.session; request = g.request }
+with_field g field.Session n = record { moment = g.moment; client = g.client; session = Some n; request = g.request }
+with_field g field.Request n = record { moment = g.moment; client = g.client; session = g.session; request = Some n }
+with_field g f n = g
 
 -- a field whose number stands first, among those before it, and what stands behind it
-abbrev pub number_read : Given → HeadField → List ℕ → Option (Given × List ℕ)
+abbrev pub number_read : Given → Field → List ℕ → Option (Given × List ℕ)
 number_read g f bytes = option_and_then (λ n. Some (with_field g f n, behind_word bytes)) (number_of (first_word bytes))
 
-abbrev pub equals_read : Given → HeadField → List ℕ → Option (Given × List ℕ)
+abbrev pub equals_read : Given → Field → List ℕ → Option (Given × List ℕ)
 equals_read g f bytes = option_and_then (λ value. number_read g f value) (behind_equals bytes)
 
 -- the field that bytes begin with, among those before it, and what stands behind it
@@ -104,13 +104,24 @@ none_given = record { moment = None; client = None; session = None; request = No
 abbrev pub head_of : List ℕ → Given × List ℕ
 head_of text = next (next (next (next (none_given, past_gap text))))
 
--- an operation on events or ids
-abbrev pub is_batch : List ℕ → Bool
-is_batch word =
-    pointwise nat_eq word (codes "create_accounts")
-    || pointwise nat_eq word (codes "create_transfers")
-    || pointwise nat_eq word (codes "lookup_accounts")
-    || pointwise nat_eq word (codes "lookup_transfers")
+-- operations
+
+abbrev pub operation_of : Option Word → Option Operation
+operation_of (Some (word.Operation o)) = Some o
+operation_of w = None
+
+-- the operation that a word names
+abbrev pub operation_named : List ℕ → Option Operation
+operation_named text = operation_of (word_named text)
+
+-- one that opens a session
+abbrev pub is_register : Option Operation → Bool
+is_register (Some Register) = true
+is_register o = false
+
+-- one on events or ids
+abbrev pub is_batch : Option Operation → Bool
+is_batch o = is_some o && not (is_register o)
 
 -- an operation's word stands first, or one that may be meant so: no field's name, no `=` behind it, and not cut off, as a
 -- word at the end of the bytes may be
@@ -119,4 +130,4 @@ begins_operation bytes =
     not (word_length bytes == 0)
     && is_none (field_named (first_word bytes))
     && is_none (behind_equals (behind_word bytes))
-    && (nat_lt (word_length bytes) (length bytes) || is_batch (first_word bytes))
+    && (nat_lt (word_length bytes) (length bytes) || is_batch (operation_named (first_word bytes)))

@@ -1,5 +1,5 @@
 -- What is taken of an input part by part, of what an intake holds, and of what its reader has left: for private functions alone.
-use Rattle.std.specs.Prelude.{ℕ, ◌≡◌, List, [], ◌++◌, drop, flat_map, Option, Some, None, if◌then◌else◌}
+use Rattle.std.specs.Prelude.{ℕ, Bool, true, false, ◌≡◌, List, [], ◌++◌, drop, flat_map, Option, Some, None, if◌then◌else◌}
 use Rattle.std.specs.Io.KnownBytes.{prepend_known}
 use Rattle.tb_records.specs.Ordered.{Each}
 use Rattle.tb_records.specs.Transport.{Input}
@@ -51,6 +51,11 @@ pub record Stays (before after : Option (List ℕ)) : Type 0 where
 abbrev pub TakesNext : {X : Type 0} → (List ℕ → Type 0) → Option X → Option (List ℕ) → Option (List ℕ) → Type 0
 TakesNext Part None before after = TakesNone before after
 TakesNext Part (Some x) before after = TakesOne Part before after
+
+-- the next part, or none where there is none
+abbrev pub TakesIf : (List ℕ → Type 0) → Bool → Option (List ℕ) → Option (List ℕ) → Type 0
+TakesIf Part true before after = TakesOne Part before after
+TakesIf Part false before after = TakesNone before after
 
 -- one part of what an intake holds
 pub record TakesPart (Part : List ℕ → Type 0) (before after : Intake) : Type 0 where

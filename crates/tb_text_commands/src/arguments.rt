@@ -1,10 +1,9 @@
 //! What the words of the command line ask for.
-ghost use Rattle.std.specs.Prelude.{◌≡◌, ◌<◌, map, string_bytes, None, Some, IfSome};
-ghost use Rattle.tb_commands.specs.Forms.{digit_of};
-ghost use Rattle.tb_text_commands.specs.Forms.{account_of, audit_of, form_alone, form_of, form_with, form_with_two, run_by, with_digit};
+ghost use Rattle.std.specs.Prelude.{◌≡◌, map, string_bytes};
+ghost use Rattle.tb_text_commands.specs.Forms.{form_alone, form_of, form_with, form_with_two};
 
 use std::alloc::{AllocError, Global};
-use tb_commands::{number, read_clients_max, read_profile};
+use tb_commands::{read_clients_max, read_id, read_profile};
 use tb_records::{ClientsMax, Profile};
 
 /// What the program is asked to do.
@@ -59,69 +58,13 @@ fn form_alone(word: &str) -> Option<Form>
     }
 }
 
-/// The value of a digit.
-fn digit(byte: u8) -> Option<u128>
-    ensures value { result ≡ digit_of byte }
-    ensures small { IfSome result (λ n. n < 10) }
-{
-    if b'0' <= byte && byte <= b'9' {
-        Some((byte - b'0') as u128)
-    } else {
-        None
-    }
-}
-
-/// A number with one digit more, where it is not above the greatest id.
-fn with_digit(n: u128, byte: u8) -> Option<u128>
-    ensures { result ≡ with_digit n byte }
-{
-    let digit = digit(byte)?;
-    n.checked_mul(10)?.checked_add(digit)
-}
-
-/// The id that a word spells, one or more digits.
-fn account(word: &[u8]) -> Option<u128>
-    ensures { result ≡ account_of word.now }
-{
-    if word.is_empty() {
-        return None;
-    }
-    let mut n: u128 = 0;
-    for byte in word {
-        match with_digit(n, *byte) {
-            Some(more) => n = more,
-            None => return None,
-        }
-    }
-    Some(n)
-}
-
-/// `audit --account`, with an id.
-fn audit_form(id: Option<u128>) -> Option<Form>
-    ensures { result ≡ audit_of id }
-{
-    match id {
-        Some(id) => Some(Form::Audit(Some(id))),
-        None => None,
-    }
-}
-
-/// `run`, with these clients and profile.
-fn run_form(clients_max: Option<ClientsMax>, profile: Option<Profile>) -> Option<Form>
-    ensures { result ≡ run_by clients_max profile }
-{
-    match (clients_max, profile) {
-        (Some(clients_max), Some(profile)) => Some(Form::Run(clients_max, profile)),
-        _ => None,
-    }
-}
-
 /// What a word and the number of clients ask for.
 fn form_with(word: &str, clients_max: &str) -> Option<Form>
     ensures { result ≡ form_with word.now clients_max.now }
 {
     if word == "run" {
-        run_form(read_clients_max(clients_max.as_bytes()), Some(Profile::One))
+        let clients_max = read_clients_max(clients_max.as_bytes())?;
+        Some(Form::Run(clients_max, Profile::One))
     } else {
         None
     }
@@ -132,18 +75,16 @@ fn form_with_two(word: &str, second: &str, last: &str) -> Option<Form>
     ensures { result ≡ form_with_two word.now second.now last.now }
 {
     if word == "run" {
-        run_form(
-            read_clients_max(second.as_bytes()),
-            read_profile(last.as_bytes()),
-        )
+        let clients_max = read_clients_max(second.as_bytes())?;
+        Some(Form::Run(clients_max, read_profile(last.as_bytes())?))
     } else if word == "audit" && second == "--account" {
-        audit_form(account(last.as_bytes()))
+        Some(Form::Audit(Some(read_id(last.as_bytes())?)))
     } else {
         None
     }
 }
 
-/// What the words ask for, None where they are not a form of the program's arguments.
+/// What the words ask for: one of the program's forms, or None.
 pub fn read_form(words: &[String]) -> Option<Form>
     ensures { result ≡ form_of (map string_bytes words.now) }
 {
@@ -183,7 +124,7 @@ fn wrong_run(alloc: Global, first: &str, rest: &[String]) -> Result<String, Allo
     match rest {
         [] => joined(alloc, &["run ", first, ": CLIENTS_MAX is 1 to 64"]),
         [profile] => {
-            let wrong = if number(first.as_bytes(), 1, 64).is_none() {
+            let wrong = if read_clients_max(first.as_bytes()).is_none() {
                 ": CLIENTS_MAX is 1 to 64"
             } else {
                 ": PROFILE is 1 or 2"

@@ -1,17 +1,19 @@
 //! The program's forms, over any reader and writer.
-ghost use Rattle.std.specs.Prelude.{◌≡◌, ◌<◌, false, IfOk, None, OnOk, Some, map, string_bytes};
+ghost use Rattle.std.specs.Prelude.{◌≡◌, ◌<◌, false, IfOk, None, Some, map, string_bytes};
 ghost use Rattle.tb_text_commands.specs.declared.arguments.Form.{Form};
-ghost use Rattle.tb_text_commands.specs.Ends.{Ended, Exits};
+ghost use Rattle.tb_text_commands.specs.Ends.{Converts, Exits};
 ghost use Rattle.tb_text_commands.specs.Forms.{form_of};
-ghost use Rattle.tb_text_commands.specs.Whole.{IsInputOf, WasWhole};
+ghost use Rattle.tb_text_commands.specs.Whole.{IsInputOf};
 
 use crate::arguments::{Form, read_form, wrong_words};
 use crate::auditing::audit;
+use crate::converting::convert;
+use crate::dumps::{dump, pairs};
 use crate::explaining::explain;
 use crate::faults::Fault;
 use crate::help::{USAGE, VERSION};
 use crate::running::run;
-use crate::scripts::{dump, pairs, put, replies, requests, script};
+use crate::scripts::{Replies, Script, Statements, put};
 use std::alloc::Global;
 use std::time::Clock;
 use tb_records::{Sink, Source};
@@ -26,31 +28,22 @@ fn perform<C: Clock, R: Source, W: Sink, E: Sink>(
     writer: &mut W,
     faults: &mut E,
 ) -> Result<(), Fault>
-    ensures ended { Ended result (R.input reader.old) (R.input reader.new) (W.output writer.old)
-        (W.output writer.new) }
-    ensures whole { OnOk result (WasWhole (IsInputOf form) (R.input reader.old).left) }
+    ensures done { Converts (IsInputOf form) result (R.input reader.old) (R.input reader.new)
+        (W.output writer.old) (W.output writer.new) }
     ensures quiet { IfOk result (λ _. faults.new ≡ faults.old) }
     ensures silent { talks ≡ false → faults.new ≡ faults.old }
 {
     match form {
-        Form::Script => script(alloc, reader, writer),
-        Form::Requests => requests(alloc, reader, writer),
-        Form::Replies => replies(alloc, reader, writer),
+        Form::Script => convert(Script::new(alloc), reader, writer),
+        Form::Requests => convert(Statements { alloc }, reader, writer),
+        Form::Replies => convert(Replies::new(alloc), reader, writer),
         Form::Dump => dump(alloc, reader, writer),
         Form::Pairs => pairs(alloc, reader, writer),
         Form::Audit(account) => audit(alloc, account, reader, writer),
         Form::Explain => explain(alloc, reader, writer),
         Form::Run(clients_max, profile) => {
-            run(
-                alloc,
-                clock,
-                clients_max,
-                profile,
-                talks,
-                reader,
-                writer,
-                faults,
-            )
+            let rules = (clients_max, profile);
+            run(alloc, clock, rules, talks, reader, writer, faults)
         }
         Form::Help => put(writer, USAGE.as_bytes()),
         Form::Version => put(writer, VERSION.as_bytes()),

@@ -4,7 +4,7 @@ ghost use Rattle.std.specs.Prelude.{◌≡◌, ◌++◌, Option, ℕ, IfOk, OnOk
 ghost use Rattle.tb_text_commands.specs.Completed.{at_moment, by_session, completed, left_out, left_out_in, left_out_of_batch, left_out_of_register, next_in, nothing, standing_behind, number_line, unless_given, without_session, written};
 ghost use Rattle.tb_text_commands.specs.declared.completing.Standing.{Standing};
 
-use crate::heads::{Given, begins_operation, first_word, head_of, is_batch};
+use crate::heads::{Given, begins_operation, first_word, head_of, is_batch, is_register};
 use std::alloc::{AllocError, Global};
 
 /// How a client stands.
@@ -180,7 +180,7 @@ impl LeftOut {
     ) -> LeftOut
         ensures { result ≡ left_out clock given rest.now client standing }
     {
-        if first_word(rest) == b"register".as_slice() {
+        if is_register(first_word(rest)) {
             LeftOut::of_register(given, client).at_moment(clock, given)
         } else if begins_operation(rest) {
             LeftOut::of_batch(given, client, standing).at_moment(clock, given)

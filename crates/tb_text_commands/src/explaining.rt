@@ -1,6 +1,7 @@
 //! Where and why `tbs` stops in a script or a dump, in words.
 ghost use Rattle.tb_text_commands.specs.Ends.{Ended};
 
+use crate::dumps::entry_of;
 use crate::faults::Fault;
 use crate::intake::Intake;
 use crate::scripts::put;
@@ -225,20 +226,9 @@ fn follow(
     item: DumpItem,
     place: Place,
 ) -> Result<Option<String>, AllocError> {
-    match item {
-        DumpItem::Mark => follow_mark(alloc, machine, place),
-        DumpItem::Entry {
-            commit,
-            time,
-            request,
-        } => {
-            let entry = Entry {
-                commit,
-                time,
-                request,
-            };
-            follow_entry(alloc, machine, entry, place)
-        }
+    match entry_of(item) {
+        Some(entry) => follow_entry(alloc, machine, entry, place),
+        None => follow_mark(alloc, machine, place),
     }
 }
 

@@ -1,15 +1,9 @@
 //! What stands before the operation of a statement.
 ghost use Rattle.std.specs.Prelude.{◌≡◌, ◌≤◌, length, MatchOption, None, Some, false};
-ghost use Rattle.tb_text_commands.specs.Heads.{begins_operation, behind_equals, behind_word, digit_of, field_named, field_read, first_word, gap_length, head_of, is_batch, is_word_byte, next, none_given, number_from, number_of, past_gap, with_digit, with_field, word_length};
+ghost use Rattle.tb_text_commands.specs.Heads.{begins_operation, behind_equals, behind_word, field_named, field_read, first_word, gap_length, head_of, is_batch, is_register, is_word_byte, next, none_given, number_from, number_of, operation_named, past_gap, with_digit, with_field, word_length};
 
-/// What may stand before an operation.
-#[derive(Clone, Copy)]
-pub enum HeadField {
-    At,
-    Client,
-    Session,
-    Request,
-}
+use tb_records::Operation;
+use tb_text::{Field, Word, digit, word_named};
 
 /// The numbers that stand before an operation.
 #[derive(Clone, Copy)]
@@ -93,18 +87,6 @@ fn behind_equals(bytes: &[u8]) -> Option<&[u8]>
     }
 }
 
-/// The value of a digit.
-fn digit(byte: u8) -> Option<u128>
-    ensures { result ≡ digit_of byte }
-{
-    match byte {
-        b'0'..=b'9' => Some((byte - b'0') as u128),
-        b'a'..=b'f' => Some((byte - b'W') as u128),
-        b'A'..=b'F' => Some((byte - b'7') as u128),
-        _ => None,
-    }
-}
-
 /// A number with one digit more, where it is below 2^128.
 fn with_digit(base: u128, n: u128, byte: u8) -> Option<u128>
     ensures { result ≡ with_digit base n byte }
@@ -142,20 +124,13 @@ fn number_of(word: &[u8]) -> Option<u128>
     }
 }
 
-/// The field before an operation that has a name.
-fn field_named(word: &[u8]) -> Option<HeadField>
+/// The field before an operation that a word names.
+fn field_named(word: &[u8]) -> Option<Field>
     ensures { result ≡ field_named word.now }
 {
-    if word == b"at".as_slice() {
-        Some(HeadField::At)
-    } else if word == b"client".as_slice() {
-        Some(HeadField::Client)
-    } else if word == b"session".as_slice() {
-        Some(HeadField::Session)
-    } else if word == b"request".as_slice() {
-        Some(HeadField::Request)
-    } else {
-        None
+    match word_named(word) {
+        Some(Word::Field(field)) if field.is_header() => Some(field),
+        _ => None,
     }
 }
 
@@ -173,26 +148,27 @@ impl Given {
     }
 
     /// With one number more.
-    fn with_field(self, field: HeadField, number: u128) -> Given
+    fn with_field(self, field: Field, number: u128) -> Given
         ensures { result ≡ with_field self field number }
     {
         match field {
-            HeadField::At => Given {
+            Field::At => Given {
                 moment: Some(number),
                 ..self
             },
-            HeadField::Client => Given {
+            Field::Client => Given {
                 client: Some(number),
                 ..self
             },
-            HeadField::Session => Given {
+            Field::Session => Given {
                 session: Some(number),
                 ..self
             },
-            HeadField::Request => Given {
+            Field::Request => Given {
                 request: Some(number),
                 ..self
             },
+            _ => self,
         }
     }
 }
@@ -229,14 +205,28 @@ pub fn head_of(text: &[u8]) -> (Given, &[u8])
     next(given, rest)
 }
 
+/// The operation that a word names.
+fn operation_named(word: &[u8]) -> Option<Operation>
+    ensures { result ≡ operation_named word.now }
+{
+    match word_named(word) {
+        Some(Word::Operation(operation)) => Some(operation),
+        _ => None,
+    }
+}
+
+/// Says that a word opens a session.
+pub fn is_register(word: &[u8]) -> bool
+    ensures { result ≡ is_register (operation_named word.now) }
+{
+    matches!(operation_named(word), Some(Operation::Register))
+}
+
 /// Says that a word is an operation on events or ids.
 pub fn is_batch(word: &[u8]) -> bool
-    ensures { result ≡ is_batch word.now }
+    ensures { result ≡ is_batch (operation_named word.now) }
 {
-    word == b"create_accounts".as_slice()
-        || word == b"create_transfers".as_slice()
-        || word == b"lookup_accounts".as_slice()
-        || word == b"lookup_transfers".as_slice()
+    operation_named(word).is_some() && !is_register(word)
 }
 
 /// Says that an operation's word stands first, or one that may be meant so and is not cut off.

@@ -11,12 +11,13 @@
 //! - `completing`: what a statement leaves out, and what stands for it.
 //! - `script_standings`: what the statements before tell of clients.
 //! - `statements`: statements, read one by one.
+//! - `converting`: an input that is taken part by part, and what is written for each part.
 //! - `objects`: records, ids and results as JSON objects.
 //! - `results`: what became of the events of the last entry.
 //! - `lists`: lists of records, ids and results, each item an object.
 //! - `lines`: replies and entries as lines of JSON.
-//! - `scripts`: `script`, `requests`, `replies`, `dump`, `pairs`, the forms between statements, scripts, replies and
-//!   dumps.
+//! - `scripts`: `script`, `requests`, `replies`, the forms between statements, scripts and replies.
+//! - `dumps`: `dump`, `pairs`, the forms that read a dump.
 //! - `running`: `run`, statements served and answered as they come.
 //! - `auditing`: `audit`, a dump joined with what its replay gives.
 //! - `explaining`: `explain`, where and why `tbs` stops in a script or a dump.
@@ -32,6 +33,8 @@ mod auditing;
 mod commands;
 mod completing;
 pub mod completing_laws;
+mod converting;
+mod dumps;
 mod explaining;
 mod faults;
 mod heads;

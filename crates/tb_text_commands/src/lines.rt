@@ -1,6 +1,6 @@
 //! Replies and entries as lines of JSON.
-use crate::lists::{Accounts, Ids, JudgedAccounts, JudgedTransfers, Results, Transfers};
-use crate::objects::{AccountObject, Object, Plain, Shown, TransferObject};
+use crate::lists::{Ids, Judged, List, Records, Results};
+use crate::objects::{Object, Plain, Record, Shown};
 use crate::results::results_of;
 use serde::Serialize;
 use std::alloc::{AllocError, Global};
@@ -9,6 +9,9 @@ use tb_records::{
     Account, Body, DumpHead, DumpItem, Operation, Profile, Reply, ReplyBody, Request, Status,
     Transfer,
 };
+
+/// The events of a register, and the results of its reply.
+const NO_IDS: &[u128] = &[];
 
 /// The line of an object.
 fn line<T: Serialize>(alloc: Global, object: &T) -> Result<Vec<u8>, AllocError> {
@@ -72,15 +75,12 @@ fn line_with<T: Serialize>(
 pub fn reply_line(alloc: Global, reply: &Reply) -> Result<Vec<u8>, AllocError> {
     let operation = reply.operation();
     match reply.body() {
-        ReplyBody::Empty => line_with(alloc, reply, &Ids(&[])),
+        ReplyBody::Empty => line_with(alloc, reply, &List(NO_IDS, Ids)),
         ReplyBody::Results(results) => {
-            let results = results.as_slice();
-            line_with(alloc, reply, &Results { operation, results })
+            line_with(alloc, reply, &List(results.as_slice(), Results(operation)))
         }
-        ReplyBody::Accounts(accounts) => line_with(alloc, reply, &Accounts(accounts.as_slice())),
-        ReplyBody::Transfers(transfers) => {
-            line_with(alloc, reply, &Transfers(transfers.as_slice()))
-        }
+        ReplyBody::Accounts(found) => line_with(alloc, reply, &List(found.as_slice(), Records)),
+        ReplyBody::Transfers(found) => line_with(alloc, reply, &List(found.as_slice(), Records)),
     }
 }
 
@@ -117,15 +117,25 @@ fn entry_line(
     request: &Request,
 ) -> Result<Vec<u8>, AllocError> {
     match request.body() {
-        Body::Register => entry_with(alloc, numbers, request, &Ids(&[])),
+        Body::Register => entry_with(alloc, numbers, request, &List(NO_IDS, Ids)),
         Body::CreateAccounts(events) => {
-            entry_with(alloc, numbers, request, &Accounts(events.as_slice()))
+            entry_with(alloc, numbers, request, &List(events.as_slice(), Records))
         }
         Body::CreateTransfers(events) => {
-            entry_with(alloc, numbers, request, &Transfers(events.as_slice()))
+            entry_with(alloc, numbers, request, &List(events.as_slice(), Records))
         }
-        Body::LookupAccounts(ids) => entry_with(alloc, numbers, request, &Ids(ids.as_slice())),
-        Body::LookupTransfers(ids) => entry_with(alloc, numbers, request, &Ids(ids.as_slice())),
+        Body::LookupAccounts(ids) => entry_with(
+            alloc,
+            numbers,
+            request,
+            &List(ids.as_slice(), Ids),
+        ),
+        Body::LookupTransfers(ids) => entry_with(
+            alloc,
+            numbers,
+            request,
+            &List(ids.as_slice(), Ids),
+        ),
     }
 }
 
@@ -159,6 +169,23 @@ pub fn item_line(alloc: Global, item: &DumpItem) -> Result<Vec<u8>, AllocError> 
     }
 }
 
+/// The line of the machine's last entry, with what became of each of its events.
+fn judged_with<R: Record>(
+    alloc: Global,
+    machine: &Machine<Global>,
+    entry: &Entry,
+    events: &[R],
+) -> Result<Vec<u8>, AllocError> {
+    let request = &entry.request;
+    let judged = Judged {
+        machine,
+        operation: request.operation(),
+        results: results_of(machine, request.client()),
+    };
+    let numbers = (entry.commit, entry.time);
+    entry_with(alloc, numbers, request, &List(events, judged))
+}
+
 /// The line of the machine's last entry, with what became of each event of a batch: records that were accepted are shown
 /// as they were made.
 pub fn judged_line(
@@ -166,32 +193,10 @@ pub fn judged_line(
     machine: &Machine<Global>,
     entry: &Entry,
 ) -> Result<Vec<u8>, AllocError> {
-    let request = &entry.request;
-    let numbers = (entry.commit, entry.time);
-    let operation = request.operation();
-    let results = results_of(machine, request.client());
-    match request.body() {
-        Body::CreateAccounts(events) => {
-            let events = events.as_slice();
-            let judged = JudgedAccounts {
-                machine,
-                operation,
-                results,
-                events,
-            };
-            entry_with(alloc, numbers, request, &judged)
-        }
-        Body::CreateTransfers(events) => {
-            let events = events.as_slice();
-            let judged = JudgedTransfers {
-                machine,
-                operation,
-                results,
-                events,
-            };
-            entry_with(alloc, numbers, request, &judged)
-        }
-        _ => entry_line(alloc, numbers, request),
+    match entry.request.body() {
+        Body::CreateAccounts(events) => judged_with(alloc, machine, entry, events.as_slice()),
+        Body::CreateTransfers(events) => judged_with(alloc, machine, entry, events.as_slice()),
+        _ => entry_line(alloc, (entry.commit, entry.time), &entry.request),
     }
 }
 
@@ -200,7 +205,7 @@ pub fn expired_line(alloc: Global, time: u64, transfer: &Transfer) -> Result<Vec
     let object = Object {
         fields: &[("time", Shown::Digits(u128::from(time)))],
         name: "expired",
-        last: &TransferObject(transfer),
+        last: &Plain(&transfer.fields()),
     };
     line(alloc, &object)
 }
@@ -218,7 +223,7 @@ pub fn balance_line(
     let object = Object {
         fields: &fields,
         name: "account",
-        last: &AccountObject(account),
+        last: &Plain(&account.fields()),
     };
     line(alloc, &object)
 }

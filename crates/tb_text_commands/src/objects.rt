@@ -1,11 +1,14 @@
 //! Records, ids and results as JSON objects: the fields by their names, numbers of 64 and 128 bits as strings, flags and
 //! results by name.
 use serde::{Described, Serialize, Serializer};
+use std::alloc::Global;
+use tb_machine::Machine;
 use tb_records::{
-    Account, AccountFlag, CreateAccountResult, CreateTransferResult, Transfer, TransferFlag,
+    Account, AccountFlag, CreateAccountResult, CreateTransferResult, Operation, Transfer,
+    TransferFlag,
 };
 
-/// What a plain field shows.
+/// What a field shows.
 #[derive(Clone, Copy)]
 pub enum Shown {
     /// A number of 64 or 128 bits, or one in place of a name: a string.
@@ -14,20 +17,66 @@ pub enum Shown {
     Number(u32),
     /// A name.
     Name(&'static str),
+    /// The flags of an account by their names; bits that are no flag as one number behind them.
+    AccountFlags(u16),
+    /// The same of a transfer.
+    TransferFlags(u16),
 }
 
 /// A plain field: its name, and what it shows.
 pub type Field = (&'static str, Shown);
 
+/// Writes a name, where it is meant to be there.
+fn put_name<S: Serializer>(out: &mut S, is_there: bool, name: &str) -> Result<(), S::Error> {
+    if is_there { out.str(name) } else { Ok(()) }
+}
+
+/// Ends a list of flags with the bits that are no flag, where there are some.
+fn end_flags<S: Serializer>(out: &mut S, rest: u16) -> Result<(), S::Error> {
+    if rest != 0 {
+        out.collect_str(&rest)?;
+    }
+    out.end_seq()
+}
+
+/// Writes the flags of an account.
+fn put_account_flags<S: Serializer>(out: &mut S, flags: u16) -> Result<(), S::Error> {
+    let mut rest = flags;
+    out.begin_seq(None)?;
+    for flag in &AccountFlag::ALL {
+        put_name(out, flag.is_in(rest), flag.name())?;
+        rest &= !flag.bit();
+    }
+    end_flags(out, rest)
+}
+
+/// Writes the flags of a transfer.
+fn put_transfer_flags<S: Serializer>(out: &mut S, flags: u16) -> Result<(), S::Error> {
+    let mut rest = flags;
+    out.begin_seq(None)?;
+    for flag in &TransferFlag::ALL {
+        put_name(out, flag.is_in(rest), flag.name())?;
+        rest &= !flag.bit();
+    }
+    end_flags(out, rest)
+}
+
+/// Writes what a field shows.
+fn put_shown<S: Serializer>(out: &mut S, shown: Shown) -> Result<(), S::Error> {
+    match shown {
+        Shown::Digits(number) => out.collect_str(&number),
+        Shown::Number(number) => out.u64(u64::from(number)),
+        Shown::Name(text) => out.str(text),
+        Shown::AccountFlags(flags) => put_account_flags(out, flags),
+        Shown::TransferFlags(flags) => put_transfer_flags(out, flags),
+    }
+}
+
 /// Writes plain fields.
 fn put_fields<S: Serializer>(out: &mut S, fields: &[Field]) -> Result<(), S::Error> {
     for (name, shown) in fields {
         out.key(name)?;
-        match shown {
-            Shown::Digits(number) => out.collect_str(number)?,
-            Shown::Number(number) => out.u64(u64::from(*number))?,
-            Shown::Name(text) => out.str(text)?,
-        }
+        put_shown(out, *shown)?;
     }
     Ok(())
 }
@@ -66,131 +115,66 @@ impl<T: Serialize> Serialize for Object<'_, T> {
     }
 }
 
-/// Writes a name, where it is meant to be there.
-fn put_name<S: Serializer>(out: &mut S, is_there: bool, name: &str) -> Result<(), S::Error> {
-    if is_there { out.str(name) } else { Ok(()) }
+/// A record that is shown as an object.
+pub trait Record: Copy {
+    /// Its fields.
+    fn fields(&self) -> [Field; 13];
+
+    /// The record with the same id that a machine has.
+    fn kept_by(&self, machine: &Machine<Global>) -> Option<Self>;
 }
 
-/// The flags of an account by their names; bits that are no flag as one number behind them.
-#[derive(Clone, Copy)]
-struct AccountFlags(u16);
+impl Record for Account {
+    fn fields(&self) -> [Field; 13] {
+        [
+            ("id", Shown::Digits(self.id)),
+            ("debits_pending", Shown::Digits(self.debits_pending)),
+            ("debits_posted", Shown::Digits(self.debits_posted)),
+            ("credits_pending", Shown::Digits(self.credits_pending)),
+            ("credits_posted", Shown::Digits(self.credits_posted)),
+            ("user_data_128", Shown::Digits(self.user_data_128)),
+            ("user_data_64", Shown::Digits(u128::from(self.user_data_64))),
+            ("user_data_32", Shown::Number(self.user_data_32)),
+            ("reserved", Shown::Number(self.reserved)),
+            ("ledger", Shown::Number(self.ledger)),
+            ("code", Shown::Number(u32::from(self.code))),
+            ("flags", Shown::AccountFlags(self.flags)),
+            ("timestamp", Shown::Digits(u128::from(self.timestamp))),
+        ]
+    }
 
-impl Described for AccountFlags {}
-
-impl Serialize for AccountFlags {
-    fn serialize<S: Serializer>(&self, out: &mut S) -> Result<(), S::Error> {
-        let mut rest = self.0;
-        out.begin_seq(None)?;
-        for flag in &AccountFlag::ALL {
-            put_name(out, flag.is_in(rest), flag.name())?;
-            rest &= !flag.bit();
-        }
-        if rest != 0 {
-            out.collect_str(&rest)?;
-        }
-        out.end_seq()
+    fn kept_by(&self, machine: &Machine<Global>) -> Option<Account> {
+        machine.account(self.id)
     }
 }
 
-/// The flags of a transfer by their names; bits that are no flag as one number behind them.
-#[derive(Clone, Copy)]
-struct TransferFlags(u16);
-
-impl Described for TransferFlags {}
-
-impl Serialize for TransferFlags {
-    fn serialize<S: Serializer>(&self, out: &mut S) -> Result<(), S::Error> {
-        let mut rest = self.0;
-        out.begin_seq(None)?;
-        for flag in &TransferFlag::ALL {
-            put_name(out, flag.is_in(rest), flag.name())?;
-            rest &= !flag.bit();
-        }
-        if rest != 0 {
-            out.collect_str(&rest)?;
-        }
-        out.end_seq()
+impl Record for Transfer {
+    fn fields(&self) -> [Field; 13] {
+        [
+            ("id", Shown::Digits(self.id)),
+            ("debit_account_id", Shown::Digits(self.debit_account_id)),
+            ("credit_account_id", Shown::Digits(self.credit_account_id)),
+            ("amount", Shown::Digits(self.amount)),
+            ("pending_id", Shown::Digits(self.pending_id)),
+            ("user_data_128", Shown::Digits(self.user_data_128)),
+            ("user_data_64", Shown::Digits(u128::from(self.user_data_64))),
+            ("user_data_32", Shown::Number(self.user_data_32)),
+            ("timeout", Shown::Number(self.timeout)),
+            ("ledger", Shown::Number(self.ledger)),
+            ("code", Shown::Number(u32::from(self.code))),
+            ("flags", Shown::TransferFlags(self.flags)),
+            ("timestamp", Shown::Digits(u128::from(self.timestamp))),
+        ]
     }
-}
 
-/// The fields of an account before its flags.
-fn account_fields(a: &Account) -> [Field; 11] {
-    [
-        ("id", Shown::Digits(a.id)),
-        ("debits_pending", Shown::Digits(a.debits_pending)),
-        ("debits_posted", Shown::Digits(a.debits_posted)),
-        ("credits_pending", Shown::Digits(a.credits_pending)),
-        ("credits_posted", Shown::Digits(a.credits_posted)),
-        ("user_data_128", Shown::Digits(a.user_data_128)),
-        ("user_data_64", Shown::Digits(u128::from(a.user_data_64))),
-        ("user_data_32", Shown::Number(a.user_data_32)),
-        ("reserved", Shown::Number(a.reserved)),
-        ("ledger", Shown::Number(a.ledger)),
-        ("code", Shown::Number(u32::from(a.code))),
-    ]
-}
-
-/// The fields of a transfer before its flags.
-fn transfer_fields(t: &Transfer) -> [Field; 11] {
-    [
-        ("id", Shown::Digits(t.id)),
-        ("debit_account_id", Shown::Digits(t.debit_account_id)),
-        ("credit_account_id", Shown::Digits(t.credit_account_id)),
-        ("amount", Shown::Digits(t.amount)),
-        ("pending_id", Shown::Digits(t.pending_id)),
-        ("user_data_128", Shown::Digits(t.user_data_128)),
-        ("user_data_64", Shown::Digits(u128::from(t.user_data_64))),
-        ("user_data_32", Shown::Number(t.user_data_32)),
-        ("timeout", Shown::Number(t.timeout)),
-        ("ledger", Shown::Number(t.ledger)),
-        ("code", Shown::Number(u32::from(t.code))),
-    ]
-}
-
-/// Writes the object of a record: the fields before its flags, its flags and its timestamp.
-fn put_record<S: Serializer, F: Serialize>(
-    out: &mut S,
-    fields: &[Field],
-    flags: &F,
-    timestamp: u64,
-) -> Result<(), S::Error> {
-    out.begin_map(None)?;
-    put_fields(out, fields)?;
-    out.key("flags")?;
-    flags.serialize(out)?;
-    put_fields(out, &[("timestamp", Shown::Digits(u128::from(timestamp)))])?;
-    out.end_map()
-}
-
-/// An account as an object.
-#[derive(Drop)]
-pub struct AccountObject<'a>(pub &'a Account);
-
-impl Described for AccountObject<'_> {}
-
-impl Serialize for AccountObject<'_> {
-    fn serialize<S: Serializer>(&self, out: &mut S) -> Result<(), S::Error> {
-        let fields = account_fields(self.0);
-        put_record(out, &fields, &AccountFlags(self.0.flags), self.0.timestamp)
-    }
-}
-
-/// A transfer as an object.
-#[derive(Drop)]
-pub struct TransferObject<'a>(pub &'a Transfer);
-
-impl Described for TransferObject<'_> {}
-
-impl Serialize for TransferObject<'_> {
-    fn serialize<S: Serializer>(&self, out: &mut S) -> Result<(), S::Error> {
-        let fields = transfer_fields(self.0);
-        put_record(out, &fields, &TransferFlags(self.0.flags), self.0.timestamp)
+    fn kept_by(&self, machine: &Machine<Global>) -> Option<Transfer> {
+        machine.transfer(self.id)
     }
 }
 
 /// The result of an event of an operation by its name, or by its number where it has none.
 pub fn result_shown(operation: u8, code: u32) -> Shown {
-    let name = if operation == 129 {
+    let name = if operation == Operation::CreateAccounts.code() {
         CreateAccountResult::from_code(code).map(|verdict| verdict.name())
     } else {
         CreateTransferResult::from_code(code).map(|verdict| verdict.name())

@@ -1,12 +1,13 @@
 //! A server for statements: each is served when it is read, and its reply is told as a line of JSON.
-ghost use Rattle.std.specs.Prelude.{◌≡◌, false, true, IfErr, IfOk, OnOk, Some};
+ghost use Rattle.std.specs.Prelude.{◌≡◌, false, IfErr, IfOk, OnOk, Some};
 ghost use Rattle.tb_sessions.specs.Judged.{class_of};
 ghost use Rattle.tb_text_commands.specs.Completed.{standing_in};
-ghost use Rattle.tb_text_commands.specs.Ends.{Ended, IsOfInput, Written, is_passing};
-ghost use Rattle.tb_text_commands.specs.Taken.{TakesNone, TakesOne, waiting};
+ghost use Rattle.tb_text_commands.specs.Ends.{Converts, Ended, IsOfInput, Written, is_passing};
+ghost use Rattle.tb_text_commands.specs.Taken.{waiting};
 ghost use Rattle.tb_text_commands.specs.Whole.{IsStatement, Parts, WasWhole};
 
 use crate::completing::{Standing, Standings};
+use crate::converting::{Converter, convert_next};
 use crate::faults::Fault;
 use crate::intake::Intake;
 use crate::lines::reply_line;
@@ -15,7 +16,7 @@ use crate::statements::next_statement;
 use std::alloc::{AllocError, Global};
 use std::time::Clock;
 use tb_machine::{Machine, status_of};
-use tb_records::{ClientsMax, Profile, Reply, Request, Sink, Source};
+use tb_records::{ClientsMax, Items, Profile, Reply, Request, Sink, Source};
 use tb_sessions::Class;
 
 /// The client of statements before which none was named.
@@ -149,29 +150,42 @@ fn serve_pairs<C: Clock, W: Sink>(
     Ok(())
 }
 
-/// Serves the next statement: false where there is none.
-fn serve_next<C: Clock, R: Source, W: Sink>(
+/// A server, and the statements that it is to serve.
+#[derive(Drop)]
+struct Conversation<'a, C: Clock> {
     alloc: Global,
-    server: &mut Server<'_, C>,
-    intake: &mut Intake,
-    reader: &mut R,
-    writer: &mut W,
+    intake: Intake,
+    server: Server<'a, C>,
+    /// Statements are typed: a wrong one is told with its line, before its `;` is there.
     talks: bool,
-) -> Result<bool, Fault>
-    ensures ended { Ended result (R.input reader.old) (R.input reader.new) (W.output writer.old)
-        (W.output writer.new) }
-    ensures more { IfOk result (λ served. served ≡ true
-        → TakesOne IsStatement (waiting intake.old (R.input reader.old))
-        (waiting intake.new (R.input reader.new))) }
-    ensures none { IfOk result (λ served. served ≡ false
-        → TakesNone (waiting intake.old (R.input reader.old))
-        (waiting intake.new (R.input reader.new))) }
-{
-    let Some(pairs) = next_statement(alloc, intake, server, reader, writer, talks)? else {
-        return Ok(false)
-    };
-    serve_pairs(alloc, server, pairs.into_vec(), writer)?;
-    Ok(true)
+}
+
+impl<C: Clock> Converter for Conversation<'_, C> {
+    type Piece = Items<(u64, Request)>;
+
+    ghost Part = { IsStatement };
+
+    ghost remaining = { λ conversation input. waiting conversation.intake input };
+
+    fn next<R: Source, W: Sink>(
+        &mut self,
+        reader: &mut R,
+        writer: &mut W,
+    ) -> Result<Option<Items<(u64, Request)>>, Fault> {
+        let urgent = self.talks;
+        next_statement(
+            self.alloc,
+            &mut self.intake,
+            &self.server,
+            reader,
+            writer,
+            urgent,
+        )
+    }
+
+    fn put<W: Sink>(&mut self, writer: &mut W, pairs: Items<(u64, Request)>) -> Result<(), Fault> {
+        serve_pairs(self.alloc, &mut self.server, pairs.into_vec(), writer)
+    }
 }
 
 /// Says that the next statement may be read behind a fault.
@@ -181,25 +195,24 @@ fn is_passing(fault: &Fault) -> bool
     matches!(fault, Fault::Text(_) | Fault::TimeExhausted)
 }
 
-/// Serves statements to their end. Where it `talks`, a wrong statement is told at once, and the next one is read.
+/// Serves statements to their end. Where they are typed, a wrong one is told at once, and the next one is read.
 fn converse<C: Clock, R: Source, W: Sink, E: Sink>(
-    alloc: Global,
-    server: &mut Server<'_, C>,
-    talks: bool,
+    conversation: &mut Conversation<'_, C>,
     reader: &mut R,
     writer: &mut W,
     faults: &mut E,
 ) -> Result<(), Fault>
     ensures ended { Ended result (R.input reader.old) (R.input reader.new) (W.output writer.old)
         (W.output writer.new) }
-    ensures whole { OnOk result (WasWhole (Parts IsStatement) (R.input reader.old).left) }
+    ensures whole { OnOk result
+        (WasWhole (Parts IsStatement) (waiting conversation.old.intake (R.input reader.old))) }
     ensures quiet { IfOk result (λ _. faults.new ≡ faults.old) }
-    ensures silent { talks ≡ false → faults.new ≡ faults.old }
+    ensures silent { conversation.old.talks ≡ false → faults.new ≡ faults.old }
 {
-    let mut intake = Intake::new(alloc);
+    let talks = conversation.talks;
     let mut told = false;
     for _ in 0..u64::MAX {
-        match serve_next(alloc, server, &mut intake, reader, writer, talks) {
+        match convert_next(conversation, reader, writer) {
             Ok(true) => {}
             Ok(false) if told => return Err(Fault::WasTold),
             Ok(false) => return Ok(()),
@@ -218,28 +231,33 @@ fn converse<C: Clock, R: Source, W: Sink, E: Sink>(
 pub fn run<C: Clock, R: Source, W: Sink, E: Sink>(
     alloc: Global,
     clock: &C,
-    clients_max: ClientsMax,
-    profile: Profile,
+    rules: (ClientsMax, Profile),
     talks: bool,
     reader: &mut R,
     writer: &mut W,
     faults: &mut E,
 ) -> Result<(), Fault>
-    ensures ended { Ended result (R.input reader.old) (R.input reader.new) (W.output writer.old)
-        (W.output writer.new) }
-    ensures whole { OnOk result (WasWhole (Parts IsStatement) (R.input reader.old).left) }
+    ensures done { Converts (Parts IsStatement) result (R.input reader.old) (R.input reader.new)
+        (W.output writer.old) (W.output writer.new) }
     ensures quiet { IfOk result (λ _. faults.new ≡ faults.old) }
     ensures silent { talks ≡ false → faults.new ≡ faults.old }
 {
+    let (clients_max, profile) = rules;
     let Ok(machine) = Machine::new_in(alloc, alloc, profile, clients_max) else {
         return Err(Fault::NoMemory);
     };
-    let mut server = Server {
+    let server = Server {
         machine,
         last: FIRST_CLIENT,
         clock,
     };
-    let done = converse(alloc, &mut server, talks, reader, writer, faults);
-    drop(server);
+    let mut conversation = Conversation {
+        alloc,
+        intake: Intake::new(alloc),
+        server,
+        talks,
+    };
+    let done = converse(&mut conversation, reader, writer, faults);
+    drop(conversation);
     done
 }

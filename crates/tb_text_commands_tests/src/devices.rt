@@ -1,10 +1,9 @@
 //! Readers and writers that fail, and how often the line of faults is written.
 use crate::comparing::{holds, same};
-use crate::forms::{first_moment, words_of};
+use crate::forms::{first_moment, status_where};
 use std::io::{self, Error, ErrorKind, Read, Write};
 use std::process::Abort;
 use tb_records::{Counting, Sink, Source};
-use tb_text_commands::command;
 
 /// A reader that fails once after its bytes, and is at its end from then on.
 #[derive(Drop)]
@@ -50,25 +49,26 @@ const INPUTS: [(&str, &[u8]); 6] = [
     ("audit", b"TBSDUMP1\x01\0\0\0\x02\0\0\0"),
 ];
 
+/// The status of a form between a reader and writers.
+fn status_by<R: Source, W: Sink, E: Sink>(
+    rt: &(impl Abort + AllocGlobal),
+    form: &str,
+    reader: &mut R,
+    writer: &mut W,
+    faults: &mut E,
+) -> u8 {
+    status_where(rt, &first_moment(), &[form], false, reader, writer, faults)
+}
+
 /// A form whose reader fails once behind these bytes.
 fn fail_reading(rt: &(impl Abort + AllocGlobal), form: &str, bytes: &[u8]) {
-    let words = words_of(rt, &[form]);
     let mut reader = Counting::new(Failing {
         rest: bytes,
         failed: false,
     });
     let mut writer = Counting::new(Vec::new(rt.alloc()));
     let mut faults = Counting::new(Vec::new(rt.alloc()));
-    let status = command(
-        rt.alloc(),
-        &first_moment(),
-        words.as_slice(),
-        false,
-        &mut reader,
-        &mut writer,
-        &mut faults,
-    );
-    drop(words);
+    let status = status_by(rt, form, &mut reader, &mut writer, &mut faults);
     drop(writer);
     let line = faults.into_inner();
     holds(rt, status == 1, &form);
@@ -87,20 +87,10 @@ fn failing_reader(rt: HostRuntime) {
 
 /// A form whose writers fail.
 fn fail_writing(rt: &(impl Abort + AllocGlobal), form: &str, bytes: &[u8]) {
-    let words = words_of(rt, &[form]);
     let mut reader = Counting::new(bytes);
     let mut writer = Counting::new(Closed { asked: 0 });
     let mut faults = Counting::new(Closed { asked: 0 });
-    let status = command(
-        rt.alloc(),
-        &first_moment(),
-        words.as_slice(),
-        false,
-        &mut reader,
-        &mut writer,
-        &mut faults,
-    );
-    drop(words);
+    let status = status_by(rt, form, &mut reader, &mut writer, &mut faults);
     holds(rt, status == 1, &form);
     holds(rt, writer.into_inner().asked == 1, &form);
     holds(rt, faults.into_inner().asked == 1, &form);

@@ -1,6 +1,6 @@
 //! Dumps as objects, as scripts, joined with their replay, and explained.
 use crate::comparing::{holds, same};
-use crate::forms::{Row, done_by, expect_left, leaves, left_by};
+use crate::forms::{Row, done_by, expect_left, leaves, left_by, put};
 use std::process::Abort;
 
 /// An entry of a history: a commit number, a time and a statement.
@@ -43,11 +43,6 @@ const AUDITED: &str = r#"{"profile":1,"clients_max":2}
 {"commit":"5","time":"2000000000","client":"7","session":"1","request":4,"operation":"lookup_accounts","events":[{"id":"2"}]}
 {"commit":"5","time":"2000000000","account":{"id":"1","debits_pending":"0","debits_posted":"40","credits_pending":"0","credits_posted":"0","user_data_128":"0","user_data_64":"0","user_data_32":0,"reserved":0,"ledger":700,"code":10,"flags":[],"timestamp":"2"}}
 "#;
-
-/// Appends bytes.
-fn put(rt: &impl Abort, out: &mut Vec<u8>, bytes: &[u8]) {
-    out.extend_from_slice(bytes).expect(rt, "memory");
-}
 
 /// Appends an entry of a history.
 fn put_entry(rt: &(impl Abort + AllocGlobal), out: &mut Vec<u8>, entry: &Made) {

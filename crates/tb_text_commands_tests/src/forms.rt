@@ -3,7 +3,7 @@ use crate::comparing::{holds, same};
 use std::io::{self, Error, ErrorKind};
 use std::process::Abort;
 use std::time::{Clock, Duration};
-use tb_records::Counting;
+use tb_records::{Counting, Sink, Source};
 use tb_text_commands::command;
 
 /// What a command left.
@@ -15,7 +15,7 @@ pub struct Left {
 }
 
 /// The words of a command line.
-pub fn words_of(rt: &(impl Abort + AllocGlobal), words: &[&str]) -> Vec<String> {
+fn words_of(rt: &(impl Abort + AllocGlobal), words: &[&str]) -> Vec<String> {
     let mut owned = Vec::new(rt.alloc());
     for word in words {
         let copy = word.to_string(rt.alloc()).expect(rt, "memory");
@@ -48,7 +48,24 @@ pub fn first_moment() -> Stopped {
     Stopped { moment: Some(0) }
 }
 
-/// Gives words and the input to the program by a clock; where it `talks`, as if statements were typed.
+/// Gives words to the program between a reader and writers, by a clock; where it `talks`, as if statements were typed.
+pub fn status_where<R: Source, W: Sink, E: Sink>(
+    rt: &(impl Abort + AllocGlobal),
+    clock: &Stopped,
+    words: &[&str],
+    talks: bool,
+    reader: &mut R,
+    writer: &mut W,
+    faults: &mut E,
+) -> u8 {
+    let words = words_of(rt, words);
+    let owned = words.as_slice();
+    let status = command(rt.alloc(), clock, owned, talks, reader, writer, faults);
+    drop(words);
+    status
+}
+
+/// The same of an input in memory.
 pub fn left_where(
     rt: &(impl Abort + AllocGlobal),
     clock: &Stopped,
@@ -56,20 +73,18 @@ pub fn left_where(
     talks: bool,
     input: &[u8],
 ) -> Left {
-    let words = words_of(rt, words);
     let mut reader = Counting::new(input);
     let mut writer = Counting::new(Vec::new(rt.alloc()));
     let mut faults = Counting::new(Vec::new(rt.alloc()));
-    let status = command(
-        rt.alloc(),
+    let status = status_where(
+        rt,
         clock,
-        words.as_slice(),
+        words,
         talks,
         &mut reader,
         &mut writer,
         &mut faults,
     );
-    drop(words);
     Left {
         status,
         output: writer.into_inner(),
@@ -103,6 +118,11 @@ pub struct Row<'a> {
     pub status: u8,
     pub output: &'a str,
     pub line: &'a str,
+}
+
+/// Appends bytes.
+pub fn put(rt: &impl Abort, out: &mut Vec<u8>, bytes: &[u8]) {
+    out.extend_from_slice(bytes).expect(rt, "memory");
 }
 
 /// Says that this is left, and lets it go.

@@ -1,11 +1,6 @@
 //! Records, replies and results as JSON: each field has a value of its own, and whole objects are compared.
-use crate::forms::{Row, leaves};
+use crate::forms::{Row, leaves, put};
 use std::process::Abort;
-
-/// Appends bytes.
-fn put(rt: &impl Abort, out: &mut Vec<u8>, bytes: &[u8]) {
-    out.extend_from_slice(bytes).expect(rt, "memory");
-}
 
 /// The frame of a reply of client 7 in session 5.
 fn reply_frame(rt: &(impl Abort + AllocGlobal), operation: u8, commit: u8, body: &[u8]) -> Vec<u8> {

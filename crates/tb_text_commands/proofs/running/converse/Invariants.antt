@@ -9,5 +9,6 @@ invariant-loop g l = record {
   whole : IsWhole (g.R.Source.input l.initial.reader) (g.R.Source.input l.reader) (g.W.Sink.output l.initial.writer) (g.W.Sink.output l.writer);
   quiet : l.told ≡ false → l.faults ≡ l.initial.faults;
   silent : l.talks ≡ false → l.told ≡ false;
-  taken : l.told ≡ false → TakesParts IsStatement (g.R.Source.input l.initial.reader).left (waiting l.intake (g.R.Source.input l.reader));
+  taken : l.told ≡ false
+      → TakesParts IsStatement (waiting l.initial.conversation.intake (g.R.Source.input l.initial.reader)) (waiting l.conversation.intake (g.R.Source.input l.reader));
 }

@@ -1,0 +1,80 @@
+//! An input that is taken part by part, and what is written for each part.
+ghost use Rattle.std.specs.Prelude.{◌≡◌, IfOk, List, OnOk, Option, ℕ};
+ghost use Rattle.tb_records.specs.Transport.{Input};
+ghost use Rattle.tb_text_commands.specs.Ends.{Ended, Written};
+ghost use Rattle.tb_text_commands.specs.Taken.{TakesIf, TakesNext};
+ghost use Rattle.tb_text_commands.specs.Whole.{Parts, WasWhole};
+
+use crate::faults::Fault;
+use tb_records::{Sink, Source};
+
+/// What takes an input part by part, and writes what each part stands for.
+pub trait Converter {
+    /// What a part is read as.
+    type Piece;
+
+    // The bytes of a part.
+    ghost Part: { List ℕ → Type 0 };
+
+    // What is left to take.
+    ghost remaining: { Self → Input → Option (List ℕ) };
+
+    /// Takes the next part: None where there is none. What was written is passed on first, where the part may have to be
+    /// waited for.
+    fn next<R: Source, W: Sink>(
+        &mut self,
+        reader: &mut R,
+        writer: &mut W,
+    ) -> Result<Option<Self::Piece>, Fault>
+        ensures ended { Ended result (R.input reader.old) (R.input reader.new) (W.output writer.old)
+            (W.output writer.new) }
+        ensures taken { IfOk result (λ next.
+            TakesNext Part next (remaining self.old (R.input reader.old))
+            (remaining self.new (R.input reader.new))) };
+
+    /// Writes what a part stands for.
+    fn put<W: Sink>(&mut self, writer: &mut W, piece: Self::Piece) -> Result<(), Fault>
+        ensures written { Written result (W.output writer.old) (W.output writer.new) }
+        ensures kept { (input : Input) → remaining self.new input ≡ remaining self.old input };
+}
+
+/// Takes the next part, and writes what it stands for: false where there is none.
+pub fn convert_next<C: Converter, R: Source, W: Sink>(
+    converter: &mut C,
+    reader: &mut R,
+    writer: &mut W,
+) -> Result<bool, Fault>
+    ensures ended { Ended result (R.input reader.old) (R.input reader.new) (W.output writer.old)
+        (W.output writer.new) }
+    ensures taken { IfOk result (λ more.
+        TakesIf C.Part more (C.remaining converter.old (R.input reader.old))
+        (C.remaining converter.new (R.input reader.new))) }
+{
+    match converter.next(reader, writer) {
+        Ok(Some(piece)) => match converter.put(writer, piece) {
+            Ok(()) => Ok(true),
+            Err(fault) => Err(fault),
+        },
+        Ok(None) => Ok(false),
+        Err(fault) => Err(fault),
+    }
+}
+
+/// Takes all parts, writes what they stand for, and lets the converter go.
+pub fn convert<C: Converter + Drop, R: Source, W: Sink>(
+    converter: C,
+    reader: &mut R,
+    writer: &mut W,
+) -> Result<(), Fault>
+    ensures ended { Ended result (R.input reader.old) (R.input reader.new) (W.output writer.old)
+        (W.output writer.new) }
+    ensures whole { OnOk result (WasWhole (Parts C.Part) (C.remaining converter (R.input reader.old))) }
+{
+    let mut converter = converter;
+    for _ in 0..u64::MAX {
+        if !convert_next(&mut converter, reader, writer)? {
+            return Ok(());
+        }
+    }
+    Err(Fault::TooLong)
+}
