@@ -30,6 +30,7 @@ use std::marker::Brand;
 use std::rt::Clock;
 use std::sync::Wait;
 use std::thread::Threads;
+use taking::{Kind, Rounds};
 use tb_published::Opening;
 use tb_records::{ClientsMax, Profile};
 use telling::wanted;
@@ -48,12 +49,16 @@ fn opening() -> Result<Opening, Error> {
 /// What is measured.
 #[derive(Clone, Copy)]
 enum Task {
-    /// So many rounds of takes.
-    Take(taking::Kind, u32),
+    /// Rounds of takes.
+    Take(Rounds),
     /// So many batches in a machine alone.
     Memory(u32),
     Ports(offering::Scale),
     Reads(reading::Reads),
+}
+
+fn take_task(kind: Kind, count: u32) -> Task {
+    Task::Take(Rounds { kind, count })
 }
 
 /// The task that words tell.
@@ -61,9 +66,9 @@ fn task_of(words: &[String]) -> Result<Task, Error> {
     let kind = wanted(words.get(0), "a word is missing")?.as_str();
     let first = number(words.get(1))?;
     match kind {
-        "take" => Ok(Task::Take(taking::Kind::Batches, first)),
-        "single" => Ok(Task::Take(taking::Kind::Singles, first)),
-        "eights" => Ok(Task::Take(taking::Kind::Eights, first)),
+        "take" => Ok(take_task(Kind::Batches, first)),
+        "single" => Ok(take_task(Kind::Singles, first)),
+        "eights" => Ok(take_task(Kind::Eights, first)),
         "memory" => Ok(Task::Memory(first)),
         "ports" => {
             let orders = number(words.get(2))?;
@@ -97,13 +102,7 @@ fn run<R: Threads + Wait + Clock + Print + Eprint + Sync>(
     task: Task,
 ) -> Result<(), Error> {
     match task {
-        Task::Take(kind, rounds) => taking::measure::<Brand, R>(
-            rt,
-            alloc,
-            opening()?,
-            kind,
-            rounds,
-        ),
+        Task::Take(rounds) => taking::measure::<Brand, R>(rt, alloc, opening()?, rounds),
         Task::Memory(rounds) => taking::fill_machine(rt, alloc, rounds),
         Task::Ports(scale) => offering::measure::<Brand, R>(rt, alloc, opening()?, scale),
         Task::Reads(reads) => reading::measure::<Brand, R>(rt, alloc, opening()?, reads),

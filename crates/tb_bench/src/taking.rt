@@ -39,6 +39,13 @@ impl Kind {
     }
 }
 
+/// What is measured: so many rounds of a kind.
+#[derive(Clone, Copy)]
+pub struct Rounds {
+    pub kind: Kind,
+    pub count: u32,
+}
+
 /// Takes requests with a show each.
 pub fn take_all<J: Naming, R: Wait>(
     rt: &R,
@@ -213,13 +220,13 @@ fn sum_rounds<J: Naming, R: Wait + Clock>(
     alloc: Global,
     publisher: &mut Publisher<J>,
     machine: &mut Machine<Global>,
-    kind: Kind,
-    rounds: u32,
+    rounds: Rounds,
 ) -> Result<(u128, u128), Error> {
+    let Rounds { kind, count } = rounds;
     let (requests, _) = kind.sizes();
     let mut taken = 0u128;
     let mut applied = 0u128;
-    for k in 0..rounds {
+    for k in 0..count {
         let number = k.saturating_mul(requests).saturating_add(2);
         applied = applied.saturating_add(apply_next(rt, alloc, machine, kind, number)?.as_nanos());
         taken = taken.saturating_add(take_next(rt, alloc, publisher, kind, number)?.as_nanos());
@@ -233,14 +240,13 @@ fn measure_rounds<J: Naming, R: Wait + Clock + Print + Eprint>(
     alloc: Global,
     publisher: &mut Publisher<J>,
     machine: &mut Machine<Global>,
-    kind: Kind,
-    rounds: u32,
+    rounds: Rounds,
 ) -> Result<(), Error> {
     take_all(rt, publisher, first_requests(alloc)?)?;
     prepare(alloc, machine)?;
-    let (taken, applied) = sum_rounds(rt, alloc, publisher, machine, kind, rounds)?;
-    let (requests, each) = kind.sizes();
-    let transfers = rounds.saturating_mul(requests).saturating_mul(each);
+    let (taken, applied) = sum_rounds(rt, alloc, publisher, machine, rounds)?;
+    let (requests, each) = rounds.kind.sizes();
+    let transfers = rounds.count.saturating_mul(requests).saturating_mul(each);
     tell_count(rt, "commits", publisher.history().len())?;
     tell_count(rt, "transfers", transfers as usize)?;
     tell_time(rt, "take", taken)?;
@@ -276,11 +282,10 @@ fn measure_beside<J: Naming, R: Wait + Clock + Print + Eprint>(
     alloc: Global,
     publisher: &mut Publisher<J>,
     clients_max: ClientsMax,
-    kind: Kind,
-    rounds: u32,
+    rounds: Rounds,
 ) -> Result<(), Error> {
     let mut machine = Machine::new_in(alloc, alloc, Profile::One, clients_max)?;
-    let measured = measure_rounds(rt, alloc, publisher, &mut machine, kind, rounds);
+    let measured = measure_rounds(rt, alloc, publisher, &mut machine, rounds);
     drop(machine);
     measured
 }
@@ -290,15 +295,14 @@ pub fn measure<J: Naming, R: Wait + Clock + Print + Eprint>(
     rt: &R,
     alloc: Global,
     opening: Opening,
-    kind: Kind,
-    rounds: u32,
+    rounds: Rounds,
 ) -> Result<(), Error>
     requires { opening ≡ J.opening }
 {
     let clients_max = wanted(ClientsMax::new(64), "clients_max")?;
     let seats = wanted(SeatCount::new(1), "seats")?;
     let (mut publisher, seats) = open::<J, R>(alloc, rt, opening, seats)?;
-    let measured = measure_beside(rt, alloc, &mut publisher, clients_max, kind, rounds);
+    let measured = measure_beside(rt, alloc, &mut publisher, clients_max, rounds);
     drop(publisher.close(rt));
     drop(seats);
     measured

@@ -155,11 +155,14 @@ struct Watched<'a> {
 impl Drop for Watched<'_> {
     fn drop(self) {
         let Watched {
-            machine: _,
+            machine,
             named: _,
-            before: _,
-            behind: _,
+            before,
+            behind,
         } = self;
+        drop(machine);
+        drop(before);
+        drop(behind);
     }
 }
 

@@ -220,8 +220,9 @@ pub fn call_all<J: Naming + Send + Sync, R: Threads + Wait + Eprint + Sync>(
     requires { work.opening ≡ J.opening }
 {
     let (alloc, clients_max, pairs) = (work.alloc, work.clients_max, work.pairs);
-    let count = PortCount::new(1).ok_or(Trouble::SetUp)?;
-    let seats = SeatCount::new(2).ok_or(Trouble::SetUp)?;
+    let (Some(count), Some(seats)) = (PortCount::new(1), SeatCount::new(2)) else {
+        return Err(Trouble::SetUp);
+    };
     let moments = Listed::new(alloc, pairs)?;
     let Some((publisher, seats)) = opened::<J, R>(rt, alloc, work.opening, seats) else {
         drop(moments);

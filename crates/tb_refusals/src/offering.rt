@@ -214,12 +214,10 @@ fn show_all<J: Naming, R: Wait + Eprint>(
         shown = finished.publisher.show(rt);
     }
     expect(shown == Ok(last), Why::NotShown)?;
-    let Some(mut seat) = seats.pop() else {
-        return Err(Trouble::Wrong(Why::NoSeat));
-    };
-    let seen = look(rt, &mut seat, last);
-    drop(seat);
-    seen
+    match seats.iter_mut().next() {
+        Some(seat) => look(rt, seat, last),
+        None => Err(Trouble::Wrong(Why::NoSeat)),
+    }
 }
 
 /// Says which places were refused, and how the run ended.
@@ -287,8 +285,9 @@ pub fn offer_all<J: Naming, R: Wait + Eprint>(rt: &R, work: Work<'_>) -> Result<
     requires { work.opening ≡ J.opening }
 {
     let (alloc, clients_max, pairs) = (work.alloc, work.clients_max, work.pairs);
-    let count = PortCount::new(2).ok_or(Trouble::SetUp)?;
-    let seats = SeatCount::new(2).ok_or(Trouble::SetUp)?;
+    let (Some(count), Some(seats)) = (PortCount::new(2), SeatCount::new(2)) else {
+        return Err(Trouble::SetUp);
+    };
     let moments = Listed::new(alloc, pairs)?;
     let requests = match copy_all(rt, alloc, pairs) {
         Ok(requests) => requests,

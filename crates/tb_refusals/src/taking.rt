@@ -180,12 +180,10 @@ fn take_over<J: Naming, R: Wait + Eprint>(
     pairs: &[Pair],
     out: &mut Vec<u8>,
 ) -> Result<(), Trouble> {
-    let Some(mut seat) = seats.pop() else {
+    let Some(seat) = seats.iter_mut().next() else {
         return Err(Trouble::Wrong(Why::NoSeat));
     };
-    let taken = take_pairs(rt, alloc, publisher, &mut seat, pairs, out);
-    drop(seat);
-    taken?;
+    take_pairs(rt, alloc, publisher, seat, pairs, out)?;
     put_history(clients_max, publisher.history(), out)
 }
 
