@@ -136,15 +136,15 @@ fn form_with_two(word: &str, clients_max: &str, last: &str) -> Option<Form>
     }
 }
 
-/// What the words ask for, None where they are not a form of the program's arguments.
+/// What the words ask for; None where they are none of the three forms.
 pub fn read_form(words: &[String]) -> Option<Form>
     ensures { result ≡ form_of (map string_bytes words.now) }
 {
     match words {
-        [word] => form_alone(word.as_str()),
-        [word, clients_max] => form_with(word.as_str(), clients_max.as_str()),
-        [word, clients_max, last] => {
-            form_with_two(word.as_str(), clients_max.as_str(), last.as_str())
+        [form] => form_alone(form.as_str()),
+        [form, clients_max] => form_with(form.as_str(), clients_max.as_str()),
+        [form, clients_max, last] => {
+            form_with_two(form.as_str(), clients_max.as_str(), last.as_str())
         }
         _ => None,
     }

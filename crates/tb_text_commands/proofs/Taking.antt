@@ -1,30 +1,18 @@
 -- What is taken part by part, all in all.
-use Rattle.std.proofs.Common.{◌≡◌, ℕ, Bool, true, false, cond, List, [], ◌∷◌, ◌++◌, take, drop, flat_map, Option, Some, None, Ok, refl, sym, ap, ◌∙◌, append_assoc, take-append-drop}
+use Rattle.std.proofs.Common.{◌≡◌, ℕ, Bool, true, false, cond, List, [], ◌∷◌, ◌++◌, take, drop, flat_map, Option, Some, None, Ok, sym, ap, ◌∙◌, append_assoc, take-append-drop}
 use Rattle.std.proofs.lemmas.Bool.{false≢true}
 use Rattle.std.specs.Io.KnownBytes.{prepend_known}
+use Rattle.std.proofs.lemmas.List.{append-nil, flat_map_more}
+use Rattle.tb_machine.proofs.Rows.{each_snoc}
 use Rattle.tb_records.specs.Messages.{Answer}
-use Rattle.tb_records.specs.Ordered.{Each}
 use Rattle.tb_records.specs.ReplyFrames.{FoundReply}
 use Rattle.tb_records.specs.Transport.{Input}
 use Rattle.tb_text_commands.specs.declared.intake.Intake.{Intake}
 use Rattle.tb_text_commands.specs.Taken.{Stays, TakesParts, TakesIf, TakesNone, TakesOne, TakesPart, rest_of, waiting}
 use Rattle.tb_text_commands.specs.Whole.{IsReplyFrame, Parts, WasWhole}
 
-append_nil : (xs : List ℕ) → xs ++ [] ≡ xs
-append_nil [] = refl
-append_nil (x ∷ xs) = ap (λ (ys : List ℕ). x ∷ ys) (append_nil xs)
-
 abbrev all_of : List (List ℕ) → List ℕ
 all_of parts = flat_map (λ (part : List ℕ). part) parts
-
--- parts and one more
-all_snoc : (parts : List (List ℕ)) (part : List ℕ) → all_of (parts ++ part ∷ []) ≡ all_of parts ++ part
-all_snoc [] part = append_nil part
-all_snoc (p ∷ ps) part = ap (λ (bytes : List ℕ). p ++ bytes) (all_snoc ps part) ∙ sym (append_assoc p (all_of ps) part)
-
-each_snoc : (P : List ℕ → Type 0) (parts : List (List ℕ)) (part : List ℕ) → Each P parts → P part → Each P (parts ++ part ∷ [])
-each_snoc P [] part h is = (is, tt)
-each_snoc P (p ∷ ps) part h is = (h.0, each_snoc P ps part h.1 is)
 
 pub takes_more : (P : List ℕ → Type 0) (a b c : Option (List ℕ)) → TakesParts P a b → TakesOne P b c → TakesParts P a c
 takes_more P None b c t one = record { how = tt }
@@ -36,7 +24,7 @@ takes_more P (Some a) (Some b) (Some c) t one = record {
     bytes =
         t.how.bytes
         ∙ (ap (λ (bytes : List ℕ). all_of t.how.parts ++ bytes) one.how.bytes
-        ∙ (sym (append_assoc (all_of t.how.parts) one.how.part c) ∙ ap (λ (bytes : List ℕ). bytes ++ c) (sym (all_snoc t.how.parts one.how.part))));
+        ∙ (sym (append_assoc (all_of t.how.parts) one.how.part c) ∙ ap (λ (bytes : List ℕ). bytes ++ c) (flat_map_more (λ (part : List ℕ). part) [] t.how.parts one.how.part)));
     each = each_snoc P t.how.parts one.how.part t.how.each one.how.is;
   };
 }
@@ -48,7 +36,7 @@ takes_all P (Some a) None c t none = absurd t.how
 takes_all P (Some a) (Some b) None t none = absurd none.how
 takes_all P (Some a) (Some b) (Some c) t none = record {
   parts = t.how.parts;
-  bytes_are = t.how.bytes ∙ (ap (λ (bytes : List ℕ). all_of t.how.parts ++ bytes) none.how.0 ∙ append_nil (all_of t.how.parts));
+  bytes_are = t.how.bytes ∙ (ap (λ (bytes : List ℕ). all_of t.how.parts ++ bytes) none.how.0 ∙ append-nil (all_of t.how.parts));
   each = t.how.each;
 }
 
@@ -81,13 +69,10 @@ part_waits P i j input t = rw t.same (part_first P (rest_of i) (rest_of j) i.end
 
 -- replies
 
-parted : (n : ℕ) (bytes : List ℕ) → bytes ≡ take n bytes ++ drop n bytes
-parted n bytes = sym (take-append-drop n bytes)
-
 pub reply_taken : (i j : Intake) (r : Answer) (n : ℕ) (bytes : List ℕ) → FoundReply (Ok (r, n)) bytes → bytes ≡ rest_of i → rest_of j ≡ drop n (rest_of i) → j.ended ≡ i.ended → TakesPart IsReplyFrame i j
 reply_taken i j r n bytes found first later ended = record {
   part = take n bytes;
-  bytes = sym first ∙ (parted n bytes ∙ ap (λ (rest : List ℕ). take n bytes ++ rest) (ap (drop n) first ∙ sym later));
+  bytes = sym first ∙ (sym (take-append-drop n bytes) ∙ ap (λ (rest : List ℕ). take n bytes ++ rest) (ap (drop n) first ∙ sym later));
   same = ended;
   is = record { reply = r; spelled = found.1 };
 }

@@ -90,7 +90,7 @@ pub fn read_form(words: &[String]) -> Option<Form>
 {
     match words {
         [word] => form_alone(word.as_str()),
-        [word, clients_max] => form_with(word.as_str(), clients_max.as_str()),
+        [run, clients_max] => form_with(run.as_str(), clients_max.as_str()),
         [word, second, last] => form_with_two(word.as_str(), second.as_str(), last.as_str()),
         _ => None,
     }

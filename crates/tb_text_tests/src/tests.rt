@@ -1,44 +1,47 @@
 //! Statements with the values of the rules: each field, operation and flag by its name, and faults by their places.
-use std::alloc::Global;
-use std::test::Fail;
+use std::process::Abort;
 use tb_records::Body;
 use tb_text::{awaited_behind, explain_fault, print_requests, read_text};
 
-/// The text that is printed of what a text means; nothing where it goes wrong.
-fn printed_again(alloc: Global, text: &[u8]) -> Result<Vec<u8>, Fail> {
-    let reading = read_text(alloc, text)?;
-    if reading.fault.is_some() {
-        return Ok(Vec::new(alloc));
+/// A text is the one that is wanted.
+fn same(rt: &impl Abort, found: &str, wanted: &str) {
+    assert_eq!(rt; found, wanted);
+}
+
+/// It is so. The text that is asked of stands in the message.
+fn holds(rt: &impl Abort, is_so: bool, text: &str) {
+    assert!(rt; is_so, "at {text}");
+}
+
+/// Says that a text means requests that are printed so.
+fn prints(rt: &(impl Abort + AllocGlobal), text: &str, wanted: &str) {
+    let reading = read_text(rt.alloc(), text.as_bytes()).expect(rt, "memory");
+    holds(rt, reading.fault.is_none(), text);
+    let printed = print_requests(rt.alloc(), reading.pairs.as_slice()).expect(rt, "memory");
+    drop(reading);
+    holds(rt, printed.as_slice() == wanted.as_bytes(), text);
+    drop(printed);
+}
+
+/// Says that a text goes wrong at a place, or nowhere.
+fn stops_at(rt: &(impl Abort + AllocGlobal), text: &str, place: Option<usize>) {
+    let reading = read_text(rt.alloc(), text.as_bytes()).expect(rt, "memory");
+    holds(rt, reading.fault.map(|fault| fault.place) == place, text);
+    drop(reading);
+}
+
+/// Texts that are printed as they stand: each field of an account and of a transfer, and each operation.
+const PRINTED: [&str; 3] = [
+    "at=1 client=2 session=3 request=4 create_accounts id=5 debits_pending=6 debits_posted=7 credits_pending=8 credits_posted=9 user_data_128=10 user_data_64=11 user_data_32=12 reserved=13 ledger=14 code=15 flags=32768 timestamp=17;\n",
+    "at=1 client=2 session=3 request=4 create_transfers id=5 debit_account_id=6 credit_account_id=7 amount=8 pending_id=9 user_data_128=10 user_data_64=11 user_data_32=12 timeout=13 ledger=14 code=15 flags=32768 timestamp=17;\n",
+    "at=0 client=7 register;\nat=1 client=7 session=1 request=1 create_accounts;\nat=2 client=7 session=1 request=2 create_transfers;\nat=3 client=7 session=1 request=3 lookup_accounts id=2, id=9, id=1;\nat=4 client=7 session=1 request=4 lookup_transfers id=0, id=11;\n",
+];
+
+#[test]
+fn each_field_and_operation(rt: HostRuntime) {
+    for text in PRINTED {
+        prints(&rt, text, text);
     }
-    Ok(print_requests(alloc, reading.pairs.as_slice())?)
-}
-
-/// The place at which a text goes wrong.
-fn wrong_at(alloc: Global, text: &[u8]) -> Result<Option<usize>, Fail> {
-    let reading = read_text(alloc, text)?;
-    Ok(reading.fault.map(|fault| fault.place))
-}
-
-#[test]
-fn each_account_field(rt: HostRuntime) -> Result<(), Fail> {
-    let text =
-        b"at=1 client=2 session=3 request=4 create_accounts id=5 debits_pending=6 debits_posted=7 credits_pending=8 credits_posted=9 user_data_128=10 user_data_64=11 user_data_32=12 reserved=13 ledger=14 code=15 flags=32768 timestamp=17;\n";
-    assert_eq!(rt;
-        printed_again(rt.alloc(), text)?.as_slice(),
-        text.as_slice()
-    );
-    Ok(())
-}
-
-#[test]
-fn each_transfer_field(rt: HostRuntime) -> Result<(), Fail> {
-    let text =
-        b"at=1 client=2 session=3 request=4 create_transfers id=5 debit_account_id=6 credit_account_id=7 amount=8 pending_id=9 user_data_128=10 user_data_64=11 user_data_32=12 timeout=13 ledger=14 code=15 flags=32768 timestamp=17;\n";
-    assert_eq!(rt;
-        printed_again(rt.alloc(), text)?.as_slice(),
-        text.as_slice()
-    );
-    Ok(())
 }
 
 /// Statements of flags, and what is printed of them: the names of the flags from the lowest bit on, and what has no
@@ -70,111 +73,101 @@ const FLAGS: [(&str, &str); 6] = [
     ),
 ];
 
-#[test]
-fn flags_by_name(rt: HostRuntime) -> Result<(), Fail> {
-    for (text, printed) in FLAGS {
-        let text = format!(in rt.alloc(); "at=1 client=2 session=3 request=4 {text}")?;
-        let printed = format!(in rt.alloc(); "at=1 client=2 session=3 request=4 {printed}")?;
-        assert_eq!(rt;
-            printed_again(rt.alloc(), text.as_str().as_bytes())?.as_slice(),
-            printed.as_str().as_bytes()
-        );
-    }
-    Ok(())
-}
-
-#[test]
-fn each_operation(rt: HostRuntime) -> Result<(), Fail> {
-    let text =
-        b"at=0 client=7 register;\nat=1 client=7 session=1 request=1 create_accounts;\nat=2 client=7 session=1 request=2 create_transfers;\nat=3 client=7 session=1 request=3 lookup_accounts id=2, id=9, id=1;\nat=4 client=7 session=1 request=4 lookup_transfers id=0, id=11;\n";
-    assert_eq!(rt;
-        printed_again(rt.alloc(), text)?.as_slice(),
-        text.as_slice()
+/// Says that a statement of flags is printed so.
+fn prints_flags(rt: &(impl Abort + AllocGlobal), text: &str, printed: &str) {
+    let text = format!(in rt.alloc(); "at=1 client=2 session=3 request=4 {text}").expect(
+        rt, "memory",
     );
-    Ok(())
+    let wanted = format!(in rt.alloc(); "at=1 client=2 session=3 request=4 {printed}").expect(
+        rt, "memory",
+    );
+    prints(rt, text.as_str(), wanted.as_str());
+    drop(wanted);
+    drop(text);
 }
 
-/// The flags of the first account, or transfer, of a text.
-fn first_flags(alloc: Global, text: &[u8]) -> Result<Option<u16>, Fail> {
-    let reading = read_text(alloc, text)?;
-    if reading.fault.is_some() {
-        return Ok(None);
+#[test]
+fn flags_by_name(rt: HostRuntime) {
+    for (text, printed) in FLAGS {
+        prints_flags(&rt, text, printed);
     }
-    let Some((_, request)) = reading.pairs.as_slice().first() else {
-        return Ok(None);
-    };
-    Ok(match request.body() {
+}
+
+/// The flags of the first account, or transfer, of a body.
+fn first_flags(body: &Body) -> Option<u16> {
+    match body {
         Body::CreateAccounts(events) => events.as_slice().first().map(|account| account.flags),
         Body::CreateTransfers(events) => events.as_slice().first().map(|transfer| transfer.flags),
         _ => None,
-    })
+    }
+}
+
+/// Says that a text has these flags in its first event.
+fn has_flags(rt: &(impl Abort + AllocGlobal), text: &str, flags: u16) {
+    let reading = read_text(rt.alloc(), text.as_bytes()).expect(rt, "memory");
+    let found = match reading.pairs.as_slice() {
+        [(_, request), ..] => first_flags(request.body()),
+        [] => None,
+    };
+    holds(rt, reading.fault.is_none() && found == Some(flags), text);
+    drop(reading);
+}
+
+/// Flags by their names, and the number that they make.
+const NAMED: [(&str, u16); 4] = [
+    (
+        "client=7 request=1 create_accounts id=1 flags=linked|debits_must_not_exceed_credits|credits_must_not_exceed_debits;",
+        7,
+    ),
+    (
+        "client=7 request=1 create_accounts id=1 flags = closed | imported | history;",
+        56,
+    ),
+    (
+        "client=7 request=1 create_transfers id=1 flags=linked|pending|post_pending_transfer|void_pending_transfer|balancing_debit;",
+        31,
+    ),
+    (
+        "client=7 request=1 create_transfers id=1 flags=balancing_credit|closing_debit|closing_credit|imported|0x200;",
+        992,
+    ),
+];
+
+#[test]
+fn numbers_of_flags(rt: HostRuntime) {
+    for (text, flags) in NAMED {
+        has_flags(&rt, text, flags);
+    }
 }
 
 #[test]
-fn each_account_flag(rt: HostRuntime) -> Result<(), Fail> {
-    let text =
-        b"client=7 request=1 create_accounts id=1 flags=linked|debits_must_not_exceed_credits|credits_must_not_exceed_debits;";
-    assert_eq!(rt; first_flags(rt.alloc(), text)?, Some(7));
-    let text = b"client=7 request=1 create_accounts id=1 flags = closed | imported | history;";
-    assert_eq!(rt; first_flags(rt.alloc(), text)?, Some(56));
-    Ok(())
+fn numbers_and_comments(rt: HostRuntime) {
+    prints(
+        &rt,
+        "# a comment\nclient=0x7\n  request=01 # another\n  create_transfers id=0xfF amount=amount_max;",
+        "at=0 client=7 request=1 create_transfers id=255 amount=340282366920938463463374607431768211455;\n",
+    );
 }
 
-#[test]
-fn each_transfer_flag(rt: HostRuntime) -> Result<(), Fail> {
-    let text =
-        b"client=7 request=1 create_transfers id=1 flags=linked|pending|post_pending_transfer|void_pending_transfer|balancing_debit;";
-    assert_eq!(rt; first_flags(rt.alloc(), text)?, Some(31));
-    let text =
-        b"client=7 request=1 create_transfers id=1 flags=balancing_credit|closing_debit|closing_credit|imported|0x200;";
-    assert_eq!(rt; first_flags(rt.alloc(), text)?, Some(992));
-    Ok(())
-}
+/// Texts, and where they go wrong.
+const PLACES: [(&str, Option<usize>); 10] = [
+    ("", None),
+    ("# nothing", None),
+    ("at=10 client=7 registe;", Some(22)),
+    ("at=10 client=7 register", Some(23)),
+    ("client=7 request=1 create_acounts;", Some(28)),
+    ("client=7 request=1 create_accounts code=65536;", Some(44)),
+    ("client=7 request=1 create_accounts id=1 id=2;", Some(40)),
+    ("client=7 request=1 create_accounts amount=1;", Some(35)),
+    ("client=7 session=1 register;", Some(21)),
+    ("client=0 register;", Some(8)),
+];
 
 #[test]
-fn numbers_and_comments(rt: HostRuntime) -> Result<(), Fail> {
-    let text =
-        b"# a comment\nclient=0x7\n  request=01 # another\n  create_transfers id=0xfF amount=amount_max;";
-    let wanted =
-        b"at=0 client=7 request=1 create_transfers id=255 amount=340282366920938463463374607431768211455;\n";
-    assert_eq!(rt;
-        printed_again(rt.alloc(), text)?.as_slice(),
-        wanted.as_slice()
-    );
-    Ok(())
-}
-
-#[test]
-fn places_of_faults(rt: HostRuntime) -> Result<(), Fail> {
-    assert_eq!(rt; wrong_at(rt.alloc(), b"")?, None);
-    assert_eq!(rt; wrong_at(rt.alloc(), b"# nothing")?, None);
-    assert_eq!(rt; wrong_at(rt.alloc(), b"at=10 client=7 registe;")?, Some(22));
-    assert_eq!(rt; wrong_at(rt.alloc(), b"at=10 client=7 register")?, Some(23));
-    assert_eq!(rt;
-        wrong_at(rt.alloc(), b"client=7 request=1 create_acounts;")?,
-        Some(28)
-    );
-    assert_eq!(rt;
-        wrong_at(
-            rt.alloc(),
-            b"client=7 request=1 create_accounts code=65536;"
-        )?,
-        Some(44)
-    );
-    assert_eq!(rt;
-        wrong_at(rt.alloc(), b"client=7 request=1 create_accounts id=1 id=2;")?,
-        Some(40)
-    );
-    assert_eq!(rt;
-        wrong_at(rt.alloc(), b"client=7 request=1 create_accounts amount=1;")?,
-        Some(35)
-    );
-    assert_eq!(rt;
-        wrong_at(rt.alloc(), b"client=7 session=1 register;")?,
-        Some(21)
-    );
-    assert_eq!(rt; wrong_at(rt.alloc(), b"client=0 register;")?, Some(8));
-    Ok(())
+fn places_of_faults(rt: HostRuntime) {
+    for (text, place) in PLACES {
+        stops_at(&rt, text, place);
+    }
 }
 
 /// A text, and what is said of where it goes wrong.
@@ -271,82 +264,80 @@ const ROWS: [Row; 21] = [
     },
 ];
 
-/// What is said of a text that goes wrong; nothing of one that does not.
-fn message_of(alloc: Global, text: &[u8], first: (usize, usize)) -> Result<String, Fail> {
-    let reading = read_text(alloc, text)?;
-    let message = match reading.fault {
-        Some(fault) => explain_fault(alloc, text, fault, first)?,
-        None => Vec::new(alloc),
-    };
-    Ok(String::from_utf8_lossy(alloc, message.as_slice())?)
+/// Says what is said of a text that goes wrong, whose first byte is at a line and a column.
+fn tells(rt: &(impl Abort + AllocGlobal), text: &str, first: (usize, usize), wanted: &str) {
+    let reading = read_text(rt.alloc(), text.as_bytes()).expect(rt, "memory");
+    let fault = reading.fault.expect(rt, "a fault");
+    drop(reading);
+    let message = explain_fault(rt.alloc(), text.as_bytes(), fault, first).expect(rt, "memory");
+    holds(rt, message.as_slice() == wanted.as_bytes(), wanted);
+    drop(message);
 }
 
 #[test]
-fn messages(rt: HostRuntime) -> Result<(), Fail> {
+fn messages(rt: HostRuntime) {
     for row in &ROWS {
-        let message = message_of(rt.alloc(), row.text.as_bytes(), (1, 1))?;
-        assert_eq!(rt; message.as_str(), row.message);
+        tells(&rt, row.text, (1, 1), row.message);
     }
-    Ok(())
 }
+
+/// Texts that stand within others, a long line among them: the first byte is at a line and a column.
+const PARTS: [(&str, (usize, usize), &str); 3] = [
+    (
+        "client=7 request=1 lookup_accounts id=100000000000000000000000000000000001, id=100000000000000000000000000000000002, id=x, id=100000000000000000000000000000000003;",
+        (41, 1),
+        "line 41, column 121: 'x' is no whole number\n  ...00000000000001, id=100000000000000000000000000000000002, id=x, id=1000000000000000000000000000000000...\n                                                                 ^\n  expected a number up to 2^128 - 1",
+    ),
+    (
+        " client=0 register;",
+        (7, 30),
+        "line 7, column 39: client is not 0\n   client=0 register;\n           ^\n  expected a number from 1 to 2^128 - 1",
+    ),
+    (
+        "\nclient=0 register;",
+        (7, 30),
+        "line 8, column 9: client is not 0\n  client=0 register;\n          ^\n  expected a number from 1 to 2^128 - 1",
+    ),
+];
 
 #[test]
-fn a_long_line_is_cut(rt: HostRuntime) -> Result<(), Fail> {
-    let text =
-        b"client=7 request=1 lookup_accounts id=100000000000000000000000000000000001, id=100000000000000000000000000000000002, id=x, id=100000000000000000000000000000000003;";
-    assert_eq!(rt;
-        message_of(rt.alloc(), text, (41, 1))?.as_str(),
-        "line 41, column 121: 'x' is no whole number\n  ...00000000000001, id=100000000000000000000000000000000002, id=x, id=1000000000000000000000000000000000...\n                                                                 ^\n  expected a number up to 2^128 - 1"
-    );
-    Ok(())
-}
-
-/// A text that stands within another: its first byte is at a line and a column.
-#[test]
-fn a_part_of_a_text(rt: HostRuntime) -> Result<(), Fail> {
-    assert_eq!(rt;
-        message_of(rt.alloc(), b" client=0 register;", (7, 30))?.as_str(),
-        "line 7, column 39: client is not 0\n   client=0 register;\n           ^\n  expected a number from 1 to 2^128 - 1"
-    );
-    assert_eq!(rt;
-        message_of(rt.alloc(), b"\nclient=0 register;", (7, 30))?.as_str(),
-        "line 8, column 9: client is not 0\n  client=0 register;\n          ^\n  expected a number from 1 to 2^128 - 1"
-    );
-    Ok(())
-}
-
-/// The names of the words that could stand behind a text.
-fn words_behind(alloc: Global, text: &[u8]) -> Result<String, Fail> {
-    let mut names = String::new(alloc);
-    if let Some(awaited) = awaited_behind(alloc, text)? {
-        for word in awaited.words.as_slice() {
-            names.push_str(word.text())?;
-            names.push_str(" ")?;
-        }
+fn parts_of_texts(rt: HostRuntime) {
+    for (text, first, message) in PARTS {
+        tells(&rt, text, first, message);
     }
-    Ok(names)
 }
 
+/// The names of the words that could stand behind a text; None where no text of statements begins so.
+fn words_behind(rt: &(impl Abort + AllocGlobal), text: &str) -> Option<String> {
+    let awaited = awaited_behind(rt.alloc(), text.as_bytes()).expect(rt, "memory")?;
+    let mut names = String::new(rt.alloc());
+    for word in awaited.words.as_slice() {
+        names.push_str(word.text()).expect(rt, "memory");
+        names.push_str(" ").expect(rt, "memory");
+    }
+    drop(awaited);
+    Some(names)
+}
+
+/// Texts, and the words that could stand behind them.
+const BEHIND: [(&str, &str); 4] = [
+    ("", "at client session request "),
+    ("client=7 request=1 lookup_accounts id=1 # more\n,", "id "),
+    (
+        "client=7 request=1 create_accounts flags=1|",
+        "linked debits_must_not_exceed_credits credits_must_not_exceed_debits history imported closed ",
+    ),
+    ("client", ""),
+];
+
 #[test]
-fn words_that_could_stand(rt: HostRuntime) -> Result<(), Fail> {
-    assert_eq!(rt;
-        words_behind(rt.alloc(), b"")?.as_str(),
-        "at client session request "
-    );
-    assert_eq!(rt;
-        words_behind(
-            rt.alloc(),
-            b"client=7 request=1 lookup_accounts id=1 # more\n,"
-        )?
-        .as_str(),
-        "id "
-    );
-    assert_eq!(rt;
-        words_behind(rt.alloc(), b"client=7 request=1 create_accounts flags=1|")?.as_str(),
-        "linked debits_must_not_exceed_credits credits_must_not_exceed_debits history imported closed "
-    );
-    assert_eq!(rt; words_behind(rt.alloc(), b"client")?.as_str(), "");
-    assert_eq!(rt; awaited_behind(rt.alloc(), b"clien")?.is_none(), true);
-    assert_eq!(rt; awaited_behind(rt.alloc(), b"client=0")?.is_none(), true);
-    Ok(())
+fn words_that_could_stand(rt: HostRuntime) {
+    for (text, wanted) in BEHIND {
+        let names = words_behind(&rt, text).expect(&rt, "a beginning");
+        same(&rt, names.as_str(), wanted);
+        drop(names);
+    }
+    for text in ["clien", "client=0"] {
+        holds(&rt, words_behind(&rt, text).is_none(), text);
+    }
 }

@@ -2,23 +2,14 @@
 //! standard input to standard output.
 #![tactic(auto)]
 
-use std::env;
 use std::io::{self, BufReader, BufWriter, IsTerminal, Write};
 use std::process::ExitCode;
+use tb_commands::words;
 use tb_records::{Buffered, Counting};
 use tb_text_commands::{Fault, command};
 
 /// The bytes of input and of output that are held at a time.
 const BUFFER: usize = 65536;
-
-/// The words after the program's name.
-fn words(rt: &HostRuntime) -> io::Result<Vec<String>> {
-    let mut words = Vec::new(rt.alloc());
-    for word in env::args(rt)?.skip(1) {
-        words.push(word)?;
-    }
-    Ok(words)
-}
 
 /// Does what the words ask for between standard input and standard output. Where statements are typed, each fault is told
 /// when it comes; else the line of a fault waits until all output is out, whose loss is a fault that comes before it.
