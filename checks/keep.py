@@ -1,14 +1,17 @@
 #!/usr/bin/env python3
 """Kills the built tbd amid its work, damages its files and lets its calls fail: nothing acknowledged is lost, and nothing happens twice.
 
-    checks/keep.py [--tbd PROGRAM] [--kills N] [--flips N] [--seed N]
+    checks/keep.py [--tbd PROGRAM] [--kills N] [--flips N] [--seed N] [--builds]
 
 Clients retry as docs/CLIENTS.md says: each sends one request at a time, and the same bytes again until it has the reply. Calls of the
-program fail or lie by checks/keep/shim.c, which wants gcc. Ends in 'N passed, M failed'.
+program fail or lie by checks/keep/shim.c, which wants gcc. With --builds two wrong bodies are built too, unproved, by `rt try` in a copy, and run
+under strace: one that replies before it commits and one that does not sync have to be caught. Ends in 'N passed, M failed'.
 """
 import argparse
 import os
 import random
+import re
+import shutil
 import struct
 import subprocess
 import sys
@@ -267,24 +270,40 @@ def reads(tbd, folder, shim, data):
         faulty(tbd, folder, shim, f"few {count}", 0, f"a start whose reads give {count} bytes at most")
 
 
-def told_early(log):
-    """How often a reply was told before the commit that it rests on was on the disk. Each telling has one: a gate that is opened, and synced."""
+def logged(log):
+    """The calls that the shim wrote down: a letter each, and whether it is the write that opens a gate."""
     with open(log, "rb") as file:
         data = file.read()
-    at, waits, opened, committed, early, told = 0, False, 0, 0, 0, 0
+    at = 0
     while at < len(data):
-        letter, length = data[at : at + 1], struct.unpack_from("<Q", data, at + 9)[0]
+        letter, length = chr(data[at]), struct.unpack_from("<Q", data, at + 9)[0]
         at += 17
-        if letter == b"W":
-            waits, opened = True, opened + (data[at : at + length] == b"\xff")
-        elif letter == b"T":
-            waits = True
-        elif letter == b"S":
+        yield letter, letter == "W" and data[at : at + length] == b"\xff"
+        at += length if letter in "WO" else 0
+
+
+def traced(log):
+    """The same by strace, of the process that wrote to a file."""
+    with open(log, encoding="utf-8", errors="replace") as file:
+        lines = [line.split(None, 1) for line in file]
+    program = next(number for number, said in lines if said.startswith("pwrite64("))
+    for number, said in lines:
+        found = re.match(r"(pwrite64|ftruncate|fdatasync|fsync|write\(1,)", said) if number == program else None
+        if found:
+            yield {"p": "W", "w": "O"}.get(said[0], "T" if said.startswith("ft") else "S"), '"\\377", 1, ' in said
+
+
+def told_early(calls):
+    """How often a reply was told before the commit that it rests on was on the disk. Each telling has one: a gate that is opened, and synced."""
+    waits, opened, committed, early, told = False, 0, 0, 0, 0
+    for letter, opens in calls:
+        if letter in "WT":
+            waits, opened = True, opened + opens
+        elif letter == "S":
             waits, committed = False, opened
         else:
             told += 1
             early += waits or committed < told
-        at += length if letter in (b"W", b"O") else 0
     return early, told
 
 
@@ -298,7 +317,7 @@ def order(tbd, folder, shim, fault, name):
         ledger.round(process, ledger.clients)
     process.stdin.close()
     process.wait()
-    return told_early(log)
+    return told_early(logged(log))
 
 
 def orders(tbd, folder, shim):
@@ -307,6 +326,38 @@ def orders(tbd, folder, shim):
     for fault in ("nosync", "early 1"):
         early, told = order(tbd, folder, shim, fault, fault.replace(" ", "_"))
         case(f"a control that must be caught: {fault}", early > 0, f"{early} of {told}")
+
+
+# Wrong bodies: the program's own, where nothing is to be caught, one that tells before it commits, and one that does not sync.
+BUILDS = (
+    ("the program as it is", "crates/tb_keep/src/serving.rt", "keeper.journal.commit()?;", "keeper.journal.commit()?;"),
+    ("replies before it commits", "crates/tb_keep/src/serving.rt", "keeper.journal.commit()?;", "hand_out(replies, writer)?; keeper.journal.commit()?;"),
+    ("does not sync", "crates/tb_journal/src/calls.rt", "Ok(()) => device.sync(),", "Ok(()) => Ok(()),"),
+)
+
+
+def builds(tbd, folder):
+    """Builds them in a copy, unproved, and serves the first script over a file without entries."""
+    copy, log = os.path.join(folder, "copy"), os.path.join(folder, "calls")
+    shutil.copytree(ROOT, copy, ignore=shutil.ignore_patterns("out", ".git", "target"))
+    for name, path, old, new in BUILDS:
+        with open(f"{copy}/{path}", encoding="utf-8") as file:
+            text = file.read()
+        case(f"{name}: the text stands once", text.count(old) == 1)
+        with open(f"{copy}/{path}", "w", encoding="utf-8") as file:
+            file.write(text.replace(old, new))
+        kept = os.path.join(folder, "built.tbk")
+        subprocess.run([tbd, "run", kept, "2"], stdin=subprocess.DEVNULL, check=True)
+        words = ["strace", "-f", "-qq", "-s", "4", "-e", "trace=pwrite64,ftruncate,fdatasync,fsync,write", "-o", log, "rt", "try", "--", "run", kept, "2"]
+        with open(f"{ROOT}/examples/first.script", "rb") as script:
+            ran = subprocess.run(words, cwd=f"{copy}/crates/tbd", stdin=script, capture_output=True, check=False)
+        early, told = told_early(traced(log))
+        well = ran.returncode == 0 and told > 0 and (early > 0) == (old != new)
+        case(f"a build: {name}", well, f"status {ran.returncode}, {early} of {told} told early")
+        print(f"a build: {name}: {early} of {told} told early", flush=True)
+        with open(f"{copy}/{path}", "w", encoding="utf-8") as file:
+            file.write(text)
+        os.unlink(kept)
 
 
 def sample(tbd, folder):
@@ -370,12 +421,15 @@ def main():
     parser.add_argument("--kills", type=int, default=1000)
     parser.add_argument("--flips", type=int, default=10000)
     parser.add_argument("--seed", type=int, default=1)
+    parser.add_argument("--builds", action="store_true", help="builds that are wrong, too")
     asked = parser.parse_args()
     rng = random.Random(asked.seed)
     with tempfile.TemporaryDirectory() as folder:
         shim = os.path.join(folder, "shim.so")
         subprocess.run(["gcc", "-O1", "-Wall", "-Wextra", "-shared", "-fPIC", "-o", shim, os.path.join(ROOT, "checks", "keep", "shim.c")], check=True)
         orders(asked.tbd, folder, shim)
+        if asked.builds:
+            builds(asked.tbd, folder)
         data, gates, entries = sample(asked.tbd, folder)
         cuts(asked.tbd, folder, data, gates, entries)
         flips(asked.tbd, folder, data, gates, entries, asked.flips, rng)

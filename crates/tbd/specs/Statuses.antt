@@ -23,7 +23,7 @@ use Rattle.tb_keep.specs.declared.faults.StartFault.TheVariants as start
 use Rattle.tbd.specs.declared.faults.Damage.{Damage}
 use Rattle.tbd.specs.declared.faults.Damage.TheVariants.{Block, Record, Entry}
 use Rattle.tbd.specs.declared.faults.Fault.{Fault}
-use Rattle.tbd.specs.declared.faults.Fault.TheVariants.{Usage, Device, Unopened, NoMemory, Request, Locked, NotAJournal, NoHead, Damaged, OtherRules, Full}
+use Rattle.tbd.specs.declared.faults.Fault.TheVariants.{Usage, Device, Missing, Forbidden, Unopened, NoMemory, Request, Locked, NotAJournal, NoHead, Damaged, OtherRules, Full}
 
 -- what the faults of the libraries are here
 
@@ -67,6 +67,8 @@ kept_fault (keep.Journal fault) = disk_fault fault
 -- 1 a device or memory failed, 2 the arguments are wrong or a request is none, and from 4 on why the file is not served
 abbrev pub fault_status : Fault → ℕ
 fault_status Device = 1
+fault_status Missing = 1
+fault_status Forbidden = 1
 fault_status Unopened = 1
 fault_status NoMemory = 1
 fault_status Usage = 2
@@ -87,6 +89,8 @@ damage_text (Entry fault) = codes "record " ++ decimal fault.place ++ codes ": "
 abbrev pub fault_text : Fault → List ℕ
 fault_text Usage = codes "Usage"
 fault_text Device = codes "Device"
+fault_text Missing = codes "Device: cannot find"
+fault_text Forbidden = codes "Device: no permission to open"
 fault_text Unopened = codes "Device: cannot open"
 fault_text NoMemory = codes "NoMemory"
 fault_text (Request fault) = run_fault_name fault

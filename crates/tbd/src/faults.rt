@@ -26,6 +26,10 @@ pub enum Fault {
     Usage,
     /// A pipe, or a read, write or sync of the file failed.
     Device,
+    /// There is no such file, or no such folder.
+    Missing,
+    /// This user may not open the file.
+    Forbidden,
     /// The file cannot be opened.
     Unopened,
     /// There is no memory.
@@ -133,6 +137,8 @@ impl Fault {
     {
         match self {
             Fault::Device => 1,
+            Fault::Missing => 1,
+            Fault::Forbidden => 1,
             Fault::Unopened => 1,
             Fault::NoMemory => 1,
             Fault::Usage => 2,
@@ -172,6 +178,8 @@ impl fmt::Display for Fault {
         match self {
             Fault::Usage => f.write_str("Usage"),
             Fault::Device => f.write_str("Device"),
+            Fault::Missing => f.write_str("Device: cannot find"),
+            Fault::Forbidden => f.write_str("Device: no permission to open"),
             Fault::Unopened => f.write_str("Device: cannot open"),
             Fault::NoMemory => f.write_str("NoMemory"),
             Fault::Request(fault) => f.write_str(fault.name()),

@@ -2,7 +2,7 @@
 use crate::faults::{Fault, disk_fault, dumped_fault, started_fault};
 use crate::summaries::{Summary, summary_of};
 use std::alloc::Global;
-use std::io::{self, BufWriter, Write};
+use std::io::{self, BufWriter, ErrorKind, Write};
 use tb_journal::{Device, FileFault, Real};
 use tb_keep::{Rules, read_history, write_dump};
 use tb_records::Counting;
@@ -14,7 +14,11 @@ const BUFFER: usize = 65536;
 fn file_fault(fault: &FileFault) -> Fault {
     match fault {
         FileFault::Locked => Fault::Locked,
-        FileFault::System(_) => Fault::Unopened,
+        FileFault::System(error) => match error.kind() {
+            ErrorKind::NotFound => Fault::Missing,
+            ErrorKind::PermissionDenied => Fault::Forbidden,
+            _ => Fault::Unopened,
+        },
     }
 }
 

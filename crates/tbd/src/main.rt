@@ -70,7 +70,9 @@ fn tell_usage(rt: &HostRuntime, words: &[String]) -> io::Result<()> {
 /// Tells a fault, in one line.
 fn tell(rt: &HostRuntime, fault: Fault, words: &[String]) -> io::Result<()> {
     match (fault, words) {
-        (Fault::Unopened, [_, path, ..]) => eprintln!(rt; "tbd: {fault} {path}"),
+        (Fault::Missing | Fault::Forbidden | Fault::Unopened, [_, path, ..]) => {
+            eprintln!(rt; "tbd: {fault} {path}")
+        }
         _ => eprintln!(rt; "tbd: {fault}"),
     }
 }

@@ -7,8 +7,8 @@ use tb_journal::Device;
 use tb_keep::{Keeper, Rules, keep};
 use tb_records::{Buffered, Counting, Sink, Source};
 
-/// The bytes of input that are held at a time.
-const BUFFER: usize = 65536;
+/// The bytes of input that are held at a time. What is held goes behind one commit, so fewer bytes would need more syncs.
+const BUFFER: usize = 1 << 20;
 
 /// Opens a ledger over a device, or creates one, and serves pairs until they end: each reply is told when the entry that it
 /// rests on is in the file.
