@@ -3,7 +3,7 @@ use Rattle.std.proofs.Common.{◌≡◌, ℕ, ◌+◌, ◌^◌, ◌<◌, Bool, t
 use Rattle.std.specs.Prelude.{nat_lt}
 use Rattle.std.proofs.lemmas.Bool.Decides.{nat_tests}
 use Rattle.tb_records.specs.declared.operations.Operation.{Operation}
-use Rattle.tb_records.specs.declared.operations.Operation.TheVariants.{Register, CreateAccounts, CreateTransfers, LookupAccounts, LookupTransfers}
+use Rattle.tb_records.specs.declared.operations.Operation.TheVariants.{Register, CreateAccounts, CreateTransfers}
 use Rattle.tb_records.specs.declared.records.Account.{Account}
 use Rattle.tb_records.specs.declared.records.Transfer.{Transfer}
 use Rattle.tb_records.specs.RecordBytes.{IsAccount, IsTransfer}
@@ -14,7 +14,7 @@ use Rattle.tb_text.specs.declared.words.Field.TheVariants as field
 use Rattle.tb_text.specs.declared.places.Place.{Place}
 use Rattle.tb_text.specs.declared.places.Place.TheVariants.{Opened, Parted}
 use Rattle.tb_text.specs.Entries.{Entry, may_have}
-use Rattle.tb_text.specs.Scan.{Scan, run, awaits_field, finished}
+use Rattle.tb_text.specs.Scan.{Scan, run, awaits_field, finished, moved, pushed, with_id}
 use Rattle.tb_text.specs.Printed.{entries_text, entry_text, account_entries, transfer_entries, account_text, transfer_text, id_text}
 use Rattle.tb_text.proofs.Tokens.{IsBetween, IsEnd, at_gap}
 use Rattle.tb_text.proofs.NamedFlags.{at, SameBits}
@@ -95,52 +95,31 @@ transfers_kind pairs header = record {
   empty = at_gap (transfers_state pairs header [] Opened) 59 refl;
 }
 
--- a statement of sought_accounts, so far
-abbrev pub sought_accounts_state : List (ℕ × Message) → List Entry → List ℕ → Place → Scan
-sought_accounts_state pairs header xs place = mid pairs header LookupAccounts place [] [] xs []
+-- a lookup of ids, so far
+abbrev pub sought_state : Operation → List (ℕ × Message) → List Entry → List ℕ → Place → Scan
+sought_state o pairs header xs place = mid pairs header o place [] [] xs []
 
-abbrev pub sought_accounts_ended : List (ℕ × Message) → List Entry → List ℕ → Option Scan
-sought_accounts_ended pairs header xs = finished (sought_accounts_state pairs header xs Opened) LookupAccounts
+abbrev pub sought_ended : Operation → List (ℕ × Message) → List Entry → List ℕ → Option Scan
+sought_ended o pairs header xs = finished (sought_state o pairs header xs Opened) o
 
-pub sought_accounts_kind : (pairs : List (ℕ × Message)) (header : List Entry) → IsKind (sought_accounts_state pairs header) (sought_accounts_ended pairs header) id_text IsId
+-- of an operation that has ids without flags, and puts each behind the others
+pub sought_kind : (o : Operation) → SameBits (Some o) Register → may_have (Some o) field.Id ≡ true → ((s : Scan) (place : Place) → pushed s o place ≡ moved (with_id s) place) → (pairs : List (ℕ × Message)) (header : List Entry)
+    → IsKind (sought_state o pairs header) (sought_ended o pairs header) id_text IsId
 unfolding id_text
-sought_accounts_kind pairs header = record {
+sought_kind o bits has puts pairs header = record {
   item = λ xs place awaits x h tail end.
-      let s = sought_accounts_state pairs header xs place in
-      let through = event_through Register s x [] tail end (record { lexeme = refl; spelled = refl }) (λ f. refl) awaits refl refl h tt in
-      let g = (field.Id, x) ∷ told Register [] in (
-        at s through.0 g,
+      let s = sought_state o pairs header xs place in
+      let through = event_through Register s x [] tail end (record { lexeme = refl; spelled = refl }) bits awaits refl has h tt in
+      let at_id = at s through.0 ((field.Id, x) ∷ told Register []) in
+      let behind : (p : Place) → pushed at_id o p ≡ sought_state o pairs header (xs ++ x ∷ []) p =
+      λ p. puts at_id p ∙ ap (λ (y : ℕ). sought_state o pairs header (xs ++ y ∷ []) p) (none_or x) in (
+        at_id,
         ap (λ (t : List ℕ). run s (t ++ tail)) (sym (append-nil (entry_text Register (field.Id, x)))) ∙ through.1,
         record {
-          parts = λ few. at_gap (at s through.0 g) 44 refl ∙ (if_true (nat_lt (0 + 0 + length xs + 1) 8190) _ _ (room (0 + 0 + length xs) (omega arith)) ∙ ap (λ (y : ℕ). Some (sought_accounts_state pairs header (xs ++ y ∷ []) Parted)) (none_or x));
-          ends = at_gap (at s through.0 g) 59 refl ∙ ap (λ (y : ℕ). sought_accounts_ended pairs header (xs ++ y ∷ [])) (none_or x);
+          parts = λ few. at_gap at_id 44 refl ∙ (if_true (nat_lt (0 + 0 + length xs + 1) 8190) _ _ (room (0 + 0 + length xs) (omega arith)) ∙ ap (λ (t : Scan). Some t) (behind Parted));
+          ends = at_gap at_id 59 refl ∙ ap (λ (t : Scan). finished t o) (behind Opened);
         },
       );
   between = λ xs place. refl;
-  empty = at_gap (sought_accounts_state pairs header [] Opened) 59 refl;
-}
-
--- a statement of sought_transfers, so far
-abbrev pub sought_transfers_state : List (ℕ × Message) → List Entry → List ℕ → Place → Scan
-sought_transfers_state pairs header xs place = mid pairs header LookupTransfers place [] [] xs []
-
-abbrev pub sought_transfers_ended : List (ℕ × Message) → List Entry → List ℕ → Option Scan
-sought_transfers_ended pairs header xs = finished (sought_transfers_state pairs header xs Opened) LookupTransfers
-
-pub sought_transfers_kind : (pairs : List (ℕ × Message)) (header : List Entry) → IsKind (sought_transfers_state pairs header) (sought_transfers_ended pairs header) id_text IsId
-unfolding id_text
-sought_transfers_kind pairs header = record {
-  item = λ xs place awaits x h tail end.
-      let s = sought_transfers_state pairs header xs place in
-      let through = event_through Register s x [] tail end (record { lexeme = refl; spelled = refl }) (λ f. refl) awaits refl refl h tt in
-      let g = (field.Id, x) ∷ told Register [] in (
-        at s through.0 g,
-        ap (λ (t : List ℕ). run s (t ++ tail)) (sym (append-nil (entry_text Register (field.Id, x)))) ∙ through.1,
-        record {
-          parts = λ few. at_gap (at s through.0 g) 44 refl ∙ (if_true (nat_lt (0 + 0 + length xs + 1) 8190) _ _ (room (0 + 0 + length xs) (omega arith)) ∙ ap (λ (y : ℕ). Some (sought_transfers_state pairs header (xs ++ y ∷ []) Parted)) (none_or x));
-          ends = at_gap (at s through.0 g) 59 refl ∙ ap (λ (y : ℕ). sought_transfers_ended pairs header (xs ++ y ∷ [])) (none_or x);
-        },
-      );
-  between = λ xs place. refl;
-  empty = at_gap (sought_transfers_state pairs header [] Opened) 59 refl;
+  empty = at_gap (sought_state o pairs header [] Opened) 59 refl;
 }

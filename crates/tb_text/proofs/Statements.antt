@@ -28,7 +28,7 @@ use Rattle.tb_text.proofs.NamedFlags.{at}
 use Rattle.tb_text.proofs.Entries.{told, InOrder, all_at, entries_through, value_told, none_or}
 use Rattle.tb_text.proofs.Orders.{small_64, small_32, small_128}
 use Rattle.tb_text.proofs.Items.{mid, items_through, low, low_32}
-use Rattle.tb_text.proofs.EachKind.{accounts_state, accounts_ended, accounts_kind, transfers_state, transfers_ended, transfers_kind, sought_accounts_state, sought_accounts_ended, sought_accounts_kind, sought_transfers_state, sought_transfers_ended, sought_transfers_kind}
+use Rattle.tb_text.proofs.EachKind.{accounts_state, accounts_ended, accounts_kind, transfers_state, transfers_ended, transfers_kind, sought_state, sought_ended, sought_kind}
 use Rattle.tb_text.proofs.Facts.{same_some}
 use Rattle.std.proofs.lemmas.List.{append-nil}
 
@@ -183,14 +183,14 @@ body_through pairs moment r f tail (body.LookupAccounts xs) e h fits =
     let header = header_of moment r in
     ap (λ (t : List ℕ). run (at (behind pairs) f header) (32 ∷ t)) (append_assoc (word_text (word.Operation LookupAccounts)) (items_text id_text xs) (59 ∷ tail))
     ∙ (operation_through pairs f header LookupAccounts (items_text id_text xs ++ 59 ∷ tail) (suits_numbered LookupAccounts moment r h.1.lawful (ap is_register (sym e))) (items_end id_text xs tail)
-    ∙ (items_through (sought_accounts_state pairs header) (sought_accounts_ended pairs header) id_text IsId (sought_accounts_kind pairs header) xs tail (recursion_from_All IsId xs fits) (subst (λ (b : Body). item_count b ≤ 8190) (sym e) (few r h.1.lawful))
-    ∙ ap (option_and_then (λ t. run t tail)) (ended_back pairs moment r _ (sought_accounts_state pairs header xs Opened) h refl refl (made_back moment r (body.LookupAccounts xs) h e))))
+    ∙ (items_through (sought_state LookupAccounts pairs header) (sought_ended LookupAccounts pairs header) id_text IsId (sought_kind LookupAccounts (λ f. refl) refl (λ s place. refl) pairs header) xs tail (recursion_from_All IsId xs fits) (subst (λ (b : Body). item_count b ≤ 8190) (sym e) (few r h.1.lawful))
+    ∙ ap (option_and_then (λ t. run t tail)) (ended_back pairs moment r _ (sought_state LookupAccounts pairs header xs Opened) h refl refl (made_back moment r (body.LookupAccounts xs) h e))))
 body_through pairs moment r f tail (body.LookupTransfers xs) e h fits =
     let header = header_of moment r in
     ap (λ (t : List ℕ). run (at (behind pairs) f header) (32 ∷ t)) (append_assoc (word_text (word.Operation LookupTransfers)) (items_text id_text xs) (59 ∷ tail))
     ∙ (operation_through pairs f header LookupTransfers (items_text id_text xs ++ 59 ∷ tail) (suits_numbered LookupTransfers moment r h.1.lawful (ap is_register (sym e))) (items_end id_text xs tail)
-    ∙ (items_through (sought_transfers_state pairs header) (sought_transfers_ended pairs header) id_text IsId (sought_transfers_kind pairs header) xs tail (recursion_from_All IsId xs fits) (subst (λ (b : Body). item_count b ≤ 8190) (sym e) (few r h.1.lawful))
-    ∙ ap (option_and_then (λ t. run t tail)) (ended_back pairs moment r _ (sought_transfers_state pairs header xs Opened) h refl refl (made_back moment r (body.LookupTransfers xs) h e))))
+    ∙ (items_through (sought_state LookupTransfers pairs header) (sought_ended LookupTransfers pairs header) id_text IsId (sought_kind LookupTransfers (λ f. refl) refl (λ s place. refl) pairs header) xs tail (recursion_from_All IsId xs fits) (subst (λ (b : Body). item_count b ≤ 8190) (sym e) (few r h.1.lawful))
+    ∙ ap (option_and_then (λ t. run t tail)) (ended_back pairs moment r _ (sought_state LookupTransfers pairs header xs Opened) h refl refl (made_back moment r (body.LookupTransfers xs) h e))))
 
 -- one statement
 statement_through : (pairs : List (ℕ × Message)) (pair : ℕ × Message) (tail : List ℕ) → IsTimed pair → run (behind pairs) (statement_text pair ++ tail) ≡ run (behind (pairs ++ pair ∷ [])) tail
