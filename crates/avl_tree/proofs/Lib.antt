@@ -7,6 +7,7 @@ pub mod Inserts
 pub mod Least
 pub mod Ranges
 pub mod Shape
+pub mod Sides
 pub mod Steps
 pub mod TwoInPlace
 pub mod Whole

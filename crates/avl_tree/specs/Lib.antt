@@ -6,3 +6,4 @@ pub mod Search
 pub mod Visits
 -- what private functions alone cite
 pub mod Pairs
+pub mod Sides

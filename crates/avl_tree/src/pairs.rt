@@ -5,7 +5,7 @@ ghost use Rattle.std.specs.declared.cmp.Ordering.TheVariants.{Less};
 ghost use Rattle.avl_tree.specs.Nodes.{entries, entry, IsAvl, IsOrdered, IsSearchTree};
 ghost use Rattle.avl_tree.specs.Pairs.{CalledAtBoth, ChangesBeside, ChangesApart, ChangesBoth};
 
-use crate::tree::{Node, Tree};
+use crate::tree::{Node, Tree, side};
 use crate::walks::compare;
 use std::alloc::Allocator;
 use std::cmp::Ordering;
@@ -155,15 +155,11 @@ fn apart<K: Ord, V, A: Allocator, R, F: FnMut(&mut V, &mut V) -> R>(
         return;
     };
     let order = compare(key, node);
-    if matches!(order, Ordering::Equal) {
+    if order.is_eq() {
         beside(other, other_key, &mut node.value, in_order, f, out);
         return;
     }
-    match order {
-        Ordering::Less => apart(other, &mut node.left, other_key, key, !in_order, f, out),
-        Ordering::Greater => apart(other, &mut node.right, other_key, key, !in_order, f, out),
-        Ordering::Equal => {}
-    }
+    apart(other, side(node, order), other_key, key, !in_order, f, out);
 }
 
 /// Looks for two keys, one on either side of a node.

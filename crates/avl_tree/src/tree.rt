@@ -1,9 +1,12 @@
 // The nodes of the tree, and their rotations.
 ghost use Rattle.std.specs.Prelude.{◌≡◌, ◌+◌, ◌<◌, ◌≤◌, max, ◌∷◌, ◌++◌, IfSome};
 ghost use Rattle.avl_tree.specs.Nodes.{entries, entry, stored_height, IsAvl, IsNearlyAvl, SettlesTo, IsBare, IsHeightOver, IsLevelAt, IsGrown, DifferByAtMost};
+ghost use Rattle.std.specs.Borrow.{sem};
+ghost use Rattle.avl_tree.specs.Sides.{lends_side, side_of};
 ghost use Rattle.avl_tree.specs.declared.tree.Tree.TheVariants.{Empty};
 
 use std::alloc::Allocator;
+use std::cmp::Ordering;
 use std::mem;
 
 /// A link to a balanced tree: nothing, or the height of the tree and its root.
@@ -36,6 +39,21 @@ pub fn height<K, V, A: Allocator>(tree: &Tree<K, V, A>) -> u8
     match tree {
         Tree::Empty => 0,
         Tree::Fork(height, _) => *height,
+    }
+}
+
+/// The side of a node that a search goes on in, where the key that it looks for compares so to the node's.
+///
+/// It stands apart, so that the choice is a conditional move: in a loop the compiler makes a jump of it, which is foretold wrongly at
+/// every second node.
+#[inline(never)]
+pub fn side<K, V, A: Allocator>(node: &mut Node<K, V, A>, order: Ordering) -> &mut Tree<K, V, A>
+    ensures* writes_back { sem 𝓛 (lends_side K.row V.row A.row A.Allocator order node.entry result) }
+    ensures value { result.now ≡ side_of order node.old }
+{
+    match order {
+        Ordering::Greater => &mut node.right,
+        Ordering::Less | Ordering::Equal => &mut node.left,
     }
 }
 
