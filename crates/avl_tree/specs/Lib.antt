@@ -5,5 +5,6 @@ pub mod Nodes
 pub mod Search
 pub mod Visits
 -- what private functions alone cite
+pub mod Freeing
 pub mod Pairs
 pub mod Sides

@@ -9,6 +9,7 @@
 //! - `updates`: a value changed where it stands.
 //! - `pairs`: the values of two keys changed by one walk.
 //! - `edits`: a value exchanged, an entry inserted or removed, and the way back up balanced.
+//! - `freeing`: trees that are let go, two at a time, so that their waits for memory overlap.
 //! - `spare`: nodes that have memory and no entry yet.
 //! - `map`: `AvlMap`, all that callers use.
 //! - `worked_rows`: the fewest nodes of a tree by its height, for the first heights (public).
@@ -16,6 +17,7 @@
 
 mod edits;
 mod eight;
+mod freeing;
 mod map;
 mod pairs;
 mod range;

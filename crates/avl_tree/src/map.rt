@@ -13,6 +13,7 @@ ghost use Rattle.avl_tree.specs.Nodes.{entry, with_first, search_of, IsBare, IsW
 ghost use Rattle.avl_tree.specs.Search.{path_length};
 ghost use Rattle.avl_tree.specs.Visits.{between, VisitsTo};
 
+use crate::freeing::free_both;
 use crate::spare::SpareNodes;
 use crate::tree::{Node, Tree};
 use crate::{edits, eight, pairs, range, updates, walks};
@@ -26,7 +27,6 @@ use std::mem;
 /// A contract sees the pairs by rising key (`entries`), the number of spare nodes, and in `probe` alone the shape
 /// of the tree. Only `reserve` takes memory. An insert uses a spare node and never fails, and a removal makes the
 /// node of its key spare.
-#[derive(Drop)]
 pub struct AvlMap<K: Ord + Copy, V, A: Allocator + Clone> {
     root: Tree<K, V, A>,
     len: usize,
@@ -51,6 +51,19 @@ impl<K: Ord + Copy, V, A: Allocator + Clone> Model for AvlMap<K, V, A> {
     ghost also_owns = { λ _. ftrue };
 
     ghost also_shares = { λ _ _ _. ftrue };
+}
+
+impl<K: Ord + Copy, V: Drop, A: Allocator + Clone> Drop for AvlMap<K, V, A> {
+    fn drop(self) {
+        let AvlMap {
+            root,
+            len: _,
+            spare,
+            alloc: _,
+        } = self;
+        drop(spare);
+        free_both(root, Tree::Empty);
+    }
 }
 
 // A map owns no more than its fields do. An impl by hand is what a struct that holds a map finds its own `Send` by: of
