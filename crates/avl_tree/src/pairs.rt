@@ -131,7 +131,11 @@ fn beside_right<K: Ord, V, A: Allocator, R, F: FnMut(&mut V, &mut V) -> R>(
 
 /// Looks for one key in each of two trees, a level of either, interleaved, so that their waits for memory overlap.
 ///
-/// The end is tested first, so that which side comes next is a choice between two addresses, and not a jump that can't be foretold.
+/// The end is tested first, so that which side comes next is a choice between two addresses. It is none by a jump, since a level calls
+/// the next one through [`apart_below`]: in a function that calls itself, which is compiled to a loop, the choice would be a jump that
+/// can't be foretold.
+#[cycle(apart)]
+#[inline(never)]
 fn apart<K: Ord, V, A: Allocator, R, F: FnMut(&mut V, &mut V) -> R>(
     tree: &mut Tree<K, V, A>,
     other: &mut Tree<K, V, A>,
@@ -159,7 +163,32 @@ fn apart<K: Ord, V, A: Allocator, R, F: FnMut(&mut V, &mut V) -> R>(
         beside(other, other_key, &mut node.value, in_order, f, out);
         return;
     }
-    apart(other, side(node, order), other_key, key, !in_order, f, out);
+    apart_below(other, side(node, order), other_key, key, !in_order, f, out);
+}
+
+/// Goes on with both searches, a level further down in one of the trees.
+#[cycle(apart)]
+#[inline(never)]
+fn apart_below<K: Ord, V, A: Allocator, R, F: FnMut(&mut V, &mut V) -> R>(
+    tree: &mut Tree<K, V, A>,
+    other: &mut Tree<K, V, A>,
+    key: &K,
+    other_key: &K,
+    in_order: bool,
+    f: &mut F,
+    out: &mut Option<R>,
+)
+    requires balanced { IsAvl tree.old }
+    requires sorted { IsOrdered K.cmp (entries tree.old) }
+    requires other_balanced { IsAvl other.old }
+    requires other_sorted { IsOrdered K.cmp (entries other.old) }
+    requires callable { F.IsAlwaysCallable f.old }
+    requires empty { out.old ≡ None }
+    ensures callable { F.IsAlwaysCallable f.new }
+    ensures changes { ChangesApart F.FnMut in_order (is_at (K.cmp key.now)) (is_at (K.cmp other_key.now)) tree.old
+        other.old f.old out.new f.new tree.new other.new }
+{
+    apart(tree, other, key, other_key, in_order, f, out);
 }
 
 /// Looks for two keys, one on either side of a node.

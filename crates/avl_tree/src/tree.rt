@@ -43,10 +43,6 @@ pub fn height<K, V, A: Allocator>(tree: &Tree<K, V, A>) -> u8
 }
 
 /// The side of a node that a search goes on in, where the key that it looks for compares so to the node's.
-///
-/// It stands apart, so that the choice is a conditional move: in a loop the compiler makes a jump of it, which is foretold wrongly at
-/// every second node.
-#[inline(never)]
 pub fn side<K, V, A: Allocator>(node: &mut Node<K, V, A>, order: Ordering) -> &mut Tree<K, V, A>
     ensures* writes_back { sem 𝓛 (lends_side K.row V.row A.row A.Allocator order node.entry result) }
     ensures value { result.now ≡ side_of order node.old }
