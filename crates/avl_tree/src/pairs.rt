@@ -61,6 +61,9 @@ fn answer_both<V, R, F: FnMut(&mut V, &mut V) -> R>(
 }
 
 /// Looks for the other key, while the value of the first one is held.
+///
+/// It stands apart, so that a level of both searches saves no registers.
+#[inline(never)]
 fn beside<K: Ord, V, A: Allocator, R, F: FnMut(&mut V, &mut V) -> R>(
     tree: &mut Tree<K, V, A>,
     key: &K,
