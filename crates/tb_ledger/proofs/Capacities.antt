@@ -1,6 +1,7 @@
 -- The capacity that events use, and what a refused event leaves.
 use Rattle.std.proofs.Common.{◌≡◌, ℕ, ◌+◌, ◌≤◌, Bool, true, false, if◌then◌else◌, refl, sym, subst, ◌∙◌, arith}
 use Rattle.tb_ledger.specs.declared.tables.rows.Rows.{Rows}
+use Rattle.tb_ledger.specs.declared.tables.work.Work.{Work}
 use Rattle.tb_ledger.specs.declared.tables.timeouts.Timeout.{Timeout}
 use Rattle.tb_ledger.specs.declared.tables.transfers.TransferRow.{TransferRow}
 use Rattle.tb_ledger.specs.Capacity.{Capacity, capacity_of, Uses}
@@ -67,8 +68,8 @@ uses_kept rows later keeps = record {
 }
 
 -- an event that is refused leaves all as it is
-pub leaves_still : {A : Type 0} (rows later : Rows A) (log grown : Noted) → IsKept rows → later ≡ rows → grown ≡ log → Leaves rows later log grown
-leaves_still rows later log grown kept same same_log = subst (λ later. Leaves rows later log grown) (sym same) (subst (λ grown. Leaves rows rows log grown) (sym same_log) (record {
+pub leaves_still : {A : Type 0} (work later : Work A) → IsKept work.rows → later ≡ work → Leaves work later
+leaves_still work later kept same = subst (λ later. Leaves work later) (sym same) (record {
   kept = kept;
   step = record {
     failed = refl;
@@ -81,5 +82,6 @@ leaves_still rows later log grown kept same same_log = subst (λ later. Leaves r
       capacity = refl;
     };
   };
-  capacity = uses_none 1 (capacity_of rows);
-}))
+  capacity = uses_none 1 (capacity_of work.rows);
+  results = refl;
+})

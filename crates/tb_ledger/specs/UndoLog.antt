@@ -100,7 +100,3 @@ pub record IsStep {A : Type 0} (n : ℕ) (rows later : Rows A) (undo_log grown :
   pub keeps_failed : later.keeps_failed ≡ rows.keeps_failed
   pub time : later.time ≡ rows.time
   pub grows : Grows n (LeadsBack rows later) undo_log grown
-
--- an event that is refused leaves all as it is
-abbrev pub Stays : {A : Type 0} → Rows A → Rows A → Noted → Noted → Type 0
-Stays rows later undo_log grown = (later ≡ rows) × (grown ≡ undo_log)

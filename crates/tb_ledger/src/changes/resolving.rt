@@ -5,8 +5,8 @@ ghost use Rattle.tb_ledger.specs.Books.{resolves};
 ghost use Rattle.tb_ledger.specs.Exchanges.{account_row_at};
 ghost use Rattle.tb_ledger.specs.Kept.{books_in, IsKept, transfer_row_key, times_out, unlisted, IsListed, settled, state_given_by};
 ghost use Rattle.tb_ledger.specs.Capacity.{HasTransfers};
-ghost use Rattle.tb_ledger.specs.Steps.{IsPrepared, IsResolution, Leaves};
-ghost use Rattle.tb_ledger.specs.UndoLog.{Stays, IsMarked};
+ghost use Rattle.tb_ledger.specs.Steps.{IsPrepared, IsResolution, Leaves, Takes};
+ghost use Rattle.tb_ledger.specs.UndoLog.{IsMarked};
 ghost use Rattle.tb_ledger.specs.Noted.{HasCapacityFor};
 ghost use Rattle.tb_ledger.specs.Settlings.{closed_code, CanSettle, Settles, SettlesIn};
 ghost use Rattle.tb_ledger.specs.Verdicts.{id_code};
@@ -20,65 +20,74 @@ use crate::changes::sides::settle_side;
 use crate::tables::accounts::AccountRow;
 use crate::tables::index::unlist;
 use crate::tables::map::{Keyed, Table};
-use crate::tables::rows::Rows;
 use crate::tables::timeouts::Timeouts;
 use crate::tables::transfers::{State, TransferRow};
 use crate::tables::undo_log::{UNDOS_PER_EVENT, UndoLog};
+use crate::tables::work::Work;
 use crate::verdicts::resolving::{Resolution, judge_closed, judge_resolving};
 use std::alloc::Allocator;
 use tb_records::{CreateTransferResult, Transfer, TransferFlag};
 
 /// Judges a post or void whose id is free, and records it, filled and stamped, where it passes.
 pub(crate) fn take_resolving<A: Allocator + Clone>(
-    rows: &mut Rows<A>,
-    undo_log: &mut UndoLog<A>,
+    work: &mut Work<A>,
     t: &Transfer,
     time: u64,
 ) -> Result<(), CreateTransferResult>
-    requires ready { IsPrepared HasTransfers rows.old undo_log.old time }
-    requires free { id_code (books_in rows.old) t.now ≡ 0 }
+    requires ready { IsPrepared HasTransfers work.old time }
+    requires free { id_code (books_in work.old.rows) t.now ≡ 0 }
     requires resolving { resolves t.now ≡ true }
     requires plain { t.now.flags < 2 ^ 8 }
-    ensures judged { Judges transfer_result_code result
-        (transfer_events.verdict (books_in rows.old) t.now time) }
-    ensures done { OnOk result
-        (books_in rows.new ≡ transfer_events.recorded (books_in rows.old) t.now time) }
-    ensures refused { OnErr result (Stays rows.old rows.new undo_log.old undo_log.new) }
-    ensures leaves { Leaves rows.old rows.new undo_log.old undo_log.new }
+    ensures { Takes transfer_events transfer_result_code work.old t.now time result work.new }
 {
-    let Resolution { pending, filled } = judge_resolving(rows, t)?;
+    let Resolution { pending, filled } = judge_resolving(&work.rows, t)?;
     let pending = *pending;
     let mut recorded = filled;
     recorded.timestamp = time;
-    settle(rows, undo_log, &pending, &recorded)
+    settle(work, &pending, &recorded)
 }
 
 /// Judges a post or void, filled and stamped, of the pending transfer `p` by the accounts, and records it where it passes. A void
 /// passes closed accounts too.
 fn settle<A: Allocator + Clone>(
-    rows: &mut Rows<A>,
-    undo_log: &mut UndoLog<A>,
+    work: &mut Work<A>,
     p: &TransferRow,
     r: &Transfer,
 ) -> Result<(), CreateTransferResult>
-    requires kept { IsKept rows.old }
-    requires capacity { 0 < rows.old.transfers.spare }
-    requires log { HasCapacityFor UNDOS_PER_EVENT undo_log.old }
-    requires resolution { IsResolution rows.old p.now r.now }
+    requires kept { IsKept work.old.rows }
+    requires capacity { 0 < work.old.rows.transfers.spare }
+    requires log { HasCapacityFor UNDOS_PER_EVENT work.old.undo_log }
+    requires resolution { IsResolution work.old.rows p.now r.now }
     ensures judged { Judges transfer_result_code result
-        (closed_code (books_in rows.old) r.now p.now.recorded) }
+        (closed_code (books_in work.old.rows) r.now p.now.recorded) }
     ensures books { OnOk result
-        (books_in rows.new
-        ≡ record (books_in rows.old)
-        { transfers = put transfer_key r.now (books_in rows.old).transfers }) }
-    ensures refused { OnErr result (Stays rows.old rows.new undo_log.old undo_log.new) }
-    ensures leaves { Leaves rows.old rows.new undo_log.old undo_log.new }
+        (books_in work.new.rows
+        ≡ record (books_in work.old.rows)
+        { transfers = put transfer_key r.now (books_in work.old.rows).transfers }) }
+    ensures refused { OnErr result (work.new ≡ work.old) }
+    ensures leaves { Leaves work.old work.new }
 {
-    settle_accounts(&mut rows.accounts, undo_log, &p.recorded(), r)?;
+    settle_accounts(
+        &mut work.rows.accounts,
+        &mut work.undo_log,
+        &p.recorded(),
+        r,
+    )?;
     let state = state_given(r);
-    close_row(&mut rows.transfers, &mut rows.timeouts, undo_log, p, state);
+    close_row(
+        &mut work.rows.transfers,
+        &mut work.rows.timeouts,
+        &mut work.undo_log,
+        p,
+        state,
+    );
     let row = row_of(*r);
-    add_row(&mut rows.transfers, &mut rows.timeouts, undo_log, &row);
+    add_row(
+        &mut work.rows.transfers,
+        &mut work.rows.timeouts,
+        &mut work.undo_log,
+        &row,
+    );
     Ok(())
 }
 
