@@ -1,9 +1,8 @@
 //! Chains: all of one, or nothing of it.
-ghost use Rattle.std.specs.Prelude.{◌≡◌, ◌+◌, ◌^◌, ◌<◌, ◌≤◌, ◌&&◌, ◌++◌, length, if◌then◌else◌, IfErr, OnOk, OnErr};
+ghost use Rattle.std.specs.Prelude.{◌≡◌, ◌+◌, ◌^◌, ◌<◌, ◌≤◌, ◌&&◌, ◌++◌, length, if◌then◌else◌, IfErr};
 ghost use Rattle.tb_ledger.specs.Batches.{block_length, block_after, timed_from, results_from};
-ghost use Rattle.tb_ledger.specs.Found.{Judges};
 ghost use Rattle.tb_ledger.specs.Kept.{books_in};
-ghost use Rattle.tb_ledger.specs.Steps.{IsPrepared, IsPreparedFor, Leaves, LeavesAfter};
+ghost use Rattle.tb_ledger.specs.Steps.{Decides, IsPrepared, IsPreparedFor, LeavesAfter};
 
 use crate::batches::events::Event;
 use crate::batches::results::break_off;
@@ -74,17 +73,15 @@ fn take_in_chain<E: Event, A: Allocator + Clone>(
     time: u64,
 ) -> Result<(), E::Refusal>
     requires ready { IsPrepared E.HasCapacity work.old time }
-    ensures judged { Judges E.code_of result
+    ensures decides { Decides E.code_of
         (if last && E.kind.linked event.now then
         2
         else
-        E.kind.verdict (books_in work.old.rows) event.now time) }
-    ensures done { OnOk result
-        (books_in work.new.rows ≡ E.kind.recorded (books_in work.old.rows) event.now time) }
+        E.kind.verdict (books_in work.old.rows) event.now time)
+        (E.kind.recorded (books_in work.old.rows) event.now time)
+        work.old result work.new }
     ensures fresh { IfErr result
         (λ refusal. E.IsNew (books_in work.old.rows).failed event.now (E.code_of refusal)) }
-    ensures refused { OnErr result (work.new ≡ work.old) }
-    ensures leaves { Leaves work.old work.new }
 {
     if last && event.linked() {
         Err(E::chain_open())

@@ -1,11 +1,11 @@
 //! A post or void: the pending transfer that it names is closed, and the sums of both accounts settled.
-ghost use Rattle.std.specs.Prelude.{◌≡◌, ◌≢◌, ◌^◌, ◌<◌, ◌==◌, true, length, find, Some, IsSome, OnOk, OnErr};
+ghost use Rattle.std.specs.Prelude.{◌≡◌, ◌≢◌, ◌^◌, ◌<◌, ◌==◌, true, length, find, Some, IsSome};
 ghost use Rattle.tb_ledger.specs.Batches.{transfer_events};
 ghost use Rattle.tb_ledger.specs.Books.{resolves};
 ghost use Rattle.tb_ledger.specs.Exchanges.{account_row_at};
 ghost use Rattle.tb_ledger.specs.Kept.{books_in, IsKept, transfer_row_key, times_out, unlisted, IsListed, settled, state_given_by};
 ghost use Rattle.tb_ledger.specs.Capacity.{HasTransfers};
-ghost use Rattle.tb_ledger.specs.Steps.{IsPrepared, IsResolution, Leaves, Takes};
+ghost use Rattle.tb_ledger.specs.Steps.{Decides, IsPrepared, IsResolution, Takes};
 ghost use Rattle.tb_ledger.specs.UndoLog.{IsMarked};
 ghost use Rattle.tb_ledger.specs.Noted.{HasCapacityFor};
 ghost use Rattle.tb_ledger.specs.Settlings.{closed_code, CanSettle, Settles, SettlesIn};
@@ -13,7 +13,6 @@ ghost use Rattle.tb_ledger.specs.Verdicts.{id_code};
 ghost use Rattle.tb_records.specs.Ordered.{put, replaced};
 ghost use Rattle.tb_ledger.specs.Sound.{transfer_key};
 ghost use Rattle.tb_records.specs.TransferResults.{transfer_result_code};
-ghost use Rattle.tb_ledger.specs.Found.{Judges};
 
 use crate::changes::records::{add_row, row_of};
 use crate::changes::sides::settle_side;
@@ -58,14 +57,11 @@ fn settle<A: Allocator + Clone>(
     requires capacity { 0 < work.old.rows.transfers.spare }
     requires log { HasCapacityFor UNDOS_PER_EVENT work.old.undo_log }
     requires resolution { IsResolution work.old.rows p.now r.now }
-    ensures judged { Judges transfer_result_code result
-        (closed_code (books_in work.old.rows) r.now p.now.recorded) }
-    ensures books { OnOk result
-        (books_in work.new.rows
-        ≡ record (books_in work.old.rows)
-        { transfers = put transfer_key r.now (books_in work.old.rows).transfers }) }
-    ensures refused { OnErr result (work.new ≡ work.old) }
-    ensures leaves { Leaves work.old work.new }
+    ensures { Decides transfer_result_code
+        (closed_code (books_in work.old.rows) r.now p.now.recorded)
+        (record (books_in work.old.rows)
+        { transfers = put transfer_key r.now (books_in work.old.rows).transfers })
+        work.old result work.new }
 {
     settle_accounts(
         &mut work.rows.accounts,

@@ -1,5 +1,5 @@
 //! The undo log of a chain's changes, by which a chain that breaks is undone.
-ghost use Rattle.std.specs.Prelude.{◌≡◌, ◌*◌, ◌+◌, ◌<◌, ◌≤◌, ◌++◌, false, [], ◌∷◌, length, nat_le, OnOk, IfSome, IfNone};
+ghost use Rattle.std.specs.Prelude.{◌≡◌, ◌*◌, ◌+◌, ◌<◌, ◌≤◌, ◌++◌, false, [], ◌∷◌, length, OnOk, IfSome, IfNone};
 ghost use Rattle.tb_ledger.specs.UndoLog.{CanUnwind};
 ghost use Rattle.tb_ledger.specs.Steps.{IsUnwound};
 ghost use Rattle.tb_ledger.specs.Noted.{with_noted, NotesPair};
@@ -146,19 +146,12 @@ impl<A: Allocator + Clone> UndoLog<A> {
     pub fn note_pair(&mut self, debit: &AccountRow, credit: &AccountRow)
         ensures { NotesPair debit.now credit.now self.old self.new }
     {
-        if self.noting && self.has_two() {
-            self.push(Undo::Account(*debit));
-            self.push(Undo::Account(*credit));
-        }
-    }
-
-    /// There is capacity for two records.
-    fn has_two(&self) -> bool
-        ensures { result ≡ nat_le (length self.now.changes + 2) self.now.capacity }
-    {
-        match &self.log {
-            Some(log) => log.len() + 2 <= log.capacity(),
-            None => false,
+        match &mut self.log {
+            Some(log) if self.noting && log.capacity() - log.len() >= 2 => {
+                log.push_reserved(Undo::Account(*debit));
+                log.push_reserved(Undo::Account(*credit));
+            }
+            _ => {}
         }
     }
 

@@ -1,5 +1,5 @@
 //! A batch in progress.
-ghost use Rattle.std.specs.Prelude.{◌≡◌, ◌+◌, ◌<◌, ◌≤◌, ◌++◌, true, [], ◌∷◌, length, OnOk};
+ghost use Rattle.std.specs.Prelude.{◌≡◌, ◌+◌, ◌<◌, ◌≤◌, ◌++◌, [], ◌∷◌, length, OnOk};
 ghost use Rattle.tb_ledger.specs.Books.{empty_books};
 ghost use Rattle.tb_ledger.specs.Kept.{books_in, IsKept};
 
@@ -7,6 +7,7 @@ use crate::tables::rows::Rows;
 use crate::tables::undo_log::UndoLog;
 use std::alloc::{AllocError, Allocator, Global};
 use std::marker::Model;
+use std::mem;
 use tb_records::{EventResult, Profile};
 
 /// A batch in progress: the tables that it changes, the undo log of its present chain, and the results so far.
@@ -82,26 +83,13 @@ impl Results {
         }
     }
 
-    /// There is none.
-    fn is_empty(&self) -> bool
-        ensures { result ≡ true → self.now.items ≡ [] }
-    {
-        match &self.list {
-            Some(list) => list.is_empty(),
-            None => true,
-        }
-    }
-
     /// The results of a batch.
     pub(crate) fn hand_out(&mut self, global: Global) -> Vec<EventResult>
         ensures { result.items ≡ self.old.items }
     {
-        if self.is_empty() {
-            return Vec::new(global);
-        }
-        match self.list.take() {
-            Some(list) => list,
-            None => Vec::new(global),
+        match &mut self.list {
+            Some(list) if !list.is_empty() => mem::replace(list, Vec::new(global)),
+            _ => Vec::new(global),
         }
     }
 }

@@ -13,7 +13,6 @@ invariant-loop-i g l = let kind = g.E.Event.kind in let start = l.initial.work.r
   noting : 1 < length l.block → l.work.undo_log.noting ≡ true;
   back : l.i < length l.block → LeadsBack start l.work.rows [] l.work.undo_log.changes;
   failed : l.work.rows.failed ≡ start.failed;
-  keeps : l.work.rows.keeps_failed ≡ start.keeps_failed;
   time : l.work.rows.time ≡ start.time;
   kept : IsKept l.work.rows;
   results : l.work.results ≡ l.initial.work.results;

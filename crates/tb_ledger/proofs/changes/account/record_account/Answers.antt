@@ -17,23 +17,20 @@ returns-clause-leaves g c =
     let noted = c.add_account_row.ensures.noted in
     record {
       kept = ledger_with_account rows.accounts.items rows.transfers.items rows.failed.items rows.keeps_failed rows.timeouts.items rows.time c.requires.kept c.args.a.now c.add_account_row.new.accounts.items (ap (λ v. v.items) c.add_account_row.ensures.accounts) c.requires.fresh c.requires.sound;
-      step = record {
-        failed = refl;
-        keeps_failed = refl;
-        time = refl;
-        grows = record {
-          leads = λ noting.
-              let back = noted.leads noting in
-              record {
-                undo_accounts = back.undo_accounts;
-                undo_transfers = back.undo_transfers rows.transfers.items;
-                undo_timeouts = back.undo_timeouts rows.timeouts;
-                can_unwind = back.can_unwind rows.timeouts;
-              };
-          noting = noted.noting;
-          length = omega (arith, noted.length);
-          capacity = noted.capacity;
-        };
+      failed = refl;
+      time = refl;
+      grows = record {
+        leads = λ noting.
+            let back = noted.leads noting in
+            record {
+              undo_accounts = back.undo_accounts;
+              undo_transfers = back.undo_transfers rows.transfers.items;
+              undo_timeouts = back.undo_timeouts rows.timeouts;
+              can_unwind = back.can_unwind rows.timeouts;
+            };
+        noting = noted.noting;
+        length = omega (arith, noted.length);
+        capacity = noted.capacity;
       };
       capacity = record {
         accounts = omega (arith, ap (λ v. v.spare) c.add_account_row.ensures.accounts);

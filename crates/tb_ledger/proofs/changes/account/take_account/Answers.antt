@@ -1,10 +1,9 @@
 use Rattle.std.proofs.Common.{refl, ap, arith}
 use Rattle.tb_records.specs.declared.records.Account.{Account}
 use Rattle.tb_records.specs.AccountResults.{account_result_code}
-use Rattle.tb_ledger.specs.Batches.{account_events}
 use Rattle.tb_ledger.specs.Kept.{books_in}
 use Rattle.tb_ledger.proofs.Accepted.{plain_account}
-use Rattle.tb_ledger.proofs.Refusals.{takes_none}
+use Rattle.tb_ledger.proofs.Refusals.{decides_none}
 use Rattle.tb_ledger.proofs.SoundLaws.{sound_account}
 use Rattle.tb_ledger.proofs.changes.account.take_account.Goals as goal
 
@@ -20,4 +19,4 @@ pub record_account-requires-clause-capacity : goal.record_account-requires-claus
 record_account-requires-clause-capacity g c = omega (arith, c.requires.ready.capacity)
 
 pub returns-in_err-judge_account : goal.returns-in_err-judge_account
-returns-in_err-judge_account g c = takes_none account_events account_result_code c.args.work.now _ c.args.a.now c.args.time c.from_residual.result c.in_err-judge_account.field-0.0 c.requires.ready.kept c.from_residual.ensures.1 c.in_err-judge_account.ensures refl
+returns-in_err-judge_account g c = decides_none account_result_code _ _ c.args.work.now _ c.from_residual.result c.in_err-judge_account.field-0.0 c.requires.ready.kept c.from_residual.ensures.1 c.in_err-judge_account.ensures refl

@@ -2,11 +2,10 @@ use Rattle.std.proofs.Common.{◌≡◌, ◌==◌, ◌^◌, ◌<◌, ◌||◌, f
 use Rattle.tb_records.specs.TransferResults.{transfer_result_code}
 use Rattle.tb_ledger.specs.Found.{Judges}
 use Rattle.tb_ledger.specs.Books.{has, posts, transfer_at}
-use Rattle.tb_ledger.specs.Batches.{transfer_events}
 use Rattle.tb_ledger.specs.Kept.{books_in}
 use Rattle.tb_ledger.specs.Verdicts.{filled, recorded_transfer}
 use Rattle.tb_ledger.proofs.Accepted.{id_free, found_stamped}
-use Rattle.tb_ledger.proofs.Refusals.{takes_none}
+use Rattle.tb_ledger.proofs.Refusals.{decides_none}
 use Rattle.tb_ledger.proofs.SoundLaws.{filled_flags}
 use Rattle.tb_ledger.proofs.VerdictLaws.{resolving_verdict, filled_id, filled_pending_id, filled_posts, same_closed_code}
 use Rattle.tb_ledger.proofs.changes.resolving.take_resolving.Goals as goal
@@ -23,7 +22,7 @@ returns g c =
     let recorded : recorded_transfer B t c.args.time ≡ record (filled B t) { timestamp = c.args.time } = rw c.requires.resolving refl in
     record {
       judged = subst (Judges transfer_result_code c.settle.result) verdict c.settle.ensures.judged;
-      done = rw (recorded, sym its.filled) c.settle.ensures.books;
+      done = rw (recorded, sym its.filled) c.settle.ensures.done;
       refused = c.settle.ensures.refused;
       leaves = c.settle.ensures.leaves;
     }
@@ -50,4 +49,4 @@ returns-in_err-pending g c =
     let t = c.args.t.now in
     let judged = c.in_err-pending.ensures.refused in
     let verdict = resolving_verdict (books_in c.args.work.now.rows) t c.args.time c.requires.free c.requires.resolving in
-    takes_none transfer_events transfer_result_code c.args.work.now _ t c.args.time c.from_residual.result c.in_err-pending.field-0.0 c.requires.ready.kept c.from_residual.ensures.1 (verdict ∙ judged.0, judged.1) refl
+    decides_none transfer_result_code _ _ c.args.work.now _ c.from_residual.result c.in_err-pending.field-0.0 c.requires.ready.kept c.from_residual.ensures.1 (verdict ∙ judged.0, judged.1) refl

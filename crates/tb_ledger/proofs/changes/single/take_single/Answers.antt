@@ -1,7 +1,6 @@
 use Rattle.std.proofs.Common.{◌≡◌, true, refl, option_map, sym, ap, ◌∙◌, arith}
 use Rattle.tb_records.specs.Ordered.{put}
 use Rattle.tb_records.specs.TransferResults.{transfer_result_code}
-use Rattle.tb_ledger.specs.Batches.{transfer_events}
 use Rattle.tb_ledger.specs.Books.{account_now}
 use Rattle.tb_ledger.specs.Exchanges.{as_recorded}
 use Rattle.tb_ledger.specs.Noted.{with_noted}
@@ -13,7 +12,7 @@ use Rattle.tb_ledger.proofs.Accepted.{new_transfer, accounts_apart}
 use Rattle.tb_ledger.proofs.Capacities.{listed_spare}
 use Rattle.tb_ledger.proofs.Index.{not_listed_yet, index_added}
 use Rattle.tb_ledger.proofs.Passing.{noted_passed}
-use Rattle.tb_ledger.proofs.Refusals.{takes_none, left_alone}
+use Rattle.tb_ledger.proofs.Refusals.{decides_none, left_alone}
 use Rattle.tb_ledger.proofs.UndoLogs.{grows_both}
 use Rattle.tb_ledger.proofs.Settled.{no_row, books_with_single, ledger_with_single}
 use Rattle.tb_ledger.proofs.VerdictLaws.{account_stands, single_verdict, verdict_by_rows, balanced_found, recorded_pair, own_refused, recorded_single}
@@ -26,7 +25,7 @@ returns-in_err-single_own g c =
     let judged = c.in_err-single_own.ensures in
     let refusal = c.in_err-single_own.field-0.0 in
     let code = single_verdict B t c.args.time c.requires.free c.requires.single ∙ own_refused B t c.args.time (transfer_result_code refusal) (sym judged.0) judged.1 in
-    takes_none transfer_events transfer_result_code c.args.work.now _ t c.args.time c.from_residual.result refusal c.requires.ready.kept c.from_residual.ensures.1 (code, judged.1) refl
+    decides_none transfer_result_code _ _ c.args.work.now _ c.from_residual.result refusal c.requires.ready.kept c.from_residual.ensures.1 (code, judged.1) refl
 
 pub add_row-requires-clause-fresh : goal.add_row-requires-clause-fresh
 add_row-requires-clause-fresh g c =
@@ -103,17 +102,14 @@ returns g c =
       refused = tt;
       leaves = record {
         kept = ledger_with_single rows.accounts.items rows.transfers.items rows.failed.items rows.keeps_failed rows.timeouts.items rows.time c.requires.ready.kept recorded c.exchange.new.accounts.items c.add_row.new.transfers.items ex.written added c.add_row.new.timeouts.items new c.requires.single c.requires.ready.stamped moves index;
-        step = record {
-          failed = refl;
-          keeps_failed = refl;
-          time = refl;
-          grows = grows_both 2 1 4 c.args.work.now.undo_log c.exchange.new.undo_log c.add_row.new.undo_log noted c.add_row.ensures.marked (omega arith) (λ us vs ws first second. record {
-            undo_accounts = second.undo_accounts c.exchange.new.accounts.items ∙ first.undo_accounts;
-            undo_transfers = second.undo_transfers ∙ first.undo_transfers rows.transfers.items;
-            undo_timeouts = second.undo_timeouts ∙ first.undo_timeouts rows.timeouts;
-            can_unwind = λ can. second.can_unwind (first.can_unwind rows.timeouts can);
-          });
-        };
+        failed = refl;
+        time = refl;
+        grows = grows_both 2 1 4 c.args.work.now.undo_log c.exchange.new.undo_log c.add_row.new.undo_log noted c.add_row.ensures.marked (omega arith) (λ us vs ws first second. record {
+          undo_accounts = second.undo_accounts c.exchange.new.accounts.items ∙ first.undo_accounts;
+          undo_transfers = second.undo_transfers ∙ first.undo_transfers rows.transfers.items;
+          undo_timeouts = second.undo_timeouts ∙ first.undo_timeouts rows.timeouts;
+          can_unwind = λ can. second.can_unwind (first.can_unwind rows.timeouts can);
+        });
         capacity = record {
           accounts = omega (arith, c.exchange.ensures.capacity);
           transfers = omega (arith, ap (λ v. v.spare) c.add_row.ensures.transfers);
@@ -132,7 +128,7 @@ returns-in_err-amount g c =
     let own : first_of (single_own_tests t) ≡ 0 = c.in_ok-single_own.ensures in
     let exchanged = c.in_err-amount.ensures.exchanged in
     let code = verdict_by_rows work.rows c.requires.ready.kept t c.args.time c.requires.free c.requires.single own ∙ exchanged.0.0 in
-    takes_none transfer_events transfer_result_code work _ t c.args.time c.from_residual-in_err-amount.result c.in_err-amount.field-0.0 c.requires.ready.kept c.from_residual-in_err-amount.ensures.1 (code, exchanged.0.1) (left_alone work c.exchange.new.accounts c.exchange.new.undo_log exchanged.1 c.exchange.ensures.capacity)
+    decides_none transfer_result_code _ _ work _ c.from_residual-in_err-amount.result c.in_err-amount.field-0.0 c.requires.ready.kept c.from_residual-in_err-amount.ensures.1 (code, exchanged.0.1) (left_alone work c.exchange.new.accounts c.exchange.new.undo_log exchanged.1 c.exchange.ensures.capacity)
 
 pub add_row-requires-clause-capacity : goal.add_row-requires-clause-capacity
 add_row-requires-clause-capacity g c = omega (arith, c.requires.ready.capacity.transfers)
