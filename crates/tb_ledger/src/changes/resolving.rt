@@ -34,8 +34,8 @@ pub(crate) fn take_resolving<A: Allocator + Clone>(
     time: u64,
 ) -> Result<(), CreateTransferResult>
     requires ready { IsPrepared HasTransfers work.old time }
-    requires free { id_code (books_in work.old.rows) t.now ≡ 0 }
     requires resolving { resolves t.now ≡ true }
+    requires free { id_code (books_in work.old.rows) t.now ≡ 0 }
     requires plain { t.now.flags < 2 ^ 8 }
     ensures { Takes transfer_events transfer_result_code work.old t.now time result work.new }
 {
@@ -63,27 +63,13 @@ fn settle<A: Allocator + Clone>(
         { transfers = put transfer_key r.now (books_in work.old.rows).transfers })
         work.old result work.new }
 {
-    settle_accounts(
-        &mut work.rows.accounts,
-        &mut work.undo_log,
-        &p.recorded(),
-        r,
-    )?;
+    let rows = &mut work.rows;
+    let undo_log = &mut work.undo_log;
+    settle_accounts(&mut rows.accounts, undo_log, &p.recorded(), r)?;
     let state = state_given(r);
-    close_row(
-        &mut work.rows.transfers,
-        &mut work.rows.timeouts,
-        &mut work.undo_log,
-        p,
-        state,
-    );
+    close_row(&mut rows.transfers, &mut rows.timeouts, undo_log, p, state);
     let row = row_of(*r);
-    add_row(
-        &mut work.rows.transfers,
-        &mut work.rows.timeouts,
-        &mut work.undo_log,
-        &row,
-    );
+    add_row(&mut rows.transfers, &mut rows.timeouts, undo_log, &row);
     Ok(())
 }
 

@@ -27,23 +27,20 @@ pub(crate) fn take_single<A: Allocator + Clone>(
     time: u64,
 ) -> Result<(), CreateTransferResult>
     requires ready { IsPrepared HasTransfers work.old time }
-    requires free { id_code (books_in work.old.rows) t.now ≡ 0 }
     requires single { resolves t.now ≡ false }
+    requires free { id_code (books_in work.old.rows) t.now ≡ 0 }
     requires plain { t.now.flags < 2 ^ 8 }
     ensures { Takes transfer_events transfer_result_code work.old t.now time result work.new }
 {
     single_own(t)?;
-    let amount = exchange(&mut work.rows.accounts, &mut work.undo_log, t, time)?;
+    let rows = &mut work.rows;
+    let undo_log = &mut work.undo_log;
+    let amount = exchange(&mut rows.accounts, undo_log, t, time)?;
     let mut recorded = *t;
     recorded.amount = amount;
     recorded.timestamp = time;
     let row = row_of(recorded);
-    add_row(
-        &mut work.rows.transfers,
-        &mut work.rows.timeouts,
-        &mut work.undo_log,
-        &row,
-    );
+    add_row(&mut rows.transfers, &mut rows.timeouts, undo_log, &row);
     Ok(())
 }
 
