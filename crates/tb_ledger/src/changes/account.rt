@@ -4,16 +4,15 @@ ghost use Rattle.tb_ledger.specs.Batches.{account_events};
 ghost use Rattle.tb_ledger.specs.Books.{account_at};
 ghost use Rattle.tb_records.specs.AccountResults.{account_result_code};
 ghost use Rattle.tb_ledger.specs.Capacity.{HasAccounts};
-ghost use Rattle.tb_ledger.specs.Kept.{books_in, IsKept, account_row_key, blank, new_row};
+ghost use Rattle.tb_ledger.specs.Kept.{books_in, account_row_key, blank, new_row};
 ghost use Rattle.tb_ledger.specs.UndoLog.{IsNoted};
 ghost use Rattle.tb_ledger.specs.Steps.{IsPrepared, Leaves, Takes};
-ghost use Rattle.tb_ledger.specs.Noted.{HasCapacityFor};
 ghost use Rattle.tb_records.specs.Ordered.{put};
 ghost use Rattle.tb_ledger.specs.Sound.{Sound, account_key};
 
 use crate::tables::accounts::AccountRow;
 use crate::tables::map::Table;
-use crate::tables::undo_log::{UNDOS_PER_EVENT, Undo, UndoLog};
+use crate::tables::undo_log::{Undo, UndoLog};
 use crate::tables::work::Work;
 use crate::verdicts::account::judge_account;
 use std::alloc::Allocator;
@@ -37,9 +36,7 @@ pub(crate) fn take_account<A: Allocator + Clone>(
 
 /// Adds an account as it is recorded.
 fn record_account<A: Allocator + Clone>(work: &mut Work<A>, a: &Account)
-    requires kept { IsKept work.old.rows }
-    requires capacity { 0 < work.old.rows.accounts.spare }
-    requires log { HasCapacityFor UNDOS_PER_EVENT work.old.undo_log }
+    requires ready { IsPrepared HasAccounts work.old a.now.timestamp }
     requires fresh { account_at (books_in work.old.rows) a.now.id ≡ None }
     requires plain { a.now ≡ blank a.now }
     requires sound { Sound

@@ -3,11 +3,10 @@ ghost use Rattle.std.specs.Prelude.{◌≡◌, ◌≢◌, ◌^◌, ◌<◌, ◌=
 ghost use Rattle.tb_ledger.specs.Batches.{transfer_events};
 ghost use Rattle.tb_ledger.specs.Books.{resolves};
 ghost use Rattle.tb_ledger.specs.Exchanges.{account_row_at};
-ghost use Rattle.tb_ledger.specs.Kept.{books_in, IsKept, transfer_row_key, times_out, unlisted, IsListed, settled, state_given_by};
+ghost use Rattle.tb_ledger.specs.Kept.{books_in, transfer_row_key, times_out, unlisted, IsListed, settled, state_given_by};
 ghost use Rattle.tb_ledger.specs.Capacity.{HasTransfers};
 ghost use Rattle.tb_ledger.specs.Steps.{Decides, IsPrepared, IsResolution, Takes};
 ghost use Rattle.tb_ledger.specs.UndoLog.{IsMarked};
-ghost use Rattle.tb_ledger.specs.Noted.{HasCapacityFor};
 ghost use Rattle.tb_ledger.specs.Settlings.{closed_code, CanSettle, Settles, SettlesIn};
 ghost use Rattle.tb_ledger.specs.Verdicts.{id_code};
 ghost use Rattle.tb_records.specs.Ordered.{put, replaced};
@@ -21,7 +20,7 @@ use crate::tables::index::unlist;
 use crate::tables::map::{Keyed, Table};
 use crate::tables::timeouts::Timeouts;
 use crate::tables::transfers::{State, TransferRow};
-use crate::tables::undo_log::{UNDOS_PER_EVENT, UndoLog};
+use crate::tables::undo_log::UndoLog;
 use crate::tables::work::Work;
 use crate::verdicts::resolving::{Resolution, judge_closed, judge_resolving};
 use std::alloc::Allocator;
@@ -53,9 +52,7 @@ fn settle<A: Allocator + Clone>(
     p: &TransferRow,
     r: &Transfer,
 ) -> Result<(), CreateTransferResult>
-    requires kept { IsKept work.old.rows }
-    requires capacity { 0 < work.old.rows.transfers.spare }
-    requires log { HasCapacityFor UNDOS_PER_EVENT work.old.undo_log }
+    requires ready { IsPrepared HasTransfers work.old r.now.timestamp }
     requires resolution { IsResolution work.old.rows p.now r.now }
     ensures { Decides transfer_result_code
         (closed_code (books_in work.old.rows) r.now p.now.recorded)

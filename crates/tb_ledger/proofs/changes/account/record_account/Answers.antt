@@ -6,17 +6,20 @@ use Rattle.tb_ledger.proofs.changes.account.record_account.Goals as goal
 pub add_account_row-requires-clause-fresh : goal.add_account_row-requires-clause-fresh
 add_account_row-requires-clause-fresh g c = no_row account_key (λ a. a.created) c.args.a.now.id c.args.work.now.rows.accounts.items c.requires.fresh
 
+pub add_account_row-requires-clause-capacity : goal.add_account_row-requires-clause-capacity
+add_account_row-requires-clause-capacity g c = omega (arith, c.requires.ready.capacity)
+
 pub returns-clause-books : goal.returns-clause-books
 returns-clause-books g c =
     let rows = c.args.work.now.rows in
-    books_with_account rows.accounts.items rows.transfers.items rows.failed.items rows.keeps_failed rows.timeouts.items rows.time c.requires.kept c.args.a.now c.add_account_row.new.accounts.items (ap (λ v. v.items) c.add_account_row.ensures.accounts)
+    books_with_account rows.accounts.items rows.transfers.items rows.failed.items rows.keeps_failed rows.timeouts.items rows.time c.requires.ready.kept c.args.a.now c.add_account_row.new.accounts.items (ap (λ v. v.items) c.add_account_row.ensures.accounts)
 
 pub returns-clause-leaves : goal.returns-clause-leaves
 returns-clause-leaves g c =
     let rows = c.args.work.now.rows in
     let noted = c.add_account_row.ensures.noted in
     record {
-      kept = ledger_with_account rows.accounts.items rows.transfers.items rows.failed.items rows.keeps_failed rows.timeouts.items rows.time c.requires.kept c.args.a.now c.add_account_row.new.accounts.items (ap (λ v. v.items) c.add_account_row.ensures.accounts) c.requires.fresh c.requires.sound;
+      kept = ledger_with_account rows.accounts.items rows.transfers.items rows.failed.items rows.keeps_failed rows.timeouts.items rows.time c.requires.ready.kept c.args.a.now c.add_account_row.new.accounts.items (ap (λ v. v.items) c.add_account_row.ensures.accounts) c.requires.fresh c.requires.sound;
       failed = refl;
       time = refl;
       grows = record {

@@ -1,4 +1,4 @@
-use Rattle.std.proofs.Common.{refl, ap, arith}
+use Rattle.std.proofs.Common.{refl, ap}
 use Rattle.tb_records.specs.declared.records.Account.{Account}
 use Rattle.tb_records.specs.AccountResults.{account_result_code}
 use Rattle.tb_ledger.specs.Kept.{books_in}
@@ -14,9 +14,6 @@ pub record_account-requires-clause-plain : goal.record_account-requires-clause-p
 record_account-requires-clause-plain g c =
     let stamped : Account → Account = λ a. record a { timestamp = c.args.time } in
     ap stamped (plain_account (books_in c.args.work.now.rows) c.args.a.now c.in_ok-judge_account.ensures)
-
-pub record_account-requires-clause-capacity : goal.record_account-requires-clause-capacity
-record_account-requires-clause-capacity g c = omega (arith, c.requires.ready.capacity)
 
 pub returns-in_err-judge_account : goal.returns-in_err-judge_account
 returns-in_err-judge_account g c = decides_none account_result_code _ _ c.args.work.now _ c.from_residual.result c.in_err-judge_account.field-0.0 c.requires.ready.kept c.from_residual.ensures.1 c.in_err-judge_account.ensures refl

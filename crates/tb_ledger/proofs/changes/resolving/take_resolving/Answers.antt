@@ -1,4 +1,4 @@
-use Rattle.std.proofs.Common.{◌≡◌, ◌==◌, ◌^◌, ◌<◌, ◌||◌, find, refl, sym, subst, ap, ◌∙◌, arith}
+use Rattle.std.proofs.Common.{◌≡◌, ◌==◌, ◌^◌, ◌<◌, ◌||◌, find, refl, sym, subst, ap, ◌∙◌}
 use Rattle.tb_records.specs.TransferResults.{transfer_result_code}
 use Rattle.tb_ledger.specs.Found.{Judges}
 use Rattle.tb_ledger.specs.Books.{has, posts, transfer_at}
@@ -26,9 +26,6 @@ returns g c =
       refused = c.settle.ensures.refused;
       leaves = c.settle.ensures.leaves;
     }
-
-pub settle-requires-clause-capacity : goal.settle-requires-clause-capacity
-settle-requires-clause-capacity g c = omega (arith, c.requires.ready.capacity.transfers)
 
 pub settle-requires-clause-resolution : goal.settle-requires-clause-resolution
 settle-requires-clause-resolution g c =
