@@ -28,7 +28,7 @@ use tb_records::{Account, EventResult, Profile, Transfer};
 #[derive(Drop)]
 pub struct Ledger<A: Allocator + Clone> {
     alloc: A,
-    /// Between two batches it has what the last one leaves.
+    /// The tables; and between two batches the memory that the last one leaves for the next.
     work: Work<A>,
 }
 

@@ -35,11 +35,12 @@
 //! - `laws`: laws of the definitions: functions that do nothing.
 //! - `worked_rows`: requests and the results that the definitions give to them.
 //!
-//! Memory for a batch is reserved first: rows, failed ids, timeouts, undo log, results. specs/Capacity says what the tables
-//! can still take, and what events use of it; specs/Steps what events ask of a batch in progress and what they leave. Undoing a chain gives nodes back
-//! as spare ones, and cannot fail. specs/Verdicts stands in the order in which an event meets its tests, each test once:
-//! an account's own, exists, new; a transfer's own, exists, failed id; then a post or void (its own, those of the pending
-//! transfer that it names, the closed accounts), or any other (its own, the pair of accounts, the amounts).
+//! Memory for a batch is reserved first: rows, failed ids, timeouts, results, undo log. specs/Capacity says what the tables
+//! can still take, and what events use of it; specs/Steps what events ask of a batch in progress and what they leave. Undoing
+//! a chain gives nodes back as spare ones, and cannot fail. specs/Verdicts stands in the order in which an event meets its
+//! tests, each test once: an account's own, exists, new; a transfer's own, exists, failed id; then a post or void (its own,
+//! those of the pending transfer that it names, the closed accounts), or any other (its own, the pair of accounts, the
+//! amounts).
 #![tactic(auto)]
 
 mod batches;
