@@ -1,12 +1,12 @@
 -- The capacity that events use, and what a refused event leaves.
 use Rattle.std.proofs.Common.{◌≡◌, ℕ, ◌+◌, ◌≤◌, Bool, true, false, if◌then◌else◌, refl, sym, subst, ◌∙◌, arith}
 use Rattle.tb_ledger.specs.declared.tables.rows.Rows.{Rows}
+use Rattle.tb_ledger.specs.declared.tables.work.Work.{Work}
 use Rattle.tb_ledger.specs.declared.tables.timeouts.Timeout.{Timeout}
 use Rattle.tb_ledger.specs.declared.tables.transfers.TransferRow.{TransferRow}
 use Rattle.tb_ledger.specs.Capacity.{Capacity, capacity_of, Uses}
 use Rattle.tb_ledger.specs.Kept.{IsKept, times_out, timeout_of, listed, unlisted}
-use Rattle.tb_ledger.specs.Noted.{Noted}
-use Rattle.tb_ledger.specs.Steps.{Leaves, KeepsRecords, IsUnwound}
+use Rattle.tb_ledger.specs.Steps.{Leaves, KeepsRecords}
 use Rattle.tb_ledger.specs.Tables.{Stored}
 use Rattle.tb_ledger.specs.Timeouts.{with_timeout, without_timeout}
 
@@ -46,16 +46,6 @@ unlisted_spare row ts = by (times_out row)
     by true = omega arith
     by false = omega arith
 
--- a chain that is undone gives its rows back
-pub uses_unwound : {A : Type 0} (n : ℕ) (start rows later : Rows A) (log : Noted) → Uses n (capacity_of start) (capacity_of rows) → IsUnwound log rows later → later.timeouts ≡ start.timeouts → Uses n (capacity_of start) (capacity_of later)
-uses_unwound n start rows later log uses unwound same = record {
-  accounts = omega (arith, uses.accounts, unwound.accounts_capacity);
-  transfers = omega (arith, uses.transfers, unwound.transfers_capacity);
-  timeouts = subst (λ ts. start.timeouts.spare ≤ n + ts.spare) (sym same) (omega arith);
-  failed = subst (λ failed. start.failed.spare ≤ n + failed.spare) (sym unwound.failed) uses.failed;
-  keeps_failed = unwound.keeps_failed ∙ uses.keeps_failed;
-}
-
 -- an expiry uses none
 pub uses_kept : {A : Type 0} (rows later : Rows A) → KeepsRecords rows later → Uses 0 (capacity_of rows) (capacity_of later)
 uses_kept rows later keeps = record {
@@ -67,19 +57,17 @@ uses_kept rows later keeps = record {
 }
 
 -- an event that is refused leaves all as it is
-pub leaves_still : {A : Type 0} (rows later : Rows A) (log grown : Noted) → IsKept rows → later ≡ rows → grown ≡ log → Leaves rows later log grown
-leaves_still rows later log grown kept same same_log = subst (λ later. Leaves rows later log grown) (sym same) (subst (λ grown. Leaves rows rows log grown) (sym same_log) (record {
+pub leaves_still : {A : Type 0} (work later : Work A) → IsKept work.rows → later ≡ work → Leaves work later
+leaves_still work later kept same = subst (λ later. Leaves work later) (sym same) (record {
   kept = kept;
-  step = record {
-    failed = refl;
-    keeps_failed = refl;
-    time = refl;
-    grows = record {
-      leads = λ noting. record { undo_accounts = refl; undo_transfers = refl; undo_timeouts = refl; can_unwind = λ can. can };
-      noting = refl;
-      length = omega arith;
-      capacity = refl;
-    };
+  grows = record {
+    leads = λ noting. record { undo_accounts = refl; undo_transfers = refl; undo_timeouts = refl; can_unwind = λ can. can };
+    noting = refl;
+    length = omega arith;
+    capacity = refl;
   };
-  capacity = uses_none 1 (capacity_of rows);
-}))
+  failed = refl;
+  time = refl;
+  capacity = uses_none 1 (capacity_of work.rows);
+  results = refl;
+})

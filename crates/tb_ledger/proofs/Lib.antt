@@ -15,6 +15,7 @@ pub mod Pairs
 pub mod States
 pub mod Standing
 pub mod Settled
+pub mod Singles
 pub mod Passing
 pub mod Expiries
 pub mod CodeLaws

@@ -1,23 +1,45 @@
 -- Rows that are put back as they were, and their order.
-use Rattle.std.proofs.Common.{◌≡◌, ℕ, ◌==◌, Bool, true, if◌then◌else◌, List, find, Some, None, refl, sym, subst, ap, ◌∙◌}
+use Rattle.std.proofs.Common.{◌≡◌, ℕ, ◌==◌, Bool, true, if◌then◌else◌, List, [], find, Some, None, refl, sym, subst, ap, ◌∙◌, arith}
 use Rattle.tb_records.specs.Ordered.{put, Rising}
 use Rattle.tb_records.proofs.ByKey.{rising-put}
 use Rattle.tb_ledger.specs.declared.tables.accounts.AccountRow.{AccountRow}
 use Rattle.tb_ledger.specs.declared.tables.transfers.TransferRow.{TransferRow}
 use Rattle.tb_ledger.specs.declared.tables.timeouts.Timeout.{Timeout}
-use Rattle.tb_ledger.specs.Kept.{books_of, IsLedger}
+use Rattle.tb_ledger.specs.declared.tables.rows.Rows.{Rows}
+use Rattle.tb_ledger.specs.Capacity.{capacity_of, Uses}
+use Rattle.tb_ledger.specs.Kept.{books_in, books_of, IsKept, IsLedger}
+use Rattle.tb_ledger.specs.Noted.{Noted}
+use Rattle.tb_ledger.specs.Steps.{IsUnwound}
+use Rattle.tb_ledger.specs.UndoLog.{LeadsBack}
 use Rattle.tb_ledger.proofs.SoundLaws.{sound_failed}
 
-pub ledger_back : (accounts accounts' : List AccountRow) (transfers transfers' : List TransferRow) (failed failed' : List ℕ) (keeps keeps' : Bool) (timeouts timeouts' : List Timeout) (time time' : ℕ)
-    → IsLedger accounts transfers failed keeps timeouts time
-    → accounts' ≡ accounts → transfers' ≡ transfers → failed' ≡ failed → keeps' ≡ keeps → timeouts' ≡ timeouts → time' ≡ time
-    → IsLedger accounts' transfers' failed' keeps' timeouts' time'
-ledger_back accounts accounts' transfers transfers' failed failed' keeps keeps' timeouts timeouts' time time' kept a t f k d same = rw (a, t, f, k, d, same) kept
+-- rows that are as others were, but for spare rows that n events may have used
+pub record AreBack {A : Type 0} (n : ℕ) (start later : Rows A) : Type 0 where
+  pub kept : IsKept later
+  pub books : books_in later ≡ books_in start
+  pub uses : Uses n (capacity_of start) (capacity_of later)
 
-pub books_back : (accounts accounts' : List AccountRow) (transfers transfers' : List TransferRow) (failed failed' : List ℕ) (keeps keeps' : Bool) (time time' : ℕ)
-    → accounts' ≡ accounts → transfers' ≡ transfers → failed' ≡ failed → keeps' ≡ keeps → time' ≡ time
-    → books_of accounts' transfers' failed' keeps' time' ≡ books_of accounts transfers failed keeps time
-books_back accounts accounts' transfers transfers' failed failed' keeps keeps' time time' a t f k same = rw (a, t, f, k, same) refl
+-- so are those after the changes of a log that leads back
+pub rows_back : {A : Type 0} (n : ℕ) (start rows later : Rows A) (log : Noted) → IsKept start → LeadsBack start rows [] log.changes → rows.failed ≡ start.failed → rows.time ≡ start.time → Uses n (capacity_of start) (capacity_of rows)
+    → IsUnwound log rows later → AreBack n start later
+rows_back n start rows later log kept back failed time uses undone =
+    let accounts : later.accounts.items ≡ start.accounts.items = undone.accounts ∙ back.undo_accounts in
+    let transfers : later.transfers.items ≡ start.transfers.items = undone.transfers ∙ back.undo_transfers in
+    let timeouts : later.timeouts ≡ start.timeouts = undone.timeouts ∙ back.undo_timeouts in
+    let failed_too : later.failed ≡ start.failed = undone.failed ∙ failed in
+    let keeps : later.keeps_failed ≡ start.keeps_failed = undone.keeps_failed ∙ uses.keeps_failed in
+    let same_time : later.time ≡ start.time = undone.time ∙ time in
+    record {
+      kept = rw (accounts, transfers, timeouts, failed_too, keeps, same_time) kept;
+      books = rw (accounts, transfers, failed_too, keeps, same_time) refl;
+      uses = record {
+        accounts = omega (arith, uses.accounts, undone.accounts_capacity);
+        transfers = omega (arith, uses.transfers, undone.transfers_capacity);
+        timeouts = rw timeouts (omega arith);
+        failed = rw failed_too (omega arith);
+        keeps_failed = keeps;
+      };
+    }
 
 -- with one failed id more
 pub ledger_with_failed : (accounts : List AccountRow) (transfers : List TransferRow) (failed : List ℕ) (keeps : Bool) (timeouts : List Timeout) (time id : ℕ) → IsLedger accounts transfers failed keeps timeouts time

@@ -17,6 +17,7 @@ pub mod Exchanges
 pub mod Settlings
 pub mod Noted
 pub mod UndoLog
+pub mod Gathered
 pub mod Capacity
 pub mod Steps
 pub mod Entering

@@ -1,43 +1,62 @@
--- What events ask of rows and undo log, and what they leave.
-use Rattle.std.specs.Prelude.{ℕ, ◌≡◌, ◌+◌, ◌*◌, ◌^◌, ◌<◌, ◌≤◌, ◌==◌, true, map, find, Some, None}
+-- What events ask of a batch in progress, and what they leave.
+use Rattle.std.specs.Prelude.{ℕ, ◌≡◌, ◌+◌, ◌*◌, ◌^◌, ◌<◌, ◌≤◌, ◌==◌, true, map, length, find, Some, None, Result, OnOk, OnErr}
 use Rattle.tb_records.specs.declared.records.Transfer.{Transfer}
 use Rattle.tb_ledger.specs.declared.tables.rows.Rows.{Rows}
+use Rattle.tb_ledger.specs.declared.tables.work.Work.{Work}
 use Rattle.tb_ledger.specs.declared.tables.undo_log.TheConstants.{UNDOS_PER_EVENT}
 use Rattle.tb_ledger.specs.declared.tables.transfers.TransferRow.{TransferRow}
-use Rattle.tb_ledger.specs.Books.{resolves, transfer_at}
+use Rattle.tb_ledger.specs.Batches.{Kind}
+use Rattle.tb_ledger.specs.Books.{Books, resolves, transfer_at}
 use Rattle.tb_ledger.specs.Capacity.{Capacity, capacity_of, Uses}
-use Rattle.tb_ledger.specs.Found.{FoundPending}
+use Rattle.tb_ledger.specs.Found.{FoundPending, Judges}
 use Rattle.tb_ledger.specs.Kept.{books_in, IsKept, PrecedesTimeouts}
 use Rattle.tb_ledger.specs.Noted.{Noted, HasCapacityFor}
-use Rattle.tb_ledger.specs.UndoLog.{IsStep, unwound_accounts, unwound_transfers, unwound_timeouts}
+use Rattle.tb_ledger.specs.UndoLog.{Grows, LeadsBack, unwound_accounts, unwound_transfers, unwound_timeouts}
 
 -- ready for one event with the stamp
-pub record IsPrepared {A : Type 0} (HasCapacity : ℕ → Capacity → Type 0) (rows : Rows A) (noted : Noted) (stamp : ℕ) : Type 0 where
-  pub kept : IsKept rows
-  pub capacity : HasCapacity 1 (capacity_of rows)
-  pub stamped : PrecedesTimeouts rows stamp
-  pub log : HasCapacityFor UNDOS_PER_EVENT noted
+pub record IsPrepared {A : Type 0} (HasCapacity : ℕ → Capacity → Type 0) (work : Work A) (stamp : ℕ) : Type 0 where
+  pub kept : IsKept work.rows
+  pub capacity : HasCapacity 1 (capacity_of work.rows)
+  pub stamped : PrecedesTimeouts work.rows stamp
+  pub log : HasCapacityFor UNDOS_PER_EVENT work.undo_log
 
 -- ready for n events in a row, the first with the stamp
-pub record IsPreparedFor {A : Type 0} (HasCapacity : ℕ → Capacity → Type 0) (n : ℕ) (rows : Rows A) (noted : Noted) (stamp : ℕ) : Type 0 where
-  pub kept : IsKept rows
-  pub capacity : HasCapacity n (capacity_of rows)
-  pub stamped : PrecedesTimeouts rows stamp
+pub record IsPreparedFor {A : Type 0} (HasCapacity : ℕ → Capacity → Type 0) (n : ℕ) (work : Work A) (stamp : ℕ) : Type 0 where
+  pub kept : IsKept work.rows
+  pub capacity : HasCapacity n (capacity_of work.rows)
+  pub stamped : PrecedesTimeouts work.rows stamp
   pub in_range : stamp + n < 2 ^ 64
-  pub log : UNDOS_PER_EVENT * n ≤ noted.capacity
+  pub log : UNDOS_PER_EVENT * n ≤ work.undo_log.capacity
+  pub results : length work.results.items + n ≤ work.results.capacity
 
--- after one event: rows that are kept, from which the log leads back
-pub record Leaves {A : Type 0} (rows later : Rows A) (noted grown : Noted) : Type 0 where
-  pub kept : IsKept later
-  pub step : IsStep UNDOS_PER_EVENT rows later noted grown
-  pub capacity : Uses 1 (capacity_of rows) (capacity_of later)
+-- after one event: rows that are kept, from which the log leads back; failed ids, the time and the results so far stay
+pub record Leaves {A : Type 0} (work later : Work A) : Type 0 where
+  pub kept : IsKept later.rows
+  pub grows : Grows UNDOS_PER_EVENT (LeadsBack work.rows later.rows) work.undo_log later.undo_log
+  pub failed : later.rows.failed ≡ work.rows.failed
+  pub time : later.rows.time ≡ work.rows.time
+  pub capacity : Uses 1 (capacity_of work.rows) (capacity_of later.rows)
+  pub results : later.results ≡ work.results
 
--- after n events: rows that are kept, at the same time
-pub record LeavesAfter {A : Type 0} (n : ℕ) (rows later : Rows A) (noted after : Noted) : Type 0 where
-  pub kept : IsKept later
-  pub time : later.time ≡ rows.time
-  pub capacity : Uses n (capacity_of rows) (capacity_of later)
-  pub log : after.capacity ≡ noted.capacity
+-- after n events: rows that are kept, at the same time, and n results more at most
+pub record LeavesAfter {A : Type 0} (n : ℕ) (work later : Work A) : Type 0 where
+  pub kept : IsKept later.rows
+  pub time : later.rows.time ≡ work.rows.time
+  pub capacity : Uses n (capacity_of work.rows) (capacity_of later.rows)
+  pub log : later.undo_log.capacity ≡ work.undo_log.capacity
+  pub results_len : length later.results.items ≤ length work.results.items + n
+  pub results_capacity : later.results.capacity ≡ work.results.capacity
+
+-- a code decides on an event: where it passes it leaves these books, and where it is refused it changes nothing
+pub record Decides {R A : Type 0} (code_of : R → ℕ) (code : ℕ) (books : Books) (work : Work A) (result : Result (Unit {0}) R) (later : Work A) : Type 0 where
+  pub judged : Judges code_of result code
+  pub done : OnOk result (books_in later.rows ≡ books)
+  pub refused : OnErr result (later ≡ work)
+  pub leaves : Leaves work later
+
+-- an event is taken at a time: its verdict decides, and where it passes it is recorded
+abbrev pub Takes : {E R A : Type 0} → Kind E → (R → ℕ) → Work A → E → ℕ → Result (Unit {0}) R → Work A → Type 0
+Takes kind code_of work event time = Decides code_of (kind.verdict (books_in work.rows) event time) (kind.recorded (books_in work.rows) event time) work
 
 -- a refusal that is noted touches failed ids alone
 pub record StaysButFailed {A : Type 0} (rows later : Rows A) : Type 0 where

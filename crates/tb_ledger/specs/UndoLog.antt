@@ -93,14 +93,3 @@ IsNoted n accounts later = Grows n (AccountsLeadBack accounts later)
 -- a transfer's row changed or added, and its timeout with it, with n records more at most that lead back
 abbrev pub IsMarked : ℕ → List TransferRow → List TransferRow → Stored Timeout → Stored Timeout → Noted → Noted → Type 0
 IsMarked n transfers later ts ts_later = Grows n (TransfersLeadBack transfers later ts ts_later)
-
--- a step of the rows that the log leads back from, with n records more at most; failed ids and the time stay
-pub record IsStep {A : Type 0} (n : ℕ) (rows later : Rows A) (undo_log grown : Noted) : Type 0 where
-  pub failed : later.failed ≡ rows.failed
-  pub keeps_failed : later.keeps_failed ≡ rows.keeps_failed
-  pub time : later.time ≡ rows.time
-  pub grows : Grows n (LeadsBack rows later) undo_log grown
-
--- an event that is refused leaves all as it is
-abbrev pub Stays : {A : Type 0} → Rows A → Rows A → Noted → Noted → Type 0
-Stays rows later undo_log grown = (later ≡ rows) × (grown ≡ undo_log)

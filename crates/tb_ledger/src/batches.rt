@@ -1,10 +1,9 @@
 //! A batch: its chains, one after another.
-ghost use Rattle.std.specs.Prelude.{◌≡◌, ◌+◌, ◌^◌, ◌<◌, ◌≤◌, ◌++◌, length, vec_len, vec_capacity};
+ghost use Rattle.std.specs.Prelude.{◌≡◌, ◌^◌, ◌<◌, ◌++◌, length};
 ghost use Rattle.tb_ledger.specs.Batches.{blocks, blocks_after, timed_from, results_from};
 ghost use Rattle.tb_ledger.specs.Kept.{books_in, IsKept};
 ghost use Rattle.tb_ledger.specs.Steps.{IsPreparedFor};
 
-pub(crate) mod buffers;
 pub(crate) mod chains;
 pub(crate) mod events;
 mod results;
@@ -12,9 +11,8 @@ mod results;
 use crate::batches::chains::{block_length, run_block};
 use crate::batches::events::Event;
 use crate::tables::rows::Rows;
-use crate::tables::undo_log::UndoLog;
+use crate::tables::work::Work;
 use std::alloc::Allocator;
-use tb_records::EventResult;
 
 /// Looks ahead before a chain of `n` events that has one whose index is a multiple of eight.
 fn look_ahead<E: Event, A: Allocator + Clone>(rows: &mut Rows<A>, rest: &[E], index: u32, n: usize)
@@ -27,34 +25,27 @@ fn look_ahead<E: Event, A: Allocator + Clone>(rows: &mut Rows<A>, rest: &[E], in
 }
 
 /// Runs the chains of a batch, whose first event has the timestamp `time`. Each event that isn't accepted adds its result.
-pub(crate) fn run_batch<E: Event, A: Allocator + Clone, R: Allocator>(
-    rows: &mut Rows<A>,
-    undo_log: &mut UndoLog<A>,
-    results: &mut Vec<EventResult, R>,
-    events: &[E],
-    time: u64,
-)
-    requires ready { IsPreparedFor E.HasCapacity (length events.now) rows.old undo_log.old time }
-    requires results_capacity { vec_len results.old + length events.now ≤ vec_capacity results.old }
+pub(crate) fn run_batch<E: Event, A: Allocator + Clone>(work: &mut Work<A>, events: &[E], time: u64)
+    requires ready { IsPreparedFor E.HasCapacity (length events.now) work.old time }
     requires index_fits { length events.now < 2 ^ 32 }
-    ensures books { books_in rows.new
-        ≡ (blocks_after E.kind (books_in rows.old)
+    ensures books { books_in work.new.rows
+        ≡ (blocks_after E.kind (books_in work.old.rows)
         (blocks E.kind (timed_from time events.now))).books }
-    ensures results { results.new.items
-        ≡ results.old.items
+    ensures results { work.new.results.items
+        ≡ work.old.results.items
         ++ results_from 0
-        (blocks_after E.kind (books_in rows.old)
+        (blocks_after E.kind (books_in work.old.rows)
         (blocks E.kind (timed_from time events.now))).codes }
-    ensures kept { IsKept rows.new }
-    ensures time { rows.new.time ≡ rows.old.time }
+    ensures kept { IsKept work.new.rows }
+    ensures time { work.new.rows.time ≡ work.old.rows.time }
 {
     let mut rest = events;
     let mut index = 0;
     let mut stamp = time;
     while !rest.is_empty() {
         let (block, later) = rest.split_at(block_length(rest));
-        look_ahead(rows, rest, index, block.len());
-        run_block(rows, undo_log, results, block, index, stamp);
+        look_ahead(&mut work.rows, rest, index, block.len());
+        run_block(work, block, index, stamp);
         index += block.len() as u32;
         stamp += block.len() as u64;
         rest = later;

@@ -3,18 +3,18 @@ ghost use Rattle.std.specs.Prelude.{◌≡◌, ◌+◌, ◌<◌, ◌≤◌, ◌+
 ghost use Rattle.tb_ledger.specs.Batches.{account_events, batch_after, results, transfer_events};
 ghost use Rattle.tb_ledger.specs.Books.{account_now, empty_books, found_accounts, found_transfers, moved_to_two, profile_of, transfer_at};
 ghost use Rattle.tb_ledger.specs.Capacity.{HasTransfers, capacity_of};
-ghost use Rattle.tb_ledger.specs.Entering.{AreMadeFor, CanEnter};
+ghost use Rattle.tb_ledger.specs.Entering.{CanEnter, IsMadeFor};
 ghost use Rattle.tb_ledger.specs.Kept.{books_in, IsKept};
 ghost use Rattle.tb_ledger.specs.Sound.{IdsRise};
 ghost use Rattle.tb_ledger.specs.Tables.{IsShortSearch};
 ghost use Rattle.tb_ledger.specs.Verdicts.{max_time};
 
-use crate::batches::buffers::{Buffers, make_buffers};
 use crate::batches::events::Event;
 use crate::batches::run_batch;
 use crate::changes::expiry::expire;
 use crate::lookups;
 use crate::tables::rows::Rows;
+use crate::tables::work::Work;
 use std::alloc::{AllocError, Allocator, Global};
 use std::marker::Model;
 use tb_records::{Account, EventResult, Profile, Transfer};
@@ -28,9 +28,8 @@ use tb_records::{Account, EventResult, Profile, Transfer};
 #[derive(Drop)]
 pub struct Ledger<A: Allocator + Clone> {
     alloc: A,
-    rows: Rows<A>,
-    /// What a batch made, for the next one.
-    kept: Option<Buffers<A>>,
+    /// The tables; and between two batches the memory that the last one leaves for the next.
+    work: Work<A>,
 }
 
 impl<A: Allocator + Clone> Model for Ledger<A> {
@@ -39,9 +38,9 @@ impl<A: Allocator + Clone> Model for Ledger<A> {
 
     ghost Value = { Books };
 
-    ghost view = { λ l. books_in l.rows };
+    ghost view = { λ l. books_in l.work.rows };
 
-    ghost invariant = { λ l. IsKept l.rows };
+    ghost invariant = { λ l. IsKept l.work.rows };
 }
 
 /// Makes capacity for `n` transfers: for their timeouts too, and for as many failed ids where these are kept.
@@ -66,49 +65,47 @@ fn reserve_transfers<A: Allocator + Clone>(
 /// Enters a batch at the time `t`, with the capacity for its records, its changes and its results: expires to `t`, then takes the
 /// events.
 fn enter_within<E: Event, A: Allocator + Clone>(
-    rows: &mut Rows<A>,
-    buffers: &mut Buffers<A>,
+    work: &mut Work<A>,
     global: Global,
     t: u64,
     events: &[E],
 ) -> Vec<EventResult>
-    requires kept { IsKept rows.old }
-    requires capacity { E.HasCapacity (length events.now) (capacity_of rows.old) }
-    requires made { AreMadeFor (length events.now) buffers.old }
-    requires entry { CanEnter rows.old.time (length events.now) t }
-    ensures kept { IsKept rows.new }
-    ensures books { books_in rows.new ≡ (batch_after E.kind (books_in rows.old) events.now t).books }
-    ensures results { result.items ≡ results (batch_after E.kind (books_in rows.old) events.now t).codes }
+    requires kept { IsKept work.old.rows }
+    requires capacity { E.HasCapacity (length events.now) (capacity_of work.old.rows) }
+    requires made { IsMadeFor (length events.now) work.old }
+    requires entry { CanEnter work.old.rows.time (length events.now) t }
+    ensures kept { IsKept work.new.rows }
+    ensures books { books_in work.new.rows
+        ≡ (batch_after E.kind (books_in work.old.rows) events.now t).books }
+    ensures results { result.items ≡ results (batch_after E.kind (books_in work.old.rows) events.now t).codes }
 {
     let first = t + 1 - events.len() as u64;
-    expire(rows, t);
-    run_batch(rows, &mut buffers.log, &mut buffers.refused, events, first);
-    buffers.hand_out(global)
+    expire(&mut work.rows, t);
+    run_batch(work, events, first);
+    work.results.hand_out(global)
 }
 
-/// Enters a batch at the time `t`, with the capacity for its records, in the buffers that the last batch left where they are large
-/// enough.
+/// Enters a batch at the time `t`, with the capacity for its records: memory for its results and its changes first.
 fn enter<E: Event, A: Allocator + Clone>(
-    rows: &mut Rows<A>,
-    kept: &mut Option<Buffers<A>>,
+    work: &mut Work<A>,
     alloc: &A,
     global: Global,
     t: u64,
     events: &[E],
 ) -> Result<Vec<EventResult>, AllocError>
-    requires kept { IsKept rows.old }
-    requires capacity { E.HasCapacity (length events.now) (capacity_of rows.old) }
-    requires entry { CanEnter rows.old.time (length events.now) t }
-    ensures kept { IsKept rows.new }
+    requires kept { IsKept work.old.rows }
+    requires capacity { E.HasCapacity (length events.now) (capacity_of work.old.rows) }
+    requires entry { CanEnter work.old.rows.time (length events.now) t }
+    ensures kept { IsKept work.new.rows }
     ensures books { OnOk result
-        (books_in rows.new ≡ (batch_after E.kind (books_in rows.old) events.now t).books) }
+        (books_in work.new.rows ≡ (batch_after E.kind (books_in work.old.rows) events.now t).books) }
     ensures results { IfOk result
-        (λ r. r.items ≡ results (batch_after E.kind (books_in rows.old) events.now t).codes) }
-    ensures err { OnErr result (books_in rows.new ≡ books_in rows.old) }
+        (λ r. r.items ≡ results (batch_after E.kind (books_in work.old.rows) events.now t).codes) }
+    ensures err { OnErr result (books_in work.new.rows ≡ books_in work.old.rows) }
 {
-    make_buffers(kept, alloc, global, events.len())?;
-    let Some(buffers) = kept else { unreachable!() };
-    Ok(enter_within(rows, buffers, global, t, events))
+    work.results.reserve(global, events.len())?;
+    work.undo_log.reserve(alloc, events.len())?;
+    Ok(enter_within(work, global, t, events))
 }
 
 impl<A: Allocator + Clone> Ledger<A> {
@@ -118,8 +115,7 @@ impl<A: Allocator + Clone> Ledger<A> {
     {
         Ledger {
             alloc,
-            rows: Rows::new(profile),
-            kept: None,
+            work: Work::new(profile),
         }
     }
 
@@ -129,14 +125,14 @@ impl<A: Allocator + Clone> Ledger<A> {
         ensures time { result ≡ self.now.time }
         ensures ids_rise { IdsRise self.now }
     {
-        self.rows.time
+        self.work.rows.time
     }
 
     /// The profile that it goes by.
     pub fn profile(&self) -> Profile
         ensures { result ≡ profile_of self.now }
     {
-        if self.rows.keeps_failed {
+        if self.work.rows.keeps_failed {
             Profile::Two
         } else {
             Profile::One
@@ -148,14 +144,14 @@ impl<A: Allocator + Clone> Ledger<A> {
         requires { profile_of self.old ≡ Profile.One }
         ensures { self.new ≡ moved_to_two self.old }
     {
-        self.rows.keeps_failed = true;
+        self.work.rows.keeps_failed = true;
     }
 
     /// The account of an id as it stands: its four sums, and flag closed where it is closed. None where it isn't there.
     pub fn account(&self, id: u128) -> Option<Account>
         ensures { result ≡ account_now self.now id }
     {
-        match self.rows.accounts.get(id) {
+        match self.work.rows.accounts.get(id) {
             Some(row) => Some(row.as_it_stands()),
             None => None,
         }
@@ -167,7 +163,7 @@ impl<A: Allocator + Clone> Ledger<A> {
         ensures account { result.0 ≡ account_now self.now id }
         ensures visits { IsShortSearch (length self.now.accounts) result.1 }
     {
-        let (row, visits) = self.rows.accounts.probe(id);
+        let (row, visits) = self.work.rows.accounts.probe(id);
         match row {
             Some(row) => (Some(row.as_it_stands()), visits),
             None => (None, visits),
@@ -178,7 +174,7 @@ impl<A: Allocator + Clone> Ledger<A> {
     pub fn transfer(&self, id: u128) -> Option<Transfer>
         ensures { result ≡ transfer_at self.now id }
     {
-        match self.rows.transfers.get(id) {
+        match self.work.rows.transfers.get(id) {
             Some(row) => Some(row.recorded()),
             None => None,
         }
@@ -191,7 +187,7 @@ impl<A: Allocator + Clone> Ledger<A> {
         requires in_range { t ≤ max_time }
         ensures { self.new ≡ record self.old { time = t } }
     {
-        expire(&mut self.rows, t);
+        expire(&mut self.work.rows, t);
     }
 
     /// Creates accounts, as an entry of the time `t`: expires to `t`, then takes the events, of which the one at index i of n
@@ -211,15 +207,8 @@ impl<A: Allocator + Clone> Ledger<A> {
             (λ r. r.items ≡ results (batch_after account_events self.old events.now t).codes) }
         ensures err { OnErr result (self.new ≡ self.old) }
     {
-        self.rows.accounts.reserve(&self.alloc, events.len())?;
-        enter(
-            &mut self.rows,
-            &mut self.kept,
-            &self.alloc,
-            global,
-            t,
-            events,
-        )
+        self.work.rows.accounts.reserve(&self.alloc, events.len())?;
+        enter(&mut self.work, &self.alloc, global, t, events)
     }
 
     /// Creates transfers, as an entry of the time `t`, in the way of [`Ledger::create_accounts`]: single transfers, pending
@@ -238,15 +227,8 @@ impl<A: Allocator + Clone> Ledger<A> {
             (λ r. r.items ≡ results (batch_after transfer_events self.old events.now t).codes) }
         ensures err { OnErr result (self.new ≡ self.old) }
     {
-        reserve_transfers(&mut self.rows, &self.alloc, events.len())?;
-        enter(
-            &mut self.rows,
-            &mut self.kept,
-            &self.alloc,
-            global,
-            t,
-            events,
-        )
+        reserve_transfers(&mut self.work.rows, &self.alloc, events.len())?;
+        enter(&mut self.work, &self.alloc, global, t, events)
     }
 
     /// Accounts as they stand, in the order of the ids: one that isn't there is left out, one asked twice is answered twice.
@@ -278,7 +260,7 @@ impl<A: Allocator + Clone> Ledger<A> {
         ensures items { out.new.items ≡ out.old.items ++ found_accounts self.now ids.now }
         ensures capacity { vec_capacity out.new ≡ vec_capacity out.old }
     {
-        lookups::fill(&self.rows.accounts, ids, out);
+        lookups::fill(&self.work.rows.accounts, ids, out);
     }
 
     /// Appends what [`Ledger::lookup_transfers`] answers, to a vector with capacity for as many transfers as there are ids.
@@ -287,6 +269,6 @@ impl<A: Allocator + Clone> Ledger<A> {
         ensures items { out.new.items ≡ out.old.items ++ found_transfers self.now ids.now }
         ensures capacity { vec_capacity out.new ≡ vec_capacity out.old }
     {
-        lookups::fill(&self.rows.transfers, ids, out);
+        lookups::fill(&self.work.rows.transfers, ids, out);
     }
 }

@@ -11,6 +11,7 @@
 //!   - `rows`: all tables.
 //!   - `index`: how the timeouts follow the rows.
 //!   - `undo_log`: the undo log of a chain.
+//!   - `work`: a batch in progress: all tables, the undo log of its present chain, the results so far.
 //! - `verdicts`: the result of an event, by the tables as they stand.
 //!   - `blanks`: what a post or void takes over from the pending transfer that it names.
 //!   - `account`: what is wrong with an account.
@@ -29,17 +30,17 @@
 //!   - `events`: what a batch asks of its events.
 //!   - `results`: the results of a broken chain; where a result becomes its number.
 //!   - `chains`: all of a chain, or nothing of it.
-//!   - `buffers`: memory for the undo log and the results, kept from one batch to the next.
 //! - `lookups`: look-ups of many ids, eight at a time.
 //! - `ledgers`: `Ledger`, all that the crates above call.
 //! - `laws`: laws of the definitions: functions that do nothing.
 //! - `worked_rows`: requests and the results that the definitions give to them.
 //!
-//! Memory for a batch is reserved first: rows, failed ids, timeouts, undo log, results. specs/Capacity says what the tables
-//! can still take, and what events use of it; specs/Steps what events ask of the rows and what they leave. Undoing a chain gives nodes back
-//! as spare ones, and cannot fail. specs/Verdicts stands in the order in which an event meets its tests, each test once:
-//! an account's own, exists, new; a transfer's own, exists, failed id; then a post or void (its own, those of the pending
-//! transfer that it names, the closed accounts), or any other (its own, the pair of accounts, the amounts).
+//! Memory for a batch is reserved first: rows, failed ids, timeouts, results, undo log. specs/Capacity says what the tables
+//! can still take, and what events use of it; specs/Steps what events ask of a batch in progress and what they leave. Undoing
+//! a chain gives nodes back as spare ones, and cannot fail. specs/Verdicts stands in the order in which an event meets its
+//! tests, each test once: an account's own, exists, new; a transfer's own, exists, failed id; then a post or void (its own,
+//! those of the pending transfer that it names, the closed accounts), or any other (its own, the pair of accounts, the
+//! amounts).
 #![tactic(auto)]
 
 mod batches;

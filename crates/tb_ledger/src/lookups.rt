@@ -79,24 +79,6 @@ fn fill_eights<'a, V: Found, A: Allocator + Clone>(
     rest
 }
 
-/// Appends the records of the ids one at a time.
-fn fill_each<V: Found, A: Allocator + Clone>(
-    table: &Table<V, A>,
-    ids: &[u128],
-    out: &mut Vec<V::Record>,
-)
-    requires { vec_len out.old + length ids.now ≤ vec_capacity out.old }
-    ensures items { out.new.items
-        ≡ out.old.items ++ filter_map (found_in V.key V.record_now table.now.items) ids.now }
-    ensures capacity { vec_capacity out.new ≡ vec_capacity out.old }
-{
-    for id in ids {
-        if let Some(row) = table.get(*id) {
-            out.push_reserved(row.found());
-        }
-    }
-}
-
 /// Appends the records of the ids, in their order: one that isn't there is left out.
 pub(crate) fn fill<V: Found, A: Allocator + Clone>(
     table: &Table<V, A>,
@@ -109,5 +91,9 @@ pub(crate) fn fill<V: Found, A: Allocator + Clone>(
     ensures capacity { vec_capacity out.new ≡ vec_capacity out.old }
 {
     let rest = fill_eights(table, ids, out);
-    fill_each(table, rest, out);
+    for id in rest {
+        if let Some(row) = table.get(*id) {
+            out.push_reserved(row.found());
+        }
+    }
 }

@@ -1,4 +1,4 @@
-//! What a ledger keeps: rows by their keys, an index of timeouts, and the undo log of the chain that it is at.
+//! What a ledger keeps: rows by their keys, an index of timeouts, and the batch that it is at.
 
 pub(crate) mod absent_ids;
 pub(crate) mod accounts;
@@ -8,3 +8,4 @@ pub(crate) mod rows;
 pub(crate) mod timeouts;
 pub(crate) mod transfers;
 pub(crate) mod undo_log;
+pub(crate) mod work;

@@ -1,15 +1,13 @@
 //! What a batch asks of its events.
-ghost use Rattle.std.specs.Prelude.{◌≡◌, ℕ, ◌+◌, ◌==◌, true, false, IfErr, OnOk, OnErr};
-ghost use Rattle.tb_ledger.specs.Found.{Judges};
+ghost use Rattle.std.specs.Prelude.{◌≡◌, ℕ, ◌+◌, ◌==◌, true, false, IfErr};
 ghost use Rattle.tb_ledger.specs.Capacity.{Capacity, capacity_of, Uses};
 ghost use Rattle.tb_ledger.specs.Kept.{books_in, IsKept};
-ghost use Rattle.tb_ledger.specs.Steps.{IsPrepared, Leaves, StaysButFailed};
-ghost use Rattle.tb_ledger.specs.UndoLog.{Stays};
+ghost use Rattle.tb_ledger.specs.Steps.{IsPrepared, StaysButFailed, Takes};
 
 use crate::changes::account::take_account;
 use crate::changes::transfer::{note_failed, take_transfer};
 use crate::tables::rows::Rows;
-use crate::tables::undo_log::UndoLog;
+use crate::tables::work::Work;
 use std::alloc::Allocator;
 use tb_records::{Account, CreateAccountResult, CreateTransferResult, Transfer};
 
@@ -54,20 +52,11 @@ pub trait Event: Copy {
         ensures { rows.new ≡ rows.old };
 
     /// Judges the event as of its timestamp, and records it where it passes. The undo log leads back to before it.
-    fn take<A: Allocator + Clone>(
-        &self,
-        rows: &mut Rows<A>,
-        undo_log: &mut UndoLog<A>,
-        time: u64,
-    ) -> Result<(), Self::Refusal>
-        requires ready { IsPrepared HasCapacity rows.old undo_log.old time }
-        ensures judged { Judges code_of result (kind.verdict (books_in rows.old) self.now time) }
-        ensures done { OnOk result
-            (books_in rows.new ≡ kind.recorded (books_in rows.old) self.now time) }
+    fn take<A: Allocator + Clone>(&self, work: &mut Work<A>, time: u64) -> Result<(), Self::Refusal>
+        requires ready { IsPrepared HasCapacity work.old time }
+        ensures takes { Takes kind code_of work.old self.now time result work.new }
         ensures fresh { IfErr result
-            (λ refusal. IsNew (books_in rows.old).failed self.now (code_of refusal)) }
-        ensures refused { OnErr result (Stays rows.old rows.new undo_log.old undo_log.new) }
-        ensures leaves { Leaves rows.old rows.new undo_log.old undo_log.new };
+            (λ refusal. IsNew (books_in work.old.rows).failed self.now (code_of refusal)) };
 
     /// Notes what the event's refusal leaves behind.
     fn refuse<A: Allocator + Clone>(&self, rows: &mut Rows<A>, refusal: Self::Refusal)
@@ -128,11 +117,10 @@ impl Event for Account {
 
     fn take<A: Allocator + Clone>(
         &self,
-        rows: &mut Rows<A>,
-        undo_log: &mut UndoLog<A>,
+        work: &mut Work<A>,
         time: u64,
     ) -> Result<(), CreateAccountResult> {
-        take_account(rows, undo_log, self, time)
+        take_account(work, self, time)
     }
 
     fn refuse<A: Allocator + Clone>(&self, rows: &mut Rows<A>, refusal: CreateAccountResult) {
@@ -197,11 +185,10 @@ impl Event for Transfer {
 
     fn take<A: Allocator + Clone>(
         &self,
-        rows: &mut Rows<A>,
-        undo_log: &mut UndoLog<A>,
+        work: &mut Work<A>,
         time: u64,
     ) -> Result<(), CreateTransferResult> {
-        take_transfer(rows, undo_log, self, time)
+        take_transfer(work, self, time)
     }
 
     fn refuse<A: Allocator + Clone>(&self, rows: &mut Rows<A>, refusal: CreateTransferResult) {

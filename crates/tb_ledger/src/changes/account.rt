@@ -1,64 +1,53 @@
 //! An account is judged, and added where it is accepted.
-ghost use Rattle.std.specs.Prelude.{◌≡◌, ◌+◌, ◌<◌, ◌≤◌, ◌==◌, length, ◌-◌, find, None, OnOk, OnErr};
+ghost use Rattle.std.specs.Prelude.{◌≡◌, ◌<◌, ◌==◌, length, ◌-◌, find, None};
 ghost use Rattle.tb_ledger.specs.Batches.{account_events};
 ghost use Rattle.tb_ledger.specs.Books.{account_at};
 ghost use Rattle.tb_records.specs.AccountResults.{account_result_code};
-ghost use Rattle.tb_ledger.specs.Found.{Judges};
-ghost use Rattle.tb_ledger.specs.Kept.{books_in, IsKept, account_row_key, blank, new_row};
-ghost use Rattle.tb_ledger.specs.UndoLog.{Stays, IsNoted};
-ghost use Rattle.tb_ledger.specs.Steps.{Leaves};
-ghost use Rattle.tb_ledger.specs.Noted.{HasCapacityFor};
+ghost use Rattle.tb_ledger.specs.Capacity.{HasAccounts};
+ghost use Rattle.tb_ledger.specs.Kept.{books_in, account_row_key, blank, new_row};
+ghost use Rattle.tb_ledger.specs.UndoLog.{IsNoted};
+ghost use Rattle.tb_ledger.specs.Steps.{IsPrepared, Leaves, Takes};
 ghost use Rattle.tb_records.specs.Ordered.{put};
 ghost use Rattle.tb_ledger.specs.Sound.{Sound, account_key};
 
 use crate::tables::accounts::AccountRow;
 use crate::tables::map::Table;
-use crate::tables::rows::Rows;
-use crate::tables::undo_log::{UNDOS_PER_EVENT, Undo, UndoLog};
+use crate::tables::undo_log::{Undo, UndoLog};
+use crate::tables::work::Work;
 use crate::verdicts::account::judge_account;
 use std::alloc::Allocator;
 use tb_records::{Account, CreateAccountResult};
 
 /// Judges an account, and records it with its timestamp where it passes.
 pub(crate) fn take_account<A: Allocator + Clone>(
-    rows: &mut Rows<A>,
-    undo_log: &mut UndoLog<A>,
+    work: &mut Work<A>,
     a: &Account,
     time: u64,
 ) -> Result<(), CreateAccountResult>
-    requires kept { IsKept rows.old }
-    requires capacity { 0 < rows.old.accounts.spare }
-    requires log { HasCapacityFor UNDOS_PER_EVENT undo_log.old }
-    ensures judged { Judges account_result_code result
-        (account_events.verdict (books_in rows.old) a.now time) }
-    ensures done { OnOk result
-        (books_in rows.new ≡ account_events.recorded (books_in rows.old) a.now time) }
-    ensures refused { OnErr result (Stays rows.old rows.new undo_log.old undo_log.new) }
-    ensures leaves { Leaves rows.old rows.new undo_log.old undo_log.new }
+    requires ready { IsPrepared HasAccounts work.old time }
+    ensures { Takes account_events account_result_code work.old a.now time result work.new }
 {
-    judge_account(rows, a)?;
+    judge_account(&work.rows, a)?;
     let mut recorded = *a;
     recorded.timestamp = time;
-    record_account(rows, undo_log, &recorded);
+    record_account(work, &recorded);
     Ok(())
 }
 
 /// Adds an account as it is recorded.
-fn record_account<A: Allocator + Clone>(rows: &mut Rows<A>, undo_log: &mut UndoLog<A>, a: &Account)
-    requires kept { IsKept rows.old }
-    requires capacity { 0 < rows.old.accounts.spare }
-    requires log { HasCapacityFor UNDOS_PER_EVENT undo_log.old }
-    requires fresh { account_at (books_in rows.old) a.now.id ≡ None }
+fn record_account<A: Allocator + Clone>(work: &mut Work<A>, a: &Account)
+    requires ready { IsPrepared HasAccounts work.old a.now.timestamp }
+    requires fresh { account_at (books_in work.old.rows) a.now.id ≡ None }
     requires plain { a.now ≡ blank a.now }
     requires sound { Sound
-        (record (books_in rows.old)
-        { accounts = put account_key a.now (books_in rows.old).accounts }) }
-    ensures books { books_in rows.new
-        ≡ record (books_in rows.old)
-        { accounts = put account_key a.now (books_in rows.old).accounts } }
-    ensures leaves { Leaves rows.old rows.new undo_log.old undo_log.new }
+        (record (books_in work.old.rows)
+        { accounts = put account_key a.now (books_in work.old.rows).accounts }) }
+    ensures books { books_in work.new.rows
+        ≡ record (books_in work.old.rows)
+        { accounts = put account_key a.now (books_in work.old.rows).accounts } }
+    ensures leaves { Leaves work.old work.new }
 {
-    add_account_row(&mut rows.accounts, undo_log, a);
+    add_account_row(&mut work.rows.accounts, &mut work.undo_log, a);
 }
 
 /// Adds the row of an account: no transfer names it yet.

@@ -1,79 +1,67 @@
 //! A post or void: the pending transfer that it names is closed, and the sums of both accounts settled.
-ghost use Rattle.std.specs.Prelude.{◌≡◌, ◌≢◌, ◌^◌, ◌<◌, ◌==◌, true, length, find, Some, IsSome, OnOk, OnErr};
+ghost use Rattle.std.specs.Prelude.{◌≡◌, ◌≢◌, ◌^◌, ◌<◌, ◌==◌, true, length, find, Some, IsSome};
 ghost use Rattle.tb_ledger.specs.Batches.{transfer_events};
 ghost use Rattle.tb_ledger.specs.Books.{resolves};
 ghost use Rattle.tb_ledger.specs.Exchanges.{account_row_at};
-ghost use Rattle.tb_ledger.specs.Kept.{books_in, IsKept, transfer_row_key, times_out, unlisted, IsListed, settled, state_given_by};
+ghost use Rattle.tb_ledger.specs.Kept.{books_in, transfer_row_key, times_out, unlisted, IsListed, settled, state_given_by};
 ghost use Rattle.tb_ledger.specs.Capacity.{HasTransfers};
-ghost use Rattle.tb_ledger.specs.Steps.{IsPrepared, IsResolution, Leaves};
-ghost use Rattle.tb_ledger.specs.UndoLog.{Stays, IsMarked};
-ghost use Rattle.tb_ledger.specs.Noted.{HasCapacityFor};
+ghost use Rattle.tb_ledger.specs.Steps.{Decides, IsPrepared, IsResolution, Takes};
+ghost use Rattle.tb_ledger.specs.UndoLog.{IsMarked};
 ghost use Rattle.tb_ledger.specs.Settlings.{closed_code, CanSettle, Settles, SettlesIn};
 ghost use Rattle.tb_ledger.specs.Verdicts.{id_code};
 ghost use Rattle.tb_records.specs.Ordered.{put, replaced};
 ghost use Rattle.tb_ledger.specs.Sound.{transfer_key};
 ghost use Rattle.tb_records.specs.TransferResults.{transfer_result_code};
-ghost use Rattle.tb_ledger.specs.Found.{Judges};
 
 use crate::changes::records::{add_row, row_of};
 use crate::changes::sides::settle_side;
 use crate::tables::accounts::AccountRow;
 use crate::tables::index::unlist;
 use crate::tables::map::{Keyed, Table};
-use crate::tables::rows::Rows;
 use crate::tables::timeouts::Timeouts;
 use crate::tables::transfers::{State, TransferRow};
-use crate::tables::undo_log::{UNDOS_PER_EVENT, UndoLog};
+use crate::tables::undo_log::UndoLog;
+use crate::tables::work::Work;
 use crate::verdicts::resolving::{Resolution, judge_closed, judge_resolving};
 use std::alloc::Allocator;
 use tb_records::{CreateTransferResult, Transfer, TransferFlag};
 
 /// Judges a post or void whose id is free, and records it, filled and stamped, where it passes.
 pub(crate) fn take_resolving<A: Allocator + Clone>(
-    rows: &mut Rows<A>,
-    undo_log: &mut UndoLog<A>,
+    work: &mut Work<A>,
     t: &Transfer,
     time: u64,
 ) -> Result<(), CreateTransferResult>
-    requires ready { IsPrepared HasTransfers rows.old undo_log.old time }
-    requires free { id_code (books_in rows.old) t.now ≡ 0 }
+    requires ready { IsPrepared HasTransfers work.old time }
     requires resolving { resolves t.now ≡ true }
+    requires free { id_code (books_in work.old.rows) t.now ≡ 0 }
     requires plain { t.now.flags < 2 ^ 8 }
-    ensures judged { Judges transfer_result_code result
-        (transfer_events.verdict (books_in rows.old) t.now time) }
-    ensures done { OnOk result
-        (books_in rows.new ≡ transfer_events.recorded (books_in rows.old) t.now time) }
-    ensures refused { OnErr result (Stays rows.old rows.new undo_log.old undo_log.new) }
-    ensures leaves { Leaves rows.old rows.new undo_log.old undo_log.new }
+    ensures { Takes transfer_events transfer_result_code work.old t.now time result work.new }
 {
-    let Resolution { pending, filled } = judge_resolving(rows, t)?;
+    let Resolution { pending, filled } = judge_resolving(&work.rows, t)?;
     let pending = *pending;
     let mut recorded = filled;
     recorded.timestamp = time;
-    settle(rows, undo_log, &pending, &recorded)
+    settle(work, &pending, &recorded)
 }
 
 /// Judges a post or void, filled and stamped, of the pending transfer `p` by the accounts, and records it where it passes. A void
 /// passes closed accounts too.
 fn settle<A: Allocator + Clone>(
-    rows: &mut Rows<A>,
-    undo_log: &mut UndoLog<A>,
+    work: &mut Work<A>,
     p: &TransferRow,
     r: &Transfer,
 ) -> Result<(), CreateTransferResult>
-    requires kept { IsKept rows.old }
-    requires capacity { 0 < rows.old.transfers.spare }
-    requires log { HasCapacityFor UNDOS_PER_EVENT undo_log.old }
-    requires resolution { IsResolution rows.old p.now r.now }
-    ensures judged { Judges transfer_result_code result
-        (closed_code (books_in rows.old) r.now p.now.recorded) }
-    ensures books { OnOk result
-        (books_in rows.new
-        ≡ record (books_in rows.old)
-        { transfers = put transfer_key r.now (books_in rows.old).transfers }) }
-    ensures refused { OnErr result (Stays rows.old rows.new undo_log.old undo_log.new) }
-    ensures leaves { Leaves rows.old rows.new undo_log.old undo_log.new }
+    requires ready { IsPrepared HasTransfers work.old r.now.timestamp }
+    requires resolution { IsResolution work.old.rows p.now r.now }
+    ensures { Decides transfer_result_code
+        (closed_code (books_in work.old.rows) r.now p.now.recorded)
+        (record (books_in work.old.rows)
+        { transfers = put transfer_key r.now (books_in work.old.rows).transfers })
+        work.old result work.new }
 {
+    let rows = &mut work.rows;
+    let undo_log = &mut work.undo_log;
     settle_accounts(&mut rows.accounts, undo_log, &p.recorded(), r)?;
     let state = state_given(r);
     close_row(&mut rows.transfers, &mut rows.timeouts, undo_log, p, state);

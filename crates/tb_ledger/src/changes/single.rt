@@ -1,14 +1,12 @@
 //! A transfer between two accounts: both rows are found by one walk, judged, and changed where they stand.
-ghost use Rattle.std.specs.Prelude.{◌≡◌, ◌^◌, ◌<◌, false, ◌≢◌, if◌then◌else◌, OnOk, OnErr};
+ghost use Rattle.std.specs.Prelude.{◌≡◌, ◌^◌, ◌<◌, false, ◌≢◌, if◌then◌else◌};
 ghost use Rattle.std.specs.Option.{is_some};
 ghost use Rattle.tb_ledger.specs.Batches.{transfer_events};
 ghost use Rattle.tb_ledger.specs.Books.{resolves};
 ghost use Rattle.tb_records.specs.TransferResults.{transfer_result_code};
-ghost use Rattle.tb_ledger.specs.Found.{Judges};
 ghost use Rattle.tb_ledger.specs.Capacity.{HasTransfers};
 ghost use Rattle.tb_ledger.specs.Kept.{books_in};
-ghost use Rattle.tb_ledger.specs.Steps.{IsPrepared, Leaves};
-ghost use Rattle.tb_ledger.specs.UndoLog.{Stays};
+ghost use Rattle.tb_ledger.specs.Steps.{IsPrepared, Takes};
 ghost use Rattle.tb_ledger.specs.Verdicts.{id_code};
 ghost use Rattle.tb_ledger.specs.Exchanges.{Exchanges, ExchangesIn, account_row_at};
 
@@ -16,31 +14,27 @@ use crate::changes::records::{add_row, row_of};
 use crate::changes::sides::gain_side;
 use crate::tables::accounts::AccountRow;
 use crate::tables::map::Table;
-use crate::tables::rows::Rows;
 use crate::tables::undo_log::UndoLog;
+use crate::tables::work::Work;
 use crate::verdicts::single::{between, single_own};
 use std::alloc::Allocator;
 use tb_records::{CreateTransferResult, Transfer, TransferFlag};
 
 /// Judges a transfer between two accounts whose id is free, and records it, balanced and stamped, where it passes.
 pub(crate) fn take_single<A: Allocator + Clone>(
-    rows: &mut Rows<A>,
-    undo_log: &mut UndoLog<A>,
+    work: &mut Work<A>,
     t: &Transfer,
     time: u64,
 ) -> Result<(), CreateTransferResult>
-    requires ready { IsPrepared HasTransfers rows.old undo_log.old time }
-    requires free { id_code (books_in rows.old) t.now ≡ 0 }
+    requires ready { IsPrepared HasTransfers work.old time }
     requires single { resolves t.now ≡ false }
+    requires free { id_code (books_in work.old.rows) t.now ≡ 0 }
     requires plain { t.now.flags < 2 ^ 8 }
-    ensures judged { Judges transfer_result_code result
-        (transfer_events.verdict (books_in rows.old) t.now time) }
-    ensures done { OnOk result
-        (books_in rows.new ≡ transfer_events.recorded (books_in rows.old) t.now time) }
-    ensures refused { OnErr result (Stays rows.old rows.new undo_log.old undo_log.new) }
-    ensures leaves { Leaves rows.old rows.new undo_log.old undo_log.new }
+    ensures { Takes transfer_events transfer_result_code work.old t.now time result work.new }
 {
     single_own(t)?;
+    let rows = &mut work.rows;
+    let undo_log = &mut work.undo_log;
     let amount = exchange(&mut rows.accounts, undo_log, t, time)?;
     let mut recorded = *t;
     recorded.amount = amount;

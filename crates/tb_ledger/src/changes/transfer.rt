@@ -1,43 +1,35 @@
 //! A transfer is judged, and recorded where it is accepted; by profile 2 the id of one that fails for good is noted.
-ghost use Rattle.std.specs.Prelude.{◌≡◌, ◌≤◌, ◌==◌, true, false, OnOk, OnErr};
+ghost use Rattle.std.specs.Prelude.{◌≡◌, ◌≤◌, ◌==◌, true, false};
 ghost use Rattle.std.specs.List.{list_any};
 ghost use Rattle.std.specs.Option.{option_map_or};
 ghost use Rattle.tb_ledger.specs.Batches.{is_final, transfer_events};
 ghost use Rattle.tb_records.specs.TransferResults.{transfer_result_code};
-ghost use Rattle.tb_ledger.specs.Found.{Judges};
 ghost use Rattle.tb_ledger.specs.Capacity.{HasTransfers, Uses, capacity_of};
 ghost use Rattle.tb_ledger.specs.Kept.{books_in, IsKept};
-ghost use Rattle.tb_ledger.specs.Steps.{IsPrepared, Leaves, StaysButFailed};
-ghost use Rattle.tb_ledger.specs.UndoLog.{Stays};
+ghost use Rattle.tb_ledger.specs.Steps.{IsPrepared, StaysButFailed, Takes};
 
 use crate::changes::resolving::take_resolving;
 use crate::changes::single::take_single;
 use crate::tables::rows::Rows;
-use crate::tables::undo_log::UndoLog;
+use crate::tables::work::Work;
 use crate::verdicts::transfer::{judge_id, resolving};
 use std::alloc::Allocator;
 use tb_records::{CreateTransferResult, Transfer};
 
 /// Judges a transfer, and records it where it passes.
 pub(crate) fn take_transfer<A: Allocator + Clone>(
-    rows: &mut Rows<A>,
-    undo_log: &mut UndoLog<A>,
+    work: &mut Work<A>,
     t: &Transfer,
     time: u64,
 ) -> Result<(), CreateTransferResult>
-    requires ready { IsPrepared HasTransfers rows.old undo_log.old time }
-    ensures judged { Judges transfer_result_code result
-        (transfer_events.verdict (books_in rows.old) t.now time) }
-    ensures done { OnOk result
-        (books_in rows.new ≡ transfer_events.recorded (books_in rows.old) t.now time) }
-    ensures refused { OnErr result (Stays rows.old rows.new undo_log.old undo_log.new) }
-    ensures leaves { Leaves rows.old rows.new undo_log.old undo_log.new }
+    requires ready { IsPrepared HasTransfers work.old time }
+    ensures { Takes transfer_events transfer_result_code work.old t.now time result work.new }
 {
-    judge_id(rows, t)?;
+    judge_id(&work.rows, t)?;
     if resolving(t) {
-        take_resolving(rows, undo_log, t, time)
+        take_resolving(work, t, time)
     } else {
-        take_single(rows, undo_log, t, time)
+        take_single(work, t, time)
     }
 }
 

@@ -1,5 +1,5 @@
 //! The undo log of a chain's changes, by which a chain that breaks is undone.
-ghost use Rattle.std.specs.Prelude.{◌≡◌, ◌*◌, ◌+◌, ◌<◌, ◌≤◌, ◌++◌, true, [], ◌∷◌, length, IfOk, IfSome, IfNone};
+ghost use Rattle.std.specs.Prelude.{◌≡◌, ◌*◌, ◌+◌, ◌<◌, ◌≤◌, ◌++◌, false, [], ◌∷◌, length, OnOk, IfSome, IfNone};
 ghost use Rattle.tb_ledger.specs.UndoLog.{CanUnwind};
 ghost use Rattle.tb_ledger.specs.Steps.{IsUnwound};
 ghost use Rattle.tb_ledger.specs.Noted.{with_noted, NotesPair};
@@ -32,44 +32,83 @@ pub const UNDOS_PER_EVENT: usize = 4;
 /// all.
 #[derive(Drop)]
 pub struct UndoLog<A: Allocator + Clone> {
-    log: Vec<Undo, A>,
+    log: Option<Vec<Undo, A>>,
     noting: bool,
 }
 
 impl<A: Allocator + Clone> Model for UndoLog<A> {
-    ghost use Rattle.std.specs.Prelude.{vec_capacity};
+    ghost use Rattle.std.specs.Prelude.{[], vec_items, vec_capacity};
+    ghost use Rattle.std.specs.Option.{option_map_or};
     ghost use Rattle.tb_ledger.specs.Noted.{Noted};
 
     ghost Value = { Noted };
 
     ghost view = { λ t.
-        record { changes = t.log.items; noting = t.noting; capacity = vec_capacity t.log } };
+        record {
+          changes = option_map_or vec_items t.log [];
+          noting = t.noting;
+          capacity = option_map_or vec_capacity t.log 0;
+        } };
 }
 
 impl<A: Allocator + Clone> UndoLog<A> {
-    /// An empty log for the changes of so many events, or of the next power of two of them.
-    pub fn with_capacity(alloc: A, events: usize) -> Result<Self, AllocError>
-        requires { events ≤ 8190 }
-        ensures { IfOk result (λ undo_log. UNDOS_PER_EVENT * events ≤ undo_log.capacity) }
+    /// An empty log. No memory is taken.
+    pub fn new() -> Self
+        ensures { result ≡ record { changes = []; noting = false; capacity = 0 } }
     {
-        let log = Vec::with_capacity(alloc, UNDOS_PER_EVENT * events.next_power_of_two())?;
-        Ok(UndoLog { log, noting: false })
+        UndoLog {
+            log: None,
+            noting: false,
+        }
     }
 
-    /// It has the capacity for the changes of so many events.
-    pub fn has_capacity(&self, events: usize) -> bool
+    /// Makes capacity for the changes of so many events, where there is less: for the next power of two of them.
+    ///
+    /// What an arena is given back it never gives out again. So a log goes only where the next batch needs a larger one, which is
+    /// then twice as large or more, and all logs of a ledger together take at most twice the largest. That one has 4.7 MB, for 8190
+    /// events.
+    pub fn reserve(&mut self, alloc: &A, events: usize) -> Result<(), AllocError>
         requires { events ≤ 8190 }
-        ensures { result ≡ true → UNDOS_PER_EVENT * events ≤ self.now.capacity }
+        ensures { OnOk result (UNDOS_PER_EVENT * events ≤ self.new.capacity) }
     {
-        UNDOS_PER_EVENT * events <= self.log.capacity()
+        if UNDOS_PER_EVENT * events <= self.capacity() {
+            return Ok(());
+        }
+        let n = UNDOS_PER_EVENT * events.next_power_of_two();
+        self.log = Some(Vec::with_capacity(alloc.clone()?, n)?);
+        Ok(())
+    }
+
+    /// The records that it can have.
+    fn capacity(&self) -> usize
+        ensures { result ≡ self.now.capacity }
+    {
+        match &self.log {
+            Some(log) => log.capacity(),
+            None => 0,
+        }
     }
 
     /// Begins a chain, whose changes are noted or not.
     pub fn start(&mut self, noting: bool)
         ensures { self.new ≡ record self.old { changes = []; noting = noting } }
     {
-        self.log.clear();
         self.noting = noting;
+        match &mut self.log {
+            Some(log) => log.clear(),
+            None => {}
+        }
+    }
+
+    /// Adds a record, for which there is capacity.
+    fn push(&mut self, undo: Undo)
+        requires { length self.old.changes < self.old.capacity }
+        ensures { self.new ≡ record self.old { changes = self.old.changes ++ undo ∷ [] } }
+    {
+        match &mut self.log {
+            Some(log) => log.push_reserved(undo),
+            None => unreachable!(),
+        }
     }
 
     /// Adds the record of a change, where changes are noted.
@@ -78,7 +117,7 @@ impl<A: Allocator + Clone> UndoLog<A> {
         ensures { self.new ≡ with_noted undo self.old }
     {
         if self.noting {
-            self.log.push_reserved(undo);
+            self.push(undo);
         }
     }
 
@@ -88,7 +127,7 @@ impl<A: Allocator + Clone> UndoLog<A> {
         ensures { self.new ≡ with_noted (Undo.Transfer row.now) self.old }
     {
         if self.noting {
-            self.log.push_reserved(Undo::Transfer(*row));
+            self.push(Undo::Transfer(*row));
         }
     }
 
@@ -98,7 +137,7 @@ impl<A: Allocator + Clone> UndoLog<A> {
         ensures { self.new ≡ with_noted (Undo.AddedTransfer row.now) self.old }
     {
         if self.noting {
-            self.log.push_reserved(Undo::AddedTransfer(*row));
+            self.push(Undo::AddedTransfer(*row));
         }
     }
 
@@ -107,9 +146,12 @@ impl<A: Allocator + Clone> UndoLog<A> {
     pub fn note_pair(&mut self, debit: &AccountRow, credit: &AccountRow)
         ensures { NotesPair debit.now credit.now self.old self.new }
     {
-        if self.noting && self.log.capacity() - self.log.len() >= 2 {
-            self.log.push_reserved(Undo::Account(*debit));
-            self.log.push_reserved(Undo::Account(*credit));
+        match &mut self.log {
+            Some(log) if self.noting && log.capacity() - log.len() >= 2 => {
+                log.push_reserved(Undo::Account(*debit));
+                log.push_reserved(Undo::Account(*credit));
+            }
+            _ => {}
         }
     }
 
@@ -120,7 +162,10 @@ impl<A: Allocator + Clone> UndoLog<A> {
         ensures noting { self.new.noting ≡ self.old.noting }
         ensures capacity { self.new.capacity ≡ self.old.capacity }
     {
-        self.log.pop()
+        match &mut self.log {
+            Some(log) => log.pop(),
+            None => None,
+        }
     }
 }
 

@@ -18,7 +18,7 @@ loop-rest-preserved g c =
     let block = c.split_at.result.0.now in
     let later = c.split_at.result.1.now in
     let cut = c.split_at.ensures in
-    let B = books_in c.loop-rest.rows in
+    let B = books_in c.loop-rest.work.rows in
     let stamp = c.loop-rest.stamp in
     let first = block_after kind B (timed_from stamp block) in
     let empty = c.loop-rest-test.ensures in
@@ -29,34 +29,35 @@ loop-rest-preserved g c =
     let parts : length rest ≡ length block + length later = omega (arith, cut.front_len, cut.back_len) in
     record {
       books = ap (λ C. (blocks_after kind C after).books) r.books ∙ sym (ap (λ bs. (blocks_after kind B bs).books) rounds) ∙ v.books;
-      results = ap (λ C. c.run_block.new.results.items ++ results_from (c.loop-rest.index + length block) (blocks_after kind C after).codes) r.books
-          ∙ results-round c.loop-rest.results.items c.run_block.new.results.items _ c.loop-rest.index (length block) first.codes (blocks_after kind first.books after).codes codes r.results
-          (ap (λ bs. c.loop-rest.results.items ++ results_from c.loop-rest.index (blocks_after kind B bs).codes) (sym rounds) ∙ v.results);
+      results = ap (λ C. c.run_block.new.work.results.items ++ results_from (c.loop-rest.index + length block) (blocks_after kind C after).codes) r.books
+          ∙ results-round c.loop-rest.work.results.items c.run_block.new.work.results.items _ c.loop-rest.index (length block) first.codes (blocks_after kind first.books after).codes codes r.results
+          (ap (λ bs. c.loop-rest.work.results.items ++ results_from c.loop-rest.index (blocks_after kind B bs).codes) (sym rounds) ∙ v.results);
       left = omega (arith, parts, v.left);
       stamp = omega (arith, v.stamp);
       kept = r.leaves.kept;
       time = r.leaves.time ∙ v.time;
       log = r.leaves.log ∙ v.log;
-      capacity = g.met.E.Event.leaves_rest (length block) (length later) (capacity_of c.loop-rest.rows) (capacity_of c.run_block.new.rows) (subst (λ k. g.E.Event.HasCapacity k (capacity_of c.loop-rest.rows)) parts v.capacity) r.leaves.capacity;
-      results_len = omega (arith, r.results_len, v.results_len);
-      results_capacity = r.results_capacity ∙ v.results_capacity;
+      capacity = g.met.E.Event.leaves_rest (length block) (length later) (capacity_of c.loop-rest.work.rows) (capacity_of c.run_block.new.work.rows) (subst (λ k. g.E.Event.HasCapacity k (capacity_of c.loop-rest.work.rows)) parts v.capacity) r.leaves.capacity;
+      results_len = omega (arith, r.leaves.results_len, v.results_len);
+      results_capacity = r.leaves.results_capacity ∙ v.results_capacity;
     }
 
 pub run_block-requires-clause-ready : goal.run_block-requires-clause-ready
 run_block-requires-clause-ready g c =
     let v = c.loop-rest.invariant in
-    let rows = c.loop-rest.rows in
+    let rows = c.loop-rest.work.rows in
     let rest = c.loop-rest.rest.now in
     let block = c.split_at.result.0.now in
     let later = c.split_at.result.1.now in
     let cut = c.split_at.ensures in
     let ready = c.requires.ready in
     let parts : length rest ≡ length later + length block = omega (arith, cut.front_len, cut.back_len) in
-    let its : IsPreparedFor g.E.Event.HasCapacity (length block) rows c.loop-rest.undo_log c.loop-rest.stamp = record {
+    let its : IsPreparedFor g.E.Event.HasCapacity (length block) c.loop-rest.work c.loop-rest.stamp = record {
       kept = v.kept;
       capacity = g.met.E.Event.leaves_rest (length later) (length block) (capacity_of rows) (capacity_of rows) (subst (λ k. g.E.Event.HasCapacity k (capacity_of rows)) parts v.capacity) (uses_none (length later) (capacity_of rows));
       stamped = omega (arith, ready.stamped, v.time, v.stamp);
       in_range = omega (arith, ready.in_range, parts, v.left, v.stamp);
       log = omega (arith, ready.log, parts, v.left, v.log);
+      results = omega (arith, ready.results, parts, v.left, v.results_len, v.results_capacity);
     } in
     rw c.look_ahead.ensures its

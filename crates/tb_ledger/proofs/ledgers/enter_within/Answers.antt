@@ -1,4 +1,4 @@
-use Rattle.std.proofs.Common.{◌≡◌, ◌+◌, length, subst, arith}
+use Rattle.std.proofs.Common.{◌≡◌, ◌+◌, length, ap, subst, arith}
 use Rattle.tb_ledger.specs.Capacity.{capacity_of}
 use Rattle.tb_ledger.proofs.Capacities.{uses_kept}
 use Rattle.tb_ledger.proofs.ledgers.enter_within.Goals as goal
@@ -7,7 +7,7 @@ pub run_batch-requires-clause-ready : goal.run_batch-requires-clause-ready
 run_batch-requires-clause-ready g c =
     let n = length c.args.events.now in
     let entry = c.requires.entry in
-    let rows = c.args.rows.now in
+    let rows = c.args.work.now.rows in
     let later = c.expire.new.rows in
     let whole : n ≡ 0 + n = omega arith in
     record {
@@ -16,4 +16,5 @@ run_batch-requires-clause-ready g c =
       stamped = omega (arith, c.expire.ensures.time, entry.later, entry.count);
       in_range = omega (arith, entry.in_range, entry.later, entry.count);
       log = c.requires.made.log;
+      results = omega (arith, c.requires.made.results, ap (λ items. length items) c.requires.made.none);
     }

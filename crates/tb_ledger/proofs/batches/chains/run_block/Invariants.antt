@@ -7,21 +7,20 @@ use Rattle.tb_ledger.specs.UndoLog.{LeadsBack}
 use Rattle.tb_ledger.proofs.batches.chains.run_block.Given as goal
 
 abbrev pub invariant-loop-i : goal.invariant-loop-i
-invariant-loop-i g l = let kind = g.E.Event.kind in let start = l.initial.rows in record {
-  failure : failure_from kind l.i (books_in l.rows) (timed_from l.stamp (drop l.i l.block)) ≡ failure_from kind 0 (books_in start) (timed_from l.time l.block);
-  all : all_recorded kind (books_in l.rows) (timed_from l.stamp (drop l.i l.block)) ≡ all_recorded kind (books_in start) (timed_from l.time l.block);
-  noting : 1 < length l.block → l.undo_log.noting ≡ true;
-  back : l.i < length l.block → LeadsBack start l.rows [] l.undo_log.changes;
-  failed : l.rows.failed ≡ start.failed;
-  keeps : l.rows.keeps_failed ≡ start.keeps_failed;
-  time : l.rows.time ≡ start.time;
-  kept : IsKept l.rows;
-  results : l.results ≡ l.initial.results;
+invariant-loop-i g l = let kind = g.E.Event.kind in let start = l.initial.work.rows in record {
+  failure : failure_from kind l.i (books_in l.work.rows) (timed_from l.stamp (drop l.i l.block)) ≡ failure_from kind 0 (books_in start) (timed_from l.time l.block);
+  all : all_recorded kind (books_in l.work.rows) (timed_from l.stamp (drop l.i l.block)) ≡ all_recorded kind (books_in start) (timed_from l.time l.block);
+  noting : 1 < length l.block → l.work.undo_log.noting ≡ true;
+  back : l.i < length l.block → LeadsBack start l.work.rows [] l.work.undo_log.changes;
+  failed : l.work.rows.failed ≡ start.failed;
+  time : l.work.rows.time ≡ start.time;
+  kept : IsKept l.work.rows;
+  results : l.work.results ≡ l.initial.work.results;
   stamp : l.stamp ≡ l.time + l.i;
   within : l.i ≤ length l.block;
-  uses : Uses l.i (capacity_of start) (capacity_of l.rows);
-  undo_log : length l.undo_log.changes ≤ UNDOS_PER_EVENT * l.i;
-  log : l.undo_log.capacity ≡ l.initial.undo_log.capacity;
+  uses : Uses l.i (capacity_of start) (capacity_of l.work.rows);
+  undo_log : length l.work.undo_log.changes ≤ UNDOS_PER_EVENT * l.i;
+  log : l.work.undo_log.capacity ≡ l.initial.work.undo_log.capacity;
 }
 
 abbrev pub decreases-loop-i : goal.decreases-loop-i

@@ -1,158 +1,90 @@
-use Rattle.std.proofs.Common.{◌≡◌, true, refl, option_map, sym, ap, ◌∙◌, arith}
+use Rattle.std.proofs.Common.{◌≡◌, refl, sym, ap, ◌∙◌, arith}
 use Rattle.tb_records.specs.Ordered.{put}
 use Rattle.tb_records.specs.TransferResults.{transfer_result_code}
-use Rattle.tb_ledger.specs.Books.{account_now}
 use Rattle.tb_ledger.specs.Exchanges.{as_recorded}
 use Rattle.tb_ledger.specs.Noted.{with_noted}
 use Rattle.tb_ledger.specs.declared.tables.undo_log.Undo.TheVariants.{Account}
-use Rattle.tb_ledger.specs.Kept.{books_in, row_now, transfer_row_key, times_out, listed, new_transfer_row, CanList, IsIndex}
+use Rattle.tb_ledger.specs.Kept.{books_in, transfer_row_key, listed, new_transfer_row, IsIndex}
 use Rattle.tb_ledger.specs.Sound.{transfer_key}
-use Rattle.tb_ledger.specs.Verdicts.{first_of, single_own_tests, transfer_verdict, balanced_between}
-use Rattle.tb_ledger.proofs.Accepted.{new_transfer, accounts_apart}
-use Rattle.tb_ledger.proofs.Capacities.{leaves_still, listed_spare}
-use Rattle.tb_ledger.proofs.Index.{not_listed_yet, index_added}
+use Rattle.tb_ledger.specs.Verdicts.{first_of, single_own_tests}
+use Rattle.tb_ledger.proofs.Accepted.{accounts_apart}
+use Rattle.tb_ledger.proofs.Capacities.{listed_spare}
+use Rattle.tb_ledger.proofs.Index.{index_added}
 use Rattle.tb_ledger.proofs.Passing.{noted_passed}
-use Rattle.tb_ledger.proofs.Refusals.{handed_on, on_err}
+use Rattle.tb_ledger.proofs.Refusals.{decides_none, left_alone}
 use Rattle.tb_ledger.proofs.UndoLogs.{grows_both}
-use Rattle.tb_ledger.proofs.Settled.{no_row, books_with_single, ledger_with_single}
-use Rattle.tb_ledger.proofs.VerdictLaws.{account_stands, single_verdict, verdict_by_rows, balanced_found, recorded_pair, own_refused, recorded_single}
+use Rattle.tb_ledger.proofs.Settled.{books_with_single, ledger_with_single}
+use Rattle.tb_ledger.proofs.Singles.{finds_pair}
+use Rattle.tb_ledger.proofs.VerdictLaws.{single_verdict, verdict_by_rows, own_refused}
 use Rattle.tb_ledger.proofs.changes.single.take_single.Goals as goal
 
-pub returns-in_err-single_own-clause-judged : goal.returns-in_err-single_own-clause-judged
-returns-in_err-single_own-clause-judged g c =
-    let B = books_in c.args.rows.now in
+pub returns-in_err-single_own : goal.returns-in_err-single_own
+returns-in_err-single_own g c =
+    let B = books_in c.args.work.now.rows in
     let t = c.args.t.now in
     let judged = c.in_err-single_own.ensures in
     let refusal = c.in_err-single_own.field-0.0 in
     let code = single_verdict B t c.args.time c.requires.free c.requires.single ∙ own_refused B t c.args.time (transfer_result_code refusal) (sym judged.0) judged.1 in
-    handed_on transfer_result_code c.from_residual.result refusal _ c.from_residual.ensures.1 (code, judged.1)
+    decides_none transfer_result_code _ _ c.args.work.now _ c.from_residual.result refusal c.requires.ready.kept c.from_residual.ensures.1 (code, judged.1) refl
 
 pub add_row-requires-clause-fresh : goal.add_row-requires-clause-fresh
 add_row-requires-clause-fresh g c =
-    let rows = c.args.rows.now in
-    let B = books_in rows in
-    let t = c.args.t.now in
-    let own : first_of (single_own_tests t) ≡ 0 = c.in_ok-single_own.ensures in
-    let amount_is = c.in_ok-amount.amount in
-    let ex = c.in_ok-amount.ensures.exchanged.1 in
-    let debit = account_stands rows c.requires.ready.kept t.debit_account_id ∙ ap (option_map row_now) ex.debit_there in
-    let credit = account_stands rows c.requires.ready.kept t.credit_account_id ∙ ap (option_map row_now) ex.credit_there in
-    let verdict : transfer_verdict B t c.args.time ≡ 0 = verdict_by_rows rows c.requires.ready.kept t c.args.time c.requires.free c.requires.single own ∙ c.in_ok-amount.ensures.exchanged.0 in
-    let amount : amount_is ≡ balanced_between (account_now B t.debit_account_id) (account_now B t.credit_account_id) t = ex.balanced ∙ balanced_found B t (row_now ex.debit) (row_now ex.credit) debit credit in
-    let moves = recorded_pair B t c.args.time amount_is c.requires.single verdict amount in
-    let recorded = as_recorded t amount_is c.args.time in
-    let new = new_transfer B t c.args.time verdict in
-    let fresh = no_row transfer_key (λ t. t.recorded) t.id rows.transfers.items new in
-    rw c.row_of-row.ensures.row fresh
+    let its = finds_pair c.args.work.now.rows c.args.t.now c.args.time c.in_ok-amount.amount c.args.work.now.undo_log c.exchange.new.undo_log c.exchange.new.accounts.items c.requires.ready.kept c.requires.ready.capacity.timeouts c.row_of-row.ensures.fits c.requires.free c.requires.single c.in_ok-single_own.ensures c.in_ok-amount.ensures.exchanged.0 c.in_ok-amount.ensures.exchanged.1 in
+    rw c.row_of-row.ensures.row its.fresh
 
 pub add_row-requires-clause-can_list : goal.add_row-requires-clause-can_list
 add_row-requires-clause-can_list g c =
-    let rows = c.args.rows.now in
+    let its = finds_pair c.args.work.now.rows c.args.t.now c.args.time c.in_ok-amount.amount c.args.work.now.undo_log c.exchange.new.undo_log c.exchange.new.accounts.items c.requires.ready.kept c.requires.ready.capacity.timeouts c.row_of-row.ensures.fits c.requires.free c.requires.single c.in_ok-single_own.ensures c.in_ok-amount.ensures.exchanged.0 c.in_ok-amount.ensures.exchanged.1 in
+    rw c.row_of-row.ensures.row its.can_list
+
+pub returns : goal.returns
+returns g c =
+    let rows = c.args.work.now.rows in
     let B = books_in rows in
     let t = c.args.t.now in
-    let own : first_of (single_own_tests t) ≡ 0 = c.in_ok-single_own.ensures in
-    let amount_is = c.in_ok-amount.amount in
     let ex = c.in_ok-amount.ensures.exchanged.1 in
-    let debit = account_stands rows c.requires.ready.kept t.debit_account_id ∙ ap (option_map row_now) ex.debit_there in
-    let credit = account_stands rows c.requires.ready.kept t.credit_account_id ∙ ap (option_map row_now) ex.credit_there in
-    let verdict : transfer_verdict B t c.args.time ≡ 0 = verdict_by_rows rows c.requires.ready.kept t c.args.time c.requires.free c.requires.single own ∙ c.in_ok-amount.ensures.exchanged.0 in
-    let amount : amount_is ≡ balanced_between (account_now B t.debit_account_id) (account_now B t.credit_account_id) t = ex.balanced ∙ balanced_found B t (row_now ex.debit) (row_now ex.credit) debit credit in
-    let moves = recorded_pair B t c.args.time amount_is c.requires.single verdict amount in
-    let recorded = as_recorded t amount_is c.args.time in
-    let new = new_transfer B t c.args.time verdict in
-    let fresh = no_row transfer_key (λ t. t.recorded) t.id rows.transfers.items new in
-    let can : times_out (new_transfer_row recorded) ≡ true → CanList (new_transfer_row recorded) rows.timeouts = λ is. record {
-      in_range = moves.in_time;
-      capacity = omega (arith, c.requires.ready.capacity.timeouts);
-      absent = not_listed_yet rows.transfers.items rows.timeouts c.requires.ready.kept.index (new_transfer_row recorded) fresh c.row_of-row.ensures.fits;
-    } in
-    rw c.row_of-row.ensures.row can
-
-pub returns-clause-judged : goal.returns-clause-judged
-returns-clause-judged g c =
-    let own : first_of (single_own_tests c.args.t.now) ≡ 0 = c.in_ok-single_own.ensures in
-    verdict_by_rows c.args.rows.now c.requires.ready.kept c.args.t.now c.args.time c.requires.free c.requires.single own ∙ c.in_ok-amount.ensures.exchanged.0
-
-pub returns-clause-done : goal.returns-clause-done
-returns-clause-done g c =
-    let rows = c.args.rows.now in
-    let B = books_in rows in
-    let t = c.args.t.now in
-    let own : first_of (single_own_tests t) ≡ 0 = c.in_ok-single_own.ensures in
-    let amount_is = c.in_ok-amount.amount in
-    let ex = c.in_ok-amount.ensures.exchanged.1 in
-    let debit = account_stands rows c.requires.ready.kept t.debit_account_id ∙ ap (option_map row_now) ex.debit_there in
-    let credit = account_stands rows c.requires.ready.kept t.credit_account_id ∙ ap (option_map row_now) ex.credit_there in
-    let verdict : transfer_verdict B t c.args.time ≡ 0 = verdict_by_rows rows c.requires.ready.kept t c.args.time c.requires.free c.requires.single own ∙ c.in_ok-amount.ensures.exchanged.0 in
-    let amount : amount_is ≡ balanced_between (account_now B t.debit_account_id) (account_now B t.credit_account_id) t = ex.balanced ∙ balanced_found B t (row_now ex.debit) (row_now ex.credit) debit credit in
-    let recorded = as_recorded t amount_is c.args.time in
-    let added : c.add_row.new.transfers.items ≡ put transfer_row_key (new_transfer_row recorded) rows.transfers.items = ap (λ v. v.items) c.add_row.ensures.transfers ∙ ap (λ row. put transfer_row_key row rows.transfers.items) c.row_of-row.ensures.row in
-    books_with_single rows.accounts.items rows.transfers.items rows.failed.items rows.keeps_failed rows.timeouts.items rows.time c.requires.ready.kept recorded c.exchange.new.accounts.items c.add_row.new.transfers.items ex.written added
-    ∙ ap (λ r. record B { transfers = put transfer_key r B.transfers }) (sym (recorded_single B t c.args.time amount_is c.requires.single amount))
-
-pub returns-clause-leaves : goal.returns-clause-leaves
-returns-clause-leaves g c =
-    let rows = c.args.rows.now in
-    let B = books_in rows in
-    let t = c.args.t.now in
-    let own : first_of (single_own_tests t) ≡ 0 = c.in_ok-single_own.ensures in
-    let amount_is = c.in_ok-amount.amount in
-    let ex = c.in_ok-amount.ensures.exchanged.1 in
-    let debit = account_stands rows c.requires.ready.kept t.debit_account_id ∙ ap (option_map row_now) ex.debit_there in
-    let credit = account_stands rows c.requires.ready.kept t.credit_account_id ∙ ap (option_map row_now) ex.credit_there in
-    let verdict : transfer_verdict B t c.args.time ≡ 0 = verdict_by_rows rows c.requires.ready.kept t c.args.time c.requires.free c.requires.single own ∙ c.in_ok-amount.ensures.exchanged.0 in
-    let amount : amount_is ≡ balanced_between (account_now B t.debit_account_id) (account_now B t.credit_account_id) t = ex.balanced ∙ balanced_found B t (row_now ex.debit) (row_now ex.credit) debit credit in
-    let moves = recorded_pair B t c.args.time amount_is c.requires.single verdict amount in
-    let recorded = as_recorded t amount_is c.args.time in
-    let new = new_transfer B t c.args.time verdict in
-    let fresh = no_row transfer_key (λ t. t.recorded) t.id rows.transfers.items new in
-    let can : times_out (new_transfer_row recorded) ≡ true → CanList (new_transfer_row recorded) rows.timeouts = λ is. record {
-      in_range = moves.in_time;
-      capacity = omega (arith, c.requires.ready.capacity.timeouts);
-      absent = not_listed_yet rows.transfers.items rows.timeouts c.requires.ready.kept.index (new_transfer_row recorded) fresh c.row_of-row.ensures.fits;
-    } in
+    let recorded = as_recorded t c.in_ok-amount.amount c.args.time in
+    let its = finds_pair c.args.work.now.rows c.args.t.now c.args.time c.in_ok-amount.amount c.args.work.now.undo_log c.exchange.new.undo_log c.exchange.new.accounts.items c.requires.ready.kept c.requires.ready.capacity.timeouts c.row_of-row.ensures.fits c.requires.free c.requires.single c.in_ok-single_own.ensures c.in_ok-amount.ensures.exchanged.0 c.in_ok-amount.ensures.exchanged.1 in
     let added : c.add_row.new.transfers.items ≡ put transfer_row_key (new_transfer_row recorded) rows.transfers.items = ap (λ v. v.items) c.add_row.ensures.transfers ∙ ap (λ row. put transfer_row_key row rows.transfers.items) c.row_of-row.ensures.row in
     let listed_is = c.add_row.ensures.timeouts ∙ ap (λ row. listed row rows.timeouts) c.row_of-row.ensures.row in
-    let index : IsIndex c.add_row.new.transfers.items c.add_row.new.timeouts.items = rw (listed_is, added) (index_added rows.transfers.items rows.timeouts c.requires.ready.kept.index (new_transfer_row recorded) fresh (λ _. c.row_of-row.ensures.fits) can) in
+    let index : IsIndex c.add_row.new.transfers.items c.add_row.new.timeouts.items = rw (listed_is, added) (index_added rows.transfers.items rows.timeouts c.requires.ready.kept.index (new_transfer_row recorded) its.fresh (λ _. c.row_of-row.ensures.fits) its.can_list) in
     let apart = accounts_apart t c.in_ok-single_own.ensures in
-    let noted = noted_passed (as_recorded t amount_is c.args.time) ex.debit ex.credit rows.accounts.items c.exchange.new.accounts.items c.args.undo_log.now (with_noted (Account ex.debit) c.args.undo_log.now) c.exchange.new.undo_log refl (ex.notes (omega (arith, c.requires.ready.log))) apart ex.debit_there ex.credit_there ex.written in
+    let noted = noted_passed recorded ex.debit ex.credit rows.accounts.items c.exchange.new.accounts.items c.args.work.now.undo_log (with_noted (Account ex.debit) c.args.work.now.undo_log) c.exchange.new.undo_log refl (ex.notes (omega (arith, c.requires.ready.log))) apart ex.debit_there ex.credit_there ex.written in
     record {
-      kept = ledger_with_single rows.accounts.items rows.transfers.items rows.failed.items rows.keeps_failed rows.timeouts.items rows.time c.requires.ready.kept recorded c.exchange.new.accounts.items c.add_row.new.transfers.items ex.written added c.add_row.new.timeouts.items new c.requires.single c.requires.ready.stamped moves index;
-      step = record {
+      judged = its.verdict;
+      done =
+          books_with_single rows.accounts.items rows.transfers.items rows.failed.items rows.keeps_failed rows.timeouts.items rows.time c.requires.ready.kept recorded c.exchange.new.accounts.items c.add_row.new.transfers.items ex.written added
+          ∙ ap (λ r. record B { transfers = put transfer_key r B.transfers }) (sym its.recorded);
+      refused = tt;
+      leaves = record {
+        kept = ledger_with_single rows.accounts.items rows.transfers.items rows.failed.items rows.keeps_failed rows.timeouts.items rows.time c.requires.ready.kept recorded c.exchange.new.accounts.items c.add_row.new.transfers.items ex.written added c.add_row.new.timeouts.items its.new c.requires.single c.requires.ready.stamped its.pair index;
         failed = refl;
-        keeps_failed = refl;
         time = refl;
-        grows = grows_both 2 1 4 c.args.undo_log.now c.exchange.new.undo_log c.add_row.new.undo_log noted c.add_row.ensures.marked (omega arith) (λ us vs ws first second. record {
+        grows = grows_both 2 1 4 c.args.work.now.undo_log c.exchange.new.undo_log c.add_row.new.undo_log noted c.add_row.ensures.marked (omega arith) (λ us vs ws first second. record {
           undo_accounts = second.undo_accounts c.exchange.new.accounts.items ∙ first.undo_accounts;
           undo_transfers = second.undo_transfers ∙ first.undo_transfers rows.transfers.items;
           undo_timeouts = second.undo_timeouts ∙ first.undo_timeouts rows.timeouts;
           can_unwind = λ can. second.can_unwind (first.can_unwind rows.timeouts can);
         });
-      };
-      capacity = record {
-        accounts = omega (arith, c.exchange.ensures.capacity);
-        transfers = omega (arith, ap (λ v. v.spare) c.add_row.ensures.transfers);
-        timeouts = omega (arith, ap (λ v. v.spare) c.add_row.ensures.timeouts, listed_spare c.row_of-row.result rows.timeouts);
-        failed = omega arith;
-        keeps_failed = refl;
+        capacity = record {
+          accounts = omega (arith, c.exchange.ensures.capacity);
+          transfers = omega (arith, ap (λ v. v.spare) c.add_row.ensures.transfers);
+          timeouts = omega (arith, ap (λ v. v.spare) c.add_row.ensures.timeouts, listed_spare c.row_of-row.result rows.timeouts);
+          failed = omega arith;
+          keeps_failed = refl;
+        };
+        results = refl;
       };
     }
 
-pub returns-in_err-amount-clause-judged : goal.returns-in_err-amount-clause-judged
-returns-in_err-amount-clause-judged g c =
-    let own : first_of (single_own_tests c.args.t.now) ≡ 0 = c.in_ok-single_own.ensures in
-    let judged = c.in_err-amount.ensures.exchanged.0 in
-    let code = verdict_by_rows c.args.rows.now c.requires.ready.kept c.args.t.now c.args.time c.requires.free c.requires.single own ∙ judged.0 in
-    handed_on transfer_result_code c.from_residual-in_err-amount.result c.in_err-amount.field-0.0 _ c.from_residual-in_err-amount.ensures.1 (code, judged.1)
-
-pub returns-in_err-amount-clause-refused : goal.returns-in_err-amount-clause-refused
-returns-in_err-amount-clause-refused g c = on_err _ c.from_residual-in_err-amount.result ((λ i. record c.args.rows.now { accounts = record { items = c.in_err-amount.ensures.exchanged.1.0 i; spare = c.exchange.ensures.capacity i } }), c.in_err-amount.ensures.exchanged.1.1)
-
-pub returns-in_err-single_own-clause-leaves : goal.returns-in_err-single_own-clause-leaves
-returns-in_err-single_own-clause-leaves g c = leaves_still _ _ _ _ c.requires.ready.kept refl refl
-
-pub returns-in_err-amount-clause-leaves : goal.returns-in_err-amount-clause-leaves
-returns-in_err-amount-clause-leaves g c = leaves_still _ _ _ _ c.requires.ready.kept (λ i. record c.args.rows.now { accounts = record { items = c.in_err-amount.ensures.exchanged.1.0 i; spare = c.exchange.ensures.capacity i } }) c.in_err-amount.ensures.exchanged.1.1
+pub returns-in_err-amount : goal.returns-in_err-amount
+returns-in_err-amount g c =
+    let work = c.args.work.now in
+    let t = c.args.t.now in
+    let own : first_of (single_own_tests t) ≡ 0 = c.in_ok-single_own.ensures in
+    let exchanged = c.in_err-amount.ensures.exchanged in
+    let code = verdict_by_rows work.rows c.requires.ready.kept t c.args.time c.requires.free c.requires.single own ∙ exchanged.0.0 in
+    decides_none transfer_result_code _ _ work _ c.from_residual-in_err-amount.result c.in_err-amount.field-0.0 c.requires.ready.kept c.from_residual-in_err-amount.ensures.1 (code, exchanged.0.1) (left_alone work c.exchange.new.accounts c.exchange.new.undo_log exchanged.1 c.exchange.ensures.capacity)
 
 pub add_row-requires-clause-capacity : goal.add_row-requires-clause-capacity
 add_row-requires-clause-capacity g c = omega (arith, c.requires.ready.capacity.transfers)
