@@ -21,6 +21,7 @@ pub mod AtHand
 pub mod Ordered
 -- what private functions alone cite
 pub mod HeaderFields
+pub mod HeldBodies
 pub mod ReplyHeaders
 pub mod ReplyTests
 pub mod Reading

@@ -14,6 +14,7 @@
 //! - `headers`: the header of a request's frame, and its tests in their order.
 //! - `records`: `Account`, `Transfer` and `EventResult`, and their bytes.
 //! - `bodies`: what a request asks for, what a reply answers.
+//! - `held_bodies`: the body of one request, or of several copies of it.
 //! - `requests`: `Request`, one whose numbers keep the rules of sessions.
 //! - `replies`: `Reply`, one whose numbers and body go together; `Status`.
 //! - `layout`: how each item of a body is written and read.
@@ -35,6 +36,7 @@ pub mod dumps;
 mod encoding;
 mod faults;
 mod headers;
+mod held_bodies;
 pub mod laws;
 mod layout;
 mod limits;

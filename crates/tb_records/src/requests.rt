@@ -4,6 +4,7 @@ ghost use Rattle.tb_records.specs.Messages.{asked, number_fault, operation, IsLa
 
 use crate::bodies::Body;
 use crate::faults::FrameFault;
+use crate::held_bodies::HeldBody;
 use crate::limits::ITEMS_MAX;
 use std::alloc::{AllocError, Global};
 use std::marker::Model;
@@ -14,20 +15,23 @@ pub struct Request {
     client: u128,
     session: u64,
     request: u32,
-    body: Body,
+    body: HeldBody,
 }
 
 impl Model for Request {
+    ghost use Rattle.tb_records.specs.HeldBodies.{body_of};
     ghost use Rattle.tb_records.specs.Messages.{Message, IsLawful};
 
     ghost Value = { Message };
 
-    ghost view = { λ r. record { client = r.client; session = r.session; request = r.request; body = r.body } };
+    ghost view = { λ r.
+        record
+        { client = r.client; session = r.session; request = r.request; body = body_of r.body } };
 
     ghost invariant = { λ r.
         IsLawful
         (record
-        { client = r.client; session = r.session; request = r.request; body = r.body }) };
+        { client = r.client; session = r.session; request = r.request; body = body_of r.body }) };
 }
 
 impl Request {
@@ -54,7 +58,7 @@ impl Request {
             client,
             session,
             request,
-            body,
+            body: HeldBody::Own(body),
         })
     }
 
@@ -83,7 +87,7 @@ impl Request {
     pub fn operation(&self) -> u8
         ensures { result ≡ operation self.now.body }
     {
-        self.body.operation()
+        self.body.get().operation()
     }
 
     /// What it asks for.
@@ -91,10 +95,17 @@ impl Request {
         ensures value { result.now ≡ self.now.body }
         ensures lawful { IsLawful self.now }
     {
-        &self.body
+        self.body.get()
     }
 
-    /// A request equal to this one.
+    /// Has the copies that are made of it from now on share its body, so that they take no memory.
+    pub fn share(&mut self, alloc: Global) -> Result<(), AllocError>
+        ensures { self.new ≡ self.old }
+    {
+        self.body.share(alloc)
+    }
+
+    /// A request equal to this one. Where its body is shared, the copy shares it too.
     pub fn copy(&self, alloc: Global) -> Result<Request, AllocError>
         ensures { IfOk result (λ request. request ≡ self.now) }
     {
