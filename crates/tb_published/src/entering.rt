@@ -1,5 +1,5 @@
 //! How the writer judges a request by its machine, and enters it.
-ghost use Rattle.std.specs.Prelude.{◌≡◌, ◌++◌, ◌∷◌, [], true, false, IsTrue, MatchOption, MatchResult};
+ghost use Rattle.std.specs.Prelude.{◌≡◌, ◌<◌, ◌++◌, ◌∷◌, [], true, false, IsTrue, MatchOption, MatchResult, OnOk, vec_len, vec_capacity};
 ghost use Rattle.tb_records.specs.Messages.{IsLawful};
 ghost use Rattle.tb_sessions.specs.Judged.{class_of};
 ghost use Rattle.tb_sessions.specs.declared.classes.Class.TheVariants as class;
@@ -37,9 +37,21 @@ pub(crate) fn known(machine: &Machine<Global>, request: &Request) -> Option<Take
     }
 }
 
+/// Makes capacity for an entry behind a history, and has its copies share the request's body: the history, the writer's machine
+/// and both copies have one body between them.
+fn make_ready(global: Global, history: &mut Vec<Entry>, entry: &mut Entry) -> Result<(), AllocError>
+    ensures history { history.new.items ≡ history.old.items }
+    ensures entry { entry.new ≡ entry.old }
+    ensures capacity { OnOk result (vec_len history.new < vec_capacity history.new) }
+{
+    history.reserve(1)?;
+    entry.request.share(global)
+}
+
 /// Puts an entry behind a history and into its machine, and answers its commit number. Where there is no memory, both
 /// are unchanged.
 pub(crate) fn add_to(
+    global: Global,
     machine: &mut Machine<Global>,
     history: &mut Vec<Entry>,
     entry: Entry,
@@ -52,7 +64,8 @@ pub(crate) fn add_to(
         × (history.new.items ≡ history.old.items ++ entry ∷ []))
         (λ _. (machine.new ≡ machine.old) × (history.new.items ≡ history.old.items)) }
 {
-    if let Err(AllocError) = history.reserve(1) {
+    let mut entry = entry;
+    if let Err(AllocError) = make_ready(global, history, &mut entry) {
         drop(entry);
         return Err(AllocError);
     }
@@ -67,6 +80,7 @@ pub(crate) fn add_to(
 
 /// Enters a request that comes at a moment behind a history, and into the machine after it.
 pub(crate) fn enter_into(
+    global: Global,
     machine: &mut Machine<Global>,
     history: &mut Vec<Entry>,
     request: Request,
@@ -81,7 +95,7 @@ pub(crate) fn enter_into(
     let Some(entry) = machine.next_entry(request, now) else {
         return Err(TakeFault::TimeExhausted);
     };
-    match add_to(machine, history, entry) {
+    match add_to(global, machine, history, entry) {
         Ok(commit) => Ok(Taken::Committed(commit)),
         Err(AllocError) => Err(TakeFault::NoMemory),
     }

@@ -143,7 +143,13 @@ impl<J: Naming> Publisher<J> {
         ensures history { Enters J.opening self.old.history request now result self.new.history }
         ensures shown { self.new.shown ≡ self.old.shown }
     {
-        enter_into(&mut self.machine, &mut self.history, request, now)
+        enter_into(
+            self.global,
+            &mut self.machine,
+            &mut self.history,
+            request,
+            now,
+        )
     }
 
     /// Has the copies show the whole history, and answers its last commit number. It waits for readers of the copy that

@@ -403,11 +403,26 @@ fn creating_copy(alloc: Global) -> Result<Request, FrameFault> {
     Ok(copy?)
 }
 
+/// A copy of a copy of that request, which share its body: both outlive what they were made of.
+fn sharing_copy(alloc: Global) -> Result<Request, FrameFault> {
+    let mut request = creating(alloc)?;
+    let copy = match request.share(alloc) {
+        Ok(()) => request.copy(alloc),
+        Err(refused) => Err(refused),
+    };
+    drop(request);
+    let copy = copy?;
+    let again = copy.copy(alloc);
+    drop(copy);
+    Ok(again?)
+}
+
 #[test]
 fn copies_are_equal(rt: HostRuntime) {
     let alloc = rt.alloc();
     expect_both(&rt, alloc, found_copy(alloc), &found_bytes());
     expect_appended(&rt, alloc, creating_copy(alloc), &creation(&CREATION));
+    expect_appended(&rt, alloc, sharing_copy(alloc), &creation(&CREATION));
 }
 
 /// Says that a copy of the body is the same.
