@@ -78,7 +78,7 @@ fn exchange_rows<A: Allocator + Clone>(
     time: u64,
     undo_log: &mut UndoLog<A>,
 ) -> Result<u128, CreateTransferResult>
-    ensures exchanged { Exchanges t.now time undo_log.old debit.old credit.old result debit.new credit.new undo_log.new }
+    ensures judged { Exchanges t.now time undo_log.old debit.old credit.old result debit.new credit.new undo_log.new }
     ensures same_debit { debit.new.created ≡ debit.old.created }
     ensures same_credit { credit.new.created ≡ credit.old.created }
 {
