@@ -140,8 +140,31 @@ class Doubt(unittest.TestCase):
     def test_a_jump_after_a_lost_reply_leaves_it_in_doubt(self):
         moments = iter((10, 10**18))
         session = self.session(self.failing(tb.ReplyLost("lost"), 1), now=lambda: next(moments))
-        self.assertRaises(tb.ClockJumped, session.create_accounts, [account(1)])
+        with self.assertRaises(tb.ReplyLost) as lost:
+            session.create_accounts([account(1)])
+        self.assertRegex(str(lost.exception), "^lost; it was not sent again: the clock is .* s ahead of where it should be")
+        self.assertIsInstance(lost.exception.__cause__, tb.ClockJumped)
         self.assertEqual((len(self.sent), session.in_doubt.items), (1, (account(1),)))
+
+    def test_what_was_sent_once_is_never_told_as_not_sent(self):
+        for first in (tb.ReplyLost("lost"), tb.NoMemory("lost")):
+            for then in (tb.CannotConnect("nobody listens"), tb.Closed("closed"), tb.CannotStart("no program")):
+                faults = [first, then]
+
+                def serve(frame):
+                    if faults:
+                        raise faults.pop(0)
+                    return reply(frame, commit=2)
+
+                with mock.patch("time.sleep"):
+                    session = self.session(serve)
+                    with self.assertRaises(tb.ReplyLost) as lost:
+                        session.create_accounts([account(1)])
+                self.assertEqual(str(lost.exception), f"lost; it was not sent again: {then}")
+                self.assertEqual(session.in_doubt.items, (account(1),))
+                faults.append(then)
+                self.assertRaises(type(then), session.retry)  # of this call it is true
+                self.assertEqual((session.retry(), len(set(self.sent))), ([], 1))
 
     def test_a_file_is_on_the_disk_before_it_takes_the_old_one_s_place(self):
         with tempfile.TemporaryDirectory() as folder:

@@ -235,13 +235,19 @@ class Session(Closing):
             if self.pending is None:
                 raise NothingInDoubt("no request is in doubt")
             pause = FIRST_PAUSE
+            last: Optional[str] = None  # what became of the last attempt of this call
             for left in reversed(range(self.attempts)):
-                moment = self._moments.take(self.now, self.jump_max)
                 try:
+                    moment = self._moments.take(self.now, self.jump_max)
                     return self._take(Reply.from_bytes(self._exchange(moment, self.pending)))
+                except NotSent as why:
+                    if last is None:
+                        raise
+                    raise ReplyLost(f"{last}; it was not sent again: {why}") from why
                 except (ReplyLost, NoMemory, NotYet) as why:
                     if not left:
                         raise
+                    last = str(why)
                     if not isinstance(why, ReplyLost):
                         time.sleep(pause)
                         pause *= 2
