@@ -105,6 +105,19 @@ class Sharing(unittest.TestCase):
         in_threads(8, lambda number: [Session(direct, number + 1, session=1, now=at_ten).lookup_accounts([]) for _ in range(5)])
         self.assertEqual(most, [1])
 
+    def test_threads_save_a_session_to_one_file(self):
+        session = Session(Direct(lambda moment, frame: reply(frame)), 7, session=1)
+        with tempfile.TemporaryDirectory() as folder:
+            path = os.path.join(folder, "session.json")
+
+            def work(_):
+                for _ in range(50):
+                    session.save(path)
+                    self.assertEqual(Session.load(session.transport, path).saved, session.saved)
+
+            in_threads(4, work)
+            self.assertEqual(os.listdir(folder), ["session.json"])
+
     def test_with(self):
         with Direct(lambda moment, frame: reply(frame)) as direct:
             with Session(direct, 7, session=1, now=at_ten) as session:

@@ -311,6 +311,11 @@ class Values(unittest.TestCase):
                 json.dump([1], file)
             self.refused("saved", Session.load, Direct(self.exchange), path, types=TypeError)
 
+    def test_paths_of_what_is_saved(self):
+        for value in (None, 0, 5, True, 1.5, b"session.json", ["x"]):
+            self.refused("path", self.session.save, value, types=TypeError)
+            self.refused("path", Session.load, Direct(self.exchange), value, types=TypeError)
+
     def test_arguments_of_a_program(self):
         path = "/nowhere/tbs"
         for field, greatest in (("clients_max", 64), ("profile", 2)):

@@ -138,17 +138,19 @@ class Session(Closing):
 
     def save(self, path: Path) -> None:
         """Keeps `saved` in a file, whole: after a crash the file has it as it is now or as it was before."""
-        beside = f"{os.fspath(path)}.new"
-        with open(beside, "w", encoding="ascii") as file:
-            json.dump(self.saved, file)
-            file.flush()
-            os.fsync(file.fileno())
-        os.replace(beside, path)
-        folder = os.open(os.path.dirname(os.path.abspath(path)), os.O_RDONLY)
-        try:
-            os.fsync(folder)
-        finally:
-            os.close(folder)
+        _test_path(path)
+        with self._lock:  # threads that share the session write the same file
+            beside = f"{os.fspath(path)}.new"
+            with open(beside, "w", encoding="ascii") as file:
+                json.dump(self.saved, file)
+                file.flush()
+                os.fsync(file.fileno())
+            os.replace(beside, path)
+            folder = os.open(os.path.dirname(os.path.abspath(path)), os.O_RDONLY)
+            try:
+                os.fsync(folder)
+            finally:
+                os.close(folder)
 
     @classmethod
     def load(
@@ -161,6 +163,7 @@ class Session(Closing):
         jump_max: Optional[float] = JUMP_MAX,
     ) -> S:
         """The session that `save` kept in a file. Where a request was in doubt, `retry` it first."""
+        _test_path(path)
         try:
             with open(path, encoding="ascii") as file:
                 saved = json.load(file)
@@ -288,6 +291,11 @@ class Session(Closing):
     def close(self) -> None:
         """Closes the transport."""
         close_transport(self.transport)
+
+
+def _test_path(path: object) -> None:
+    if not isinstance(path, (str, os.PathLike)):
+        raise InvalidType("path", f"must be a path, not {kind_of(path)}")
 
 
 def _frame_of(field: str, text: object) -> Optional[bytes]:
