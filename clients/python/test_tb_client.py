@@ -148,6 +148,11 @@ class Programs(unittest.TestCase):
         told, _ = self.asked(right[:32] + b"\xff" * 4 + right[36:], "exec sleep 5", timeout=3)
         self.assertEqual(told[0], (tb.BadReply, f"a reply with a body of {2**32 - 1} bytes"))
 
+    def test_the_longest_timeout(self):
+        for timeout in (2147484, 2**32 - 1):
+            fault = (tb.ProgramEnded, "the program ended (status 0)")
+            self.assertEqual(self.asked(b"", "exit 0", timeout=timeout)[0], [fault, fault])
+
     def test_a_program_that_ends_amid_a_reply(self):
         whole = tb.Reply(7, 1, 1, 129, 0, 2, bytes(80)).to_bytes()
         for cut in (0, 1, 47, 48, 49, len(whole) - 1):

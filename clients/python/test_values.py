@@ -258,7 +258,7 @@ class Values(unittest.TestCase):
             self.refused("now", Session, Direct(self.exchange), 7, now=value, types=TypeError)
         for value in ("5", True, 1j, decimal.Decimal(1), b""):
             self.refused("jump_max", Session, Direct(self.exchange), 7, jump_max=value, types=TypeError)
-        for value in (-1, -0.5, math.nan, math.inf):
+        for value in (-1, -0.5, 2**32, 10**6000, math.nan, math.inf):
             self.refused("jump_max", Session, Direct(self.exchange), 7, jump_max=value, types=ValueError)
 
     def test_frames(self):
@@ -325,8 +325,10 @@ class Values(unittest.TestCase):
                 self.refused(field, Program, path, **{field: value}, types=ValueError)
         for value in ("5", None, True, 1j, b"", decimal.Decimal(1)):
             self.refused("timeout", Program, path, timeout=value, types=TypeError)
-        for value in (0, -1, math.nan, math.inf):
+        for value in (0, -1, 2**32, 10**6000, math.nan, math.inf):
             self.refused("timeout", Program, path, timeout=value, types=ValueError)
+        for value in ("", "a\0b", "\ud800"):
+            self.refused("path", Program, value, types=ValueError)
         for value in NO_NUMBERS:
             if value is not None:
                 self.refused("script_max", Program, path, script_max=value, types=TypeError)

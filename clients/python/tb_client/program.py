@@ -10,13 +10,14 @@ import threading
 import time
 from typing import IO, Optional, Union, cast
 
-from .errors import CannotStart, Closed, InvalidType, NoMemory, ProgramEnded, ReplyLost, ScriptFull
+from .errors import CannotStart, Closed, InvalidType, InvalidValue, NoMemory, ProgramEnded, ReplyLost, ScriptFull
 from .frames import HEADER, header_of, reply_length, test_reply
 from .transports import Closing
-from .values import MOMENT_MAX, U64, kind_of, seconds, truth, whole
+from .values import MOMENT_MAX, U64, is_name, kind_of, seconds, truth, whole
 
 CHUNK = 1 << 20
 SCRIPT_MAX = 256 << 20
+LONGEST = 3600.0  # seconds of one wait for the pipes: the system takes no number of them
 
 
 class Program(Closing):
@@ -41,6 +42,8 @@ class Program(Closing):
     ) -> None:
         if not isinstance(path, (str, os.PathLike)):
             raise InvalidType("path", f"must be a path, not {kind_of(path)}")
+        if not is_name(path):
+            raise InvalidValue("path", "is no path")
         places, profile = whole("clients_max", clients_max, 64, 1), whole("profile", profile, 2, 1)
         self.command = [os.fspath(path), "run", str(places), str(profile)]
         self.timeout = seconds("timeout", timeout, 0.001)
@@ -113,7 +116,7 @@ class Program(Closing):
                 left = deadline - time.monotonic()
                 if left <= 0:
                     raise ReplyLost(f"no reply within {self.timeout:g} seconds")
-                for key, _events in ready.select(left):
+                for key, _events in ready.select(min(left, LONGEST)):
                     if key.fileobj is stdout:
                         self._read(stdout)
                     else:

@@ -12,7 +12,7 @@ from typing import Optional, Tuple, Union
 from .errors import CannotConnect, Closed, InvalidType, InvalidValue, ReplyLost
 from .frames import HEADER, header_of, reply_length, test_reply
 from .transports import Closing
-from .values import kind_of, seconds, whole
+from .values import is_name, kind_of, seconds, whole
 
 Address = Union[str, "os.PathLike[str]", Tuple[str, int]]
 
@@ -140,10 +140,14 @@ def _closed(said: bytes) -> ReplyLost:
 def _address_of(address: object) -> Union[str, Tuple[str, int]]:
     if isinstance(address, (str, os.PathLike)):
         path = os.fspath(address)
-        if not isinstance(path, str) or not path or "\0" in path:
+        if not isinstance(path, str) or not is_name(path):
             raise InvalidValue("address", "is no path")
         return path
     if isinstance(address, tuple) and len(address) == 2 and isinstance(address[0], str):
+        try:
+            address[0].encode("idna")
+        except UnicodeError:
+            raise InvalidValue("address", f"has no name of a host: {address[0]!r:.60}") from None
         return address[0], whole("port", address[1], 65535, 1)
     raise InvalidType("address", f"must be a path, or a host and a port, not {kind_of(address)}")
 

@@ -1,9 +1,9 @@
 """The tests of what fields and arguments hold. Each fault names the field."""
 from __future__ import annotations
 
-import math
 import operator
-from typing import Any
+import os
+from typing import Any, Union
 
 from .errors import InvalidType, InvalidValue
 
@@ -41,9 +41,18 @@ def seconds(field: str, value: object, least: float) -> float:
     """A time in seconds, at least so many, whole or not."""
     if isinstance(value, bool) or not isinstance(value, (int, float)):
         raise InvalidType(field, f"must be a number of seconds, not {kind_of(value)}")
-    if not (math.isfinite(value) and least <= value <= U32):
+    if not least <= value <= U32:  # which no nan is
         raise InvalidValue(field, f"must be {least:g} to {shown(U32)} seconds, not {shown(value) if isinstance(value, int) else value}")
     return float(value)
+
+
+def is_name(path: Union[str, os.PathLike[str]]) -> bool:
+    """Whether the system can take this as a path."""
+    try:
+        name = os.fsencode(path)
+    except UnicodeError:
+        return False
+    return bool(name) and b"\0" not in name
 
 
 def truth(field: str, value: object) -> bool:
