@@ -490,7 +490,9 @@ def _is_left(path: str) -> bool:
                 code = other.connect_ex(path)
             if code in (0, errno.EAGAIN):
                 raise Ended(f"{path} is in use", 1)
-            return code == errno.ECONNREFUSED
+            if code != errno.ECONNREFUSED:
+                raise OSError(code, os.strerror(code))  # as a socket of another kind, or another's
+            return True
     return False
 
 

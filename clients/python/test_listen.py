@@ -773,6 +773,11 @@ class Words(unittest.TestCase):
                 other.listen()
                 self.assertEqual(self.ended("--unix", path, "--", "true"), (1, f"tb_listen: {path} is in use"))
                 self.assertTrue(os.path.exists(path))
+            with socket.socket(socket.AF_UNIX, socket.SOCK_DGRAM) as other:
+                path = os.path.join(folder, "letters.sock")
+                other.bind(path)
+                self.assertEqual(self.ended("--unix", path, "--", "true"), (1, f"tb_listen: {path}: Protocol wrong type for socket"))
+                self.assertTrue(os.path.exists(path))
 
     def test_more_connections_than_files_may_be_open(self):
         words = ["sh", "-c", 'ulimit -n 100; exec "$@"', "sh", sys.executable, "-B", os.path.join(HERE, "tb_listen.py"), "--connections", "100", "--", "true"]
