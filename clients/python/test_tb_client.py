@@ -148,6 +148,16 @@ class Programs(unittest.TestCase):
         told, _ = self.asked(right[:32] + b"\xff" * 4 + right[36:], "exec sleep 5", timeout=3)
         self.assertEqual(told[0], (tb.BadReply, f"a reply with a body of {2**32 - 1} bytes"))
 
+    def test_a_program_that_holds_its_pipes(self):
+        """One that writes no more and does not end is killed; what one started and left does not hold up its end."""
+        for then, said in (
+            ("exec >&-; exec sleep 5", "killed by SIGKILL (status -9)"), ("exec >&- 2>&-; exec sleep 5", "killed by SIGKILL (status -9)"),
+            ("sleep 5 >&- & exit 3", "the program ended (status 3)"),
+        ):
+            told, took = self.asked(b"", then, timeout=0.3)
+            self.assertEqual(told, [(tb.ProgramEnded, said)] * 2)
+            self.assertLess(took, 3)
+
     def test_the_longest_timeout(self):
         for timeout in (2147484, 2**32 - 1):
             fault = (tb.ProgramEnded, "the program ended (status 0)")

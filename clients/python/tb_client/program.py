@@ -156,9 +156,13 @@ class Program(Closing):
     def _ended(self) -> Exception:
         """What to raise where the program is gone: it was killed, or ended by itself and says why."""
         process = cast("subprocess.Popen[bytes]", self.process)
-        fault = self._pipes()[2].read().decode(errors="replace").strip()
+        fault = self._last_words(self._pipes()[2]).decode(errors="replace").strip()
         fault = fault[len("tbs: ") :] if fault.startswith("tbs: ") else fault
-        status = process.wait()
+        try:
+            status = process.wait(self.timeout)
+        except subprocess.TimeoutExpired:  # it writes no more replies, and does not end
+            process.kill()
+            status = process.wait()
         self._let_go()
         # No reply after these was given out. The next one is at fault, or was not executed as far as anyone can know.
         del self.script[self.answered :]
@@ -171,6 +175,18 @@ class Program(Closing):
         if status < 0:
             return ReplyLost(f"the program was {fault}")
         return NoMemory("the program had no memory, and ended") if fault == "NoMemory" else ProgramEnded(fault, status)
+
+    def _last_words(self, stderr: IO[bytes]) -> bytes:
+        """What the program says at its end. What it started may hold the pipe open beyond that: it is read for `timeout` at most."""
+        said, deadline = b"", time.monotonic() + self.timeout
+        with selectors.DefaultSelector() as ready:
+            ready.register(stderr, selectors.EVENT_READ)
+            while (left := deadline - time.monotonic()) > 0 and ready.select(min(left, LONGEST)):
+                more = os.read(stderr.fileno(), CHUNK)
+                if not more:
+                    break
+                said = (said + more)[-CHUNK:]
+        return said
 
     def _let_go(self) -> None:
         """Ends the script, and waits for the program's end."""
