@@ -1,11 +1,12 @@
 #!/usr/bin/env python3
-"""Runs tbs and the plain Rust server on the same scripts by turns, compares their replies byte for byte, and prints what they cost.
+"""Runs tbs and two plain Rust servers on the same scripts by turns, compares their replies byte for byte, and prints what they cost.
 
 compare.py [SIZE [TURNS]]: SIZE events a workload (100000), the least processor time of TURNS turns (3). Needs rustc, and
 crates/tbs/out/tbs as `rt run` in crates/tbs leaves it; PROGRAM names another. Scripts are made from a seed in a temporary folder.
 
 For each program: processor time in seconds, how much of it the system took, its greatest memory in MiB, and its page faults in
-thousands. The last columns are the ratio of the times, and whether the replies were the same.
+thousands. The last columns are the ratios of the first one's time to those of the plain servers (plain.rs, and lean.rs, which runs fewer
+instructions), and whether all replies were the same.
 """
 import filecmp
 import os
@@ -15,6 +16,7 @@ import tempfile
 
 HERE = os.path.dirname(os.path.abspath(__file__))
 TBS = os.environ.get("PROGRAM", os.path.join(HERE, "..", "crates", "tbs", "out", "tbs"))
+PEERS = ["plain", "lean"]
 WORKLOADS = ["rising", "pending", "chains", "expiring", "single", "lookups", "mixed", "random"]
 
 
@@ -33,32 +35,38 @@ def same(left, right):
     return filecmp.cmp(left, right, shallow=False)
 
 
-def compare(name, count, turns, plain, folder):
-    """A row of the table: both programs on one workload, the least of so many turns."""
+def compile_peer(name, folder):
+    """The words that start a plain server, which is built first."""
+    program = os.path.join(folder, name)
+    subprocess.run(["rustc", "-O", "-C", "target-cpu=x86-64-v2", os.path.join(HERE, name + ".rs"), "-o", program], check=True)
+    return [program, "64"]
+
+
+def compare(name, count, turns, programs, folder):
+    """A row of the table: all programs on one workload, the least of so many turns."""
     script = os.path.join(folder, name)
     with open(script, "wb") as out:
         subprocess.run([sys.executable, os.path.join(HERE, "make_script.py"), name, str(count), "1"], stdout=out, check=True)
-    ours, theirs = [], []
-    for _ in range(turns):
-        ours.append(run([TBS, "run", "64"], script, script + ".tbs"))
-        theirs.append(run([plain, "64"], script, script + ".plain"))
-    a, b = min(ours), min(theirs)
-    cost = " ".join(f"{it[0]:8.3f} {it[1]:7.3f} {it[2]:6.0f} {it[3]:7.1f}" for it in (a, b))
-    print(f"{name:10} {count:8} {cost} {a[0] / b[0]:6.2f}  {'the same' if same(script + '.tbs', script + '.plain') else 'DIFFERENT'}", flush=True)
-    for ending in ("", ".tbs", ".plain"):
-        os.remove(script + ending)
+    replies = [f"{script}.{k}" for k in range(len(programs))]
+    turns = [[run(words, script, to) for words, to in zip(programs, replies)] for _ in range(turns)]
+    least = [min(of) for of in zip(*turns)]
+    cost = " ".join(f"{it[0]:8.3f} {it[1]:7.3f} {it[2]:6.0f} {it[3]:7.1f}" for it in least)
+    ratios = " ".join(f"{least[0][0] / it[0]:6.2f}" for it in least[1:])
+    agree = all(same(replies[0], other) for other in replies[1:])
+    print(f"{name:10} {count:8} {cost} {ratios}  {'the same' if agree else 'DIFFERENT'}", flush=True)
+    for path in [script] + replies:
+        os.remove(path)
 
 
 def main():
     count = int(sys.argv[1]) if len(sys.argv) > 1 else 100000
     turns = int(sys.argv[2]) if len(sys.argv) > 2 else 3
     with tempfile.TemporaryDirectory() as folder:
-        plain = os.path.join(folder, "plain")
-        subprocess.run(["rustc", "-O", "-C", "target-cpu=x86-64-v2", os.path.join(HERE, "plain.rs"), "-o", plain], check=True)
-        head = " ".join(f"{it + ' s':>8} {'system':>7} {'MiB':>6} {'faults':>7}" for it in ("tbs", "plain"))
-        print(f"{'workload':10} {'events':>8} {head} {'ratio':>6}  replies")
+        programs = [[TBS, "run", "64"]] + [compile_peer(name, folder) for name in PEERS]
+        head = " ".join(f"{it + ' s':>8} {'system':>7} {'MiB':>6} {'faults':>7}" for it in ["tbs"] + PEERS)
+        print(f"{'workload':10} {'events':>8} {head} {' '.join(f'{it:>6}' for it in PEERS)}  replies")
         for name in WORKLOADS:
-            compare(name, count, turns, plain, folder)
+            compare(name, count, turns, programs, folder)
 
 
 if __name__ == "__main__":

@@ -52,8 +52,8 @@ fn prepare(machine: &mut plain::Machine, threads: u64) {
     let accounts = (1..=ACCOUNTS).flat_map(account).collect();
     let mut first = vec![request(100, 0, 0, 2, Vec::new()), request(100, 1, 1, 129, accounts)];
     first.extend((1..=threads).map(|client| request(client.into(), 0, 0, 2, Vec::new())));
-    for (head, mut body) in first {
-        assert!(machine.serve(0, &head, &mut body, &mut sink));
+    for (head, body) in first {
+        assert!(machine.serve(0, &head, body, &mut sink));
     }
 }
 
@@ -62,8 +62,8 @@ fn serve_all(machine: &Mutex<plain::Machine>, orders: Vec<Vec<Request>>) {
     for order in orders {
         replies.clear();
         let mut machine = machine.lock().unwrap();
-        for (head, mut body) in order {
-            assert!(machine.serve(0, &head, &mut body, &mut replies));
+        for (head, body) in order {
+            assert!(machine.serve(0, &head, body, &mut replies));
             assert_eq!(replies[replies.len() - 19], 0);
         }
     }
