@@ -78,6 +78,10 @@ fn number(b: &[u8], at: usize, n: usize) -> u128 {
     u128::from_le_bytes(x)
 }
 
+fn put(b: &mut [u8], at: usize, bytes: &[u8]) {
+    b[at..at + bytes.len()].copy_from_slice(bytes)
+}
+
 impl Account {
     fn read(b: &[u8]) -> Account {
         Account {
@@ -106,23 +110,21 @@ impl Account {
     }
     fn closed(&self) -> bool { self.present_flags() & CLOSED != 0 }
     fn write(&self, out: &mut Vec<u8>) {
-        for x in [
-            self.id,
-            self.debits_pending.get(),
-            self.debits_posted.get(),
-            self.credits_pending.get(),
-            self.credits_posted.get(),
-            self.user128,
-        ] {
-            out.extend(x.to_le_bytes());
-        }
-        out.extend(self.user64.to_le_bytes());
-        for x in [self.user32, self.reserved, self.ledger] {
-            out.extend(x.to_le_bytes());
-        }
-        out.extend(self.code.to_le_bytes());
-        out.extend(self.present_flags().to_le_bytes());
-        out.extend(self.timestamp.to_le_bytes());
+        let mut b = [0; 128];
+        put(&mut b, 0, &self.id.to_le_bytes());
+        put(&mut b, 16, &self.debits_pending.get().to_le_bytes());
+        put(&mut b, 32, &self.debits_posted.get().to_le_bytes());
+        put(&mut b, 48, &self.credits_pending.get().to_le_bytes());
+        put(&mut b, 64, &self.credits_posted.get().to_le_bytes());
+        put(&mut b, 80, &self.user128.to_le_bytes());
+        put(&mut b, 96, &self.user64.to_le_bytes());
+        put(&mut b, 104, &self.user32.to_le_bytes());
+        put(&mut b, 108, &self.reserved.to_le_bytes());
+        put(&mut b, 112, &self.ledger.to_le_bytes());
+        put(&mut b, 116, &self.code.to_le_bytes());
+        put(&mut b, 118, &self.present_flags().to_le_bytes());
+        put(&mut b, 120, &self.timestamp.to_le_bytes());
+        out.extend_from_slice(&b);
     }
 }
 
@@ -146,16 +148,21 @@ impl Transfer {
         }
     }
     fn write(&self, out: &mut Vec<u8>) {
-        for x in [self.id, self.debit, self.credit, self.amount, self.pending_id, self.user128] {
-            out.extend(x.to_le_bytes());
-        }
-        out.extend(self.user64.to_le_bytes());
-        for x in [self.user32, self.timeout, self.ledger] {
-            out.extend(x.to_le_bytes());
-        }
-        out.extend(self.code.to_le_bytes());
-        out.extend(self.flags.to_le_bytes());
-        out.extend(self.timestamp.to_le_bytes());
+        let mut b = [0; 128];
+        put(&mut b, 0, &self.id.to_le_bytes());
+        put(&mut b, 16, &self.debit.to_le_bytes());
+        put(&mut b, 32, &self.credit.to_le_bytes());
+        put(&mut b, 48, &self.amount.to_le_bytes());
+        put(&mut b, 64, &self.pending_id.to_le_bytes());
+        put(&mut b, 80, &self.user128.to_le_bytes());
+        put(&mut b, 96, &self.user64.to_le_bytes());
+        put(&mut b, 104, &self.user32.to_le_bytes());
+        put(&mut b, 108, &self.timeout.to_le_bytes());
+        put(&mut b, 112, &self.ledger.to_le_bytes());
+        put(&mut b, 116, &self.code.to_le_bytes());
+        put(&mut b, 118, &self.flags.to_le_bytes());
+        put(&mut b, 120, &self.timestamp.to_le_bytes());
+        out.extend_from_slice(&b);
     }
     fn is(&self, bit: u16) -> bool { self.flags & bit != 0 }
     fn expires(&self) -> (u64, u64) { (self.timestamp + self.timeout as u64 * SECOND, self.timestamp) }
