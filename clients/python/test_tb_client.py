@@ -101,6 +101,39 @@ class Frames(unittest.TestCase):
         for wrong in (frame[:47], frame[:-1], frame + b"\0"):
             self.assertRaises(tb.BadReply, tb.Reply.from_bytes, wrong)
 
+    def test_headers_that_are_cut(self):
+        """Short is the first fault of docs/FORMATS.md: fewer than 48 bytes are there."""
+        request, answer = tb.request_frame(7, 1, 1, 131, bytes(16)), tb.Reply(7, 1, 1, 129, 0, 2, bytes(8)).to_bytes()
+        for count in range(48):
+            self.assertEqual((tb.request_fault(request[:count]), tb.frames.reply_fault(answer[:count])), ("Short", "Short"), count)
+            for call in (tb.reply_length, tb.frames.test_reply):
+                with self.assertRaisesRegex(tb.BadReply, "Short", msg=count):
+                    call(answer[:count])
+        self.assertEqual((tb.request_fault(request, 17), tb.request_fault(request, 10**9), tb.request_fault(b"12" + request, 2)), ("Short", "Short", None))
+        self.assertEqual((tb.reply_length(answer), tb.reply_length(b"123" + answer, 3), tb.reply_length(request)), (56, 56, 64))
+        self.assertRaises(tb.BadReply, tb.reply_length, answer, 9)
+
+    def test_headers_of_each_type(self):
+        request = tb.request_frame(7, 1, 1, 131)
+        for call in (tb.request_fault, tb.reply_length, tb.frames.reply_fault, tb.frames.test_reply):
+            for value in (None, 5, "x" * 48, [0] * 48, {}, request.hex(), object()):
+                with self.assertRaises(tb.InvalidType) as raised:
+                    call(value)
+                self.assertEqual(raised.exception.field, "data")
+            for value in (-1, -48, 2**64, 1.0, "0", None, True):
+                with self.assertRaises(tb.Invalid) as raised:
+                    call(request, value)
+                self.assertEqual(raised.exception.field, "at")
+        for like in (bytearray, memoryview):
+            self.assertEqual((tb.request_fault(like(request)), tb.request_fault(like(bytes(48))), tb.reply_length(like(request))), (None, "ClientZero", 48))
+
+    def test_bodies_of_a_reply_that_is_made(self):
+        for body in (None, 5, "x", [1], [b"1"]):
+            for call in (lambda: tb.Reply(7, 1, 1, 129, 0, 2, body).to_bytes(), lambda: tb.Reply(7, 1, 1, 129, 0, 2, body).items):
+                with self.assertRaises(tb.InvalidType) as raised:
+                    call()
+                self.assertEqual(raised.exception.field, "Reply.body")
+
     def test_each_fault_of_a_reply(self):
         """Nothing is read of a reply that has a fault of docs/FORMATS.md, and the error names it."""
         for name, wrong in wrong_replies().items():

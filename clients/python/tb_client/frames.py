@@ -12,6 +12,7 @@ from .values import U8, U32, U64, U128, kind_of, shown, whole
 
 ITEMS_MAX = 8190
 NUMBER_MAX = U32
+STATUS_MAX = max(Status)
 HEADER = 48
 REQUEST = struct.Struct("<QIB3xI12x")
 REPLY = struct.Struct("<QIBB2xIQ4x")
@@ -154,15 +155,29 @@ def header_of(frame: bytes) -> Request:
     return Request(client, session, number, operation, ())
 
 
+def _header_at(data: object, at: int) -> bytes:
+    """The bytes of a header at this place: fewer than it has where they end before."""
+    if type(data) is bytes and type(at) is int and 0 <= at <= U64:  # as they nearly always are
+        return data[at : at + HEADER]
+    if not isinstance(data, (bytes, bytearray, memoryview)):
+        raise InvalidType("data", f"must be bytes, not {kind_of(data)}")
+    at = whole("at", at, U64)
+    held = bytes(data) if isinstance(data, memoryview) else data
+    return bytes(held[at : at + HEADER])
+
+
 def request_fault(data: bytes, at: int = 0) -> Optional[str]:
     """What is wrong with the header of a request at this place, by the tests of docs/FORMATS.md in their order. A server that reads
     pairs ends at such a frame, for all."""
-    session, number, operation, length = REQUEST.unpack_from(data, at + 16)
+    header = _header_at(data, at)
+    if len(header) < HEADER:
+        return "Short"
+    session, number, operation, length = REQUEST.unpack_from(header, 16)
     is_register, size = operation == Operation.register, ITEM_SIZES.get(operation, 1)
     tests = (
-        ("ClientZero", not any(data[at : at + 16])),
+        ("ClientZero", not any(header[:16])),
         ("UnknownOperation", not is_register and operation not in ITEM_SIZES),
-        ("Reserved", any(data[at + 29 : at + 32]) or any(data[at + 36 : at + HEADER])),
+        ("Reserved", any(header[29:32]) or any(header[36:])),
         ("RegisterNumbers", is_register and (session or number)),
         ("RequestZero", not is_register and not number),
         ("BadLength", length if is_register else length % size),
@@ -175,20 +190,29 @@ def request_fault(data: bytes, at: int = 0) -> Optional[str]:
 
 
 def reply_length(data: bytes, at: int = 0) -> int:
-    """The length of the frame whose header of 48 bytes stands at this place."""
-    length: int = struct.unpack_from("<I", data, at + 32)[0]
-    return HEADER + length
+    """The length of the frame whose header of 48 bytes stands at this place. `BadReply` where fewer bytes are there."""
+    header = _header_at(data, at)
+    if len(header) < HEADER:
+        raise BadReply(f"{len(header)} bytes are no header of a frame (Short)")
+    return _length_of(header)
+
+
+def _length_of(header: bytes) -> int:
+    return HEADER + int.from_bytes(header[32:36], "little")
 
 
 def reply_fault(data: bytes, at: int = 0) -> Optional[str]:
     """What is wrong with the header of a reply at this place, by the tests of docs/FORMATS.md in their order."""
-    session, number, operation, status, length, commit = REPLY.unpack_from(data, at + 16)
+    header = _header_at(data, at)
+    if len(header) < HEADER:
+        return "Short"
+    session, number, operation, status, length, commit = REPLY.unpack_from(header, 16)
     is_register, is_refusal, size = operation == Operation.register, status != Status.Reply, REPLY_SIZES.get(operation, 8)
     has_numbers = commit == 0 if is_refusal else 0 < session == commit if is_register else 0 < session < commit
     tests = (
-        ("ClientZero", not any(data[at : at + 16])),
+        ("ClientZero", not any(header[:16])),
         ("UnknownOperation", not is_register and operation not in REPLY_SIZES),
-        ("Reserved", status > max(Status) or any(data[at + 30 : at + 32]) or any(data[at + 44 : at + HEADER])),
+        ("Reserved", status > STATUS_MAX or any(header[30:32]) or any(header[44:])),
         ("RegisterNumbers", is_register and (number or is_refusal and session)),
         ("RequestZero", not is_register and not number),
         ("ReplyNumbers", not has_numbers),
@@ -200,11 +224,12 @@ def reply_fault(data: bytes, at: int = 0) -> Optional[str]:
 
 def test_reply(data: bytes, at: int = 0) -> None:
     """Raises BadReply where no header of a reply stands at this place: before its body is waited for."""
-    fault, body, first = reply_fault(data, at), reply_length(data, at) - HEADER, bytes(data[at : at + HEADER])
-    if fault in ("BadLength", "TooMany") and body > ITEMS_MAX * RECORD:
-        raise BadReply(f"a reply with a body of {body} bytes")
+    first = _header_at(data, at)
+    fault = reply_fault(first)
+    if fault in ("BadLength", "TooMany") and _length_of(first) > HEADER + ITEMS_MAX * RECORD:
+        raise BadReply(f"a reply with a body of {_length_of(first) - HEADER} bytes")
     if fault is not None:
-        text = f": {first.decode('ascii').splitlines()[0]!r}" if first.isascii() and first[:8].decode("ascii").isprintable() else ""
+        text = f": {first.decode('ascii').splitlines()[0]!r}" if first and first.isascii() and first[:8].decode("ascii").isprintable() else ""
         raise BadReply(f"what came is no frame of a reply ({fault}){text}")
 
 
@@ -221,14 +246,22 @@ class Reply:
     def to_bytes(self) -> bytes:
         for field, greatest in (("client", U128), ("session", U64), ("number", U32), ("operation", U8), ("status", U8), ("commit", U64)):
             whole(f"Reply.{field}", getattr(self, field), greatest)
-        header = REPLY.pack(self.session, self.number, self.operation, self.status, len(self.body), self.commit)
-        return u128(self.client) + header + self.body
+        body = self._body()
+        header = REPLY.pack(self.session, self.number, self.operation, self.status, len(body), self.commit)
+        return u128(self.client) + header + body
+
+    def _body(self) -> bytes:
+        if not isinstance(self.body, (bytes, bytearray)):
+            raise InvalidType("Reply.body", f"must be bytes, not {kind_of(self.body)}")
+        if len(self.body) > U32:
+            raise InvalidValue("Reply.body", f"must have at most {shown(U32)} bytes")
+        return bytes(self.body)
 
     @classmethod
     def from_bytes(cls, frame: bytes) -> Reply:
         if not isinstance(frame, (bytes, bytearray)):
             raise BadReply(f"{kind_of(frame)} is no frame of a reply")
-        if len(frame) < HEADER or len(frame) != reply_length(frame):
+        if len(frame) < HEADER or len(frame) != _length_of(frame):
             raise BadReply(f"{len(frame)} bytes are no frame of a reply")
         test_reply(frame)
         session, number, operation, status, _, commit = REPLY.unpack_from(frame, 16)
@@ -241,7 +274,7 @@ class Reply:
             operation = Operation(self.operation)
         except ValueError:
             raise BadReply(f"no operation is {self.operation}") from None
-        return said_by(operation, self.body)
+        return said_by(operation, self._body())
 
 
 def said_by(operation: Operation, body: bytes) -> Said:
