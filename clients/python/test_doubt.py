@@ -98,6 +98,47 @@ class Doubt(unittest.TestCase):
             session = self.session(self.failing(tb.NoMemory("no memory"), 1), attempts=1)
             self.assertRaises(tb.NoMemory, session.create_accounts, [account(1)])
 
+    def paused(self, error, attempts=5, **options):
+        """The pauses of a call in which each attempt gets this error."""
+        with mock.patch("time.sleep") as sleep:
+            session = self.session(self.failing(error, 10**9), attempts=attempts, **options)
+            self.assertRaises(type(error), session.create_accounts, [account(1)])
+        self.assertEqual((len(self.sent), len(set(self.sent)), session.in_doubt.items), (attempts, 1, (account(1),)))
+        return [it.args[0] for it in sleep.call_args_list]
+
+    def test_pauses_where_the_server_says_to_come_later(self):
+        """docs/CLIENTS.md: `pause` seconds (0.05), each time twice as many, up to a second, or to `pause` where that is longer."""
+        for error in (tb.Busy("busy"), tb.NoMemory("no memory")):
+            self.assertEqual(self.paused(error), [0.05, 0.1, 0.2, 0.4])
+            self.assertEqual(self.paused(error, attempts=1), [])
+            self.assertEqual(self.paused(error, attempts=9), [0.05, 0.1, 0.2, 0.4, 0.8, 1.0, 1.0, 1.0])
+            self.assertEqual(self.paused(error, attempts=2000)[5:], [1.0] * 1994, "they stay bounded")
+            self.assertEqual(self.paused(error, pause=0.3), [0.3, 0.6, 1.0, 1.0])
+            self.assertEqual(self.paused(error, pause=7), [7, 7, 7, 7])
+            self.assertEqual(self.paused(error, pause=0), [0, 0, 0, 0])
+        self.assertEqual(self.paused(tb.ReplyLost("lost")), [], "a reply that was lost is asked for at once")
+        with mock.patch("time.sleep") as sleep:
+            session = self.session(lambda frame: reply(frame, status=tb.Status.NotYet))
+            self.assertRaises(tb.NotYet, session.lookup_accounts, [1])
+        self.assertEqual([it.args[0] for it in sleep.call_args_list], [0.05, 0.1, 0.2, 0.4])
+
+    def test_each_way_to_make_a_session_takes_a_pause(self):
+        serve = Direct(lambda moment, frame: reply(frame))
+        with tempfile.TemporaryDirectory() as folder:
+            path = os.path.join(folder, "session.json")
+            made = [Session(serve, 7, pause=3), Session.register(serve, pause=3), Session.resumed(serve, Session(serve, 7).saved, pause=3)]
+            made[0].save(path)
+            made.append(Session.load(serve, path, pause=3))
+        self.assertEqual([it.pause for it in made], [3] * 4)
+
+    def test_options_that_were_changed_to_what_they_may_not_be(self):
+        for field, value in (("attempts", 0), ("attempts", -1), ("attempts", 1.5), ("attempts", "5"), ("pause", -1), ("pause", None), ("pause", "1")):
+            session = self.session(lambda frame: reply(frame))
+            setattr(session, field, value)
+            with self.assertRaises(tb.Invalid) as raised:
+                session.create_accounts([account(1)])
+            self.assertEqual((raised.exception.field, self.sent, session.pending), (field, [], None))
+
     def test_what_is_in_doubt_can_be_read(self):
         lost = self.failing(tb.ReplyLost("lost"), 10**9)
         for call, items, operation in (

@@ -921,7 +921,7 @@ class Sockets(unittest.TestCase):
         whole = tb.Reply(1, 1, 0, 2, 0, 1, b"").to_bytes()
         cut, busy, long, late, good = self.answered(whole[:47], b"tb_listen: Busy\n", whole[:32] + struct.pack("<I", 8191 * 128) + whole[36:], None, whole)
         self.assertEqual((type(cut), str(cut)), (tb.ReplyLost, "the server closed the connection"))
-        self.assertEqual((type(busy), str(busy)), (tb.ReplyLost, "the server closed the connection: Busy"))
+        self.assertEqual((type(busy), str(busy)), (tb.Busy, "the server closed the connection: Busy"))
         self.assertEqual((type(long), str(long)), (tb.BadReply, f"a reply with a body of {8191 * 128} bytes"))
         self.assertEqual((type(late), str(late)), (tb.ReplyLost, "no reply within 0.5 seconds"))
         self.assertEqual(good, whole)

@@ -256,6 +256,51 @@ class Retries(unittest.TestCase):
         session = self.session(lambda frame: reply(frame, body=struct.pack("<II", 0, 99)))
         self.assertRaises(tb.BadReply, session.create_transfers, [transfer(1, 1, 2, 1)])
 
+    def test_a_refusal_of_another_session(self):
+        """A refusal repeats the request's session (docs/FORMATS.md). One that does not is no answer, and the request stays in doubt."""
+        for status in tb.Status:
+            for other in (0, 2, 2**64 - 1):
+                if status != tb.Status.Reply:
+                    session = self.session(lambda frame: reply(frame, status=status, session=other))
+                    with self.assertRaises(tb.BadReply) as raised:
+                        session.create_accounts([account(1)])
+                    self.assertEqual(str(raised.exception), f"a refusal in session {other} came for request 1 of session 1")
+                    self.assertEqual((len(self.sent), session.pending, session.in_doubt.items), (1, self.sent[0], (account(1),)))
+                    with self.assertRaises(tb.InDoubt) as doubt:
+                        session.lookup_accounts([1])
+                    self.assertEqual(str(doubt.exception), "the last request has no reply yet: retry it", "it is not told as refused")
+                    session.transport = Direct(lambda moment, frame: reply(frame))
+                    self.assertEqual((session.retry(), session.number), ([], 1))
+
+    def test_results_of_no_event(self):
+        """A create's body lists the events that were not accepted (docs/CLIENTS.md), by their index in the request."""
+        exists = 46
+        for rows, said in (
+            ([(2, exists)], "a result of event 2 came for 2 events"), ([(2**32 - 1, exists)], f"a result of event {2**32 - 1} came for 2 events"),
+            ([(0, exists), (0, exists)], "a result of event 0 came behind that of event 0"), ([(1, exists), (0, exists)], "a result of event 0 came behind that of event 1"),
+            ([(1, 0)], "event 1 came as ok among those that failed"),
+        ):
+            session = self.session(lambda frame: reply(frame, body=b"".join(struct.pack("<II", *it) for it in rows)))
+            with self.assertRaises(tb.BadReply) as raised:
+                session.create_transfers([transfer(1, 1, 2, 1), transfer(2, 1, 2, 1)])
+            self.assertEqual((str(raised.exception), session.number, session.pending), (said, 0, self.sent[0]))
+        session = self.session(lambda frame: reply(frame, body=struct.pack("<IIII", 0, exists, 1, exists)))
+        self.assertEqual(results(session.create_transfers([transfer(1, 1, 2, 1)] * 2)), [(0, "exists"), (1, "exists")])
+
+    def test_records_that_were_not_looked_up(self):
+        """A look-up answers the records that are there, in the order of the ids."""
+        for found in ([4], [1, 1], [2, 1], [1, 2, 3, 3], [1, 2, 3, 1]):
+            session = self.session(lambda frame: reply(frame, body=b"".join(account(it).to_bytes() for it in found)))
+            with self.assertRaises(tb.BadReply) as raised:
+                session.lookup_accounts([1, 2, 3])
+            self.assertEqual(str(raised.exception), f"a record with id {found[-1]} came, which was not looked up there")
+            self.assertEqual(session.in_doubt.items, (1, 2, 3))
+        for found in ([], [1], [3], [1, 3], [1, 2, 3]):
+            session = self.session(lambda frame: reply(frame, body=b"".join(account(it).to_bytes() for it in found)))
+            self.assertEqual([it.id for it in session.lookup_accounts([1, 2, 3])], found)
+        session = self.session(lambda frame: reply(frame, body=account(1).to_bytes() * 3))
+        self.assertEqual(len(session.lookup_accounts([1, 1, 1])), 3)
+
     def test_too_many(self):
         self.assertRaises(ValueError, self.session(reply).lookup_accounts, [1] * 8191)
         self.assertRaises(ValueError, self.session(reply, number=2**32 - 1).lookup_accounts, [1])

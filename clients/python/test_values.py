@@ -258,7 +258,10 @@ class Values(unittest.TestCase):
             self.refused("now", Session, Direct(self.exchange), 7, now=value, types=TypeError)
         for value in ("5", True, 1j, decimal.Decimal(1), b""):
             self.refused("jump_max", Session, Direct(self.exchange), 7, jump_max=value, types=TypeError)
+        for value in ("5", None, True, 1j, decimal.Decimal(1), b""):
+            self.refused("pause", Session, Direct(self.exchange), 7, pause=value, types=TypeError)
         for value in (-1, -0.5, 2**32, 10**6000, math.nan, math.inf):
+            self.refused("pause", Session, Direct(self.exchange), 7, pause=value, types=ValueError)
             self.refused("jump_max", Session, Direct(self.exchange), 7, jump_max=value, types=ValueError)
 
     def test_frames(self):

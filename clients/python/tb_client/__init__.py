@@ -14,6 +14,7 @@ docs/CLIENTS.md says how to use it, docs/FORMATS.md has the frames, docs/RULES.m
 from .errors import (
     REFUSALS,
     BadReply,
+    Busy,
     CannotConnect,
     CannotStart,
     ClientError,
@@ -53,7 +54,7 @@ from .values import U128 as amount_max  # as the amount of a post: all of the pe
 MAX = amount_max
 
 __all__ = [
-    "Account", "AccountFlags", "BadReply", "CannotConnect", "CannotStart", "ClientError", "ClockJumped", "Closed", "Collision", "CreateAccountResult", "CreateTransferResult",
+    "Account", "AccountFlags", "BadReply", "Busy", "CannotConnect", "CannotStart", "ClientError", "ClockJumped", "Closed", "Collision", "CreateAccountResult", "CreateTransferResult",
     "Direct", "EventResult", "EventsFailed", "Evicted", "Faulty", "HEADER", "ITEMS_MAX", "InDoubt", "Invalid", "InvalidType", "InvalidValue", "MAX", "NUMBER_MAX",
     "NewerRequest", "NewerSession", "NoMemory", "NoSession", "NotSent", "NotYet", "NothingInDoubt", "Older", "Operation", "Program", "ProgramEnded", "REFUSALS",
     "Refused", "Reply", "ReplyLost", "Request", "Saved", "ScriptFull", "Session", "SessionTooLow", "Socket", "Status", "Transfer", "TransferFlags", "Transport", "amount_max",

@@ -77,6 +77,10 @@ class ReplyLost(ClientError):
     """No reply came. The request may have been executed or not: send the same bytes again."""
 
 
+class Busy(ReplyLost):
+    """The server has too many connections, and did not take the request: come later."""
+
+
 class NoMemory(ClientError):
     """The server had no memory for the request, and did not execute it: send the same bytes again."""
 

@@ -3,7 +3,7 @@ from __future__ import annotations
 
 import dataclasses
 import struct
-from typing import Any, Callable, Iterable, List, Mapping, Optional, Tuple, TypeVar, Union
+from typing import Any, Callable, Iterable, Iterator, List, Mapping, Optional, Sequence, Tuple, TypeVar, Union, cast
 
 from .errors import BadReply, InvalidType, InvalidValue
 from .names import CreateAccountResult, CreateTransferResult, Operation, Status
@@ -290,6 +290,34 @@ def said_by(operation: Operation, body: bytes) -> Said:
         return [EventResult(index, names(result)) for index, result in _items(body, 8, struct.Struct("<II").unpack)]
     except ValueError as unknown:
         raise BadReply(str(unknown)) from None
+
+
+def test_said(frame: bytes, operation: Operation, said: Said) -> None:
+    """Raises BadReply where a reply says what no reply to the request of this frame says."""
+    if operation in (Operation.create_accounts, Operation.create_transfers):
+        _test_results((len(frame) - HEADER) // RECORD, cast(List[EventResult], said))
+    elif operation != Operation.register:
+        _test_found((u128_at(frame, at) for at in range(HEADER, len(frame), ID)), cast(List[Account], said))
+
+
+def _test_results(count: int, results: Sequence[EventResult]) -> None:
+    """Results are of events that failed, in the order of the events."""
+    before = -1
+    for it in results:
+        if it.index >= count:
+            raise BadReply(f"a result of event {it.index} came for {count} events")
+        if it.index <= before:
+            raise BadReply(f"a result of event {it.index} came behind that of event {before}")
+        if not it.result:
+            raise BadReply(f"event {it.index} came as ok among those that failed")
+        before = it.index
+
+
+def _test_found(ids: Iterator[int], records: Sequence[Union[Account, Transfer]]) -> None:
+    """Records are those that were looked up, in the order of the ids."""
+    for it in records:
+        if it.id not in ids:  # it goes on behind the id of the record before
+            raise BadReply(f"a record with id {it.id} came, which was not looked up there")
 
 
 def _items(body: bytes, size: int, read: Callable[[bytes], T]) -> list[T]:

@@ -5,10 +5,10 @@ import json
 import os
 import threading
 import time
-from typing import Any, Callable, Iterable, List, Mapping, Optional, Type, TypedDict, TypeVar, Union, cast
+from typing import Any, Callable, Iterable, Iterator, List, Mapping, Optional, Type, TypedDict, TypeVar, Union, cast
 
-from .errors import REFUSALS, BadReply, ClockJumped, EventsFailed, Evicted, InDoubt, InvalidType, InvalidValue, NoMemory, NothingInDoubt, NotSent, NotYet, ReplyLost
-from .frames import NUMBER_MAX, Item, Reply, Request, Said, body_of, header_of, operation_of, request_frame, said_by
+from .errors import REFUSALS, BadReply, Busy, ClockJumped, EventsFailed, Evicted, InDoubt, InvalidType, InvalidValue, NoMemory, NothingInDoubt, NotSent, NotYet, ReplyLost
+from .frames import NUMBER_MAX, Item, Reply, Request, Said, body_of, header_of, operation_of, request_frame, said_by, test_said
 from .ids import id as new_id
 from .names import Operation, Status
 from .records import Account, EventResult, Transfer
@@ -18,7 +18,8 @@ from .values import MOMENT_MAX, U32, U64, U128, callable_of, kind_of, seconds, w
 ATTEMPTS = 5
 JUMP_MAX = 60.0  # seconds
 SECOND = 10**9
-FIRST_PAUSE = 0.01  # seconds, before a request is sent again for want of memory; doubled each time
+PAUSE = 0.05  # seconds, before a request is sent again where the server said to come later; doubled each time
+PAUSE_MAX = 1.0  # seconds, beyond which it is doubled no more
 
 S = TypeVar("S", bound="Session")
 Path = Union[str, "os.PathLike[str]"]
@@ -36,6 +37,14 @@ class Saved(TypedDict):
 def _running_ns() -> int:
     """A clock that nobody sets: it counts while the computer sleeps too, where the system has such a clock."""
     return time.clock_gettime_ns(getattr(time, "CLOCK_BOOTTIME", time.CLOCK_MONOTONIC))
+
+
+def _pauses(first: float) -> Iterator[float]:
+    """The seconds that go by before each attempt where the server said to come later."""
+    pause, greatest = first, max(first, PAUSE_MAX)
+    while True:
+        yield pause
+        pause = min(2 * pause, greatest)
 
 
 class _Moments:
@@ -63,9 +72,11 @@ class Session(Closing):
     `saved` is what outlives the client. Whoever keeps it between `prepare` and `retry` can go on after a crash, by
     `Session.resumed`, and knows after `retry` what the last request did. `save` and `load` keep it in a file.
 
-    A request is sent `attempts` times at most in a call, and then stays in doubt. `now` gives the moments, in nanoseconds;
-    one that is more than `jump_max` seconds too far ahead is `ClockJumped` and is not sent (None: no such test). Threads may
-    share a session: their requests go one after another. At the end of a `with` the transport is closed."""
+    A request is sent `attempts` times at most in a call, and then stays in doubt. Where the server said to come later (Busy,
+    NoMemory, NotYet), `pause` seconds go by before it is sent again, each time twice as many, up to a second or `pause`, whichever
+    is longer. `now` gives the moments, in nanoseconds; one that is more than `jump_max` seconds too far ahead is `ClockJumped` and
+    is not sent (None: no such test). Threads may share a session: their requests go one after another. At the end of a `with` the
+    transport is closed."""
 
     def __init__(
         self,
@@ -77,6 +88,7 @@ class Session(Closing):
         attempts: int = ATTEMPTS,
         now: Callable[[], int] = time.time_ns,
         jump_max: Optional[float] = JUMP_MAX,
+        pause: float = PAUSE,
     ) -> None:
         self.client = whole("client", client, U128, 1)
         if not callable(getattr(transport, "exchange", None)):
@@ -87,8 +99,9 @@ class Session(Closing):
         self.attempts = whole("attempts", attempts, U32, 1)
         self.now = callable_of("now", now)
         self.jump_max = None if jump_max is None else seconds("jump_max", jump_max, 0)
+        self.pause = seconds("pause", pause, 0)
         _test_pending("pending", pending, self.client, self.session, self.number)
-        self.pending = pending
+        self.pending = None if pending is None else bytes(pending)
         self._refused: Optional[Type[Exception]] = None
         self._may_be_sent = pending is not None
         self._moments = _Moments()
@@ -103,9 +116,10 @@ class Session(Closing):
         attempts: int = ATTEMPTS,
         now: Callable[[], int] = time.time_ns,
         jump_max: Optional[float] = JUMP_MAX,
+        pause: float = PAUSE,
     ) -> S:
         """Registers the client, and answers its new session. Where no id is given the client has a new one."""
-        self = cls(transport, new_id() if client is None else client, attempts=attempts, now=now, jump_max=jump_max)
+        self = cls(transport, new_id() if client is None else client, attempts=attempts, now=now, jump_max=jump_max, pause=pause)
         self._ask(Operation.register, ())
         return self
 
@@ -118,6 +132,7 @@ class Session(Closing):
         attempts: int = ATTEMPTS,
         now: Callable[[], int] = time.time_ns,
         jump_max: Optional[float] = JUMP_MAX,
+        pause: float = PAUSE,
     ) -> S:
         """The session as it was when `saved` was taken. Where a request was in doubt, `retry` it first."""
         if not isinstance(saved, Mapping):
@@ -129,7 +144,7 @@ class Session(Closing):
         session, number = whole("saved['session']", saved["session"], U64), whole("saved['number']", saved["number"], U32)
         pending = _frame_of("saved['pending']", saved["pending"])
         _test_pending("saved['pending']", pending, client, session, number)
-        return cls(transport, client, session, number, pending, attempts=attempts, now=now, jump_max=jump_max)
+        return cls(transport, client, session, number, pending, attempts=attempts, now=now, jump_max=jump_max, pause=pause)
 
     @property
     def saved(self) -> Saved:
@@ -161,6 +176,7 @@ class Session(Closing):
         attempts: int = ATTEMPTS,
         now: Callable[[], int] = time.time_ns,
         jump_max: Optional[float] = JUMP_MAX,
+        pause: float = PAUSE,
     ) -> S:
         """The session that `save` kept in a file. Where a request was in doubt, `retry` it first."""
         _test_path(path)
@@ -169,7 +185,7 @@ class Session(Closing):
                 saved = json.load(file)
         except ValueError as fault:
             raise InvalidValue("saved", f"is no JSON: {fault}") from None
-        return cls.resumed(transport, saved, attempts=attempts, now=now, jump_max=jump_max)
+        return cls.resumed(transport, saved, attempts=attempts, now=now, jump_max=jump_max, pause=pause)
 
     @property
     def in_doubt(self) -> Optional[Request]:
@@ -237,9 +253,9 @@ class Session(Closing):
         with self._lock:
             if self.pending is None:
                 raise NothingInDoubt("no request is in doubt")
-            pause = FIRST_PAUSE
+            attempts, pauses = whole("attempts", self.attempts, U32, 1), _pauses(seconds("pause", self.pause, 0))
             last: Optional[str] = None  # what became of the last attempt of this call
-            for left in reversed(range(self.attempts)):
+            for left in reversed(range(attempts)):
                 try:
                     moment = self._moments.take(self.now, self.jump_max)
                     return self._take(Reply.from_bytes(self._exchange(moment, self.pending)))
@@ -251,9 +267,8 @@ class Session(Closing):
                     if not left:
                         raise
                     last = str(why)
-                    if not isinstance(why, ReplyLost):
-                        time.sleep(pause)
-                        pause *= 2
+                    if isinstance(why, (Busy, NoMemory, NotYet)):
+                        time.sleep(next(pauses))
             raise AssertionError("attempts is 1 at least")
 
     def _exchange(self, moment: int, frame: bytes) -> bytes:
@@ -275,8 +290,8 @@ class Session(Closing):
         if (reply.client, reply.number, reply.operation) != (self.client, asked.number, asked.operation):
             raise BadReply(f"a reply to request {reply.number} of client {reply.client} came for request {asked.number}")
         if reply.status != Status.Reply:
-            if reply.status not in list(Status):
-                raise BadReply(f"no status is {reply.status}")
+            if reply.session != session:
+                raise BadReply(f"a refusal in session {reply.session} came for request {asked.number} of session {session}")
             refusal = REFUSALS[Status(reply.status)]
             self._refused = refusal
             raise refusal(f"request {asked.number} of session {session} is refused: {refusal.reason}")
@@ -285,6 +300,7 @@ class Session(Closing):
         if reply.session != session or not session:
             raise BadReply(f"a reply in session {reply.session} came in session {session}")
         said = said_by(asked.operation, reply.body)
+        test_said(cast(bytes, self.pending), asked.operation, said)
         self.session, self.number, self.pending = session, asked.number, None
         return said
 

@@ -9,7 +9,7 @@ import threading
 import time
 from typing import Optional, Tuple, Union
 
-from .errors import CannotConnect, Closed, InvalidType, InvalidValue, ReplyLost
+from .errors import Busy, CannotConnect, Closed, InvalidType, InvalidValue, ReplyLost
 from .frames import HEADER, header_of, reply_length, test_reply
 from .transports import Closing
 from .values import is_name, kind_of, seconds, whole
@@ -134,7 +134,8 @@ def _is_left(it: socket.socket) -> bool:
 def _closed(said: bytes) -> ReplyLost:
     """What to raise where the server closed the connection after these bytes: with the name that it told, where it told one."""
     why = bytes(said[len(TOLD) :]).decode("ascii", "replace").strip() if said.startswith(TOLD) else ""
-    return ReplyLost(f"the server closed the connection{why and ': ' + why}")
+    kind = Busy if why == "Busy" else ReplyLost
+    return kind(f"the server closed the connection{why and ': ' + why}")
 
 
 def _address_of(address: object) -> Union[str, Tuple[str, int]]:
