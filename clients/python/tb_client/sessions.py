@@ -2,12 +2,12 @@
 from __future__ import annotations
 
 import json
-import os
 import threading
 import time
 from typing import Any, Callable, Iterable, Iterator, List, Mapping, Optional, Type, TypedDict, TypeVar, Union, cast
 
 from .errors import REFUSALS, BadReply, Busy, ClockJumped, EventsFailed, Evicted, InDoubt, InvalidType, InvalidValue, NoMemory, NothingInDoubt, NotSent, NotYet, ReplyLost
+from .files import Path, path_of, read_saved, write_whole
 from .frames import NUMBER_MAX, Item, Reply, Request, Said, body_of, header_of, operation_of, request_frame, said_by, test_said
 from .ids import id as new_id
 from .names import Operation, Status
@@ -22,7 +22,6 @@ PAUSE = 0.05  # seconds, before a request is sent again where the server said to
 PAUSE_MAX = 1.0  # seconds, beyond which it is doubled no more
 
 S = TypeVar("S", bound="Session")
-Path = Union[str, "os.PathLike[str]"]
 
 
 class Saved(TypedDict):
@@ -152,20 +151,11 @@ class Session(Closing):
             return {"client": self.client, "session": self.session, "number": self.number, "pending": (self.pending or b"").hex()}
 
     def save(self, path: Path) -> None:
-        """Keeps `saved` in a file, whole: after a crash the file has it as it is now or as it was before."""
-        _test_path(path)
-        with self._lock:  # threads that share the session write the same file
-            beside = f"{os.fspath(path)}.new"
-            with open(beside, "w", encoding="ascii") as file:
-                json.dump(self.saved, file)
-                file.flush()
-                os.fsync(file.fileno())
-            os.replace(beside, path)
-            folder = os.open(os.path.dirname(os.path.abspath(path)), os.O_RDONLY)
-            try:
-                os.fsync(folder)
-            finally:
-                os.close(folder)
+        """Keeps `saved` in a file, whole: after a crash the file has it as it is now or as it was before. Where it fails the file is
+        as it was before, but for a folder that could not be synced."""
+        name = path_of(path)
+        with self._lock:
+            write_whole(name, json.dumps(self.saved).encode("ascii"))
 
     @classmethod
     def load(
@@ -179,13 +169,7 @@ class Session(Closing):
         pause: float = PAUSE,
     ) -> S:
         """The session that `save` kept in a file. Where a request was in doubt, `retry` it first."""
-        _test_path(path)
-        try:
-            with open(path, encoding="ascii") as file:
-                saved = json.load(file)
-        except ValueError as fault:
-            raise InvalidValue("saved", f"is no JSON: {fault}") from None
-        return cls.resumed(transport, saved, attempts=attempts, now=now, jump_max=jump_max, pause=pause)
+        return cls.resumed(transport, read_saved(path_of(path)), attempts=attempts, now=now, jump_max=jump_max, pause=pause)
 
     @property
     def in_doubt(self) -> Optional[Request]:
@@ -307,11 +291,6 @@ class Session(Closing):
     def close(self) -> None:
         """Closes the transport."""
         close_transport(self.transport)
-
-
-def _test_path(path: object) -> None:
-    if not isinstance(path, (str, os.PathLike)):
-        raise InvalidType("path", f"must be a path, not {kind_of(path)}")
 
 
 def _frame_of(field: str, text: object) -> Optional[bytes]:
