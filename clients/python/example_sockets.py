@@ -19,6 +19,7 @@ from tb_client import Account, Operation, Session, Socket, Transfer, id, require
 here = os.path.dirname(os.path.abspath(__file__))
 CASH, SALES = 1, 2
 CLIENTS, COUNT = 4, 60
+PATIENCE = 120.0  # seconds for which the clients may work before the next thing happens
 
 Address = Union[str, Tuple[str, int]]
 
@@ -101,13 +102,32 @@ def client(address: Address, kept: str) -> "subprocess.Popen[bytes]":
     return subprocess.Popen([sys.executable, os.path.abspath(__file__), "client", json.dumps(address), kept])
 
 
-def wait_until(count: int, files: List[str]) -> None:
+def wait_until(count: int, files: List[str], clients: "List[subprocess.Popen[bytes]]", listening: Listening) -> None:
+    """Waits until the clients know so many transfers to be made. Ends the example where they cannot make them any more."""
+    deadline = time.monotonic() + PATIENCE
     while sum(map(done, files)) < count:
+        for it in clients:
+            if it.poll():
+                sys.exit(f"a client failed, with status {it.returncode}")
+        if listening.process.poll() is not None:
+            sys.exit("the listener ended, with status {}: {}".format(*listening.ended()).strip())
+        if time.monotonic() > deadline:
+            sys.exit(f"the clients did not make {count} transfers in {PATIENCE:g} seconds")
         time.sleep(0.005)
 
 
 def run(command: List[str], place: List[str], folder: str) -> None:
     listening = Listening(command, place, folder)
+    clients: "List[subprocess.Popen[bytes]]" = []
+    try:
+        work_amid_kills(listening, clients, place, folder)
+    finally:
+        for it in [*clients, listening.process]:  # where something failed they may still run
+            it.kill()
+            it.wait()
+
+
+def work_amid_kills(listening: Listening, clients: "List[subprocess.Popen[bytes]]", place: List[str], folder: str) -> None:
     address: Address = listening.place
     if place[0] == "--tcp":
         host, _, port = listening.place.rpartition(":")
@@ -117,23 +137,24 @@ def run(command: List[str], place: List[str], folder: str) -> None:
     with Session.register(Socket(address)) as session:
         require_ok(session.create_accounts([Account(it, ledger=700, code=10) for it in (CASH, SALES)]))
     files = [os.path.join(folder, f"session{number}.json") for number in range(CLIENTS)]
-    clients = [client(address, kept) for kept in files]
+    clients += [client(address, kept) for kept in files]
 
-    wait_until(CLIENTS * COUNT // 5, files)
+    wait_until(CLIENTS * COUNT // 5, files, clients, listening)
     listening.kill_server()
     print("  the server is killed: the listener starts it again")
 
-    wait_until(CLIENTS * COUNT * 2 // 5, files)
+    wait_until(CLIENTS * COUNT * 2 // 5, files, clients, listening)
     clients[0].kill()
     clients[0].wait()
     clients[0] = client(address, files[0])
     print("  a client is killed: it goes on from what it saved")
 
-    wait_until(CLIENTS * COUNT * 3 // 5, files)
+    wait_until(CLIENTS * COUNT * 3 // 5, files, clients, listening)
     listening.kill()
     listening.start()
     print("  the listener is killed: its server ends with it, and both are started again")
 
+    wait_until(CLIENTS * COUNT, files, clients, listening)
     assert [it.wait() for it in clients] == [0] * CLIENTS, "a client failed"
     with Session.register(Socket(address)) as session:
         credited = session.lookup_accounts([SALES])[0].credits_posted

@@ -29,6 +29,7 @@ import fcntl
 import os
 import re
 import resource
+import select
 import signal
 import socket
 import stat
@@ -37,6 +38,7 @@ import sys
 import time
 from typing import Any, Awaitable, Callable, Deque, Iterator, List, Optional, Sequence, Set, Tuple, TypeVar
 
+from tb_client import Operation
 from tb_client.frames import HEADER, reply_fault, reply_length, request_fault
 
 T = TypeVar("T")
@@ -44,19 +46,34 @@ T = TypeVar("T")
 SECOND = 10**9
 READ_AHEAD = 1 << 16  # bytes that are read of a connection beyond the request that is waited for
 BACKLOG = 1024  # connections that wait to be taken
+ACCEPT_AGAIN = 0.5  # seconds before a connection is taken again for which there was no file
 LAST_WORDS = 1.0  # seconds for which what a command wrote may still come when it has ended
 WATCH = 0.1  # seconds after which a command is looked at again, to see whether it has ended
 LAST_READ = 1.0  # seconds for which a client that is told why may still send, so that it reads why and is not cut off before
 PAUSES = (0.1, 0.5, 2.0, 5.0)  # seconds before the command is started again; the last one from then on
 STEADY = 60.0  # seconds after which a command that ends is one that was well until then
 LAG = 60  # seconds by which the clock may run away from the moments before that is said
+WANTS = (errno.EMFILE, errno.ENFILE, errno.EAGAIN, errno.ENOMEM)
 LINES = 4096  # bytes of what the command said last that are kept
 EMPTY = 10  # bytes below which a journal's file has no entry
 
 
 def say(text: str) -> None:
-    with contextlib.suppress(OSError):
-        print(f"tb_listen: {text}", file=sys.stderr, flush=True)
+    """Says a line on standard error, where that takes it at once. Who reads nothing there holds up no client."""
+    with contextlib.suppress(OSError, ValueError):
+        if sys.stderr is not None and _takes_a_line():
+            print(f"tb_listen: {text}"[: LINES // 4], file=sys.stderr, flush=True)
+
+
+def _takes_a_line() -> bool:
+    """Whether there is room for a line on standard error: a pipe that tells so has room for 4096 bytes."""
+    try:
+        number = sys.stderr.fileno()
+    except OSError:  # it is no file of the system
+        return True
+    room = select.poll()
+    room.register(number, select.POLLOUT)
+    return bool(room.poll(0))
 
 
 class Told(Exception):
@@ -69,6 +86,10 @@ class Ended(Exception):
     def __init__(self, line: str, status: int) -> None:
         super().__init__(line)
         self.status = status
+
+
+class Wanting(Ended):
+    """The command does not start for want of what there may be enough of later, as files or memory."""
 
 
 async def in_time(awaited: Awaitable[T], seconds: float, name: str) -> T:
@@ -153,7 +174,8 @@ async def _started(words: Sequence[str], stdin: int) -> asyncio.subprocess.Proce
     try:
         return await asyncio.create_subprocess_exec(*words, stdin=stdin, stdout=pipe, stderr=pipe, start_new_session=True)
     except OSError as error:
-        raise Ended(f"{words[0]} does not start: {error.strerror}", 1) from None
+        kind = Wanting if error.errno in WANTS else Ended
+        raise kind(f"{words[0]} does not start: {error.strerror}", 1) from None
 
 
 def _kill(process: asyncio.subprocess.Process) -> None:
@@ -189,8 +211,8 @@ async def _exited(process: asyncio.subprocess.Process) -> int:
 
 
 def asker(header: bytes) -> bytes:
-    """What a reply repeats of its request: client, request and operation."""
-    return header[:16] + header[24:29]
+    """What a reply repeats of its request: client, session, request and operation. The session of a register is new."""
+    return header[:16] + header[24:29] if header[28] == Operation.register else header[:29]
 
 
 class Command:
@@ -208,24 +230,35 @@ class Command:
         """Runs the command until its input is closed, and again where a signal ended it and it keeps its ledger. Raises `Ended` where it
         ends for another reason."""
         try:
-            quick = 0
+            lives = quick = 0
             while True:
                 began = time.monotonic()
-                status, line = await self._run_once()
-                if self.is_closed and status == 0:
-                    return
-                number = _signal_of(status)
-                if line and not number:
-                    raise Ended(line, status or 1)
-                ended = f"{self.words[0]} ended {_end_of(status)}{line and f' ({line})'}"
-                if not number or not self.keeps or self.stopping.is_set():
-                    raise Ended(ended, 1 if number else status or 1)
+                try:
+                    status, line = await self._run_once()
+                    if self.is_closed and status == 0:
+                        return
+                    ended = self._end_by_signal(status, line)
+                    lives += 1
+                except Wanting as want:
+                    if not lives:
+                        raise
+                    ended = str(want)
                 quick = 0 if time.monotonic() - began > STEADY else quick
                 await self._pause(ended, PAUSES[min(quick, len(PAUSES) - 1)])
                 quick += 1
         finally:
             self.is_over = True
             self.ready.set()
+
+    def _end_by_signal(self, status: int, line: str) -> str:
+        """How the command ended, where it may be started again. Raises `Ended` where it may not."""
+        number = _signal_of(status)
+        if line and not number:
+            raise Ended(line, status or 1)
+        ended = f"{self.words[0]} ended {_end_of(status)}{line and f' ({line})'}"
+        if not number or not self.keeps or self.stopping.is_set():
+            raise Ended(ended, 1 if number else status or 1)
+        return ended
 
     async def _pause(self, ended: str, seconds: float) -> None:
         """Waits before the command is started again. Raises `Ended` where the listener is to end meanwhile."""
@@ -590,16 +623,43 @@ async def _first(*futures: asyncio.Future[Any]) -> None:
     await asyncio.wait(futures, return_when=asyncio.FIRST_COMPLETED)
 
 
+async def _take_connections(place: socket.socket, listener: Listener) -> None:
+    """Takes connections one after another. Where there is no file for one more, those that call wait until there is."""
+    loop, is_said = asyncio.get_running_loop(), False
+    place.setblocking(False)
+    while True:
+        try:
+            it, _ = await loop.sock_accept(place)
+            is_said = False
+        except ConnectionError:  # it was gone before it was taken
+            continue
+        except OSError as error:
+            if not is_said:
+                say(f"no more connections are taken for now: {error.strerror}")
+            is_said = True
+            await asyncio.sleep(ACCEPT_AGAIN)
+            continue
+        await _begin(it, listener)
+
+
+async def _begin(it: socket.socket, listener: Listener) -> None:
+    """Lets a connection be served."""
+    reader = asyncio.StreamReader(limit=READ_AHEAD)
+    try:
+        await asyncio.get_running_loop().connect_accepted_socket(lambda: asyncio.StreamReaderProtocol(reader, listener.take), it)
+    except OSError:
+        it.close()
+
+
 async def _listen_on(place: socket.socket, command: Command, given: argparse.Namespace, stopping: asyncio.Future[Any]) -> None:
     listener = Listener(command, given)
     running = asyncio.ensure_future(command.run())
-    if given.unix:
-        server = await asyncio.start_unix_server(listener.take, sock=place, limit=READ_AHEAD, backlog=BACKLOG)
-    else:
-        server = await asyncio.start_server(listener.take, sock=place, limit=READ_AHEAD, backlog=BACKLOG)
+    taking = asyncio.ensure_future(_take_connections(place, listener))
     say(f"listens on {given.unix or shown(*place.getsockname())}")
     await _first(running, stopping)
-    server.close()
+    taking.cancel()
+    await asyncio.wait([taking])
+    place.close()
     command.stopping.set()
     await listener.stop("ProgramEnded" if running.done() else "Stopping")
     command.close()

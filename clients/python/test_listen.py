@@ -6,6 +6,8 @@ import io
 import os
 import random
 import re
+import resource
+import shlex
 import signal
 import socket
 import stat
@@ -16,7 +18,9 @@ import tempfile
 import threading
 import time
 import unittest
+import unittest.mock
 
+import example_sockets
 import tb_client as tb
 import tb_listen
 from tb_client import Session, Socket
@@ -375,6 +379,79 @@ class Ends(unittest.TestCase):
                 self.assertEqual(session.lookup_accounts([2])[0].credits_posted, sum(moved))
             self.assertEqual((listener.end(), len(listener.said)), (0, 4))
 
+    def files(self, listener):
+        return len(os.listdir(f"/proc/{listener.process.pid}/fd"))
+
+    def test_a_start_for_which_there_are_not_enough_files(self):
+        """The listener goes on, calls wait meanwhile, and what was acknowledged is there when there are files again."""
+        with Running() as listener, Session.register(Socket(listener.path, timeout=30)) as session:
+            tb.require_ok(session.create_accounts([account(1), account(2)]))
+            tb.require_ok(session.create_transfers([transfer(1, 1, 2, 10)]))
+            files, limits = self.files(listener), resource.prlimit(listener.process.pid, resource.RLIMIT_NOFILE)
+            resource.prlimit(listener.process.pid, resource.RLIMIT_NOFILE, (files, limits[1]))
+            listener.kill_server()
+            self.assertEqual(listener.tells(), f"tb_listen: {KEEPER[0]} ended by SIGKILL, and is started again in 0.1 s\n")
+            for pause in ("0.5", "2"):
+                self.assertEqual(listener.tells(), f"tb_listen: {KEEPER[0]} does not start: Too many open files, and is started again in {pause} s\n")
+            self.assertEqual((children(listener.process.pid), self.files(listener) <= files), ([], True), "nothing is left of what did not start")
+            waiting = threading.Thread(target=lambda: tb.require_ok(session.create_transfers([transfer(2, 1, 2, 10)])))
+            waiting.start()
+            resource.prlimit(listener.process.pid, resource.RLIMIT_NOFILE, limits)
+            waiting.join()
+            self.assertEqual([it.credits_posted for it in session.lookup_accounts([2])], [20])
+            self.assertEqual((listener.end(), len(listener.said)), (0, 4))
+
+    def test_an_end_while_there_are_not_enough_files(self):
+        with Running() as listener, Session.register(Socket(listener.path)):
+            files, limits = self.files(listener), resource.prlimit(listener.process.pid, resource.RLIMIT_NOFILE)
+            resource.prlimit(listener.process.pid, resource.RLIMIT_NOFILE, (files, limits[1]))
+            listener.kill_server()
+            for _ in range(3):
+                listener.tells()
+            self.assertEqual((listener.end(), listener.said[-1]), (1, f"tb_listen: {KEEPER[0]} does not start: Too many open files, and is not started again\n"))
+
+    def test_connections_for_which_there_are_not_enough_files(self):
+        """Those that are there go on, and the others are taken when there are files again."""
+        with Running() as listener, Session.register(Socket(listener.path)) as session:
+            files, limits = self.files(listener), resource.prlimit(listener.process.pid, resource.RLIMIT_NOFILE)
+            resource.prlimit(listener.process.pid, resource.RLIMIT_NOFILE, (files, limits[1]))
+            with contextlib.ExitStack() as held:
+                others = [held.enter_context(listener.call()) for _ in range(20)]
+                self.assertEqual(listener.tells(), "tb_listen: no more connections are taken for now: Too many open files\n")
+                time.sleep(1.5)
+                self.assertEqual(session.lookup_accounts([1]), [])
+                resource.prlimit(listener.process.pid, resource.RLIMIT_NOFILE, limits)
+                for number, it in enumerate(others, 10):
+                    it.sendall(register(number))
+                    self.assertEqual(tb.Reply.from_bytes(it.recv(48, socket.MSG_WAITALL)).client, number)
+            self.assertEqual((listener.end(), len(listener.said)), (0, 2), "it is said once")
+
+    def test_nobody_reads_what_is_said(self):
+        """Lines that standard error does not take at once are left out, and hold up no client."""
+        with Running() as listener, Session.register(Socket(listener.path)) as session:
+            for _ in range(1500):
+                it = listener.call()
+                it.sendall(header(client=0))
+                self.assertEqual(told(it), b"tb_listen: ClientZero\n")
+            self.assertEqual(session.lookup_accounts([1]), [])
+            listener.process.send_signal(signal.SIGTERM)
+            self.assertEqual(listener.process.wait(20), 0)
+
+    def test_nothing_is_open(self):
+        """Standard input, output and error may be closed: what is opened takes their places, and gets nothing that was meant for them."""
+        with tempfile.TemporaryDirectory() as folder:
+            path, file = os.path.join(folder, "it.sock"), os.path.join(folder, "ledger.journal")
+            words = [sys.executable, "-B", os.path.join(HERE, "tb_listen.py"), "--unix", path, "--", *KEEPER, "run", file, "64"]
+            listener = subprocess.Popen(["sh", "-c", 'exec "$@" <&- >&- 2>&-', "sh", *words])
+            with Session.register(Socket(path, timeout=20)) as session:
+                with socket.socket(socket.AF_UNIX, socket.SOCK_STREAM) as it:
+                    it.connect(path)
+                    it.sendall(header(client=0))
+                    self.assertEqual(told(it), b"tb_listen: ClientZero\n")
+                self.assertEqual(session.lookup_accounts([1]), [])
+            listener.terminate()
+            self.assertEqual((listener.wait(20), os.listdir(folder)), (0, ["ledger.journal"]))
+
     def test_who_waits_is_told(self):
         with Running(command=STAND_IN, fail="SIGKILL:read:1") as listener, listener.call() as it:
             it.sendall(register(1))
@@ -492,11 +569,20 @@ class Ends(unittest.TestCase):
         good = tb.Reply(1, 1, 0, 2, 0, 1, b"")
         for wrong in (
             dataclasses.replace(good, client=2).to_bytes(), dataclasses.replace(good, number=1, operation=131, commit=2).to_bytes(),
-            dataclasses.replace(good, session=0).to_bytes(), good.to_bytes()[:32] + b"\xff" * 4 + bytes(12), b"x" * 48, bytes(48),
+            dataclasses.replace(good, session=0).to_bytes(), dataclasses.replace(good, session=0, status=8, commit=0).to_bytes(), good.to_bytes()[:32] + b"\xff" * 4 + bytes(12), b"x" * 48, bytes(48),
         ):
             with Running(command=["sh", "-c", f"head -c 56 > /dev/null; printf '{octal(wrong)}'; sleep 10", "run"]) as listener:
                 with listener.call() as it:
                     it.sendall(register(1))
+                    self.assertEqual(told(it), b"tb_listen: ProgramEnded\n")
+                self.assertEqual(listener.ended(), 1)
+                self.assertEqual(listener.said[1:], ["tb_listen: sh wrote what is no reply to a request that it was given\n"])
+
+    def test_a_reply_of_another_session(self):
+        for wrong in (tb.Reply(1, 2, 1, 131, 0, 3, b""), tb.Reply(1, 2, 1, 131, 4, 0, b""), tb.Reply(1, 0, 1, 131, 1, 0, b"")):
+            with Running(command=["sh", "-c", f"head -c 56 > /dev/null; printf '{octal(wrong.to_bytes())}'; sleep 10", "run"]) as listener:
+                with listener.call() as it:
+                    it.sendall(header(operation=131))
                     self.assertEqual(told(it), b"tb_listen: ProgramEnded\n")
                 self.assertEqual(listener.ended(), 1)
                 self.assertEqual(listener.said[1:], ["tb_listen: sh wrote what is no reply to a request that it was given\n"])
@@ -559,6 +645,38 @@ class Ends(unittest.TestCase):
             listener.process.stderr.close()
             time.sleep(0.02)
         raise AssertionError(listener.said)
+
+
+class Example(unittest.TestCase):
+    """example_sockets.py ends, and says why, where its work cannot go on."""
+
+    def waited(self, *clients, patience=20.0):
+        """What it says where these are its clients and nothing is done."""
+        started = [subprocess.Popen(words) for words in clients]
+        with tempfile.TemporaryDirectory() as folder, Running(folder=folder) as listening, unittest.mock.patch("example_sockets.PATIENCE", patience):
+            began = time.monotonic()
+            try:
+                with self.assertRaises(SystemExit) as raised:
+                    example_sockets.wait_until(1, [os.path.join(folder, "session0.json")], started, listening)
+            finally:
+                for it in started:
+                    it.kill()
+                    it.wait()
+            self.assertLess(time.monotonic() - began, 10)
+            return raised.exception.code
+
+    def test_a_client_fails(self):
+        self.assertEqual(self.waited(["sh", "-c", "exit 3"], ["sleep", "60"]), "a client failed, with status 3")
+        self.assertEqual(self.waited(["sleep", "60"], ["sh", "-c", "kill -9 $$"]), "a client failed, with status -9")
+
+    def test_clients_that_do_nothing(self):
+        self.assertEqual(self.waited(["sleep", "60"], ["true"], patience=0.5), "the clients did not make 1 transfers in 0.5 seconds")
+
+    def test_the_server_ends(self):
+        words = [sys.executable, "-B", os.path.join(HERE, "example_sockets.py"), shlex.join(STAND_IN)]
+        ran = subprocess.run(words, capture_output=True, text=True, timeout=120, env={**os.environ, "FAIL": "Full:8:20"})
+        self.assertEqual((ran.returncode, ran.stdout), (1, "on a Unix socket:\n"))
+        self.assertIn("the listener ended, with status 8: tb_listen: tbd: Full\n", ran.stderr)
 
 
 class Ahead(unittest.TestCase):
