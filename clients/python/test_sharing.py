@@ -249,6 +249,57 @@ class Programs(unittest.TestCase):
             self.assertEqual(raised.exception.field, "moment")
         self.assertEqual((program.sent, session.lookup_accounts([1])), (1, []))
 
+    def interrupted(self, session, pipe, call):
+        """A transfer amid which a signal's handler raises, just behind a read or a write of the program's pipes."""
+        true, number, left = getattr(os, call), getattr(session.transport.process, pipe).fileno(), [1]
+
+        def broken(file, *rest):
+            result = true(file, *rest)
+            if file == number and left:
+                left.pop()
+                raise KeyboardInterrupt
+            return result
+
+        with unittest.mock.patch(f"os.{call}", broken), self.assertRaises(KeyboardInterrupt):
+            session.create_transfers([transfer(11, 1, 2, 100)])
+        self.assertEqual(session.in_doubt.items, (transfer(11, 1, 2, 100),))
+
+    def begun(self, **options):
+        session = Session.register(self.program(**options), 7, now=at_ten)
+        tb.require_ok(session.create_accounts([account(1), account(2)]))
+        return session
+
+    def test_a_signal_amid_a_read_or_a_write(self):
+        """How much went over the pipe is not known then. Nothing is sent twice over it: the program is started anew, or it has ended."""
+        for pipe, call in (("stdin", "write"), ("stdout", "read")):
+            session = self.begun(restarts=True)
+            self.interrupted(session, pipe, call)
+            self.assertEqual(session.retry(), [])
+            self.assertEqual([it.credits_posted for it in session.lookup_accounts([2])], [100])
+            session = self.begun()
+            self.interrupted(session, pipe, call)
+            for _ in range(2):
+                with self.assertRaises(tb.ProgramEnded) as raised:
+                    session.retry()
+                self.assertEqual(str(raised.exception), "interrupted amid its pipes, and killed (status -9)")
+
+    def test_a_signal_while_a_reply_is_waited_for(self):
+        session = self.begun()
+        with unittest.mock.patch("selectors.DefaultSelector.select", side_effect=KeyboardInterrupt), self.assertRaises(KeyboardInterrupt):
+            session.create_transfers([transfer(11, 1, 2, 100)])
+        self.assertEqual(session.retry(), [])
+        self.assertEqual([it.credits_posted for it in session.lookup_accounts([2])], [100])
+
+    def test_a_timeout_that_was_changed_to_what_it_may_not_be(self):
+        session = self.begun()
+        for value in (-1, "5", None, True):
+            session.transport.timeout = value
+            with self.assertRaises(tb.Invalid) as raised:
+                session.lookup_accounts([1])
+            self.assertEqual((raised.exception.field, session.pending, session.transport.sent), ("timeout", None, 2))
+        session.transport.timeout = 30
+        self.assertEqual(session.number, 1)
+
     def test_a_forked_child_has_no_program(self):
         program = self.program()
         session = Session.register(program, 7, now=at_ten)

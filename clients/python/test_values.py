@@ -319,6 +319,22 @@ class Values(unittest.TestCase):
             self.refused("path", self.session.save, value, types=TypeError)
             self.refused("path", Session.load, Direct(self.exchange), value, types=TypeError)
 
+    def test_arguments_of_a_faulty_transport(self):
+        for value in (None, 5, "tbs", [1]):
+            self.refused("inner", tb.Faulty, value, types=TypeError)
+        for field in ("requests", "replies"):
+            for value in (5, None, "12", b"12", {1: 2}, 1.5):
+                self.refused(field, tb.Faulty, Direct(self.exchange), **{field: value}, types=TypeError)
+            for value in NO_NUMBERS:
+                self.refused(f"{field}[1]", tb.Faulty, Direct(self.exchange), **{field: [1, value]}, types=TypeError)
+        endless = tb.Faulty(Direct(self.exchange), replies=range(1, 10**15))
+        self.assertRaises(tb.ReplyLost, endless.exchange, 10, tb.request_frame(7, 1, 1, 131))
+
+    def test_what_is_no_list_of_results(self):
+        for value in (5, True, "exists", b"", self.session.create_transfers, Transfer(1), {}, 1.5):
+            self.refused("results", tb.require_ok, value, types=TypeError)
+        tb.require_ok(it for it in [Transfer(1)])
+
     def test_arguments_of_a_program(self):
         path = "/nowhere/tbs"
         for field, greatest in (("clients_max", 64), ("profile", 2)):

@@ -8,7 +8,7 @@ from typing import Any, Callable, Iterable, Iterator, List, Mapping, Optional, S
 from .errors import BadReply, InvalidType, InvalidValue
 from .names import CreateAccountResult, CreateTransferResult, Operation, Status
 from .records import ID, RECORD, Account, EventResult, Transfer, u128, u128_at
-from .values import U8, U32, U64, U128, kind_of, shown, whole
+from .values import U8, U32, U64, U128, kind_of, listed, shown, whole
 
 ITEMS_MAX = 8190
 NUMBER_MAX = U32
@@ -84,26 +84,16 @@ def body_of(operation: Operation, items: Iterable[object]) -> bytes:
             raise InvalidValue("items", "of a register must be empty")
         return b""
     name = ITEM_NAMES[operation]
-    listed = _listed(name, items)
-    if len(listed) > ITEMS_MAX:
-        raise InvalidValue(name, f"must have at most {ITEMS_MAX} items, not {shown(len(listed))}")
+    given = listed(name, items)
+    if len(given) > ITEMS_MAX:
+        raise InvalidValue(name, f"must have at most {ITEMS_MAX} items, not {shown(len(given))}")
     if operation in (Operation.lookup_accounts, Operation.lookup_transfers):
-        return b"".join(u128(whole(f"{name}[{at}]", it, U128)) for at, it in enumerate(listed))
+        return b"".join(u128(whole(f"{name}[{at}]", it, U128)) for at, it in enumerate(given))
     kind: Any = Account if operation == Operation.create_accounts else Transfer
-    for at, it in enumerate(listed):
+    for at, it in enumerate(given):
         if not isinstance(it, kind):
             raise InvalidType(f"{name}[{at}]", f"must be {'an' if kind is Account else 'a'} {kind.__name__}, not {kind_of(it)}")
-    return b"".join(map(kind.to_bytes, listed))
-
-
-def _listed(name: str, items: Iterable[object]) -> list[object]:
-    """What was given as a list. Text, bytes and mappings are no lists, though Python goes over them."""
-    if isinstance(items, (str, bytes, bytearray, memoryview, Mapping)):
-        raise InvalidType(name, f"must be a list, not {kind_of(items)}")
-    try:
-        return list(items)
-    except TypeError:
-        raise InvalidType(name, f"must be a list, not {kind_of(items)}") from None
+    return b"".join(map(kind.to_bytes, given))
 
 
 @dataclasses.dataclass(frozen=True)

@@ -1,6 +1,7 @@
 """`tbs run` as a process."""
 from __future__ import annotations
 
+import contextlib
 import os
 import selectors
 import signal
@@ -55,6 +56,7 @@ class Program(Closing):
         self._lock = threading.RLock()
         self._owner = os.getpid()
         self._end: Optional[Exception] = None
+        self._is_amid = False  # between what the system did and what is kept of it here
         self._start()
 
     def _start(self) -> None:
@@ -62,6 +64,7 @@ class Program(Closing):
             self.process = subprocess.Popen(self.command, stdin=subprocess.PIPE, stdout=subprocess.PIPE, stderr=subprocess.PIPE)
         except OSError as error:
             raise CannotStart(f"{self.command[0]} does not start: {error.strerror}") from None
+        self._is_amid = True
         for pipe in self._pipes()[:2]:
             os.set_blocking(pipe.fileno(), False)
         # what is to be sent, what came and is not read yet, and how far each is done
@@ -69,6 +72,7 @@ class Program(Closing):
         self.data, self.data_at = b"", 0
         self.sent, self.seen = len(self.script), 0
         self.last = b""
+        self._is_amid = False
 
     def _pipes(self) -> tuple[IO[bytes], IO[bytes], IO[bytes]]:
         process = self.process
@@ -82,26 +86,32 @@ class Program(Closing):
             raise Closed("this Program belongs to the process that made it")
         with self._lock:
             self._be_ready()
+            deadline = time.monotonic() + seconds("timeout", self.timeout, 0)
             if self.seen == self.sent or self.last != frame:  # else it is on its way already, and its reply is waited for
                 self._queue(pair)
-            return self._awaited(time.monotonic() + self.timeout)
+            return self._awaited(deadline)
 
     def _be_ready(self) -> None:
         """Starts the program anew where that was asked for, else tells why it takes no more."""
         if self._end is not None:
             raise self._end.with_traceback(None)
+        if self.process is not None and self._is_amid:
+            self.process.kill()
+            raise self._ended("interrupted amid its pipes, and killed")
         if self.process is None:
             self._start()
 
     def _queue(self, pair: bytes) -> None:
+        size = self.script_bytes + len(pair)
+        if self.restarts and self.script_max is not None and size > self.script_max:
+            raise ScriptFull(f"the script for restarts would have {size} bytes, and script_max is {self.script_max}")
+        self._is_amid = True
         if self.restarts:
-            size = self.script_bytes + len(pair)
-            if self.script_max is not None and size > self.script_max:
-                raise ScriptFull(f"the script for restarts would have {size} bytes, and script_max is {self.script_max}")
             self.script.append(pair)
             self.script_bytes = size
         self.out, self.out_at = self.out[self.out_at :] + pair, 0
         self.sent, self.last = self.sent + 1, pair[8:]
+        self._is_amid = False
 
     def _awaited(self, deadline: float) -> bytes:
         """The reply to what was sent last. What is left to be sent goes out as the pipe takes it."""
@@ -118,7 +128,9 @@ class Program(Closing):
                     raise ReplyLost(f"no reply within {self.timeout:g} seconds")
                 for key, _events in ready.select(min(left, LONGEST)):
                     if key.fileobj is stdout:
-                        self._read(stdout)
+                        data = self._read(stdout)
+                        if data == b"":
+                            raise self._ended()
                     else:
                         self._write(stdin, ready)
 
@@ -128,32 +140,39 @@ class Program(Closing):
             end = self.data_at + reply_length(self.data, self.data_at)
             if len(self.data) < end:
                 return None
+            self._is_amid = True
             frame, self.data_at = self.data[self.data_at : end], end
             self.seen += 1
             self.answered = max(self.answered, self.seen)
+            self._is_amid = False
             if self.seen == self.sent:
                 return frame
         return None
 
-    def _read(self, stdout: IO[bytes]) -> None:
+    def _read(self, stdout: IO[bytes]) -> Optional[bytes]:
+        """What came now, which is kept: nothing at the end, and None where nothing came."""
+        self._is_amid = True
         try:
             data = os.read(stdout.fileno(), CHUNK)
         except BlockingIOError:
-            return
-        if not data:
-            raise self._ended()
-        self.data, self.data_at = self.data[self.data_at :] + data, 0
+            data = None
+        else:
+            self.data, self.data_at = self.data[self.data_at :] + data, 0
+        self._is_amid = False
+        return data
 
     def _write(self, stdin: IO[bytes], ready: selectors.BaseSelector) -> None:
+        self._is_amid = True
         try:
             self.out_at += os.write(stdin.fileno(), memoryview(self.out)[self.out_at : self.out_at + CHUNK])
+            is_done = self.out_at == len(self.out)
         except BrokenPipeError:
-            ready.unregister(stdin)  # replies that were written before the end are still read
-            return
-        if self.out_at == len(self.out):
+            is_done = True  # replies that were written before the end are still read
+        self._is_amid = False
+        if is_done:
             ready.unregister(stdin)
 
-    def _ended(self) -> Exception:
+    def _ended(self, how: str = "") -> Exception:
         """What to raise where the program is gone: it was killed, or ended by itself and says why."""
         process = cast("subprocess.Popen[bytes]", self.process)
         fault = self._last_words(self._pipes()[2]).decode(errors="replace").strip()
@@ -163,14 +182,15 @@ class Program(Closing):
         except subprocess.TimeoutExpired:  # it writes no more replies, and does not end
             process.kill()
             status = process.wait()
-        self._let_go()
         # No reply after these was given out. The next one is at fault, or was not executed as far as anyone can know.
         del self.script[self.answered :]
         self.script_bytes = sum(map(len, self.script))
         if status < 0:
-            fault = f"killed by {_signal_name(-status)}"
+            fault = how or f"killed by {_signal_name(-status)}"
         if not self.restarts:
-            self._end = ProgramEnded(fault, status)
+            self._end = ProgramEnded(fault, status)  # before it is let go: an empty ledger never takes its place
+        self._let_go()
+        if self._end is not None:
             return self._end
         if status < 0:
             return ReplyLost(f"the program was {fault}")
@@ -191,24 +211,23 @@ class Program(Closing):
     def _let_go(self) -> None:
         """Ends the script, and waits for the program's end."""
         process = self.process
-        if process is not None:
-            for pipe in self._pipes():
-                try:
-                    pipe.close()
-                except BrokenPipeError:
-                    pass
-            try:
-                process.wait(self.timeout)
-            except subprocess.TimeoutExpired:
-                process.kill()
-                process.wait()
-            self.process = None
+        if process is None:
+            return
+        pipes, self.process = self._pipes(), None
+        for pipe in pipes:
+            with contextlib.suppress(BrokenPipeError):
+                pipe.close()
+        try:
+            process.wait(self.timeout)
+        except subprocess.TimeoutExpired:
+            process.kill()
+            process.wait()
 
     def close(self) -> None:
         """Ends the script, and waits for the program's end. Each exchange afterwards is `Closed`."""
         with self._lock:
-            self._let_go()
             self._end = Closed("this Program was closed")
+            self._let_go()
 
 
 def _signal_name(number: int) -> str:

@@ -12,8 +12,8 @@ from .frames import NUMBER_MAX, Item, Reply, Request, Said, body_of, header_of, 
 from .ids import id as new_id
 from .names import Operation, Status
 from .records import Account, EventResult, Transfer
-from .transports import Closing, Transport, close_transport
-from .values import MOMENT_MAX, U32, U64, U128, callable_of, kind_of, seconds, whole
+from .transports import Closing, Transport, close_transport, transport_of
+from .values import MOMENT_MAX, U32, U64, U128, callable_of, kind_of, listed, seconds, whole
 
 ATTEMPTS = 5
 JUMP_MAX = 60.0  # seconds
@@ -90,9 +90,7 @@ class Session(Closing):
         pause: float = PAUSE,
     ) -> None:
         self.client = whole("client", client, U128, 1)
-        if not callable(getattr(transport, "exchange", None)):
-            raise InvalidType("transport", f"must have a call exchange, as Program and Direct have, and {kind_of(transport)} has none")
-        self.transport = transport
+        self.transport: Transport = transport_of("transport", transport)
         self.session = whole("session", session, U64)
         self.number = whole("number", number, U32)
         self.attempts = whole("attempts", attempts, U32, 1)
@@ -320,6 +318,6 @@ def _test_pending(field: str, pending: Optional[bytes], client: int, session: in
 
 def require_ok(results: Optional[Iterable[object]]) -> None:
     """Raises `EventsFailed` where an event was not accepted. What else a reply says, as the records of a look-up, is passed over."""
-    failed = [it for it in results or () if isinstance(it, EventResult)]
+    failed = [] if results is None else [it for it in listed("results", results) if isinstance(it, EventResult)]
     if failed:
         raise EventsFailed(failed)

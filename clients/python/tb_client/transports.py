@@ -3,10 +3,10 @@ from __future__ import annotations
 
 import threading
 from types import TracebackType
-from typing import Callable, Iterable, Optional, Protocol, Type, TypeVar
+from typing import Any, Callable, Collection, Iterable, Optional, Protocol, Type, TypeVar
 
-from .errors import Closed, ReplyLost
-from .values import callable_of
+from .errors import Closed, InvalidType, ReplyLost
+from .values import U64, callable_of, kind_of, listed, whole
 
 Self = TypeVar("Self", bound="Closing")
 
@@ -53,7 +53,8 @@ class Faulty(Closing):
     """Another transport, of which the exchanges with these numbers, from 1, lose their request or their reply."""
 
     def __init__(self, inner: Transport, requests: Iterable[int] = (), replies: Iterable[int] = ()) -> None:
-        self.inner, self.requests, self.replies = inner, set(requests), set(replies)
+        self.inner = transport_of("inner", inner)
+        self.requests, self.replies = _numbers("requests", requests), _numbers("replies", replies)
         self.count = 0
         self._lock = threading.Lock()
 
@@ -70,6 +71,17 @@ class Faulty(Closing):
 
     def close(self) -> None:
         close_transport(self.inner)
+
+
+def transport_of(field: str, value: Any) -> Any:
+    """What has the call of a transport."""
+    if not callable(getattr(value, "exchange", None)):
+        raise InvalidType(field, f"must have a call exchange, as Program and Direct have, and {kind_of(value)} has none")
+    return value
+
+
+def _numbers(field: str, numbers: Iterable[int]) -> Collection[int]:
+    return numbers if isinstance(numbers, range) else {whole(f"{field}[{at}]", it, U64) for at, it in enumerate(listed(field, numbers))}
 
 
 def close_transport(transport: Transport) -> None:

@@ -3,7 +3,7 @@ from __future__ import annotations
 
 import operator
 import os
-from typing import Any, Union
+from typing import Any, Iterable, Mapping, Union
 
 from .errors import InvalidType, InvalidValue
 
@@ -44,6 +44,17 @@ def seconds(field: str, value: object, least: float) -> float:
     if not least <= value <= U32:  # which no nan is
         raise InvalidValue(field, f"must be {least:g} to {shown(U32)} seconds, not {shown(value) if isinstance(value, int) else value}")
     return float(value)
+
+
+def listed(name: str, items: Iterable[object]) -> list[object]:
+    """What was given as a list. Text, bytes and mappings are no lists, though Python goes over them."""
+    if isinstance(items, (str, bytes, bytearray, memoryview, Mapping)):
+        raise InvalidType(name, f"must be a list, not {kind_of(items)}")
+    try:
+        each = iter(items)
+    except TypeError:
+        raise InvalidType(name, f"must be a list, not {kind_of(items)}") from None
+    return list(each)
 
 
 def is_name(path: Union[str, os.PathLike[str]]) -> bool:
