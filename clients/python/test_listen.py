@@ -974,7 +974,7 @@ class Clocks(unittest.TestCase):
 
 class Sockets(unittest.TestCase):
     def test_addresses(self):
-        for address in ("", "a\0b", "\ud800", ("a..b", 1), ("x" * 64, 1), (), ("localhost",), ("localhost", 0), ("localhost", 65536), (1, 2), 5, None, b"path", ("localhost", "1")):
+        for address in ("", "a\0b", "\ud800", ("a..b", 1), ("x" * 64, 1), (), ("localhost",), ("localhost", 0), ("localhost", 65536), ("", 1), ("a\0b", 1), ("localhost\n", 1), (1, 2), 5, None, b"path", ("localhost", "1")):
             with self.assertRaises((tb.InvalidType, tb.InvalidValue), msg=repr(address)):
                 Socket(address)
 

@@ -15,7 +15,7 @@ from typing import Any, Dict, Optional, Type, Union
 
 import tb_client
 from tb_client.transports import Closing
-from tb_client.values import MOMENT_MAX, U64, U128, kind_of, whole
+from tb_client.values import MOMENT_MAX, U64, U128, is_name, kind_of, whole
 
 REPLY_MAX = 48 + 8190 * 128
 REFUSALS = {1: "Closed", 2: "Usage", 3: "NoMemory", 4: "Malformed", 5: "TimeExhausted", 6: "Absent", 7: "TooSmall"}
@@ -56,6 +56,9 @@ class TimeExhausted(Refused):
 _REFUSALS: Dict[int, Type[Refused]] = {1: Closed, 2: Usage, 3: NoMemory, 4: Malformed, 5: TimeExhausted}
 
 
+_CALLS = ("tb_embed_open", "tb_embed_serve", "tb_embed_account", "tb_embed_transfer", "tb_embed_close")
+
+
 class _Handle(ctypes.Structure):
     _fields_ = [("at", ctypes.c_void_p), ("is_open", ctypes.c_uint8)]
 
@@ -67,8 +70,12 @@ def _library(path: str) -> Any:
     try:
         # a name without a slash would be looked for in the loader's own folders alone
         library = ctypes.CDLL(os.path.abspath(path) if os.path.exists(path) else path)
+        for name in _CALLS:
+            getattr(library, name)
     except OSError as error:
         raise tb_client.CannotStart(f"the library does not load: {error}") from None
+    except AttributeError as error:
+        raise tb_client.CannotStart(f"it is no library of the server: {error}") from None
     handle, bytes_in, room, size = ctypes.POINTER(_Handle), ctypes.c_char_p, ctypes.POINTER(ctypes.c_char), ctypes.c_size_t
     u32, u64 = ctypes.c_uint32, ctypes.c_uint64
     library.tb_embed_open.argtypes = [handle, u32, u32]
@@ -88,10 +95,13 @@ class Server(Closing):
     def __init__(self, path: Union[str, os.PathLike[str]], clients_max: int = 64, profile: int = 1, room: int = 4096) -> None:
         if not isinstance(path, (str, os.PathLike)):
             raise tb_client.InvalidType("path", f"must be a path, not {kind_of(path)}")
+        name = os.fspath(path)
+        if not isinstance(name, str) or not is_name(name):
+            raise tb_client.InvalidValue("path", "is no path")
         places, profile = whole("clients_max", clients_max, 64, 1), whole("profile", profile, 2, 1)
         self._room = ctypes.create_string_buffer(whole("room", room, REPLY_MAX, 1))
         self._lock = threading.Lock()
-        self._library, self._handle, self._written = _library(os.fspath(path)), _Handle(), ctypes.c_size_t()
+        self._library, self._handle, self._written = _library(name), _Handle(), ctypes.c_size_t()
         self._check(self._library.tb_embed_open(self._handle, profile, places))
 
     def serve(self, moment: int, request: bytes) -> bytes:

@@ -4,6 +4,7 @@
     PYTHONPATH=../../clients/python python3 -m unittest
 """
 import ctypes
+import ctypes.util
 import fractions
 import os
 import pathlib
@@ -96,6 +97,15 @@ class Embedded(unittest.TestCase):
         with self.assertRaises(tb_client.CannotStart) as raised:
             Server("/nowhere/libtb_embed.so")
         self.assertTrue(str(raised.exception).startswith("the library does not load: /nowhere/libtb_embed.so: "))
+
+    def test_what_is_no_library_of_the_server(self):
+        for path in ("", "a\0b", "\ud800"):
+            self.refused("path", Server, path)
+        unittest.mock.patch.stopall()
+        libc = ctypes.util.find_library("c")
+        with self.assertRaises(tb_client.CannotStart) as raised:
+            Server(libc)
+        self.assertRegex(str(raised.exception), "^it is no library of the server: .*tb_embed_open")
 
     def test_statuses_by_name(self):
         frame = tb_client.request_frame(7, 0, 0, 2)

@@ -152,11 +152,9 @@ class Program(Closing):
     def _read(self, stdout: IO[bytes]) -> Optional[bytes]:
         """What came now, which is kept: nothing at the end, and None where nothing came."""
         self._is_amid = True
-        try:
+        data: Optional[bytes] = None
+        with contextlib.suppress(BlockingIOError):
             data = os.read(stdout.fileno(), CHUNK)
-        except BlockingIOError:
-            data = None
-        else:
             self.data, self.data_at = self.data[self.data_at :] + data, 0
         self._is_amid = False
         return data

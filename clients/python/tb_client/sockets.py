@@ -145,12 +145,18 @@ def _address_of(address: object) -> Union[str, Tuple[str, int]]:
             raise InvalidValue("address", "is no path")
         return path
     if isinstance(address, tuple) and len(address) == 2 and isinstance(address[0], str):
-        try:
-            address[0].encode("idna")
-        except UnicodeError:
-            raise InvalidValue("address", f"has no name of a host: {address[0]!r:.60}") from None
+        if not _is_host(address[0]):
+            raise InvalidValue("address", f"has no name of a host: {address[0]!r:.60}")
         return address[0], whole("port", address[1], 65535, 1)
     raise InvalidType("address", f"must be a path, or a host and a port, not {kind_of(address)}")
+
+
+def _is_host(name: str) -> bool:
+    """Whether the system can look this up as a host's name or number."""
+    try:
+        return bool(name.encode("idna")) and name.isprintable()
+    except UnicodeError:
+        return False
 
 
 def _call(address: Union[str, Tuple[str, int]], timeout: float) -> socket.socket:
