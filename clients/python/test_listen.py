@@ -2,6 +2,7 @@
 """tb_listen.py and tb_client.Socket: many clients over sockets, what each may do wrong, ends, kills and clocks."""
 import contextlib
 import dataclasses
+import errno
 import io
 import os
 import random
@@ -24,7 +25,7 @@ import example_sockets
 import tb_client as tb
 import tb_listen
 from tb_client import Session, Socket
-from test_sharing import in_threads
+from test_sharing import closed_in_a_child, in_threads
 from test_tb_client import PROGRAM, account, has_program, transfer, wrong_replies
 
 HERE = os.path.dirname(os.path.abspath(__file__))
@@ -143,6 +144,32 @@ def header(client=1, session=1, number=1, operation=130, zeros=b"\0" * 3, length
     return client.to_bytes(16, "little") + struct.pack("<QIB3sI12s", session, number, operation, zeros, length, rest)
 
 
+class FailsOnce:
+    """A connection of which one call, from 1, fails: before it is done, or behind."""
+
+    def __init__(self, at, is_done, error):
+        self.left, self.is_done, self.error = at, is_done, error
+
+    def wrapped(self, call):
+        def called(*arguments):
+            self.it = call(*arguments)
+            return self
+
+        return called
+
+    def __getattr__(self, name):
+        call = getattr(self.it, name)
+        return (lambda *arguments: self._failing(call, *arguments)) if name in ("recv", "sendall", "settimeout") else call
+
+    def _failing(self, call, *arguments):
+        self.left -= 1
+        if self.left:
+            return call(*arguments)
+        if self.is_done:
+            call(*arguments)
+        raise self.error
+
+
 class OverSockets(unittest.TestCase):
     def test_money_moves_once_for_many_clients(self):
         with Running() as listener:
@@ -159,6 +186,24 @@ class OverSockets(unittest.TestCase):
                 self.assertEqual(session.lookup_accounts([2])[0].credits_posted, 16 * 20)
             self.assertEqual(listener.end(), 0)
             self.assertEqual(listener.said, [f"tb_listen: listens on {listener.path}\n"])
+
+    def test_a_forked_child_closes_its_copy(self):
+        with Running() as listener, Session.register(Socket(listener.path)) as session:
+            self.assertEqual(closed_in_a_child(session.transport, session.transport._lock), 0)
+            self.assertEqual(session.lookup_accounts([1]), [])
+
+    def test_a_device_that_fails_once(self):
+        """Each call of the connection fails once, before or after it was done. The money moves once."""
+        with Running() as listener, Session.register(Socket(listener.path)) as session:
+            tb.require_ok(session.create_accounts([account(1), account(2)]))
+            calls = [(at, is_done, code) for at in range(1, 12) for is_done in (False, True) for code in (errno.EIO, errno.ECONNRESET, errno.EPIPE)]
+            for number, (at, is_done, code) in enumerate(calls, 1):
+                failing = FailsOnce(at, is_done, OSError(code, os.strerror(code)))
+                with unittest.mock.patch("tb_client.sockets._call", failing.wrapped(tb.sockets._call)):
+                    session.transport._hang_up()
+                    self.assertEqual(session.create_transfers([transfer(number, 1, 2, 1)]), [], (at, is_done, code))
+            session.transport._hang_up()
+            self.assertEqual(session.lookup_accounts([2])[0].credits_posted, len(calls))
 
     def test_tcp(self):
         for given, wanted in (("127.0.0.1:0", "127.0.0.1"), ("[::1]:0", "::1"), ("localhost:0", None)):

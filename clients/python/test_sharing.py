@@ -1,6 +1,7 @@
 #!/usr/bin/env python3
 """A Program, a session and `id` shared by threads; programs that end, are closed, or were forked."""
 import os
+import signal
 import stat
 import sys
 import tempfile
@@ -312,6 +313,38 @@ class Programs(unittest.TestCase):
             os._exit(4)
         self.assertEqual(os.waitpid(child, 0)[1] >> 8, 3)
         self.assertEqual(session.lookup_accounts([1]), [])
+
+
+    def test_a_forked_child_closes_what_another_thread_holds(self):
+        """A child may leave the `with` of its parent's transport at any time: it closes its copy, and the parent's goes on."""
+        program = self.program()
+        session = Session.register(program, 7, now=at_ten)
+        for lock in (program._lock, program.process._waitpid_lock):
+            self.assertEqual(closed_in_a_child(program, lock), 0)
+            self.assertEqual(session.lookup_accounts([1]), [])
+
+
+def closed_in_a_child(transport, lock):
+    """The status of a forked child that closes a transport while a thread of its parent has this lock."""
+    held, done = threading.Event(), threading.Event()
+
+    def hold():
+        with lock:
+            held.set()
+            done.wait()
+
+    holder = threading.Thread(target=hold)
+    holder.start()
+    held.wait()
+    child = os.fork()
+    if not child:
+        signal.alarm(10)
+        transport.close()
+        os._exit(0)
+    status = os.waitpid(child, 0)[1]
+    done.set()
+    holder.join()
+    return status
 
 
 @has_program

@@ -223,9 +223,19 @@ class Program(Closing):
 
     def close(self) -> None:
         """Ends the script, and waits for the program's end. Each exchange afterwards is `Closed`."""
+        if self._owner != os.getpid():
+            self._close_copies()
+            return
         with self._lock:
             self._end = Closed("this Program was closed")
             self._let_go()
+
+    def _close_copies(self) -> None:
+        """Closes the pipes that a forked child has. The program is its parent's, and a thread that is not here may hold the lock."""
+        if self.process is not None:
+            for pipe in self._pipes():
+                with contextlib.suppress(BrokenPipeError):
+                    pipe.close()
 
 
 def _signal_name(number: int) -> str:

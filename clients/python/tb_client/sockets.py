@@ -119,6 +119,9 @@ class Socket(Closing):
 
     def close(self) -> None:
         """Closes the connection. Each exchange afterwards is `Closed`."""
+        if self._owner != os.getpid():
+            self._hang_up()  # the copy that a forked child has. A thread that is not here may hold the lock
+            return
         with self._lock:
             self._closed = True
             self._hang_up()
