@@ -132,7 +132,7 @@ class Doubt(unittest.TestCase):
         self.assertEqual([it.pause for it in made], [3] * 4)
 
     def test_options_that_were_changed_to_what_they_may_not_be(self):
-        for field, value in (("attempts", 0), ("attempts", -1), ("attempts", 1.5), ("attempts", "5"), ("pause", -1), ("pause", None), ("pause", "1")):
+        for field, value in (("attempts", 0), ("attempts", -1), ("attempts", 1.5), ("attempts", "5"), ("pause", -1), ("pause", None), ("pause", "1"), ("jump_max", "60"), ("jump_max", -1), ("now", None), ("transport", None)):
             session = self.session(lambda frame: reply(frame))
             setattr(session, field, value)
             with self.assertRaises(tb.Invalid) as raised:

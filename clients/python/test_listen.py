@@ -296,6 +296,42 @@ class OverSockets(unittest.TestCase):
             with Session.register(Socket(listener.path)) as session:
                 self.assertEqual(session.session, 4, "and one that was closed leaves its place")
 
+    def test_who_is_told_busy_comes_later(self):
+        """A session pauses where it is told Busy, so that one of five attempts finds a place that is free by then."""
+        with Running("--connections", "1") as listener:
+            first = listener.call()
+            time.sleep(0.2)
+            with Socket(listener.path) as transport:
+                with self.assertRaises(tb.Busy) as raised:
+                    Session.register(transport, attempts=1)
+                self.assertEqual(str(raised.exception), "the server closed the connection: Busy")
+                began, session = time.monotonic(), Session(transport, 5, attempts=3, pause=0.2)
+                session.prepare(tb.Operation.register)
+                self.assertRaises(tb.Busy, session.retry)
+                self.assertTrue(0.55 < time.monotonic() - began < 3, "0.2 and 0.4 seconds")
+                leaving = threading.Timer(0.3, first.close)
+                leaving.start()
+                session.attempts, session.pause = 5, 0.05
+                self.assertIsNone(session.retry())
+                leaving.join()
+                self.assertEqual((session.session, session.lookup_accounts([1])), (1, []))
+
+    def test_more_clients_than_connections(self):
+        with Running("--connections", "2") as listener:
+            with Session.register(Socket(listener.path), attempts=100) as session:
+                tb.require_ok(session.create_accounts([account(1), account(2)]))
+
+            def work(number):
+                with Socket(listener.path) as transport:
+                    session = Session.register(transport, number + 1, attempts=100)
+                    for at in range(5):
+                        tb.require_ok(session.create_transfers([transfer(100 * number + at + 1, 1, 2, 1)]))
+                        transport._hang_up()
+
+            in_threads(8, work)
+            with Session.register(Socket(listener.path), attempts=100) as session:
+                self.assertEqual(session.lookup_accounts([2])[0].credits_posted, 40)
+
     def test_many_more_than_the_limit(self):
         with Running("--connections", "4") as listener:
             served = [listener.call() for _ in range(4)]

@@ -75,7 +75,15 @@ def write_whole(path: str, data: bytes) -> None:
     """Puts a file at this path, with these bytes. Where that fails the old file is left, and nothing beside it."""
     with contextlib.suppress(FileNotFoundError):
         _test_is_file(os.stat(path))
-    beside = f"{path}.new"
+    folder = os.open(os.path.dirname(os.path.abspath(path)), os.O_RDONLY | os.O_CLOEXEC)
+    try:
+        _replace(path, f"{path}.new", data)
+        os.fsync(folder)
+    finally:
+        os.close(folder)
+
+
+def _replace(path: str, beside: str, data: bytes) -> None:
     it = _begun(beside)
     try:
         _fill(it, data)
@@ -86,7 +94,6 @@ def write_whole(path: str, data: bytes) -> None:
         raise
     finally:
         os.close(it)
-    _sync_folder(path)
 
 
 def _begun(path: str) -> int:
@@ -117,11 +124,3 @@ def _fill(it: int, data: bytes) -> None:
     with open(it, "wb", closefd=False) as file:
         file.write(data)
     os.fsync(it)
-
-
-def _sync_folder(path: str) -> None:
-    folder = os.open(os.path.dirname(os.path.abspath(path)), os.O_RDONLY | os.O_CLOEXEC)
-    try:
-        os.fsync(folder)
-    finally:
-        os.close(folder)

@@ -150,7 +150,7 @@ class Session(Closing):
 
     def save(self, path: Path) -> None:
         """Keeps `saved` in a file, whole: after a crash the file has it as it is now or as it was before. Where it fails the file is
-        as it was before, but for a folder that could not be synced."""
+        as it was before, or as it is now where only its folder could not be synced."""
         name = path_of(path)
         with self._lock:
             write_whole(name, json.dumps(self.saved).encode("ascii"))
@@ -235,7 +235,7 @@ class Session(Closing):
         with self._lock:
             if self.pending is None:
                 raise NothingInDoubt("no request is in doubt")
-            attempts, pauses = whole("attempts", self.attempts, U32, 1), _pauses(seconds("pause", self.pause, 0))
+            attempts, pauses = self._options()
             last: Optional[str] = None  # what became of the last attempt of this call
             for left in reversed(range(attempts)):
                 try:
@@ -252,6 +252,14 @@ class Session(Closing):
                     if isinstance(why, (Busy, NoMemory, NotYet)):
                         time.sleep(next(pauses))
             raise AssertionError("attempts is 1 at least")
+
+    def _options(self) -> tuple[int, Iterator[float]]:
+        """How often the request is sent, and the pauses between. Options may have been changed since they were given: they are tested."""
+        transport_of("transport", self.transport)
+        callable_of("now", self.now)
+        if self.jump_max is not None:
+            seconds("jump_max", self.jump_max, 0)
+        return whole("attempts", self.attempts, U32, 1), _pauses(seconds("pause", self.pause, 0))
 
     def _exchange(self, moment: int, frame: bytes) -> bytes:
         try:
