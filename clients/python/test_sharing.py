@@ -1,5 +1,6 @@
 #!/usr/bin/env python3
 """A Program, a session and `id` shared by threads; programs that end, are closed, or were forked."""
+import errno
 import os
 import signal
 import stat
@@ -250,20 +251,48 @@ class Programs(unittest.TestCase):
             self.assertEqual(raised.exception.field, "moment")
         self.assertEqual((program.sent, session.lookup_accounts([1])), (1, []))
 
-    def interrupted(self, session, pipe, call):
-        """A transfer amid which a signal's handler raises, just behind a read or a write of the program's pipes."""
+    def failing(self, session, pipe, call, error, is_done=True):
+        """A patch by which the next read or write of the program's pipes fails once, behind what it does or before."""
         true, number, left = getattr(os, call), getattr(session.transport.process, pipe).fileno(), [1]
 
         def broken(file, *rest):
-            result = true(file, *rest)
+            result = true(file, *rest) if is_done or file != number or not left else None
             if file == number and left:
                 left.pop()
-                raise KeyboardInterrupt
+                raise error
             return result
 
-        with unittest.mock.patch(f"os.{call}", broken), self.assertRaises(KeyboardInterrupt):
+        return unittest.mock.patch(f"os.{call}", broken)
+
+    def interrupted(self, session, pipe, call):
+        """A transfer amid which a signal's handler raises."""
+        with self.failing(session, pipe, call, KeyboardInterrupt), self.assertRaises(KeyboardInterrupt):
             session.create_transfers([transfer(11, 1, 2, 100)])
         self.assertEqual(session.in_doubt.items, (transfer(11, 1, 2, 100),))
+
+    def test_a_pipe_that_fails_once(self):
+        for pipe, call in (("stdin", "write"), ("stdout", "read")):
+            for code in (errno.EIO, errno.ENOMEM):
+                for is_done in (False, True):
+                    session = self.begun(restarts=True)
+                    with self.failing(session, pipe, call, OSError(code, os.strerror(code)), is_done):
+                        self.assertEqual(session.create_transfers([transfer(11, 1, 2, 100)]), [])
+                    self.assertEqual([it.credits_posted for it in session.lookup_accounts([2])], [100])
+                    session = self.begun()
+                    with self.failing(session, pipe, call, OSError(code, os.strerror(code)), is_done), self.assertRaises(tb.ProgramEnded):
+                        session.create_transfers([transfer(11, 1, 2, 100)])
+                    self.assertEqual(session.in_doubt.items, (transfer(11, 1, 2, 100),))
+            session = self.begun()
+            with self.failing(session, pipe, call, BlockingIOError(errno.EAGAIN, "not now"), False):
+                self.assertEqual(session.create_transfers([transfer(11, 1, 2, 100)]), [], "a pipe that is not ready after all")
+
+    def test_no_file_to_wait_for_pipes(self):
+        session = self.begun()
+        with unittest.mock.patch("selectors.DefaultSelector", side_effect=OSError(errno.EMFILE, os.strerror(errno.EMFILE))), self.assertRaises(tb.ReplyLost) as raised:
+            session.create_transfers([transfer(11, 1, 2, 100)])
+        self.assertEqual(str(raised.exception), "the pipes of the program failed: Too many open files")
+        self.assertEqual(session.retry(), [])
+        self.assertEqual([it.credits_posted for it in session.lookup_accounts([2])], [100])
 
     def begun(self, **options):
         session = Session.register(self.program(**options), 7, now=at_ten)

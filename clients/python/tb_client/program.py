@@ -89,7 +89,10 @@ class Program(Closing):
             deadline = time.monotonic() + seconds("timeout", self.timeout, 0)
             if self.seen == self.sent or self.last != frame:  # else it is on its way already, and its reply is waited for
                 self._queue(pair)
-            return self._awaited(deadline)
+            try:
+                return self._awaited(deadline)
+            except OSError as error:
+                raise ReplyLost(f"the pipes of the program failed: {error.strerror or error}") from None
 
     def _be_ready(self) -> None:
         """Starts the program anew where that was asked for, else tells why it takes no more."""
@@ -164,6 +167,8 @@ class Program(Closing):
         try:
             self.out_at += os.write(stdin.fileno(), memoryview(self.out)[self.out_at : self.out_at + CHUNK])
             is_done = self.out_at == len(self.out)
+        except BlockingIOError:
+            is_done = False
         except BrokenPipeError:
             is_done = True  # replies that were written before the end are still read
         self._is_amid = False
