@@ -10,7 +10,7 @@ import sys
 # The client's package, where it is not installed.
 sys.path.append(os.path.join(os.path.dirname(os.path.abspath(__file__)), "..", "..", "clients", "python"))
 
-from tb_client import Account, AccountFlags, Operation, Reply, Request, Status, Transfer  # noqa: E402
+from tb_client import Account, AccountFlags, ClientError, Operation, Reply, Request, Status, Transfer  # noqa: E402
 from tb_embed import Server  # noqa: E402
 
 CASH, SALES, CLIENT = 1, 2, 7
@@ -57,5 +57,10 @@ def first_requests(server: Server) -> None:
 
 
 if __name__ == "__main__":
-    with Server(sys.argv[1], 2) as server:
-        first_requests(server)
+    if len(sys.argv) != 2:
+        sys.exit("usage: first.py LIBRARY")
+    try:
+        with Server(sys.argv[1], 2) as server:
+            first_requests(server)
+    except ClientError as error:
+        sys.exit(f"first: {error}")

@@ -11,13 +11,31 @@ import sys
 # The client's package, where it is not installed.
 sys.path.append(os.path.join(os.path.dirname(os.path.abspath(__file__)), "..", "..", "clients", "python"))
 
+from tb_client import ClientError  # noqa: E402
 from tb_embed import Server  # noqa: E402
 
-script, replies = sys.stdin.buffer, sys.stdout.buffer
-clients_max, profile = (list(map(int, sys.argv[2:])) + [2, 1][len(sys.argv) - 2 :])[:2]
-with Server(sys.argv[1], clients_max, profile) as server:
+
+def serve(server: Server) -> None:
+    script, replies = sys.stdin.buffer, sys.stdout.buffer
     while head := script.read(56):
-        if len(head) < 56:
-            sys.exit("a cut script")
-        moment, length = struct.unpack_from("<Q", head)[0], struct.unpack_from("<I", head, 40)[0]
-        replies.write(server.serve(moment, head[8:] + script.read(length)))
+        length = struct.unpack_from("<I", head, 40)[0] if len(head) == 56 else 0
+        body = script.read(length)
+        if len(head) < 56 or len(body) < length:
+            sys.exit("script: a cut script")
+        replies.write(server.serve(struct.unpack_from("<Q", head)[0], head[8:] + body))
+    replies.flush()
+
+
+def main(words: "list[str]") -> None:
+    if not 1 <= len(words) <= 3 or not all(it.isascii() and it.isdigit() for it in words[1:]):
+        sys.exit("usage: script.py LIBRARY [CLIENTS_MAX [PROFILE]]")
+    clients_max, profile = (list(map(int, words[1:])) + [2, 1][len(words) - 1 :])[:2]
+    try:
+        with Server(words[0], clients_max, profile) as server:
+            serve(server)
+    except (ClientError, OSError) as error:
+        sys.exit(f"script: {error}")
+
+
+if __name__ == "__main__":
+    main(sys.argv[1:])

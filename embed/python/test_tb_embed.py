@@ -6,6 +6,7 @@
 import ctypes
 import ctypes.util
 import fractions
+import io
 import os
 import pathlib
 import shutil
@@ -196,6 +197,39 @@ class OverCtypes(unittest.TestCase):
                 self.assertRaises(tb_embed.NoMemory, server.serve, 3, b"")
             self.assertRaises(tb_embed.Closed, server.serve, 5, b"")
             self.assertRaises(tb_embed.Closed, server.account, 5)
+
+
+class Examples(unittest.TestCase):
+    """What the examples say where they are called wrongly. checks/embed.py runs them over the true library."""
+
+    def test_words(self):
+        here = os.path.dirname(os.path.abspath(__file__))
+        for words, said in (
+            (["first.py"], "usage: first.py LIBRARY"), (["first.py", "a", "b"], "usage: first.py LIBRARY"), (["first.py", ""], "first: path is no path"),
+            (["first.py", "/nowhere"], "first: the library does not load: /nowhere: "), (["script.py"], "usage: script.py LIBRARY [CLIENTS_MAX [PROFILE]]"),
+            (["script.py", "a", "x"], "usage: script.py LIBRARY [CLIENTS_MAX [PROFILE]]"), (["script.py", "a", "65"], "script: clients_max must be 1 to 64, not 65"),
+            (["script.py", "a", "64", "3"], "script: profile must be 1 to 2, not 3"), (["script.py", "/nowhere"], "script: the library does not load: /nowhere: "),
+        ):
+            ran = subprocess.run([sys.executable, "-B", os.path.join(here, words[0]), *words[1:]], stdin=subprocess.DEVNULL, capture_output=True, text=True, timeout=60)
+            self.assertEqual((ran.returncode, ran.stdout, ran.stderr.startswith(said), ran.stderr.count("\n")), (1, "", True, 1), ran.stderr)
+
+    def test_scripts(self):
+        import script
+
+        register = b"\x0a" + bytes(7) + tb_client.request_frame(7, 0, 0, 2)
+        cut = b"\x0a" + bytes(7) + tb_client.request_frame(7, 1, 1, 131, bytes(16))
+        for data, served, said in ((register * 2, 2, None), (register + cut[:-1], 1, "script: a cut script"), (register[:55], 0, "script: a cut script"), (b"", 0, None)):
+            server, output = unittest.mock.Mock(), io.BytesIO()
+            server.serve.return_value = b"reply"
+            with unittest.mock.patch("sys.stdin", io.TextIOWrapper(io.BytesIO(data))), unittest.mock.patch("sys.stdout", io.TextIOWrapper(output)):
+                if said is None:
+                    script.serve(server)
+                else:
+                    with self.assertRaises(SystemExit) as ended:
+                        script.serve(server)
+                    self.assertEqual(ended.exception.code, said)
+                sys.stdout.flush()
+                self.assertEqual(output.getvalue(), b"reply" * served)
 
 
 if __name__ == "__main__":
