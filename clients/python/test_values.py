@@ -327,8 +327,7 @@ class Values(unittest.TestCase):
                 self.refused(field, tb.Faulty, Direct(self.exchange), **{field: value}, types=TypeError)
             for value in NO_NUMBERS:
                 self.refused(f"{field}[1]", tb.Faulty, Direct(self.exchange), **{field: [1, value]}, types=TypeError)
-        endless = tb.Faulty(Direct(self.exchange), replies=range(1, 10**15))
-        self.assertRaises(tb.ReplyLost, endless.exchange, 10, tb.request_frame(7, 1, 1, 131))
+        self.assertEqual((tb.Faulty(Direct(self.exchange), [2, 1], range(3, 5)).requests, tb.Faulty(Direct(self.exchange), (), range(3, 5)).replies), ({1, 2}, {3, 4}))
 
     def test_what_is_no_list_of_results(self):
         for value in (5, True, "exists", b"", self.session.create_transfers, Transfer(1), {}, 1.5):

@@ -3,7 +3,7 @@ from __future__ import annotations
 
 import threading
 from types import TracebackType
-from typing import Any, Callable, Collection, Iterable, Optional, Protocol, Type, TypeVar
+from typing import Any, Callable, Iterable, Optional, Protocol, Set, Type, TypeVar
 
 from .errors import Closed, InvalidType, ReplyLost
 from .values import U64, callable_of, kind_of, listed, whole
@@ -80,8 +80,8 @@ def transport_of(field: str, value: Any) -> Any:
     return value
 
 
-def _numbers(field: str, numbers: Iterable[int]) -> Collection[int]:
-    return numbers if isinstance(numbers, range) else {whole(f"{field}[{at}]", it, U64) for at, it in enumerate(listed(field, numbers))}
+def _numbers(field: str, numbers: Iterable[int]) -> Set[int]:
+    return {whole(f"{field}[{at}]", it, U64) for at, it in enumerate(listed(field, numbers))}
 
 
 def close_transport(transport: Transport) -> None:
