@@ -656,7 +656,7 @@ async def _listen_on(place: socket.socket, command: Command, given: argparse.Nam
     running = asyncio.ensure_future(command.run())
     taking = asyncio.ensure_future(_take_connections(place, listener))
     say(f"listens on {given.unix or shown(*place.getsockname())}")
-    await _first(running, stopping)
+    await _first(running, stopping, taking)
     taking.cancel()
     await asyncio.wait([taking])
     place.close()
@@ -669,7 +669,7 @@ async def _listen_on(place: socket.socket, command: Command, given: argparse.Nam
         command.kill()
         await asyncio.wait([running])
     await listener.leave()
-    fault = running.exception()
+    fault = running.exception() or (None if taking.cancelled() else taking.exception())
     if is_killed:
         raise Ended(f"{given.command[0]} did not end, and was killed", 1)
     if fault:

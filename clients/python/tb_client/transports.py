@@ -12,8 +12,8 @@ Self = TypeVar("Self", bound="Closing")
 
 
 class Transport(Protocol):
-    """Carries frames. `exchange` gives back the reply's frame, or raises `ReplyLost` where none came and `NoMemory` where the
-    server had none. Where it sends nothing it raises a `NotSent`."""
+    """Carries frames. `exchange` gives back the reply's frame, or raises `ReplyLost` where none came (`Busy` where the server said
+    to come later) and `NoMemory` where the server had none. Where it sends nothing it raises a `NotSent`."""
 
     def exchange(self, moment: int, frame: bytes) -> bytes: ...
 
