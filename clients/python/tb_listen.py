@@ -625,21 +625,34 @@ async def _first(*futures: asyncio.Future[Any]) -> None:
 
 async def _take_connections(place: socket.socket, listener: Listener) -> None:
     """Takes connections one after another. Where there is no file for one more, those that call wait until there is."""
-    loop, is_said = asyncio.get_running_loop(), False
+    is_said = False
     place.setblocking(False)
     while True:
         try:
-            it, _ = await loop.sock_accept(place)
-            is_said = False
+            it, _ = place.accept()
+        except BlockingIOError:
+            await _called(place)
         except ConnectionError:  # it was gone before it was taken
-            continue
+            pass
         except OSError as error:
             if not is_said:
                 say(f"no more connections are taken for now: {error.strerror}")
             is_said = True
             await asyncio.sleep(ACCEPT_AGAIN)
-            continue
-        await _begin(it, listener)
+        else:
+            is_said = False
+            it.setblocking(False)
+            await _begin(it, listener)
+
+
+async def _called(place: socket.socket) -> None:
+    """Waits until someone calls. It takes no connection, so that none is lost where it is cancelled."""
+    loop, called = asyncio.get_running_loop(), asyncio.Event()
+    loop.add_reader(place, called.set)
+    try:
+        await called.wait()
+    finally:
+        loop.remove_reader(place)
 
 
 async def _begin(it: socket.socket, listener: Listener) -> None:

@@ -313,6 +313,21 @@ class Programs(unittest.TestCase):
                     session.retry()
                 self.assertEqual(str(raised.exception), "interrupted amid its pipes, and killed (status -9)")
 
+    def test_a_lock_of_popen_that_was_not_given_back(self):
+        """As it is where a signal's handler raises amid Popen.wait. No call waits for that lock."""
+        for restarts in (False, True):
+            session = self.begun(restarts=restarts)
+            session.transport.process._waitpid_lock.acquire()
+            session.transport.process.kill()
+            if restarts:
+                self.assertEqual([it.id for it in session.lookup_accounts([1])], [1])
+                session.transport.process._waitpid_lock.acquire()
+            else:
+                with self.assertRaises(tb.ProgramEnded) as raised:
+                    session.lookup_accounts([1])
+                self.assertEqual(raised.exception.status, -9)
+            session.transport.close()
+
     def test_a_signal_while_a_reply_is_waited_for(self):
         session = self.begun()
         with unittest.mock.patch("selectors.DefaultSelector.select", side_effect=KeyboardInterrupt), self.assertRaises(KeyboardInterrupt):

@@ -180,22 +180,18 @@ class Program(Closing):
         process = cast("subprocess.Popen[bytes]", self.process)
         fault = self._last_words(self._pipes()[2]).decode(errors="replace").strip()
         fault = fault[len("tbs: ") :] if fault.startswith("tbs: ") else fault
-        try:
-            status = process.wait(self.timeout)
-        except subprocess.TimeoutExpired:  # it writes no more replies, and does not end
-            process.kill()
-            status = process.wait()
+        status = _end_of(process, self.timeout)  # one that writes no more replies, and does not end, is killed
         # No reply after these was given out. The next one is at fault, or was not executed as far as anyone can know.
         del self.script[self.answered :]
         self.script_bytes = sum(map(len, self.script))
-        if status < 0:
+        if status < 0 or how:
             fault = how or f"killed by {_signal_name(-status)}"
         if not self.restarts:
             self._end = ProgramEnded(fault, status)  # before it is let go: an empty ledger never takes its place
         self._let_go()
         if self._end is not None:
             return self._end
-        if status < 0:
+        if status < 0 or how:
             return ReplyLost(f"the program was {fault}")
         return NoMemory("the program had no memory, and ended") if fault == "NoMemory" else ProgramEnded(fault, status)
 
@@ -220,11 +216,7 @@ class Program(Closing):
         for pipe in pipes:
             with contextlib.suppress(BrokenPipeError):
                 pipe.close()
-        try:
-            process.wait(self.timeout)
-        except subprocess.TimeoutExpired:
-            process.kill()
-            process.wait()
+        _end_of(process, self.timeout)
 
     def close(self) -> None:
         """Ends the script, and waits for the program's end. Each exchange afterwards is `Closed`."""
@@ -241,6 +233,26 @@ class Program(Closing):
             for pipe in self._pipes():
                 with contextlib.suppress(BrokenPipeError):
                     pipe.close()
+
+
+def _end_of(process: subprocess.Popen[bytes], patience: float) -> int:
+    """The exit status of a process. Where it does not end in so many seconds it is killed. The system is asked itself: a lock that
+    `Popen.wait` holds is never given back where a signal's handler raises at the wrong moment."""
+    deadline, pause = time.monotonic() + patience, 0.0005
+    while process.returncode is None:
+        try:
+            ended, status = os.waitpid(process.pid, os.WNOHANG)
+        except ChildProcessError:  # someone else was told its status
+            ended, status = process.pid, 0
+        if ended:
+            process.returncode = os.waitstatus_to_exitcode(status)
+        elif time.monotonic() > deadline:
+            process.kill()
+            deadline = time.monotonic() + LONGEST
+        else:
+            time.sleep(pause)
+            pause = min(2 * pause, 0.05)
+    return process.returncode
 
 
 def _signal_name(number: int) -> str:
