@@ -6,6 +6,14 @@ use Rattle.avl_tree.specs.Nodes.{entries, stored_height, IsAvl}
 use Rattle.avl_tree.specs.declared.tree.Tree.{Tree}
 use denote.Ref.{MutBor}
 
+-- f may be called at a `&mut` to x
+abbrev pub TakesAtMut : {F V R : Type 0} → Mut F (MutBor V × Unit {0}) (R × (MutBor V × Unit {0})) → F → V → Type 0
+TakesAtMut {F} {V} c f x = (y : MutBor V) → y.now ≡ x → c.pre f (y, tt)
+
+-- f may be called at the value of the key that passes the test
+abbrev pub TakesFound : {F K V R : Type 0} → Mut F (MutBor V × Unit {0}) (R × (MutBor V × Unit {0})) → (K → Bool) → List (K × V) → F → Type 0
+TakesFound {F} {K} {V} c test es f = (v : V) → lookup test es ≡ Some v → TakesAtMut c f v
+
 -- a call of f at the value of the key that passes the test gave r, left f', and left another value there
 pub record Changed {F K V R : Type 0} (c : Mut F (MutBor V × Unit {0}) (R × (MutBor V × Unit {0}))) (test : K → Bool) (es : List (K × V)) (f : F) (r : R) (f' : F) (es' : List (K × V)) : Type 0 where
   pub value : V

@@ -7,7 +7,7 @@ ghost use Rattle.std.specs.Ordering.{is_eq};
 ghost use Rattle.std.specs.Map.{keys_of, set_value, remove_entry};
 ghost use Rattle.std.specs.BTreeMap.{insert_entry, is_at};
 ghost use Rattle.std.specs.declared.option.Option.TheVariants.{None, Some};
-ghost use Rattle.avl_tree.specs.Changes.{Changed, ChangedTwo};
+ghost use Rattle.avl_tree.specs.Changes.{Changed, ChangedTwo, TakesFound};
 ghost use Rattle.avl_tree.specs.Map.{entries, get, first_to, IsShallow};
 ghost use Rattle.avl_tree.specs.Nodes.{entry, with_first, search_of, IsBare, IsWhole};
 ghost use Rattle.avl_tree.specs.Search.{path_length};
@@ -222,6 +222,20 @@ impl<K: Ord + Copy, V, A: Allocator + Clone> AvlMap<K, V, A> {
     pub fn update<R, F: FnMut(&mut V) -> R>(&mut self, key: &K, f: &mut F) -> Option<R>
         requires { F.IsAlwaysCallable f.old }
         ensures callable { F.IsAlwaysCallable f.new }
+        ensures changed { IfSome result
+            (λ r.
+            Changed F.FnMut (is_at (K.cmp key.now)) (entries self.old) f.old r f.new
+            (entries self.new)) }
+        ensures absent { IfNone result
+            ((get K.cmp self.old key.now ≡ None) × (f.new ≡ f.old) × (self.new ≡ self.old)) }
+        ensures spare { self.new.spare ≡ self.old.spare }
+    {
+        updates::update(&mut self.root, key, f)
+    }
+
+    /// As `update`, of a closure that may be called once, and at the value of the key.
+    pub fn change<R, F: FnMut(&mut V) -> R>(&mut self, key: &K, f: &mut F) -> Option<R>
+        requires { TakesFound F.FnMut (is_at (K.cmp key.now)) (entries self.old) f.old }
         ensures changed { IfSome result
             (λ r.
             Changed F.FnMut (is_at (K.cmp key.now)) (entries self.old) f.old r f.new

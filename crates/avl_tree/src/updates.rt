@@ -3,7 +3,7 @@ ghost use Rattle.std.specs.Prelude.{◌≡◌};
 ghost use Rattle.std.specs.BTreeMap.{is_at};
 ghost use Rattle.std.specs.Fn.{CalledAtMut};
 ghost use Rattle.avl_tree.specs.Nodes.{entries, IsAvl, IsOrdered};
-ghost use Rattle.avl_tree.specs.Changes.{Changes};
+ghost use Rattle.avl_tree.specs.Changes.{Changes, TakesAtMut, TakesFound};
 
 use crate::tree::{Node, Tree};
 use crate::walks::compare;
@@ -15,8 +15,7 @@ fn update_value<K, V, A: Allocator, R, F: FnMut(&mut V) -> R>(
     node: &mut Node<K, V, A>,
     f: &mut F,
 ) -> R
-    requires callable { F.IsAlwaysCallable f.old }
-    ensures callable { F.IsAlwaysCallable f.new }
+    requires callable { TakesAtMut F.FnMut f.old node.old.value }
     ensures left { node.new.left ≡ node.old.left }
     ensures right { node.new.right ≡ node.old.right }
     ensures key { node.new.key ≡ node.old.key }
@@ -33,9 +32,8 @@ pub fn update<K: Ord, V, A: Allocator, R, F: FnMut(&mut V) -> R>(
 ) -> Option<R>
     requires balanced { IsAvl tree.old }
     requires sorted { IsOrdered K.cmp (entries tree.old) }
-    requires callable { F.IsAlwaysCallable f.old }
-    ensures callable { F.IsAlwaysCallable f.new }
-    ensures changes { Changes F.FnMut (is_at (K.cmp key.now)) tree.old f.old result f.new tree.new }
+    requires callable { TakesFound F.FnMut (is_at (K.cmp key.now)) (entries tree.old) f.old }
+    ensures { Changes F.FnMut (is_at (K.cmp key.now)) tree.old f.old result f.new tree.new }
 {
     match tree {
         Tree::Empty => None,

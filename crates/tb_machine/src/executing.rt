@@ -1,13 +1,17 @@
 //! What a request does to the ledger, and what its reply says.
-ghost use Rattle.std.specs.Prelude.{◌≡◌, ◌+◌, ◌≤◌, max, MatchResult, IsTrue};
+ghost use Rattle.std.specs.Prelude.{◌≡◌, ◌+◌, ◌≤◌, max, IfOk, OnErr, MatchResult, IsTrue};
 ghost use Rattle.tb_records.specs.Messages.{count, item_count, items_max, operation, IsRight};
 ghost use Rattle.tb_ledger.specs.Verdicts.{max_time};
 ghost use Rattle.tb_machine.specs.Histories.{executed, found, reply_with, row_with, session_of};
+ghost use Rattle.tb_machine.specs.Serving.{StepsRow};
 
 use crate::entries::Entry;
 use std::alloc::{AllocError, Allocator, Global};
+use std::mem;
 use tb_ledger::Ledger;
-use tb_records::{Body, Items, Reply, ReplyBody, Request, Status};
+use tb_records::{
+    Body, FrameFault, Items, Reply, ReplyBody, Request, Sink, Status, send_reply,
+};
 use tb_sessions::Row;
 
 /// Does what a body asks for, at a time, and tells what its reply says; on a refusal the ledger is unchanged.
@@ -53,31 +57,31 @@ pub(crate) fn execute<A: Allocator + Clone>(
     }
 }
 
-/// The session that an entry belongs to: a register's is its own commit number.
-pub(crate) fn session_of(entry: &Entry) -> u64
-    ensures { result ≡ session_of entry.now }
+/// The session that a request belongs to: a register's is its own commit number.
+fn session_of(request: &Request, commit: u64) -> u64
+    ensures { let e : Entry = record { commit = commit; time = 0; request = request.now } in result ≡ session_of e }
 {
-    if matches!(entry.request.body(), Body::Register) {
-        entry.commit
+    if matches!(request.body(), Body::Register) {
+        commit
     } else {
-        entry.request.session()
+        request.session()
     }
 }
 
-/// The reply to an entry.
-pub(crate) fn reply_with(entry: &Entry, body: ReplyBody) -> Reply
-    requires { IsRight (reply_with entry.now body) }
-    ensures { result ≡ reply_with entry.now body }
+/// The reply to a request that has a commit number.
+fn reply_with(request: &Request, commit: u64, body: ReplyBody) -> Reply
+    requires { let e : Entry = record { commit = commit; time = 0; request = request.now } in
+        IsRight (reply_with e body) }
+    ensures { let e : Entry = record { commit = commit; time = 0; request = request.now } in
+        result ≡ reply_with e body }
 {
-    let request = &entry.request;
-    let session = session_of(entry);
     let reply = Reply::new(
         request.client(),
-        session,
+        session_of(request, commit),
         request.request(),
         request.operation(),
         Status::Reply,
-        entry.commit,
+        commit,
         body,
     );
     let Ok(reply) = reply else { unreachable!() };
@@ -105,7 +109,7 @@ pub(crate) fn row_for<A: Allocator + Clone>(
         Ok(body) => body,
         Err(AllocError) => return Err(entry),
     };
-    let reply = reply_with(&entry, body);
+    let reply = reply_with(&entry.request, entry.commit, body);
     let Entry {
         commit,
         request,
@@ -118,4 +122,40 @@ pub(crate) fn row_for<A: Allocator + Clone>(
         reply,
         commit,
     })
+}
+
+/// Executes a request that is New beside its client's row, and puts it into the row, beside the reply, which is written. What
+/// the row had for it is where the request was. On a refusal, for want of memory, all is as it was.
+///
+/// The request and its row are changed where they stand, since some 250 bytes would else be moved three times.
+pub(crate) fn serve_row<A: Allocator + Clone, W: Sink>(
+    global: Global,
+    ledger: &mut Ledger<A>,
+    writer: &mut W,
+    commit: u64,
+    time: u64,
+    request: &mut Request,
+    row: &mut Row,
+) -> Result<Result<(), FrameFault>, AllocError>
+    requires few { item_count request.old.body ≤ items_max }
+    requires later { ledger.old.time + max (count request.old.body) 1 ≤ time }
+    requires in_range { time ≤ max_time }
+    requires right { let e : Entry = record { commit = commit; time = time; request = request.old } in
+        IsRight (reply_with e (found ledger.old request.old.body time)) }
+    ensures told { let e : Entry = record { commit = commit; time = time; request = request.old } in IfOk result
+        (λ told.
+        StepsRow told ledger.old ledger.new e row.new (W.output writer.old) (W.output writer.new)) }
+    ensures same_row { OnErr result (row.new ≡ row.old) }
+    ensures unchanged { OnErr result
+        ((ledger.new ≡ ledger.old) × (request.new ≡ request.old) × (writer.new ≡ writer.old)) }
+{
+    let body = execute(global, ledger, time, request.body())?;
+    let reply = reply_with(request, commit, body);
+    let told = send_reply(writer, &reply);
+    row.client = request.client();
+    row.session = reply.session();
+    row.commit = commit;
+    row.reply = reply;
+    mem::swap(&mut row.request, request);
+    Ok(told)
 }

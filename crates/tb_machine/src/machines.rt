@@ -1,5 +1,5 @@
 //! The machine: a ledger and the sessions of its clients, which entries move on.
-ghost use Rattle.std.specs.Prelude.{◌≡◌, ◌+◌, ◌≤◌, ◌<◌, max, true, false, IfOk, MatchOption, MatchResult, OnOk, IsTrue, None, Some};
+ghost use Rattle.std.specs.Prelude.{◌≡◌, ◌+◌, ◌≤◌, ◌<◌, max, true, false, IfOk, IfErr, MatchOption, MatchResult, OnOk, OnErr, IsTrue, None, Some};
 ghost use Rattle.std.specs.Option.{option_map};
 ghost use Rattle.tb_records.specs.Messages.{IsLawful};
 ghost use Rattle.tb_ledger.specs.Books.{account_now, profile_of, transfer_at, found_accounts, found_transfers};
@@ -8,10 +8,10 @@ ghost use Rattle.tb_sessions.specs.Judged.{class_of, row_of};
 ghost use Rattle.tb_records.specs.ReplyFrames.{reply_bytes, IsReply};
 ghost use Rattle.tb_machine.specs.Histories.{start, step, reply_at, to_two, fits, is_new, least_time};
 ghost use Rattle.tb_machine.specs.Scripts.{entry_of, has_time};
-ghost use Rattle.tb_machine.specs.Serving.{IsSent};
+ghost use Rattle.tb_machine.specs.Serving.{IsSent, Steps};
 
 use crate::entries::Entry;
-use crate::executing::row_for;
+use crate::executing::{row_for, serve_row};
 use std::alloc::{AllocError, Allocator, Global};
 use std::marker::Model;
 use tb_ledger::Ledger;
@@ -236,6 +236,48 @@ impl<A: Allocator + Clone> Machine<A> {
         let _left = self.sessions.record(row);
         self.commit = commit;
         Ok(())
+    }
+
+    /// Serves a request that comes at a moment, where it is New beside its client's row: by one search of the sessions it is
+    /// executed, the row keeps it and the reply, and the reply is written. Any other request gets its class, and so do a
+    /// register of a client without a row and a request for which there is no time: nothing is called or changed then.
+    pub(crate) fn serve_in_session<W: Sink>(
+        &mut self,
+        writer: &mut W,
+        moment: u64,
+        request: &mut Request,
+    ) -> Result<Result<Result<(), FrameFault>, AllocError>, Class>
+        ensures new { OnOk result (class_of self.old.rows request.old ≡ Class.New) }
+        ensures timely { OnOk result (has_time self.old (moment, request.old) ≡ true) }
+        ensures served { IfOk result
+            (λ served.
+            Steps served self.old self.new (entry_of self.old (moment, request.old))
+            (W.output writer.old) (W.output writer.new)) }
+        ensures told { IfErr result (λ class. class ≡ class_of self.old.rows request.old) }
+        ensures unchanged { OnErr result
+            ((self.new ≡ self.old) × (request.new ≡ request.old) × (writer.new ≡ writer.old)) }
+        ensures lawful { IsLawful request.old }
+    {
+        let events = request.body().event_count() as u64;
+        let Some(time) = self.next_time(moment, events) else {
+            return Err(self.class(request));
+        };
+        let commit = self.commit + 1;
+        let global = self.global;
+        let ledger = &mut self.ledger;
+        let served = self
+            .sessions
+            .renew_with(request, &mut |request: &mut Request, row: &mut Row| {
+                serve_row(global, ledger, writer, commit, time, request, row)
+            });
+        match served {
+            Ok(Ok(told)) => {
+                self.commit = commit;
+                Ok(Ok(told))
+            }
+            Ok(Err(AllocError)) => Ok(Err(AllocError)),
+            Err(class) => Err(class),
+        }
     }
 
     /// As `enter`, and writes the reply before the row that keeps it goes to the others. Where the writer failed, the

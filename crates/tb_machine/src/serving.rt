@@ -197,9 +197,13 @@ pub fn serve_pair<A: Allocator + Clone, W: Sink>(
     ensures { AnswersPair result machine.old machine.new (moment, request) (W.output writer.old)
         (W.output writer.new) }
 {
-    match machine.class(&request) {
-        Class::New => answer_new(machine, writer, moment, request),
-        class => answer_known(machine, writer, &request, class),
+    let mut request = request;
+    match machine.serve_in_session(writer, moment, &mut request) {
+        Ok(Ok(Ok(()))) => Ok(()),
+        Ok(Ok(Err(fault))) => Err(RunFault::Frame(fault)),
+        Ok(Err(AllocError)) => Err(RunFault::NoMemory),
+        Err(Class::New) => answer_new(machine, writer, moment, request),
+        Err(class) => answer_known(machine, writer, &request, class),
     }
 }
 

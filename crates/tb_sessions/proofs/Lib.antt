@@ -1,4 +1,5 @@
 pub mod Index
 pub mod LaterRows
 pub mod LookUps
+pub mod Renewing
 pub mod Rising

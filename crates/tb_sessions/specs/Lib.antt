@@ -1,5 +1,6 @@
 -- what public contracts cite
 pub mod Admission
 pub mod Judged
+pub mod Renewal
 -- what private functions alone cite
 pub mod Indexed

@@ -1,9 +1,10 @@
 //! The sessions of the clients: at most one of each, and at most so many in all.
-ghost use Rattle.std.specs.Prelude.{◌≡◌, ◌<◌, ◌≤◌, true, false, IfOk, MatchOption, Some, None, [], length};
+ghost use Rattle.std.specs.Prelude.{◌≡◌, ◌≢◌, ◌<◌, ◌≤◌, true, false, IfOk, IfErr, OnOk, OnErr, MatchOption, Some, None, [], length};
 ghost use Rattle.std.specs.Option.{option_map};
 ghost use Rattle.tb_records.specs.Ordered.{Each, put, replaced, taken_out};
-ghost use Rattle.tb_sessions.specs.Judged.{class_of, client_of, row_of};
+ghost use Rattle.tb_sessions.specs.Judged.{class_beside, class_by, class_of, client_of, row_of};
 ghost use Rattle.tb_sessions.specs.Admission.{admitted, driven_out, leaving, oldest};
+ghost use Rattle.tb_sessions.specs.Renewal.{MayServe, Renews, Served, Serves, TakesBoth};
 
 use crate::classes::Class;
 use crate::eviction::bring_up;
@@ -34,6 +35,39 @@ impl Model for Sessions {
     ghost view = { λ s. record { clients_max = s.clients_max; rows = values_of (entries s.rows) } };
 
     ghost invariant = { λ s. FindsOldest s.clients_max s.rows s.clients };
+}
+
+/// How a request of a client without a session stands to the sessions.
+fn class_alone(request: &Request) -> Class
+    ensures { result ≡ class_by None request.now }
+{
+    if matches!(request.body(), Body::Register) {
+        Class::New
+    } else {
+        Class::NoSession
+    }
+}
+
+/// Calls the closure with a request and its client's row, where the request is New beside it; else answers the class.
+fn serve_new<R, F: FnMut(&mut Request, &mut Row) -> R>(
+    row: &mut Row,
+    request: &mut Request,
+    serve: &mut F,
+) -> Result<R, Class>
+    requires callable { class_beside row.old request.old ≡ Class.New
+        → TakesBoth F.FnMut serve.old request.old row.old }
+    ensures new { OnOk result (class_beside row.old request.old ≡ Class.New) }
+    ensures served { IfOk result
+        (λ answer. Serves F.FnMut serve.old request.old row.old answer serve.new request.new row.new) }
+    ensures told { IfErr result
+        (λ class. (class ≡ class_beside row.old request.old) × (class ≢ Class.New)) }
+    ensures same_row { OnErr result (row.new ≡ row.old) }
+    ensures unchanged { OnErr result ((request.new ≡ request.old) × (serve.new ≡ serve.old)) }
+{
+    match row.class_beside(request) {
+        Class::New => Ok(serve(request, row)),
+        class => Err(class),
+    }
 }
 
 impl Sessions {
@@ -68,13 +102,7 @@ impl Sessions {
     {
         match self.stored(request.client()) {
             Some(row) => row.class_beside(request),
-            None => {
-                if matches!(request.body(), Body::Register) {
-                    Class::New
-                } else {
-                    Class::NoSession
-                }
-            }
+            None => class_alone(request),
         }
     }
 
@@ -116,6 +144,45 @@ impl Sessions {
         };
         self.put_in(row);
         gone
+    }
+
+    /// Serves a request that is New beside its client's row: the closure is called once, with the request and the row, and may
+    /// put a later row of the client in its place. Any other request, and one of a client without a row, gets its class, and
+    /// nothing is called or changed. The closure is lent, so that the caller has the state that the call left it in.
+    ///
+    /// It stands in its callers, as `record` does.
+    #[inline(always)]
+    pub fn renew_with<R, F: FnMut(&mut Request, &mut Row) -> R>(
+        &mut self,
+        request: &mut Request,
+        serve: &mut F,
+    ) -> Result<R, Class>
+        requires callable { MayServe F.FnMut serve.old self.old.rows request.old }
+        requires renews { Renews F.FnMut serve.old self.old.rows request.old }
+        ensures same_size { self.new.clients_max ≡ self.old.clients_max }
+        ensures served { IfOk result
+            (λ answer.
+            Served F.FnMut serve.old self.old.rows request.old answer serve.new request.new
+            self.new.rows) }
+        ensures told { IfErr result
+            (λ class.
+            (class ≡ class_of self.old.rows request.old)
+            × (class ≡ Class.New → row_of self.old.rows request.old.client ≡ None)) }
+        ensures unchanged { OnErr result
+            ((self.new ≡ self.old) × (request.new ≡ request.old) × (serve.new ≡ serve.old)) }
+    {
+        let client = request.client();
+        let served = self.rows.change(&client, &mut |row: &mut Row| {
+            serve_new(row, request, serve)
+        });
+        match served {
+            Some(Ok(answer)) => {
+                bring_up(self.clients_max, &self.rows, &mut self.clients);
+                Ok(answer)
+            }
+            Some(Err(class)) => Err(class),
+            None => Err(class_alone(request)),
+        }
     }
 
     /// Exchanges a row and that of its client, where the client has one, and says that it has.
