@@ -172,9 +172,10 @@ impl Sessions {
             ((self.new ≡ self.old) × (request.new ≡ request.old) × (serve.new ≡ serve.old)) }
     {
         let client = request.client();
-        let served = self.rows.change(&client, &mut |row: &mut Row| {
-            serve_new(row, request, serve)
-        });
+        let served = self.rows.change(
+            &client,
+            &mut |row: &mut Row| { serve_new(row, request, serve) },
+        );
         match served {
             Some(Ok(answer)) => {
                 bring_up(self.clients_max, &self.rows, &mut self.clients);
