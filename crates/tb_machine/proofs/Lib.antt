@@ -14,6 +14,7 @@ pub mod Marked
 pub mod DumpReading
 pub mod DumpWriting
 pub mod DumpLaws
+pub mod InSession
 pub mod JournalRecords
 pub mod FirstCause
 pub mod ReachedBy

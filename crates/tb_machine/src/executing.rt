@@ -1,17 +1,15 @@
 //! What a request does to the ledger, and what its reply says.
-ghost use Rattle.std.specs.Prelude.{◌≡◌, ◌+◌, ◌≤◌, max, IfOk, OnErr, MatchResult, IsTrue};
+ghost use Rattle.std.specs.Prelude.{◌≡◌, ◌+◌, ◌≤◌, max, OnOk, OnErr, MatchResult, IsTrue};
 ghost use Rattle.tb_records.specs.Messages.{count, item_count, items_max, operation, IsRight};
 ghost use Rattle.tb_ledger.specs.Verdicts.{max_time};
 ghost use Rattle.tb_machine.specs.Histories.{executed, found, reply_with, row_with, session_of};
-ghost use Rattle.tb_machine.specs.Serving.{StepsRow};
+ghost use Rattle.tb_machine.specs.Serving.{made, row_in, Tells};
 
 use crate::entries::Entry;
 use std::alloc::{AllocError, Allocator, Global};
 use std::mem;
 use tb_ledger::Ledger;
-use tb_records::{
-    Body, FrameFault, Items, Reply, ReplyBody, Request, Sink, Status, send_reply,
-};
+use tb_records::{Body, FrameFault, Items, Reply, ReplyBody, Request, Sink, Status, send_reply};
 use tb_sessions::Row;
 
 /// Does what a body asks for, at a time, and tells what its reply says; on a refusal the ledger is unchanged.
@@ -140,14 +138,15 @@ pub(crate) fn serve_row<A: Allocator + Clone, W: Sink>(
     requires few { item_count request.old.body ≤ items_max }
     requires later { ledger.old.time + max (count request.old.body) 1 ≤ time }
     requires in_range { time ≤ max_time }
-    requires right { let e : Entry = record { commit = commit; time = time; request = request.old } in
-        IsRight (reply_with e (found ledger.old request.old.body time)) }
-    ensures told { let e : Entry = record { commit = commit; time = time; request = request.old } in IfOk result
-        (λ told.
-        StepsRow told ledger.old ledger.new e row.new (W.output writer.old) (W.output writer.new)) }
+    requires right { IsRight (row_in ledger.old (made commit time request.old)).reply }
+    ensures books { OnOk result (ledger.new ≡ executed ledger.old request.old.body time) }
+    ensures row { OnOk result (row.new ≡ row_in ledger.old (made commit time request.old)) }
+    ensures told { Tells result (row_in ledger.old (made commit time request.old)).reply (W.output writer.old)
+        (W.output writer.new) }
     ensures same_row { OnErr result (row.new ≡ row.old) }
-    ensures unchanged { OnErr result
-        ((ledger.new ≡ ledger.old) × (request.new ≡ request.old) × (writer.new ≡ writer.old)) }
+    ensures same_ledger { OnErr result (ledger.new ≡ ledger.old) }
+    ensures same_request { OnErr result (request.new ≡ request.old) }
+    ensures same_writer { OnErr result (writer.new ≡ writer.old) }
 {
     let body = execute(global, ledger, time, request.body())?;
     let reply = reply_with(request, commit, body);

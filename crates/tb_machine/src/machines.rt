@@ -265,17 +265,21 @@ impl<A: Allocator + Clone> Machine<A> {
         let commit = self.commit + 1;
         let global = self.global;
         let ledger = &mut self.ledger;
-        let served = self
-            .sessions
-            .renew_with(request, &mut |request: &mut Request, row: &mut Row| {
+        let served = self.sessions.renew_with(
+            request,
+            &mut |request: &mut Request, row: &mut Row| {
                 serve_row(global, ledger, writer, commit, time, request, row)
-            });
+            },
+        );
         match served {
-            Ok(Ok(told)) => {
+            Ok(told) => {
+                let refused = told.is_err();
+                if refused {
+                    return Ok(told);
+                }
                 self.commit = commit;
-                Ok(Ok(told))
+                Ok(told)
             }
-            Ok(Err(AllocError)) => Ok(Err(AllocError)),
             Err(class) => Err(class),
         }
     }

@@ -9,7 +9,7 @@ ghost use Rattle.tb_machine.specs.Histories.{status_of, answer_to, fits};
 ghost use Rattle.tb_machine.specs.RunFaults.{run_fault_number, run_fault_name};
 ghost use Rattle.tb_machine.specs.Runs.{is_new_in, AnswersPair, Ran};
 ghost use Rattle.tb_machine.specs.Scripts.{entry_of, has_time};
-ghost use Rattle.tb_machine.specs.Serving.{EntersPair, Delivers, IsPromptForPair, RunsOn};
+ghost use Rattle.tb_machine.specs.Serving.{EntersPair, Delivers, IsPromptForPair, Outcome, RunsOn};
 
 use crate::entries::Entry;
 use crate::machines::Machine;
@@ -185,6 +185,35 @@ fn answer_known<A: Allocator + Clone, W: Sink>(
     }
 }
 
+/// Answers a request of a class: enters a new one, and answers any other.
+fn answer_as<A: Allocator + Clone, W: Sink>(
+    machine: &mut Machine<A>,
+    writer: &mut W,
+    moment: u64,
+    request: Request,
+    class: Class,
+) -> Result<(), RunFault>
+    requires { class ≡ class_of machine.old.rows request }
+    ensures { AnswersPair result machine.old machine.new (moment, request) (W.output writer.old)
+        (W.output writer.new) }
+{
+    match class {
+        Class::New => answer_new(machine, writer, moment, request),
+        class => answer_known(machine, writer, &request, class),
+    }
+}
+
+/// What a request ends with that was served beside its client's row.
+fn outcome(served: Result<Result<(), FrameFault>, AllocError>) -> Result<(), RunFault>
+    ensures { Outcome served result }
+{
+    match served {
+        Ok(Ok(())) => Ok(()),
+        Ok(Err(fault)) => Err(RunFault::Frame(fault)),
+        Err(AllocError) => Err(RunFault::NoMemory),
+    }
+}
+
 /// Serves a request that comes at a moment: a new one is entered first, and the reply is written. Where a new one finds no
 /// time or no memory, nothing is written and the machine is as it was; where the writer failed, a new one has been entered
 /// all the same, and sent again it is a repeat that gets its reply.
@@ -199,11 +228,8 @@ pub fn serve_pair<A: Allocator + Clone, W: Sink>(
 {
     let mut request = request;
     match machine.serve_in_session(writer, moment, &mut request) {
-        Ok(Ok(Ok(()))) => Ok(()),
-        Ok(Ok(Err(fault))) => Err(RunFault::Frame(fault)),
-        Ok(Err(AllocError)) => Err(RunFault::NoMemory),
-        Err(Class::New) => answer_new(machine, writer, moment, request),
-        Err(class) => answer_known(machine, writer, &request, class),
+        Ok(served) => outcome(served),
+        Err(class) => answer_as(machine, writer, moment, request, class),
     }
 }
 
