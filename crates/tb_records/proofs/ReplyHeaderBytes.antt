@@ -8,10 +8,11 @@ use Rattle.tb_records.specs.declared.bodies.ReplyBody.{ReplyBody}
 use Rattle.tb_records.specs.declared.faults.FrameFault.{FrameFault}
 use Rattle.tb_records.specs.declared.faults.FrameFault.TheVariants.{ClientZero, UnknownOperation, BadLength, TooMany, RegisterNumbers, RequestZero, ReplyNumbers}
 use Rattle.tb_records.specs.Frames.{client_at, session_at, request_at, operation_at, length_at}
-use Rattle.tb_records.specs.Messages.{status_code, answered, answer_count, first_fault, is_operation, has_register_numbers, has_reply_numbers, kind_of, kind_for, items_max, IsRight}
+use Rattle.tb_records.specs.Messages.{status_code, answer_count, first_fault, is_operation, has_register_numbers, has_reply_numbers, kind_of, kind_for, items_max, IsRight}
 use Rattle.tb_records.specs.Numbers.{le_bytes, le_at}
 use Rattle.tb_records.specs.ReplyFrames.{reply_header_bytes, reply_header_fault, reply_header_tests, reply_body_bytes, reply_item_size, has_reply_length, status_at, commit_at, SpellsReply}
 use Rattle.tb_records.specs.ReplyHeaders.{IsReplyHeader, IsReplyBody}
+use Rattle.tb_records.specs.ReplyTests.{answer_of}
 use Rattle.tb_records.proofs.NumberBytes.{le_at-spelled, le_at-fits, field_then}
 use Rattle.tb_records.proofs.ReplyFaults.{reply_tests_of}
 use Rattle.tb_records.proofs.ReplyRows.{is_row, row_count}
@@ -30,11 +31,11 @@ is_true false e = cc
 
 -- the header's fields fit, and its bytes are their spelling
 pub record ReplyHeaderSpelled (b : List ℕ) (h : ReplyHeader) : Type 0 where
-  pub bytes : take 48 b ≡ reply_header_bytes h.client h.session h.request h.operation (status_code h.status) h.len h.commit
-  pub client : h.client < 2 ^ 128
-  pub session : h.session < 2 ^ 64
-  pub request : h.request < 2 ^ 32
-  pub commit : h.commit < 2 ^ 64
+  pub bytes : take 48 b ≡ reply_header_bytes h.numbers.client h.numbers.session h.numbers.request h.numbers.operation (status_code h.numbers.status) h.len h.numbers.commit
+  pub client : h.numbers.client < 2 ^ 128
+  pub session : h.numbers.session < 2 ^ 64
+  pub request : h.numbers.request < 2 ^ 32
+  pub commit : h.numbers.commit < 2 ^ 64
 
 -- the reserved bytes are 0
 reserved_zero : (b : List ℕ) → reply_header_fault b ≡ None → (le_at 2 30 b ≡ 0) × (le_at 4 44 b ≡ 0)
@@ -70,7 +71,7 @@ reply_header_spelled b h long fits of = record {
 }
 
 -- the length of the body is one that the operation and the status allow
-pub header_length : (b : List ℕ) (h : ReplyHeader) → IsReplyHeader b h → has_reply_length h.operation (status_code h.status) h.len ≡ true
+pub header_length : (b : List ℕ) (h : ReplyHeader) → IsReplyHeader b h → has_reply_length h.numbers.operation (status_code h.numbers.status) h.len ≡ true
 unfolding reply_header_fault
 header_length b h of =
     let tests = none_each (reply_header_tests b) of.none in
@@ -89,19 +90,19 @@ answer_tests_of client session request operation status commit kind count =
     ∷ []
 
 -- a header without a fault, and a body of its kind and length: the reply's numbers go together
-pub header_right : (b : List ℕ) (h : ReplyHeader) (body : ReplyBody) (bytes : List ℕ) → IsReplyHeader b h → IsReplyBody h.operation (status_code h.status) body bytes → length bytes ≡ h.len
-    → IsRight (answered h.client h.session h.request h.operation h.status h.commit body)
+pub header_right : (b : List ℕ) (h : ReplyHeader) (body : ReplyBody) (bytes : List ℕ) → IsReplyHeader b h → IsReplyBody h.numbers.operation (status_code h.numbers.status) body bytes → length bytes ≡ h.len
+    → IsRight (answer_of h.numbers body)
 unfolding reply_header_fault
 header_right b h body bytes of is long =
-    let same : reply_tests_of h.client h.session h.request h.operation (status_code h.status) (le_at 2 30 b) h.len h.commit (le_at 4 44 b) ≡ reply_header_tests b =
+    let same : reply_tests_of h.numbers.client h.numbers.session h.numbers.request h.numbers.operation (status_code h.numbers.status) (le_at 2 30 b) h.len h.numbers.commit (le_at 4 44 b) ≡ reply_header_tests b =
     λ i. reply_tests_of (of.client i) (of.session i) (of.request i) (of.operation i) (of.status i) (le_at 2 30 b) (of.len i) (of.commit i) (le_at 4 44 b) in
-    let tests : NoneHolds (reply_tests_of h.client h.session h.request h.operation (status_code h.status) (le_at 2 30 b) h.len h.commit (le_at 4 44 b)) =
-    none_each (reply_tests_of h.client h.session h.request h.operation (status_code h.status) (le_at 2 30 b) h.len h.commit (le_at 4 44 b)) (ap first_fault same ∙ of.none) in
-    let kind = eq-eqb (kind_of body) (if status_code h.status == 0 then kind_for h.operation else 0) is.kind in
+    let tests : NoneHolds (reply_tests_of h.numbers.client h.numbers.session h.numbers.request h.numbers.operation (status_code h.numbers.status) (le_at 2 30 b) h.len h.numbers.commit (le_at 4 44 b)) =
+    none_each (reply_tests_of h.numbers.client h.numbers.session h.numbers.request h.numbers.operation (status_code h.numbers.status) (le_at 2 30 b) h.len h.numbers.commit (le_at 4 44 b)) (ap first_fault same ∙ of.none) in
+    let kind = eq-eqb (kind_of body) (if status_code h.numbers.status == 0 then kind_for h.numbers.operation else 0) is.kind in
     let len : length (reply_body_bytes body) ≡ h.len = ap length is.spelled ∙ long in
-    let count : h.len / reply_item_size h.operation ≡ answer_count body =
-    ap (λ n. n / reply_item_size h.operation) (sym len) ∙ row_count h.operation (status_code h.status) _ _ (is_row h.operation (status_code h.status) body is.kind) in
-    all_none (answer_tests_of h.client h.session h.request h.operation (status_code h.status) h.commit (kind_of body) (answer_count body))
+    let count : h.len / reply_item_size h.numbers.operation ≡ answer_count body =
+    ap (λ n. n / reply_item_size h.numbers.operation) (sym len) ∙ row_count h.numbers.operation (status_code h.numbers.status) _ _ (is_row h.numbers.operation (status_code h.numbers.status) body is.kind) in
+    all_none (answer_tests_of h.numbers.client h.numbers.session h.numbers.request h.numbers.operation (status_code h.numbers.status) h.numbers.commit (kind_of body) (answer_count body))
     (tests.0, (tests.1.0, (tests.1.1.1.0, (tests.1.1.1.1.0, (tests.1.1.1.1.1.0, (ap not kind, (ap (λ n. nat_lt items_max n) (sym count) ∙ tests.1.1.1.1.1.1.1.0, tt)))))))
 
 -- the bytes of the body behind the header
@@ -110,8 +111,8 @@ body_behind b n long = omega (arith, length-take (48 + n - 48) (drop 48 b), leng
 
 -- a header, and the body of its kind and length behind it: a reply
 pub found_reply : (b : List ℕ) (h : ReplyHeader) (body : ReplyBody) → ((i : ℕ) → slice_index b i < 256) → IsReplyHeader b h → 48 + h.len ≤ length b
-    → IsReplyBody h.operation (status_code h.status) body (take (48 + h.len - 48) (drop 48 b))
-    → SpellsReply (take (48 + h.len) b) (answered h.client h.session h.request h.operation h.status h.commit body)
+    → IsReplyBody h.numbers.operation (status_code h.numbers.status) body (take (48 + h.len - 48) (drop 48 b))
+    → SpellsReply (take (48 + h.len) b) (answer_of h.numbers body)
 found_reply b h body fits of long is =
     let header = reply_header_spelled b h (omega arith) fits of in
     let same : 48 + h.len - 48 ≡ h.len = omega arith in
@@ -121,7 +122,7 @@ found_reply b h body fits of long is =
       bytes_are = take-add 48 h.len b
           ∙ ap (λ (l : List ℕ). take 48 b ++ l) (sym rest)
           ∙ ap (λ (l : List ℕ). l ++ reply_body_bytes body) header.bytes
-          ∙ ap (λ (n : ℕ). reply_header_bytes h.client h.session h.request h.operation (status_code h.status) n h.commit ++ reply_body_bytes body) (sym len);
+          ∙ ap (λ (n : ℕ). reply_header_bytes h.numbers.client h.numbers.session h.numbers.request h.numbers.operation (status_code h.numbers.status) n h.numbers.commit ++ reply_body_bytes body) (sym len);
       is = record {
         client = header.client;
         session = header.session;

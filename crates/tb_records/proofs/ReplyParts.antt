@@ -6,7 +6,7 @@ use Rattle.tb_records.specs.Frames.{session_at, request_at, operation_at, length
 use Rattle.tb_records.specs.Messages.{status_code, first_fault}
 use Rattle.tb_records.specs.ReplyFrames.{status_at, commit_at, reply_header_fault}
 use Rattle.tb_records.specs.ReplyHeaders.{HasReplyFields, IsReplyHeader}
-use Rattle.tb_records.specs.ReplyTests.{reply_field_tests, reply_number_tests, reply_length_tests}
+use Rattle.tb_records.specs.ReplyTests.{reply_field_tests, reply_number_tests, number_tests, reply_length_tests}
 use Rattle.tb_records.proofs.FirstFaults.{first_fault-some, first_fault-none}
 
 -- a fault of a field
@@ -18,7 +18,7 @@ field_fault b f e =
 
 -- without a fault of a field the numbers and the length decide
 rest_decides : (b : List ℕ) (h : ReplyHeader) → HasReplyFields b h → reply_header_fault b
-    ≡ first_fault (reply_number_tests h.operation (status_code h.status) h.session h.request h.commit ++ reply_length_tests h.operation (status_code h.status) h.len)
+    ≡ first_fault (number_tests h.numbers ++ reply_length_tests h.numbers.operation (status_code h.numbers.status) h.len)
 unfolding reply_header_fault
 rest_decides b h of =
     first_fault-none (reply_field_tests b)
@@ -26,22 +26,17 @@ rest_decides b h of =
     ∙ sym (λ i. first_fault (reply_number_tests (of.operation i) (of.status i) (of.session i) (of.request i) (of.commit i) ++ reply_length_tests (of.operation i) (of.status i) (of.len i)))
 
 -- a fault of the numbers
-pub number_fault : (b : List ℕ) (h : ReplyHeader) (status : ℕ) (f : FrameFault) → HasReplyFields b h → status ≡ status_code h.status
-    → Some f ≡ first_fault (reply_number_tests h.operation status h.session h.request h.commit) → reply_header_fault b ≡ Some f
-number_fault b h status f of es e =
-    let is = sym (e ∙ ap (λ s. first_fault (reply_number_tests h.operation s h.session h.request h.commit)) es) in
-    rest_decides b h of
-    ∙ first_fault-some (reply_number_tests h.operation (status_code h.status) h.session h.request h.commit) (reply_length_tests h.operation (status_code h.status) h.len) f is
+pub number_fault : (b : List ℕ) (h : ReplyHeader) (f : FrameFault) → HasReplyFields b h → first_fault (number_tests h.numbers) ≡ Some f → reply_header_fault b ≡ Some f
+number_fault b h f of e =
+    rest_decides b h of ∙ first_fault-some (number_tests h.numbers) (reply_length_tests h.numbers.operation (status_code h.numbers.status) h.len) f e
 
 -- without a fault of the numbers the length decides
-pub length_decides : (b : List ℕ) (h : ReplyHeader) (status : ℕ) → HasReplyFields b h → status ≡ status_code h.status
-    → None ≡ first_fault (reply_number_tests h.operation status h.session h.request h.commit)
-    → reply_header_fault b ≡ first_fault (reply_length_tests h.operation status h.len)
+pub length_decides : (b : List ℕ) (h : ReplyHeader) (status : ℕ) → HasReplyFields b h → status ≡ status_code h.numbers.status
+    → first_fault (number_tests h.numbers) ≡ None → reply_header_fault b ≡ first_fault (reply_length_tests h.numbers.operation status h.len)
 length_decides b h status of es e =
-    let is = sym (e ∙ ap (λ s. first_fault (reply_number_tests h.operation s h.session h.request h.commit)) es) in
     rest_decides b h of
-    ∙ first_fault-none (reply_number_tests h.operation (status_code h.status) h.session h.request h.commit) (reply_length_tests h.operation (status_code h.status) h.len) is
-    ∙ ap (λ s. first_fault (reply_length_tests h.operation s h.len)) (sym es)
+    ∙ first_fault-none (number_tests h.numbers) (reply_length_tests h.numbers.operation (status_code h.numbers.status) h.len) e
+    ∙ ap (λ s. first_fault (reply_length_tests h.numbers.operation s h.len)) (sym es)
 
 -- a header without a fault
 pub no_fault : (b : List ℕ) (h : ReplyHeader) → HasReplyFields b h → reply_header_fault b ≡ None → IsReplyHeader b h

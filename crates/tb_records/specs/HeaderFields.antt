@@ -28,6 +28,13 @@ pub record HeaderSpelled (b : List ℕ) : Type 0 where
   pub request : request_at b < 2 ^ 32
   pub body : length_at b < 2 ^ 32
 
+-- what the session and the number of a request may have wrong: those of a register are 0, and another operation has a number
+abbrev pub number_tests : Bool → ℕ → ℕ → List (Bool × FrameFault)
+number_tests register session request =
+    (register && not (session == 0 && request == 0), RegisterNumbers)
+    ∷ (not register && request == 0, RequestZero)
+    ∷ []
+
 -- what the numbers of a header may have wrong, as those of the request that it begins
 abbrev pub numbers_tests : ℕ → ℕ → ℕ → ℕ → ℕ → List (Bool × FrameFault)
 numbers_tests client session request code count =

@@ -10,23 +10,23 @@ use Rattle.tb_records.specs.ReplyTests.{reply_field_tests}
 -- the bytes begin with these fields, none of which has a fault by itself
 pub record HasReplyFields (b : List ℕ) (h : ReplyHeader) : Type 0 where
   pub none : first_fault (reply_field_tests b) ≡ None
-  pub client : h.client ≡ client_at b
-  pub session : h.session ≡ session_at b
-  pub request : h.request ≡ request_at b
-  pub operation : h.operation ≡ operation_at b
-  pub status : status_code h.status ≡ status_at b
-  pub commit : h.commit ≡ commit_at b
+  pub client : h.numbers.client ≡ client_at b
+  pub session : h.numbers.session ≡ session_at b
+  pub request : h.numbers.request ≡ request_at b
+  pub operation : h.numbers.operation ≡ operation_at b
+  pub status : status_code h.numbers.status ≡ status_at b
+  pub commit : h.numbers.commit ≡ commit_at b
   pub len : h.len ≡ length_at b
 
 -- the bytes begin with a header that has no fault and these fields
 pub record IsReplyHeader (b : List ℕ) (h : ReplyHeader) : Type 0 where
   pub none : reply_header_fault b ≡ None
-  pub client : h.client ≡ client_at b
-  pub session : h.session ≡ session_at b
-  pub request : h.request ≡ request_at b
-  pub operation : h.operation ≡ operation_at b
-  pub status : status_code h.status ≡ status_at b
-  pub commit : h.commit ≡ commit_at b
+  pub client : h.numbers.client ≡ client_at b
+  pub session : h.numbers.session ≡ session_at b
+  pub request : h.numbers.request ≡ request_at b
+  pub operation : h.numbers.operation ≡ operation_at b
+  pub status : status_code h.numbers.status ≡ status_at b
+  pub commit : h.numbers.commit ≡ commit_at b
   pub len : h.len ≡ length_at b
 
 -- the bytes are those of the items, whose numbers fit their fields

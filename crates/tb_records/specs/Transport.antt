@@ -1,5 +1,5 @@
 -- What readers and writers tell of their bytes, and how their failures are counted.
-use Rattle.std.specs.Prelude.{ℕ, Bool, true, false, ◌≡◌, ◌+◌, ◌-◌, ◌^◌, ◌⊎◌, ◌&&◌, ◌==◌, not, min, List, length, take, Option, None, Some, Result, Ok, Err, if◌then◌else◌}
+use Rattle.std.specs.Prelude.{ℕ, Bool, true, false, ◌≡◌, ◌+◌, ◌-◌, ◌^◌, ◌⊎◌, ◌&&◌, ◌==◌, not, min, List, length, take, Option, None, Some, Result, Ok, Err, MatchResult, if◌then◌else◌}
 use Rattle.std.specs.Io.KnownBytes.{Appends}
 use Rattle.tb_records.specs.declared.faults.FrameFault.{FrameFault}
 use Rattle.tb_records.specs.declared.faults.FrameFault.TheVariants.{Device}
@@ -103,3 +103,7 @@ pub record CutOff (bytes : List ℕ) (before after : Output) : Type 0 where
   pub count : ℕ
   pub grown : Appends before.written after.written (take count bytes)
   pub refused : Refuses before after
+
+-- what a writer of all the bytes answers: they were written, or else Device: a beginning of them was
+abbrev pub IsSent : Result Unit FrameFault → List ℕ → Output → Output → Type 0
+IsSent result bytes before after = MatchResult result (λ _. Sent bytes before after) (λ f. (f ≡ Device) × CutOff bytes before after)

@@ -3,7 +3,7 @@ ghost use Rattle.std.specs.Prelude.{false, ◌≡◌, ◌≤◌, ◌<◌, ◌+�
 ghost use Rattle.std.specs.Io.{ReadsAtMost, WritesAtMost, StartsWith};
 ghost use Rattle.std.specs.Io.Buffered.{reader_buffer, reader_remaining};
 ghost use Rattle.std.specs.Io.KnownBytes.{Consumes, ReadConsumes, WriteAppends};
-ghost use Rattle.tb_records.specs.Transport.{uncounted, Input, Output, Fails, Gives, Counts, Takes, Errs, Sent, CutOff};
+ghost use Rattle.tb_records.specs.Transport.{uncounted, Input, Output, Fails, Gives, Counts, Takes, Errs, Sent, IsSent};
 ghost use Rattle.tb_records.specs.Reading.{Filled, Lost, ReadsItems, ReadFault, BodyFault};
 
 use crate::faults::FrameFault;
@@ -239,9 +239,7 @@ pub(crate) fn fill<S: Source>(source: &mut S, buf: &mut [u8]) -> Result<usize, F
 
 /// Writes all the bytes, or stops where the writer fails or takes nothing: Device.
 pub fn put_all<W: Sink>(sink: &mut W, bytes: &[u8]) -> Result<(), FrameFault>
-    ensures { MatchResult result
-        (λ _. Sent bytes.now (W.output sink.old) (W.output sink.new))
-        (λ f. (f ≡ FrameFault.Device) × CutOff bytes.now (W.output sink.old) (W.output sink.new)) }
+    ensures { IsSent result bytes.now (W.output sink.old) (W.output sink.new) }
 {
     let mut at = 0;
     while at < bytes.len() {
@@ -373,11 +371,7 @@ fn put_blocks<W: Sink, T: Item>(
 ) -> Result<(), FrameFault>
     requires some { 0 < at_once }
     requires room { at_once * T.SIZE ≤ length block.old }
-    ensures sent { MatchResult result
-        (λ _. Sent (flat_map T.spelling items.now) (W.output sink.old) (W.output sink.new))
-        (λ f.
-        (f ≡ FrameFault.Device)
-        × CutOff (flat_map T.spelling items.now) (W.output sink.old) (W.output sink.new)) }
+    ensures sent { IsSent result (flat_map T.spelling items.now) (W.output sink.old) (W.output sink.new) }
     ensures fit { OnOk result (All T.Fits items.now) }
 {
     let mut left = items;
@@ -393,11 +387,7 @@ fn put_blocks<W: Sink, T: Item>(
 /// Writes a row of items through a block, of 1,024 bytes where a small one is too short for them, or stops where the writer
 /// fails or takes nothing. No block is made for no items.
 pub(crate) fn put_items<W: Sink, T: Item>(sink: &mut W, items: &[T]) -> Result<(), FrameFault>
-    ensures sent { MatchResult result
-        (λ _. Sent (flat_map T.spelling items.now) (W.output sink.old) (W.output sink.new))
-        (λ f.
-        (f ≡ FrameFault.Device)
-        × CutOff (flat_map T.spelling items.now) (W.output sink.old) (W.output sink.new)) }
+    ensures sent { IsSent result (flat_map T.spelling items.now) (W.output sink.old) (W.output sink.new) }
     ensures fit { OnOk result (All T.Fits items.now) }
 {
     if items.is_empty() {

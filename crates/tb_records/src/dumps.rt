@@ -1,9 +1,9 @@
 //! The bytes of a dump: its head, and behind it the entries of a history and at most one mark among them.
-ghost use Rattle.std.specs.Prelude.{◌≡◌, ◌<◌, IfSome, MatchResult, OnOk, None, length};
+ghost use Rattle.std.specs.Prelude.{◌≡◌, ◌<◌, IfSome, OnOk, None, length};
 ghost use Rattle.tb_records.specs.DumpBytes.{head_bytes, entry_bytes, mark_bytes, numbers_bytes, profile_number, HasNoHead, HeadAnswers, HeadCounts, IsClients, IsDumped, ItemAnswers, ItemCounts};
 ghost use Rattle.tb_records.specs.DumpNumbers.{NumbersAnswers};
 ghost use Rattle.tb_records.specs.DumpFaults.{dump_fault_name, dump_fault_number};
-ghost use Rattle.tb_records.specs.Transport.{Counts, CutOff, Sent};
+ghost use Rattle.tb_records.specs.Transport.{Counts, IsSent};
 ghost use Rattle.tb_records.specs.AtHand.{holds_item};
 
 use crate::devices::{Sink, Source, fill, put_all};
@@ -254,14 +254,7 @@ fn bytes_of_numbers(first: u64, second: u64) -> [u8; 16]
 /// Writes the head of a dump. Device where the sink answers an error, or takes nothing of what is left: then a beginning
 /// went out.
 pub fn send_head<W: Sink>(sink: &mut W, head: DumpHead) -> Result<(), FrameFault>
-    ensures sent { MatchResult result
-        (λ _.
-        Sent (head_bytes head.profile head.clients_max) (W.output sink.old)
-        (W.output sink.new))
-        (λ f.
-        (f ≡ FrameFault.Device)
-        × CutOff (head_bytes head.profile head.clients_max) (W.output sink.old)
-        (W.output sink.new)) }
+    ensures sent { IsSent result (head_bytes head.profile head.clients_max) (W.output sink.old) (W.output sink.new) }
     ensures right { IsClients head.clients_max }
 {
     put_all(sink, &bytes_of_head(head))
@@ -269,9 +262,7 @@ pub fn send_head<W: Sink>(sink: &mut W, head: DumpHead) -> Result<(), FrameFault
 
 /// Writes a mark, in the way of [`send_head`].
 pub fn send_mark<W: Sink>(sink: &mut W) -> Result<(), FrameFault>
-    ensures { MatchResult result
-        (λ _. Sent mark_bytes (W.output sink.old) (W.output sink.new))
-        (λ f. (f ≡ FrameFault.Device) × CutOff mark_bytes (W.output sink.old) (W.output sink.new)) }
+    ensures { IsSent result mark_bytes (W.output sink.old) (W.output sink.new) }
 {
     put_all(sink, &bytes_of_numbers(0, 2))
 }
@@ -283,13 +274,7 @@ pub fn send_entry<W: Sink>(
     time: u64,
     request: &Request,
 ) -> Result<(), FrameFault>
-    ensures sent { MatchResult result
-        (λ _.
-        Sent (entry_bytes commit time request.now) (W.output sink.old) (W.output sink.new))
-        (λ f.
-        (f ≡ FrameFault.Device)
-        × CutOff (entry_bytes commit time request.now) (W.output sink.old)
-        (W.output sink.new)) }
+    ensures sent { IsSent result (entry_bytes commit time request.now) (W.output sink.old) (W.output sink.new) }
     ensures fits { OnOk result (0 < commit → IsDumped commit time request.now) }
 {
     put_all(sink, &bytes_of_numbers(commit, time))?;

@@ -9,6 +9,7 @@ use crate::encoding::{u8_at, u24_at, u32_at, u64_at, u96_at, u128_at};
 use crate::faults::FrameFault;
 use crate::limits::ITEMS_MAX;
 use crate::operations::Operation;
+use crate::requests::check_numbers;
 
 /// The size of an item in the body of a request.
 fn size_of_item(operation: Operation) -> usize
@@ -70,13 +71,7 @@ fn header_fields(bytes: &[u8]) -> Result<Header, FrameFault>
     }
     let session = u64_at(bytes, 16);
     let request = u32_at(bytes, 24);
-    let register = matches!(operation, Operation::Register);
-    if register && (session != 0 || request != 0) {
-        return Err(FrameFault::RegisterNumbers);
-    }
-    if !register && request == 0 {
-        return Err(FrameFault::RequestZero);
-    }
+    check_numbers(matches!(operation, Operation::Register), session, request)?;
     let length = u32_at(bytes, 32) as usize;
     let count = count_of(operation, length)?;
     Ok(Header {

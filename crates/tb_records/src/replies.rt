@@ -1,8 +1,8 @@
 //! Replies whose numbers and bodies go together.
-ghost use Rattle.std.specs.Prelude.{◌≡◌, ◌≢◌, ◌↔◌, ◌==◌, ◌<◌, find, nat_eq, MatchOption, Some, IfOk, Ok, Err, if◌then◌else◌};
+ghost use Rattle.std.specs.Prelude.{◌≡◌, ◌≢◌, ◌↔◌, ◌==◌, ◌<◌, find, nat_eq, MatchOption, MatchResult, Some, None, IfOk, Ok, Err, if◌then◌else◌};
 ghost use Rattle.std.specs.Cmp.Lexicographic.{pointwise};
 ghost use Rattle.tb_records.specs.Messages.{status_code, operation, answered, answer_fault, first_fault, has_reply_numbers, has_register_numbers, is_operation, kind_for, IsRight};
-ghost use Rattle.tb_records.specs.ReplyTests.{reply_number_tests};
+ghost use Rattle.tb_records.specs.ReplyTests.{answer_of, number_tests};
 ghost use Rattle.tb_records.specs.Statuses.{status_name};
 
 use crate::bodies::ReplyBody;
@@ -122,45 +122,33 @@ fn first_status_named(statuses: &[Status], name: &[u8]) -> Option<Status>
         .find(|status| status.name().as_bytes() == name)
 }
 
+/// What a reply says besides its body.
+#[derive(Clone, Copy)]
+pub(crate) struct Numbers {
+    pub client: u128,
+    pub session: u64,
+    pub request: u32,
+    pub operation: u8,
+    pub status: Status,
+    pub commit: u64,
+}
+
 /// A reply to a request.
 #[derive(Drop)]
 pub struct Reply {
-    client: u128,
-    session: u64,
-    request: u32,
-    operation: u8,
-    status: Status,
-    commit: u64,
+    numbers: Numbers,
     body: ReplyBody,
 }
 
 impl Model for Reply {
     ghost use Rattle.tb_records.specs.Messages.{Answer, IsRight};
+    ghost use Rattle.tb_records.specs.ReplyTests.{answer_of};
 
     ghost Value = { Answer };
 
-    ghost view = { λ r.
-        record {
-          client = r.client;
-          session = r.session;
-          request = r.request;
-          operation = r.operation;
-          status = r.status;
-          commit = r.commit;
-          body = r.body;
-        } };
+    ghost view = { λ r. answer_of r.numbers r.body };
 
-    ghost invariant = { λ r.
-        IsRight
-        (record {
-          client = r.client;
-          session = r.session;
-          request = r.request;
-          operation = r.operation;
-          status = r.status;
-          commit = r.commit;
-          body = r.body;
-        }) };
+    ghost invariant = { λ r. IsRight (answer_of r.numbers r.body) };
 }
 
 /// Says that an operation has this number.
@@ -206,27 +194,25 @@ fn numbers_agree(operation: u8, status: u8, session: u64, commit: u64) -> bool
     }
 }
 
-/// What is wrong with the numbers of a reply: the request of a register or of any other operation, or the session and the
-/// commit number.
-pub(crate) fn numbers_fault(
-    operation: u8,
-    status: u8,
-    session: u64,
-    request: u32,
-    commit: u64,
-) -> Option<FrameFault>
-    ensures { result ≡ first_fault (reply_number_tests operation status session request commit) }
-{
-    if operation == 2 && !suits_register(status, session, request) {
-        return Some(FrameFault::RegisterNumbers);
+impl Numbers {
+    /// What is wrong with the numbers together: the request of a register or of any other operation, or the session and
+    /// the commit number.
+    pub(crate) fn check(&self) -> Result<(), FrameFault>
+        ensures { let tests = number_tests self.now in
+            MatchResult result (λ _. first_fault tests ≡ None) (λ f. first_fault tests ≡ Some f) }
+    {
+        let status = self.status.code();
+        if self.operation == 2 && !suits_register(status, self.session, self.request) {
+            return Err(FrameFault::RegisterNumbers);
+        }
+        if self.operation != 2 && self.request == 0 {
+            return Err(FrameFault::RequestZero);
+        }
+        if !numbers_agree(self.operation, status, self.session, self.commit) {
+            return Err(FrameFault::ReplyNumbers);
+        }
+        Ok(())
     }
-    if operation != 2 && request == 0 {
-        return Some(FrameFault::RequestZero);
-    }
-    if !numbers_agree(operation, status, session, commit) {
-        return Some(FrameFault::ReplyNumbers);
-    }
-    None
 }
 
 impl Reply {
@@ -244,55 +230,36 @@ impl Reply {
         ensures { let r = answered client session request operation status commit body in
             MatchOption (answer_fault r) (result ≡ Ok r) (λ f. result ≡ Err f) }
     {
-        let code = status.code();
+        let numbers = Numbers {
+            client,
+            session,
+            request,
+            operation,
+            status,
+            commit,
+        };
         if client == 0 {
             return Err(FrameFault::ClientZero);
         }
         if !is_known(operation) {
             return Err(FrameFault::UnknownOperation);
         }
-        if let Some(fault) = numbers_fault(operation, code, session, request, commit) {
-            return Err(fault);
-        }
-        if body.kind() != kind_of_reply(operation, code) {
+        numbers.check()?;
+        if body.kind() != kind_of_reply(operation, status.code()) {
             return Err(FrameFault::BadLength);
         }
         if body.len() > ITEMS_MAX {
             return Err(FrameFault::TooMany);
         }
-        Ok(Reply {
-            client,
-            session,
-            request,
-            operation,
-            status,
-            commit,
-            body,
-        })
+        Ok(Reply { numbers, body })
     }
 
     /// A reply whose numbers and body go together.
-    pub(crate) fn lawful(
-        client: u128,
-        session: u64,
-        request: u32,
-        operation: u8,
-        status: Status,
-        commit: u64,
-        body: ReplyBody,
-    ) -> Reply
-        requires { IsRight (answered client session request operation status commit body) }
-        ensures { result ≡ answered client session request operation status commit body }
+    pub(crate) fn lawful(numbers: Numbers, body: ReplyBody) -> Reply
+        requires { IsRight (answer_of numbers body) }
+        ensures { result ≡ answer_of numbers body }
     {
-        Reply {
-            client,
-            session,
-            request,
-            operation,
-            status,
-            commit,
-            body,
-        }
+        Reply { numbers, body }
     }
 
     /// The refusal of a request: it names the client, the session, the number and the operation of the request, and has
@@ -304,13 +271,16 @@ impl Reply {
             (operation request.now.body) status 0 ReplyBody.Empty }
     {
         let body = request.body();
-        Reply {
+        let numbers = Numbers {
             client: request.client(),
             session: request.session(),
             request: request.request(),
             operation: body.operation(),
             status,
             commit: 0,
+        };
+        Reply {
+            numbers,
             body: ReplyBody::Empty,
         }
     }
@@ -321,12 +291,7 @@ impl Reply {
     {
         let body = self.body.copy(alloc)?;
         Ok(Reply {
-            client: self.client,
-            session: self.session,
-            request: self.request,
-            operation: self.operation,
-            status: self.status,
-            commit: self.commit,
+            numbers: self.numbers,
             body,
         })
     }
@@ -335,42 +300,42 @@ impl Reply {
     pub fn client(&self) -> u128
         ensures { result ≡ self.now.client }
     {
-        self.client
+        self.numbers.client
     }
 
     /// The session of the client's row; of a register's reply the new session; of a refusal the request's.
     pub fn session(&self) -> u64
         ensures { result ≡ self.now.session }
     {
-        self.session
+        self.numbers.session
     }
 
     /// The number of the request.
     pub fn request(&self) -> u32
         ensures { result ≡ self.now.request }
     {
-        self.request
+        self.numbers.request
     }
 
     /// The number of the operation.
     pub fn operation(&self) -> u8
         ensures { result ≡ self.now.operation }
     {
-        self.operation
+        self.numbers.operation
     }
 
     /// How the request fared.
     pub fn status(&self) -> Status
         ensures { result ≡ self.now.status }
     {
-        self.status
+        self.numbers.status
     }
 
     /// The number of the request's entry in the history, 0 of a refusal.
     pub fn commit(&self) -> u64
         ensures { result ≡ self.now.commit }
     {
-        self.commit
+        self.numbers.commit
     }
 
     /// What it answers.

@@ -11,18 +11,13 @@ use crate::faults::FrameFault;
 use crate::layout::Item;
 use crate::limits::ITEMS_MAX;
 use crate::lists::Items;
-use crate::replies::{Reply, Status, is_known, numbers_fault};
+use crate::replies::{Numbers, Reply, Status, is_known};
 use std::alloc::{AllocError, Global};
 
 /// The header of a reply, whose numbers go together.
 #[derive(Clone, Copy)]
 pub(crate) struct ReplyHeader {
-    pub client: u128,
-    pub session: u64,
-    pub request: u32,
-    pub operation: u8,
-    pub status: Status,
-    pub commit: u64,
+    pub numbers: Numbers,
     /// The number of bytes behind the header.
     pub len: u32,
 }
@@ -49,28 +44,32 @@ fn fields_in(bytes: &[u8]) -> Result<ReplyHeader, FrameFault>
     if low != 0 || high != 0 {
         return Err(FrameFault::Reserved);
     }
-    Ok(ReplyHeader {
+    let numbers = Numbers {
         client,
         session: u64_at(bytes, 16),
         request: u32_at(bytes, 24),
         operation,
         status,
         commit: u64_at(bytes, 36),
+    };
+    Ok(ReplyHeader {
+        numbers,
         len: u32_at(bytes, 32),
     })
 }
 
 /// What is wrong with the length of a reply's body.
-fn length_fault(operation: u8, status: u8, len: u32) -> Option<FrameFault>
-    ensures { result ≡ first_fault (reply_length_tests operation status len) }
+fn check_length(operation: u8, status: u8, len: u32) -> Result<(), FrameFault>
+    ensures { let tests = reply_length_tests operation status len in
+        MatchResult result (λ _. first_fault tests ≡ None) (λ f. first_fault tests ≡ Some f) }
 {
     if !is_long(operation, status, len) {
-        return Some(FrameFault::BadLength);
+        return Err(FrameFault::BadLength);
     }
     if (len / item_size(operation)) as usize > ITEMS_MAX {
-        return Some(FrameFault::TooMany);
+        return Err(FrameFault::TooMany);
     }
-    None
+    Ok(())
 }
 
 /// The header at the beginning of the bytes, or what is wrong with it.
@@ -80,19 +79,9 @@ fn header_in(bytes: &[u8]) -> Result<ReplyHeader, FrameFault>
         (λ f. reply_header_fault bytes.now ≡ Some f) }
 {
     let header = fields_in(bytes)?;
-    let status = header.status.code();
-    if let Some(fault) = numbers_fault(
-        header.operation,
-        status,
-        header.session,
-        header.request,
-        header.commit,
-    ) {
-        return Err(fault);
-    }
-    if let Some(fault) = length_fault(header.operation, status, header.len) {
-        return Err(fault);
-    }
+    let numbers = &header.numbers;
+    numbers.check()?;
+    check_length(numbers.operation, numbers.status.code(), header.len)?;
     Ok(header)
 }
 
@@ -162,20 +151,9 @@ fn read(alloc: Global, bytes: &[u8]) -> Result<(Reply, usize), FrameFault>
     if bytes.len() < end {
         return Err(FrameFault::Short);
     }
-    let status = header.status.code();
-    let body = body_in(alloc, header.operation, status, &bytes[48..end])?;
-    Ok((
-        Reply::lawful(
-            header.client,
-            header.session,
-            header.request,
-            header.operation,
-            header.status,
-            header.commit,
-            body,
-        ),
-        end,
-    ))
+    let status = header.numbers.status.code();
+    let body = body_in(alloc, header.numbers.operation, status, &bytes[48..end])?;
+    Ok((Reply::lawful(header.numbers, body), end))
 }
 
 /// The reply whose frame the bytes begin with, and the length of the frame; or the first fault, in the order of the

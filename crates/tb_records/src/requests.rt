@@ -1,6 +1,7 @@
 //! Requests whose numbers keep the rules of sessions.
-ghost use Rattle.std.specs.Prelude.{◌≡◌, MatchOption, IfOk, Ok, Err};
-ghost use Rattle.tb_records.specs.Messages.{asked, number_fault, operation, IsLawful};
+ghost use Rattle.std.specs.Prelude.{◌≡◌, MatchOption, MatchResult, IfOk, Ok, Err, Some, None};
+ghost use Rattle.tb_records.specs.Messages.{asked, first_fault, number_fault, operation, IsLawful};
+ghost use Rattle.tb_records.specs.HeaderFields.{number_tests};
 
 use crate::bodies::Body;
 use crate::faults::FrameFault;
@@ -20,18 +21,27 @@ pub struct Request {
 
 impl Model for Request {
     ghost use Rattle.tb_records.specs.HeldBodies.{body_of};
-    ghost use Rattle.tb_records.specs.Messages.{Message, IsLawful};
+    ghost use Rattle.tb_records.specs.Messages.{Message, IsLawful, asked};
 
     ghost Value = { Message };
 
-    ghost view = { λ r.
-        record
-        { client = r.client; session = r.session; request = r.request; body = body_of r.body } };
+    ghost view = { λ r. asked r.client r.session r.request (body_of r.body) };
 
-    ghost invariant = { λ r.
-        IsLawful
-        (record
-        { client = r.client; session = r.session; request = r.request; body = body_of r.body }) };
+    ghost invariant = { λ r. IsLawful (asked r.client r.session r.request (body_of r.body)) };
+}
+
+/// What is wrong with the session and the number of a request, by whether it is a register.
+pub(crate) fn check_numbers(register: bool, session: u64, request: u32) -> Result<(), FrameFault>
+    ensures { let tests = number_tests register session request in
+        MatchResult result (λ _. first_fault tests ≡ None) (λ f. first_fault tests ≡ Some f) }
+{
+    if register && (session != 0 || request != 0) {
+        return Err(FrameFault::RegisterNumbers);
+    }
+    if !register && request == 0 {
+        return Err(FrameFault::RequestZero);
+    }
+    Ok(())
 }
 
 impl Request {
@@ -41,16 +51,10 @@ impl Request {
         ensures { let r = asked client session request body in
             MatchOption (number_fault r) (result ≡ Ok r) (λ f. result ≡ Err f) }
     {
-        let register = matches!(&body, Body::Register);
         if client == 0 {
             return Err(FrameFault::ClientZero);
         }
-        if register && (session != 0 || request != 0) {
-            return Err(FrameFault::RegisterNumbers);
-        }
-        if !register && request == 0 {
-            return Err(FrameFault::RequestZero);
-        }
+        check_numbers(matches!(&body, Body::Register), session, request)?;
         if body.len() > ITEMS_MAX {
             return Err(FrameFault::TooMany);
         }

@@ -1,5 +1,5 @@
 //! Requests that are read from a stream, one by one.
-ghost use Rattle.std.specs.Prelude.{◌≡◌, ◌*◌, ◌+◌, ◌&&◌, nat_le, length, Some, None, Ok, Err, IfOk, IfSome, MatchResult};
+ghost use Rattle.std.specs.Prelude.{◌≡◌, ◌*◌, ◌+◌, ◌&&◌, nat_le, length, Some, None, Ok, Err, IfOk, IfSome, MatchOption, MatchResult};
 ghost use Rattle.tb_records.specs.Frames.{item_size, length_at, IsRequest};
 ghost use Rattle.tb_records.specs.HeaderFields.{body_length, HeaderAnswers, IsHeader, ReadsBody, ReadsRequest};
 ghost use Rattle.tb_records.specs.Operations.{operation_code};
@@ -45,6 +45,13 @@ impl<R: Source + Drop> RequestStream<R> {
         }
     }
 
+    /// The fault that ended the stream.
+    fn check(&self) -> Result<(), FrameFault>
+        ensures { MatchOption self.now.fault (result ≡ Ok tt) (λ f. result ≡ Err f) }
+    {
+        self.fault.map_or(Ok(()), Err)
+    }
+
     /// The next request; None where the input ends before the first byte. Just the frame of what is answered is read;
     /// after a fault of the header the body is unread. Device comes only where the reader answered an error, behind which
     /// nothing more is asked of it.
@@ -56,13 +63,9 @@ impl<R: Source + Drop> RequestStream<R> {
             → Counts result (R.input self.old.source) (R.input self.new.source) }
         ensures keeps { self.old.fault ≡ None → self.new.fault ≡ fault_in result }
     {
-        if let Some(fault) = self.fault {
-            return Err(fault);
-        }
+        self.check()?;
         let answer = request_from(alloc, &mut self.source);
-        if let Err(fault) = &answer {
-            self.fault = Some(*fault);
-        }
+        self.fault = answer.as_ref().err().copied();
         answer
     }
 
@@ -76,13 +79,9 @@ impl<R: Source + Drop> RequestStream<R> {
             → Counts result (R.input self.old.source) (R.input self.new.source) }
         ensures keeps { self.old.fault ≡ None → self.new.fault ≡ fault_in result }
     {
-        if let Some(fault) = self.fault {
-            return Err(fault);
-        }
+        self.check()?;
         let answer = read_timed_from(alloc, &mut self.source);
-        if let Err(fault) = &answer {
-            self.fault = Some(*fault);
-        }
+        self.fault = answer.as_ref().err().copied();
         answer
     }
 

@@ -1,10 +1,10 @@
 //! Requests and replies written as frames, to a vector or to a sink.
-ghost use Rattle.std.specs.Prelude.{◌≡◌, ◌≤◌, ◌+◌, ◌*◌, ◌++◌, ◌<◌, ◌^◌, length, All, vec_len, vec_capacity, OnOk, OnErr, MatchResult};
+ghost use Rattle.std.specs.Prelude.{◌≡◌, ◌≤◌, ◌+◌, ◌*◌, ◌++◌, ◌<◌, ◌^◌, length, All, vec_len, vec_capacity, OnOk, OnErr};
 ghost use Rattle.std.specs.List.{flat_map};
 ghost use Rattle.tb_records.specs.Frames.{header_bytes, body_bytes, request_bytes, BodyFits, IsRequest};
 ghost use Rattle.tb_records.specs.Messages.{operation, item_count, items_max, answer_count};
 ghost use Rattle.tb_records.specs.ReplyFrames.{header_of_reply, reply_body_bytes, reply_bytes, ReplyBodyFits, IsReply};
-ghost use Rattle.tb_records.specs.Transport.{Sent, CutOff};
+ghost use Rattle.tb_records.specs.Transport.{IsSent};
 
 use crate::bodies::{Body, ReplyBody};
 use crate::devices::{Sink, put_all, put_items};
@@ -172,10 +172,7 @@ pub fn write_reply(reply: &Reply, out: &mut Vec<u8>) -> Result<(), AllocError>
 /// Writes the body of a request to a sink.
 #[tactic(auto, unfolding(crate::specs::Frames::body_bytes))]
 fn send_request_body<W: Sink>(sink: &mut W, body: &Body) -> Result<(), FrameFault>
-    ensures sent { MatchResult result (λ _. Sent (body_bytes body.now) (W.output sink.old) (W.output sink.new))
-        (λ f.
-        (f ≡ FrameFault.Device)
-        × CutOff (body_bytes body.now) (W.output sink.old) (W.output sink.new)) }
+    ensures sent { IsSent result (body_bytes body.now) (W.output sink.old) (W.output sink.new) }
     ensures fits { OnOk result (BodyFits body.now) }
 {
     match body {
@@ -191,11 +188,7 @@ fn send_request_body<W: Sink>(sink: &mut W, body: &Body) -> Result<(), FrameFaul
 /// beginning of the frame went out. That the request's numbers fit, so that the frame is read as no other, is said of
 /// what was written.
 pub fn send_request<W: Sink>(sink: &mut W, request: &Request) -> Result<(), FrameFault>
-    ensures sent { MatchResult result
-        (λ _. Sent (request_bytes request.now) (W.output sink.old) (W.output sink.new))
-        (λ f.
-        (f ≡ FrameFault.Device)
-        × CutOff (request_bytes request.now) (W.output sink.old) (W.output sink.new)) }
+    ensures sent { IsSent result (request_bytes request.now) (W.output sink.old) (W.output sink.new) }
     ensures fits { OnOk result (IsRequest request.now) }
 {
     let body = request.body();
@@ -207,11 +200,7 @@ pub fn send_request<W: Sink>(sink: &mut W, request: &Request) -> Result<(), Fram
 /// Writes the body of a reply to a sink.
 #[tactic(auto, unfolding(crate::specs::ReplyFrames::reply_body_bytes))]
 fn send_body<W: Sink>(sink: &mut W, body: &ReplyBody) -> Result<(), FrameFault>
-    ensures sent { MatchResult result
-        (λ _. Sent (reply_body_bytes body.now) (W.output sink.old) (W.output sink.new))
-        (λ f.
-        (f ≡ FrameFault.Device)
-        × CutOff (reply_body_bytes body.now) (W.output sink.old) (W.output sink.new)) }
+    ensures sent { IsSent result (reply_body_bytes body.now) (W.output sink.old) (W.output sink.new) }
     ensures fits { OnOk result (ReplyBodyFits body.now) }
 {
     match body {
@@ -226,11 +215,7 @@ fn send_body<W: Sink>(sink: &mut W, body: &ReplyBody) -> Result<(), FrameFault>
 /// beginning of the frame went out, and nothing more is offered. That the reply's numbers fit, so that the frame is read as
 /// no other, is said of what was written.
 pub fn send_reply<W: Sink>(sink: &mut W, reply: &Reply) -> Result<(), FrameFault>
-    ensures sent { MatchResult result
-        (λ _. Sent (reply_bytes reply.now) (W.output sink.old) (W.output sink.new))
-        (λ f.
-        (f ≡ FrameFault.Device)
-        × CutOff (reply_bytes reply.now) (W.output sink.old) (W.output sink.new)) }
+    ensures sent { IsSent result (reply_bytes reply.now) (W.output sink.old) (W.output sink.new) }
     ensures fits { OnOk result (IsReply reply.now) }
 {
     let body = reply.body();

@@ -23,8 +23,8 @@ returns-then-bytes-end c =
 pub body_in-requires : goal.body_in-requires
 body_in-requires c =
     let h = c.in_ok-header.header in
-    ap (λ n. has_reply_length h.operation c.code-status.result n) (body_behind c.args.bytes.now h.len c.if-bytes-end.false)
-    ∙ ap (λ s. has_reply_length h.operation s h.len) c.code-status.ensures
+    ap (λ n. has_reply_length h.numbers.operation c.code-status.result n) (body_behind c.args.bytes.now h.len c.if-bytes-end.false)
+    ∙ ap (λ s. has_reply_length h.numbers.operation s h.len) c.code-status.ensures
     ∙ header_length c.args.bytes.now h c.in_ok-header.ensures
 
 pub returns-in_err-body : goal.returns-in_err-body
@@ -37,12 +37,12 @@ pub lawful-requires : goal.lawful-requires
 lawful-requires c =
     let h = c.in_ok-header.header in
     let b = c.args.bytes.now in
-    let is = subst (λ s. IsReplyBody h.operation s c.in_ok-body.body (take (48 + h.len - 48) (drop 48 b))) c.code-status.ensures c.in_ok-body.ensures in
+    let is = subst (λ s. IsReplyBody h.numbers.operation s c.in_ok-body.body (take (48 + h.len - 48) (drop 48 b))) c.code-status.ensures c.in_ok-body.ensures in
     header_right b h c.in_ok-body.body (take (48 + h.len - 48) (drop 48 b)) c.in_ok-header.ensures is (body_behind b h.len c.if-bytes-end.false)
 
 pub returns : goal.returns
 returns c =
     let h = c.in_ok-header.header in
     let b = c.args.bytes.now in
-    let is = subst (λ s. IsReplyBody h.operation s c.in_ok-body.body (take (48 + h.len - 48) (drop 48 b))) c.code-status.ensures c.in_ok-body.ensures in
+    let is = subst (λ s. IsReplyBody h.numbers.operation s c.in_ok-body.body (take (48 + h.len - 48) (drop 48 b))) c.code-status.ensures c.in_ok-body.ensures in
     (c.if-bytes-end.false, subst (λ r. SpellsReply (take (48 + h.len) b) r) (sym c.lawful.ensures) (found_reply b h c.in_ok-body.body (λ i. omega (arith, c.type_inv.bytes i)) c.in_ok-header.ensures c.if-bytes-end.false is))
