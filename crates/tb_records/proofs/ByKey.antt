@@ -2,7 +2,7 @@
 use Rattle.std.proofs.Common.{◌≡◌, ◌≢◌, ℕ, zero, suc, ◌+◌, ◌<◌, ◌≤◌, Bool, true, false, cond, if◌then◌else◌, eqb, ltb, ◌==◌, List, [], ◌∷◌, map, length, get_or, set, insert, remove, find, sum_by, Some, None, option_map, refl, sym, ap, subst, ◌∙◌, arith}
 use Rattle.std.proofs.lemmas.Bool.Decides.{nat_tests}
 use Rattle.std.proofs.lemmas.List.Sums.{sum_by-cons}
-use Rattle.tb_records.specs.Ordered.{put, replaced, taken_out, changed, Each, Rising, IsPlace}
+use Rattle.tb_records.specs.Ordered.{put, replaced, taken_out, changed, Each, Rising}
 
 -- sums
 
@@ -119,11 +119,6 @@ find-map p g (x ∷ xs) = by (p (g x)) (find-map p g xs)
     by true later = refl
     by false later = later
 
--- two tests that agree on each record find the same
-pub find-same : {X : Type 0} (p q : X → Bool) (xs : List X) → Each (λ x. p x ≡ q x) xs → find p xs ≡ find q xs
-find-same p q [] same = refl
-find-same p q (x ∷ xs) same = rw (same.0, find-same p q xs same.1) refl
-
 -- what holds of each
 
 pub each-map : {X : Type 0} (P Q : X → Type 0) (xs : List X) → ((x : X) → P x → Q x) → Each P xs → Each Q xs
@@ -177,15 +172,6 @@ each-put key P x (y ∷ ys) here each =
       | true ↦ (each.0, each-put key P x ys here each.1)
       | false ↦ (here, each)
     ]
-
--- what held of each with the new record held of each before
-pub each-put_back : {X : Type 0} (key : X → ℕ) (P : X → Type 0) (x : X) (xs : List X) → Each P (put key x xs) → P x × Each P xs
-each-put_back key P x [] each = each
-each-put_back key P x (y ∷ ys) each = by (ltb (key y) (key x)) (each-put_back key P x ys) each
-  where
-    by : (b : Bool) → (Each P (put key x ys) → P x × Each P ys) → Each P (cond b (y ∷ put key x ys) (x ∷ y ∷ ys)) → P x × Each P (y ∷ ys)
-    by true later each = let rest = later each.1 in (rest.0, (each.0, rest.1))
-    by false later each = each
 
 -- what holds of keys
 each-replaced_key : {X : Type 0} (key : X → ℕ) (Q : ℕ → Type 0) (x : X) (xs : List X) → Each (λ y. Q (key y)) xs → Each (λ y. Q (key y)) (replaced key x xs)
@@ -360,14 +346,6 @@ find-changed {X = X} key id f k (y ∷ ys) same = by (eqb (key y) id) refl (eqb 
     by false e true h later = rw (h, e) refl
     by false e false h later = rw h later
 
--- where there is one, it is found changed
-pub found_here : {X : Type 0} (key : X → ℕ) (id : ℕ) (f : X → X) (y : X) (xs : List X) → ((y : X) → key (f y) ≡ key y) → find (λ y. key y == id) xs ≡ Some y → find (λ y. key y == id) (changed key id f xs) ≡ Some (f y)
-found_here key id f y xs same found =
-    let e : key y ≡ id = found_key key id y xs found in
-    let is : eqb (key y) id ≡ true = grind (arith, nat_tests) in
-    let there : option_map (λ y. if key y == id then f y else y) (find (λ y. key y == id) xs) ≡ Some (f y) = rw (found, is) refl in
-    find-changed key id f id xs same ∙ there
-
 -- the change of a record that is there is another record in its place
 pub changed_found : {X : Type 0} (key : X → ℕ) (id : ℕ) (f : X → X) (y : X) (xs : List X) → ((y : X) → key (f y) ≡ key y) → find (λ y. key y == id) xs ≡ Some y → changed key id f xs ≡ replaced key (f y) xs
 changed_found key id f y [] same found = refl
@@ -380,106 +358,9 @@ changed_found key id f y (z ∷ zs) same found = by (eqb (key z) id) refl (chang
     by true e later is = let here : z ≡ y = cc in let it : eqb (key z) (key (f y)) ≡ true = rw has e in rw it (ap (λ w. f w ∷ zs) here)
     by false e later is = let other : eqb (key z) (key (f y)) ≡ false = rw has e in rw other (ap (λ ws. z ∷ ws) (later is))
 
--- a record that isn't there is put in no other's place
-pub replaced_absent : {X : Type 0} (key : X → ℕ) (x : X) (xs : List X) → find (λ y. key y == key x) xs ≡ None → replaced key x xs ≡ xs
-replaced_absent key x [] none = refl
-replaced_absent key x (y ∷ ys) none = by (eqb (key y) (key x)) (replaced_absent key x ys) none
-  where
-    by : (b : Bool) → (find (λ y. key y == key x) ys ≡ None → replaced key x ys ≡ ys) → cond b (Some y) (find (λ y. key y == key x) ys) ≡ None → cond b (x ∷ ys) (y ∷ replaced key x ys) ≡ y ∷ ys
-    by true later is = absurd (cc)
-    by false later is = ap (λ zs. y ∷ zs) (later is)
-
-pub taken_out_absent : {X : Type 0} (key : X → ℕ) (id : ℕ) (xs : List X) → find (λ y. key y == id) xs ≡ None → taken_out key id xs ≡ xs
-taken_out_absent key id [] none = refl
-taken_out_absent key id (y ∷ ys) none = by (eqb (key y) id) (taken_out_absent key id ys) none
-  where
-    by : (b : Bool) → (find (λ y. key y == id) ys ≡ None → taken_out key id ys ≡ ys) → cond b (Some y) (find (λ y. key y == id) ys) ≡ None → cond b ys (y ∷ taken_out key id ys) ≡ y ∷ ys
-    by true later is = absurd (cc)
-    by false later is = ap (λ zs. y ∷ zs) (later is)
-
 -- undo
 pub replaced-changed : {X : Type 0} (key : X → ℕ) (id : ℕ) (f : X → X) (old : X) (xs : List X) → ((y : X) → key (f y) ≡ key y) → find (λ y. key y == id) xs ≡ Some old → replaced key old (changed key id f xs) ≡ xs
 replaced-changed key id f old xs same found =
     let has : key (f old) ≡ id = same old ∙ found_key key id old xs found in
     let there : find (λ y. key y == key (f old)) xs ≡ Some old = subst (λ k. find (λ y. key y == k) xs ≡ Some old) (sym has) found in
     ap (replaced key old) (changed_found key id f old xs same found) ∙ replaced-replaced key (f old) old xs there
-
--- a vector in the order of the key: at the place of a key
-
--- keys rise, and so none is there where the first is above
-absent_above : {X : Type 0} (key : X → ℕ) (id : ℕ) (xs : List X) → Each (λ y. id < key y) xs → find (λ y. key y == id) xs ≡ None
-absent_above key id xs above = none-found (λ y. key y == id) xs (each-map (λ y. id < key y) (λ y. eqb (key y) id ≡ false) xs (λ y more. grind (arith, nat_tests)) above)
-
-place_later : {X : Type 0} (key : X → ℕ) (y : X) (ys : List X) (id i : ℕ) → IsPlace key (y ∷ ys) id (suc i) → IsPlace key ys id i
-place_later key y ys id i place = record {
-  within = omega (arith, place.within);
-  before = λ j d less. place.before (suc j) d (omega arith);
-  here = λ d less. place.here d (omega arith);
-}
-
--- the record there has the key: it is found
-pub found_at_place : {X : Type 0} (key : X → ℕ) (xs : List X) (id i : ℕ) (d : X) → IsPlace key xs id i → i < length xs → key (get_or xs i d) ≡ id → find (λ y. key y == id) xs ≡ Some (get_or xs i d)
-found_at_place key [] id i d place within has = absurd (omega arith)
-found_at_place key (y ∷ ys) id zero d place within has = let e : eqb (key y) id ≡ true = grind (arith, nat_tests) in rw e refl
-found_at_place key (y ∷ ys) id (suc i) d place within has =
-    let below : key y < id = place.before 0 d (omega arith) in
-    let e : eqb (key y) id ≡ false = grind (arith, nat_tests) in
-    rw e (found_at_place key ys id i d (place_later key y ys id i place) (omega arith) has)
-
--- no record there has the key: none has
-pub absent_at_place : {X : Type 0} (key : X → ℕ) (xs : List X) (id i : ℕ) → Rising key xs → IsPlace key xs id i → ((d : X) → i < length xs → key (get_or xs i d) ≢ id) → find (λ y. key y == id) xs ≡ None
-absent_at_place key [] id i rising place other = refl
-absent_at_place key (y ∷ ys) id zero rising place other =
-    let above : id < key y = let differs : key y ≢ id = other y (omega arith) in omega (arith, place.here y (omega arith)) in
-    absent_above key id (y ∷ ys) (above, each-map (λ z. key y < key z) (λ z. id < key z) ys (λ z more. omega arith) rising.0)
-absent_at_place key (y ∷ ys) id (suc i) rising place other =
-    let below : key y < id = place.before 0 y (omega arith) in
-    let e : eqb (key y) id ≡ false = grind (arith, nat_tests) in
-    rw e (absent_at_place key ys id i rising.1 (place_later key y ys id i place) (λ d less. other d (omega arith)))
-
--- a record inserted there
-pub insert_at_place : {X : Type 0} (key : X → ℕ) (x : X) (xs : List X) (i : ℕ) → IsPlace key xs (key x) i → insert xs i x ≡ put key x xs
-insert_at_place key x [] zero place = refl
-insert_at_place key x [] (suc i) place = absurd (omega (arith, place.within))
-insert_at_place key x (y ∷ ys) zero place =
-    let e : ltb (key y) (key x) ≡ false = let least : key x ≤ key y = place.here x (omega arith) in grind (arith, nat_tests) in
-    rw e refl
-insert_at_place key x (y ∷ ys) (suc i) place =
-    let e : ltb (key y) (key x) ≡ true = let below : key y < key x = place.before 0 x (omega arith) in grind (arith, nat_tests) in
-    rw e (ap (λ zs. y ∷ zs) (insert_at_place key x ys i (place_later key y ys (key x) i place)))
-
--- a record written over the one there
-pub set_at_place : {X : Type 0} (key : X → ℕ) (x : X) (xs : List X) (i : ℕ) → IsPlace key xs (key x) i → i < length xs → ((d : X) → key (get_or xs i d) ≡ key x) → set xs i x ≡ replaced key x xs
-set_at_place key x [] i place within has = absurd (omega arith)
-set_at_place key x (y ∷ ys) zero place within has = let same : key y ≡ key x = has x in let e : eqb (key y) (key x) ≡ true = grind (arith, nat_tests) in rw e refl
-set_at_place key x (y ∷ ys) (suc i) place within has =
-    let below : key y < key x = place.before 0 x (omega arith) in
-    let e : eqb (key y) (key x) ≡ false = grind (arith, nat_tests) in
-    rw e (ap (λ zs. y ∷ zs) (set_at_place key x ys i (place_later key y ys (key x) i place) (omega arith) has))
-
--- the record there taken out
-pub remove_at_place : {X : Type 0} (key : X → ℕ) (xs : List X) (id i : ℕ) → IsPlace key xs id i → i < length xs → ((d : X) → key (get_or xs i d) ≡ id) → remove xs i ≡ taken_out key id xs
-remove_at_place key [] id i place within has = absurd (omega arith)
-remove_at_place key (y ∷ ys) id zero place within has = let same : key y ≡ id = has y in let e : eqb (key y) id ≡ true = grind (arith, nat_tests) in rw e refl
-remove_at_place key (y ∷ ys) id (suc i) place within has =
-    let below : key y < id = place.before 0 y (omega arith) in
-    let e : eqb (key y) id ≡ false = grind (arith, nat_tests) in
-    rw e (ap (λ zs. y ∷ zs) (remove_at_place key ys id i (place_later key y ys id i place) (omega arith) has))
-
--- numbers of records
-
-pub length-put : {X : Type 0} (key : X → ℕ) (x : X) (xs : List X) → length (put key x xs) ≡ length xs + 1
-length-put key x [] = refl
-length-put key x (y ∷ ys) =
-    elim (ltb (key y) (key x)) as (λ b. length (cond b (y ∷ put key x ys) (x ∷ y ∷ ys)) ≡ length (y ∷ ys) + 1) [
-      | true ↦ omega (arith, length-put key x ys)
-      | false ↦ omega arith
-    ]
-
-pub length-replaced : {X : Type 0} (key : X → ℕ) (x : X) (xs : List X) → length (replaced key x xs) ≡ length xs
-length-replaced key x [] = refl
-length-replaced key x (y ∷ ys) =
-    elim (eqb (key y) (key x)) as (λ b. length (cond b (x ∷ ys) (y ∷ replaced key x ys)) ≡ length (y ∷ ys)) [
-      | true ↦ refl
-      | false ↦ omega (arith, length-replaced key x ys)
-    ]

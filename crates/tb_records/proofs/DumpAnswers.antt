@@ -92,15 +92,6 @@ pub length-numbers : (first second : ℕ) → length (numbers_bytes first second
 unfolding numbers_bytes
 length-numbers first second = simp (length-append, length-le_bytes)
 
-pub cut_numbers : (buf : List ℕ) (n : ℕ) (old new : Option (List ℕ)) → (n ≡ 0 → ⊥) → n < 16 → length buf ≡ 16 → Filled n buf old new → ItemAnswers (Err (Frame Short)) old new
-cut_numbers buf n None new some h long f = tt
-cut_numbers buf n (Some old) None some h long f = absurd f.bytes
-cut_numbers buf n (Some old) (Some new) some h long f =
-    let left : old ≡ take n buf ++ new = f.bytes in
-    let none : new ≡ [] = f.end (omega arith) in
-    let size : length old ≡ n = omega (arith, ap length left, ap length none, length-append (take n buf) new, length-take n buf) in
-    inl ((omega (arith, size), omega (arith, size)), none)
-
 -- an entry's numbers were read, and what stands behind them
 begins : (commit time : ℕ) (old mid : List ℕ) → (commit ≡ 0 → ⊥) → old ≡ numbers_bytes commit time ++ mid → Begins old mid
 begins commit time old mid some left = record { commit = commit; time = time; entry = omega arith; bytes = left }

@@ -33,11 +33,6 @@ taken at n end xs h =
 pub fails_since : (old mid new : Input) → mid.failed ≡ old.failed → Fails mid new → Fails old new
 fails_since old mid new same fails = record { rose = fails.rose ∙ ap risen same; last = fails.last }
 
--- what a fault behind answers that were no errors counts
-pub fault_since : (fault : FrameFault) (old mid new : Input) → mid.failed ≡ old.failed → FaultCounts fault mid new → FaultCounts fault old new
-fault_since Device old mid new same counts = fails_since old mid new same counts
-fault_since fault old mid new same counts = counts ∙ same
-
 -- a writer that takes something does not stall
 pub flows : (n : ℕ) (bytes : List ℕ) (mid new : Output) → (n ≡ 0 → ⊥) → Takes n bytes mid new → new.stalled ≡ mid.stalled
 flows n bytes mid new h takes = takes.stalls ∙ ap (λ b. cond (b && not (length bytes == 0)) (risen mid.stalled) mid.stalled) (ne_eqb n 0 h)
@@ -50,9 +45,6 @@ stalls n bytes mid new none some takes =
       rose = inr (takes.counted, takes.stalls ∙ ap (λ b. cond b (risen mid.stalled) mid.stalled) stalled);
       last = takes.last ∙ stalled;
     }
-
-pub errs : (mid new : Output) → Errs mid new → Refuses mid new
-errs mid new error = record { rose = inl (error.rose, error.flowed); last = error.last }
 
 -- a refusal behind answers that were none
 pub refuses_since : (old mid new : Output) → mid.failed ≡ old.failed → mid.stalled ≡ old.stalled → Refuses mid new → Refuses old new
@@ -70,14 +62,6 @@ put_mid-long at n xs ys h hn =
 pub between-long : (at n : ℕ) (xs : List ℕ) → at ≤ length xs → n ≤ length (between at (length xs) xs) → at + n ≤ length xs
 between-long at n xs h hn =
     omega (arith, ap length (between_to_end xs at (length xs) (omega arith)), length-drop at xs)
-
--- what an item adds to the spellings of those before it
-pub spellings_at : {X : Type 0} (spelling : X → List ℕ) (items : List X) (k : ℕ) (x : X) → k < length items → x ≡ get_or items k x
-    → flat_map spelling items ≡ flat_map spelling (take k items) ++ (spelling x ++ flat_map spelling (drop (k + 1) items))
-spellings_at spelling items k x h e =
-    ap (flat_map spelling) (sym (take-append-drop k items))
-    ∙ flat_map-append spelling (take k items) (drop k items)
-    ∙ ap (λ l. flat_map spelling (take k items) ++ flat_map spelling l) (drop_more items k x h ∙ ap (λ y. y ∷ drop (k + 1) items) (sym e))
 
 -- one item more fits
 pub fit_more : {X : Type 0} (Fits : X → Type 0) (items : List X) (k : ℕ) (x : X) → k < length items → x ≡ get_or items k x → Fits x → All Fits (take k items) → All Fits (take (k + 1) items)

@@ -63,11 +63,11 @@ fields_spelled b h fits sound =
 pub reply_header_spelled : (b : List ℕ) (h : ReplyHeader) → 48 ≤ length b → ((i : ℕ) → slice_index b i < 256) → IsReplyHeader b h → ReplyHeaderSpelled b h
 reply_header_spelled b h long fits of = record {
   bytes = fields_spelled b long fits of.none
-      ∙ sym (λ i. reply_header_bytes (of.client i) (of.session i) (of.request i) (of.operation i) (of.status i) (of.len i) (of.commit i));
-  client = subst (λ (n : ℕ). n < 2 ^ 128) (sym of.client) (le_at-fits 16 0 b fits);
-  session = subst (λ (n : ℕ). n < 2 ^ 64) (sym of.session) (le_at-fits 8 16 b fits);
-  request = subst (λ (n : ℕ). n < 2 ^ 32) (sym of.request) (le_at-fits 4 24 b fits);
-  commit = subst (λ (n : ℕ). n < 2 ^ 64) (sym of.commit) (le_at-fits 8 36 b fits);
+      ∙ sym (λ i. reply_header_bytes (of.fields.client i) (of.fields.session i) (of.fields.request i) (of.fields.operation i) (of.fields.status i) (of.fields.len i) (of.fields.commit i));
+  client = subst (λ (n : ℕ). n < 2 ^ 128) (sym of.fields.client) (le_at-fits 16 0 b fits);
+  session = subst (λ (n : ℕ). n < 2 ^ 64) (sym of.fields.session) (le_at-fits 8 16 b fits);
+  request = subst (λ (n : ℕ). n < 2 ^ 32) (sym of.fields.request) (le_at-fits 4 24 b fits);
+  commit = subst (λ (n : ℕ). n < 2 ^ 64) (sym of.fields.commit) (le_at-fits 8 36 b fits);
 }
 
 -- the length of the body is one that the operation and the status allow
@@ -75,7 +75,7 @@ pub header_length : (b : List ℕ) (h : ReplyHeader) → IsReplyHeader b h → h
 unfolding reply_header_fault
 header_length b h of =
     let tests = none_each (reply_header_tests b) of.none in
-    is_true _ (ap not (λ i. has_reply_length (of.operation i) (of.status i) (of.len i)) ∙ tests.1.1.1.1.1.1.0)
+    is_true _ (ap not (λ i. has_reply_length (of.fields.operation i) (of.fields.status i) (of.fields.len i)) ∙ tests.1.1.1.1.1.1.0)
 
 -- the tests of a reply, by its fields
 abbrev pub answer_tests_of : ℕ → ℕ → ℕ → ℕ → ℕ → ℕ → ℕ → ℕ → List (Bool × FrameFault)
@@ -95,7 +95,7 @@ pub header_right : (b : List ℕ) (h : ReplyHeader) (body : ReplyBody) (bytes : 
 unfolding reply_header_fault
 header_right b h body bytes of is long =
     let same : reply_tests_of h.numbers.client h.numbers.session h.numbers.request h.numbers.operation (status_code h.numbers.status) (le_at 2 30 b) h.len h.numbers.commit (le_at 4 44 b) ≡ reply_header_tests b =
-    λ i. reply_tests_of (of.client i) (of.session i) (of.request i) (of.operation i) (of.status i) (le_at 2 30 b) (of.len i) (of.commit i) (le_at 4 44 b) in
+    λ i. reply_tests_of (of.fields.client i) (of.fields.session i) (of.fields.request i) (of.fields.operation i) (of.fields.status i) (le_at 2 30 b) (of.fields.len i) (of.fields.commit i) (le_at 4 44 b) in
     let tests : NoneHolds (reply_tests_of h.numbers.client h.numbers.session h.numbers.request h.numbers.operation (status_code h.numbers.status) (le_at 2 30 b) h.len h.numbers.commit (le_at 4 44 b)) =
     none_each (reply_tests_of h.numbers.client h.numbers.session h.numbers.request h.numbers.operation (status_code h.numbers.status) (le_at 2 30 b) h.len h.numbers.commit (le_at 4 44 b)) (ap first_fault same ∙ of.none) in
     let kind = eq-eqb (kind_of body) (if status_code h.numbers.status == 0 then kind_for h.numbers.operation else 0) is.kind in

@@ -5,7 +5,7 @@ use Rattle.tb_records.specs.declared.faults.FrameFault.{FrameFault}
 use Rattle.tb_records.specs.Frames.{session_at, request_at, operation_at, length_at}
 use Rattle.tb_records.specs.Messages.{status_code, first_fault}
 use Rattle.tb_records.specs.ReplyFrames.{status_at, commit_at, reply_header_fault}
-use Rattle.tb_records.specs.ReplyHeaders.{HasReplyFields, IsReplyHeader}
+use Rattle.tb_records.specs.ReplyHeaders.{HasReplyFields}
 use Rattle.tb_records.specs.ReplyTests.{reply_field_tests, reply_number_tests, number_tests, reply_length_tests}
 use Rattle.tb_records.proofs.FirstFaults.{first_fault-some, first_fault-none}
 
@@ -37,16 +37,3 @@ length_decides b h status of es e =
     rest_decides b h of
     ∙ first_fault-none (number_tests h.numbers) (reply_length_tests h.numbers.operation (status_code h.numbers.status) h.len) e
     ∙ ap (λ s. first_fault (reply_length_tests h.numbers.operation s h.len)) (sym es)
-
--- a header without a fault
-pub no_fault : (b : List ℕ) (h : ReplyHeader) → HasReplyFields b h → reply_header_fault b ≡ None → IsReplyHeader b h
-no_fault b h of none = record {
-  none = none;
-  client = of.client;
-  session = of.session;
-  request = of.request;
-  operation = of.operation;
-  status = of.status;
-  commit = of.commit;
-  len = of.len;
-}

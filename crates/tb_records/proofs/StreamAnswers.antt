@@ -20,15 +20,6 @@ use Rattle.tb_records.proofs.HeaderBytes.{right_length}
 use Rattle.tb_records.proofs.FirstFaults.{none_each}
 use Rattle.tb_records.proofs.FrameFaults.{IsOfHeader, is_of_header, cut_header, cut_body, header_first, header_fault-append, length_at-append}
 
--- the input was at its end
-pub at_end : (buf : List ℕ) (n : ℕ) (old new : Option (List ℕ)) → n ≡ 0 → 0 < length buf → Filled n buf old new → Answers (Ok None) old new
-at_end buf n None new e h f = tt
-at_end buf n (Some old) None e h f = absurd f.bytes
-at_end buf n (Some old) (Some new) e h f =
-    let left : old ≡ take n buf ++ new = f.bytes in
-    let none : new ≡ [] = f.end (omega arith) in
-    (left ∙ ap (λ k. take k buf ++ new) e ∙ none, none)
-
 -- the header is cut
 pub short_header : (buf : List ℕ) (n : ℕ) (old new : Option (List ℕ)) → (n ≡ 0 → ⊥) → n < 48 → length buf ≡ 48 → Filled n buf old new → Answers (Err Short) old new
 short_header buf n None new some h long f = tt
@@ -38,12 +29,6 @@ short_header buf n (Some old) (Some new) some h long f =
     let none : new ≡ [] = f.end (omega arith) in
     let size : length old ≡ n = omega (arith, ap length left, ap length none, length-append (take n buf) new, length-take n buf) in
     (omega arith, cut_header old (omega arith), none)
-
--- the reader failed in the header
-pub lost_header : (old new : Option (List ℕ)) → Lost 48 old new → Answers (Err Device) old new
-lost_header None new l = tt
-lost_header (Some old) None l = absurd l.bytes
-lost_header (Some old) (Some new) l = (l.front, omega (arith, l.short), l.bytes)
 
 -- a fault of the header, by cases on the faults that a header can have
 bad_header : (fault : FrameFault) (old new : List ℕ) → IsOfHeader fault → request_fault old ≡ Some fault → new ≡ drop 48 old → Faulted fault old new

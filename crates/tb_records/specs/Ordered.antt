@@ -30,9 +30,3 @@ Each P (x ∷ xs) = P x × Each P xs
 abbrev pub Rising : {X : Type 0} → (X → ℕ) → List X → Type 0
 Rising key [] = Unit {0}
 Rising key (x ∷ xs) = Each (λ y. key x < key y) xs × Rising key xs
-
--- smaller keys stand before place i, and none at it
-pub record IsPlace {X : Type 0} (key : X → ℕ) (xs : List X) (id i : ℕ) : Type 0 where
-  pub within : i ≤ length xs
-  pub before : (j : ℕ) (d : X) → j < i → key (slice_index_or xs j d) < id
-  pub here : (d : X) → i < length xs → id ≤ key (slice_index_or xs i d)

@@ -25,11 +25,6 @@ pub record RunsOut (n : ℕ) (before after : Option (List ℕ)) : Type 0 where
   pub bytes : Consumes before after rest
   pub end : IsAtEnd after
 
--- one item was read, of numbers that fit
-pub record ReadsItem {X : Type 0} (spelling : X → List ℕ) (Fits : X → Type 0) (item : X) (before after : Option (List ℕ)) : Type 0 where
-  pub bytes : Consumes before after (spelling item)
-  pub fit : Fits item
-
 -- count items were read, each of numbers that fit
 pub record ReadsItems {X : Type 0} (spelling : X → List ℕ) (Fits : X → Type 0) (count : ℕ) (items : List X) (before after : Option (List ℕ)) : Type 0 where
   pub long : length items ≡ count

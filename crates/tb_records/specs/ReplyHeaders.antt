@@ -21,13 +21,7 @@ pub record HasReplyFields (b : List ℕ) (h : ReplyHeader) : Type 0 where
 -- the bytes begin with a header that has no fault and these fields
 pub record IsReplyHeader (b : List ℕ) (h : ReplyHeader) : Type 0 where
   pub none : reply_header_fault b ≡ None
-  pub client : h.numbers.client ≡ client_at b
-  pub session : h.numbers.session ≡ session_at b
-  pub request : h.numbers.request ≡ request_at b
-  pub operation : h.numbers.operation ≡ operation_at b
-  pub status : status_code h.numbers.status ≡ status_at b
-  pub commit : h.numbers.commit ≡ commit_at b
-  pub len : h.len ≡ length_at b
+  pub fields : HasReplyFields b h
 
 -- the bytes are those of the items, whose numbers fit their fields
 pub record SpelledItems {X : Type 0} (spelling : X → List ℕ) (Fits : X → Type 0) (items : List X) (bytes : List ℕ) : Type 0 where

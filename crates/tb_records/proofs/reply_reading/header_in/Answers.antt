@@ -1,6 +1,6 @@
 use Rattle.std.proofs.Common.{◌∙◌}
 use Rattle.std.proofs.lemmas.Result.{err_from_is_err_and}
-use Rattle.tb_records.proofs.ReplyParts.{field_fault, number_fault, length_decides, no_fault}
+use Rattle.tb_records.proofs.ReplyParts.{field_fault, number_fault, length_decides}
 use Rattle.tb_records.proofs.reply_reading.header_in.Goals as goal
 
 pub returns-in_err-header : goal.returns-in_err-header
@@ -19,6 +19,7 @@ returns-in_err-check_length c =
     rw (p.1, p.2) (length_decides c.args.bytes.now c.in_ok-header.header _ c.in_ok-header.ensures c.code.ensures c.in_ok-check.ensures ∙ c.in_err-check_length.ensures)
 
 pub returns : goal.returns
-returns c =
-    let none = length_decides c.args.bytes.now c.in_ok-header.header _ c.in_ok-header.ensures c.code.ensures c.in_ok-check.ensures ∙ c.in_ok-check_length.ensures in
-    no_fault c.args.bytes.now c.in_ok-header.header c.in_ok-header.ensures none
+returns c = record {
+  none = length_decides c.args.bytes.now c.in_ok-header.header _ c.in_ok-header.ensures c.code.ensures c.in_ok-check.ensures ∙ c.in_ok-check_length.ensures;
+  fields = c.in_ok-header.ensures;
+}

@@ -17,7 +17,7 @@ returns-in_err-header c =
 
 pub returns-then-bytes-end : goal.returns-then-bytes-end
 returns-then-bytes-end c =
-    let short : length c.args.bytes.now < 48 + length_at c.args.bytes.now = omega (arith, c.in_ok-header.ensures.len) in
+    let short : length c.args.bytes.now < 48 + length_at c.args.bytes.now = omega (arith, c.in_ok-header.ensures.fields.len) in
     cut_reply_body c.args.bytes.now c.if-bytes-lt48.false c.in_ok-header.ensures.none short
 
 pub body_in-requires : goal.body_in-requires
@@ -29,7 +29,7 @@ body_in-requires c =
 
 pub returns-in_err-body : goal.returns-in_err-body
 returns-in_err-body c =
-    let long : 48 + length_at c.args.bytes.now ≤ length c.args.bytes.now = omega (arith, c.in_ok-header.ensures.len) in
+    let long : 48 + length_at c.args.bytes.now ≤ length c.args.bytes.now = omega (arith, c.in_ok-header.ensures.fields.len) in
     let p = err_from_is_err_and c.from_residual-in_err-body.result c.from_residual-in_err-body.ensures.1 in
     rw (p.1, p.2) (whole_reply c.args.bytes.now c.if-bytes-lt48.false long ∙ c.in_ok-header.ensures.none)
 
