@@ -45,10 +45,7 @@ fn number_up_to(word: &[u8], high: u128) -> Option<u128>
     }
     let mut n: u128 = 0;
     for byte in word {
-        match with_digit(n, *byte, high) {
-            Some(more) => n = more,
-            None => return None,
-        }
+        n = with_digit(n, *byte, high)?;
     }
     Some(n)
 }
@@ -74,20 +71,15 @@ pub fn read_id(word: &[u8]) -> Option<u128>
 pub fn read_clients_max(word: &[u8]) -> Option<ClientsMax>
     ensures { result ≡ clients_of word.now }
 {
-    match number(word, 1, 64) {
-        Some(n) => ClientsMax::new(n as u32),
-        None => None,
-    }
+    ClientsMax::new(number(word, 1, 64)? as u32)
 }
 
 /// The profile that a word spells, 1 or 2.
 pub fn read_profile(word: &[u8]) -> Option<Profile>
     ensures { result ≡ profile_of word.now }
 {
-    match number(word, 1, 2) {
-        Some(n) => Some(if n <= 1 { Profile::One } else { Profile::Two }),
-        None => None,
-    }
+    let n = number(word, 1, 2)?;
+    Some(if n <= 1 { Profile::One } else { Profile::Two })
 }
 
 /// The number of a commit, from 0 to `2^63 - 1`.
@@ -101,10 +93,9 @@ fn commit(word: &[u8]) -> Option<u64>
 fn form_alone(word: &str) -> Option<Form>
     ensures { result ≡ form_alone word.now }
 {
-    if word == "replay" {
-        Some(Form::Replay)
-    } else {
-        None
+    match word {
+        "replay" => Some(Form::Replay),
+        _ => None,
     }
 }
 
@@ -113,12 +104,10 @@ fn form_with(word: &str, clients_max: &str) -> Option<Form>
     ensures { result ≡ form_with word.now clients_max.now }
 {
     let clients_max = read_clients_max(clients_max.as_bytes())?;
-    if word == "run" {
-        Some(Form::Run(clients_max, Profile::One))
-    } else if word == "dump" {
-        Some(Form::Dump(clients_max, None))
-    } else {
-        None
+    match word {
+        "run" => Some(Form::Run(clients_max, Profile::One)),
+        "dump" => Some(Form::Dump(clients_max, None)),
+        _ => None,
     }
 }
 
@@ -127,12 +116,10 @@ fn form_with_two(word: &str, clients_max: &str, last: &str) -> Option<Form>
     ensures { result ≡ form_with_two word.now clients_max.now last.now }
 {
     let clients_max = read_clients_max(clients_max.as_bytes())?;
-    if word == "run" {
-        Some(Form::Run(clients_max, read_profile(last.as_bytes())?))
-    } else if word == "dump" {
-        Some(Form::Dump(clients_max, Some(commit(last.as_bytes())?)))
-    } else {
-        None
+    match word {
+        "run" => Some(Form::Run(clients_max, read_profile(last.as_bytes())?)),
+        "dump" => Some(Form::Dump(clients_max, Some(commit(last.as_bytes())?))),
+        _ => None,
     }
 }
 

@@ -75,9 +75,6 @@ items_through state ended text Fits kind (x ∷ xs) tail fits room =
     ∙ (ap (run (state [] Opened)) (append_assoc (text x) (more_text text xs) (59 ∷ tail))
     ∙ (first.1 ∙ more_through state ended text Fits kind xs [] x first.0 tail first.2 fits.1 (omega arith)))
 
-below : (m n : ℕ) → m < n → nat_lt m n ≡ true
-below m n h = grind (arith, nat_tests)
-
 pub low : (n : ℕ) → n < 2 ^ 64 → n % 2 ^ 64 ≡ n
 low n h = omega arith
 

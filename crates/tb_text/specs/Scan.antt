@@ -72,11 +72,6 @@ abbrev pub wanted : Place → Option Field
 wanted (Wanted f) = Some f
 wanted place = None
 
--- the field whose number has just been given
-abbrev pub given_last : Place → Option Field
-given_last (Given f) = Some f
-given_last place = None
-
 abbrev pub is_field : Field → Option Field → Bool
 is_field f None = false
 is_field f (Some g) = same_field f g

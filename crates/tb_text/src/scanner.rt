@@ -569,26 +569,22 @@ impl Scanner {
     fn assign(&mut self) -> Result<(), Refusal>
         ensures { Steps self.old result (valued_at self.old self.old.place) self.new }
     {
-        match self.place {
-            Place::Named(field) => {
-                self.go(Place::Wanted(field));
-                Ok(())
-            }
-            _ => Err(Refusal::Unexpected),
-        }
+        let Place::Named(field) = self.place else {
+            return Err(Refusal::Unexpected);
+        };
+        self.go(Place::Wanted(field));
+        Ok(())
     }
 
     /// Takes a `|`.
     fn join(&mut self) -> Result<(), Refusal>
         ensures { Steps self.old result (joined_at self.old self.old.place) self.new }
     {
-        match self.place {
-            Place::Given(field) if field.index() == Field::Flags.index() => {
-                self.go(Place::Wanted(field));
-                Ok(())
-            }
-            _ => Err(Refusal::Unexpected),
-        }
+        let Place::Given(Field::Flags) = self.place else {
+            return Err(Refusal::Unexpected);
+        };
+        self.go(Place::Wanted(Field::Flags));
+        Ok(())
     }
 
     /// Takes a mark.
