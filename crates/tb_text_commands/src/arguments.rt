@@ -35,26 +35,17 @@ pub enum Form {
 fn form_alone(word: &str) -> Option<Form>
     ensures { result ≡ form_alone word.now }
 {
-    if word == "script" {
-        Some(Form::Script)
-    } else if word == "requests" {
-        Some(Form::Requests)
-    } else if word == "replies" {
-        Some(Form::Replies)
-    } else if word == "dump" {
-        Some(Form::Dump)
-    } else if word == "pairs" {
-        Some(Form::Pairs)
-    } else if word == "audit" {
-        Some(Form::Audit(None))
-    } else if word == "explain" {
-        Some(Form::Explain)
-    } else if word == "--help" || word == "-h" {
-        Some(Form::Help)
-    } else if word == "--version" {
-        Some(Form::Version)
-    } else {
-        None
+    match word {
+        "script" => Some(Form::Script),
+        "requests" => Some(Form::Requests),
+        "replies" => Some(Form::Replies),
+        "dump" => Some(Form::Dump),
+        "pairs" => Some(Form::Pairs),
+        "audit" => Some(Form::Audit(None)),
+        "explain" => Some(Form::Explain),
+        "--help" | "-h" => Some(Form::Help),
+        "--version" => Some(Form::Version),
+        _ => None,
     }
 }
 
@@ -62,25 +53,24 @@ fn form_alone(word: &str) -> Option<Form>
 fn form_with(word: &str, clients_max: &str) -> Option<Form>
     ensures { result ≡ form_with word.now clients_max.now }
 {
-    if word == "run" {
-        let clients_max = read_clients_max(clients_max.as_bytes())?;
-        Some(Form::Run(clients_max, Profile::One))
-    } else {
-        None
+    if word != "run" {
+        return None;
     }
+    let clients_max = read_clients_max(clients_max.as_bytes())?;
+    Some(Form::Run(clients_max, Profile::One))
 }
 
 /// What three words ask for.
 fn form_with_two(word: &str, second: &str, last: &str) -> Option<Form>
     ensures { result ≡ form_with_two word.now second.now last.now }
 {
-    if word == "run" {
-        let clients_max = read_clients_max(second.as_bytes())?;
-        Some(Form::Run(clients_max, read_profile(last.as_bytes())?))
-    } else if word == "audit" && second == "--account" {
-        Some(Form::Audit(Some(read_id(last.as_bytes())?)))
-    } else {
-        None
+    match (word, second) {
+        ("run", clients_max) => {
+            let clients_max = read_clients_max(clients_max.as_bytes())?;
+            Some(Form::Run(clients_max, read_profile(last.as_bytes())?))
+        }
+        ("audit", "--account") => Some(Form::Audit(Some(read_id(last.as_bytes())?))),
+        _ => None,
     }
 }
 

@@ -51,7 +51,7 @@ pub trait Standings {
 }
 
 /// What stands for what a statement leaves out: a client that is registered first, at a moment, and numbers.
-#[derive(Clone, Copy)]
+#[derive(Clone, Copy, Default)]
 pub struct LeftOut {
     pub register_moment: Option<u128>,
     pub registered: Option<u128>,
@@ -86,14 +86,7 @@ impl LeftOut {
     fn nothing() -> LeftOut
         ensures { result ≡ nothing }
     {
-        LeftOut {
-            register_moment: None,
-            registered: None,
-            moment: None,
-            client: None,
-            session: None,
-            request: None,
-        }
+        LeftOut::default()
     }
 
     /// Before a register.

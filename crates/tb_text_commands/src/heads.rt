@@ -6,7 +6,7 @@ use tb_records::Operation;
 use tb_text::{Field, Word, digit, word_named};
 
 /// The numbers that stand before an operation.
-#[derive(Clone, Copy)]
+#[derive(Clone, Copy, Default)]
 pub struct Given {
     pub moment: Option<u128>,
     pub client: Option<u128>,
@@ -105,10 +105,7 @@ fn number_from(base: u128, digits: &[u8]) -> Option<u128>
 {
     let mut n: u128 = 0;
     for byte in digits {
-        match with_digit(base, n, *byte) {
-            Some(more) => n = more,
-            None => return None,
-        }
+        n = with_digit(base, n, *byte)?;
     }
     Some(n)
 }
@@ -139,12 +136,7 @@ impl Given {
     fn none() -> Given
         ensures { result ≡ none_given }
     {
-        Given {
-            moment: None,
-            client: None,
-            session: None,
-            request: None,
-        }
+        Given::default()
     }
 
     /// With one number more.
