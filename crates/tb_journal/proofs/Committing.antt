@@ -1,10 +1,9 @@
 -- The journal's numbers after a commit.
-use Rattle.std.proofs.Common.{◌≡◌, inl, ℕ, ◌+◌, ◌-◌, ◌≤◌, List, [], ◌∷◌, ◌++◌, length, refl, sym, ◌∙◌, ap, arith, length-append, Ok}
-use Rattle.tb_journal.specs.Device.{Disk, LeavesOnly, HasCause}
-use Rattle.tb_journal.specs.Contents.{at_rest, contents, recorded, blocks_length, records_end}
-use Rattle.tb_journal.specs.Steps.{IsAtRest, IsBeforeOrAfter}
+use Rattle.std.proofs.Common.{◌≡◌, ℕ, ◌+◌, ◌-◌, ◌≤◌, List, [], ◌∷◌, ◌++◌, length, sym, ◌∙◌, ap, arith, length-append}
+use Rattle.tb_journal.specs.Device.{Disk}
+use Rattle.tb_journal.specs.Contents.{at_rest, recorded, blocks_length, records_end}
+use Rattle.tb_journal.specs.Steps.{IsAtRest}
 use Rattle.tb_journal.specs.Ready.{Kept, IsReady}
-use Rattle.tb_journal.proofs.Moments.{started}
 use Rattle.tb_journal.proofs.Waiting.{many_blocks, length-at_rest}
 
 pub blocks_length-append : (xs ys : List (List ℕ)) → blocks_length (xs ++ ys) ≡ blocks_length xs + blocks_length ys
@@ -32,15 +31,3 @@ next_ready disk old new bytes many waiting ready rests reads long counts =
       ends = next_end olds old.waiting old.end bytes ready.ends long ∙ ap records_end same;
       counts = both ∙ ap length same;
     }
-
--- where none waits
-
-pub nothing : (waiting : List (List ℕ)) → length waiting ≡ 0 → waiting ≡ []
-nothing [] is = refl
-nothing (bytes ∷ waiting) is = absurd (cc)
-
-pub idle_moment : (disk : Disk) (batch : List (List ℕ)) → IsAtRest disk → ((c : List ℕ) → disk.left_since disk.moment c → disk.may_leave c) → LeavesOnly disk disk (IsBeforeOrAfter (recorded disk.seen) batch)
-idle_moment disk batch rest now = started disk (IsBeforeOrAfter (recorded disk.seen) batch) (λ c left. inl (ap contents (rest.kept c (now c left)) ∙ rest.reads))
-
-pub no_cause : (disk : Disk) → HasCause {T = Unit {0}} (Ok tt) disk disk
-no_cause disk = record { later = omega arith; cause = tt }

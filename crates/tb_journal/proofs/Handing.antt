@@ -1,7 +1,6 @@
 -- How what reads handed out grows.
-use Rattle.std.proofs.Common.{◌≡◌, inr, ℕ, ◌+◌, ◌≤◌, Bool, true, false, List, [], ◌∷◌, ◌++◌, length, take, drop, refl, sym, ◌∙◌, ap, subst, arith, append-nil, append_assoc, length-append, length-drop, Ok, Err, Result}
+use Rattle.std.proofs.Common.{◌≡◌, ℕ, ◌+◌, ◌≤◌, Bool, true, false, List, ◌∷◌, ◌++◌, length, take, drop, refl, sym, ◌∙◌, ap, subst, arith, length-append, length-drop, Ok, Err, Result}
 use Rattle.std.proofs.lemmas.List.{take_all, take-append-le, drop-append-le, length-take-le}
-use Rattle.tb_journal.specs.declared.faults.Fault.{Fault}
 use Rattle.tb_journal.specs.declared.opening.OpenFault.{OpenFault}
 use Rattle.tb_journal.specs.declared.opening.OpenFault.TheVariants as open_faults
 use Rattle.tb_journal.specs.declared.reading.Head.{Head}
@@ -10,8 +9,8 @@ use Rattle.tb_journal.specs.declared.reading.Refusal.TheVariants as refusals
 use Rattle.tb_journal.specs.declared.reading.Extent.{Extent}
 use Rattle.tb_journal.specs.Contents.{front, contents, records_end}
 use Rattle.tb_journal.specs.Scans.{Place, BeginsWith, IsAhead, HasRead}
-use Rattle.tb_journal.specs.Reading.{FindsHead, HasAhead, head_is, extent_of}
-use Rattle.tb_journal.specs.Handed.{AreHanded, SomeHanded, HasTaken, Starts, TakesNext, TellsExtent, IsAllAhead, GoesOnAhead}
+use Rattle.tb_journal.specs.Reading.{FindsHead, head_is, extent_of}
+use Rattle.tb_journal.specs.Handed.{AreHanded, SomeHanded, HasTaken, TakesNext, TellsExtent, IsAllAhead, GoesOnAhead}
 use Rattle.tb_journal.proofs.Walks.{take_parts, drop_parts}
 use Rattle.tb_journal.proofs.Nexts.{end_within, step_ends, step_stays, step_spoiled, step_whole}
 
@@ -19,32 +18,9 @@ use Rattle.tb_journal.proofs.Nexts.{end_within, step_ends, step_stays, step_spoi
 all_is_ahead : (at : ℕ) (file ahead : List ℕ) → ahead ≡ drop at file → IsAhead at file ahead
 all_is_ahead at file ahead is = is ∙ sym (take_all (length ahead) (drop at file) (omega (arith, ap length is)))
 
-pub none_is_ahead : (file ahead : List ℕ) → length ahead ≡ 0 → IsAhead 0 file ahead
-none_is_ahead file [] is = refl
-none_is_ahead file (byte ∷ bytes) is = absurd (cc)
-
--- of the bytes that were read ahead all are ahead
-pub own_ahead : (ahead : List ℕ) → HasAhead 8 0 ahead ahead
-own_ahead ahead = record { same = sym (take_all (length ahead) ahead (omega arith)); enough = inr refl }
-
 module _ (gave : ℕ → List ℕ → Type 0) where
-  pub none_handed : AreHanded gave []
-  none_handed = ([], refl)
-
-  pub none_ahead : (ahead : List ℕ) → length ahead ≡ 0 → IsAllAhead gave 0 [] ahead
-  none_ahead [] is = record { handed = none_handed; within = omega arith; rest = refl }
-  none_ahead (byte ∷ bytes) is = absurd (cc)
-
   one_more : (file piece : List ℕ) → AreHanded gave file → gave (length file) piece → AreHanded gave (file ++ piece)
   one_more file piece (pieces, by) read = (piece ∷ pieces, (file, by, read, refl))
-
-  -- nothing more was read
-  pub no_more : (at : ℕ) (file ahead : List ℕ) → IsAllAhead gave at file ahead → GoesOnAhead gave at file ahead
-  no_more at file ahead all = ([], subst (λ (f : List ℕ). IsAllAhead gave at f ahead) (sym (append-nil file)) all)
-
-  -- more behind more
-  pub goes_on_twice : (at : ℕ) (file more ahead : List ℕ) → GoesOnAhead gave at (file ++ more) ahead → GoesOnAhead gave at file ahead
-  goes_on_twice at file more ahead (others, all) = (more ++ others, subst (λ (f : List ℕ). IsAllAhead gave at f ahead) (append_assoc file more others) all)
 
   -- a piece behind what was ahead
   module _ (at k count : ℕ) (file old buffer : List ℕ) (kept : take k buffer ≡ old) (within : k + count ≤ length buffer) (all : IsAllAhead gave at file old) (read : gave (at + k) (take count (drop k buffer))) where
@@ -66,11 +42,6 @@ module _ (gave : ℕ → List ℕ → Type 0) where
         rest = take_parts k count buffer ∙ ap (λ (l : List ℕ). l ++ piece) (kept ∙ all.rest) ∙ sym (drop-append-le at file piece all.within);
       },
     )
-
-  -- a scan that starts
-
-  pub of_first : (more ahead : List ℕ) → IsAllAhead gave 0 ([] ++ more) ahead → AreHanded gave ahead
-  of_first more ahead all = subst (AreHanded gave) (sym all.rest) all.handed
 
   -- a step of a scan
 
@@ -144,14 +115,6 @@ module _ (gave : ℕ → List ℕ → Type 0) where
   abbrev pub TakesOn : Result Bool OpenFault → Place → Place → Type 0
   TakesOn result old new = (records : List (List ℕ)) (file : List ℕ) → HasTaken gave records file old → (more : List ℕ) × TakesNext gave result records (file ++ more) new
 
-  pub taking_first : (scan : Place) → SomeHanded gave (Starts (Ok scan)) → IsTaking scan
-  taking_first scan (file, handed, (read, rest)) = ([], file, record { handed = handed; read = read; rest = rest })
-
-  pub taking_more : (old new : Place) → IsTaking old → TakesOn (Ok true) old new → IsTaking new
-  taking_more old new (records, file, has) on =
-      let (more, takes) = on records file has in
-      (records ++ new.last ∷ [], file ++ more, record { handed = takes.handed; read = takes.reads; rest = takes.rest })
-
   pub extent_taken : (old new : Place) (extent : Extent) → IsTaking old → TakesOn (Ok false) old new → extent.end ≡ new.end → extent.count ≡ new.count → SomeHanded gave (TellsExtent (Ok extent))
   extent_taken old new extent (records, file, has) on end count =
       let (more, takes) = on records file has in
@@ -166,7 +129,3 @@ module _ (gave : ℕ → List ℕ → Type 0) where
   pub none_taken : (fault : OpenFault) (old new : Place) → IsTaking old → TakesOn (Err fault) old new → SomeHanded gave (TellsExtent (Err fault))
   none_taken (open_faults.Refused why) old new (records, file, has) on = let (more, takes) = on records file has in (file ++ more, takes.handed, takes.reads)
   none_taken (open_faults.Device fault) old new (records, file, has) on = (file, has.handed, tt)
-
-  pub none_begun : (fault : OpenFault) → SomeHanded gave (Starts (Err fault)) → SomeHanded gave (TellsExtent (Err fault))
-  none_begun (open_faults.Refused why) (file, handed, is) = (file, handed, is)
-  none_begun (open_faults.Device fault) (file, handed, is) = (file, handed, tt)

@@ -47,9 +47,6 @@ module _ (at : ℕ) (bytes : List ℕ) (before mid : Disk) (kept : IsOnDisk befo
       (started before (Torn at (length bytes) before.seen) (λ c left. subst (λ (d : List ℕ). Torn at (length bytes) before.seen d) (sym (kept c (now c left))) (torn_same at (length bytes) before.seen)))
       write.time torn
 
-  pub overwrite_failed : (f : Fault) → result ≡ Err f → Overwrites at bytes (Err f) before mid
-  overwrite_failed f is = record { ok = tt; any_moment = written; cause = subst (λ (r : Result (Unit {0}) Fault). HasCause r before mid) is write.cause }
-
   pub overwrite_synced : (after : Disk) (synced : Result (Unit {0}) Fault) → result ≡ Ok tt
       → Syncs synced mid after → Overwrites at bytes synced before after
   overwrite_synced after synced is sync = record {

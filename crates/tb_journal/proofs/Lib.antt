@@ -3,7 +3,6 @@ pub mod Moments
 pub mod Blocks
 pub mod Steps
 pub mod Kept
-pub mod Looking
 pub mod Remainders
 pub mod Past
 pub mod Publishing
@@ -19,4 +18,3 @@ pub mod Filling
 pub mod Fronts
 pub mod Handing
 pub mod Scanning
-pub mod Created

@@ -30,12 +30,6 @@ front_whole Ends len is = absurd (cc)
 front_whole Spoiled len is = absurd (cc)
 front_whole (Whole r) len is = (r, refl, cc)
 
--- of a whole block the bytes are there
-pub block_within : (ahead : List ℕ) (head : Head) (len : ℕ) → head ≡ heads.Whole len → head ≡ head_is (front ahead) → 8 + len ≤ length ahead
-block_within ahead head len is told =
-    let found = front_whole (front ahead) len (sym is ∙ told) in
-    omega (arith, (is_whole ahead found.0 found.1).within, found.2)
-
 -- behind the records that a file begins with
 
 module _ (records : List (List ℕ)) (file : List ℕ) (begins : BeginsWith records file) where

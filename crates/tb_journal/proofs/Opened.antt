@@ -1,14 +1,13 @@
 -- A journal over a file that was read.
 use Rattle.std.proofs.Common.{◌≡◌, inl, inr, ◌≤◌, ◌^◌, ℕ, List, length, refl, sym, ap, ◌∙◌, arith, Ok, Err}
-use Rattle.tb_journal.specs.declared.faults.Fault.{Fault}
 use Rattle.tb_journal.specs.declared.faults.Fault.TheVariants as faults
 use Rattle.tb_journal.specs.declared.opening.OpenFault.TheVariants as open_faults
 use Rattle.tb_journal.specs.declared.reading.Extent.{Extent}
-use Rattle.tb_journal.specs.Device.{Disk, IsOnDisk, LeavesOnly, HasCause}
+use Rattle.tb_journal.specs.Device.{Disk, LeavesOnly}
 use Rattle.tb_journal.specs.Contents.{Contents, NotAJournal, Damaged, Records, contents, recorded, records_of, records_end}
 use Rattle.tb_journal.specs.Opening.{HasOpenCause, IsAsBefore, StandsForTheSame}
 use Rattle.tb_journal.specs.Reading.{extent_of}
-use Rattle.tb_journal.proofs.Moments.{started, then, weaker}
+use Rattle.tb_journal.proofs.Moments.{then, weaker}
 use Rattle.tb_journal.proofs.Steps.{within}
 
 -- what an extent tells of its file
@@ -28,17 +27,6 @@ pub too_long : (disk : Disk) (extent : Extent) → extent_of (contents disk.seen
 too_long disk extent read long =
     let told = is_told (contents disk.seen) extent read in
     record { later = omega arith; cause = inr (refl, omega (arith, told.end, long, within disk.seen (recorded disk.seen) told.reads)) }
-
--- nothing was done yet
-pub left_alone : (disk : Disk) (extent : Extent) → IsOnDisk disk → extent_of (contents disk.seen) ≡ Ok extent → ((c : List ℕ) → disk.left_since disk.moment c → disk.may_leave c) → LeavesOnly disk disk (λ c. contents c ≡ Records (recorded disk.seen))
-left_alone disk extent kept read now =
-    started disk (λ c. contents c ≡ Records (recorded disk.seen)) (λ c left. ap contents (kept c (now c left)) ∙ (is_told (contents disk.seen) extent read).reads)
-
-pub no_memory : (disk : Disk) → HasOpenCause {T = Unit {0}} (Err (open_faults.Device faults.Memory)) disk disk
-no_memory disk = record { later = omega arith; cause = inl (inl refl) }
-
-pub cause_of : {S T : Type 0} (fault : Fault) (before after : Disk) → HasCause {T = S} (Err fault) before after → HasOpenCause {T = T} (Err (open_faults.Device fault)) before after
-cause_of fault before after has = record { later = has.later; cause = inl has.cause }
 
 -- a file that was read and then opened
 pub read_then_opened : (before mid after : Disk) (extent : Extent) → extent_of (contents before.seen) ≡ Ok extent → mid.seen ≡ before.seen

@@ -1,16 +1,14 @@
 -- One more call joins those that a file in memory has had.
-use Rattle.std.proofs.Common.{◌≡◌, ◌⊎◌, inl, inr, ⊎_elim, ℕ, ◌+◌, ◌≤◌, ◌<◌, ◌-◌, ◌==◌, List, [], ◌∷◌, ◌++◌, length, take, refl, sym, ◌∙◌, ap, subst, arith, reverse, get_or, length-append, length-take, Ok, Err, if◌then◌else◌, true}
-use Rattle.std.proofs.lemmas.List.{take_all, take_more, take_min, take-append-le, reverse-append}
+use Rattle.std.proofs.Common.{◌≡◌, ◌⊎◌, inl, inr, ⊎_elim, ℕ, ◌+◌, ◌≤◌, ◌<◌, ◌-◌, ◌==◌, List, [], ◌∷◌, ◌++◌, length, take, refl, sym, ◌∙◌, subst, arith, reverse, length-append, Ok, Err, if◌then◌else◌, true}
+use Rattle.std.proofs.lemmas.List.{take_all, take-append-le, reverse-append}
 use Rattle.std.proofs.lemmas.Bool.{cases_lt}
 use Rattle.std.proofs.lemmas.Bool.Decides.{nat_tests}
-use Rattle.tb_journal.specs.Device.{Elapses, Torn, Cut, HasCause, Writes, Cuts, Syncs, overwritten}
-use Rattle.tb_journal.specs.Torn.{Adds}
+use Rattle.tb_journal.specs.Device.{Elapses, Torn, HasCause, Writes, Cuts, Syncs, overwritten}
 use Rattle.tb_journal.specs.Memory.{LeftBy, disk_after}
 use Rattle.std.specs.Prelude.{Vec}
 use Rattle.std.specs.declared.alloc.Global.{Global}
 use Rattle.tb_journal.specs.declared.memory.Call.{Call}
 use Rattle.tb_journal.specs.declared.memory.Call.TheVariants as variants
-use Rattle.tb_journal.specs.declared.faults.Fault.{Fault}
 use Rattle.tb_journal.specs.declared.faults.Fault.TheVariants as faults
 
 cases_le : (k n : ℕ) → (k ≤ n) ⊎ (n + 1 ≤ k)
@@ -112,12 +110,3 @@ pub sync_failed : (first : List ℕ) (calls : List Call) (old : List ℕ) (fuse 
     → left ≡ fuse - 1
     → Syncs (Err faults.Failed) (disk_after first calls old fuse) (disk_after first calls old left)
 sync_failed first calls old fuse left trips counted = record { durable = tt; seen = refl; crash = λ c now. inl now; time = same_elapses first calls old old fuse left; cause = failed_cause first calls calls old old fuse left trips counted }
-
--- what a crash leaves of one call more
-
-pub step_left : (first : List ℕ) (calls : List Call) (i : ℕ) (d : Call) (file left : List ℕ) → i < length calls
-    → LeftBy first (reverse (take i calls)) file → Adds file (get_or calls i d) left
-    → LeftBy first (reverse (take (i + 1) calls)) left
-step_left first calls i d file left within so adds =
-    let more : reverse (take (i + 1) calls) ≡ get_or calls i d ∷ reverse (take i calls) = ap reverse (take_more calls i d within) ∙ newest (take i calls) (get_or calls i d) in
-    subst (λ (l : List Call). LeftBy first l left) (sym more) (file, so, adds)

@@ -1,5 +1,5 @@
 -- A batch is written behind the closed gate, which is then opened.
-use Rattle.std.proofs.Common.{◌≡◌, inl, ℕ, ◌+◌, ◌≤◌, List, [], ◌∷◌, ◌++◌, length, length-append, take, drop, sym, ◌∙◌, ap, subst, arith, Result, Ok, Err, OnOk, length-take, length-drop}
+use Rattle.std.proofs.Common.{◌≡◌, inl, ℕ, ◌+◌, ◌≤◌, List, [], ◌∷◌, ◌++◌, length, take, drop, sym, ◌∙◌, ap, subst, arith, Result, Ok, Err, OnOk}
 use Rattle.std.specs.List.{AllByRecursion}
 use Rattle.tb_journal.specs.declared.faults.Fault.{Fault}
 use Rattle.tb_journal.specs.Device.{Disk, IsOnDisk, Torn, HasCause, overwritten}
@@ -33,20 +33,6 @@ pub done_kept : (at : ℕ) (bytes : List ℕ) (before mid : Disk) (result : Resu
     → result ≡ Ok tt → Overwrites at bytes result before mid
     → (mid.seen ≡ overwritten before.seen at bytes) × IsOnDisk mid
 done_kept at bytes before mid result is stage = subst (λ (r : Result (Unit {0}) Fault). OnOk r ((mid.seen ≡ overwritten before.seen at bytes) × IsOnDisk mid)) is stage.ok
-
--- a write makes no file shorter
-pub room_written : (at : ℕ) (bytes : List ℕ) (before mid : Disk) (result : Result (Unit {0}) Fault)
-    → result ≡ Ok tt → Overwrites at bytes result before mid → length before.seen ≤ length mid.seen
-room_written at bytes before mid result is stage =
-    let behind = drop (at + length bytes) before.seen in
-    omega (
-      arith,
-      ap length (done_kept at bytes before mid result is stage).0,
-      length-append (take at before.seen) (bytes ++ behind),
-      length-append bytes behind,
-      length-take at before.seen,
-      length-drop (at + length bytes) before.seen,
-    )
 
 opening : (batch : List ℕ) (records : List (List ℕ)) → batch ≡ at_rest records → 1 ≤ length records
     → 255 ∷ drop 1 batch ≡ at_rest records

@@ -1,53 +1,17 @@
 -- A file is read, what stands behind its records cut off, and its gate closed.
-use Rattle.std.proofs.Common.{◌≡◌, ⊎_elim, ℕ, ◌≤◌, List, [], ◌∷◌, ◌++◌, length, take, sym, ◌∙◌, ap, subst, arith, Result, Ok, Err, OnOk}
-use Rattle.std.proofs.lemmas.List.{take_all, length-take-le}
+use Rattle.std.proofs.Common.{◌≡◌, ℕ, ◌≤◌, List, [], ◌∷◌, ◌++◌, length, take, sym, ◌∙◌, ap, subst, arith, Result, Ok, Err, OnOk}
+use Rattle.std.proofs.lemmas.List.{length-take-le}
 use Rattle.tb_journal.specs.declared.faults.Fault.{Fault}
-use Rattle.tb_journal.specs.Device.{Disk, Only, IsOnDisk, Torn, Cut, LeavesOnly, HasCause, Cuts, Syncs, overwritten}
+use Rattle.tb_journal.specs.Device.{Disk, IsOnDisk, Torn, Cut, HasCause, overwritten}
 use Rattle.tb_journal.specs.Contents.{Records, contents, recorded, records_end}
 use Rattle.tb_journal.specs.Steps.{IsAtRest, Overwrites, Shortens}
 use Rattle.tb_journal.specs.Opening.{Repairs}
-use Rattle.tb_journal.proofs.Moments.{started, goes_on, then, weaker}
+use Rattle.tb_journal.proofs.Moments.{then, weaker}
 use Rattle.tb_journal.proofs.Kept.{has_cause_since}
 use Rattle.tb_journal.proofs.Steps.{within, cut_torn, close_torn, closes, reads_closed, front_closed}
 use Rattle.tb_journal.proofs.Publishing.{rests}
 
--- a cut and a sync
-
-cut_same : (n : ℕ) (file : List ℕ) → Cut n file file
-cut_same n file = record { no_shorter = omega arith; front = take_all (length file) file (omega arith) }
-
-cut_whole : (n : ℕ) (file : List ℕ) → n ≤ length file → Cut n file (take n file)
-cut_whole n file le =
-    let long : length (take n file) ≡ n = length-take-le n file le in
-    record { no_shorter = omega (arith, long); front = ap (λ (k : ℕ). take k file) long }
-
-module _ (n : ℕ) (before mid : Disk) (kept : IsOnDisk before) (fits : n ≤ length before.seen) (now : (c : List ℕ) → before.left_since before.moment c → before.may_leave c) (result : Result (Unit {0}) Fault) (cut : Cuts n result before mid) where
-  shorter : (c : List ℕ) → mid.may_leave c → Cut n before.seen c
-  shorter c left = let from = cut.crash c left in subst (λ (d : List ℕ). Cut n d c) (kept from.0 from.1) from.2
-
-  was_cut : LeavesOnly before mid (Cut n before.seen)
-  was_cut = goes_on before before mid (Cut n before.seen)
-      (started before (Cut n before.seen) (λ c left. subst (λ (d : List ℕ). Cut n before.seen d) (sym (kept c (now c left))) (cut_same n before.seen)))
-      cut.time shorter
-
-  pub shorten_failed : (f : Fault) → result ≡ Err f → Shortens n (Err f) before mid
-  shorten_failed f is = record { ok = tt; any_moment = was_cut; cause = subst (λ (r : Result (Unit {0}) Fault). HasCause r before mid) is cut.cause }
-
-  pub shorten_synced : (after : Disk) (synced : Result (Unit {0}) Fault) → result ≡ Ok tt → Syncs synced mid after → Shortens n synced before after
-  shorten_synced after synced is sync = record {
-    ok = done synced sync.durable;
-    any_moment = goes_on before mid after (Cut n before.seen) was_cut sync.time (λ c left. ⊎_elim (shorter c) (λ all. subst (Cut n before.seen) (sym (all ∙ seen)) (cut_whole n before.seen fits)) (sync.crash c left));
-    cause = has_cause_since before mid after synced cut.cause.later sync.cause;
-  }
-    where
-      seen : mid.seen ≡ take n before.seen
-      seen = subst (λ (r : Result (Unit {0}) Fault). OnOk r (mid.seen ≡ take n before.seen)) is cut.cut
-
-      done : (r : Result (Unit {0}) Fault) → OnOk r (Only mid.seen after.may_leave) → OnOk r ((after.seen ≡ take n before.seen) × IsOnDisk after)
-      done (Ok x) only = (sync.seen ∙ seen, subst (λ (l : List ℕ). Only l after.may_leave) (sym sync.seen) only)
-      done (Err f) only = tt
-
--- both, and the gate
+-- a cut that is on the disk, and the gate
 
 pub cut_kept_done : (n : ℕ) (before mid : Disk) (result : Result (Unit {0}) Fault) → result ≡ Ok tt → Shortens n result before mid → (mid.seen ≡ take n before.seen) × IsOnDisk mid
 cut_kept_done n before mid result is cut = subst (λ (r : Result (Unit {0}) Fault). OnOk r ((mid.seen ≡ take n before.seen) × IsOnDisk mid)) is cut.ok

@@ -10,7 +10,7 @@ use crate::calls::write_kept;
 use crate::devices::Device;
 use crate::faults::Fault;
 use crate::journals::Journal;
-use crate::opening::{NotOpened, OpenFault};
+use crate::opening::NotOpened;
 use crate::reading::MAGIC;
 use std::alloc::Global;
 
@@ -35,20 +35,9 @@ pub fn create<D: Device>(alloc: Global, device: D) -> Result<Journal<D>, NotOpen
 {
     let mut device = device;
     match finds_blank(&mut device) {
-        Ok(found) => {
-            if found {
-                begin(alloc, device)
-            } else {
-                Err(NotOpened {
-                    device,
-                    fault: OpenFault::Device(Fault::NotEmpty),
-                })
-            }
-        }
-        Err(fault) => Err(NotOpened {
-            device,
-            fault: OpenFault::Device(fault),
-        }),
+        Ok(true) => begin(alloc, device),
+        Ok(false) => Err(NotOpened::of_device(device, Fault::NotEmpty)),
+        Err(fault) => Err(NotOpened::of_device(device, fault)),
     }
 }
 
@@ -78,10 +67,8 @@ fn read_kept<D: Device>(device: &mut D, into: &mut [u8]) -> Result<usize, Fault>
         → LooksKept result (λ count. ReadsAt count 0 (D.disk device.old).seen into.new)
         (D.disk device.old) (D.disk device.new) }
 {
-    match device.sync() {
-        Ok(()) => device.read_at(0, into),
-        Err(fault) => Err(fault),
-    }
+    device.sync()?;
+    device.read_at(0, into)
 }
 
 // Writes over a blank file.
@@ -93,26 +80,18 @@ fn begin<D: Device>(alloc: Global, device: D) -> Result<Journal<D>, NotOpened<D>
     ensures of_device { IfErr result (λ failed. IsOfDevice failed.fault) }
     ensures cause { D.tells → HasCreateCause (fault_left result) (D.disk device) (D.disk (device_left result)) }
 {
-    match Batch::new(alloc) {
-        Ok(batch) => {
-            let mut device = device;
-            match write_first(&mut device) {
-                Ok(()) => Ok(Journal {
-                    device,
-                    end: MAGIC.len(),
-                    count: 0,
-                    batch,
-                }),
-                Err(fault) => Err(NotOpened {
-                    device,
-                    fault: OpenFault::Device(fault),
-                }),
-            }
-        }
-        Err(_) => Err(NotOpened {
+    let Ok(batch) = Batch::new(alloc) else {
+        return Err(NotOpened::of_device(device, Fault::Memory));
+    };
+    let mut device = device;
+    match write_first(&mut device) {
+        Ok(()) => Ok(Journal {
             device,
-            fault: OpenFault::Device(Fault::Memory),
+            end: MAGIC.len(),
+            count: 0,
+            batch,
         }),
+        Err(fault) => Err(NotOpened::of_device(device, fault)),
     }
 }
 

@@ -31,6 +31,18 @@ pub struct NotOpened<D: Device> {
     pub fault: OpenFault,
 }
 
+impl<D: Device> NotOpened<D> {
+    // Not opened for a fault of the device, or of memory: the file is no reason.
+    pub(crate) fn of_device(device: D, fault: Fault) -> NotOpened<D>
+        ensures { result ≡ record { device = device; fault = OpenFault.Device fault } }
+    {
+        NotOpened {
+            device,
+            fault: OpenFault::Device(fault),
+        }
+    }
+}
+
 // Cuts, and syncs.
 fn cut_kept<D: Device>(device: &mut D, len: usize) -> Result<(), Fault>
     requires kept { D.tells → IsOnDisk (D.disk device.old) }
@@ -75,31 +87,20 @@ impl<D: Device> Journal<D> {
     {
         let Extent { end, count } = extent;
         if end >= FILE_BYTES_MAX {
-            return Err(NotOpened {
-                device,
-                fault: OpenFault::Device(Fault::Full),
-            });
+            return Err(NotOpened::of_device(device, Fault::Full));
         }
-        match Batch::new(alloc) {
-            Ok(batch) => {
-                let mut device = device;
-                match repair(&mut device, end) {
-                    Ok(()) => Ok(Journal {
-                        device,
-                        end,
-                        count,
-                        batch,
-                    }),
-                    Err(fault) => Err(NotOpened {
-                        device,
-                        fault: OpenFault::Device(fault),
-                    }),
-                }
-            }
-            Err(_) => Err(NotOpened {
+        let Ok(batch) = Batch::new(alloc) else {
+            return Err(NotOpened::of_device(device, Fault::Memory));
+        };
+        let mut device = device;
+        match repair(&mut device, end) {
+            Ok(()) => Ok(Journal {
                 device,
-                fault: OpenFault::Device(Fault::Memory),
+                end,
+                count,
+                batch,
             }),
+            Err(fault) => Err(NotOpened::of_device(device, fault)),
         }
     }
 }

@@ -1,24 +1,6 @@
-use Rattle.std.proofs.Common.{arith, rules}
-use Rattle.tb_journal.proofs.Publishing.{room, room_written, done_kept, stage_failed, gate_done}
+use Rattle.std.proofs.Common.{rules}
+use Rattle.tb_journal.proofs.Publishing.{stage_failed, gate_done}
 use Rattle.tb_journal.proofs.calls.publish.Goals as goal
-
-pub write_kept-requires-clause-kept : goal.write_kept-requires-clause-kept
-write_kept-requires-clause-kept g c t = (c.requires.at_rest t).kept
-
-pub write_kept-requires-clause-within : goal.write_kept-requires-clause-within
-write_kept-requires-clause-within g c t =
-    omega (arith, room (g.D.Device.disk c.args.device.now) (c.requires.at_rest t) c.args.end (c.requires.ends t))
-
-pub write_kept-requires-in-Ok-clause-kept : goal.write_kept-requires-in-Ok-clause-kept
-write_kept-requires-in-Ok-clause-kept g c t = (done_kept _ _ _ _ c.write_kept.result c.in-Ok.is (c.write_kept.ensures t)).1
-
-pub write_kept-requires-in-Ok-clause-within : goal.write_kept-requires-in-Ok-clause-within
-write_kept-requires-in-Ok-clause-within g c t =
-    omega (
-      arith,
-      room (g.D.Device.disk c.args.device.now) (c.requires.at_rest t) c.args.end (c.requires.ends t),
-      room_written _ _ _ _ c.write_kept.result c.in-Ok.is (c.write_kept.ensures t),
-    )
 
 pub returns-in-Ok : goal.returns-in-Ok
 returns-in-Ok g c t records fits spells some =

@@ -1,6 +1,6 @@
 use Rattle.std.proofs.Common.{◌≡◌, ◌+◌, ◌∙◌, ap, arith, drop, refl, rules, subst, sym, take}
 use Rattle.tb_journal.specs.Scans.{Place, HasRead}
-use Rattle.tb_journal.proofs.Nexts.{block_within, step_ends, step_stays, step_spoiled, step_whole, too_far}
+use Rattle.tb_journal.proofs.Nexts.{step_ends, step_stays, step_spoiled, step_whole, too_far}
 use Rattle.tb_journal.specs.Handed.{HasTaken}
 use Rattle.tb_journal.proofs.Handing.{all_ahead, takes_end, takes_damage, takes_record}
 use Rattle.tb_journal.proofs.scans.Scan.next.Goals as goal
@@ -9,21 +9,6 @@ pub returns-then-self-ge-FILE_BYTES_MAX-clause-cause : goal.returns-then-self-ge
 returns-then-self-ge-FILE_BYTES_MAX-clause-cause g c t records read =
     let end : c.self.inside.end ≡ c.args.self.now.end = ap (λ (p : Place). p.end) c.self.view_is in
     too_far (g.D.Device.disk c.args.device.now) records c.args.self.now read (omega (arith, end, c.if-self-ge-FILE_BYTES_MAX.true))
-
-pub overflow_add-self : goal.overflow_add-self
-overflow_add-self g c =
-    let there = block_within c.head_at.new.window.ahead c.in-Ok-Whole.field-0 c.in-Ok-Whole.len c.in-Ok-Whole.field-0-is c.in-Ok-Whole.ensures.head in
-    omega (arith, there, c.in-Ok-Whole.ensures.short)
-
-pub overflow_add-self-in-Ok-Whole : goal.overflow_add-self-in-Ok-Whole
-overflow_add-self-in-Ok-Whole g c =
-    let there = block_within c.head_at.new.window.ahead c.in-Ok-Whole.field-0 c.in-Ok-Whole.len c.in-Ok-Whole.field-0-is c.in-Ok-Whole.ensures.head in
-    omega (arith, there, c.in-Ok-Whole.ensures.short, c.if-self-ge-FILE_BYTES_MAX.false)
-
-pub invariant_of-self-in-Ok-Whole : goal.invariant_of-self-in-Ok-Whole
-invariant_of-self-in-Ok-Whole g c =
-    let there = block_within c.head_at.new.window.ahead c.in-Ok-Whole.field-0 c.in-Ok-Whole.len c.in-Ok-Whole.field-0-is c.in-Ok-Whole.ensures.head in
-    (omega (arith, there, c.in-Ok-Whole.ensures.short, c.if-self-ge-FILE_BYTES_MAX.false), omega (arith, c.self.invariant.1))
 
 pub returns-in-Ok-End-clause-reads : goal.returns-in-Ok-End-clause-reads
 returns-in-Ok-End-clause-reads g c t records read =

@@ -1,4 +1,3 @@
-use Rattle.std.proofs.lemmas.Grind.{common_steps}
 use Rattle.std.proofs.Common.{◌≡◌, ◌≤◌, ◌+◌, ◌-◌, ◌∙◌, ap, arith, slice_range, subst, sym, take, vec_len}
 use Rattle.std.proofs.lemmas.Slice.{between_from_start}
 use Rattle.tb_journal.specs.Handed.{GoesOnAhead}
@@ -36,9 +35,3 @@ returns-clause-handed g c file same =
     c.in_ok-count.ensures.front ∙ kept_in_front k (vec_len c.move_down.new.bytes) c.grow.new.bytes.items moved old room c.in_ok-grow.ensures.front (c.move_down.ensures.front ∙ view) in
     subst (GoesOnAhead g.D.Device.gave c.args.at file) (sym (between_from_start buffer (k + c.in_ok-count.count)))
     (filled_on g.D.Device.gave c.args.at k c.in_ok-count.count file old buffer front (omega (arith, c.in_ok-count.ensures.within, all)) same c.in_ok-count.ensures.given)
-
-pub returns-then-n-self-clause-ahead : goal.returns-then-n-self-clause-ahead
-returns-then-n-self-clause-ahead g c = grind (arith, common_steps)
-
-pub invariant_of-self : goal.invariant_of-self
-invariant_of-self g c = grind (arith, common_steps)
