@@ -1,20 +1,23 @@
 //! What several tests and tools make or do: accounts, transfers and bodies of requests, each named by the fields in which it differs
-//! (ledger 700 and code 10 otherwise), and waiting for a thread.
+//! (ledger 700 and code 10 otherwise), waiting for a thread, and letting go of what a call did not take.
 //!
 //! Modules:
 //!
 //! - `records`: accounts and transfers, as they are asked for and as they are found.
 //! - `bodies`: what requests carry.
-//! - `waiting`: whether another thread has begun.
+//! - `waiting`: whether another thread has begun, or a number is as great.
+//! - `outcomes`: values that are let go where a call fails.
 #![tactic(auto)]
 
 mod bodies;
+mod outcomes;
 mod records;
 mod waiting;
 
 pub use bodies::{creation, lookup, transfers};
+pub use outcomes::{is_taken, whole};
 pub use records::{
     CODE, LEDGER, account, account_with, at, found, held, linked, post, transfer, transfer_with,
     void, with_timeout,
 };
-pub use waiting::has_begun;
+pub use waiting::{has_begun, reaches};
