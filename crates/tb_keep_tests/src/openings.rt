@@ -130,6 +130,12 @@ type Row = (
 
 const NOWHERE: usize = usize::MAX;
 
+/// The first entry may not come first.
+const OTHER_COMMIT: StartFault = StartFault::Entry(RestoreFault {
+    place: 1,
+    cause: Unfit::Commit,
+});
+
 /// Files of these records are refused.
 fn expect_refused(rt: &impl Abort, alloc: Global, rows: &[Row]) {
     for (first, second, third, at, fault) in rows {
@@ -181,16 +187,7 @@ const REFUSED: &[Row] = &[
             fault: FrameFault::Short,
         },
     ),
-    (
-        &HEAD,
-        &EARLY,
-        &[],
-        NOWHERE,
-        StartFault::Entry(RestoreFault {
-            place: 1,
-            cause: Unfit::Commit,
-        }),
-    ),
+    (&HEAD, &EARLY, &[], NOWHERE, OTHER_COMMIT),
     (
         &HEAD,
         &FIRST,
@@ -211,16 +208,7 @@ const REFUSED: &[Row] = &[
             cause: Unfit::NotNew,
         }),
     ),
-    (
-        &HEAD,
-        &EARLY,
-        &FIRST,
-        IN_THIRD,
-        StartFault::Entry(RestoreFault {
-            place: 1,
-            cause: Unfit::Commit,
-        }),
-    ),
+    (&HEAD, &EARLY, &FIRST, IN_THIRD, OTHER_COMMIT),
     (
         &HEAD,
         &FIRST,

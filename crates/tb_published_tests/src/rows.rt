@@ -32,28 +32,34 @@ const CLIENT_7: u128 = 0x07000000_00000000_00000000_00000000;
 /// The first bytes of a header: the client.
 const CLIENT_9: u128 = 0x09000000_00000000_00000000_00000000;
 
+/// The header of the register's reply, and of its repeat's.
+const REGISTERED: Header = [
+    CLIENT_7,
+    0x01000000_00000000_00000000_02000000,
+    0x00000000_01000000_00000000_00000000,
+];
+
+/// The header of the transfer's reply, and of its repeat's.
+const MOVED: Header = [
+    CLIENT_7,
+    0x01000000_00000000_03000000_82000000,
+    0x00000000_04000000_00000000_00000000,
+];
+
 /// Client 7 registers, again too, creates accounts 1 and 2, and looks them up.
 const FIRST_ROWS: [Row; 4] = [
     (
         (7, 0, 0),
         Asked::Register,
         Taken::Committed(1),
-        [
-            CLIENT_7,
-            0x01000000_00000000_00000000_02000000,
-            0x00000000_01000000_00000000_00000000,
-        ],
+        REGISTERED,
         false,
     ),
     (
         (7, 0, 0),
         Asked::Register,
         Taken::Repeat(1),
-        [
-            CLIENT_7,
-            0x01000000_00000000_00000000_02000000,
-            0x00000000_01000000_00000000_00000000,
-        ],
+        REGISTERED,
         false,
     ),
     (
@@ -86,22 +92,14 @@ const LATER_ROWS: [Row; 8] = [
         (7, 1, 3),
         Asked::Transfer(100),
         Taken::Committed(4),
-        [
-            CLIENT_7,
-            0x01000000_00000000_03000000_82000000,
-            0x00000000_04000000_00000000_00000000,
-        ],
+        MOVED,
         false,
     ),
     (
         (7, 1, 3),
         Asked::Transfer(100),
         Taken::Repeat(4),
-        [
-            CLIENT_7,
-            0x01000000_00000000_03000000_82000000,
-            0x00000000_04000000_00000000_00000000,
-        ],
+        MOVED,
         false,
     ),
     (

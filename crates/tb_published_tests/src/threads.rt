@@ -9,6 +9,7 @@ use std::process::Abort;
 use std::sync::Wait;
 use std::sync::atomic::{AtomicU64, Ordering};
 use std::thread::{self, Threads, join};
+use tb_fixtures::reaches;
 use tb_published::{Naming, Opening, Publisher, Seat, SeatFault, Taken, Told};
 use tb_records::{Body, Items, Profile, Request, Status};
 
@@ -27,13 +28,7 @@ impl Between {
 
     /// Waits until all four have; says whether they have.
     fn is_told(&self) -> bool {
-        for _ in 0..LOOKS {
-            if self.0.load(Ordering::SeqCst) >= 4 {
-                return true;
-            }
-            thread::yield_now();
-        }
-        false
+        reaches(&self.0, 4, LOOKS)
     }
 }
 

@@ -9,7 +9,8 @@ use std::marker::Brand;
 use std::process::Abort;
 use std::sync::Wait;
 use std::sync::atomic::{AtomicU64, Ordering};
-use std::thread::{self, Threads, join};
+use std::thread::{Threads, join};
+use tb_fixtures::reaches;
 use tb_published::{Naming, Opening, Publisher, Seat, SeatFault};
 use tb_records::{Reply, Request, Status};
 use tb_service::{Closed, Finished, Gate, Port, service as serve};
@@ -234,17 +235,6 @@ impl Watch {
     }
 }
 
-/// Waits until a number is as great; says whether it is.
-fn reaches(number: &AtomicU64, least: u64) -> bool {
-    for _ in 0..LOOKS {
-        if number.load(Ordering::SeqCst) >= least {
-            return true;
-        }
-        thread::yield_now();
-    }
-    false
-}
-
 /// A gate that says that a request stands before it, and lets it pass once ten seat calls were made.
 #[derive(Drop)]
 struct Waiting<'a>(&'a Watch);
@@ -254,7 +244,7 @@ impl Gate for Waiting<'_> {
 
     fn pass(&mut self, place: u64) {
         self.0.stands.store(place, Ordering::SeqCst);
-        if !reaches(&self.0.calls, 10) {
+        if !reaches(&self.0.calls, 10, LOOKS) {
             self.0.stands.store(0, Ordering::SeqCst);
         }
     }
@@ -282,7 +272,7 @@ fn call_ten<J: Naming>(
     request: &Request,
     watch: &Watch,
 ) -> bool {
-    let mut unseen = reaches(&watch.stands, 1);
+    let mut unseen = reaches(&watch.stands, 1, LOOKS);
     for turn in 0..5 {
         unseen = sees_nothing(one, request, turn) && unseen;
         watch.calls.fetch_add(1, Ordering::SeqCst);
