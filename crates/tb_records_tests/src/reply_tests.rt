@@ -127,33 +127,11 @@ fn is_sent(alloc: Global, reply: &Reply, bytes: &[u8]) -> bool {
     send_reply(&mut sink, reply).is_ok() && sink.into_inner().as_slice() == bytes
 }
 
-/// Says that both list the same.
-fn same_list(a: &ReplyBody, b: &ReplyBody) -> bool {
-    match (a, b) {
-        (ReplyBody::Empty, ReplyBody::Empty) => true,
-        (ReplyBody::Results(a), ReplyBody::Results(b)) => a.as_slice() == b.as_slice(),
-        (ReplyBody::Accounts(a), ReplyBody::Accounts(b)) => a.as_slice() == b.as_slice(),
-        (ReplyBody::Transfers(a), ReplyBody::Transfers(b)) => a.as_slice() == b.as_slice(),
-        _ => false,
-    }
-}
-
-/// Says that both replies are the same.
-fn same(a: &Reply, b: &Reply) -> bool {
-    a.client() == b.client()
-        && a.session() == b.session()
-        && a.request() == b.request()
-        && a.operation() == b.operation()
-        && a.status() == b.status()
-        && a.commit() == b.commit()
-        && same_list(a.body(), b.body())
-}
-
-/// Says that the reply is read from these bytes.
-fn is_read(alloc: Global, reply: &Reply, bytes: &[u8]) -> bool {
+/// Says that a reply is read from these bytes, which is written as the same bytes.
+fn is_read(alloc: Global, bytes: &[u8]) -> bool {
     match read_reply(alloc, bytes) {
         Ok((read, n)) => {
-            let is_same = n == bytes.len() && same(&read, reply);
+            let is_same = n == bytes.len() && is_written(alloc, &read, bytes);
             drop(read);
             is_same
         }
@@ -163,7 +141,7 @@ fn is_read(alloc: Global, reply: &Reply, bytes: &[u8]) -> bool {
 
 /// Says that the reply is written and sent as these bytes and read from them.
 fn is_both_ways(alloc: Global, reply: &Reply, bytes: &[u8]) -> bool {
-    is_written(alloc, reply, bytes) && is_sent(alloc, reply, bytes) && is_read(alloc, reply, bytes)
+    is_written(alloc, reply, bytes) && is_sent(alloc, reply, bytes) && is_read(alloc, bytes)
 }
 
 /// There is a reply, which is written and sent as these bytes and read from them.
@@ -497,7 +475,7 @@ fn read_back(alloc: Global, reply: &Reply) -> Result<Reply, FrameFault>
 fn replies_come_back(rt: HostRuntime) {
     let reply = found(rt.alloc()).expect(&rt, "a reply");
     let read = read_back(rt.alloc(), &reply).expect(&rt, "memory");
-    let is_same = same(&read, &reply);
+    let is_same = is_written(rt.alloc(), &read, &found_bytes());
     drop(read);
     drop(reply);
     holds(&rt, is_same, &"the reply");
@@ -508,7 +486,7 @@ fn largest_reply(rt: HostRuntime) {
     let most = many(rt.alloc(), ITEMS_MAX).expect(&rt, "a reply");
     let bytes = frame_of(rt.alloc(), &most).expect(&rt, "memory");
     let sizes = (most.body().len(), bytes.len());
-    let read = is_read(rt.alloc(), &most, bytes.as_slice());
+    let read = is_read(rt.alloc(), bytes.as_slice());
     let sent = is_sent(rt.alloc(), &most, bytes.as_slice());
     drop(bytes);
     drop(most);
