@@ -4,6 +4,7 @@ ghost use Rattle.tb_records.specs.Ordered.{Each};
 
 use crate::{Class, Row, Sessions};
 use std::alloc::Global;
+use std::mem;
 use std::process::Abort;
 use std::test::Fail;
 use tb_records::{Body, ClientsMax, Items, Reply, ReplyBody, Request, Status};
@@ -208,4 +209,52 @@ fn renew_before_full(rt: &impl Abort, alloc: Global, table: &mut Sessions) -> Re
 fn renewed_before_it_is_full(rt: HostRuntime) -> Result<(), Fail> {
     let mut table = table(rt.alloc(), 3)?;
     renew_before_full(&rt, rt.alloc(), &mut table)
+}
+
+/// Serves a request beside its client's row, which gets the request and the commit number, and answers that number. The request that
+/// the row had comes out.
+fn renew(table: &mut Sessions, commit: u64, request: &mut Request) -> Result<u64, Class>
+    requires { Each (λ (row : Row). row.commit < commit) table.old.rows }
+{
+    table.renew_with(
+        request,
+        &mut |request: &mut Request, row: &mut Row| {
+            row.commit = commit;
+            mem::swap(&mut row.request, request);
+            commit
+        },
+    )
+}
+
+/// Serves a request and leaves its client's row as it is, as where memory is refused: answers the row's commit number.
+fn leave(table: &mut Sessions, request: &mut Request) -> Result<u64, Class> {
+    table.renew_with(request, &mut |_: &mut Request, row: &mut Row| row.commit)
+}
+
+/// What comes of requests beside the row of client 7.
+fn serve_beside(rt: &impl Abort, alloc: Global, table: &mut Sessions) -> Result<(), Fail>
+    requires { table.old.rows ≡ [] }
+{
+    enter(rt, alloc, table, 1, register(7)?)?;
+    enter(rt, alloc, table, 2, lookup(alloc, 7, 1, 1, 10)?)?;
+    let mut request = lookup(alloc, 7, 1, 2, 10)?;
+    assert_eq!(rt; renew(table, 3, &mut request), Ok(3));
+    assert_eq!(rt; request.request(), 1);
+    let mut repeat = lookup(alloc, 7, 1, 2, 10)?;
+    assert_eq!(rt; leave(table, &mut repeat), Err(Class::Repeat));
+    let mut next = lookup(alloc, 7, 1, 3, 10)?;
+    assert_eq!(rt; leave(table, &mut next), Ok(3));
+    assert_eq!(rt; table.classify(&next), Class::New);
+    assert_eq!(rt;
+        leave(table, &mut lookup(alloc, 9, 1, 1, 10)?),
+        Err(Class::NoSession)
+    );
+    assert_eq!(rt; leave(table, &mut register(9)?), Err(Class::New));
+    Ok(())
+}
+
+#[test]
+fn served_beside_its_row(rt: HostRuntime) -> Result<(), Fail> {
+    let mut table = table(rt.alloc(), 2)?;
+    serve_beside(&rt, rt.alloc(), &mut table)
 }
