@@ -11,7 +11,7 @@ use Rattle.tb_sessions.specs.Judged.{client_of, row_of, class_by, class_of}
 use Rattle.tb_sessions.specs.Renewal.{IsNewBeside, IsLater, IsRenewal}
 use Rattle.std.specs.declared.alloc.AllocError.{AllocError}
 use Rattle.tb_records.specs.declared.faults.FrameFault.{FrameFault}
-use Rattle.tb_records.specs.Transport.{Output}
+use Rattle.tb_records.specs.Transport.{Output, IsSent}
 use Rattle.tb_records.specs.ReplyFrames.{reply_bytes, IsReply}
 use Rattle.tb_machine.specs.declared.entries.Entry.{Entry}
 use Rattle.tb_machine.specs.declared.serving.RunFault.{RunFault}
@@ -20,7 +20,7 @@ use Rattle.tb_machine.specs.Runs.{AnswersPair}
 use Rattle.tb_machine.proofs.Turns.{entered_turn}
 use Rattle.tb_machine.specs.Histories.{State, is_new, time_of, fits, executed, reply_at, step}
 use Rattle.tb_machine.specs.Scripts.{Pair, entry_of, has_time}
-use Rattle.tb_machine.specs.Serving.{made, row_in, IsSent, Steps, Outcome}
+use Rattle.tb_machine.specs.Serving.{made, row_in, Steps, Outcome}
 use Rattle.tb_machine.specs.Sound.{IsSound}
 use Rattle.tb_machine.proofs.Judging.{comes}
 use Rattle.tb_machine.proofs.Lawful.{lawful_numbers}

@@ -1,6 +1,5 @@
 -- What a dump makes of a script: the pairs that it read, the entries that it wrote, and what ended it.
-use Rattle.std.specs.Prelude.{ℕ, Bool, true, false, ◌==◌, ◌≡◌, ◌⊎◌, ◌-◌, ◌^◌, List, [], ◌∷◌, ◌++◌, length, Option, Some, None, Result, Ok, Err, MatchResult, if◌then◌else◌}
-use Rattle.tb_records.specs.declared.faults.FrameFault.{FrameFault}
+use Rattle.std.specs.Prelude.{ℕ, Bool, true, false, ◌==◌, ◌≡◌, ◌⊎◌, ◌-◌, ◌^◌, List, [], ◌∷◌, ◌++◌, length, Option, Some, None, Result, Ok, Err, if◌then◌else◌}
 use Rattle.tb_records.specs.declared.faults.FrameFault.TheVariants.{Device}
 use Rattle.tb_records.specs.declared.limits.Profile.TheVariants.{One}
 use Rattle.tb_records.specs.DumpBytes.{head_bytes, mark_bytes}
@@ -31,10 +30,6 @@ changed_profile due S = if due then to_two S else S
 -- what the entry of a new pair adds to a dump
 abbrev pub added_bytes : Option ℕ → State → Pair → List ℕ
 added_bytes at S p = mark_before (marks_at at S.commit) ++ dumped (entry_of S p)
-
--- the bytes were written, or the writer's fault left a prefix of them
-abbrev pub Written : Result (Unit {0}) FrameFault → List ℕ → Output → Output → Type 0
-Written result bytes before after = MatchResult result (λ _. Sent bytes before after) (λ f. (f ≡ Device) × CutOff bytes before after)
 
 -- a new pair's entry is written, with the mark where that stands before it; of any other pair nothing is
 abbrev pub DumpsPair : Result (Unit {0}) RunFault → Option ℕ → State → State → Pair → Output → Output → Type 0

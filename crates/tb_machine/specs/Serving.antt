@@ -4,7 +4,7 @@ use Rattle.std.specs.declared.alloc.AllocError.{AllocError}
 use Rattle.tb_records.specs.declared.faults.FrameFault.{FrameFault}
 use Rattle.tb_records.specs.declared.faults.FrameFault.TheVariants.{Device}
 use Rattle.tb_records.specs.AtHand.{holds_pair, holds_item}
-use Rattle.tb_records.specs.Transport.{Input, Output, Sent, CutOff}
+use Rattle.tb_records.specs.Transport.{Input, Output, Sent, CutOff, IsSent}
 use Rattle.tb_machine.specs.declared.serving.RunFault.{RunFault}
 use Rattle.tb_machine.specs.declared.serving.RunFault.TheVariants as fault
 use Rattle.tb_records.specs.Messages.{Message, Answer}
@@ -22,10 +22,6 @@ IsPromptForPair input output = holds_pair input.at_hand ≡ false → output.hel
 
 abbrev pub IsPromptForItem : Input → Output → Type 0
 IsPromptForItem input output = holds_item input.at_hand ≡ false → output.held ≡ false
-
--- the bytes were written, or the device failed and left a prefix of them
-abbrev pub IsSent : Result (Unit {0}) FrameFault → List ℕ → Output → Output → Type 0
-IsSent result bytes before after = MatchResult result (λ _. Sent bytes before after) (λ f. (f ≡ Device) × CutOff bytes before after)
 
 -- the bytes were written, or the writer's fault left a prefix of them
 abbrev pub Delivers : Result (Unit {0}) RunFault → List ℕ → Output → Output → Type 0

@@ -3,10 +3,10 @@ ghost use Rattle.std.specs.Prelude.{◌≡◌, ◌++◌, true, false, IfOk, Matc
 ghost use Rattle.std.specs.Option.{is_some};
 ghost use Rattle.tb_records.specs.declared.limits.Profile.TheVariants.{One};
 ghost use Rattle.tb_records.specs.DumpBytes.{head_bytes, entry_bytes, IsClients};
-ghost use Rattle.tb_records.specs.Transport.{Sent, CutOff};
+ghost use Rattle.tb_records.specs.Transport.{Sent, CutOff, IsSent};
 ghost use Rattle.tb_ledger.specs.Books.{profile_of};
 ghost use Rattle.tb_sessions.specs.Judged.{class_of, row_of};
-ghost use Rattle.tb_machine.specs.DumpRuns.{mark_before, marks_at, changed_profile, DumpRan, DumpsOn, DumpsPair, Written};
+ghost use Rattle.tb_machine.specs.DumpRuns.{mark_before, marks_at, changed_profile, DumpRan, DumpsOn, DumpsPair};
 ghost use Rattle.tb_machine.specs.Serving.{IsPromptForPair};
 
 use crate::machines::Machine;
@@ -69,7 +69,7 @@ fn write_head<W: Sink>(writer: &mut W, clients_max: ClientsMax) -> Result<(), Ru
 
 /// Writes a mark where one is due.
 fn write_mark<W: Sink>(writer: &mut W, due: bool) -> Result<(), FrameFault>
-    ensures { Written result (mark_before due) (W.output writer.old) (W.output writer.new) }
+    ensures { IsSent result (mark_before due) (W.output writer.old) (W.output writer.new) }
 {
     if due { send_mark(writer) } else { Ok(()) }
 }
@@ -82,7 +82,7 @@ fn write_entry<W: Sink>(
     time: u64,
     request: &Request,
 ) -> Result<(), FrameFault>
-    ensures { Written result (mark_before due ++ entry_bytes commit time request.now)
+    ensures { IsSent result (mark_before due ++ entry_bytes commit time request.now)
         (W.output writer.old) (W.output writer.new) }
 {
     write_mark(writer, due)?;

@@ -6,9 +6,10 @@ ghost use Rattle.tb_ledger.specs.Books.{account_now, profile_of, transfer_at, fo
 ghost use Rattle.tb_ledger.specs.Verdicts.{max_time};
 ghost use Rattle.tb_sessions.specs.Judged.{class_of, row_of};
 ghost use Rattle.tb_records.specs.ReplyFrames.{reply_bytes, IsReply};
+ghost use Rattle.tb_records.specs.Transport.{IsSent};
 ghost use Rattle.tb_machine.specs.Histories.{start, step, reply_at, to_two, fits, is_new, least_time};
 ghost use Rattle.tb_machine.specs.Scripts.{entry_of, has_time};
-ghost use Rattle.tb_machine.specs.Serving.{IsSent, Steps};
+ghost use Rattle.tb_machine.specs.Serving.{Steps};
 
 use crate::entries::Entry;
 use crate::executing::{row_for, serve_row};

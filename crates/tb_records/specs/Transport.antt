@@ -104,6 +104,6 @@ pub record CutOff (bytes : List ℕ) (before after : Output) : Type 0 where
   pub grown : Appends before.written after.written (take count bytes)
   pub refused : Refuses before after
 
--- what a writer of all the bytes answers: they were written, or else Device: a beginning of them was
+-- the bytes were written, or the device failed and left a prefix of them
 abbrev pub IsSent : Result Unit FrameFault → List ℕ → Output → Output → Type 0
 IsSent result bytes before after = MatchResult result (λ _. Sent bytes before after) (λ f. (f ≡ Device) × CutOff bytes before after)
