@@ -11,6 +11,7 @@ use std::rt::Clock;
 use std::sync::Wait;
 use std::thread::{self, Threads};
 use std::time::Instant;
+use tb_fixtures::{is_taken, whole};
 use tb_published::{Naming, Opening, Publisher, SeatCount, open};
 use tb_records::Request;
 use tb_service::{Finished, Moments, Open, Port, PortCount, service};
@@ -105,13 +106,8 @@ fn put_requests(
 /// An order of a client, counted from 0.
 fn make_order(alloc: Global, client: u32, scale: Scale, order: u32) -> Result<Vec<Request>, Error> {
     let mut requests = Vec::with_capacity(alloc, scale.each as usize)?;
-    match put_requests(alloc, &mut requests, client, scale, order) {
-        Ok(()) => Ok(requests),
-        Err(fault) => {
-            drop(requests);
-            Err(fault)
-        }
-    }
+    let put = put_requests(alloc, &mut requests, client, scale, order);
+    whole(requests, put)
 }
 
 /// Hands several requests over in one order, and says whether the server took it.
@@ -120,24 +116,7 @@ fn offer_many<R: Wait>(rt: &R, port: &mut Port, order: Vec<Request>) -> bool {
         drop(order);
         return false;
     }
-    match port.offer_many(rt, order) {
-        Ok(()) => true,
-        Err(back) => {
-            drop(back);
-            false
-        }
-    }
-}
-
-/// Hands a request over, and says whether the server took it.
-fn offer_one<R: Wait>(rt: &R, port: &mut Port, request: Request) -> bool {
-    match port.offer(rt, request) {
-        Ok(()) => true,
-        Err(back) => {
-            drop(back);
-            false
-        }
-    }
+    is_taken(port.offer_many(rt, order))
 }
 
 /// Hands an order over, and says whether the server took it.
@@ -148,7 +127,7 @@ fn offer<R: Wait>(rt: &R, port: &mut Port, mut order: Vec<Request>) -> bool {
     let last = order.pop();
     drop(order);
     match last {
-        Some(request) => offer_one(rt, port, request),
+        Some(request) => is_taken(port.offer(rt, request)),
         None => false,
     }
 }
@@ -180,13 +159,8 @@ fn add_clients(
 /// The clients of ports, with the numbers from 1 on.
 fn make_clients(alloc: Global, ports: Vec<Port>, scale: Scale) -> Result<Vec<Client>, Error> {
     let mut clients = Vec::new(alloc);
-    match add_clients(alloc, &mut clients, ports, scale) {
-        Ok(()) => Ok(clients),
-        Err(fault) => {
-            drop(clients);
-            Err(fault)
-        }
-    }
+    let added = add_clients(alloc, &mut clients, ports, scale);
+    whole(clients, added)
 }
 
 /// Each client hands its orders over in a thread of its own; then all ports are closed.

@@ -140,31 +140,14 @@ fn is_right_status(
     }
 }
 
-/// Says that the machine finds these accounts by the lookup of a number.
-fn are_right_accounts(
-    machine: &Machine<Global>,
-    lookup: u64,
-    accounts: &[Account],
+/// Says that a lookup found what was told.
+fn is_found<T: PartialEq + Drop>(
+    found: Result<Vec<T>, AllocError>,
+    told: &[T],
 ) -> Result<bool, Fault> {
-    match machine.lookup_accounts(&account_ids(lookup)) {
+    match found {
         Ok(found) => {
-            let same = found.as_slice() == accounts;
-            drop(found);
-            Ok(same)
-        }
-        Err(AllocError) => Err(Fault::NoMemory),
-    }
-}
-
-/// Says that the machine finds these transfers by the lookup of a number.
-fn are_right_transfers(
-    machine: &Machine<Global>,
-    lookup: u64,
-    transfers: &[Transfer],
-) -> Result<bool, Fault> {
-    match machine.lookup_transfers(&transfer_ids(lookup)) {
-        Ok(found) => {
-            let same = found.as_slice() == transfers;
+            let same = found.as_slice() == told;
             drop(found);
             Ok(same)
         }
@@ -178,10 +161,12 @@ fn is_right(alloc: Global, machine: &Machine<Global>, answer: &Answer) -> Result
         Answer::Reply(asked, reply) => is_right_reply(alloc, machine, *asked, reply),
         Answer::Status(asked, status) => is_right_status(alloc, machine, *asked, *status),
         Answer::Accounts(lookup, accounts) => {
-            are_right_accounts(machine, *lookup, accounts.as_slice())
+            let found = machine.lookup_accounts(&account_ids(*lookup));
+            is_found(found, accounts.as_slice())
         }
         Answer::Transfers(lookup, transfers) => {
-            are_right_transfers(machine, *lookup, transfers.as_slice())
+            let found = machine.lookup_transfers(&transfer_ids(*lookup));
+            is_found(found, transfers.as_slice())
         }
     }
 }

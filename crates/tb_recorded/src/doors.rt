@@ -4,6 +4,7 @@ ghost use Rattle.std.specs.Prelude.{◌≡◌, Some};
 use crate::faults::Fault;
 use std::marker::PhantomData;
 use std::sync::Wait;
+use tb_fixtures::is_taken;
 use tb_published::{Naming, Seat};
 use tb_records::{Reply, Request};
 use tb_service::{Closed, Port};
@@ -60,12 +61,10 @@ impl<S: Serving> Door<S> {
 
     /// Hands one request over.
     pub fn offer<R: Wait>(&mut self, rt: &R, request: Request) -> Result<(), Fault> {
-        match self.port.offer(rt, request) {
-            Ok(()) => Ok(()),
-            Err(back) => {
-                drop(back);
-                Err(Fault::Gone)
-            }
+        if is_taken(self.port.offer(rt, request)) {
+            Ok(())
+        } else {
+            Err(Fault::Gone)
         }
     }
 
@@ -75,12 +74,10 @@ impl<S: Serving> Door<S> {
             drop(requests);
             return Err(Fault::Gone);
         }
-        match self.port.offer_many(rt, requests) {
-            Ok(()) => Ok(()),
-            Err(back) => {
-                drop(back);
-                Err(Fault::Gone)
-            }
+        if is_taken(self.port.offer_many(rt, requests)) {
+            Ok(())
+        } else {
+            Err(Fault::Gone)
         }
     }
 }

@@ -1,5 +1,6 @@
 //! Why a recorded run does not come to its audit's end.
 use std::alloc::AllocError;
+use tb_fixtures::is_taken;
 use tb_published::{OpenFault, SeatFault};
 
 /// Why a recorded run does not come to its audit's end.
@@ -45,11 +46,9 @@ impl From<SeatFault> for Fault {
 
 /// Appends an item.
 pub fn add<T: Drop>(all: &mut Vec<T>, item: T) -> Result<(), Fault> {
-    match all.push(item) {
-        Ok(()) => Ok(()),
-        Err(back) => {
-            drop(back);
-            Err(Fault::NoMemory)
-        }
+    if is_taken(all.push(item)) {
+        Ok(())
+    } else {
+        Err(Fault::NoMemory)
     }
 }

@@ -15,7 +15,7 @@ use std::marker::Brand;
 use std::sync::Wait;
 use std::sync::atomic::{AtomicBool, Ordering};
 use std::thread::{self, Threads};
-use tb_fixtures::has_begun;
+use tb_fixtures::{has_begun, whole};
 use tb_published::{Naming, Opening, Seat, SeatCount, open};
 use tb_service::{Finished, Moments, Open, Port, PortCount, Server, service};
 
@@ -102,13 +102,8 @@ fn make_clients<J: Naming, S: Serving>(
     requires { All (λ port. S.service ≡ Some port.service) ports.items }
 {
     let mut clients = Vec::new(alloc);
-    match add_clients(alloc, &mut clients, ports, seats, seed) {
-        Ok(()) => Ok(clients),
-        Err(fault) => {
-            drop(clients);
-            Err(fault)
-        }
-    }
+    let added = add_clients(alloc, &mut clients, ports, seats, seed);
+    whole(clients, added)
 }
 
 /// Appends a note for each client.
@@ -155,13 +150,7 @@ fn close_all<J: Naming, S: Serving, R: Wait>(
     for client in clients {
         closed = closed.and(close_one(rt, &mut all, client));
     }
-    match closed {
-        Ok(()) => Ok(all),
-        Err(fault) => {
-            drop(all);
-            Err(fault)
-        }
-    }
+    whole(all, closed)
 }
 
 /// Once the server has begun all clients take their steps; then the ports are closed.

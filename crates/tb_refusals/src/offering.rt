@@ -8,6 +8,7 @@ use crate::scripts::{Pair, Work, copy_all, put_history};
 use crate::troubles::{Trouble, Why, expect, note};
 use std::alloc::{AllocError, Global};
 use std::sync::Wait;
+use tb_fixtures::is_taken;
 use tb_published::{Naming, Opening, Publisher, Seat, SeatCount, TakeFault};
 use tb_records::{ClientsMax, Request};
 use tb_service::{Closed, Ended, Finished, Moments, Open, Port, PortCount, Server, service};
@@ -102,13 +103,7 @@ fn two_ports<'a, J: Naming, R: Wait + Eprint>(
 fn offer<R: Wait>(rt: &R, request: Request, port: &mut Port) -> bool
     ensures { port.new.service ≡ port.old.service }
 {
-    match port.offer(rt, request) {
-        Ok(()) => true,
-        Err(back) => {
-            drop(back);
-            false
-        }
-    }
+    is_taken(port.offer(rt, request))
 }
 
 /// Offers a request by the port whose turn it is; false where it comes back.
