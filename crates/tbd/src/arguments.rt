@@ -1,6 +1,6 @@
 //! What the words of the command line ask for.
 ghost use Rattle.std.specs.Prelude.{◌≡◌, map, string_bytes};
-ghost use Rattle.tbd.specs.Forms.{form_alone, form_of, form_over, run_by, run_form};
+ghost use Rattle.tbd.specs.Forms.{form_alone, form_of, form_over, run_form};
 
 use std::alloc::{AllocError, Global};
 use tb_commands::{read_clients_max, read_profile};
@@ -25,12 +25,10 @@ pub enum Form {
 fn form_alone(word: &str) -> Option<Form>
     ensures { result ≡ form_alone word.now }
 {
-    if word == "--help" || word == "-h" {
-        Some(Form::Help)
-    } else if word == "--version" {
-        Some(Form::Version)
-    } else {
-        None
+    match word {
+        "--help" | "-h" => Some(Form::Help),
+        "--version" => Some(Form::Version),
+        _ => None,
     }
 }
 
@@ -38,21 +36,9 @@ fn form_alone(word: &str) -> Option<Form>
 fn form_over(word: &str) -> Option<Form>
     ensures { result ≡ form_over word.now }
 {
-    if word == "dump" {
-        Some(Form::Dump)
-    } else if word == "check" {
-        Some(Form::Check)
-    } else {
-        None
-    }
-}
-
-/// `run`, with these clients and profile.
-fn run_by(clients_max: Option<ClientsMax>, profile: Option<Profile>) -> Option<Form>
-    ensures { result ≡ run_by clients_max profile }
-{
-    match (clients_max, profile) {
-        (Some(clients_max), Some(profile)) => Some(Form::Run(clients_max, profile)),
+    match word {
+        "dump" => Some(Form::Dump),
+        "check" => Some(Form::Check),
         _ => None,
     }
 }
@@ -61,11 +47,10 @@ fn run_by(clients_max: Option<ClientsMax>, profile: Option<Profile>) -> Option<F
 fn run_form(word: &str, clients_max: &str, profile_given: Option<Profile>) -> Option<Form>
     ensures { result ≡ run_form word.now clients_max.now profile_given }
 {
-    if word == "run" {
-        run_by(read_clients_max(clients_max.as_bytes()), profile_given)
-    } else {
-        None
+    if word != "run" {
+        return None;
     }
+    Some(Form::Run(read_clients_max(clients_max.as_bytes())?, profile_given?))
 }
 
 /// What the words ask for, None where they are not a form of the program's arguments. The second word is the file.
