@@ -2,12 +2,11 @@
 use Rattle.std.proofs.Common.{ℕ, ◌≡◌, inr, true, false, List, [], ◌∷◌, ◌++◌, Result, Ok, Err, refl, sym, ap, ◌∙◌, subst, append_assoc, append-nil}
 use Rattle.tb_records.specs.declared.faults.FrameFault.{FrameFault}
 use Rattle.tb_records.specs.DumpBytes.{head_bytes}
-use Rattle.tb_records.specs.Transport.{Output, Sent, CutOff}
+use Rattle.tb_records.specs.Transport.{Output, Sent, CutOff, IsSent}
 use Rattle.tb_records.proofs.Sendings.{sent_rest}
 use Rattle.tb_journal.specs.declared.opening.OpenFault.{OpenFault}
 use Rattle.tb_journal.specs.Contents.{Records, contents, records_of}
 use Rattle.tb_journal.specs.Scans.{Place, BeginsWith}
-use Rattle.tb_machine.specs.DumpRuns.{Written}
 use Rattle.tb_machine.proofs.Running.{sends_none}
 use Rattle.tb_keep.specs.declared.faults.DumpFault.{DumpFault}
 use Rattle.tb_keep.specs.declared.faults.DumpFault.TheVariants as dump
@@ -43,8 +42,8 @@ joined_snoc : (front : List (List ℕ)) (bytes : List ℕ) → joined front ++ b
 joined_snoc front bytes = ap (λ (l : List ℕ). joined front ++ l) (sym (append-nil bytes)) ∙ sym (joined_join front (bytes ∷ []))
 
 -- one more record was sent, or a prefix of it
-send_one : (front : List (List ℕ)) (bytes : List ℕ) (old mid new : Output) → Sent (joined front) old mid → (result : Result (Unit {0}) FrameFault) → Written result bytes mid new
-    → Written result (joined (front ++ bytes ∷ [])) old new
+send_one : (front : List (List ℕ)) (bytes : List ℕ) (old mid new : Output) → Sent (joined front) old mid → (result : Result (Unit {0}) FrameFault) → IsSent result bytes mid new
+    → IsSent result (joined (front ++ bytes ∷ [])) old new
 send_one front bytes old mid new sent result more = sent_rest (joined front) bytes old mid new (joined (front ++ bytes ∷ [])) (joined_snoc front bytes) sent result more
 
 -- so far these were sent
@@ -106,5 +105,5 @@ module _ (rules : Rules) (file : List ℕ) (old mid new : Output) where
   dumps_behind (Err (dump.Writer f)) sent (is, (records, begins, cut)) =
       (is, (records, begins, (sent_rest head (joined (behind_head records)) old mid new (dump_with rules records) refl sent (Err f) (is, cut)).1))
 
-  pub dumps_some_head : (fault : FrameFault) → BeginsWith [] file → Written (Err fault) head old new → Dumps (Err (dump.Writer fault)) rules file old new
+  pub dumps_some_head : (fault : FrameFault) → BeginsWith [] file → IsSent (Err fault) head old new → Dumps (Err (dump.Writer fault)) rules file old new
   dumps_some_head fault begins (is, cut) = (is, ([], begins, subst (λ (l : List ℕ). CutOff l old new) (sym (append-nil head)) cut))
