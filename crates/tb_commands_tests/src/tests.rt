@@ -4,21 +4,40 @@ use std::process::Abort;
 use tb_commands::command;
 use tb_records::Counting;
 
-/// The reply to client 7's register: session 1, commit 1.
+/// The moment 10, then the frame by which client 7 registers.
+const REGISTER: [u8; 56] = [
+    10, 0, 0, 0, 0, 0, 0, 0, // the moment
+    7, 0, 0, 0, 0, 0, 0, 0, 0, 0, 0, 0, 0, 0, 0, 0, // client
+    0, 0, 0, 0, 0, 0, 0, 0, 0, 0, 0, 0, 2, 0, 0, 0, // session, request, operation
+    0, 0, 0, 0, 0, 0, 0, 0, 0, 0, 0, 0, 0, 0, 0, 0, // length
+];
+
+/// The reply: session 1, commit 1.
 const REGISTERED: [u8; 48] = [
     7, 0, 0, 0, 0, 0, 0, 0, 0, 0, 0, 0, 0, 0, 0, 0, // client
     1, 0, 0, 0, 0, 0, 0, 0, 0, 0, 0, 0, 2, 0, 0, 0, // session, request, operation, status
     0, 0, 0, 0, 1, 0, 0, 0, 0, 0, 0, 0, 0, 0, 0, 0, // length, commit
 ];
 
-/// A moment, then the frame by which a client registers.
-fn register(moment: u64, client: u8) -> [u8; 56] {
-    let mut bytes = [0; 56];
-    bytes[..8].copy_from_slice(&moment.to_le_bytes());
-    bytes[8] = client;
-    bytes[36] = 2; // operation
-    bytes
-}
+/// Client 7 registers at the last moment; for client 8 there is no time.
+const LAST: [u8; 112] = [
+    255, 255, 255, 255, 255, 255, 255, 127, // the moment 2^63 - 1
+    7, 0, 0, 0, 0, 0, 0, 0, 0, 0, 0, 0, 0, 0, 0, 0, // client
+    0, 0, 0, 0, 0, 0, 0, 0, 0, 0, 0, 0, 2, 0, 0, 0, // session, request, operation
+    0, 0, 0, 0, 0, 0, 0, 0, 0, 0, 0, 0, 0, 0, 0, 0, // length
+    0, 0, 0, 0, 0, 0, 0, 0, // the moment
+    8, 0, 0, 0, 0, 0, 0, 0, 0, 0, 0, 0, 0, 0, 0, 0, // client
+    0, 0, 0, 0, 0, 0, 0, 0, 0, 0, 0, 0, 2, 0, 0, 0, // session, request, operation
+    0, 0, 0, 0, 0, 0, 0, 0, 0, 0, 0, 0, 0, 0, 0, 0, // length
+];
+
+/// Client 7 registers when there is no time.
+const TOO_LATE: [u8; 56] = [
+    0, 0, 0, 0, 0, 0, 0, 128, // the moment 2^63
+    7, 0, 0, 0, 0, 0, 0, 0, 0, 0, 0, 0, 0, 0, 0, 0, // client
+    0, 0, 0, 0, 0, 0, 0, 0, 0, 0, 0, 0, 2, 0, 0, 0, // session, request, operation
+    0, 0, 0, 0, 0, 0, 0, 0, 0, 0, 0, 0, 0, 0, 0, 0, // length
+];
 
 /// What a command left.
 #[derive(Drop)]
@@ -87,7 +106,7 @@ fn empty_script(rt: HostRuntime) -> Result<(), AllocError> {
 #[test]
 fn first_register(rt: HostRuntime) -> Result<(), AllocError> {
     for words in [["run", "2", "1"], ["run", "002", "2"], ["run", "64", "01"]] {
-        expect(&rt, &words, &register(10, 7), 0, &REGISTERED, "")?;
+        expect(&rt, &words, &REGISTER, 0, &REGISTERED, "")?;
     }
     Ok(())
 }
@@ -115,28 +134,21 @@ fn usage(rt: HostRuntime) -> Result<(), AllocError> {
         &["replay", "2"],
     ];
     for words in wrong {
-        expect(&rt, words, &register(10, 7), 2, &[], "tbs: Usage\n")?;
+        expect(&rt, words, &REGISTER, 2, &[], "tbs: Usage\n")?;
     }
     Ok(())
 }
 
 #[test]
 fn script_cut(rt: HostRuntime) -> Result<(), AllocError> {
-    expect(
-        &rt,
-        &["run", "2"],
-        &register(10, 7)[..55],
-        2,
-        &[],
-        "tbs: Short\n",
-    )
+    expect(&rt, &["run", "2"], &REGISTER[..55], 2, &[], "tbs: Short\n")
 }
 
 /// The second frame ends after 47 bytes: the first reply is written.
 #[test]
 fn second_frame_cut(rt: HostRuntime) -> Result<(), AllocError> {
-    let mut script = Vec::from_slice(rt.alloc(), &register(10, 7))?;
-    script.extend_from_slice(&register(10, 7)[..55])?;
+    let mut script = Vec::from_slice(rt.alloc(), &REGISTER)?;
+    script.extend_from_slice(&REGISTER[..55])?;
     expect(
         &rt,
         &["run", "2"],
@@ -150,9 +162,7 @@ fn second_frame_cut(rt: HostRuntime) -> Result<(), AllocError> {
 /// Client 7 registers at the last moment; for client 8 there is no time. At the moment 2^63 there is none for the first.
 #[test]
 fn time_runs_out(rt: HostRuntime) -> Result<(), AllocError> {
-    let mut last = Vec::from_slice(rt.alloc(), &register(i64::MAX as u64, 7))?;
-    last.extend_from_slice(&register(0, 8))?;
-    let rows: [(&[u8], &[u8]); 2] = [(last.as_slice(), &REGISTERED), (&register(1 << 63, 7), &[])];
+    let rows: [(&[u8], &[u8]); 2] = [(&LAST, &REGISTERED), (&TOO_LATE, &[])];
     for (script, replies) in rows {
         expect(
             &rt,
@@ -169,7 +179,7 @@ fn time_runs_out(rt: HostRuntime) -> Result<(), AllocError> {
 /// Its replay is the reply; with 10 bytes more, which are no entry, the reply and a fault.
 fn expect_replay<R: Abort + AllocGlobal>(rt: &R, mut dump: Vec<u8>) -> Result<(), AllocError> {
     expect(rt, &["replay"], dump.as_slice(), 0, &REGISTERED, "")?;
-    dump.extend_from_slice(&[1; 10])?;
+    dump.extend_from_slice(&REGISTER[..10])?;
     expect(
         rt,
         &["replay"],
@@ -184,7 +194,7 @@ fn expect_replay<R: Abort + AllocGlobal>(rt: &R, mut dump: Vec<u8>) -> Result<()
 #[test]
 fn dump_and_replay(rt: HostRuntime) -> Result<(), AllocError> {
     for words in [["dump", "2", "1"], ["dump", "02", "9223372036854775807"]] {
-        let dump = replies_to(&rt, &words, &register(10, 7), 0, "")?;
+        let dump = replies_to(&rt, &words, &REGISTER, 0, "")?;
         assert!(rt; dump.len() == 80);
         assert_eq!(rt; &dump[..16], b"TBSDUMP1\x01\0\0\0\x02\0\0\0".as_slice());
         expect_replay(&rt, dump)?;
