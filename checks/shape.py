@@ -1,20 +1,23 @@
 #!/usr/bin/env python3
 """Measures the form of the code: how long clauses are, how many a function has, what stands twice.
 
-    checks/shape.py [CRATE ..]          a row for each crate, and the sum
-    checks/shape.py --list [CRATE ..]   also each clause over 120 columns, and each function with more than 8 clauses or 40 lines
+    checks/shape.py [CRATE ..]           a row for each crate, and the sum
+    checks/shape.py --list [CRATE ..]    also each clause over 120 columns, and each function with more than 8 clauses or 40 lines
+    checks/shape.py --at REV [CRATE ..]  the same of an earlier commit
 
-`cited` are the lines of the definitions that public contracts cite: of the files of specs/ that Lib.antt does not list for private
+`lines` are those of source, definitions and proofs together. `cited` are the lines of the definitions that public contracts cite: of the files of specs/ that Lib.antt does not list for private
 functions alone. `public >120` are the clauses over 120 columns of functions that are `pub`.
 
 It reads the sources alone. docs/ARCHITECTURE.md gives its numbers.
 """
+import argparse
 import os
 import re
-import sys
+import subprocess
+import tempfile
 
 TOP = os.path.dirname(os.path.dirname(os.path.abspath(__file__)))
-COLUMNS = ("crate", "src", "specs", "cited", "proofs", "functions", "clauses", ">100", ">120", "public >120", ">8 clauses", ">=40 lines", "casts of codes")
+COLUMNS = ("crate", "lines", "src", "specs", "cited", "proofs", "functions", "clauses", ">100", ">120", "public >120", ">8 clauses", ">=40 lines", "casts of codes")
 CLAUSE = re.compile(r"\s+(?:requires|ensures|invariant) ?(?:\w+ )?\{")
 FUNCTION = re.compile(r"(\s*)(?:pub(?:\([a-z]+\))? )?(?:const |unsafe )*fn (\w+)")
 PRIVATE = re.compile(r"\s*--.*private")
@@ -71,6 +74,7 @@ def measured(crate, listed):
     row = dict.fromkeys(COLUMNS[1:], 0)
     for folder, ending in (("src", ".rt"), ("specs", ".antt"), ("proofs", ".antt")):
         row[folder] = sum(len(lines(path)) for path in files(crate, folder, ending))
+        row["lines"] += row[folder]
     row["cited"] = cited(crate)
     for path in files(crate, "src", ".rt"):
         short = os.path.relpath(path, TOP)
@@ -94,13 +98,19 @@ def measured(crate, listed):
     return row
 
 
-def main():
-    given = sys.argv[1:]
-    listed = "--list" in given
-    crates = [it for it in given if it != "--list"]
-    if not crates:
-        with open(f"{TOP}/crates.txt", encoding="utf-8") as file:
-            crates = [line.split(":")[0].split()[0] for line in file if ":" in line and not line.startswith("#")]
+def unpacked(rev, room):
+    """The sources of an earlier commit, in a folder."""
+    packed = subprocess.run(["git", "-C", TOP, "archive", rev, "crates", "crates.txt"], check=True, capture_output=True)
+    subprocess.run(["tar", "-x", "-C", room], input=packed.stdout, check=True)
+    return room
+
+
+def crates_listed():
+    with open(f"{TOP}/crates.txt", encoding="utf-8") as file:
+        return [line.split(":")[0].split()[0] for line in file if ":" in line and not line.startswith("#")]
+
+
+def print_rows(crates, listed):
     total = dict.fromkeys(COLUMNS[1:], 0)
     rows = []
     for crate in crates:
@@ -110,6 +120,19 @@ def main():
     print(" ".join(f"{it:>12}" if at else f"{it:<24}" for at, it in enumerate(COLUMNS)))
     for crate, row in [*rows, ("all", total)]:
         print(f"{crate:<24} " + " ".join(f"{row[it]:>12}" for it in COLUMNS[1:]))
+
+
+def main():
+    global TOP
+    parser = argparse.ArgumentParser(description="Measures the form of the code.")
+    parser.add_argument("crates", nargs="*", metavar="CRATE")
+    parser.add_argument("--list", action="store_true", help="also name the clauses and functions that are too long")
+    parser.add_argument("--at", metavar="REV", help="measure an earlier commit")
+    given = parser.parse_args()
+    with tempfile.TemporaryDirectory() as room:
+        if given.at:
+            TOP = unpacked(given.at, room)
+        print_rows(given.crates or crates_listed(), given.list)
 
 
 if __name__ == "__main__":
