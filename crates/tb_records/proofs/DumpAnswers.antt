@@ -1,5 +1,5 @@
 -- What is read of a dump, by where its reading ended.
-use Rattle.std.proofs.Common.{◌≡◌, ℕ, ◌^◌, ◌<◌, ◌≤◌, List, [], ◌++◌, length, take, drop, Option, Some, None, Ok, Err, inl, inr, refl, sym, ap, subst, ◌∙◌, arith, length-append, length-take, drop_at, append_assoc, append-nil, take_all}
+use Rattle.std.proofs.Common.{◌≡◌, ℕ, ◌^◌, ◌<◌, ◌≤◌, List, [], ◌∷◌, ◌++◌, length, take, drop, Option, Some, None, Ok, Err, inl, inr, refl, sym, ap, subst, ◌∙◌, arith, length-append, length-take, drop_at, append_assoc, append-nil, take_all}
 use Rattle.std.proofs.lemmas.List.{drop_all}
 use Rattle.std.specs.Io.KnownBytes.{Consumes}
 use Rattle.tb_records.specs.declared.dumps.DumpFault.TheVariants.{Head, Frame}
@@ -15,7 +15,8 @@ use Rattle.tb_records.specs.Numbers.{le_bytes, le_at}
 use Rattle.tb_records.specs.Sizes.{length-le_bytes}
 use Rattle.tb_records.specs.Reading.{Filled}
 use Rattle.tb_records.proofs.FrameFaults.{cut_header}
-use Rattle.tb_records.proofs.NumberBytes.{le_at-append, le_at-last, le_bytes-one, split_at, last_field}
+use Rattle.tb_records.proofs.NumberBytes.{split_at}
+use Rattle.tb_records.proofs.Rows.{Fit, Stand, row_stands, one_row}
 
 -- heads
 
@@ -28,36 +29,17 @@ pub length-head : (profile : Profile) (clients_max : ℕ) → length (head_bytes
 unfolding head_bytes
 length-head profile clients_max = simp (length-append, length-le_bytes)
 
-small_profile : (profile : Profile) → profile_number profile < 2 ^ 32
-small_profile One = omega arith
-small_profile Two = omega arith
+-- the numbers of a head
+abbrev head_row : Profile → ℕ → List ℕ
+head_row profile clients_max = 3553425134609187412 ∷ profile_number profile ∷ clients_max ∷ []
 
--- the fields of bytes that begin with a head
-pub record HeadFields (b : List ℕ) (profile : Profile) (clients_max : ℕ) : Type 0 where
-  pub signature_is : le_at 8 0 b ≡ 3553425134609187412
-  pub profile_is : le_at 4 8 b ≡ profile_number profile
-  pub clients_is : le_at 4 12 b ≡ clients_max
+head_fits : (profile : Profile) (clients_max : ℕ) → IsClients clients_max → Fit (8 ∷ 4 ∷ 4 ∷ []) (head_row profile clients_max)
+head_fits profile clients_max few = grind arith
 
-pub head_fields : (profile : Profile) (clients_max : ℕ) (rest : List ℕ) → IsClients clients_max → HeadFields (head_bytes profile clients_max ++ rest) profile clients_max
-unfolding head_bytes
-head_fields profile clients_max rest few =
-    let p0 : List ℕ = signature in
-    let p1 : List ℕ = p0 ++ le_bytes 4 (profile_number profile) in
-    let l1 : length p1 ≡ 12 = omega (arith, length-append p0 (le_bytes 4 (profile_number profile)), length-le_bytes 4 (profile_number profile)) in
-    let p2 : List ℕ = p1 ++ le_bytes 4 clients_max in
-    let l2 : length p2 ≡ 16 = omega (arith, length-append p1 (le_bytes 4 clients_max), length-le_bytes 4 clients_max, l1) in
-    record {
-      signature_is = le_at-append 8 0 p2 rest (omega arith)
-          ∙ le_at-append 8 0 p1 (le_bytes 4 clients_max) (omega arith)
-          ∙ le_at-append 8 0 p0 (le_bytes 4 (profile_number profile)) (omega arith)
-          ∙ ap (le_at 8 0) (sym signed)
-          ∙ le_at-last 8 0 3553425134609187412 [] refl (omega arith);
-      profile_is = le_at-append 4 8 p2 rest (omega arith)
-          ∙ le_at-append 4 8 p1 (le_bytes 4 clients_max) (omega arith)
-          ∙ le_at-last 4 8 (profile_number profile) p0 refl (small_profile profile);
-      clients_is = le_at-append 4 12 p2 rest (omega arith)
-          ∙ le_at-last 4 12 clients_max p1 l1 (omega (arith, few.1));
-    }
+-- they stand in bytes that begin with it
+pub head_stands : (profile : Profile) (clients_max : ℕ) (rest : List ℕ) → IsClients clients_max → Stand (8 ∷ 4 ∷ 4 ∷ []) (head_row profile clients_max) 0 (head_bytes profile clients_max ++ rest)
+unfolding head_bytes le_bytes
+head_stands profile clients_max rest few = row_stands (8 ∷ 4 ∷ 4 ∷ []) (head_row profile clients_max) 0 [] rest refl (head_fits profile clients_max few)
 
 -- too few bytes for a head
 short_head : (b : List ℕ) → length b < 16 → HasNoHead b
@@ -97,11 +79,7 @@ begins : (commit time : ℕ) (old mid : List ℕ) → (commit ≡ 0 → ⊥) →
 begins commit time old mid some left = record { commit = commit; time = time; entry = omega arith; bytes = left }
 
 pub no_frame : (commit time : ℕ) (old mid new : Option (List ℕ)) → (commit ≡ 0 → ⊥) → ReadsNumbers commit time old mid → Answers (Ok None) mid new → ItemAnswers (Err (Frame Short)) old new
-no_frame commit time None mid new some read rest = tt
-no_frame commit time (Some old) None new some read rest = absurd read.bytes
-no_frame commit time (Some old) (Some mid) None some read rest = absurd rest
-no_frame commit time (Some old) (Some mid) (Some new) some read rest =
-    inr (mid, begins commit time old mid some read.bytes, (cut_header mid (omega (arith, ap length rest.0)), rest.1))
+no_frame commit time old mid new some read rest = grind (arith, cut_header)
 
 pub bad_frame : (fault : FrameFault) (commit time : ℕ) (old mid new : Option (List ℕ)) → (commit ≡ 0 → ⊥) → ReadsNumbers commit time old mid → Answers (Err fault) mid new → ItemAnswers (Err (Frame fault)) old new
 bad_frame fault commit time None mid new some read rest = tt
@@ -143,23 +121,15 @@ spelled_head buf sign number clients_max profile long is_signed is_number e f g 
 
 -- one reading
 
-profile_one : (p q : Profile) → profile_number p ≡ profile_number q → p ≡ q
-profile_one One One e = refl
-profile_one Two Two e = refl
-profile_one One Two e = absurd (omega (arith, e))
-profile_one Two One e = absurd (omega (arith, e))
-
 pub one_head : (p q : Profile) (m n : ℕ) (xs ys : List ℕ) → IsClients m → IsClients n → head_bytes p m ++ xs ≡ head_bytes q n ++ ys → (p ≡ q) × (m ≡ n) × (xs ≡ ys)
-unfolding head_bytes
+unfolding head_bytes le_bytes
 one_head p q m n xs ys few_m few_n e =
-    let halves = split_at (head_bytes p m) (head_bytes q n) xs ys (length-head p m ∙ sym (length-head q n)) e in
-    let clients = last_field 4 m n (signature ++ le_bytes 4 (profile_number p)) (signature ++ le_bytes 4 (profile_number q)) (omega (arith, few_m.1)) (omega (arith, few_n.1)) halves.0 in
-    let profiles = last_field 4 (profile_number p) (profile_number q) signature signature (small_profile p) (small_profile q) clients.0 in
-    (profile_one p q profiles.1, clients.1, halves.1)
+    let same = one_row (8 ∷ 4 ∷ 4 ∷ []) (head_row p m) (head_row q n) xs ys refl refl (head_fits p m few_m) (head_fits q n few_n) e in
+    let profile : p ≡ q = grind arith in
+    (profile, cc same.0, same.1)
 
 pub one_numbers : (a b c d : ℕ) (xs ys : List ℕ) → a < 2 ^ 64 → b < 2 ^ 64 → c < 2 ^ 64 → d < 2 ^ 64 → numbers_bytes a b ++ xs ≡ numbers_bytes c d ++ ys → (a ≡ c) × (b ≡ d) × (xs ≡ ys)
-unfolding numbers_bytes
-one_numbers a b c d xs ys ha hb hc hd e =
-    let halves = split_at (numbers_bytes a b) (numbers_bytes c d) xs ys (length-numbers a b ∙ sym (length-numbers c d)) e in
-    let seconds = last_field 8 b d (le_bytes 8 a) (le_bytes 8 c) hb hd halves.0 in
-    (le_bytes-one 8 a c ha hc seconds.0, seconds.1, halves.1)
+unfolding numbers_bytes le_bytes
+one_numbers a b c d xs ys fit_a fit_b fit_c fit_d e =
+    let same = one_row (8 ∷ 8 ∷ []) (a ∷ b ∷ []) (c ∷ d ∷ []) xs ys refl refl (fit_a, (fit_b, tt)) (fit_c, (fit_d, tt)) e in
+    (cc same.0, cc same.0, same.1)

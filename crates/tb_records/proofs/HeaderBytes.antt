@@ -1,16 +1,21 @@
 -- Headers: what their bytes say, and what bytes behind them leave alone.
-use Rattle.std.proofs.Common.{◌≡◌, ℕ, ◌^◌, ◌<◌, ◌≤◌, List, ◌++◌, length, take, slice_index, None, ap, ◌∙◌, arith}
+use Rattle.std.proofs.Common.{◌≡◌, ℕ, ◌^◌, ◌<◌, ◌≤◌, List, [], ◌∷◌, length, take, slice_index, None, ap, ◌∙◌, arith}
 use Rattle.tb_records.specs.Numbers.{le_bytes, le_at}
 use Rattle.std.proofs.Common.{true, eq-eqb, Result, Ok, Err, MatchResult, OnOk, Some, ◌/◌, ◌*◌, ◌%◌, ◌==◌, not, inl, inr, if◌then◌else◌, sym, subst}
 use Rattle.std.proofs.Math.Nat.{div-add-mod', zero-div}
-use Rattle.std.proofs.lemmas.Bool.Decides.{eqb_tells}
+use Rattle.std.proofs.lemmas.Bool.Decides.{nat_tests}
 use Rattle.tb_records.specs.declared.faults.FrameFault.{FrameFault}
 use Rattle.tb_records.specs.declared.headers.Header.{Header}
 use Rattle.tb_records.specs.Frames.{item_size, header_bytes, header_fault, header_tests, length_tests, client_at, session_at, request_at, operation_at, length_at}
 use Rattle.tb_records.specs.HeaderFields.{HeaderOf, HeaderSpelled, IsHeader, numbers_fault, numbers_tests}
 use Rattle.tb_records.specs.Operations.{operation_code}
-use Rattle.tb_records.proofs.NumberBytes.{le_at-spelled, le_at-fits, field_then}
+use Rattle.tb_records.proofs.NumberBytes.{le_at-fits}
+use Rattle.tb_records.proofs.Rows.{row_bytes, row_read}
 use Rattle.tb_records.proofs.FirstFaults.{NoneHolds, none_each, all_none, both_zero, is_zero}
+
+-- how many bytes the numbers of a header have
+abbrev pub header_widths : List ℕ
+header_widths = 16 ∷ 8 ∷ 4 ∷ 1 ∷ 3 ∷ 4 ∷ 12 ∷ []
 
 -- the reserved bytes of a header without a fault are 0
 reserved_zero : (b : List ℕ) → header_fault b ≡ None → (le_at 3 29 b ≡ 0) × (le_at 12 36 b ≡ 0)
@@ -23,15 +28,9 @@ pub header_spelled : (b : List ℕ) → 48 ≤ length b → ((i : ℕ) → slice
 unfolding header_bytes le_bytes
 header_spelled b h fits sound =
     let zero = reserved_zero b sound in
-    let f0 = le_at-spelled 16 0 b (omega arith) fits in
-    let f1 = field_then _ _ _ _ (le_at-spelled 8 16 b (omega arith) fits) f0 in
-    let f2 = field_then _ _ _ _ (le_at-spelled 4 24 b (omega arith) fits) f1 in
-    let f3 = field_then _ _ _ _ (le_at-spelled 1 28 b (omega arith) fits) f2 in
-    let f4 = field_then _ _ _ _ (le_at-spelled 3 29 b (omega arith) fits ∙ ap (λ x. take 29 b ++ le_bytes 3 x) zero.0) f3 in
-    let f5 = field_then _ _ _ _ (le_at-spelled 4 32 b (omega arith) fits) f4 in
-    let f6 = field_then _ _ _ _ (le_at-spelled 12 36 b (omega arith) fits ∙ ap (λ x. take 36 b ++ le_bytes 12 x) zero.1) f5 in
     record {
-      bytes = f6;
+      bytes = row_read header_widths 0 b (omega arith) fits
+          ∙ (λ i. row_bytes header_widths (client_at b ∷ session_at b ∷ request_at b ∷ operation_at b ∷ zero.0 i ∷ length_at b ∷ zero.1 i ∷ []));
       client = le_at-fits 16 0 b fits;
       session = le_at-fits 8 16 b fits;
       request = le_at-fits 4 24 b fits;
@@ -46,48 +45,24 @@ ok_spelled b (Err f) long fits m = tt
 
 -- a length without a fault is that of a row of items
 pub right_length : (code len : ℕ) → NoneHolds (length_tests code len) → len / item_size code * item_size code ≡ len
-right_length code len tests =
-    let size = item_size code in
-    let whole = div-add-mod' len size in
-    elim (eqb_tells code 2) [
-      | inl (b2, e2) ↦
-          let zero : len ≡ 0 = is_zero len (ap (λ t. not ((if t then len else len % size) == 0)) (sym b2) ∙ tests.0) in
-          omega arith
-      | inr (b2, e2) ↦
-          let zero : len % size ≡ 0 = is_zero (len % size) (ap (λ t. not ((if t then len else len % size) == 0)) (sym b2) ∙ tests.0) in
-          omega arith
-    ]
+right_length code len tests = let whole = div-add-mod' len (item_size code) in grind (arith, nat_tests)
 
 -- the numbers of a header without a fault keep the rules
 pub header_lawful : (b : List ℕ) (h : Header) → HeaderOf b h → numbers_fault h.client h.session h.request (operation_code h.operation) h.count ≡ None
 unfolding header_fault
-header_lawful b h of =
-    let tests = none_each (header_tests b) of.sound in
-    let same : numbers_fault h.client h.session h.request (operation_code h.operation) h.count
-    ≡ numbers_fault (client_at b) (session_at b) (request_at b) (operation_at b) (length_at b / item_size (operation_at b)) =
-    λ i. numbers_fault (of.client i) (of.session i) (of.request i) (of.operation i) (of.count i) in
-    let numbers : NoneHolds (numbers_tests (client_at b) (session_at b) (request_at b) (operation_at b) (length_at b / item_size (operation_at b))) =
-    (tests.0, (tests.1.1.1.0, (tests.1.1.1.1.0, (tests.1.1.1.1.1.1.0, tt)))) in
-    same ∙ all_none (numbers_tests (client_at b) (session_at b) (request_at b) (operation_at b) (length_at b / item_size (operation_at b))) numbers
+header_lawful b h of = let tests = none_each (header_tests b) of.sound in grind (arith, nat_tests)
 
 -- a register has no items
 header_empty : (b : List ℕ) (h : Header) → HeaderOf b h → operation_code h.operation ≡ 2 → h.count ≡ 0
 unfolding header_fault
-header_empty b h of e =
-    let tests = none_each (header_tests b) of.sound in
-    let code : operation_at b ≡ 2 = sym of.operation ∙ e in
-    let bit : (operation_at b == 2) ≡ true = eq-eqb (operation_at b) 2 code in
-    let len = length_at b in
-    let size = item_size (operation_at b) in
-    let zero : len ≡ 0 = is_zero len (ap (λ t. not ((if t then len else len % size) == 0)) (sym bit) ∙ tests.1.1.1.1.1.0) in
-    of.count ∙ ap (λ n. n / size) zero ∙ zero-div size
+header_empty b h of e = let tests = none_each (header_tests b) of.sound in grind (arith, nat_tests, zero-div)
 
 -- a header without a fault: its numbers keep the rules and fit
 pub is_header : (b : List ℕ) (h : Header) → HeaderOf b h → HeaderSpelled b → IsHeader h
 is_header b h of spelled = record {
   lawful = header_lawful b h of;
-  client = subst (λ n. n < 2 ^ 128) (sym of.client) spelled.client;
-  session = subst (λ n. n < 2 ^ 64) (sym of.session) spelled.session;
-  request = subst (λ n. n < 2 ^ 32) (sym of.request) spelled.request;
+  client = omega (arith, of.client, spelled.client);
+  session = omega (arith, of.session, spelled.session);
+  request = omega (arith, of.request, spelled.request);
   empty = header_empty b h of;
 }

@@ -1,5 +1,3 @@
-pub mod AccountFlagNames
-pub mod AccountResultNames
 pub mod ByKey
 pub mod DumpAnswers
 pub mod Entries
@@ -11,7 +9,6 @@ pub mod ItemBytes
 pub mod NumberBytes
 pub mod OneBody
 pub mod OneSpelling
-pub mod OperationNames
 pub mod Pieces
 pub mod ReplyFaults
 pub mod ReplyHeaderBytes
@@ -19,10 +16,9 @@ pub mod ReplyLaws
 pub mod ReplyParts
 pub mod ReplyPlaces
 pub mod ReplyRows
+pub mod Rows
 pub mod Sendings
 pub mod SliceAnswers
 pub mod Spellings
 pub mod StreamAnswers
-pub mod TransferFlagNames
-pub mod TransferResultNames
 pub mod ZeroBytes

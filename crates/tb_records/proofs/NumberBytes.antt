@@ -133,21 +133,8 @@ byte_at_place at xs =
 pub number_spelled : (n at x : ℕ) (xs : List ℕ) → at + n ≤ length xs → ((i : ℕ) → slice_index xs i < 256) → x ≡ le_at n at xs → take (at + n) xs ≡ take at xs ++ le_bytes n x
 number_spelled n at x xs h b e = le_at-spelled n at xs h b ∙ ap (λ (y : ℕ). take at xs ++ le_bytes n y) (sym e)
 
--- one more field of a record that is written or read field after field
-pub field_then : (new old field front : List ℕ) → new ≡ old ++ field → old ≡ front → new ≡ front ++ field
-field_then new old field front e f = e ∙ ap (λ (bs : List ℕ). bs ++ field) f
-
 -- two equal lists, cut at one place
 pub split_at : (front start xs ys : List ℕ) → length front ≡ length start → front ++ xs ≡ start ++ ys → (front ≡ start) × (xs ≡ ys)
-split_at front start xs ys h e = (
-  sym (take_at front xs (length front) refl) ∙ ap (take (length front)) e ∙ take_at start ys (length front) (sym h),
-  sym (drop_at front xs (length front) refl) ∙ ap (drop (length front)) e ∙ drop_at start ys (length front) (sym h),
-)
-
--- the last field of two equal spellings
-pub last_field : (n x y : ℕ) (xs ys : List ℕ) → x < 256 ^ n → y < 256 ^ n → xs ++ le_bytes n x ≡ ys ++ le_bytes n y → (xs ≡ ys) × (x ≡ y)
-last_field n x y xs ys hx hy e =
-    let lengths = ap length e in
-    let one = split_at xs ys (le_bytes n x) (le_bytes n y)
-    (omega (arith, length-append xs (le_bytes n x), length-append ys (le_bytes n y), length-le_bytes n x, length-le_bytes n y, lengths)) e in
-    (one.0, le_bytes-one n x y hx hy one.1)
+split_at [] [] xs ys h e = (refl, e)
+split_at (x ∷ front) (y ∷ start) xs ys h e = grind (arith, split_at front start xs ys)
+split_at front start xs ys h e = absurd (omega arith)

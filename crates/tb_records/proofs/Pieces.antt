@@ -1,15 +1,17 @@
 -- Buffers that are filled or emptied piece by piece, and counts that rise.
 use Rattle.std.proofs.Common.{◌≡◌, ℕ, ◌*◌, [], ◌∷◌, get_or, flat_map, All, refl, subst, Option, true, false, ◌+◌, ◌-◌, ◌<◌, ◌≤◌, inl, inr, min, List, ◌++◌, length, take, drop, cond, not, ◌&&◌, ◌==◌, sym, ap, ◌∙◌, arith, length-take, length-append, length-drop}
 use Rattle.std.proofs.lemmas.List.{take-append-le, take-append-drop, take_min, drop_more}
-use Rattle.std.proofs.lemmas.Grind.{flat_map-append}
+use Rattle.std.proofs.lemmas.Grind.{common_steps, flat_map-append}
 use Rattle.std.proofs.lemmas.List.Elements.{All-append, All-cons, All-nil}
 use Rattle.std.proofs.KnownBytes.{Appends-trans, Consumes-trans}
 use Rattle.std.specs.Io.KnownBytes.{Appends, Consumes}
-use Rattle.std.proofs.Math.Nat.{mul-le-mul_right, add-mul}
+use Rattle.std.proofs.Math.Nat.{mul_comm, mul-le-mul_right, add-mul}
+use Rattle.tb_records.proofs.ItemBytes.{length_items}
 use Rattle.tb_records.specs.declared.faults.FrameFault.{FrameFault}
 use Rattle.tb_records.specs.declared.faults.FrameFault.TheVariants.{Short, Device}
 use Rattle.std.proofs.Math.Seq.{take-add, take-append-add}
 use Rattle.std.proofs.lemmas.Bool.{ne_eqb}
+use Rattle.std.proofs.lemmas.Bool.Decides.{nat_tests}
 use Rattle.std.proofs.lemmas.Slice.{between_to_end}
 use Rattle.std.specs.List.{between}
 use borrow.Rule.Slice.PartMut.{put_mid, post_of}
@@ -18,50 +20,35 @@ use Rattle.tb_records.specs.Reading.{ReadFault, BodyFault}
 
 -- a beginning that was filled, and then a part of the rest
 pub filled : (at n k : ℕ) (xs ys : List ℕ) → at ≤ length xs → n ≤ length ys → take (at + n) (put_mid at k xs ys) ≡ take at xs ++ take n ys
-filled at n k xs ys h hn =
-    let front : length (take at xs) ≡ at = omega (arith, length-take at xs) in
-    ap (λ (m : ℕ). take (m + n) (put_mid at k xs ys)) (sym front)
-    ∙ take-append-add (take at xs) (ys ++ post_of at k xs) n
-    ∙ ap (λ (l : List ℕ). take at xs ++ l) (take-append-le n ys (post_of at k xs) hn)
+filled at n k xs ys h hn = grind (arith, common_steps, take-append-add, take-append-le)
 
 -- a beginning that was taken, and then a part of the rest
 pub taken : (at n end : ℕ) (xs : List ℕ) → length xs ≤ end → take (at + n) xs ≡ take at xs ++ take n (between at end xs)
-taken at n end xs h =
-    take-add at n xs ∙ ap (λ (l : List ℕ). take at xs ++ take n l) (sym (between_to_end xs at end h))
+taken at n end xs h = grind (arith, take-add, between_to_end)
 
 -- an error behind answers that were none
 pub fails_since : (old mid new : Input) → mid.failed ≡ old.failed → Fails mid new → Fails old new
-fails_since old mid new same fails = record { rose = fails.rose ∙ ap risen same; last = fails.last }
+fails_since old mid new same fails = grind arith
 
 -- a writer that takes something does not stall
 pub flows : (n : ℕ) (bytes : List ℕ) (mid new : Output) → (n ≡ 0 → ⊥) → Takes n bytes mid new → new.stalled ≡ mid.stalled
-flows n bytes mid new h takes = takes.stalls ∙ ap (λ b. cond (b && not (length bytes == 0)) (risen mid.stalled) mid.stalled) (ne_eqb n 0 h)
+flows n bytes mid new h takes = grind (arith, nat_tests)
 
 -- a writer that takes nothing of bytes that are some stalls
 pub stalls : (n : ℕ) (bytes : List ℕ) (mid new : Output) → n ≡ 0 → 0 < length bytes → Takes n bytes mid new → Refuses mid new
-stalls n bytes mid new none some takes =
-    let stalled : is_stall n bytes ≡ true = ap (λ k. k == 0 && not (length bytes == 0)) none ∙ ap not (ne_eqb (length bytes) 0 (omega arith)) in
-    record {
-      rose = inr (takes.counted, takes.stalls ∙ ap (λ b. cond b (risen mid.stalled) mid.stalled) stalled);
-      last = takes.last ∙ stalled;
-    }
+stalls n bytes mid new none some takes = grind (arith, nat_tests)
 
 -- a refusal behind answers that were none
 pub refuses_since : (old mid new : Output) → mid.failed ≡ old.failed → mid.stalled ≡ old.stalled → Refuses mid new → Refuses old new
-refuses_since old mid new counted flowed refuses = record {
-  rose = elim refuses.rose [ inl r ↦ inl (r.0 ∙ ap risen counted, r.1 ∙ flowed) | inr r ↦ inr (r.0 ∙ counted, r.1 ∙ ap risen flowed) ];
-  last = refuses.last;
-}
+refuses_since old mid new counted flowed refuses = grind arith
 
 -- the buffer holds what was read into its rest
 pub put_mid-long : (at n : ℕ) (xs ys : List ℕ) → at ≤ length xs → n ≤ length ys → at + n ≤ length (put_mid at (length xs - at) xs ys)
-put_mid-long at n xs ys h hn =
-    omega (arith, length-append (take at xs) (ys ++ post_of at (length xs - at) xs), length-append ys (post_of at (length xs - at) xs), length-take at xs)
+put_mid-long at n xs ys h hn = grind (arith, common_steps)
 
 -- no more was taken than was left
 pub between-long : (at n : ℕ) (xs : List ℕ) → at ≤ length xs → n ≤ length (between at (length xs) xs) → at + n ≤ length xs
-between-long at n xs h hn =
-    omega (arith, ap length (between_to_end xs at (length xs) (omega arith)), length-drop at xs)
+between-long at n xs h hn = grind (arith, common_steps)
 
 -- one item more fits
 pub fit_more : {X : Type 0} (Fits : X → Type 0) (items : List X) (k : ℕ) (x : X) → k < length items → x ≡ get_or items k x → Fits x → All Fits (take k items) → All Fits (take (k + 1) items)
@@ -89,14 +76,11 @@ cut_off_in front bytes rest whole old mid new parts grown counted flowed cut =
 -- the spellings of a row in three parts
 pub spellings_in : {X : Type 0} (spelling : X → List ℕ) (front part rest items : List X) → items ≡ front ++ (part ++ rest)
     → flat_map spelling items ≡ flat_map spelling front ++ (flat_map spelling part ++ flat_map spelling rest)
-spellings_in spelling front part rest items parts =
-    ap (flat_map spelling) parts
-    ∙ flat_map-append spelling front (part ++ rest)
-    ∙ ap (λ l. flat_map spelling front ++ l) (flat_map-append spelling part rest)
+spellings_in spelling front part rest items parts = grind (arith, flat_map-append)
 
 -- two parts of a row, cut at one place
 pub rejoined : {X : Type 0} (n : ℕ) (xs front more : List X) → front ≡ take n xs → more ≡ drop n xs → front ++ more ≡ xs
-rejoined n xs front more e f = ap (λ l. l ++ more) e ∙ ap (λ l. take n xs ++ l) f ∙ take-append-drop n xs
+rejoined n xs front more e f = grind (arith, take-append-drop)
 
 pub none_left : {X : Type 0} (xs : List X) → true ≡ (length xs == 0) → xs ≡ []
 none_left [] none = refl
@@ -104,10 +88,7 @@ none_left (x ∷ xs) none = let never : true ≡ false = none ∙ ne_eqb (length
 
 -- items of one size
 pub length-items : {X : Type 0} (spelling : X → List ℕ) (size : ℕ) (items : List X) → ((x : X) → length (spelling x) ≡ size) → length (flat_map spelling items) ≡ length items * size
-length-items spelling size [] each = omega arith
-length-items spelling size (x ∷ items) each =
-    let e = length-items spelling size items each in
-    omega (arith, length-append (spelling x) (flat_map spelling items), each x)
+length-items spelling size items each = length_items spelling size each items ∙ mul_comm size (length items)
 
 -- items, and n more, have no more bytes than all
 spread : {X : Type 0} (items : List X) (n count size : ℕ) → length items + n ≤ count → length items * size + n * size ≤ count * size

@@ -1,7 +1,7 @@
 -- Bytes that are sent in two parts.
 use Rattle.std.proofs.Common.{◌≡◌, ℕ, ◌+◌, min, List, ◌++◌, length, take, Result, Ok, Err, MatchResult, sym, subst, ap, ◌∙◌, inl, inr, arith}
 use Rattle.std.proofs.lemmas.List.{take-append-le, take_all}
-use Rattle.std.proofs.lemmas.Bool.{cases_lt}
+use Rattle.std.proofs.lemmas.Grind.{common_steps}
 use Rattle.std.proofs.Math.Seq.{take-append-add, take-append_seam}
 use Rattle.std.proofs.KnownBytes.{Appends-trans}
 use Rattle.std.specs.Io.KnownBytes.{Appends}
@@ -41,15 +41,7 @@ module _ (xs ys : List ℕ) (old mid new : Output) where
   sent_rest whole e one (Err fault) two = (two.0, subst (λ (l : List ℕ). CutOff l old new) e (sent_some one two.1))
 
 beginning : (n : ℕ) (xs ys : List ℕ) → take (min n (length xs)) (xs ++ ys) ≡ take n xs
-beginning n xs ys =
-    elim (cases_lt (length xs) n) [
-      | inl h ↦
-          let e : min n (length xs) ≡ length xs = omega arith in
-          ap (λ (k : ℕ). take k (xs ++ ys)) e ∙ take-append_seam xs ys ∙ sym (take_all n xs (omega arith))
-      | inr h ↦
-          let e : min n (length xs) ≡ n = omega arith in
-          ap (λ (k : ℕ). take k (xs ++ ys)) e ∙ take-append-le n xs ys h
-    ]
+beginning n xs ys = grind (arith, common_steps, take-append-le, take-append_seam)
 
 -- a beginning of the first part was sent
 pub sent_few : (xs ys whole : List ℕ) (old new : Output) → xs ++ ys ≡ whole → CutOff xs old new → CutOff whole old new
@@ -62,12 +54,8 @@ sent_few xs ys whole old new e one = subst (λ (l : List ℕ). CutOff l old new)
 -- the header before the length of the body, and the body
 pub reply_frame : (r : Answer) (header : List ℕ) (len : ℕ) (body : ReplyBody) → header ≡ header_of_reply r len → len ≡ length (reply_body_bytes body) → body ≡ r.body
     → header ++ reply_body_bytes body ≡ reply_bytes r
-reply_frame r header len body eh el eb =
-    ap (λ (l : List ℕ). l ++ reply_body_bytes body) (eh ∙ ap (header_of_reply r) el)
-    ∙ ap (λ (b : ReplyBody). header_of_reply r (length (reply_body_bytes b)) ++ reply_body_bytes b) eb
+reply_frame r header len body eh el eb = cc
 
 pub request_frame : (r : Message) (header : List ℕ) (len : ℕ) (body : Body) → header ≡ header_bytes r.client r.session r.request (operation r.body) len → len ≡ length (body_bytes body) → body ≡ r.body
     → header ++ body_bytes body ≡ request_bytes r
-request_frame r header len body eh el eb =
-    ap (λ (l : List ℕ). l ++ body_bytes body) (eh ∙ ap (header_bytes r.client r.session r.request (operation r.body)) el)
-    ∙ ap (λ (b : Body). header_bytes r.client r.session r.request (operation r.body) (length (body_bytes b)) ++ body_bytes b) eb
+request_frame r header len body eh el eb = cc

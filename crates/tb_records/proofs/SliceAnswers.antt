@@ -14,19 +14,15 @@ use Rattle.tb_records.proofs.StreamAnswers.{header_of_request, read_length}
 
 -- the header has a fault
 pub bad_slice : (fault : FrameFault) (bytes : List ℕ) → 48 ≤ length bytes → header_fault bytes ≡ Some fault → Found (Err fault) bytes
-bad_slice fault bytes h e = later fault bytes (is_of_header bytes fault e) (header_first bytes fault h e)
-  where
-    later : (fault : FrameFault) (bytes : List ℕ) → IsOfHeader fault → request_fault bytes ≡ Some fault → Found (Err fault) bytes
-    later NoMemory bytes is e = absurd is
-    later fault bytes is e = e
+bad_slice fault bytes h e = let kind = is_of_header bytes fault e in let first = header_first bytes fault h e in grind arith
 
 -- the body is cut
 pub cut_slice : (bytes : List ℕ) (h : Header) → 48 ≤ length bytes → HeaderOf bytes h → length bytes - 48 < h.length → request_fault bytes ≡ Some Short
-cut_slice bytes h long of short = cut_body bytes long of.sound (omega (arith, of.length))
+cut_slice bytes h long of short = grind (arith, cut_body)
 
 -- the body is there
 pub whole_slice : (bytes : List ℕ) (h : Header) → 48 ≤ length bytes → HeaderOf bytes h → h.length ≤ length bytes - 48 → request_fault bytes ≡ None
-whole_slice bytes h long of whole = whole_frame bytes long (omega (arith, of.length)) ∙ of.sound
+whole_slice bytes h long of whole = grind (arith, whole_frame)
 
 -- a list without items
 empty : (xs : List ℕ) → length xs ≡ 0 → xs ≡ []

@@ -1,5 +1,5 @@
 -- What is spelled is read: the fields of a spelling, and that a spelling has no fault and begins no other.
-use Rattle.std.proofs.Common.{◌≡◌, ℕ, ◌+◌, ◌*◌, ◌/◌, ◌%◌, ◌^◌, ◌<◌, ◌≤◌, Bool, false, not, ◌&&◌, if◌then◌else◌, ◌==◌, nat_lt, List, [], ◌∷◌, ◌++◌, length, take, drop, None, Result, Ok, Err, refl, sym, ap, ◌∙◌, arith, length-append, length-take, append_assoc, take-append-drop}
+use Rattle.std.proofs.Common.{◌≡◌, ℕ, ◌+◌, ◌*◌, ◌/◌, ◌%◌, ◌^◌, ◌<◌, ◌≤◌, Bool, true, false, not, ◌&&◌, if◌then◌else◌, ◌==◌, nat_lt, List, [], ◌∷◌, ◌++◌, length, take, drop, None, Result, Ok, Err, refl, sym, ap, ◌∙◌, arith, length-append, length-take, append_assoc, take-append-drop}
 use Rattle.std.proofs.Math.Nat.{mul-mod_left, mul-div_left}
 use Rattle.std.proofs.lemmas.Bool.{ltb-false}
 use Rattle.tb_records.specs.declared.bodies.Body.{Body}
@@ -16,85 +16,18 @@ use Rattle.tb_records.specs.Inputs.{Found, OnlyThis}
 use Rattle.tb_records.proofs.NumberBytes.{le_at-append, le_at-last, le_bytes-one, split_at}
 use Rattle.tb_records.proofs.OneSpelling.{one_account, one_transfer, items_one}
 use Rattle.tb_records.proofs.StreamAnswers.{length-body}
-use Rattle.tb_records.proofs.FrameFaults.{tests_of, header_fault-append, length_at-append, whole_frame}
+use Rattle.tb_records.proofs.FrameFaults.{whole_frame}
+use Rattle.tb_records.proofs.HeaderBytes.{header_widths}
+use Rattle.tb_records.proofs.Rows.{Fit, Stand, row_stands, one_row}
+use Rattle.std.proofs.lemmas.Bool.Decides.{nat_tests}
 use Rattle.tb_records.proofs.FirstFaults.{none_each}
 
--- the fields that stand in the bytes of a header
-record Fields (b : List ℕ) (client session request code len : ℕ) : Type 0 where
-  long : length b ≡ 48
-  client_is : le_at 16 0 b ≡ client
-  session_is : le_at 8 16 b ≡ session
-  request_is : le_at 4 24 b ≡ request
-  code_is : le_at 1 28 b ≡ code
-  low_is : le_at 3 29 b ≡ 0
-  len_is : le_at 4 32 b ≡ len
-  high_is : le_at 12 36 b ≡ 0
-
--- a field, and the fields behind it
-fields : (client session request code len : ℕ) → client < 2 ^ 128 → session < 2 ^ 64 → request < 2 ^ 32 → code < 2 ^ 8 → len < 2 ^ 32
-    → Fields (header_bytes client session request code len) client session request code len
-unfolding header_bytes le_bytes
-fields client session request code len hc hs hr ho hl =
-    let p0 : List ℕ = le_bytes 16 client in
-    let l0 : length p0 ≡ 16 = length-le_bytes 16 client in
-    let p1 : List ℕ = p0 ++ le_bytes 8 session in
-    let l1 : length p1 ≡ 24 = omega (arith, length-append p0 (le_bytes 8 session), length-le_bytes 8 session, l0) in
-    let p2 : List ℕ = p1 ++ le_bytes 4 request in
-    let l2 : length p2 ≡ 28 = omega (arith, length-append p1 (le_bytes 4 request), length-le_bytes 4 request, l1) in
-    let p3 : List ℕ = p2 ++ le_bytes 1 code in
-    let l3 : length p3 ≡ 29 = omega (arith, length-append p2 (le_bytes 1 code), length-le_bytes 1 code, l2) in
-    let p4 : List ℕ = p3 ++ le_bytes 3 0 in
-    let l4 : length p4 ≡ 32 = omega (arith, length-append p3 (le_bytes 3 0), length-le_bytes 3 0, l3) in
-    let p5 : List ℕ = p4 ++ le_bytes 4 len in
-    let l5 : length p5 ≡ 36 = omega (arith, length-append p4 (le_bytes 4 len), length-le_bytes 4 len, l4) in
-    let p6 : List ℕ = p5 ++ le_bytes 12 0 in
-    let l6 : length p6 ≡ 48 = omega (arith, length-append p5 (le_bytes 12 0), length-le_bytes 12 0, l5) in
-    record {
-      long = l6;
-      client_is = le_at-append 16 0 p5 (le_bytes 12 0) (omega arith)
-          ∙ le_at-append 16 0 p4 (le_bytes 4 len) (omega arith)
-          ∙ le_at-append 16 0 p3 (le_bytes 3 0) (omega arith)
-          ∙ le_at-append 16 0 p2 (le_bytes 1 code) (omega arith)
-          ∙ le_at-append 16 0 p1 (le_bytes 4 request) (omega arith)
-          ∙ le_at-append 16 0 p0 (le_bytes 8 session) (omega arith)
-          ∙ le_at-last 16 0 client [] refl hc;
-      session_is = le_at-append 8 16 p5 (le_bytes 12 0) (omega arith)
-          ∙ le_at-append 8 16 p4 (le_bytes 4 len) (omega arith)
-          ∙ le_at-append 8 16 p3 (le_bytes 3 0) (omega arith)
-          ∙ le_at-append 8 16 p2 (le_bytes 1 code) (omega arith)
-          ∙ le_at-append 8 16 p1 (le_bytes 4 request) (omega arith)
-          ∙ le_at-last 8 16 session p0 l0 hs;
-      request_is = le_at-append 4 24 p5 (le_bytes 12 0) (omega arith)
-          ∙ le_at-append 4 24 p4 (le_bytes 4 len) (omega arith)
-          ∙ le_at-append 4 24 p3 (le_bytes 3 0) (omega arith)
-          ∙ le_at-append 4 24 p2 (le_bytes 1 code) (omega arith)
-          ∙ le_at-last 4 24 request p1 l1 hr;
-      code_is = le_at-append 1 28 p5 (le_bytes 12 0) (omega arith)
-          ∙ le_at-append 1 28 p4 (le_bytes 4 len) (omega arith)
-          ∙ le_at-append 1 28 p3 (le_bytes 3 0) (omega arith)
-          ∙ le_at-last 1 28 code p2 l2 ho;
-      low_is = le_at-append 3 29 p5 (le_bytes 12 0) (omega arith)
-          ∙ le_at-append 3 29 p4 (le_bytes 4 len) (omega arith)
-          ∙ le_at-last 3 29 0 p3 l3 (omega arith);
-      len_is = le_at-append 4 32 p5 (le_bytes 12 0) (omega arith)
-          ∙ le_at-last 4 32 len p4 l4 hl;
-      high_is = le_at-last 12 36 0 p5 l5 (omega arith);
-    }
-
--- the number of an operation fits its byte, and is one of the table
+-- the number of an operation fits its byte
 code_small : (body : Body) → operation body < 2 ^ 8
-code_small Register = omega arith
-code_small (CreateAccounts events) = omega arith
-code_small (CreateTransfers events) = omega arith
-code_small (LookupAccounts ids) = omega arith
-code_small (LookupTransfers ids) = omega arith
+code_small body = grind arith
 
-code_known : (body : Body) → not (is_operation (operation body)) ≡ false
-code_known Register = refl
-code_known (CreateAccounts events) = refl
-code_known (CreateTransfers events) = refl
-code_known (LookupAccounts ids) = refl
-code_known (LookupTransfers ids) = refl
+code_known : (body : Body) → is_operation (operation body) ≡ true
+code_known body = grind arith
 
 -- a lawful request has at most 8190 items
 few : (r : Message) → IsLawful r → item_count r.body ≤ 8190
@@ -102,11 +35,7 @@ few r lawful = ltb-false 8190 (item_count r.body) (none_each (numbers_tests r.cl
 
 -- a body of few items is short
 short_body : (body : Body) → item_count body ≤ 8190 → length (body_bytes body) < 2 ^ 32
-short_body Register h = omega (arith, length-body Register)
-short_body (CreateAccounts events) h = omega (arith, length-body (CreateAccounts events))
-short_body (CreateTransfers events) h = omega (arith, length-body (CreateTransfers events))
-short_body (LookupAccounts ids) h = omega (arith, length-body (LookupAccounts ids))
-short_body (LookupTransfers ids) h = omega (arith, length-body (LookupTransfers ids))
+short_body body h = let len = length-body body in grind arith
 
 -- the header of a request
 abbrev header_of : Message → List ℕ
@@ -116,67 +45,45 @@ header_of r = header_bytes r.client r.session r.request (operation r.body) (leng
 fits_frame : (r : Message) → IsRequest r → FitsFrame r
 fits_frame r is = record { client = is.client; session = is.session; request = is.request; body = short_body r.body (few r is.lawful) }
 
-fields_of : (r : Message) → FitsFrame r → Fields (header_of r) r.client r.session r.request (operation r.body) (length (body_bytes r.body))
-fields_of r fits = fields r.client r.session r.request (operation r.body) (length (body_bytes r.body)) fits.client fits.session fits.request (code_small r.body) fits.body
+-- the numbers of a request's header
+abbrev row_of : Message → List ℕ
+row_of r = r.client ∷ r.session ∷ r.request ∷ operation r.body ∷ 0 ∷ length (body_bytes r.body) ∷ 0 ∷ []
 
--- a row of items has a right length, which tells their number
-row_passes : (count size len : ℕ) → 0 < size → len ≡ count * size → (not (len % size == 0) ≡ false) × (nat_lt 8190 (len / size) ≡ nat_lt 8190 count)
-row_passes count size len pos e =
-    let rest : len % size ≡ 0 = ap (λ n. n % size) e ∙ mul-mod_left count size in
-    let whole : len / size ≡ count = ap (λ n. n / size) e ∙ mul-div_left count pos in
-    (ap (λ n. not (n == 0)) rest, ap (nat_lt 8190) whole)
+row_fits : (r : Message) → FitsFrame r → Fit header_widths (row_of r)
+row_fits r fits = let code = code_small r.body in grind arith
 
--- the tests of a length
-abbrev is_bad : ℕ → ℕ → Bool
-is_bad operation len = not ((if operation == 2 then len else len % item_size operation) == 0)
+-- they stand in it
+places : (r : Message) (more : List ℕ) → FitsFrame r → Stand header_widths (row_of r) 0 (header_of r ++ more)
+unfolding header_bytes le_bytes
+places r more fits = row_stands header_widths (row_of r) 0 [] more refl (row_fits r fits)
 
-abbrev is_many : ℕ → ℕ → Bool
-is_many operation len = nat_lt 8190 (len / item_size operation)
+length-header : (r : Message) → length (header_of r) ≡ 48
+unfolding header_bytes
+length-header r = simp (length-append, length-le_bytes)
 
-length_passes : (body : Body) → (is_bad (operation body) (length (body_bytes body)) ≡ false) × (is_many (operation body) (length (body_bytes body)) ≡ nat_lt 8190 (item_count body))
-length_passes Register = let e : length (body_bytes Register) ≡ 0 = length-body Register in
-    (ap (λ n. not (n == 0)) e, ap (λ n. nat_lt 8190 (n / 16)) e)
-length_passes (CreateAccounts events) = row_passes (length events) 128 _ (omega arith) (length-body (CreateAccounts events))
-length_passes (CreateTransfers events) = row_passes (length events) 128 _ (omega arith) (length-body (CreateTransfers events))
-length_passes (LookupAccounts ids) = row_passes (length ids) 16 _ (omega arith) (length-body (LookupAccounts ids))
-length_passes (LookupTransfers ids) = row_passes (length ids) 16 _ (omega arith) (length-body (LookupTransfers ids))
-
--- the tests of a header by its fields, with three of them given
-tests_with : Message → Bool → Bool → Bool → List (Bool × FrameFault)
-tests_with r unknown bad many =
-    (r.client == 0, ClientZero)
-    ∷ (unknown, UnknownOperation)
-    ∷ (operation r.body == 2 && not (r.session == 0 && r.request == 0), RegisterNumbers)
-    ∷ (not (operation r.body == 2) && r.request == 0, RequestZero)
-    ∷ (bad, BadLength)
-    ∷ (many, TooMany)
-    ∷ []
+-- the length of a body, which tells the number of its items
+length_passes : (body : Body) → let len = length (body_bytes body) in let size = item_size (operation body) in (len / size ≡ item_count body) × (len % size ≡ 0) × (operation body ≡ 2 → len ≡ 0)
+length_passes body = let len = length-body body in grind (arith, mul-mod_left, mul-div_left)
 
 -- the first fault of a header is that of the values
-header_fault_is : (r : Message) → FitsFrame r → header_fault (header_of r) ≡ number_fault r
-unfolding header_fault tests_with
-header_fault_is r fits =
-    let f = fields_of r fits in
-    let len = length (body_bytes r.body) in
-    let known = code_known r.body in
+header_fault_is : (r : Message) (more : List ℕ) → FitsFrame r → header_fault (header_of r ++ more) ≡ number_fault r
+unfolding header_fault
+header_fault_is r more fits =
+    let at = places r more fits in
     let passes = length_passes r.body in
-    let same : header_tests (header_of r) ≡ tests_of r.client r.session r.request (operation r.body) 0 len 0 =
-    λ i. tests_of (f.client_is i) (f.session_is i) (f.request_is i) (f.code_is i) (f.low_is i) (f.len_is i) (f.high_is i) in
-    ap first_fault same ∙ (λ i. first_fault (tests_with r (known i) (passes.0 i) (passes.1 i)))
+    let known = code_known r.body in
+    grind (arith, nat_tests)
 
 -- a request's values have the first fault that their frame has, whatever stands behind it
 pub one_fault : (r : Message) (more : List ℕ) → FitsFrame r → request_fault (request_bytes r ++ more) ≡ number_fault r
 one_fault r more fits =
-    let b = header_of r in
     let body = body_bytes r.body in
-    let f = fields_of r fits in
-    let len : length_at (b ++ (body ++ more)) ≡ length body = length_at-append b (body ++ more) (omega (arith, f.long)) ∙ f.len_is in
-    let long : length (b ++ (body ++ more)) ≡ 48 + (length body + length more) =
-    omega (arith, length-append b (body ++ more), length-append body more, f.long) in
-    ap request_fault (append_assoc b body more)
-    ∙ whole_frame (b ++ (body ++ more)) (omega (arith, long)) (omega (arith, long, len))
-    ∙ header_fault-append b (body ++ more) (omega (arith, f.long))
-    ∙ header_fault_is r fits
+    let b = header_of r ++ (body ++ more) in
+    let at = places r (body ++ more) fits in
+    let long : length b ≡ 48 + (length body + length more) = omega (arith, length-append (header_of r) (body ++ more), length-append body more, length-header r) in
+    ap request_fault (append_assoc (header_of r) body more)
+    ∙ whole_frame b (omega arith) (omega (arith, at.1.1.1.1.1.0))
+    ∙ header_fault_is r (body ++ more) fits
 
 -- what is spelled has no fault, whatever stands behind it
 pub spelled_sound : (r : Message) (more : List ℕ) → IsRequest r → request_fault (request_bytes r ++ more) ≡ None
@@ -198,20 +105,15 @@ body_one a b o fa fb e = absurd (omega (arith, o))
 
 -- no spelling begins another, and each request has one
 pub spelled_once : (r s : Message) (x y : List ℕ) → IsRequest r → IsRequest s → request_bytes r ++ x ≡ request_bytes s ++ y → (r ≡ s) × (x ≡ y)
+unfolding header_bytes le_bytes
 spelled_once r s x y ir is e =
-    let fr = fields_of r (fits_frame r ir) in
-    let fs = fields_of s (fits_frame s is) in
-    let heads = split_at (header_of r) (header_of s) (body_bytes r.body ++ x) (body_bytes s.body ++ y) (fr.long ∙ sym fs.long)
-    (sym (append_assoc (header_of r) (body_bytes r.body) x) ∙ e ∙ append_assoc (header_of s) (body_bytes s.body) y) in
-    let head : header_of r ≡ header_of s = heads.0 in
-    let client : r.client ≡ s.client = sym fr.client_is ∙ ap (le_at 16 0) head ∙ fs.client_is in
-    let session : r.session ≡ s.session = sym fr.session_is ∙ ap (le_at 8 16) head ∙ fs.session_is in
-    let request : r.request ≡ s.request = sym fr.request_is ∙ ap (le_at 4 24) head ∙ fs.request_is in
-    let code : operation r.body ≡ operation s.body = sym fr.code_is ∙ ap (le_at 1 28) head ∙ fs.code_is in
-    let len : length (body_bytes r.body) ≡ length (body_bytes s.body) = sym fr.len_is ∙ ap (le_at 4 32) head ∙ fs.len_is in
-    let bodies = split_at (body_bytes r.body) (body_bytes s.body) x y len heads.1 in
-    let body : r.body ≡ s.body = body_one r.body s.body code ir.items is.items bodies.0 in
-    (λ i. record { client = client i; session = session i; request = request i; body = body i }, bodies.1)
+    let br = body_bytes r.body in
+    let bs = body_bytes s.body in
+    let all = sym (append_assoc (header_of r) br x) ∙ e ∙ append_assoc (header_of s) bs y in
+    let heads = one_row header_widths (row_of r) (row_of s) (br ++ x) (bs ++ y) refl refl (row_fits r (fits_frame r ir)) (row_fits s (fits_frame s is)) all in
+    let bodies = split_at br bs x y (cc heads.0) heads.1 in
+    let body : r.body ≡ s.body = body_one r.body s.body (cc heads.0) ir.items is.items bodies.0 in
+    (grind arith, bodies.1)
 
 -- the answer of a slice is the only one
 pub found_only : (answer : Result (Message × ℕ) FrameFault) (bytes front rest : List ℕ) (r : Message) → Found answer bytes → Spells front r → bytes ≡ front ++ rest → OnlyThis answer r (length front)

@@ -22,36 +22,22 @@ use Rattle.tb_records.proofs.FrameFaults.{IsOfHeader, is_of_header, cut_header, 
 
 -- the header is cut
 pub short_header : (buf : List ℕ) (n : ℕ) (old new : Option (List ℕ)) → (n ≡ 0 → ⊥) → n < 48 → length buf ≡ 48 → Filled n buf old new → Answers (Err Short) old new
-short_header buf n None new some h long f = tt
-short_header buf n (Some old) None some h long f = absurd f.bytes
-short_header buf n (Some old) (Some new) some h long f =
-    let left : old ≡ take n buf ++ new = f.bytes in
-    let none : new ≡ [] = f.end (omega arith) in
-    let size : length old ≡ n = omega (arith, ap length left, ap length none, length-append (take n buf) new, length-take n buf) in
-    (omega arith, cut_header old (omega arith), none)
-
--- a fault of the header, by cases on the faults that a header can have
-bad_header : (fault : FrameFault) (old new : List ℕ) → IsOfHeader fault → request_fault old ≡ Some fault → new ≡ drop 48 old → Faulted fault old new
-bad_header Short old new is e d = absurd is
-bad_header Device old new is e d = absurd is
-bad_header NoMemory old new is e d = absurd is
-bad_header fault old new is e d = (e, d)
+short_header buf n old new some h long f = let end = f.end (omega arith) in grind (arith, cut_header, length-append, length-take)
 
 -- the header has a fault
 pub faulty_header : (fault : FrameFault) (header : List ℕ) (old new : Option (List ℕ)) → length header ≡ 48 → Consumes old new header → header_fault header ≡ Some fault → Answers (Err fault) old new
 faulty_header fault header None new long read e = tt
 faulty_header fault header (Some old) None long read e = absurd read
-faulty_header fault header (Some old) (Some new) long read e =
-    let left : old ≡ header ++ new = read in
-    let whole : length old ≡ 48 + length new = omega (arith, ap length left, length-append header new) in
-    let same : header_fault old ≡ Some fault = ap header_fault left ∙ header_fault-append header new (omega arith) ∙ e in
-    bad_header fault old new (is_of_header header fault e) (header_first old fault (omega arith) same)
-    (sym (drop_at header new 48 long) ∙ ap (drop 48) (sym left))
+faulty_header fault header (Some old) (Some new) long left e =
+    let kind = is_of_header header fault e in
+    let same = header_fault-append header new (omega arith) in
+    let first = header_first (header ++ new) fault (omega (arith, length-append header new)) (same ∙ e) in
+    let behind = drop_at header new 48 long in
+    grind arith
 
 -- a fault of the header is none of the reader
 pub header_counts : (fault : FrameFault) (old new : Input) → IsOfHeader fault → new.failed ≡ old.failed → FaultCounts fault old new
-header_counts Device old new is same = absurd is
-header_counts fault old new is same = same
+header_counts fault old new is same = grind arith
 
 -- the buffer was filled
 pub whole_buffer : (buf : List ℕ) (n : ℕ) (old new : Option (List ℕ)) → 48 ≤ n → length buf ≡ 48 → Filled n buf old new → Consumes old new buf
@@ -62,39 +48,39 @@ pub length_of : (b : List ℕ) (h : Header) → HeaderOf b h → body_length h �
 unfolding header_fault
 length_of b h of =
     let tests = none_each (header_tests b) of.sound in
-    let same : body_length h ≡ length_at b / item_size (operation_at b) * item_size (operation_at b) = λ i. of.count i * item_size (of.operation i) in
-    same ∙ right_length (operation_at b) (length_at b) tests.1.1.1.1.1
+    let right = right_length (operation_at b) (length_at b) tests.1.1.1.1.1 in
+    grind arith
 
 -- the body was not read
 pub faulty_body : (fault : FrameFault) (h : Header) (old mid new : Option (List ℕ)) → ReadsHeader h old mid → BodyFault fault (body_length h) mid new → Answers (Err fault) old new
 faulty_body fault h None mid new header body = tt
 faulty_body fault h (Some old) None new header body = absurd header.bytes
-faulty_body NoMemory h (Some old) (Some mid) None header body = absurd body
-faulty_body Short h (Some old) (Some mid) None header body = absurd body.bytes
-faulty_body Device h (Some old) (Some mid) None header body = absurd body.bytes
-faulty_body fault h (Some old) (Some mid) None header body = absurd body
-faulty_body NoMemory h (Some old) (Some mid) (Some new) header body =
-    let b = header.header in
-    let left : old ≡ b ++ mid = header.bytes in
-    let same : header_fault old ≡ None = ap header_fault left ∙ header_fault-append b mid (omega (arith, header.long)) ∙ header.fields.sound in
-    let kept : new ≡ mid = body in
-    (omega (arith, ap length left, length-append b mid, header.long), same, kept ∙ sym (drop_at b mid 48 header.long) ∙ ap (drop 48) (sym left))
-faulty_body Short h (Some old) (Some mid) (Some new) header body =
-    let b = header.header in
-    let left : old ≡ b ++ mid = header.bytes in
-    let same : header_fault old ≡ None = ap header_fault left ∙ header_fault-append b mid (omega (arith, header.long)) ∙ header.fields.sound in
-    let len : length_at old ≡ body_length h = ap length_at left ∙ length_at-append b mid (omega (arith, header.long)) ∙ sym (length_of b h header.fields) in
-    let behind : mid ≡ body.rest ++ new = body.bytes in
-    let none : new ≡ [] = body.end in
-    let size : length old ≡ 48 + length body.rest = omega (arith, ap length left, length-append b mid, header.long, ap length behind, length-append body.rest new, ap length none) in
-    (omega (arith, size), cut_body old (omega (arith, size)) same (omega (arith, size, len, body.short)), none)
-faulty_body Device h (Some old) (Some mid) (Some new) header body =
-    let b = header.header in
-    let left : old ≡ b ++ mid = header.bytes in
-    let len : length_at old ≡ body_length h = ap length_at left ∙ length_at-append b mid (omega (arith, header.long)) ∙ sym (length_of b h header.fields) in
-    let behind : mid ≡ body.front ++ new = body.bytes in
-    (b ++ body.front, omega (arith, length-append b body.front, header.long, len, body.short), left ∙ ap (λ l. b ++ l) behind ∙ sym (append_assoc b body.front new))
-faulty_body fault h (Some old) (Some mid) (Some new) header body = absurd body
+faulty_body fault h (Some old) (Some mid) None header body = absurd (grind arith)
+faulty_body fault h (Some old) (Some mid) (Some new) header body = by fault body
+  where
+    b : List ℕ
+    b = header.header
+
+    left : old ≡ b ++ mid
+    left = header.bytes
+
+    whole : length old ≡ 48 + length mid
+    whole = omega (arith, ap length left, length-append b mid, header.long)
+
+    sound : header_fault old ≡ None
+    sound = ap header_fault left ∙ header_fault-append b mid (omega (arith, header.long)) ∙ header.fields.sound
+
+    len : length_at old ≡ body_length h
+    len = ap length_at left ∙ length_at-append b mid (omega (arith, header.long)) ∙ sym (length_of b h header.fields)
+
+    by : (fault : FrameFault) → BodyFault fault (body_length h) (Some mid) (Some new) → Faulted fault old new
+    by NoMemory kept = (omega (arith, whole), sound, kept ∙ sym (drop_at b mid 48 header.long) ∙ ap (drop 48) (sym left))
+    by Short body =
+        let size : length mid ≡ length body.rest = omega (arith, ap length body.bytes, length-append body.rest new, ap length body.end) in
+        (omega (arith, whole), cut_body old (omega (arith, whole)) sound (omega (arith, whole, size, len, body.short)), body.end)
+    by Device body =
+        (b ++ body.front, omega (arith, length-append b body.front, header.long, len, body.short), left ∙ ap (λ l. b ++ l) body.bytes ∙ sym (append_assoc b body.front new))
+    by fault body = absurd body
 
 -- the length of a body, by its items
 pub length-body : (body : Body) → length (body_bytes body) ≡ item_count body * item_size (operation body)
@@ -139,23 +125,11 @@ whole_request h r (Some old) (Some mid) (Some new) header read =
 
 -- the moment is cut
 pub short_moment : (buf : List ℕ) (n : ℕ) (old new : Option (List ℕ)) → (n ≡ 0 → ⊥) → n < 8 → length buf ≡ 8 → Filled n buf old new → TimedAnswers (Err Short) old new
-short_moment buf n None new some h long f = tt
-short_moment buf n (Some old) None some h long f = absurd f.bytes
-short_moment buf n (Some old) (Some new) some h long f =
-    let left : old ≡ take n buf ++ new = f.bytes in
-    let none : new ≡ [] = f.end (omega arith) in
-    let size : length old ≡ n = omega (arith, ap length left, ap length none, length-append (take n buf) new, length-take n buf) in
-    (omega arith, cut_header (drop 8 old) (omega (arith, length-drop 8 old, size)), none)
+short_moment buf n old new some h long f = let end = f.end (omega arith) in grind (arith, cut_header, length-append, length-take, length-drop)
 
 -- there is no frame behind the moment
 pub no_frame : (moment : ℕ) (old mid new : Option (List ℕ)) → ReadsMoment moment old mid → Answers (Ok None) mid new → TimedAnswers (Err Short) old new
-no_frame moment None mid new read rest = tt
-no_frame moment (Some old) None new read rest = absurd read.bytes
-no_frame moment (Some old) (Some mid) None read rest = absurd rest
-no_frame moment (Some old) (Some mid) (Some new) read rest =
-    let left : old ≡ le_bytes 8 moment ++ mid = read.bytes in
-    let size : length old ≡ 8 = omega (arith, ap length left, ap length rest.0, length-append (le_bytes 8 moment) mid, length-le_bytes 8 moment) in
-    (omega arith, cut_header (drop 8 old) (omega (arith, length-drop 8 old, size)), rest.1)
+no_frame moment old mid new read rest = grind (arith, cut_header, length-append, length-drop, length-le_bytes)
 
 -- the frame behind the moment has a fault
 pub bad_frame : (fault : FrameFault) (moment : ℕ) (old mid new : Option (List ℕ)) → ReadsMoment moment old mid → Answers (Err fault) mid new → TimedAnswers (Err fault) old new

@@ -8,6 +8,7 @@ ghost use Rattle.tb_records.specs.Reading.{Filled, Lost, ReadsItems, ReadFault, 
 
 use crate::faults::FrameFault;
 use crate::layout::Item;
+use crate::lists::Items;
 use std::alloc::Global;
 use std::io;
 use std::io::{BufReader, Read, Write};
@@ -266,7 +267,7 @@ fn fill_all<S: Source>(source: &mut S, buf: &mut [u8]) -> Result<(), FrameFault>
 }
 
 /// Adds the items that the bytes spell, one behind the other.
-fn push_items<T: Item>(bytes: &[u8], count: usize, items: &mut Vec<T>)
+pub(crate) fn push_items<T: Item>(bytes: &[u8], count: usize, items: &mut Vec<T>)
     requires long { length bytes.now ≡ T.SIZE * count }
     requires room { vec_len items.old + count ≤ vec_capacity items.old }
     ensures spelled { flat_map T.spelling items.new.items ≡ flat_map T.spelling items.old.items ++ bytes.now }
@@ -325,10 +326,10 @@ pub(crate) fn items_from<S: Source, T: Item>(
     alloc: Global,
     source: &mut S,
     count: usize,
-) -> Result<Vec<T>, FrameFault>
+) -> Result<Items<T>, FrameFault>
     ensures bytes { MatchResult result
-        (λ v.
-        ReadsItems T.spelling T.Fits count v.items (S.input source.old).left
+        (λ items.
+        ReadsItems T.spelling T.Fits count items (S.input source.old).left
         (S.input source.new).left)
         (λ f. BodyFault f (count * T.SIZE) (S.input source.old).left (S.input source.new).left) }
     ensures counted { Counts result (S.input source.old) (S.input source.new) }
@@ -340,7 +341,7 @@ pub(crate) fn items_from<S: Source, T: Item>(
     } else {
         fill_items(source, &mut [0; 1024], 8 * few, &mut items, count)?;
     }
-    Ok(items)
+    Ok(Items::new(items))
 }
 
 /// Writes the bytes of items one behind another, from the first byte of the block on, and answers how many they are.

@@ -44,6 +44,7 @@ pub(crate) fn put_u16(out: &mut [u8], at: usize, number: u16)
 }
 
 /// Writes 1 byte at a place.
+#[tactic(auto, using(crate::proofs::NumberBytes::put_byte))]
 pub(crate) fn put_u8(out: &mut [u8], at: usize, number: u8)
     requires { at + 1 ≤ length out.old }
     ensures written { take (at + 1) out.new ≡ take at out.old ++ le_bytes 1 number }

@@ -85,6 +85,7 @@ fn header_fields(bytes: &[u8]) -> Result<Header, FrameFault>
 }
 
 /// The fields of the header that the bytes begin with, which are its spelling; or the first of its faults.
+#[tactic(auto, using(crate::proofs::HeaderBytes::ok_spelled))]
 pub(crate) fn request_header(bytes: &[u8]) -> Result<Header, FrameFault>
     requires { 48 ≤ length bytes.now }
     ensures fields { MatchResult result (λ h. HeaderOf bytes.now h) (λ f. header_fault bytes.now ≡ Some f) }

@@ -13,6 +13,7 @@ use std::alloc::Global;
 
 /// The request whose frame the bytes begin with, and the length of the frame; or the first fault of the frame. NoMemory
 /// comes only where there is no fault.
+#[tactic(auto, using(crate::proofs::Spellings::found_only))]
 pub fn read_request(alloc: Global, bytes: &[u8]) -> Result<(Request, usize), FrameFault>
     ensures found { Found result bytes.now }
     ensures only { (r : Message) (front rest : List ℕ) → Spells front r
@@ -22,6 +23,7 @@ pub fn read_request(alloc: Global, bytes: &[u8]) -> Result<(Request, usize), Fra
     read(alloc, bytes)
 }
 
+#[tactic(auto, using(crate::proofs::FrameFaults::cut_header, crate::proofs::SliceAnswers::bad_slice, crate::proofs::SliceAnswers::cut_slice, crate::proofs::SliceAnswers::whole_slice))]
 fn read(alloc: Global, bytes: &[u8]) -> Result<(Request, usize), FrameFault>
     ensures { Found result bytes.now }
 {

@@ -4,11 +4,13 @@ ghost use Rattle.tb_records.specs.Messages.{Answer, answer_fault};
 ghost use Rattle.tb_records.specs.ReplyFrames.{reply_bytes, reply_fault, FitsFrame, HasKind, IsReply};
 
 /// The frame of a reply has no fault, whatever stands behind it.
+#[tactic(auto, using(crate::proofs::ReplyLaws::spelled_whole))]
 pub fn spelled_whole()
     ensures { (r : Answer) (more : List ℕ) → IsReply r → reply_fault (reply_bytes r ++ more) ≡ None }
 {}
 
 /// Each reply has one frame, and no frame begins another one.
+#[tactic(auto, using(crate::proofs::ReplyLaws::one_reading))]
 pub fn one_reading()
     ensures { (r s : Answer) (x y : List ℕ) → IsReply r
         → IsReply s
@@ -18,6 +20,7 @@ pub fn one_reading()
 
 /// The first fault of a reply's values is the first fault of their frame, where the body is of the kind that the operation
 /// and the status ask for.
+#[tactic(auto, using(crate::proofs::ReplyLaws::one_fault))]
 pub fn one_fault()
     ensures { (r : Answer) (more : List ℕ) → FitsFrame r
         → HasKind r

@@ -6,6 +6,7 @@ ghost use Rattle.tb_records.specs.ReplyHeaders.{HasReplyFields, IsReplyHeader, I
 ghost use Rattle.tb_records.specs.ReplyTests.{reply_field_tests, reply_length_tests};
 
 use crate::bodies::ReplyBody;
+use crate::devices::push_items;
 use crate::encoding::{u8_at, u16_at, u32_at, u64_at, u128_at};
 use crate::faults::FrameFault;
 use crate::layout::Item;
@@ -113,12 +114,7 @@ fn items_in<T: Item>(alloc: Global, bytes: &[u8], count: usize) -> Result<Items<
     ensures { IfOk result (λ items. SpelledItems T.spelling T.Fits items bytes.now) }
 {
     let mut items = Vec::with_capacity(alloc, count)?;
-    let mut rest = bytes;
-    while items.len() < count {
-        let (item, more) = rest.split_at(T::SIZE);
-        items.push(T::read(item)).unwrap();
-        rest = more;
-    }
+    push_items(bytes, count, &mut items);
     Ok(Items::new(items))
 }
 
@@ -140,6 +136,7 @@ fn body_in(alloc: Global, operation: u8, status: u8, bytes: &[u8]) -> Result<Rep
 }
 
 /// The reply at the beginning of the bytes, and the length of its frame; or the first of its faults.
+#[tactic(auto, using(crate::proofs::ReplyFaults::cut_reply_header, crate::proofs::ReplyFaults::found_header_fault, crate::proofs::ReplyFaults::cut_reply_body, crate::proofs::ReplyFaults::whole_reply, crate::proofs::ReplyHeaderBytes::body_behind, crate::proofs::ReplyHeaderBytes::header_length, crate::proofs::ReplyHeaderBytes::header_right, crate::proofs::ReplyHeaderBytes::found_reply))]
 fn read(alloc: Global, bytes: &[u8]) -> Result<(Reply, usize), FrameFault>
     ensures { FoundReply result bytes.now }
 {
@@ -158,6 +155,7 @@ fn read(alloc: Global, bytes: &[u8]) -> Result<(Reply, usize), FrameFault>
 
 /// The reply whose frame the bytes begin with, and the length of the frame; or the first fault, in the order of the
 /// tests. NoMemory comes after all of these.
+#[tactic(auto, using(crate::proofs::ReplyLaws::only_this))]
 pub fn read_reply(alloc: Global, bytes: &[u8]) -> Result<(Reply, usize), FrameFault>
     ensures found { FoundReply result bytes.now }
     ensures only { (r : Answer) (front rest : List ℕ) → SpellsReply front r

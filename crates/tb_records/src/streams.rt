@@ -13,7 +13,6 @@ use crate::devices::{Source, fill, items_from};
 use crate::encoding::{u32_at, u64_at};
 use crate::faults::FrameFault;
 use crate::headers::{Header, request_header};
-use crate::lists::Items;
 use crate::operations::Operation;
 use crate::requests::Request;
 use std::alloc::Global;
@@ -126,25 +125,13 @@ fn body_from<S: Source>(
         (S.input source.old).left (S.input source.new).left) }
     ensures counted { Counts result (S.input source.old) (S.input source.new) }
 {
-    match operation {
-        Operation::Register => Ok(Body::Register),
-        Operation::CreateAccounts => {
-            let events = items_from(alloc, source, count)?;
-            Ok(Body::CreateAccounts(Items::new(events)))
-        }
-        Operation::CreateTransfers => {
-            let events = items_from(alloc, source, count)?;
-            Ok(Body::CreateTransfers(Items::new(events)))
-        }
-        Operation::LookupAccounts => {
-            let ids = items_from(alloc, source, count)?;
-            Ok(Body::LookupAccounts(Items::new(ids)))
-        }
-        Operation::LookupTransfers => {
-            let ids = items_from(alloc, source, count)?;
-            Ok(Body::LookupTransfers(Items::new(ids)))
-        }
-    }
+    Ok(match operation {
+        Operation::Register => Body::Register,
+        Operation::CreateAccounts => Body::CreateAccounts(items_from(alloc, source, count)?),
+        Operation::CreateTransfers => Body::CreateTransfers(items_from(alloc, source, count)?),
+        Operation::LookupAccounts => Body::LookupAccounts(items_from(alloc, source, count)?),
+        Operation::LookupTransfers => Body::LookupTransfers(items_from(alloc, source, count)?),
+    })
 }
 
 /// Reads the body behind a header, and makes the request.
@@ -166,6 +153,7 @@ pub(crate) fn request_behind<S: Source>(
 }
 
 /// Reads a header and tests it. None where the input ends before the first byte.
+#[tactic(auto, using(crate::proofs::StreamAnswers::short_header, crate::proofs::StreamAnswers::header_counts, crate::proofs::FrameFaults::is_of_header))]
 fn header_from<S: Source>(source: &mut S) -> Result<Option<Header>, FrameFault>
     ensures answer { HeaderAnswers result (S.input source.old).left (S.input source.new).left }
     ensures counted { Counts result (S.input source.old) (S.input source.new) }
@@ -181,6 +169,7 @@ fn header_from<S: Source>(source: &mut S) -> Result<Option<Header>, FrameFault>
 }
 
 /// Reads one request. None where the input ends before the first byte.
+#[tactic(auto, using(crate::proofs::StreamAnswers::whole_request, crate::proofs::StreamAnswers::faulty_body))]
 pub(crate) fn request_from<S: Source>(
     alloc: Global,
     source: &mut S,
@@ -198,6 +187,7 @@ pub(crate) fn request_from<S: Source>(
 /// Reads a moment of 8 bytes, and the request behind it. None where the input ends before the first byte; Short where it
 /// ends in the moment or in the frame, or between the two. Just the bytes of what is answered are read; after a fault of
 /// the header the body is unread.
+#[tactic(auto, using(crate::proofs::StreamAnswers::no_frame, crate::proofs::StreamAnswers::bad_frame))]
 pub fn read_timed_from<R: Source>(
     alloc: Global,
     source: &mut R,
@@ -216,6 +206,7 @@ pub fn read_timed_from<R: Source>(
 }
 
 /// Reads a moment. None where the input ends before the first byte.
+#[tactic(auto, using(crate::proofs::StreamAnswers::short_moment))]
 fn moment_from<S: Source>(source: &mut S) -> Result<Option<u64>, FrameFault>
     ensures answer { MomentAnswers result (S.input source.old).left (S.input source.new).left }
     ensures counted { Counts result (S.input source.old) (S.input source.new) }

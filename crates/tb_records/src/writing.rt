@@ -3,7 +3,7 @@ ghost use Rattle.std.specs.Prelude.{◌≡◌, ◌≤◌, ◌+◌, ◌*◌, ◌+
 ghost use Rattle.std.specs.List.{flat_map};
 ghost use Rattle.tb_records.specs.Frames.{header_bytes, body_bytes, request_bytes, BodyFits, IsRequest};
 ghost use Rattle.tb_records.specs.Messages.{operation, item_count, items_max, answer_count};
-ghost use Rattle.tb_records.specs.ReplyFrames.{header_of_reply, reply_body_bytes, reply_bytes, ReplyBodyFits, IsReply};
+ghost use Rattle.tb_records.specs.ReplyFrames.{reply_header_bytes, header_of_reply, reply_body_bytes, reply_bytes, ReplyBodyFits, IsReply};
 ghost use Rattle.tb_records.specs.Transport.{IsSent};
 
 use crate::bodies::{Body, ReplyBody};
@@ -15,6 +15,32 @@ use crate::replies::Reply;
 use crate::requests::Request;
 use std::alloc::AllocError;
 
+/// The 48 bytes of a header. Those of a request have status and commit number 0.
+fn header(
+    client: u128,
+    session: u64,
+    request: u32,
+    operation: u8,
+    status: u8,
+    len: u32,
+    commit: u64,
+) -> [u8; 48]
+    ensures bytes { result ≡ reply_header_bytes client session request operation status len commit }
+    ensures fits { (client < 2 ^ 128) × (session < 2 ^ 64) × (request < 2 ^ 32) × (commit < 2 ^ 64) }
+{
+    let mut header = [0; 48];
+    put_u128(&mut header, 0, client);
+    put_u64(&mut header, 16, session);
+    put_u32(&mut header, 24, request);
+    put_u8(&mut header, 28, operation);
+    put_u8(&mut header, 29, status);
+    put_u16(&mut header, 30, 0);
+    put_u32(&mut header, 32, len);
+    put_u64(&mut header, 36, commit);
+    put_u32(&mut header, 44, 0);
+    header
+}
+
 /// The header of a request before a body of this length.
 fn request_header(request: &Request, len: u32) -> [u8; 48]
     ensures header { result
@@ -24,17 +50,16 @@ fn request_header(request: &Request, len: u32) -> [u8; 48]
         × (request.now.session < 2 ^ 64)
         × (request.now.request < 2 ^ 32) }
 {
-    let mut header = [0; 48];
-    put_u128(&mut header, 0, request.client());
-    put_u64(&mut header, 16, request.session());
-    put_u32(&mut header, 24, request.request());
-    put_u8(&mut header, 28, request.operation());
-    put_u8(&mut header, 29, 0);
-    put_u16(&mut header, 30, 0);
-    put_u32(&mut header, 32, len);
-    put_u64(&mut header, 36, 0);
-    put_u32(&mut header, 44, 0);
-    header
+    let (client, session) = (request.client(), request.session());
+    header(
+        client,
+        session,
+        request.request(),
+        request.operation(),
+        0,
+        len,
+        0,
+    )
 }
 
 /// The header of a reply before a body of this length.
@@ -45,17 +70,17 @@ fn reply_header(reply: &Reply, len: u32) -> [u8; 48]
         × (reply.now.request < 2 ^ 32)
         × (reply.now.commit < 2 ^ 64) }
 {
-    let mut header = [0; 48];
-    put_u128(&mut header, 0, reply.client());
-    put_u64(&mut header, 16, reply.session());
-    put_u32(&mut header, 24, reply.request());
-    put_u8(&mut header, 28, reply.operation());
-    put_u8(&mut header, 29, reply.status().code());
-    put_u16(&mut header, 30, 0);
-    put_u32(&mut header, 32, len);
-    put_u64(&mut header, 36, reply.commit());
-    put_u32(&mut header, 44, 0);
-    header
+    let (client, session) = (reply.client(), reply.session());
+    let (operation, status) = (reply.operation(), reply.status().code());
+    header(
+        client,
+        session,
+        reply.request(),
+        operation,
+        status,
+        len,
+        reply.commit(),
+    )
 }
 
 /// Appends the items to a vector that has capacity for them.
@@ -187,6 +212,7 @@ fn send_request_body<W: Sink>(sink: &mut W, body: &Body) -> Result<(), FrameFaul
 /// Writes a request's frame to a sink. Device where the sink answers an error, or takes nothing of what is left: then a
 /// beginning of the frame went out. That the request's numbers fit, so that the frame is read as no other, is said of
 /// what was written.
+#[tactic(auto, using(crate::proofs::Sendings::sent_rest, crate::proofs::Sendings::sent_few, crate::proofs::Sendings::request_frame))]
 pub fn send_request<W: Sink>(sink: &mut W, request: &Request) -> Result<(), FrameFault>
     ensures sent { IsSent result (request_bytes request.now) (W.output sink.old) (W.output sink.new) }
     ensures fits { OnOk result (IsRequest request.now) }
@@ -214,6 +240,7 @@ fn send_body<W: Sink>(sink: &mut W, body: &ReplyBody) -> Result<(), FrameFault>
 /// Writes a reply's frame to a sink. Device where the sink answers an error, or takes nothing of what is left: then a
 /// beginning of the frame went out, and nothing more is offered. That the reply's numbers fit, so that the frame is read as
 /// no other, is said of what was written.
+#[tactic(auto, using(crate::proofs::Sendings::sent_rest, crate::proofs::Sendings::sent_few, crate::proofs::Sendings::reply_frame))]
 pub fn send_reply<W: Sink>(sink: &mut W, reply: &Reply) -> Result<(), FrameFault>
     ensures sent { IsSent result (reply_bytes reply.now) (W.output sink.old) (W.output sink.new) }
     ensures fits { OnOk result (IsReply reply.now) }

@@ -26,6 +26,3 @@ returns-in-Err-clause-bytes g c = (
     bytes = Consumes-kept _ _ _ _ c.loop-at.invariant.bytes c.in-Err.ensures.bytes;
   },
 )
-
-pub returns-in-Err-clause-counted : goal.returns-in-Err-clause-counted
-returns-in-Err-clause-counted g c = fails_since _ _ _ c.loop-at.invariant.counted c.in-Err.ensures.counted

@@ -6,20 +6,6 @@ use Rattle.std.specs.Io.KnownBytes.{Consumes}
 use Rattle.tb_records.proofs.Pieces.{items_cut}
 use Rattle.tb_records.proofs.devices.fill_items.Goals as goal
 
-pub loop-items-preserved : goal.loop-items-preserved
-loop-items-preserved g c =
-    let fits : c.min-n.result * g.T.Item.SIZE ≤ c.args.at_once * g.T.Item.SIZE = mul-le-mul_right g.T.Item.SIZE (omega arith) in
-    record {
-      within = omega arith;
-      room = omega arith;
-      buffer = omega (arith, length-append c.fill_all.new.buf (drop (c.min-n.result * c.SIZE.result) c.loop-items.buf), length-drop (c.min-n.result * c.SIZE.result) c.loop-items.buf);
-      bytes = subst (Consumes (g.S.Source.input c.args.source.now).left (g.S.Source.input c.fill_all.new.source).left)
-          (sym c.push_items.ensures.spelled)
-          (Consumes-trans _ _ _ _ _ c.loop-items.invariant.bytes c.in_ok-fill_all.ensures.bytes);
-      fit = c.push_items.ensures.fit c.loop-items.invariant.fit;
-      counted = c.in_ok-fill_all.ensures.counted ∙ c.loop-items.invariant.counted;
-    }
-
 pub returns-in_err-fill_all-clause-bytes : goal.returns-in_err-fill_all-clause-bytes
 returns-in_err-fill_all-clause-bytes g c =
     let fits : c.min-n.result * g.T.Item.SIZE ≤ c.args.at_once * g.T.Item.SIZE = mul-le-mul_right g.T.Item.SIZE (omega arith) in

@@ -8,9 +8,6 @@ use Rattle.tb_records.proofs.Pieces.{cut_off_in, spellings_in, rejoined, none_le
 use Rattle.std.proofs.lemmas.Grind.{flat_map-append}
 use Rattle.tb_records.proofs.devices.put_blocks.Goals as goal
 
-pub loop-left-init : goal.loop-left-init
-loop-left-init g c = ([], refl, search rules, refl, refl, All-nil g.T.Item.Fits, c.requires.room)
-
 pub returns-in_err-put_all-clause-sent : goal.returns-in_err-put_all-clause-sent
 returns-in_err-put_all-clause-sent g c =
     let inv = c.loop-left.invariant in
@@ -44,19 +41,3 @@ loop-left-preserved g c =
       All-append g.T.Item.Fits inv.0 part inv.5 c.spell_items-count.ensures.fit,
       search c.spell_items-count.ensures.long,
     )
-
-pub returns-clause-sent : goal.returns-clause-sent
-returns-clause-sent g c =
-    let inv = c.loop-left.invariant in
-    let all : c.args.items.now ≡ inv.0 = inv.1 ∙ ap (λ l. inv.0 ++ l) (none_left c.loop-left.left.now c.loop-left-test.ensures) ∙ append-nil inv.0 in
-    record {
-      grown = subst (λ l. Appends (g.W.Sink.output c.args.sink.now).written (g.W.Sink.output c.loop-left.sink).written (flat_map g.T.Item.spelling l)) (sym all) inv.2;
-      counted = inv.3;
-      flowed = inv.4;
-    }
-
-pub returns-clause-fit : goal.returns-clause-fit
-returns-clause-fit g c =
-    let inv = c.loop-left.invariant in
-    let all : c.args.items.now ≡ inv.0 = inv.1 ∙ ap (λ l. inv.0 ++ l) (none_left c.loop-left.left.now c.loop-left-test.ensures) ∙ append-nil inv.0 in
-    subst (λ l. All g.T.Item.Fits l) (sym all) inv.5

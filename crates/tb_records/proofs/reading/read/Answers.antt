@@ -6,17 +6,6 @@ use Rattle.tb_records.proofs.HeaderBytes.{is_header}
 use Rattle.tb_records.proofs.SliceAnswers.{bad_slice, cut_slice, whole_slice, slice_request}
 use Rattle.tb_records.proofs.reading.read.Goals as goal
 
-pub returns-then-bytes-lt48 : goal.returns-then-bytes-lt48
-returns-then-bytes-lt48 c = cut_header c.args.bytes.now c.if-bytes-lt48.true
-
-pub returns-in_err-header : goal.returns-in_err-header
-returns-in_err-header c =
-    let p = err_from_is_err_and c.from_residual.result c.from_residual.ensures.1 in
-    rw (p.1, p.2) (bad_slice c.in_err-header.field-0.0 c.args.bytes.now c.if-bytes-lt48.false c.in_err-header.ensures.fields)
-
-pub returns-then-bytes-header : goal.returns-then-bytes-header
-returns-then-bytes-header c = cut_slice c.args.bytes.now c.in_ok-header.header c.if-bytes-lt48.false c.in_ok-header.ensures.fields c.if-bytes-header.true
-
 pub request_behind-requires : goal.request_behind-requires
 request_behind-requires c = is_header c.args.bytes.now c.in_ok-header.header c.in_ok-header.ensures.fields c.in_ok-header.ensures.spelled
 
@@ -24,6 +13,3 @@ pub returns-in-Ok : goal.returns-in-Ok
 returns-in-Ok c =
     slice_request c.args.bytes.now _ c.in_ok-header.header c.in-Ok.request _ c.if-bytes-lt48.false c.in_ok-header.ensures.fields c.in_ok-header.ensures.spelled c.if-bytes-header.false
     (ap (λ (s : Counted (Bor (List ℕ))). s.inner.now) c.new-body.ensures) c.in-Ok.ensures.bytes
-
-pub returns-in-Err : goal.returns-in-Err
-returns-in-Err c = whole_slice c.args.bytes.now c.in_ok-header.header c.if-bytes-lt48.false c.in_ok-header.ensures.fields c.if-bytes-header.false

@@ -1,22 +1,13 @@
-use Rattle.std.proofs.Common.{◌≤◌, length, ◌∙◌, arith}
-use Rattle.std.proofs.lemmas.List.{take_all}
+use Rattle.std.proofs.Common.{◌≡◌, ℕ, refl, arith}
 use Rattle.tb_records.specs.Frames.{header_bytes}
-use Rattle.tb_records.proofs.ZeroBytes.{zeros_3, zeros_12}
-use Rattle.tb_records.proofs.NumberBytes.{field_then}
+use Rattle.tb_records.specs.Numbers.{le_bytes}
+use Rattle.tb_records.specs.ReplyFrames.{reply_header_bytes}
 use Rattle.tb_records.proofs.writing.request_header.Goals as goal
 
+-- a request's header is that of a reply with status and commit number 0
+zero_status : (client session request operation len : ℕ) → reply_header_bytes client session request operation 0 len 0 ≡ header_bytes client session request operation len
+unfolding reply_header_bytes header_bytes le_bytes
+zero_status client session request operation len = refl
+
 pub returns-clause-header : goal.returns-clause-header
-unfolding header_bytes
-returns-clause-header c =
-    let e1 = c.put_u128.ensures.written in
-    let e2 = field_then _ _ _ _ c.put_u64.ensures.written e1 in
-    let e3 = field_then _ _ _ _ c.put_u32.ensures.written e2 in
-    let e4 = field_then _ _ _ _ c.put_u8.ensures.written e3 in
-    let e5 = field_then _ _ _ _ c.put_u8-2.ensures.written e4 in
-    let e6 = field_then _ _ _ _ c.put_u16.ensures.written e5 ∙ zeros_3 _ in
-    let e7 = field_then _ _ _ _ c.put_u32-2.ensures.written e6 in
-    let e8 = field_then _ _ _ _ c.put_u64-2.ensures.written e7 in
-    let e9 = field_then _ _ _ _ c.put_u32-3.ensures.written e8 ∙ zeros_12 _ in
-    let whole : length c.put_u32-3.new.out ≤ 48 = omega arith in
-    let all = take_all 48 c.put_u32-3.new.out whole in
-    simp (← all, e9, c.client.ensures, c.session.ensures, c.request.ensures, c.operation.ensures)
+returns-clause-header c = grind (arith, zero_status)
