@@ -53,7 +53,9 @@ find-put_none key p x (y ∷ ys) none = grind (arith, find-put_none key p x ys)
 -- a test that no record of x's key passes finds the same
 pub find-replaced_other : {X : Type 0} (key : X → ℕ) (p : X → Bool) (x : X) (xs : List X) → ((y : X) → key y ≡ key x → p y ≡ false) → find p (replaced key x xs) ≡ find p xs
 find-replaced_other key p x [] fails = refl
-find-replaced_other key p x (y ∷ ys) fails = let later = find-replaced_other key p x ys fails in grind (arith, nat_tests, fails y, fails x refl)
+find-replaced_other key p x (y ∷ ys) fails =
+    let later = find-replaced_other key p x ys fails in
+    grind (arith, nat_tests, fails y, fails x refl)
 
 -- the record in another's place is found by its key
 pub find-replaced_here : {X : Type 0} (key : X → ℕ) (x old : X) (xs : List X) → find (λ y. key y == key x) xs ≡ Some old → find (λ y. key y == key x) (replaced key x xs) ≡ Some x

@@ -43,7 +43,7 @@ head_stands profile clients_max rest few = row_stands (8 ∷ 4 ∷ 4 ∷ []) (he
 
 -- too few bytes for a head
 short_head : (b : List ℕ) → length b < 16 → HasNoHead b
-short_head b few profile clients_max rest is e = absurd (omega (arith, few, ap length e, length-append (head_bytes profile clients_max) rest, length-head profile clients_max))
+short_head b few profile clients_max rest is e = absurd (grind (arith, length-append, length-head))
 
 -- more bytes behind make no head
 no_head_more : (b more : List ℕ) → length b ≡ 16 → HasNoHead b → HasNoHead (b ++ more)
@@ -98,26 +98,19 @@ bad_frame fault commit time (Some old) (Some mid) (Some new) some read rest = by
     by fault begun left rest = (mid, begun, rest)
 
 -- the numbers that 16 bytes spell
-pub spelled_numbers : (buf : List ℕ) (first second : ℕ) → length buf ≡ 16 → take 8 buf ≡ take 0 buf ++ le_bytes 8 first → take 16 buf ≡ take 8 buf ++ le_bytes 8 second → buf ≡ numbers_bytes first second
-unfolding numbers_bytes
-spelled_numbers buf first second long e f = sym (take_all 16 buf (omega arith)) ∙ f ∙ ap (λ l. l ++ le_bytes 8 second) e
-
 pub two_numbers : (buf : List ℕ) (n : ℕ) (first second : ℕ) (old new : Option (List ℕ)) → 16 ≤ n → length buf ≡ 16 → Filled n buf old new
     → take 8 buf ≡ take 0 buf ++ le_bytes 8 first → take 16 buf ≡ take 8 buf ++ le_bytes 8 second → first < 2 ^ 64 → second < 2 ^ 64 → ReadsNumbers first second old new
-two_numbers buf n first second old new h long f e1 e2 fits1 fits2 = record {
-  bytes = subst (Consumes old new) (take_all n buf (omega arith) ∙ spelled_numbers buf first second long e1 e2) f.bytes;
-  first_fits = fits1;
-  second_fits = fits2;
-}
+unfolding numbers_bytes
+two_numbers buf n first second old new h long f first_bytes second_bytes first_fits second_fits =
+    let all = take_all n buf (omega arith) in
+    let whole = take_all 16 buf (omega arith) in
+    grind arith
 
 -- the head that 16 bytes spell
 pub spelled_head : (buf : List ℕ) (sign number clients_max : ℕ) (profile : Profile) → length buf ≡ 16 → sign ≡ 3553425134609187412 → number ≡ profile_number profile
     → take 8 buf ≡ take 0 buf ++ le_bytes 8 sign → take 12 buf ≡ take 8 buf ++ le_bytes 4 number → take 16 buf ≡ take 12 buf ++ le_bytes 4 clients_max → buf ≡ head_bytes profile clients_max
 unfolding head_bytes
-spelled_head buf sign number clients_max profile long is_signed is_number e f g =
-    sym (take_all 16 buf (omega arith))
-    ∙ g
-    ∙ ap (λ l. l ++ le_bytes 4 clients_max) (f ∙ ap (λ l. l ++ le_bytes 4 number) (e ∙ ap (le_bytes 8) is_signed ∙ signed) ∙ ap (λ n. signature ++ le_bytes 4 n) is_number)
+spelled_head buf sign number clients_max profile long is_signed is_number e f g = cc (take_all 16 buf (omega arith), signed)
 
 -- one reading
 

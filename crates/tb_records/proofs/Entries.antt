@@ -33,7 +33,9 @@ module _ {K V X : Type 0} (cmp : K → K → Ordering) (row : K × V → X) (key
 
   pub rows-inserted : (v : V) (es : List (K × V)) → key (row (k, v)) ≡ n → Each Agrees es → find (λ x. key x == n) (map row es) ≡ None → map row (insert_entry cmp es k v) ≡ put key (row (k, v)) (map row es)
   rows-inserted v [] own agree none = refl
-  rows-inserted v (e ∷ es) own agree none = let compared = agree.0 in grind (arith, nat_tests, rows-inserted v es own agree.1)
+  rows-inserted v (e ∷ es) own agree none =
+      let compared = agree.0 in
+      grind (arith, nat_tests, rows-inserted v es own agree.1)
 
 -- rows that stand at their own keys
 module _ {V : Type 0} (key : V → ℕ) where
@@ -49,11 +51,15 @@ module _ {V : Type 0} (key : V → ℕ) where
 
   pub rows-replaced : (v : V) (k : ℕ) (es : List (ℕ × V)) → key v ≡ k → Each Own es → values_of (set_value (is_at (nat_cmp k)) es v) ≡ replaced key v (values_of es)
   rows-replaced v k [] is own = refl
-  rows-replaced v k (e ∷ es) is own = let passes = passes-number nat_cmp (λ e. e.1) key k k e (ap (nat_cmp k) (sym own.0)) in grind (arith, rows-replaced v k es is own.1)
+  rows-replaced v k (e ∷ es) is own =
+      let passes = passes-number nat_cmp (λ e. e.1) key k k e (ap (nat_cmp k) (sym own.0)) in
+      grind (arith, rows-replaced v k es is own.1)
 
   pub own-replaced : (v : V) (k : ℕ) (es : List (ℕ × V)) → key v ≡ k → Each Own es → Each Own (set_value (is_at (nat_cmp k)) es v)
   own-replaced v k [] is own = tt
-  own-replaced v k (e ∷ es) is own = let passes = passes-number nat_cmp (λ e. e.1) key k k e (ap (nat_cmp k) (sym own.0)) in grind (arith, nat_tests, own-replaced v k es is own.1)
+  own-replaced v k (e ∷ es) is own =
+      let passes = passes-number nat_cmp (λ e. e.1) key k k e (ap (nat_cmp k) (sym own.0)) in
+      grind (arith, nat_tests, own-replaced v k es is own.1)
 
   pub own-inserted : (v : V) (k : ℕ) (es : List (ℕ × V)) → key v ≡ k → Each Own es → Each Own (insert_entry nat_cmp es k v)
   own-inserted v k [] is own = (is, tt)

@@ -28,7 +28,8 @@ account_fits a is = grind arith
 pub one_account : (a b : Account) → IsAccount a → IsAccount b → account_bytes a ≡ account_bytes b → a ≡ b
 unfolding account_bytes le_bytes
 one_account a b fa fb e =
-    let same = one_spelling record_widths (of_account a) (of_account b) refl refl (account_fits a fa) (account_fits b fb) e in grind arith
+    let same = one_spelling record_widths (of_account a) (of_account b) refl refl (account_fits a fa) (account_fits b fb) e in
+    grind arith
 
 abbrev of_transfer : Transfer → List ℕ
 of_transfer t =
@@ -41,7 +42,8 @@ transfer_fits t is = grind arith
 pub one_transfer : (a b : Transfer) → IsTransfer a → IsTransfer b → transfer_bytes a ≡ transfer_bytes b → a ≡ b
 unfolding transfer_bytes le_bytes
 one_transfer a b fa fb e =
-    let same = one_spelling record_widths (of_transfer a) (of_transfer b) refl refl (transfer_fits a fa) (transfer_fits b fb) e in grind arith
+    let same = one_spelling record_widths (of_transfer a) (of_transfer b) refl refl (transfer_fits a fa) (transfer_fits b fb) e in
+    grind arith
 
 pub one_result : (a b : EventResult) → IsResult a → IsResult b → result_bytes a ≡ result_bytes b → a ≡ b
 unfolding result_bytes le_bytes

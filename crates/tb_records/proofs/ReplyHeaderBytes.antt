@@ -15,6 +15,7 @@ use Rattle.tb_records.specs.ReplyFrames.{reply_header_bytes, reply_header_fault,
 use Rattle.tb_records.specs.ReplyHeaders.{IsReplyHeader, IsReplyBody}
 use Rattle.tb_records.specs.ReplyTests.{answer_of}
 use Rattle.tb_records.proofs.NumberBytes.{le_at-fits}
+use Rattle.tb_records.proofs.ReplyFaults.{cut_reply_header, found_header_fault, cut_reply_body, whole_reply}
 use Rattle.tb_records.proofs.ReplyPlaces.{reply_widths}
 use Rattle.tb_records.proofs.Rows.{row_bytes, row_read}
 use Rattle.tb_records.proofs.ReplyRows.{is_row, row_count}
@@ -95,3 +96,6 @@ found_reply b h body fits of long is =
         right = header_right b h body _ of is (body_behind b h.len long);
       };
     }
+
+-- what a reader of one reply answers, step by step
+pub ruleset reply_read = (cut_reply_header, found_header_fault, cut_reply_body, whole_reply, body_behind, header_length, header_right, found_reply)

@@ -24,10 +24,7 @@ use Rattle.tb_records.specs.Numbers.{le_bytes}
 use Rattle.tb_records.proofs.ReplyRows.{IsRow, is_row, row_length, row_count}
 use Rattle.tb_records.proofs.FirstFaults.{NoneHolds, none_each}
 
--- the numbers of operations and statuses are small
-operation_small : (n : ℕ) → is_operation n ≡ true → n < 2 ^ 8
-operation_small n e = grind (arith, nat_tests)
-
+-- the numbers of statuses are small, and each is that of one status
 status_small : (s : Status) → status_code s < 2 ^ 8
 status_small s = grind arith
 
@@ -46,24 +43,23 @@ right_each : (r : Answer) → IsReply r → Right r
 right_each r is = none_each (answer_tests_of r.client r.session r.request r.operation (status_code r.status) r.commit (kind_of r.body) (answer_count r.body)) is.right
 
 kind_right : (r : Answer) → IsReply r → kind_of r.body ≡ (if status_code r.status == 0 then kind_for r.operation else 0)
-kind_right r is = eqb-true _ _ (is_true _ (right_each r is).1.1.1.1.1.0)
+kind_right r is = let right = right_each r is in grind (arith, nat_tests)
 
 row_right : (r : Answer) → IsReply r → IsRow r.operation (status_code r.status) (length (reply_body_bytes r.body)) (answer_count r.body)
 row_right r is = is_row r.operation (status_code r.status) r.body (kind_right r is)
 
-len_right : (r : Answer) → IsReply r → length (reply_body_bytes r.body) < 2 ^ 32
-len_right r is = row_small r.operation (status_code r.status) _ (answer_count r.body) (row_right r is) (right_each r is).1.1.1.1.1.1.0
-
 -- what fits, of a reply that has a frame
 fits_frame : (r : Answer) → IsReply r → FitsFrame r
-fits_frame r is = record {
-  client = is.client;
-  session = is.session;
-  request = is.request;
-  operation = operation_small r.operation (is_true _ (right_each r is).1.0);
-  commit = is.commit;
-  body = len_right r is;
-}
+fits_frame r is =
+    let right = right_each r is in
+    record {
+      client = is.client;
+      session = is.session;
+      request = is.request;
+      operation = grind (arith, nat_tests);
+      commit = is.commit;
+      body = row_small r.operation (status_code r.status) _ (answer_count r.body) (row_right r is) right.1.1.1.1.1.1.0;
+    }
 
 -- the numbers of a reply's header
 abbrev row_of : Answer → List ℕ

@@ -43,7 +43,9 @@ row_stands (n ∷ widths) (x ∷ xs) at front back long fit =
 
 -- bytes are those of the numbers that stand in them
 pub row_read : (widths : List ℕ) (at : ℕ) (b : List ℕ) → at + total widths ≤ length b → ((i : ℕ) → slice_index b i < 256) → take (at + total widths) b ≡ take at b ++ row_bytes widths (standing widths at b)
-row_read [] at b long fits = let end : at + 0 ≡ at = omega arith in ap (λ k. take k b) end ∙ sym (append-nil (take at b))
+row_read [] at b long fits =
+    let end : at + 0 ≡ at = omega arith in
+    ap (λ k. take k b) end ∙ sym (append-nil (take at b))
 row_read (n ∷ widths) at b long fits =
     let row = row_bytes widths (standing widths (at + n) b) in
     let end : at + (n + total widths) ≡ at + n + total widths = omega arith in

@@ -59,3 +59,8 @@ reply_frame r header len body eh el eb = cc
 pub request_frame : (r : Message) (header : List ℕ) (len : ℕ) (body : Body) → header ≡ header_bytes r.client r.session r.request (operation r.body) len → len ≡ length (body_bytes body) → body ≡ r.body
     → header ++ body_bytes body ≡ request_bytes r
 request_frame r header len body eh el eb = cc
+
+-- what is sent of a frame, in its two parts
+pub ruleset request_sent = (sent_rest, sent_few, request_frame)
+
+pub ruleset reply_sent = (sent_rest, sent_few, reply_frame)

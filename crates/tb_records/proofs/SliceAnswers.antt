@@ -9,12 +9,15 @@ use Rattle.tb_records.specs.Messages.{Message, operation}
 use Rattle.tb_records.specs.Frames.{header_bytes, body_bytes, request_fault, header_fault, Spells}
 use Rattle.tb_records.specs.HeaderFields.{HeaderOf, HeaderSpelled, ReadsRequest}
 use Rattle.tb_records.specs.Inputs.{Found}
-use Rattle.tb_records.proofs.FrameFaults.{IsOfHeader, is_of_header, header_first, cut_body, whole_frame}
+use Rattle.tb_records.proofs.FrameFaults.{is_of_header, cut_header, header_first, cut_body, whole_frame}
 use Rattle.tb_records.proofs.StreamAnswers.{header_of_request, read_length}
 
 -- the header has a fault
 pub bad_slice : (fault : FrameFault) (bytes : List ℕ) → 48 ≤ length bytes → header_fault bytes ≡ Some fault → Found (Err fault) bytes
-bad_slice fault bytes h e = let kind = is_of_header bytes fault e in let first = header_first bytes fault h e in grind arith
+bad_slice fault bytes h e =
+    let kind = is_of_header bytes fault e in
+    let first = header_first bytes fault h e in
+    grind arith
 
 -- the body is cut
 pub cut_slice : (bytes : List ℕ) (h : Header) → 48 ≤ length bytes → HeaderOf bytes h → length bytes - 48 < h.length → request_fault bytes ≡ Some Short
@@ -50,3 +53,6 @@ slice_request bytes part h r (Some rest) long of spelled whole at read =
         is = read.is;
       },
     )
+
+-- where no request is read
+pub ruleset slice_faults = (cut_header, bad_slice, cut_slice, whole_slice)

@@ -22,7 +22,9 @@ use Rattle.tb_records.proofs.FrameFaults.{IsOfHeader, is_of_header, cut_header, 
 
 -- the header is cut
 pub short_header : (buf : List ℕ) (n : ℕ) (old new : Option (List ℕ)) → (n ≡ 0 → ⊥) → n < 48 → length buf ≡ 48 → Filled n buf old new → Answers (Err Short) old new
-short_header buf n old new some h long f = let end = f.end (omega arith) in grind (arith, cut_header, length-append, length-take)
+short_header buf n old new some h long f =
+    let end = f.end (omega arith) in
+    grind (arith, cut_header, length-append, length-take)
 
 -- the header has a fault
 pub faulty_header : (fault : FrameFault) (header : List ℕ) (old new : Option (List ℕ)) → length header ≡ 48 → Consumes old new header → header_fault header ≡ Some fault → Answers (Err fault) old new
@@ -125,7 +127,9 @@ whole_request h r (Some old) (Some mid) (Some new) header read =
 
 -- the moment is cut
 pub short_moment : (buf : List ℕ) (n : ℕ) (old new : Option (List ℕ)) → (n ≡ 0 → ⊥) → n < 8 → length buf ≡ 8 → Filled n buf old new → TimedAnswers (Err Short) old new
-short_moment buf n old new some h long f = let end = f.end (omega arith) in grind (arith, cut_header, length-append, length-take, length-drop)
+short_moment buf n old new some h long f =
+    let end = f.end (omega arith) in
+    grind (arith, cut_header, length-append, length-take, length-drop)
 
 -- there is no frame behind the moment
 pub no_frame : (moment : ℕ) (old mid new : Option (List ℕ)) → ReadsMoment moment old mid → Answers (Ok None) mid new → TimedAnswers (Err Short) old new
@@ -153,3 +157,6 @@ bad_frame fault moment (Some old) (Some mid) (Some new) read rest =
       rest.2,
     )
     later fault moment old mid new left behind rest = subst (λ l. Faulted fault l new) (sym behind) rest
+
+-- where a header is cut or has a fault
+pub ruleset header_read = (short_header, header_counts, is_of_header)

@@ -23,7 +23,7 @@ pub fn read_request(alloc: Global, bytes: &[u8]) -> Result<(Request, usize), Fra
     read(alloc, bytes)
 }
 
-#[tactic(auto, using(crate::proofs::FrameFaults::cut_header, crate::proofs::SliceAnswers::bad_slice, crate::proofs::SliceAnswers::cut_slice, crate::proofs::SliceAnswers::whole_slice))]
+#[tactic(auto, using(crate::proofs::SliceAnswers::slice_faults))]
 fn read(alloc: Global, bytes: &[u8]) -> Result<(Request, usize), FrameFault>
     ensures { Found result bytes.now }
 {

@@ -136,7 +136,7 @@ fn body_in(alloc: Global, operation: u8, status: u8, bytes: &[u8]) -> Result<Rep
 }
 
 /// The reply at the beginning of the bytes, and the length of its frame; or the first of its faults.
-#[tactic(auto, using(crate::proofs::ReplyFaults::cut_reply_header, crate::proofs::ReplyFaults::found_header_fault, crate::proofs::ReplyFaults::cut_reply_body, crate::proofs::ReplyFaults::whole_reply, crate::proofs::ReplyHeaderBytes::body_behind, crate::proofs::ReplyHeaderBytes::header_length, crate::proofs::ReplyHeaderBytes::header_right, crate::proofs::ReplyHeaderBytes::found_reply))]
+#[tactic(auto, using(crate::proofs::ReplyHeaderBytes::reply_read))]
 fn read(alloc: Global, bytes: &[u8]) -> Result<(Reply, usize), FrameFault>
     ensures { FoundReply result bytes.now }
 {

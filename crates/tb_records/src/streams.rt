@@ -153,7 +153,7 @@ pub(crate) fn request_behind<S: Source>(
 }
 
 /// Reads a header and tests it. None where the input ends before the first byte.
-#[tactic(auto, using(crate::proofs::StreamAnswers::short_header, crate::proofs::StreamAnswers::header_counts, crate::proofs::FrameFaults::is_of_header))]
+#[tactic(auto, using(crate::proofs::StreamAnswers::header_read))]
 fn header_from<S: Source>(source: &mut S) -> Result<Option<Header>, FrameFault>
     ensures answer { HeaderAnswers result (S.input source.old).left (S.input source.new).left }
     ensures counted { Counts result (S.input source.old) (S.input source.new) }

@@ -212,7 +212,7 @@ fn send_request_body<W: Sink>(sink: &mut W, body: &Body) -> Result<(), FrameFaul
 /// Writes a request's frame to a sink. Device where the sink answers an error, or takes nothing of what is left: then a
 /// beginning of the frame went out. That the request's numbers fit, so that the frame is read as no other, is said of
 /// what was written.
-#[tactic(auto, using(crate::proofs::Sendings::sent_rest, crate::proofs::Sendings::sent_few, crate::proofs::Sendings::request_frame))]
+#[tactic(auto, using(crate::proofs::Sendings::request_sent))]
 pub fn send_request<W: Sink>(sink: &mut W, request: &Request) -> Result<(), FrameFault>
     ensures sent { IsSent result (request_bytes request.now) (W.output sink.old) (W.output sink.new) }
     ensures fits { OnOk result (IsRequest request.now) }
@@ -240,7 +240,7 @@ fn send_body<W: Sink>(sink: &mut W, body: &ReplyBody) -> Result<(), FrameFault>
 /// Writes a reply's frame to a sink. Device where the sink answers an error, or takes nothing of what is left: then a
 /// beginning of the frame went out, and nothing more is offered. That the reply's numbers fit, so that the frame is read as
 /// no other, is said of what was written.
-#[tactic(auto, using(crate::proofs::Sendings::sent_rest, crate::proofs::Sendings::sent_few, crate::proofs::Sendings::reply_frame))]
+#[tactic(auto, using(crate::proofs::Sendings::reply_sent))]
 pub fn send_reply<W: Sink>(sink: &mut W, reply: &Reply) -> Result<(), FrameFault>
     ensures sent { IsSent result (reply_bytes reply.now) (W.output sink.old) (W.output sink.new) }
     ensures fits { OnOk result (IsReply reply.now) }
