@@ -23,8 +23,8 @@ import subprocess
 import sys
 import tempfile
 
-sys.dont_write_bytecode = True
 import pages
+import tried
 
 ROOT = pages.ROOT
 TBT = ROOT / "crates/tbt/out/tbt"
@@ -118,20 +118,17 @@ def blocks():
 
 
 def main() -> int:
-    passed = failed = 0
     for place, kind, block, before in blocks():
         try:
             if check(kind, block, before, place):
-                passed += 1
+                tried.case(place, True, quietly=True)
             else:
                 print(f"{place}: passed over: nothing to be run in this block of {kind}")
         except Missing as program:
             print(f"{place}: passed over: {program} is not there, build it first")
         except Wrong as why:
-            failed += 1
-            print(f"{place}: {kind}: {why}")
-    print(f"{passed} passed, {failed} failed")
-    return failed != 0
+            tried.case(place, False, f"{kind}: {why}")
+    return tried.status()
 
 
 if __name__ == "__main__":

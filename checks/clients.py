@@ -17,6 +17,9 @@ import sys
 import tempfile
 import textwrap
 
+import tried
+from tried import case
+
 TOP = os.path.dirname(os.path.dirname(os.path.abspath(__file__)))
 CLIENT = f"{TOP}/clients/python"
 EMBED = f"{TOP}/embed/python"
@@ -36,14 +39,6 @@ KILLS = """  the server is killed: the listener starts it again
   the listener is asked to end, and ends with status 0
 """
 OVER_SOCKETS = f"on a Unix socket:\n{KILLS}on a port:\n{KILLS}"
-
-passed = failed = 0
-
-
-def case(name, holds, why=""):
-    global passed, failed
-    passed, failed = passed + bool(holds), failed + (not holds)
-    print(f"ok: {name}{why and ': ' + why}" if holds else f"FAILED: {name}: {why}", flush=True)
 
 
 def python(*words, folder=CLIENT):
@@ -197,8 +192,7 @@ def exits():
 
 
 def main():
-    if not os.access(PROGRAM, os.X_OK):
-        sys.exit(f"{PROGRAM} is not there: build it first, as the head of this file says")
+    tried.built(PROGRAM)
     tests("the tests of the client in Python", CLIENT)
     tests("the tests of the embedded server's module", EMBED)
     output = script("the example of the client in Python", CLIENT, "example.py", PROGRAM)
@@ -210,8 +204,7 @@ def main():
     readme()
     told()
     exits()
-    print(f"{passed} passed, {failed} failed")
-    return 1 if failed else 0
+    return tried.status()
 
 
 if __name__ == "__main__":

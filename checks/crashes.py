@@ -18,6 +18,8 @@ import subprocess
 import sys
 import tempfile
 
+import tried
+
 ROOT = os.path.dirname(os.path.dirname(os.path.abspath(__file__)))
 sys.path.insert(0, os.path.join(ROOT, "clients", "python"))
 
@@ -26,14 +28,11 @@ from tb_client import HEADER, Account, Operation, Reply, Status, Transfer, reply
 CLIENTS = 24
 CASH, SALES = 1, 2
 MAGIC, FIRST = b"TBJRNL01", b"TBJRNL01\0"
-passed = failed = 0
 
 
 def case(name, wrong):
     """Counts a case: what is wrong is listed."""
-    global passed, failed
-    passed, failed = passed + (not wrong), failed + bool(wrong)
-    print(f"FAILED: {name}: {len(wrong)} wrong, as {wrong[0]}" if wrong else f"ok: {name}", flush=True)
+    tried.case(name, not wrong, f"{len(wrong)} wrong, as {wrong[0]}" if wrong else "")
 
 
 # The file
@@ -399,8 +398,7 @@ def main():
         losses(given.tbd, folder, shim, given.rounds, given.images, rng)
         controls(given.tbd, folder, shim, rng)
         full(given.tbd, folder, rng)
-    print(f"{passed} passed, {failed} failed")
-    return 1 if failed else 0
+    return tried.status()
 
 
 if __name__ == "__main__":

@@ -19,6 +19,8 @@ import subprocess
 import sys
 import time
 
+import tried
+
 TOP = os.path.dirname(os.path.dirname(os.path.abspath(__file__)))
 PROGRAM, READER = f"{TOP}/crates/tbs/out/tbs", f"{TOP}/crates/tb_read/out/tb_read"
 MAX_TIME = 2**63 - 1
@@ -496,9 +498,7 @@ def through_readers(chance, frames):
 
 
 def main():
-    for program in (PROGRAM, READER):
-        if not os.access(program, os.X_OK):
-            sys.exit(f"{program} is not there: build it first, as the head of this file says")
+    tried.built(PROGRAM, READER)
     frames = int(sys.argv[1]) if len(sys.argv) > 1 else 20000
     seed = int(sys.argv[2]) if len(sys.argv) > 2 else 1
     print(f"seed {seed}")

@@ -18,11 +18,13 @@ import sys
 import tempfile
 import time
 
+import tried
+from tried import case
+
 TOP = os.path.dirname(os.path.dirname(os.path.abspath(__file__)))
 EMBED = f"{TOP}/embed"
 LIBRARY = f"{TOP}/crates/tb_embed/out/libtb_embed.a"
 PROGRAM = f"{TOP}/crates/tbs/out/tbs"
-sys.dont_write_bytecode = True
 sys.path[:0] = [f"{TOP}/checks/embed", f"{EMBED}/python", f"{TOP}/clients/python"]
 
 import frames  # noqa: E402
@@ -40,15 +42,6 @@ lookup_accounts: entry 5, 2 found
   account 1: debits_posted 100, credits_posted 0
   account 2: debits_posted 0, credits_posted 100
 """
-
-passed = failed = 0
-
-
-def case(name, holds, why=""):
-    global passed, failed
-    passed, failed = passed + bool(holds), failed + (not holds)
-    print(f"ok: {name}{why and ': ' + why}" if holds else f"FAILED: {name}: {why}", flush=True)
-    return holds
 
 
 def run(*command, **how):
@@ -290,8 +283,7 @@ def main():
         client(f"{folder}/libtb_embed.so")
         damaged(f"{folder}/libtb_embed.so")
         calls_a_second(found, folder)
-    print(f"{passed} passed, {failed} failed")
-    return 1 if failed else 0
+    return tried.status()
 
 
 if __name__ == "__main__":

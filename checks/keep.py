@@ -19,6 +19,8 @@ import tempfile
 import threading
 import time
 
+import tried
+
 ROOT = os.path.dirname(os.path.dirname(os.path.abspath(__file__)))
 sys.path.insert(0, os.path.join(ROOT, "clients", "python"))
 
@@ -27,15 +29,11 @@ from tb_client import HEADER, Account, Operation, Reply, Status, Transfer, reply
 CLIENTS = 24
 CASH, SALES = 1, 2
 EINTR, EIO, ENOSPC = 4, 5, 28
-passed, failed = 0, 0
 
 
 def case(name, well, said=""):
     """Counts a case, and tells one that failed."""
-    global passed, failed
-    passed, failed = passed + bool(well), failed + (not well)
-    if not well:
-        print(f"FAILED {name} {said}", flush=True)
+    tried.case(name, well, said, quietly=True)
 
 
 # A server, and the clients before it
@@ -436,8 +434,7 @@ def main():
         faults(asked.tbd, folder, shim)
         reads(asked.tbd, folder, shim, data)
         kills(asked.tbd, folder, asked.kills, rng)
-    print(f"{passed} passed, {failed} failed")
-    sys.exit(failed > 0)
+    sys.exit(tried.status())
 
 
 if __name__ == "__main__":

@@ -18,6 +18,8 @@ import pathlib
 import re
 import sys
 
+import tried
+
 ROOT = pathlib.Path(__file__).resolve().parent.parent
 CRATES = ROOT / "crates"
 BLOCK = re.compile(r"```rust\n(.*?)```", re.S)
@@ -158,16 +160,10 @@ def glossed():
 
 
 def main() -> int:
-    passed = failed = 0
     for check in (examples, heads, first_statements, walks, named_files, glossed):
         for place, wrong in check():
-            if wrong is None:
-                passed += 1
-            else:
-                failed += 1
-                print(f"{place}: {wrong}")
-    print(f"{passed} passed, {failed} failed")
-    return failed != 0
+            tried.case(place, wrong is None, wrong, quietly=True)
+    return tried.status()
 
 
 if __name__ == "__main__":

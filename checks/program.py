@@ -17,6 +17,8 @@ import sys
 import tempfile
 import time
 
+import tried
+
 TOP = os.path.dirname(os.path.dirname(os.path.abspath(__file__)))
 PROGRAM = f"{TOP}/crates/tbs/out/tbs"
 RUN = ["run", "2"]
@@ -86,18 +88,10 @@ def closing(*numbers):
     return lambda: [os.close(it) for it in numbers]
 
 
-passed = failed = 0
-
-
 def case(name, got, wanted):
     """Compares a status, an output and a line with those that are wanted."""
-    global passed, failed
-    if got == wanted:
-        passed += 1
-        print(f"ok: {name}")
-    else:
-        failed += 1
-        print(f"FAILED: {name}: got {got[0]}, {len(got[1])} bytes, {got[2]}; wanted {wanted[0]}, {len(wanted[1])} bytes, {wanted[2]}")
+    said = f"got {got[0]}, {len(got[1])} bytes, {got[2]}; wanted {wanted[0]}, {len(wanted[1])} bytes, {wanted[2]}"
+    tried.case(name, got == wanted, "" if got == wanted else said)
 
 
 def inputs():
@@ -376,8 +370,7 @@ def memory():
 
 
 def main():
-    if not os.access(PROGRAM, os.X_OK):
-        sys.exit(f"{PROGRAM} is not there: build it first, as the head of this file says")
+    tried.built(PROGRAM)
     inputs()
     conversations()
     cuts()
@@ -390,8 +383,7 @@ def main():
     storms()
     lines()
     memory()
-    print(f"{passed} passed, {failed} failed")
-    return 1 if failed else 0
+    return tried.status()
 
 
 if __name__ == "__main__":

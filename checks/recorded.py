@@ -14,6 +14,8 @@ import subprocess
 import sys
 import time
 
+import tried
+
 TOP = os.path.dirname(os.path.dirname(os.path.abspath(__file__)))
 PROGRAM = f"{TOP}/crates/tb_recorded/out/tb_recorded"
 STEPS = 5000
@@ -25,8 +27,7 @@ def counts_of(told):
 
 
 def main():
-    if not os.access(PROGRAM, os.X_OK):
-        sys.exit(f"{PROGRAM} is not there: build it first, as the head of this file says")
+    tried.built(PROGRAM)
     answers = int(sys.argv[1]) if len(sys.argv) > 1 else 50000
     seed = int(sys.argv[2]) if len(sys.argv) > 2 else 1
     checked = failed = 0

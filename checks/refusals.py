@@ -18,19 +18,18 @@ import subprocess
 import sys
 import tempfile
 
+import tried
+
 TOP = os.path.dirname(os.path.dirname(os.path.abspath(__file__)))
 PROGRAM = f"{TOP}/crates/tbs/out/tbs"
 AGAIN = f"{TOP}/crates/tb_refusals/out/tb_refusals"
 SECONDS = 60
-passed = failed = 0
 Ran = collections.namedtuple("Ran", "status output lines asked refused blocks")
 
 
 def case(name, why, told=""):
     """Passed where there is no reason why not."""
-    global passed, failed
-    passed, failed = passed + (not why), failed + bool(why)
-    print(f"FAILED: {name}: {why}" if why else f"ok: {name}{told and ': ' + told}", flush=True)
+    tried.case(name, not why, why or told)
 
 
 def account(id, flags=0):
@@ -430,16 +429,13 @@ def devices(refuser):
 
 
 def main():
-    for path, how in ((PROGRAM, "crates/tbs"), (AGAIN, "crates/tb_refusals")):
-        if not os.access(path, os.X_OK):
-            sys.exit(f"{path} is not there: `rt run` in {how} builds it")
+    tried.built(PROGRAM, AGAIN)
     with tempfile.TemporaryDirectory() as folder:
         refuser = Refuser(folder)
         growths(refuser)
         storms(refuser)
         devices(refuser)
-    print(f"{passed} passed, {failed} failed")
-    return 1 if failed else 0
+    return tried.status()
 
 
 if __name__ == "__main__":

@@ -12,6 +12,8 @@ import subprocess
 import sys
 import time
 
+import tried
+
 TOP = os.path.dirname(os.path.dirname(os.path.abspath(__file__)))
 PROGRAM = f"{TOP}/crates/tbs/out/tbs"
 
@@ -24,8 +26,7 @@ def totals(clients, transfers):
 
 
 def main():
-    if not os.access(PROGRAM, os.X_OK):
-        sys.exit(f"{PROGRAM} is not there: build it first, as the head of this file says")
+    tried.built(PROGRAM)
     times = int(sys.argv[1]) if len(sys.argv) > 1 else 3
     passed = failed = 0
     for clients, transfers in [(16, 1000), (2, 3)]:

@@ -19,10 +19,11 @@ import sys
 import termios
 import time
 
+import tried
+
 TOP = os.path.dirname(os.path.dirname(os.path.abspath(__file__)))
 TBT = f"{TOP}/crates/tbt/out/tbt"
 TBS = f"{TOP}/crates/tbs/out/tbs"
-PASSED = FAILED = 0
 
 
 def run(program, words, data):
@@ -31,13 +32,7 @@ def run(program, words, data):
 
 
 def check(name, got, wanted):
-    global PASSED, FAILED
-    if got == wanted:
-        PASSED += 1
-        print(f"passed {name}")
-    else:
-        FAILED += 1
-        print(f"FAILED {name}\n  wanted {wanted!r}\n  got    {got!r}")
+    tried.case(name, got == wanted, "" if got == wanted else f"\n  wanted {wanted!r}\n  got    {got!r}")
 
 
 def read(name):
@@ -379,5 +374,4 @@ check("explain text", run(TBT, ["explain"], TEXT)[1].splitlines()[1], b"It looks
 check("explain a dump", run(TBT, ["explain"], dumped), (0, b"a dump, 3 entries in %d bytes: tbs replays it to its end\n" % len(dumped), b""))
 check("explain a cut dump", run(TBT, ["explain"], dumped[:-1])[1].startswith(b"entry 3, at byte "), True)
 
-print(f"{PASSED} passed, {FAILED} failed")
-sys.exit(1 if FAILED else 0)
+sys.exit(tried.status())
