@@ -13,7 +13,7 @@ import unittest
 from unittest import mock
 
 import tb_client as tb
-from tb_client import Direct, Program, Session
+from tb_client import Account, Direct, Program, Session
 from test_tb_client import PROGRAM, account, at_ten, has_program, reply, results, transfer
 
 HERE = os.path.dirname(os.path.abspath(__file__))
@@ -155,6 +155,19 @@ class Doubt(unittest.TestCase):
         for said in (None, [], [account(1)], [transfer(1, 2, 3, 4)]):
             tb.require_ok(said)
         self.assertRaises(tb.EventsFailed, tb.require_ok, failed)
+
+    def test_items_that_ask_the_session_themselves(self):
+        def lost(moment, frame):
+            raise tb.ReplyLost("lost")
+
+        def items():
+            with self.assertRaises(tb.ReplyLost):
+                session.create_accounts([Account(1)])
+            yield Account(2)
+
+        session = Session(Direct(lost), 7, session=1, now=lambda: 10, attempts=1)
+        self.assertRaises(tb.InDoubt, session.create_accounts, items())
+        self.assertEqual(session.in_doubt.items, (Account(1),))
 
     def test_nothing_in_doubt(self):
         session = self.session(lambda frame: reply(frame, commit=2))

@@ -6,6 +6,7 @@ The ranges are those of docs/FORMATS.md and docs/RULES.md, written here again.
 import dataclasses
 import decimal
 import fractions
+import itertools
 import json
 import math
 import operator
@@ -182,6 +183,18 @@ class Values(unittest.TestCase):
             for value in (None, "x" * 128, [0] * 128, 128):
                 self.refused(f"{kind.__name__}.from_bytes", kind.from_bytes, value, types=TypeError)
 
+    def test_views_of_bytes(self):
+        one = Account(1, ledger=700, code=10).to_bytes()
+        spread = bytes(it for byte in one for it in (byte, 0))
+        for view in memoryview(one), memoryview(one).cast("I"), memoryview(one).cast("B", (2, 64)), memoryview(spread)[::2]:
+            self.assertEqual(Account.from_bytes(view).to_bytes(), one)
+        with self.assertRaisesRegex(tb.InvalidValue, "takes 128 bytes, not 512"):
+            Account.from_bytes(memoryview(one * 4).cast("I"))  # 128 items of 4 bytes
+        gone = memoryview(one)
+        gone.release()
+        for read in Account.from_bytes, Transfer.from_bytes, tb.reply_length, tb.request_fault:
+            self.assertRaisesRegex(tb.InvalidValue, "is a view that was released", read, gone)
+
     def test_records_cannot_be_changed(self):
         record = Transfer(1)
         with self.assertRaises(AttributeError):
@@ -197,6 +210,12 @@ class Values(unittest.TestCase):
                 self.refused("ids", call, value, types=TypeError)
             self.refused("ids[0]", call, [Account(1)], types=TypeError)
             self.refused("ids", call, [1] * 8191, types=ValueError)
+
+    def test_lists_without_end(self):
+        with self.assertRaisesRegex(tb.InvalidValue, "ids must have at most 8190 items"):
+            self.session.lookup_accounts(itertools.count(1))
+        self.assertIsNone(self.session.in_doubt)
+        self.assertEqual(self.sent, [])
 
     def test_records_of_each_call(self):
         account, transfer = Account(1), Transfer(1)
@@ -302,6 +321,35 @@ class Values(unittest.TestCase):
         other = tb.request_frame(8, 1, 1, 129)
         for value in (b"", b"x", other, tb.request_frame(7, 1, 2, 129), 5, "x", [other]):
             self.refused("pending", Session, Direct(self.exchange), 7, 1, 0, value)
+
+    def test_paths_that_give_no_text(self):
+        class Path:
+            def __init__(self, given):
+                self.given = given
+
+            def __fspath__(self):
+                return self.given
+
+        for call in tb.Socket, Program, self.session.save, lambda path: Session.load(self.session.transport, path):
+            for given in None, 5, ["a"]:
+                self.assertRaisesRegex(tb.InvalidType, "must be a path, not Path", call, Path(given))
+            for given in b"a", "", "a\0b", "\ud800":
+                self.assertRaisesRegex(tb.InvalidValue, "is no path", call, Path(given))
+
+    def test_a_timeout_of_a_socket_that_was_changed(self):
+        with tb.Socket("/nobody/listens/here") as it:
+            for timeout in "5", None, True, [1]:
+                it.timeout = timeout
+                self.assertRaisesRegex(tb.InvalidType, "timeout must be a number", it.exchange, 10, tb.request_frame(7, 0, 0, 2))
+            for timeout in -1, math.nan, math.inf, 2**32:
+                it.timeout = timeout
+                self.assertRaisesRegex(tb.InvalidValue, "timeout must be", it.exchange, 10, tb.request_frame(7, 0, 0, 2))
+
+    def test_a_number_that_was_changed(self):
+        for number, kind in ("1", tb.InvalidType), (1.5, tb.InvalidType), (-1, tb.InvalidValue), (2**32, tb.InvalidValue):
+            self.session.number = number
+            self.assertRaisesRegex(kind, "number must be", self.session.lookup_accounts, [1])
+        self.assertEqual(self.sent, [])
 
     def test_a_file_that_is_no_session(self):
         with tempfile.TemporaryDirectory() as folder:

@@ -8,21 +8,11 @@ import os
 import stat
 from typing import Any, Union
 
-from .errors import InvalidType, InvalidValue
-from .values import is_name, kind_of
+from .errors import InvalidValue
 
 Path = Union[str, "os.PathLike[str]"]
 
 FILE_MAX = 1 << 22  # bytes: the largest request takes half of that, in hex
-
-
-def path_of(path: object) -> str:
-    if not isinstance(path, (str, os.PathLike)):
-        raise InvalidType("path", f"must be a path, not {kind_of(path)}")
-    name = os.fspath(path)
-    if not isinstance(name, str) or not is_name(name):
-        raise InvalidValue("path", "is no path")
-    return name
 
 
 def _test_is_file(status: os.stat_result) -> None:

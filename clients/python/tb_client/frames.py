@@ -3,12 +3,12 @@ from __future__ import annotations
 
 import dataclasses
 import struct
-from typing import Any, Callable, Iterable, Iterator, List, Mapping, Optional, Sequence, Tuple, TypeVar, Union, cast
+from typing import Any, Callable, Iterable, Iterator, List, Optional, Sequence, Tuple, TypeVar, Union, cast
 
 from .errors import BadReply, InvalidType, InvalidValue
 from .names import CreateAccountResult, CreateTransferResult, Operation, Status
 from .records import ID, RECORD, Account, EventResult, Transfer, u128, u128_at
-from .values import U8, U32, U64, U128, kind_of, listed, shown, whole
+from .values import U8, U32, U64, U128, kind_of, listed, shown, viewed, whole
 
 ITEMS_MAX = 8190
 NUMBER_MAX = U32
@@ -84,9 +84,7 @@ def body_of(operation: Operation, items: Iterable[object]) -> bytes:
             raise InvalidValue("items", "of a register must be empty")
         return b""
     name = ITEM_NAMES[operation]
-    given = listed(name, items)
-    if len(given) > ITEMS_MAX:
-        raise InvalidValue(name, f"must have at most {ITEMS_MAX} items, not {shown(len(given))}")
+    given = listed(name, items, ITEMS_MAX)
     if operation in (Operation.lookup_accounts, Operation.lookup_transfers):
         return b"".join(u128(whole(f"{name}[{at}]", it, U128)) for at, it in enumerate(given))
     kind: Any = Account if operation == Operation.create_accounts else Transfer
@@ -152,7 +150,7 @@ def _header_at(data: object, at: int) -> bytes:
     if not isinstance(data, (bytes, bytearray, memoryview)):
         raise InvalidType("data", f"must be bytes, not {kind_of(data)}")
     at = whole("at", at, U64)
-    held = bytes(data) if isinstance(data, memoryview) else data
+    held = viewed("data", data) if isinstance(data, memoryview) else data
     return bytes(held[at : at + HEADER])
 
 

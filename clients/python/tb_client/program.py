@@ -11,10 +11,10 @@ import threading
 import time
 from typing import IO, Optional, Union, cast
 
-from .errors import CannotStart, Closed, InvalidType, InvalidValue, NoMemory, ProgramEnded, ReplyLost, ScriptFull
+from .errors import CannotStart, Closed, NoMemory, ProgramEnded, ReplyLost, ScriptFull
 from .frames import HEADER, header_of, reply_length, test_reply
 from .transports import Closing
-from .values import MOMENT_MAX, U64, is_name, kind_of, seconds, truth, whole
+from .values import MOMENT_MAX, U64, path_of, seconds, truth, whole
 
 CHUNK = 1 << 20
 SCRIPT_MAX = 256 << 20
@@ -41,12 +41,8 @@ class Program(Closing):
         restarts: bool = False,
         script_max: Optional[int] = SCRIPT_MAX,
     ) -> None:
-        if not isinstance(path, (str, os.PathLike)):
-            raise InvalidType("path", f"must be a path, not {kind_of(path)}")
-        if not is_name(path):
-            raise InvalidValue("path", "is no path")
         places, profile = whole("clients_max", clients_max, 64, 1), whole("profile", profile, 2, 1)
-        self.command = [os.fspath(path), "run", str(places), str(profile)]
+        self.command = [path_of("path", path), "run", str(places), str(profile)]
         self.timeout = seconds("timeout", timeout, 0.001)
         self.restarts = truth("restarts", restarts)
         self.script_max = None if script_max is None else whole("script_max", script_max, U64)

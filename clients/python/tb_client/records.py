@@ -8,7 +8,7 @@ from typing import Any, Type, TypeVar, Union
 
 from .names import AccountFlags, CreateAccountResult, CreateTransferResult, TransferFlags
 from .errors import InvalidType, InvalidValue
-from .values import U16, U32, U64, U128, kind_of, whole
+from .values import U16, U32, U64, U128, kind_of, viewed, whole
 
 RECORD = 128
 ID = 16
@@ -49,6 +49,8 @@ def _read(kind: Type[Record], data: bytes, flags: Any) -> Record:
     name = f"{kind.__name__}.from_bytes"
     if not isinstance(data, (bytes, bytearray, memoryview)):
         raise InvalidType(name, f"takes bytes, not {kind_of(data)}")
+    if isinstance(data, memoryview):
+        data = viewed(name, data)
     if len(data) != RECORD:
         raise InvalidValue(name, f"takes {RECORD} bytes, not {len(data)}")
     record = object.__new__(kind)

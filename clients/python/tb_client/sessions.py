@@ -7,13 +7,13 @@ import time
 from typing import Any, Callable, Iterable, Iterator, List, Mapping, Optional, Type, TypedDict, TypeVar, Union, cast
 
 from .errors import REFUSALS, BadReply, Busy, ClockJumped, EventsFailed, Evicted, InDoubt, InvalidType, InvalidValue, NoMemory, NothingInDoubt, NotSent, NotYet, ReplyLost
-from .files import Path, path_of, read_saved, write_whole
+from .files import Path, read_saved, write_whole
 from .frames import NUMBER_MAX, Item, Reply, Request, Said, body_of, header_of, operation_of, request_frame, said_by, test_said
 from .ids import id as new_id
 from .names import Operation, Status
 from .records import Account, EventResult, Transfer
 from .transports import Closing, Transport, close_transport, transport_of
-from .values import MOMENT_MAX, U32, U64, U128, callable_of, kind_of, listed, seconds, whole
+from .values import MOMENT_MAX, U32, U64, U128, callable_of, kind_of, listed, path_of, seconds, whole
 
 ATTEMPTS = 5
 JUMP_MAX = 60.0  # seconds
@@ -151,7 +151,7 @@ class Session(Closing):
     def save(self, path: Path) -> None:
         """Keeps `saved` in a file, whole: after a crash the file has it as it is now or as it was before. Where it fails the file is
         as it was before, or as it is now where only its folder could not be synced."""
-        name = path_of(path)
+        name = path_of("path", path)
         with self._lock:
             write_whole(name, json.dumps(self.saved).encode("ascii"))
 
@@ -167,7 +167,7 @@ class Session(Closing):
         pause: float = PAUSE,
     ) -> S:
         """The session that `save` kept in a file. Where a request was in doubt, `retry` it first."""
-        return cls.resumed(transport, read_saved(path_of(path)), attempts=attempts, now=now, jump_max=jump_max, pause=pause)
+        return cls.resumed(transport, read_saved(path_of("path", path)), attempts=attempts, now=now, jump_max=jump_max, pause=pause)
 
     @property
     def in_doubt(self) -> Optional[Request]:
@@ -205,10 +205,10 @@ class Session(Closing):
     def prepare(self, operation: int, items: Iterable[Item] = ()) -> None:
         """Makes the next request, which is in doubt from then on: keep `saved`, then `retry`."""
         with self._lock:
-            if self.pending is not None:
-                raise InDoubt(self._why_in_doubt())
+            self._test_not_in_doubt()
             kind = operation_of(operation)
             body = body_of(kind, items)
+            self._test_not_in_doubt()  # again, since what gives the items may have used the session
             if kind == Operation.register:
                 if self.session:
                     raise InvalidValue("session", f"is {self.session}: it is registered already")
@@ -216,18 +216,20 @@ class Session(Closing):
             else:
                 if not self.session:
                     raise InvalidValue("session", "is 0: register first")
-                if self.number == NUMBER_MAX:
+                if whole("number", self.number, NUMBER_MAX) == NUMBER_MAX:
                     raise InvalidValue("number", "is 2^32 - 1, the last one: register anew")
                 self.pending = request_frame(self.client, self.session, self.number + 1, kind, body)
             self._refused, self._may_be_sent = None, False
 
-    def _why_in_doubt(self) -> str:
+    def _test_not_in_doubt(self) -> None:
+        if self.pending is None:
+            return
         refusal = self._refused
         if refusal is None:
-            return "the last request has no reply yet: retry it"
+            raise InDoubt("the last request has no reply yet: retry it")
         if issubclass(refusal, Evicted):
-            return f"the session has ended ({refusal.__name__}): register anew, and see in_doubt"
-        return f"the last request was refused ({refusal.__name__}), and is in doubt: see in_doubt"
+            raise InDoubt(f"the session has ended ({refusal.__name__}): register anew, and see in_doubt")
+        raise InDoubt(f"the last request was refused ({refusal.__name__}), and is in doubt: see in_doubt")
 
     def retry(self) -> Any:
         """Sends the request in doubt, the same bytes each time, until its reply has come. Answers what it says: results of a

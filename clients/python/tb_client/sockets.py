@@ -12,7 +12,7 @@ from typing import Optional, Tuple, Union
 from .errors import Busy, CannotConnect, Closed, InvalidType, InvalidValue, ReplyLost
 from .frames import HEADER, header_of, reply_length, test_reply
 from .transports import Closing
-from .values import is_name, kind_of, seconds, whole
+from .values import kind_of, path_of, seconds, whole
 
 Address = Union[str, "os.PathLike[str]", Tuple[str, int]]
 
@@ -43,7 +43,7 @@ class Socket(Closing):
         with self._lock:
             if self._closed:
                 raise Closed("this Socket was closed")
-            deadline = time.monotonic() + self.timeout
+            deadline = time.monotonic() + seconds("timeout", self.timeout, 0)
             it = self._connected(deadline)
             try:
                 self._wait(it, deadline)
@@ -143,10 +143,7 @@ def _closed(said: bytes) -> ReplyLost:
 
 def _address_of(address: object) -> Union[str, Tuple[str, int]]:
     if isinstance(address, (str, os.PathLike)):
-        path = os.fspath(address)
-        if not isinstance(path, str) or not is_name(path):
-            raise InvalidValue("address", "is no path")
-        return path
+        return path_of("address", address)
     if isinstance(address, tuple) and len(address) == 2 and isinstance(address[0], str):
         if not _is_host(address[0]):
             raise InvalidValue("address", f"has no name of a host: {address[0]!r:.60}")

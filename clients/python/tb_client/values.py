@@ -1,9 +1,10 @@
 """The tests of what fields and arguments hold. Each fault names the field."""
 from __future__ import annotations
 
+import itertools
 import operator
 import os
-from typing import Any, Iterable, Mapping, Union
+from typing import Any, Iterable, Mapping, Optional
 
 from .errors import InvalidType, InvalidValue
 
@@ -46,19 +47,42 @@ def seconds(field: str, value: object, least: float) -> float:
     return float(value)
 
 
-def listed(name: str, items: Iterable[object]) -> list[object]:
-    """What was given as a list. Text, bytes and mappings are no lists, though Python goes over them."""
+def listed(name: str, items: Iterable[object], most: Optional[int] = None) -> list[object]:
+    """What was given as a list, of at most so many items. Text, bytes and mappings are no lists, though Python goes over them."""
     if isinstance(items, (str, bytes, bytearray, memoryview, Mapping)):
         raise InvalidType(name, f"must be a list, not {kind_of(items)}")
     try:
         each = iter(items)
     except TypeError:
         raise InvalidType(name, f"must be a list, not {kind_of(items)}") from None
-    return list(each)
+    given = list(each if most is None else itertools.islice(each, most + 1))  # which may have no end
+    if most is not None and len(given) > most:
+        raise InvalidValue(name, f"must have at most {most} items")
+    return given
 
 
-def is_name(path: Union[str, os.PathLike[str]]) -> bool:
-    """Whether the system can take this as a path."""
+def viewed(field: str, data: memoryview) -> bytes:
+    """The bytes that a view shows, whatever it takes for an item, and in one piece."""
+    try:
+        return data.tobytes()
+    except ValueError:
+        raise InvalidValue(field, "is a view that was released") from None
+
+
+def path_of(field: str, path: object) -> str:
+    """A path as text, where the system can take it."""
+    try:
+        name = os.fspath(path)  # type: ignore[call-overload]
+    except TypeError:
+        name = None
+    if name is None or isinstance(path, bytes):
+        raise InvalidType(field, f"must be a path, not {kind_of(path)}")
+    if not isinstance(name, str) or not _is_name(name):
+        raise InvalidValue(field, "is no path")
+    return name
+
+
+def _is_name(path: str) -> bool:
     try:
         name = os.fsencode(path)
     except UnicodeError:
