@@ -69,13 +69,13 @@ def viewed(field: str, data: memoryview) -> bytes:
         raise InvalidValue(field, "is a view that was released") from None
 
 
-def path_of(field: str, path: object) -> str:
+def path_of(field: str, path: Any) -> str:
     """A path as text, where the system can take it."""
     try:
-        name = os.fspath(path)  # type: ignore[call-overload]
+        name = None if isinstance(path, bytes) else os.fspath(path)
     except TypeError:
         name = None
-    if name is None or isinstance(path, bytes):
+    if name is None:
         raise InvalidType(field, f"must be a path, not {kind_of(path)}")
     if not isinstance(name, str) or not _is_name(name):
         raise InvalidValue(field, "is no path")
