@@ -7,7 +7,7 @@ use std::alloc::{Allocator, Global};
 use std::process::Abort;
 use tb_fixtures::{linked, transfer};
 use tb_machine::Machine;
-use tb_records::{ClientsMax, Profile, Transfer};
+use tb_records::{ClientsMax, Profile};
 
 /// The undo log has room for four changes of each event, and of the next power of two of them; a change has at most so many bytes:
 /// a row, and which change it is.
@@ -17,8 +17,8 @@ const LOG: u64 = 4 * 144;
 /// failed.
 const KEPT: u64 = 192 + 80 + 80;
 
-/// So many transfers of 1 each, alone or as one chain.
-fn events(rt: &impl Abort, alloc: Global, count: u32, chained: bool) -> Vec<Transfer> {
+/// Client 7's batch of so many transfers of 1 each, alone or as one chain.
+fn batch(rt: &impl Abort, alloc: Global, count: u32, chained: bool) -> Turn {
     let mut all = Vec::new(alloc);
     for k in 1..=count {
         let one = transfer(100 + u128::from(k), 1, 2, 1);
@@ -26,12 +26,6 @@ fn events(rt: &impl Abort, alloc: Global, count: u32, chained: bool) -> Vec<Tran
         let event = if goes_on { linked(one) } else { one };
         all.push(event).expect(rt, "memory");
     }
-    all
-}
-
-/// Client 7's batch of so many transfers.
-fn batch(rt: &impl Abort, alloc: Global, count: u32, chained: bool) -> Turn {
-    let all = events(rt, alloc, count, chained);
     let turn = moving(rt, alloc, 10, 2, all.as_slice());
     drop(all);
     turn
@@ -94,11 +88,7 @@ fn expect_bounded(
     let asked = ask(rt, alloc, profile, count, chained);
     let log = LOG * u64::from(power);
     let count = u64::from(count);
-    let Tally {
-        bytes,
-        greatest,
-        ..
-    } = asked;
+    let (bytes, greatest) = (asked.bytes, asked.greatest);
     holds(rt, bytes >= 128 * count, "bytes, too few", bytes);
     holds(rt, greatest <= log.max(LOG * 2), "a growth", greatest);
     holds(rt, bytes <= log + KEPT * count, "bytes", bytes);

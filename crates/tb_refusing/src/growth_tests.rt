@@ -17,8 +17,8 @@ use tb_records::{ClientsMax, Profile};
 enum Way {
     /// By `Machine::apply`, with one growth refused.
     Applied,
-    /// By `serve_pair` over a pool, with all growths refused from one on.
-    Pooled,
+    /// By `serve_pair` over a pool that asks for so many chunks, with all growths refused from one on.
+    Pooled(u64),
 }
 
 /// What is served, and how.
@@ -44,7 +44,7 @@ fn serve_turns<A: Allocator + Clone>(
     let mut machine = made.expect(rt, "a machine");
     let refused = match case.way {
         Way::Applied => enter_all(rt, alloc, &mut machine, turns),
-        Way::Pooled => serve_all(rt, alloc, heap, &mut machine, turns),
+        Way::Pooled(_) => serve_all(rt, alloc, heap, &mut machine, turns),
     };
     expect_last(rt, alloc, &machine, case.rows);
     drop(machine);
@@ -57,7 +57,7 @@ fn serve_over(rt: &impl Abort, alloc: Global, heap: &Refusing<Global>, case: Cas
     let all = turns.as_slice();
     let refused = match case.way {
         Way::Applied => serve_turns(rt, alloc, heap, heap, case, all),
-        Way::Pooled => {
+        Way::Pooled(_) => {
             let pool = Bump::new(heap);
             let refused = serve_turns(rt, alloc, &pool, heap, case, all);
             drop(pool);
@@ -73,7 +73,7 @@ fn serve_over(rt: &impl Abort, alloc: Global, heap: &Refusing<Global>, case: Cas
 fn serve_refused(rt: &impl Abort, alloc: Global, case: Case, refused_at: u64) -> (Tally, Vec<u64>) {
     let heap = match case.way {
         Way::Applied => Refusing::new(alloc, refused_at),
-        Way::Pooled => Refusing::from(alloc, refused_at),
+        Way::Pooled(_) => Refusing::from(alloc, refused_at),
     };
     let refused = serve_over(rt, alloc, &heap, case);
     let tally = heap.tally();
@@ -94,77 +94,63 @@ fn refuse(rt: &impl Abort, alloc: Global, case: Case, refused_at: u64, refusing:
     holds(rt, one, "a growth is refused", refused_at);
 }
 
-/// Serves the rows with each of so many growths refused in turn: the commit numbers of the entries that ask for one.
-fn refuse_all(rt: &impl Abort, alloc: Global, case: Case, asked: u64) -> Vec<u64> {
-    let mut refusing = Vec::new(alloc);
-    for refused_at in 1..=asked {
-        refuse(rt, alloc, case, refused_at, &mut refusing);
-    }
-    refusing
-}
-
 /// Serves the rows with no growth refused, with the first, with the second and so on: all blocks come back, and each refused growth
-/// refuses one request. These are the commit numbers of the entries that ask for a growth; answers how many growths are asked for.
-fn refuse_each(rt: &impl Abort, alloc: Global, case: Case, entries: &[u64]) -> u64 {
+/// refuses one request. These are the commit numbers of the entries that ask for a growth; of a pool's chunks so many are asked for.
+fn refuse_each(rt: &impl Abort, alloc: Global, case: Case, entries: &[u64]) {
     let (plain, refused) = serve_refused(rt, alloc, case, 0);
     let none = plain.blocks == 0 && refused.is_empty();
     drop(refused);
     holds(rt, none, "no growth is refused", plain.asked);
-    let refusing = refuse_all(rt, alloc, case, plain.asked);
+    if let Way::Pooled(chunks) = case.way {
+        holds(rt, plain.asked == chunks, "the chunks", plain.asked);
+    }
+    let mut refusing = Vec::new(alloc);
+    for refused_at in 1..=plain.asked {
+        refuse(rt, alloc, case, refused_at, &mut refusing);
+    }
     let same = refusing.as_slice() == entries;
     drop(refusing);
     holds(rt, same, "the entries that ask for growths", plain.asked);
-    plain.asked
 }
 
-/// Applies the rows by both profiles.
-fn apply_each(rt: &impl Abort, alloc: Global, rows: Rows, entries: &[u64]) {
+/// Serves the rows by both profiles.
+fn serve_each(rt: &impl Abort, alloc: Global, way: Way, rows: Rows, entries: &[u64]) {
     for profile in [Profile::One, Profile::Two] {
-        let way = Way::Applied;
         refuse_each(rt, alloc, Case { way, profile, rows }, entries);
-    }
-}
-
-/// Serves the rows over a pool by both profiles: so many chunks are asked for.
-fn pool_each(rt: &impl Abort, alloc: Global, rows: Rows, chunks: u64, entries: &[u64]) {
-    for profile in [Profile::One, Profile::Two] {
-        let way = Way::Pooled;
-        let asked = refuse_each(rt, alloc, Case { way, profile, rows }, entries);
-        holds(rt, asked == chunks, "the chunks", asked);
     }
 }
 
 #[test]
 fn first_rows(rt: HostRuntime) {
-    apply_each(&rt, rt.alloc(), Rows::First, &[2, 4]);
+    serve_each(&rt, rt.alloc(), Way::Applied, Rows::First, &[2, 4]);
 }
 
 /// Entry 5 has two events, and entry 4 made room for three and left no row: so it asks for none.
 #[test]
 fn broken_chain(rt: HostRuntime) {
-    apply_each(&rt, rt.alloc(), Rows::Chain, &[2, 4]);
+    serve_each(&rt, rt.alloc(), Way::Applied, Rows::Chain, &[2, 4]);
 }
 
 /// Entry 7 has two events, and entry 6 made room for two and left no row: so it asks for none.
 #[test]
 fn pending_rows(rt: HostRuntime) {
-    apply_each(&rt, rt.alloc(), Rows::Pending, &[2, 4, 5, 6]);
+    serve_each(&rt, rt.alloc(), Way::Applied, Rows::Pending, &[2, 4, 5, 6]);
 }
 
 /// Accounts and a transfer.
 #[test]
 fn first_rows_in_a_pool(rt: HostRuntime) {
-    pool_each(&rt, rt.alloc(), Rows::First, 2, &[2]);
+    serve_each(&rt, rt.alloc(), Way::Pooled(2), Rows::First, &[2]);
 }
 
 /// A chain that breaks.
 #[test]
 fn broken_chain_in_a_pool(rt: HostRuntime) {
-    pool_each(&rt, rt.alloc(), Rows::Chain, 3, &[2, 4]);
+    serve_each(&rt, rt.alloc(), Way::Pooled(3), Rows::Chain, &[2, 4]);
 }
 
 /// Pending transfers, which a post, a void and an expiry close.
 #[test]
 fn pending_rows_in_a_pool(rt: HostRuntime) {
-    pool_each(&rt, rt.alloc(), Rows::Pending, 3, &[2, 4]);
+    serve_each(&rt, rt.alloc(), Way::Pooled(3), Rows::Pending, &[2, 4]);
 }

@@ -75,22 +75,6 @@ fn sums<A: Allocator + Clone>(machine: &Machine<A>) -> Option<(u128, u128)> {
     (debits == (second.credits_pending, second.credits_posted)).then_some(debits)
 }
 
-/// The codes of the last reply, and what is pending and posted.
-fn expect_left<A: Allocator + Clone>(
-    rt: &impl Abort,
-    alloc: Global,
-    machine: &Machine<A>,
-    want: &[(u32, u32)],
-    posted: (u128, u128),
-) {
-    let codes = codes(rt, alloc, machine);
-    let same = codes.as_slice() == want;
-    drop(codes);
-    holds(rt, same, "the codes", machine.commit());
-    let found = sums(machine);
-    holds(rt, found == Some(posted), "the sums", machine.commit());
-}
-
 /// What the last row gives: the codes, and what is pending and posted. By profile 2 the id that broke the chain has failed for
 /// good.
 pub(crate) fn expect_last<A: Allocator + Clone>(
@@ -107,5 +91,10 @@ pub(crate) fn expect_last<A: Allocator + Clone>(
         (Rows::Chain, Profile::Two) => (&failed, 0, 5),
         (Rows::Pending, _) => (&expired, 5, 40),
     };
-    expect_left(rt, alloc, machine, want, (pending, posted));
+    let codes = codes(rt, alloc, machine);
+    let same = codes.as_slice() == want;
+    drop(codes);
+    holds(rt, same, "the codes", machine.commit());
+    let same = sums(machine) == Some((pending, posted));
+    holds(rt, same, "the sums", machine.commit());
 }

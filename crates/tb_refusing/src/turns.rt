@@ -78,66 +78,48 @@ pub(crate) fn moving(
     number: u32,
     all: &[Transfer],
 ) -> Turn {
-    numbered(
-        rt,
-        moment,
-        number,
-        transfers(alloc, all).expect(rt, "memory"),
-    )
+    let body = transfers(alloc, all);
+    numbered(rt, moment, number, body.expect(rt, "memory"))
 }
 
 /// Adds a request.
-fn add_one(rt: &impl Abort, turns: &mut Vec<Turn>, turn: Turn) {
+fn add(rt: &impl Abort, turns: &mut Vec<Turn>, turn: Turn) {
     turns.push(turn).expect(rt, "memory");
-}
-
-/// Adds client 7's request with a number, of transfers.
-fn add(
-    rt: &impl Abort,
-    alloc: Global,
-    turns: &mut Vec<Turn>,
-    moment: u64,
-    number: u32,
-    all: &[Transfer],
-) {
-    add_one(rt, turns, moving(rt, alloc, moment, number, all));
 }
 
 /// A chain that its second event breaks, and that event's id again.
 fn add_chain(rt: &impl Abort, alloc: Global, turns: &mut Vec<Turn>) {
     let broken = [linked(moved(50, 1)), linked(from_nowhere(51)), moved(52, 1)];
-    add(rt, alloc, turns, EARLY, 3, &broken);
+    add(rt, turns, moving(rt, alloc, EARLY, 3, &broken));
     let again = [moved(51, 1), moved(53, 5)];
-    add(rt, alloc, turns, EARLY, 4, &again);
+    add(rt, turns, moving(rt, alloc, EARLY, 4, &again));
 }
 
 /// Pending transfers, a post and a void, a chain that breaks behind a post, and a post that comes too late.
 fn add_pending(rt: &impl Abort, alloc: Global, turns: &mut Vec<Turn>) {
     let three = [short(20, 40), short(21, 30), short(22, 20)];
-    add(rt, alloc, turns, EARLY, 3, &three);
+    add(rt, turns, moving(rt, alloc, EARLY, 3, &three));
     let both = [post(23, 20, u128::MAX), void(24, 21, 0)];
-    add(rt, alloc, turns, EARLY, 4, &both);
+    add(rt, turns, moving(rt, alloc, EARLY, 4, &both));
     let broken = [linked(post(25, 22, u128::MAX)), from_nowhere(26)];
-    add(rt, alloc, turns, EARLY, 5, &broken);
+    add(rt, turns, moving(rt, alloc, EARLY, 5, &broken));
     let late = [short(27, 5), post(28, 22, u128::MAX)];
-    add(rt, alloc, turns, LATE, 6, &late);
-}
-
-/// Adds the requests of the rows behind the lookup.
-fn add_transfers(rt: &impl Abort, alloc: Global, rows: Rows, turns: &mut Vec<Turn>) {
-    match rows {
-        Rows::First => add(rt, alloc, turns, EARLY, 3, &[moved(11, 100)]),
-        Rows::Chain => add_chain(rt, alloc, turns),
-        Rows::Pending => add_pending(rt, alloc, turns),
-    }
+    add(rt, turns, moving(rt, alloc, LATE, 6, &late));
 }
 
 /// The requests of the rows.
 pub(crate) fn turns(rt: &impl Abort, alloc: Global, rows: Rows) -> Vec<Turn> {
     let mut all = Vec::new(alloc);
-    add_one(rt, &mut all, register(rt));
-    add_one(rt, &mut all, two_accounts(rt, alloc));
-    add_one(rt, &mut all, three_ids(rt, alloc));
-    add_transfers(rt, alloc, rows, &mut all);
+    add(rt, &mut all, register(rt));
+    add(rt, &mut all, two_accounts(rt, alloc));
+    add(rt, &mut all, three_ids(rt, alloc));
+    match rows {
+        Rows::First => {
+            let one = [moved(11, 100)];
+            add(rt, &mut all, moving(rt, alloc, EARLY, 3, &one));
+        }
+        Rows::Chain => add_chain(rt, alloc, &mut all),
+        Rows::Pending => add_pending(rt, alloc, &mut all),
+    }
     all
 }
