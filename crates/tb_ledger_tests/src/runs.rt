@@ -20,10 +20,11 @@ pub struct Run {
 }
 
 /// Results have these codes, each at its index.
-fn have_codes(results: &[EventResult], want: &[(u32, u32)]) -> bool {
-    results.len() == want.len()
-        && results.iter().zip(want.iter()).all(|(one, (index, code))| one.index == *index
-            && one.result == *code)
+fn expect_codes(rt: &impl Abort, results: Vec<EventResult>, want: &[(u32, u32)]) {
+    let mut pairs = results.iter().zip(want);
+    let same = pairs.all(|(one, pair)| (one.index, one.result) == *pair);
+    holds(rt, same && results.len() == want.len(), "results");
+    drop(results);
 }
 
 /// The time of an entry of n events that comes as soon as it may.
@@ -40,18 +41,14 @@ fn next_time(rt: &impl Abort, run: &Run, n: usize) -> u64
 pub fn create(rt: &impl Abort, run: &mut Run, events: &[Account], want: &[(u32, u32)]) {
     let time = next_time(rt, run, events.len());
     let results = run.ledger.create_accounts(run.alloc, time, events);
-    let results = results.expect(rt, "memory");
-    holds(rt, have_codes(&results, want), "results of accounts");
-    drop(results);
+    expect_codes(rt, results.expect(rt, "memory"), want);
 }
 
 /// Transfers in one request.
 pub fn ask(rt: &impl Abort, run: &mut Run, events: &[Transfer], want: &[(u32, u32)]) {
     let time = next_time(rt, run, events.len());
     let results = run.ledger.create_transfers(run.alloc, time, events);
-    let results = results.expect(rt, "memory");
-    holds(rt, have_codes(&results, want), "results of transfers");
-    drop(results);
+    expect_codes(rt, results.expect(rt, "memory"), want);
 }
 
 pub fn empty(alloc: Global, profile: Profile) -> Run {
