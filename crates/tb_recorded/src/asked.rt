@@ -3,7 +3,8 @@ ghost use Rattle.std.specs.Prelude.{◌<◌};
 
 use crate::chances::Chances;
 use crate::faults::{Fault, add};
-use std::alloc::{AllocError, Global};
+use std::alloc::Global;
+use tb_fixtures::whole;
 use tb_records::{Account, Body, Items, Request, Transfer};
 
 /// Accounts have the ids 1 to 12, of which some are never created.
@@ -65,63 +66,44 @@ fn transfer(chances: &mut Chances) -> Transfer {
         } else {
             0
         },
-        user_data_128: 0,
-        user_data_64: 0,
-        user_data_32: 0,
         timeout: if flags == 2 {
-            (chances.below(2)) as u32
+            chances.below(2) as u32
         } else {
             0
         },
         ledger: 700,
         code: 10,
         flags,
-        timestamp: 0,
+        ..Transfer::default()
     }
 }
 
-/// A body that creates so many accounts.
-fn new_accounts(alloc: Global, chances: &mut Chances, count: u64) -> Result<Body, Fault> {
-    let mut accounts = Vec::new(alloc);
+/// So many events, each drawn by chance.
+fn drawn<T: Drop, F: Fn(&mut Chances) -> T>(
+    alloc: Global,
+    chances: &mut Chances,
+    count: u64,
+    draw: F,
+) -> Result<Items<T>, Fault>
+    requires { F.IsAlwaysCallable draw }
+{
+    let mut events = Vec::new(alloc);
     let mut added = Ok(());
     for _ in 0..count {
-        added = added.and(add(&mut accounts, account(chances)));
+        added = added.and(add(&mut events, draw(&mut *chances)));
     }
-    match added {
-        Ok(()) => Ok(Body::CreateAccounts(Items::new(accounts))),
-        Err(fault) => {
-            drop(accounts);
-            Err(fault)
-        }
-    }
-}
-
-/// A body that creates so many transfers.
-fn new_transfers(alloc: Global, chances: &mut Chances, count: u64) -> Result<Body, Fault> {
-    let mut transfers = Vec::new(alloc);
-    let mut added = Ok(());
-    for _ in 0..count {
-        added = added.and(add(&mut transfers, transfer(chances)));
-    }
-    match added {
-        Ok(()) => Ok(Body::CreateTransfers(Items::new(transfers))),
-        Err(fault) => {
-            drop(transfers);
-            Err(fault)
-        }
-    }
+    Ok(Items::new(whole(events, added)?))
 }
 
 /// Five ids below a bound, and 0 among them now and then.
 fn ids(chances: &mut Chances, bound: u64) -> [u128; 5]
     requires some { 0 < bound }
 {
-    let first = u128::from(chances.below(bound));
-    let second = u128::from(chances.below(bound));
-    let third = u128::from(chances.below(bound));
-    let fourth = u128::from(chances.below(bound));
-    let fifth = u128::from(chances.below(bound));
-    [first, second, third, fourth, fifth]
+    let mut ids = [0; 5];
+    for id in &mut ids {
+        *id = u128::from(chances.below(bound));
+    }
+    ids
 }
 
 /// The ids of accounts that a lookup asks for.
@@ -134,36 +116,9 @@ pub fn transfer_ids(lookup: u64) -> [u128; 5] {
     ids(&mut Chances::new(lookup), TRANSFERS)
 }
 
-/// A body's ids.
+/// Items in memory of their own.
 fn items(alloc: Global, ids: &[u128]) -> Result<Items<u128>, Fault> {
-    match Vec::from_slice(alloc, ids) {
-        Ok(ids) => Ok(Items::new(ids)),
-        Err(AllocError) => Err(Fault::NoMemory),
-    }
-}
-
-/// A body that looks accounts up.
-fn lookup_of_accounts(alloc: Global, chances: &mut Chances) -> Result<Body, Fault> {
-    match items(alloc, &ids(chances, ACCOUNTS)) {
-        Ok(ids) => Ok(Body::LookupAccounts(ids)),
-        Err(fault) => Err(fault),
-    }
-}
-
-/// A body that looks transfers up.
-fn lookup_of_transfers(alloc: Global, chances: &mut Chances) -> Result<Body, Fault> {
-    match items(alloc, &ids(chances, TRANSFERS)) {
-        Ok(ids) => Ok(Body::LookupTransfers(ids)),
-        Err(fault) => Err(fault),
-    }
-}
-
-/// A request of these numbers.
-fn made(client: u64, session: u64, number: u32, body: Body) -> Result<Request, Fault> {
-    match Request::new(u128::from(client), session, number, body) {
-        Ok(request) => Ok(request),
-        Err(_) => Err(Fault::Frame),
-    }
+    Ok(Items::new(Vec::from_slice(alloc, ids)?))
 }
 
 impl Asked {
@@ -182,22 +137,22 @@ impl Asked {
         let own = self.client.wrapping_mul(1 << 40) ^ u64::from(self.number);
         let mut chances = Chances::new(own ^ self.variant.wrapping_mul(1 << 60));
         let count = 1 + chances.below(4);
-        match chances.below(8) {
-            0 => new_accounts(alloc, &mut chances, count),
-            1 => lookup_of_accounts(alloc, &mut chances),
-            2 => lookup_of_transfers(alloc, &mut chances),
-            _ => new_transfers(alloc, &mut chances, count),
-        }
+        Ok(match chances.below(8) {
+            0 => Body::CreateAccounts(drawn(alloc, &mut chances, count, account)?),
+            1 => Body::LookupAccounts(items(alloc, &ids(&mut chances, ACCOUNTS))?),
+            2 => Body::LookupTransfers(items(alloc, &ids(&mut chances, TRANSFERS))?),
+            _ => Body::CreateTransfers(drawn(alloc, &mut chances, count, transfer)?),
+        })
     }
 
     /// The request.
     pub fn request(self, alloc: Global) -> Result<Request, Fault> {
-        if self.number == 0 {
-            return made(self.client, 0, 0, Body::Register);
-        }
-        match self.body(alloc) {
-            Ok(body) => made(self.client, self.session, self.number, body),
-            Err(fault) => Err(fault),
-        }
+        let (session, body) = if self.number == 0 {
+            (0, Body::Register)
+        } else {
+            (self.session, self.body(alloc)?)
+        };
+        let request = Request::new(u128::from(self.client), session, self.number, body);
+        request.map_err(|_| Fault::Frame)
     }
 }

@@ -30,25 +30,14 @@ fn take_in<J: Naming, S: Serving>(
         outcome,
         ..
     } = one;
-    if let Err(fault) = outcome {
-        drop(closed);
-        drop(log);
-        return Err(fault);
-    }
-    let placed = match finished.offered_by(closed) {
+    let added = match finished.offered_by(closed) {
         Ok(places) => placed.add(places.as_slice(), log.offered.as_slice()),
         Err(closed) => {
             drop(closed);
             Err(Fault::NoMemory)
         }
     };
-    match placed {
-        Ok(()) => add(logs, log),
-        Err(fault) => {
-            drop(log);
-            Err(fault)
-        }
-    }
+    outcome.and(added).and(add(logs, log))
 }
 
 /// Takes the closed ports in.
@@ -74,10 +63,9 @@ fn check(
     rules: Rules,
     history: &[Entry],
     placed: &PlacedRequests,
-    logs: &[Log],
+    logs: &mut [Log],
 ) -> Result<Tally, Fault> {
     let mut tally = check_answers(alloc, rules, history, logs)?;
-    tally.commits = history.len();
     tally.offered = placed.len();
     tally.count_wrong(placed.misplaced());
     tally.count_wrong(rebuild(alloc, rules, placed, history)?);
@@ -108,7 +96,7 @@ pub fn audit<J: Naming, S: Serving>(
             rules,
             finished.publisher.history(),
             &placed,
-            logs.as_slice(),
+            logs.as_mut_slice(),
         ),
         Err(fault) => Err(fault),
     };

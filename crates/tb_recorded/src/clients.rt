@@ -2,7 +2,7 @@
 ghost use Rattle.std.specs.Prelude.{◌≡◌, Some};
 
 use crate::asked::{Asked, account_ids, transfer_ids};
-use crate::doors::{Door, Serving};
+use crate::doors::{Door, REQUESTS_MAX, Serving};
 use crate::faults::{Fault, add};
 use crate::notes::Note;
 use crate::players::Player;
@@ -11,6 +11,7 @@ use std::alloc::Global;
 use std::marker::PhantomData;
 use std::sync::Wait;
 use std::thread;
+use tb_fixtures::whole;
 use tb_published::{Naming, Seat};
 use tb_records::{Reply, Request, Status};
 use tb_service::{Closed, Port};
@@ -43,129 +44,6 @@ fn settled(reply: Reply) -> Option<Reply> {
         return None;
     }
     Some(reply)
-}
-
-/// Asks a seat for the reply.
-fn answer<J: Naming>(seat: &mut Seat<J>, request: &Request) -> Result<Reply, Fault> {
-    match seat.answer(request) {
-        Ok(reply) => Ok(reply),
-        Err(fault) => Err(Fault::from(fault)),
-    }
-}
-
-/// Asks a seat for the reply, where it is not NotYet.
-fn ask<J: Naming>(seat: &mut Seat<J>, request: &Request) -> Result<Option<Reply>, Fault> {
-    match answer(seat, request) {
-        Ok(reply) => Ok(settled(reply)),
-        Err(fault) => Err(fault),
-    }
-}
-
-/// Asks a seat by turns until the request is answered.
-fn poll<J: Naming>(seat: &mut Seat<J>, request: &Request, turns: u32) -> Result<Reply, Fault> {
-    for _ in 0..turns {
-        match ask(seat, request) {
-            Ok(Some(reply)) => return Ok(reply),
-            Ok(None) => thread::yield_now(),
-            Err(fault) => return Err(fault),
-        }
-    }
-    answer(seat, request)
-}
-
-/// Asks a seat only how a request fares.
-fn status_of<J: Naming>(alloc: Global, seat: &mut Seat<J>, asked: Asked) -> Result<Status, Fault> {
-    match asked.request(alloc) {
-        Ok(request) => {
-            let status = seat.status(&request);
-            drop(request);
-            Ok(status?)
-        }
-        Err(fault) => Err(fault),
-    }
-}
-
-/// Looks accounts up through a seat, by the lookup of a number.
-fn look_accounts_up<J: Naming>(seat: &mut Seat<J>, lookup: u64) -> Result<Record, Fault> {
-    match seat.lookup_accounts(&account_ids(lookup)) {
-        Ok((commit, accounts)) => {
-            let answer = Answer::Accounts(lookup, accounts);
-            Ok(Record { answer, commit })
-        }
-        Err(fault) => Err(Fault::from(fault)),
-    }
-}
-
-/// Looks transfers up through a seat, by the lookup of a number.
-fn look_transfers_up<J: Naming>(seat: &mut Seat<J>, lookup: u64) -> Result<Record, Fault> {
-    match seat.lookup_transfers(&transfer_ids(lookup)) {
-        Ok((commit, transfers)) => {
-            let answer = Answer::Transfers(lookup, transfers);
-            Ok(Record { answer, commit })
-        }
-        Err(fault) => Err(Fault::from(fault)),
-    }
-}
-
-/// Hands one request over without a look.
-fn hand_over<S: Serving, R: Wait>(
-    rt: &R,
-    alloc: Global,
-    door: &mut Door<S>,
-    asked: Asked,
-) -> Result<(), Fault> {
-    match asked.request(alloc) {
-        Ok(request) => door.offer(rt, request),
-        Err(fault) => Err(fault),
-    }
-}
-
-/// Appends a request to an order, and to what was offered.
-fn put_one(
-    alloc: Global,
-    requests: &mut Vec<Request>,
-    offered: &mut Vec<Asked>,
-    asked: Asked,
-) -> Result<(), Fault> {
-    match asked.request(alloc) {
-        Ok(request) => add(requests, request).and(add(offered, asked)),
-        Err(fault) => Err(fault),
-    }
-}
-
-/// Appends the requests that follow one another from this one on, now and then one of them twice.
-fn put_several(
-    alloc: Global,
-    requests: &mut Vec<Request>,
-    offered: &mut Vec<Asked>,
-    player: &mut Player,
-    first: Asked,
-) -> Result<(), Fault> {
-    let mut asked = first;
-    for _ in 0..=player.more() {
-        put_one(alloc, requests, offered, asked)?;
-        asked = player.behind(asked);
-    }
-    Ok(())
-}
-
-/// Hands over an order that begins with this request.
-fn hand_several_over<S: Serving, R: Wait>(
-    rt: &R,
-    alloc: Global,
-    door: &mut Door<S>,
-    offered: &mut Vec<Asked>,
-    player: &mut Player,
-    first: Asked,
-) -> Result<(), Fault> {
-    let mut requests = Vec::new(alloc);
-    match put_several(alloc, &mut requests, offered, player, first) {
-        Ok(()) => door.offer_many(rt, requests),
-        Err(fault) => {
-            drop(requests);
-            Err(fault)
-        }
-    }
 }
 
 impl<J: Naming, S: Serving> Client<J, S> {
@@ -208,34 +86,42 @@ impl<J: Naming, S: Serving> Client<J, S> {
         add(&mut self.log.records, Record { answer, commit })
     }
 
-    /// Asks the seat by turns until the request is answered.
+    /// Asks the seat by turns until the request is answered; an impatient client asks twice at the most.
     fn poll(&mut self, request: &Request) -> Result<Reply, Fault> {
-        let turns = self.player.turns();
-        poll(&mut self.seat, request, turns)
-    }
-
-    /// A request was handed over: it is written down, and the seat is asked for it.
-    fn follow(&mut self, asked: Asked, request: &Request) -> Result<Reply, Fault> {
-        add(&mut self.log.offered, asked)?;
-        self.poll(request)
+        for _ in 0..self.player.turns() {
+            if let Some(reply) = settled(self.seat.answer(request)?) {
+                return Ok(reply);
+            }
+            thread::yield_now();
+        }
+        Ok(self.seat.answer(request)?)
     }
 
     /// A call without turns hands the request over exactly where it answers NotYet. Then the seat is asked.
     fn call<R: Wait>(&mut self, rt: &R, asked: Asked, request: &Request) -> Result<Reply, Fault> {
-        match self.door.call(rt, &mut self.seat, request) {
-            Ok(reply) => match settled(reply) {
-                Some(reply) => Ok(reply),
-                None => self.follow(asked, request),
-            },
-            Err(fault) => Err(fault),
+        if let Some(reply) = settled(self.door.call(rt, &mut self.seat, request)?) {
+            return Ok(reply);
         }
+        add(&mut self.log.offered, asked)?;
+        self.poll(request)
     }
 
     /// Hands one request over without a look, and then asks the seat.
     fn offer<R: Wait>(&mut self, rt: &R, asked: Asked, request: &Request) -> Result<Reply, Fault> {
         add(&mut self.log.offered, asked)?;
-        hand_over(rt, self.alloc, &mut self.door, asked)?;
+        self.door.offer(rt, asked.request(self.alloc)?)?;
         self.poll(request)
+    }
+
+    /// Appends the requests that follow one another from this one on, now and then one of them twice.
+    fn put_several(&mut self, requests: &mut Vec<Request>, first: Asked) -> Result<(), Fault> {
+        let mut asked = first;
+        for _ in 0..=self.player.chances.below(REQUESTS_MAX) {
+            add(requests, asked.request(self.alloc)?)?;
+            add(&mut self.log.offered, asked)?;
+            asked = self.player.behind(asked);
+        }
+        Ok(())
     }
 
     /// Hands several requests over in one order, and then asks the seat for the first.
@@ -245,77 +131,34 @@ impl<J: Naming, S: Serving> Client<J, S> {
         asked: Asked,
         request: &Request,
     ) -> Result<Reply, Fault> {
-        hand_several_over(
-            rt,
-            self.alloc,
-            &mut self.door,
-            &mut self.log.offered,
-            &mut self.player,
-            asked,
-        )?;
+        let mut requests = Vec::new(self.alloc);
+        let put = self.put_several(&mut requests, asked);
+        self.door.offer_many(rt, whole(requests, put)?)?;
         self.poll(request)
     }
 
     /// Looks records up through the seat.
     fn look_up(&mut self) -> Result<(), Fault> {
-        let lookup = self.player.lookup();
-        let record = if self.player.either() {
-            look_accounts_up(&mut self.seat, lookup)
+        let lookup = self.player.chances.draw();
+        let (answer, commit) = if self.player.chances.below(2) == 0 {
+            let (commit, accounts) = self.seat.lookup_accounts(&account_ids(lookup))?;
+            (Answer::Accounts(lookup, accounts), commit)
         } else {
-            look_transfers_up(&mut self.seat, lookup)
+            let (commit, transfers) = self.seat.lookup_transfers(&transfer_ids(lookup))?;
+            (Answer::Transfers(lookup, transfers), commit)
         };
-        match record {
-            Ok(record) => add(&mut self.log.records, record),
-            Err(fault) => Err(fault),
-        }
+        add(&mut self.log.records, Record { answer, commit })
     }
 
     /// Asks only how a request fares.
     fn look(&mut self, asked: Asked) -> Result<(), Fault> {
-        let status = status_of(self.alloc, &mut self.seat, asked)?;
-        self.write(Answer::Status(asked, status))
-    }
-
-    /// Asks for the reply to a request in the way of a number.
-    fn answer<R: Wait>(
-        &mut self,
-        rt: &R,
-        asked: Asked,
-        request: &Request,
-        way: u64,
-    ) -> Result<Reply, Fault> {
-        match way {
-            3 => answer(&mut self.seat, request),
-            4 => self.offer(rt, asked, request),
-            5 => self.offer_several(rt, asked, request),
-            _ => self.call(rt, asked, request),
-        }
-    }
-
-    /// Learns from the reply to a request, and writes it down.
-    fn take_in(&mut self, notes: &[Note], asked: Asked, reply: Reply) -> Result<(), Fault> {
-        self.player.learn(asked, &reply, notes);
-        self.write(Answer::Reply(asked, reply))
-    }
-
-    /// Asks for the reply to a request, learns from it and writes it down.
-    fn request<R: Wait>(
-        &mut self,
-        rt: &R,
-        notes: &[Note],
-        asked: Asked,
-        request: Request,
-        way: u64,
-    ) -> Result<(), Fault> {
-        let answered = self.answer(rt, asked, &request, way);
+        let request = asked.request(self.alloc)?;
+        let status = self.seat.status(&request);
         drop(request);
-        match answered {
-            Ok(reply) => self.take_in(notes, asked, reply),
-            Err(fault) => Err(fault),
-        }
+        self.write(Answer::Status(asked, status?))
     }
 
-    /// Makes a request and asks for the reply to it.
+    /// Asks for the reply to a request in the way of a number, learns from it and writes it down.
     fn demand<R: Wait>(
         &mut self,
         rt: &R,
@@ -323,16 +166,23 @@ impl<J: Naming, S: Serving> Client<J, S> {
         asked: Asked,
         way: u64,
     ) -> Result<(), Fault> {
-        match asked.request(self.alloc) {
-            Ok(request) => self.request(rt, notes, asked, request, way),
-            Err(fault) => Err(fault),
-        }
+        let request = asked.request(self.alloc)?;
+        let answered = match way {
+            3 => self.seat.answer(&request).map_err(Fault::from),
+            4 => self.offer(rt, asked, &request),
+            5 => self.offer_several(rt, asked, &request),
+            _ => self.call(rt, asked, &request),
+        };
+        drop(request);
+        let reply = answered?;
+        self.player.learn(asked, &reply, notes);
+        self.write(Answer::Reply(asked, reply))
     }
 
     /// One step, of which one answer is written down.
     fn step<R: Wait>(&mut self, rt: &R, notes: &[Note]) -> Result<(), Fault> {
         let asked = self.player.pick(notes);
-        match self.player.way() {
+        match self.player.chances.below(16) {
             0 | 1 => self.look_up(),
             2 => self.look(asked),
             way => self.demand(rt, notes, asked, way),

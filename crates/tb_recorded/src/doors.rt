@@ -1,10 +1,9 @@
 //! Ports of one service, which the type names.
 ghost use Rattle.std.specs.Prelude.{◌≡◌, Some};
 
-use crate::faults::Fault;
+use crate::faults::{Fault, taken};
 use std::marker::PhantomData;
 use std::sync::Wait;
-use tb_fixtures::is_taken;
 use tb_published::{Naming, Seat};
 use tb_records::{Reply, Request};
 use tb_service::{Closed, Port};
@@ -53,19 +52,12 @@ impl<S: Serving> Door<S> {
         seat: &mut Seat<J>,
         request: &Request,
     ) -> Result<Reply, Fault> {
-        match self.port.call(rt, seat, request, 0) {
-            Ok(reply) => Ok(reply),
-            Err(fault) => Err(Fault::from(fault)),
-        }
+        Ok(self.port.call(rt, seat, request, 0)?)
     }
 
     /// Hands one request over.
     pub fn offer<R: Wait>(&mut self, rt: &R, request: Request) -> Result<(), Fault> {
-        if is_taken(self.port.offer(rt, request)) {
-            Ok(())
-        } else {
-            Err(Fault::Gone)
-        }
+        taken(self.port.offer(rt, request), Fault::Gone)
     }
 
     /// Hands an order over, which has 1 to 8 requests.
@@ -74,10 +66,6 @@ impl<S: Serving> Door<S> {
             drop(requests);
             return Err(Fault::Gone);
         }
-        if is_taken(self.port.offer_many(rt, requests)) {
-            Ok(())
-        } else {
-            Err(Fault::Gone)
-        }
+        taken(self.port.offer_many(rt, requests), Fault::Gone)
     }
 }

@@ -8,8 +8,12 @@ use tb_published::{OpenFault, SeatFault};
 pub enum Fault {
     #[error("no memory")]
     NoMemory,
-    #[error("no copy can be read, or no place at the copies is free")]
-    NoCopy,
+    #[error("no opening: {0}")]
+    Opening(#[from] OpenFault),
+    #[error("a seat gives no answer: {0}")]
+    Seat(#[from] SeatFault),
+    #[error("there are not so many seats and ports")]
+    TooMany,
     #[error("a request breaks the rules of frames")]
     Frame,
     #[error("the server gave a request back")]
@@ -26,29 +30,12 @@ impl From<AllocError> for Fault {
     }
 }
 
-impl From<OpenFault> for Fault {
-    fn from(fault: OpenFault) -> Fault {
-        match fault {
-            OpenFault::NoMemory => Fault::NoMemory,
-            OpenFault::NoPlace => Fault::NoCopy,
-        }
-    }
-}
-
-impl From<SeatFault> for Fault {
-    fn from(fault: SeatFault) -> Fault {
-        match fault {
-            SeatFault::NoMemory => Fault::NoMemory,
-            SeatFault::NoCopy => Fault::NoCopy,
-        }
-    }
+/// What was handed over was taken, or it comes back for this reason, and is let go.
+pub fn taken<T: Drop>(handed: Result<(), T>, fault: Fault) -> Result<(), Fault> {
+    if is_taken(handed) { Ok(()) } else { Err(fault) }
 }
 
 /// Appends an item.
 pub fn add<T: Drop>(all: &mut Vec<T>, item: T) -> Result<(), Fault> {
-    if is_taken(all.push(item)) {
-        Ok(())
-    } else {
-        Err(Fault::NoMemory)
-    }
+    taken(all.push(item), Fault::NoMemory)
 }

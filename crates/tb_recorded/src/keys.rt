@@ -37,8 +37,5 @@ pub fn count_twice(alloc: Global, history: &[Entry]) -> Result<u64, Fault> {
     let sorted = put_sorted(&mut keys, history);
     let twice = count_same(keys.as_slice());
     drop(keys);
-    match sorted {
-        Ok(()) => Ok(twice),
-        Err(fault) => Err(fault),
-    }
+    sorted.and(Ok(twice))
 }

@@ -48,7 +48,7 @@ use std::env;
 use std::marker::Brand;
 use std::sync::Wait;
 use std::thread::Threads;
-use tb_records::{ClientsMax, Profile};
+use tb_records::{ClientsMax, Profile, Status};
 
 /// The number that a word spells.
 fn number(word: Option<&String>) -> Result<u32, Error> {
@@ -89,52 +89,19 @@ fn rules_of(scale: Scale) -> Result<Rules, Error> {
     })
 }
 
-/// Tells a name and its number on standard output.
-fn tell_one<R: Print>(rt: &R, name: &str, number: u64) -> Result<(), Error> {
-    println!(rt; "{name} {number}")?;
-    Ok(())
-}
-
-/// Tells the answers by status on standard error, three in a line.
-fn tell_statuses<R: Eprint>(rt: &R, tally: Tally) -> Result<(), Error> {
-    let [
-        reply,
-        no_session,
-        too_low,
-        newer_session,
-        older,
-        collision,
-        newer,
-        not_yet,
-    ] = tally.statuses;
-    let rows = [
-        ("Reply", reply, ", "),
-        ("NotYet", not_yet, ", "),
-        ("lookups", tally.lookups, "\n"),
-        ("NoSession", no_session, ", "),
-        ("SessionTooLow", too_low, ", "),
-        ("NewerSession", newer_session, "\n"),
-        ("Older", older, ", "),
-        ("Collision", collision, ", "),
-        ("NewerRequest", newer, "\n"),
-    ];
-    for (name, number, end) in &rows {
-        eprint!(rt; "{name} {number}{end}")?;
-    }
-    Ok(())
-}
-
-/// Tells what the audit counted.
+/// Tells what the audit counted: the answers by status on standard error.
 fn tell<R: Print + Eprint>(rt: &R, scale: Scale, tally: Tally) -> Result<(), Error> {
-    tell_one(rt, "clients", u64::from(scale.clients))?;
-    tell_one(rt, "seed", scale.seed)?;
-    tell_one(rt, "answers", tally.answers)?;
-    println!(rt; "{} wrong", tally.wrong)?;
-    eprintln!(rt;
+    println!(rt; "clients {}\nseed {}", scale.clients, scale.seed)?;
+    println!(rt; "answers {}\n{} wrong", tally.answers, tally.wrong)?;
+    eprint!(rt;
         "commits {}, requests handed over {}",
         tally.commits, tally.offered
     )?;
-    tell_statuses(rt, tally)
+    for (status, count) in Status::ALL.iter().zip(tally.statuses) {
+        eprint!(rt; ", {status} {count}")?;
+    }
+    eprintln!(rt; ", lookups {}", tally.lookups)?;
+    Ok(())
 }
 
 /// The scale that the program's words tell.

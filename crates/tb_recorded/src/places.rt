@@ -1,10 +1,9 @@
 //! What was offered, by place.
 use crate::asked::Asked;
-use crate::faults::{Fault, add};
+use crate::faults::{Fault, add, taken};
 use crate::rules::Rules;
-use std::alloc::{AllocError, Global};
+use std::alloc::Global;
 use tb_machine::{Entry, Machine};
-use tb_records::Request;
 use tb_sessions::Class;
 
 /// The requests of all ports by their places, and what is wrong with these.
@@ -33,19 +32,11 @@ impl PlacedRequests {
         self.requests.len()
     }
 
-    /// Takes memory for a place.
-    fn reach(&mut self, place: usize) -> Result<(), Fault> {
-        let missing = place.saturating_sub(self.requests.len());
-        let requests = &mut self.requests;
-        for _ in 0..missing {
-            add(requests, None)?;
-        }
-        Ok(())
-    }
-
     /// Puts a request at its place, which is to be free.
     fn put(&mut self, place: u64, asked: Asked) -> Result<(), Fault> {
-        self.reach(place as usize)?;
+        for _ in self.requests.len()..place as usize {
+            add(&mut self.requests, None)?;
+        }
         match self.requests.get_mut((place as usize).wrapping_sub(1)) {
             Some(free) if free.is_none() => *free = Some(asked),
             _ => self.misplaced = self.misplaced.saturating_add(1),
@@ -85,27 +76,23 @@ fn is_same(one: &Entry, other: &Entry) -> bool {
 /// Enters an entry, where it may come next; it is to be the next one of the history.
 fn enter(machine: &mut Machine<Global>, entry: Entry, history: &[Entry]) -> Result<u64, Fault> {
     let next = history.get(machine.commit() as usize);
-    let wrong = !next.is_some_and(|kept| is_same(&entry, kept));
+    let wrong = u64::from(!next.is_some_and(|kept| is_same(&entry, kept)));
     if !machine.fits(&entry) {
         drop(entry);
-        return Ok(u64::from(wrong));
+        return Ok(wrong);
     }
-    match machine.enter(entry) {
-        Ok(()) => Ok(u64::from(wrong)),
-        Err(back) => {
-            drop(back);
-            Err(Fault::NoMemory)
-        }
-    }
+    taken(machine.enter(entry), Fault::NoMemory).and(Ok(wrong))
 }
 
-/// A request has its turn.
-fn judge(
+/// The request at a place has its turn, as the rules say: where it is new it is to be the next entry of the history.
+fn take_turn(
+    alloc: Global,
     machine: &mut Machine<Global>,
     place: u64,
-    request: Request,
+    asked: Asked,
     history: &[Entry],
 ) -> Result<u64, Fault> {
+    let request = asked.request(alloc)?;
     if machine.class(&request) != Class::New {
         drop(request);
         return Ok(0);
@@ -122,20 +109,6 @@ fn judge(
         request,
     };
     enter(machine, entry, history)
-}
-
-/// The request at a place has its turn, as the rules say: where it is new it is to be the next entry of the history.
-fn take_turn(
-    alloc: Global,
-    machine: &mut Machine<Global>,
-    place: u64,
-    asked: Asked,
-    history: &[Entry],
-) -> Result<u64, Fault> {
-    match asked.request(alloc) {
-        Ok(request) => judge(machine, place, request, history),
-        Err(fault) => Err(fault),
-    }
 }
 
 /// Serves the requests by their places by a machine of the empty history, and counts where the history has something else.
@@ -163,12 +136,8 @@ pub fn rebuild(
     placed: &PlacedRequests,
     history: &[Entry],
 ) -> Result<u64, Fault> {
-    match rules.machine(alloc) {
-        Ok(mut machine) => {
-            let wrong = serve(alloc, &mut machine, placed, history);
-            drop(machine);
-            wrong
-        }
-        Err(AllocError) => Err(Fault::NoMemory),
-    }
+    let mut machine = rules.machine(alloc)?;
+    let wrong = serve(alloc, &mut machine, placed, history);
+    drop(machine);
+    wrong
 }

@@ -1,7 +1,6 @@
 //! What a client chooses to ask, by what it knows of sessions and by chance.
 use crate::asked::Asked;
 use crate::chances::Chances;
-use crate::doors::REQUESTS_MAX;
 use crate::notes::{Known, Note};
 use tb_records::{Reply, Status};
 
@@ -16,7 +15,7 @@ const STRANGERS: u64 = 1000;
 pub struct Player {
     place: usize,
     own: Known,
-    chances: Chances,
+    pub chances: Chances,
 }
 
 impl Player {
@@ -32,26 +31,6 @@ impl Player {
             },
             chances: Chances::new(seed ^ client.wrapping_mul(1 << 48)),
         }
-    }
-
-    /// How a request is asked for: a number below 16.
-    pub fn way(&mut self) -> u64 {
-        self.chances.below(16)
-    }
-
-    /// The number of a lookup.
-    pub fn lookup(&mut self) -> u64 {
-        self.chances.draw()
-    }
-
-    /// One of two.
-    pub fn either(&mut self) -> bool {
-        self.chances.below(2) == 0
-    }
-
-    /// How many requests an order has besides the first.
-    pub fn more(&mut self) -> u64 {
-        self.chances.below(REQUESTS_MAX)
     }
 
     /// How often a seat is asked before the last time; an impatient client asks twice at the most.

@@ -24,6 +24,8 @@ pub struct Record {
 #[derive(Drop)]
 pub struct Log {
     pub records: Vec<Record>,
+    /// How many of them an audit has checked.
+    pub checked: usize,
     pub offered: Vec<Asked>,
 }
 
@@ -32,6 +34,7 @@ impl Log {
     pub fn new(alloc: Global) -> Log {
         Log {
             records: Vec::new(alloc),
+            checked: 0,
             offered: Vec::new(alloc),
         }
     }

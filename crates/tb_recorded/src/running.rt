@@ -54,34 +54,24 @@ fn next_port<S: Serving>(ports: &mut Vec<Port>) -> Option<Port>
     ports.pop()
 }
 
-/// Adds a client with a port and a seat.
-fn add_client<J: Naming, S: Serving>(
+/// The clients, each with a port and a seat.
+fn make_clients<J: Naming, S: Serving>(
     alloc: Global,
-    clients: &mut Vec<Client<J, S>>,
-    port: Port,
-    seat: Seat<J>,
-    seed: u64,
-) -> Result<(), Fault>
-    requires { S.service ≡ Some port.service }
-{
-    let place = clients.len();
-    add(clients, Client::new(alloc, place, seed, port, seat))
-}
-
-/// Adds a client for each seat that there is a port for.
-fn add_clients<J: Naming, S: Serving>(
-    alloc: Global,
-    clients: &mut Vec<Client<J, S>>,
     mut ports: Vec<Port>,
     seats: Vec<Seat<J>>,
     seed: u64,
-) -> Result<(), Fault>
+) -> Result<Vec<Client<J, S>>, Fault>
     requires { All (λ port. S.service ≡ Some port.service) ports.items }
 {
+    let mut clients = Vec::new(alloc);
     let mut added = Ok(());
     for seat in seats {
+        let place = clients.len();
         added = match next_port::<S>(&mut ports) {
-            Some(port) => added.and(add_client(alloc, clients, port, seat, seed)),
+            Some(port) => {
+                let client = Client::new(alloc, place, seed, port, seat);
+                added.and(add(&mut clients, client))
+            }
             None => {
                 drop(seat);
                 added
@@ -89,71 +79,11 @@ fn add_clients<J: Naming, S: Serving>(
         };
     }
     drop(ports);
-    added
-}
-
-/// The clients, each with a port and a seat.
-fn make_clients<J: Naming, S: Serving>(
-    alloc: Global,
-    ports: Vec<Port>,
-    seats: Vec<Seat<J>>,
-    seed: u64,
-) -> Result<Vec<Client<J, S>>, Fault>
-    requires { All (λ port. S.service ≡ Some port.service) ports.items }
-{
-    let mut clients = Vec::new(alloc);
-    let added = add_clients(alloc, &mut clients, ports, seats, seed);
     whole(clients, added)
 }
 
-/// Appends a note for each client.
-fn put_notes(notes: &mut Vec<Note>, clients: u32) -> Result<(), Fault> {
-    for _ in 0..clients {
-        add(notes, Note::new())?;
-    }
-    Ok(())
-}
-
-/// All clients take their steps at once.
-fn play_all<J: Naming + Send + Sync, S: Serving + Send + Sync, R: Threads + Wait + Sync>(
-    rt: &R,
-    clients: &mut Vec<Client<J, S>>,
-    notes: &[Note],
-    steps: u32,
-) {
-    let threads = clients.len().max(1);
-    thread::for_each_mut(
-        rt,
-        clients.as_mut_slice(),
-        threads,
-        &|_, client: &mut Client<J, S>| { client.play(rt, notes, steps) },
-    );
-}
-
-/// Closes a client's port, and keeps what the client wrote down.
-fn close_one<J: Naming, S: Serving, R: Wait>(
-    rt: &R,
-    all: &mut Vec<Left<S>>,
-    client: Client<J, S>,
-) -> Result<(), Fault> {
-    add(all, client.close(rt))
-}
-
-/// Closes each client's port, and gives out what the clients wrote down.
-fn close_all<J: Naming, S: Serving, R: Wait>(
-    rt: &R,
-    alloc: Global,
-    clients: Vec<Client<J, S>>,
-) -> Result<Vec<Left<S>>, Fault> {
-    let mut all = Vec::new(alloc);
-    let mut closed = Ok(());
-    for client in clients {
-        closed = closed.and(close_one(rt, &mut all, client));
-    }
-    whole(all, closed)
-}
-
-/// Once the server has begun all clients take their steps; then the ports are closed.
+/// Once the server has begun all clients take their steps at once; then the ports are closed, and this gives out what the
+/// clients wrote down.
 fn take_part<J: Naming + Send + Sync, S: Serving + Send + Sync, R: Threads + Wait + Sync>(
     rt: &R,
     alloc: Global,
@@ -162,16 +92,22 @@ fn take_part<J: Naming + Send + Sync, S: Serving + Send + Sync, R: Threads + Wai
     notes: &[Note],
     steps: u32,
 ) -> Result<Vec<Left<S>>, Fault> {
-    let served = has_begun(begun);
-    if served {
-        play_all(rt, &mut clients, notes, steps);
+    let mut fared = Err(Fault::NoThread);
+    if has_begun(begun) {
+        let threads = clients.len().max(1);
+        thread::for_each_mut(
+            rt,
+            clients.as_mut_slice(),
+            threads,
+            &|_, client: &mut Client<J, S>| { client.play(rt, notes, steps) },
+        );
+        fared = Ok(());
     }
-    let left = close_all(rt, alloc, clients);
-    if !served {
-        drop(left);
-        return Err(Fault::NoThread);
+    let mut all = Vec::new(alloc);
+    for client in clients {
+        fared = fared.and(add(&mut all, client.close(rt)));
     }
-    left
+    whole(all, fared)
 }
 
 /// A run over a server and its ports, with a note for each client, and its audit.
@@ -227,12 +163,9 @@ fn run_noted<J: Naming + Send + Sync, R: Threads + Wait + Sync>(
 {
     let (Some(seats), Some(ports)) = (SeatCount::new(scale.clients), PortCount::new(scale.clients))
     else {
-        return Err(Fault::NoCopy);
+        return Err(Fault::TooMany);
     };
-    let (publisher, seats) = match open::<J, R>(alloc, rt, opening, seats) {
-        Ok(made) => made,
-        Err(fault) => return Err(Fault::from(fault)),
-    };
+    let (publisher, seats) = open::<J, R>(alloc, rt, opening, seats)?;
     match service(alloc, publisher, rt, ports, Ticks(0), Open) {
         Ok((server, ports)) => {
             run_over::<J, Brand, R>(rt, alloc, server, ports, seats, notes, rules, scale)
@@ -255,10 +188,12 @@ pub fn run_in<J: Naming + Send + Sync, R: Threads + Wait + Sync>(
     requires { opening ≡ J.opening }
 {
     let mut notes = Vec::new(alloc);
-    let tally = match put_notes(&mut notes, scale.clients) {
-        Ok(()) => run_noted::<J, R>(rt, alloc, opening, notes.as_slice(), rules, scale),
-        Err(fault) => Err(fault),
-    };
+    let mut added = Ok(());
+    for _ in 0..scale.clients {
+        added = added.and(add(&mut notes, Note::new()));
+    }
+    let notes = whole(notes, added)?;
+    let tally = run_noted::<J, R>(rt, alloc, opening, notes.as_slice(), rules, scale);
     drop(notes);
     tally
 }

@@ -1,6 +1,6 @@
 use Rattle.std.proofs.Common.{◌≡◌, All, Some}
 use Rattle.tb_service.specs.Ports.{Offers}
-use Rattle.tb_recorded.proofs.running.add_clients.Given as goal
+use Rattle.tb_recorded.proofs.running.make_clients.Given as goal
 
 -- the ports that are left are of the service
 abbrev pub invariant-loop-seat : goal.invariant-loop-seat
