@@ -1,13 +1,13 @@
 -- What could stand next: the words, the number and the marks that may stand where a line ends are those with which some
 -- text of statements goes on.
-use Rattle.std.proofs.Common.{◌≡◌, ℕ, ◌+◌, Bool, true, false, cond, ◌&&◌, ◌==◌, List, [], ◌∷◌, ◌++◌, take, drop, Option, Some, None, IsSome, Result, Ok, Err, IfOk, refl, sym, ap, subst, ◌∙◌, append_assoc, arith, ◌↔◌}
+use Rattle.std.proofs.Common.{◌≡◌, ℕ, ◌+◌, ◌<◌, Bool, true, false, cond, ◌&&◌, ◌==◌, List, [], ◌∷◌, ◌++◌, length, get_or, take, drop, Option, Some, None, IsSome, Result, Ok, Err, IfOk, refl, sym, ap, subst, ◌∙◌, append_assoc, arith, ◌↔◌}
 use Rattle.std.specs.Prelude.{nat_lt}
 use Rattle.std.specs.Option.{option_and_then}
-use Rattle.std.specs.List.{All, Contains, filter}
-use Rattle.std.proofs.lemmas.List.{take-append-drop}
-use Rattle.std.proofs.lemmas.List.Elements.{All-nil, All-cons, All-weaker, All-contains, filter_passes, Contains-push, Contains-append_left, Contains-append_right, Contains-get_or}
+use Rattle.std.specs.List.{Contains, filter}
+use Rattle.std.proofs.lemmas.List.{append-nil, take-append-drop}
+use Rattle.std.proofs.lemmas.List.Elements.{All-contains, filter_passes, filter_more, filter-append, Contains-push, Contains-append_left}
+use Rattle.std.proofs.lemmas.Option.{none-some, option_and_then_some, same_Some}
 use Rattle.tb_records.specs.declared.operations.Operation.{Operation}
-use Rattle.tb_records.specs.declared.operations.Operation.TheVariants.{Register, CreateAccounts, CreateTransfers, LookupAccounts, LookupTransfers}
 use Rattle.tb_text.specs.declared.awaited.Awaited.{Awaited}
 use Rattle.tb_text.specs.declared.words.Field.{Field}
 use Rattle.tb_text.specs.declared.words.Field.TheVariants as field
@@ -16,17 +16,18 @@ use Rattle.tb_text.specs.declared.words.Word.TheVariants as word
 use Rattle.tb_text.specs.declared.places.Lexeme.{Lexeme}
 use Rattle.tb_text.specs.declared.places.Lexeme.TheVariants.{Gap, Comment, Spelled, Zero, Prefix, Decimal, Hexadecimal}
 use Rattle.tb_text.specs.declared.places.Place.{Place}
-use Rattle.tb_text.specs.declared.places.Place.TheVariants.{Head, Named, Wanted, Given, Opened, Parted}
+use Rattle.tb_text.specs.declared.places.Place.TheVariants.{Named, Wanted, Given, Opened, Parted}
 use Rattle.tb_text.specs.Words.{word_text, all_words, same_field, field_max}
 use Rattle.tb_text.specs.Entries.{is_word_byte, is_positive}
-use Rattle.tb_text.specs.Scan.{Scan, behind, step, run, gap, item_count, pushed, closed_at, parted_at, valued_at, joined_at, entered, moved, within, spelling, taken, wanted, may_stand, word_named, number_left, word_left, word_grown, begins_word, decimal_grown, appended, finished, rests}
+use Rattle.tb_text.specs.Scan.{Scan, behind, step, step_at, run, gap, word_ended, number_ended, item_count, pushed, closed_at, parted_at, valued_at, joined_at, entered, moved, within, spelling, taken, wanted, may_stand, word_named, number_left, word_left, word_grown, begins_word, decimal_grown, appended, finished, rests}
 use Rattle.tb_text.specs.Steps.{BeginsStatements, Scans}
 use Rattle.tb_text.specs.Awaited.{GoesOn, Awaits, AwaitsBehind, MayStand, OnNextLine, awaits_equals, awaits_bar, is_given_place, is_opened_place, has_operation, awaits_comma, awaits_semicolon}
 use Rattle.tb_text.proofs.EachWord.{all_word_bytes, begins_with_letter, known}
-use Rattle.tb_text.proofs.Runs.{run_append, run_behind}
+use Rattle.tb_text.proofs.Runs.{run_append, run_behind, word_taken, number_entered}
 use Rattle.tb_text.proofs.Tokens.{one_step, at_gap, line_end, stands_spelling, taken_between, word_through, gap_letter}
-use Rattle.tb_text.proofs.Ongoing.{Each, Within, IsClear, IsOngoing, Stands, read_goes_on}
+use Rattle.tb_text.proofs.Ongoing.{Within, IsClear, IsOngoing, Stands, read_goes_on}
 use Rattle.tb_text.proofs.Endings.{Rests, read_begins, decimal_one, finished_rests, pushed_rests, step_is}
+use Rattle.tb_text.proofs.Lexing.{pushed_between}
 use Rattle.tb_text.proofs.Faults.{stopped}
 use Rattle.tb_text.proofs.Facts.{and_left, and_right}
 
@@ -34,16 +35,13 @@ use Rattle.tb_text.proofs.Facts.{and_left, and_right}
 abbrev Runs : Scan → List ℕ → Type 0
 Runs s bytes = (t : Scan) × (run s bytes ≡ Some t)
 
-some_none : (s : Scan) → None ≡ Some s → ⊥
-some_none s e = absurd cc
-
 -- a text of statements begins so where the bytes are taken
 
 taken_so : (text : List ℕ) → BeginsStatements text → Runs (behind []) text
 taken_so text h = by (run (behind []) text) refl
   where
     by : (o : Option Scan) → run (behind []) text ≡ o → (t : Scan) × (run (behind []) text ≡ Some t)
-    by None e = absurd (some_none h.2.last (sym (ap (option_and_then (λ t. run t h.0)) e) ∙ (sym (run_append (behind []) text h.0) ∙ h.2.taken)))
+    by None e = absurd (none-some h.2.last (sym (ap (option_and_then (λ t. run t h.0)) e) ∙ (sym (run_append (behind []) text h.0) ∙ h.2.taken)))
     by (Some t) e = (t, e)
 
 regrouped : (text piece : List ℕ) → (text ++ 10 ∷ []) ++ piece ≡ text ++ 10 ∷ piece
@@ -62,45 +60,23 @@ went_on text piece u h g = from (taken_so (text ++ 10 ∷ (piece ++ 10 ∷ [])) 
 
 -- behind a line end no word, number or comment is begun
 
-abbrev InGap : Scan → Type 0
-InGap s = s.lexeme ≡ Gap
-
-abbrev GapOf : Option Scan → Type 0
-GapOf o = Each InGap o
-
 taken_gap : (s : Scan) (w : Word) → (taken s w).lexeme ≡ Gap
 taken_gap s w = (taken_between s w).lexeme
 
-word_left_gap : (s : Scan) → GapOf (word_left s 10)
-word_left_gap s = by (word_named s.spelled)
-  where
-    by : (o : Option Word) → GapOf (option_and_then (λ t. gap t 10) (option_and_then (λ w. cond (may_stand s w) (Some (taken s w)) None) o))
-    by None = tt
-    by (Some w) = chosen (may_stand s w)
-      where
-        chosen : (b : Bool) → GapOf (option_and_then (λ t. gap t 10) (cond b (Some (taken s w)) None))
-        chosen true = taken_gap s w
-        chosen false = tt
+number_left_gap : (s u : Scan) (n : ℕ) → number_left s n 10 ≡ Some u → u.lexeme ≡ Gap
+number_left_gap s u n e =
+    option_and_then_some (λ (t : Scan). gap t 10) (number_ended s n) u e (λ t ended k. ap (λ (v : Scan). v.lexeme) (sym ((number_entered s t n ended).is ∙ same_Some t u k)))
 
-number_left_gap : (s : Scan) (n : ℕ) → GapOf (number_left s n 10)
-number_left_gap s n = by (wanted s.place)
-  where
-    by : (o : Option Field) → GapOf (option_and_then (λ t. gap t 10) (option_and_then (λ f. cond (n == 0 && is_positive f) None (Some (entered s f n))) o))
-    by None = tt
-    by (Some f) = chosen (n == 0 && is_positive f)
-      where
-        chosen : (b : Bool) → GapOf (option_and_then (λ t. gap t 10) (cond b None (Some (entered s f n))))
-        chosen true = tt
-        chosen false = refl
-
-line_end_gap : (s : Scan) (l : Lexeme) → s.lexeme ≡ l → GapOf (step s 10)
-line_end_gap s Gap e = subst GapOf (sym (step_is s 10 Gap e)) e
-line_end_gap s Comment e = subst GapOf (sym (step_is s 10 Comment e)) refl
-line_end_gap s Spelled e = subst GapOf (sym (step_is s 10 Spelled e)) (word_left_gap s)
-line_end_gap s Zero e = subst GapOf (sym (step_is s 10 Zero e)) (number_left_gap s 0)
-line_end_gap s Prefix e = subst GapOf (sym (step_is s 10 Prefix e)) tt
-line_end_gap s (Decimal n) e = subst GapOf (sym (step_is s 10 (Decimal n) e)) (number_left_gap s n)
-line_end_gap s (Hexadecimal n) e = subst GapOf (sym (step_is s 10 (Hexadecimal n) e)) (number_left_gap s n)
+line_end_gap : (s u : Scan) (l : Lexeme) → s.lexeme ≡ l → step_at s 10 l ≡ Some u → u.lexeme ≡ Gap
+line_end_gap s u Gap at e = ap (λ (v : Scan). v.lexeme) (sym (same_Some s u e)) ∙ at
+line_end_gap s u Comment at e = ap (λ (v : Scan). v.lexeme) (sym (same_Some (within s Gap) u e))
+line_end_gap s u Spelled at e =
+    option_and_then_some (λ (t : Scan). gap t 10) (word_ended s) u e
+    (λ t ended k. let w = word_taken s t ended in ap (λ (v : Scan). v.lexeme) (sym (w.is ∙ same_Some t u k)) ∙ taken_gap s w.word)
+line_end_gap s u Zero at e = number_left_gap s u 0 e
+line_end_gap s u Prefix at e = absurd cc
+line_end_gap s u (Decimal n) at e = number_left_gap s u n e
+line_end_gap s u (Hexadecimal n) at e = number_left_gap s u n e
 
 pub line_ended : (text : List ℕ) (s u : Scan) → run (behind []) text ≡ Some s → step s 10 ≡ Some u → run (behind []) (text ++ 10 ∷ []) ≡ Some u
 line_ended text s u h e = run_behind (behind []) s text (10 ∷ []) h ∙ ap (option_and_then (λ t. Some t)) e
@@ -110,7 +86,7 @@ spelled_none s e h = record { gap = e; spelled = subst (λ (l : Lexeme). Within 
 
 is_clear : (text : List ℕ) (s u : Scan) → run (behind []) text ≡ Some s → step s 10 ≡ Some u → IsClear u
 is_clear text s u h e =
-    spelled_none u (subst GapOf e (line_end_gap s s.lexeme refl)) (read_goes_on u (text ++ 10 ∷ []) (line_ended text s u h e))
+    spelled_none u (line_end_gap s u s.lexeme refl (sym (step_is s 10 s.lexeme refl) ∙ e)) (read_goes_on u (text ++ 10 ∷ []) (line_ended text s u h e))
 
 -- words
 
@@ -118,14 +94,10 @@ is_clear text s u h e =
 not_whole : (s : Scan) (w : Word) (p q : List ℕ) → p ++ q ≡ word_text w → may_stand s w ≡ false → all_word_bytes q ≡ true → run (spelling s p) (q ++ 10 ∷ []) ≡ None
 unfolding step
 not_whole s w p [] e refuses letters =
-    let named : word_named p ≡ Some w = ap word_named (sym (append_end p) ∙ e) ∙ (known w).named in
+    let named : word_named p ≡ Some w = ap word_named (sym (append-nil p) ∙ e) ∙ (known w).named in
     let refused : may_stand (spelling s p) w ≡ false = stands_spelling s p w ∙ refuses in
     ap (λ (o : Option Word). option_and_then (λ t. run t []) (option_and_then (λ t. gap t 10) (option_and_then (λ v. cond (may_stand (spelling s p) v) (Some (taken (spelling s p) v)) None) o))) named
     ∙ ap (λ (b : Bool). option_and_then (λ t. run t []) (option_and_then (λ t. gap t 10) (cond b (Some (taken (spelling s p) w)) None))) refused
-  where
-    append_end : (xs : List ℕ) → xs ++ [] ≡ xs
-    append_end [] = refl
-    append_end (x ∷ xs) = ap (λ (ys : List ℕ). x ∷ ys) (append_end xs)
 not_whole s w p (b ∷ q) e refuses letters =
     let here : is_word_byte b ≡ true = and_left (is_word_byte b) (all_word_bytes q) letters in
     ap (λ (c : Bool). option_and_then (λ t. run t (q ++ 10 ∷ [])) (cond c (word_grown (spelling s p) (p ++ b ∷ [])) (word_left (spelling s p) b))) here
@@ -149,27 +121,14 @@ not_taken s w h refuses = from (word_text w) refl (known w).letter (known w).byt
         by false later = refl
 
 -- what passes a test is found among what passes it
-found_first : (p : Word → Bool) (x : Word) (xs : List Word) → p x ≡ true → Contains (filter p (x ∷ xs)) x
-found_first p x xs h = subst (λ (b : Bool). Contains (cond b (x ∷ filter p xs) (filter p xs)) x) (sym h) (Contains-append_left (x ∷ []) (filter p xs) x (Contains-push [] x))
-
-found_later : (p : Word → Bool) (x y : Word) (xs : List Word) → Contains (filter p xs) y → Contains (filter p (x ∷ xs)) y
-found_later p x y xs h = by (p x)
-  where
-    by : (b : Bool) → Contains (cond b (x ∷ filter p xs) (filter p xs)) y
-    by true = Contains-append_right (x ∷ []) (filter p xs) y h
-    by false = h
-
-abbrev IsFound : (Word → Bool) → List Word → Word → Type 0
-IsFound p xs y = p y ≡ true → Contains (filter p xs) y
-
-each_found : (p : Word → Bool) (xs : List Word) → All (IsFound p xs) xs
-each_found p [] = All-nil (IsFound p [])
-each_found p (x ∷ xs) =
-    All-cons (IsFound p (x ∷ xs)) x xs (found_first p x xs)
-    (All-weaker (IsFound p xs) (IsFound p (x ∷ xs)) (λ y h t. found_later p x y xs (h t)) xs (each_found p xs))
-
-among_all : (w : Word) → Contains all_words w
-among_all w = subst (Contains all_words) (known w).stands (Contains-get_or all_words (known w).place word.AmountMax (known w).below)
+found : {X : Type 0} (p : X → Bool) (xs : List X) (i : ℕ) (d : X) → i < length xs → p (get_or xs i d) ≡ true → Contains (filter p xs) (get_or xs i d)
+found {X} p xs i d lt h =
+    let x = get_or xs i d in
+    let behind : filter p (take (i + 1) xs) ≡ filter p (take i xs) ++ x ∷ [] = filter_more p xs i d lt ∙ ap (λ (c : Bool). filter p (take i xs) ++ cond c (x ∷ []) []) h in
+    let whole : filter p xs ≡ filter p (take (i + 1) xs) ++ filter p (drop (i + 1) xs) =
+    ap (filter p) (sym (take-append-drop (i + 1) xs)) ∙ filter-append p (take (i + 1) xs) (drop (i + 1) xs) in
+    subst (λ (ys : List X). Contains ys x) (sym whole)
+    (Contains-append_left (filter p (take (i + 1) xs)) (filter p (drop (i + 1) xs)) x (subst (λ (ys : List X). Contains ys x) (sym behind) (Contains-push (filter p (take i xs)) x)))
 
 word_both : (s : Scan) (w : Word) → IsClear s → Contains (filter (may_stand s) all_words) w ↔ Runs s (word_text w ++ 10 ∷ [])
 word_both s w h = (so, only)
@@ -183,8 +142,10 @@ word_both s w h = (so, only)
     only r = by (may_stand s w) refl
       where
         by : (b : Bool) → may_stand s w ≡ b → Contains (filter (may_stand s) all_words) w
-        by true is = All-contains (IsFound (may_stand s) all_words) all_words w (each_found (may_stand s) all_words) (among_all w) is
-        by false is = absurd (some_none r.0 (sym (not_taken s w h is) ∙ r.1))
+        by true is =
+            let k = known w in
+            subst (Contains (filter (may_stand s) all_words)) k.stands (found (may_stand s) all_words k.place word.AmountMax k.below (ap (may_stand s) k.stands ∙ is))
+        by false is = absurd (none-some r.0 (sym (not_taken s w h is) ∙ r.1))
 
 -- marks and numbers
 
@@ -192,77 +153,49 @@ first : (s t : Scan) (b : ℕ) → step s b ≡ Some t → t.lexeme ≡ Gap → 
 first s t b e g = (t, one_step s t b (10 ∷ []) e ∙ line_end t [] g)
 
 refused : (s : Scan) (b : ℕ) (bs : List ℕ) → step s b ≡ None → Runs s (b ∷ bs) → ⊥
-refused s b bs e r = absurd (some_none r.0 (sym (ap (option_and_then (λ t. run t bs)) e) ∙ r.1))
+refused s b bs e r = absurd (none-some r.0 (sym (ap (option_and_then (λ t. run t bs)) e) ∙ r.1))
 
 neither : (s : Scan) (b : ℕ) → step s b ≡ None → (false ≡ true) ↔ Runs s (b ∷ 10 ∷ [])
 neither s b e = (λ h. absurd cc, λ r. absurd (refused s b (10 ∷ []) e r))
 
 equals_both : (s : Scan) (p : Place) → step s 61 ≡ valued_at s p → (awaits_equals p ≡ true) ↔ Runs s (61 ∷ 10 ∷ [])
-equals_both s Head e = neither s 61 e
 equals_both s (Named f) e = (λ h. first s (moved s (Wanted f)) 61 e refl, λ r. refl)
-equals_both s (Wanted f) e = neither s 61 e
-equals_both s (Given f) e = neither s 61 e
-equals_both s Opened e = neither s 61 e
-equals_both s Parted e = neither s 61 e
+equals_both s p e = neither s 61 e
 
 bar_both : (s : Scan) (p : Place) → step s 124 ≡ joined_at s p → (awaits_bar p ≡ true) ↔ Runs s (124 ∷ 10 ∷ [])
-bar_both s Head e = neither s 124 e
-bar_both s (Named f) e = neither s 124 e
-bar_both s (Wanted f) e = neither s 124 e
 bar_both s (Given f) e = by (same_field field.Flags f) e
   where
     by : (c : Bool) → step s 124 ≡ cond c (Some (moved s (Wanted f))) None → (c ≡ true) ↔ Runs s (124 ∷ 10 ∷ [])
     by true is = (λ h. first s (moved s (Wanted f)) 124 is refl, λ r. refl)
     by false is = neither s 124 is
-bar_both s Opened e = neither s 124 e
-bar_both s Parted e = neither s 124 e
-
-pushed_gap : (s : Scan) (o : Operation) (place : Place) → (pushed s o place).lexeme ≡ Gap
-pushed_gap s Register place = refl
-pushed_gap s CreateAccounts place = refl
-pushed_gap s CreateTransfers place = refl
-pushed_gap s LookupAccounts place = refl
-pushed_gap s LookupTransfers place = refl
+bar_both s p e = neither s 124 e
 
 comma_both : (s : Scan) (o : Option Operation) (p : Place) → step s 44 ≡ option_and_then (λ q. parted_at s q p) o
     → ((has_operation o && is_given_place p && nat_lt (item_count s + 1) 8190) ≡ true) ↔ Runs s (44 ∷ 10 ∷ [])
-comma_both s None p e = neither s 44 e
-comma_both s (Some o) Head e = neither s 44 e
-comma_both s (Some o) (Named f) e = neither s 44 e
-comma_both s (Some o) (Wanted f) e = neither s 44 e
 comma_both s (Some o) (Given f) e = by (nat_lt (item_count s + 1) 8190) e
   where
     by : (c : Bool) → step s 44 ≡ cond c (Some (pushed s o Parted)) None → (c ≡ true) ↔ Runs s (44 ∷ 10 ∷ [])
-    by true is = (λ h. first s (pushed s o Parted) 44 is (pushed_gap s o Parted), λ r. refl)
+    by true is = (λ h. first s (pushed s o Parted) 44 is (pushed_between s o Parted).lexeme, λ r. refl)
     by false is = neither s 44 is
-comma_both s (Some o) Opened e = neither s 44 e
-comma_both s (Some o) Parted e = neither s 44 e
+comma_both s o p e = neither s 44 e
 
 rested : (s t : Scan) (b : ℕ) (l : Lexeme) → t.lexeme ≡ l → step s b ≡ Some t → rests l t.place ≡ true → Runs s (b ∷ 10 ∷ [])
 rested s t b Gap g e h = first s t b e g
 rested s t b Comment g e h = (within t Gap, one_step s t b (10 ∷ []) e ∙ one_step t (within t Gap) 10 [] (step_is t 10 Comment g))
-rested s t b Spelled g e h = absurd cc
-rested s t b Zero g e h = absurd cc
-rested s t b Prefix g e h = absurd cc
-rested s t b (Decimal n) g e h = absurd cc
-rested s t b (Hexadecimal n) g e h = absurd cc
+rested s t b l g e h = absurd cc
 
 ended : (s : Scan) (next : Option Scan) → step s 59 ≡ next → Rests next → Runs s (59 ∷ 10 ∷ [])
 ended s next e r = rested s r.0 59 r.0.lexeme refl (e ∙ r.1) r.2
 
 semicolon_both : (s : Scan) (o : Option Operation) (p : Place) → step s 59 ≡ option_and_then (λ q. closed_at s q p) o → Stands o p s.given s.header (item_count s)
     → ((has_operation o && is_opened_place p) ≡ true) ↔ Runs s (59 ∷ 10 ∷ [])
-semicolon_both s None p e h = neither s 59 e
-semicolon_both s (Some o) Head e h = neither s 59 e
-semicolon_both s (Some o) (Named f) e h = neither s 59 e
-semicolon_both s (Some o) (Wanted f) e h = neither s 59 e
 semicolon_both s (Some o) (Given f) e h = (λ t. ended s (finished (pushed s o Opened) o) e (pushed_rests s o h.0 h.1), λ r. refl)
 semicolon_both s (Some o) Opened e h = (λ t. ended s (finished s o) e (finished_rests s o h.0 (omega (arith, h.1))), λ r. refl)
-semicolon_both s (Some o) Parted e h = neither s 59 e
+semicolon_both s o p e h = neither s 59 e
 
 number_both : (s : Scan) (o : Option Field) → wanted s.place ≡ o → step s 49 ≡ decimal_grown s 0 1 → IsSome o ↔ Runs s (49 ∷ 10 ∷ [])
 number_both s None w e =
-    let none : step s 49 ≡ None = e ∙ ap (option_and_then (λ f. option_and_then (λ m. Some (within s (Decimal m))) (appended (field_max f) 10 0 1))) w in
+    let none : step s 49 ≡ None = e ∙ ap (λ (q : Option Field). option_and_then (λ m. Some (within s (Decimal m))) (option_and_then (λ f. appended (field_max f) 10 0 1) q)) w in
     (λ h. absurd cc, λ r. absurd (refused s 49 (10 ∷ []) none r))
 number_both s (Some f) w e =
     let one = within s (Decimal 1) in
@@ -292,7 +225,7 @@ awaits_so text s u a h e says =
     }
 
 none_behind : (text : List ℕ) → run (behind []) (text ++ 10 ∷ []) ≡ None → BeginsStatements (text ++ 10 ∷ []) → ⊥
-none_behind text h b = let r = taken_so (text ++ 10 ∷ []) b in some_none r.0 (sym h ∙ r.1)
+none_behind text h b = let r = taken_so (text ++ 10 ∷ []) b in none-some r.0 (sym h ∙ r.1)
 
 -- where the reader stopped within the bytes
 pub none_where_stopped : (text : List ℕ) (place : ℕ) (after : Scan) → Scans (behind []) text (Some place) after → BeginsStatements (text ++ 10 ∷ []) → ⊥

@@ -1,5 +1,5 @@
 -- Facts of truth values, of numbers that are compared, and of options.
-use Rattle.std.proofs.Common.{◌≡◌, ℕ, ◌≤◌, Bool, true, false, cond, ◌&&◌, ◌||◌, ◌==◌, Some, refl, ap, arith}
+use Rattle.std.proofs.Common.{◌≡◌, ℕ, ◌≤◌, Bool, true, false, cond, ◌&&◌, ◌||◌, ◌==◌, Option, Some, None, refl, ap, arith}
 use Rattle.std.specs.Prelude.{nat_le}
 use Rattle.std.proofs.lemmas.Bool.Decides.{nat_tests}
 
@@ -39,3 +39,7 @@ at_most a b h = grind (arith, nat_tests)
 
 pub same_some : {X : Type 0} (x y : X) → Some x ≡ Some y → x ≡ y
 same_some x y h = cc
+
+pub only_false : {A : Type 0} (c : Bool) (x : Option A) (z : A) → cond c None x ≡ Some z → (c ≡ false) × (x ≡ Some z)
+only_false true x z h = absurd cc
+only_false false x z h = (refl, h)

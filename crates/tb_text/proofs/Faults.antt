@@ -8,7 +8,8 @@ use Rattle.tb_text.specs.Scan.{Scan, behind, step, run, is_at_rest}
 use Rattle.tb_text.specs.Steps.{BeginsUpTo, Means, Reads, Stops}
 use Rattle.tb_text.proofs.Runs.{run_append, run_behind}
 use Rattle.tb_text.proofs.Endings.{read_begins}
-use Rattle.tb_text.proofs.Facts.{true_false, same_some}
+use Rattle.std.proofs.lemmas.Option.{same_Some}
+use Rattle.tb_text.proofs.Facts.{true_false}
 use Rattle.std.proofs.lemmas.List.{append-nil}
 
 -- no run goes through the byte at the place
@@ -39,7 +40,7 @@ no_meaning text pairs others place stops means = by stops.why
         (subst (λ (t : List ℕ). Means t others) (sym (take-append-drop (place + 1) text)) means)
     by (inr over) =
         let whole : take place text ≡ text = ap (λ (n : ℕ). take n text) over.0 ∙ take-length text in
-        let same = same_some stops.last means.last (sym stops.taken ∙ (ap (run (behind [])) whole ∙ means.taken)) in
+        let same = same_Some stops.last means.last (sym stops.taken ∙ (ap (run (behind [])) whole ∙ means.taken)) in
         true_false (is_at_rest stops.last) (ap is_at_rest same ∙ means.whole) over.1
 
 not_past : (text : List ℕ) (pairs : List (ℕ × Message)) (place : ℕ) → Stops text pairs place → place ≤ length text

@@ -9,6 +9,7 @@ pub mod Orders
 pub mod Items
 pub mod EachKind
 pub mod Statements
+pub mod Moves
 pub mod Ongoing
 pub mod Endings
 pub mod Growing

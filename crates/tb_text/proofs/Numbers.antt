@@ -1,8 +1,8 @@
 -- A number in decimal digits is read as itself, and a field with its number as itself.
-use Rattle.std.proofs.Common.{◌≡◌, ℕ, zero, suc, ◌+◌, ◌*◌, ◌-◌, ◌/◌, ◌%◌, ◌^◌, ◌<◌, ◌≤◌, Bool, true, false, cond, ◌&&◌, ◌==◌, List, [], ◌∷◌, ◌++◌, Some, None, refl, sym, ap, ◌∙◌, append_assoc, arith}
-use Rattle.std.specs.Prelude.{nat_le}
+use Rattle.std.proofs.Common.{◌≡◌, ℕ, zero, suc, ◌+◌, ◌*◌, ◌-◌, ◌/◌, ◌%◌, ◌^◌, ◌<◌, ◌≤◌, Bool, true, false, cond, ◌&&◌, ◌==◌, List, [], ◌∷◌, ◌++◌, Some, None, refl, sym, ap, subst, ◌∙◌, append_assoc, arith}
 use Rattle.std.specs.Option.{option_and_then}
 use Rattle.std.specs.Fmt.{decimal}
+use Rattle.std.proofs.lemmas.Bool.{le-leb}
 use Rattle.std.proofs.lemmas.Bool.Decides.{nat_tests}
 use Rattle.std.proofs.lemmas.Fmt.{decimal_by_steps_wide}
 use Rattle.tb_text.specs.declared.words.Field.{Field}
@@ -12,7 +12,7 @@ use Rattle.tb_text.specs.declared.places.Lexeme.TheVariants.{Zero, Decimal}
 use Rattle.tb_text.specs.declared.places.Place.TheVariants.{Wanted, Named}
 use Rattle.tb_text.specs.Words.{field_max, field_name}
 use Rattle.tb_text.specs.Entries.{is_space, is_digit, is_word_byte, is_positive}
-use Rattle.tb_text.specs.Scan.{Scan, step, run, gap, may_stand, within, moved, entered, wanted, appended, decimal_grown, number_ended, number_left}
+use Rattle.tb_text.specs.Scan.{Scan, step, run, gap, may_stand, within, moved, entered, wanted, appended, next_number, decimal_grown, number_ended, number_left}
 use Rattle.tb_text.proofs.Tokens.{IsBetween, one_step, same_step, at_gap, word_through}
 use Rattle.tb_text.proofs.Facts.{if_false}
 
@@ -20,22 +20,20 @@ use Rattle.tb_text.proofs.Facts.{if_false}
 abbrev digits_read : Scan → ℕ → Scan
 digits_read s n = within s (cond (n == 0) Zero (Decimal n))
 
-le_true : (m n : ℕ) → m ≤ n → nat_le m n ≡ true
-le_true m n h = grind (arith, nat_tests)
-
 pub not_zero : (n : ℕ) → 0 < n → (n == 0) ≡ false
 not_zero n h = grind (arith, nat_tests)
 
 more_read : (s : Scan) (n : ℕ) → 0 < n → digits_read s n ≡ within s (Decimal n)
 more_read s n h = ap (λ (b : Bool). within s (cond b Zero (Decimal n))) (not_zero n h)
 
-appended_is : (most n d m : ℕ) → n * 10 + d ≡ m → m ≤ most → appended most 10 n d ≡ Some m
-appended_is most n d m e h = ap (λ (k : ℕ). cond (nat_le k most) (Some k) None) e ∙ ap (λ (b : Bool). cond b (Some m) None) (le_true m most h)
+-- a number that is one digit longer
+pub next_is : (s : Scan) (f : Field) (base n d : ℕ) → wanted s.place ≡ Some f → n * base + d ≤ field_max f → next_number s base n d ≡ Some (n * base + d)
+next_is s f base n d w le =
+    ap (option_and_then (λ g. appended (field_max g) base n d)) w ∙ ap (λ (c : Bool). cond c (Some (n * base + d)) None) (le-leb (n * base + d) (field_max f) le)
 
 pub grown_is : (s : Scan) (f : Field) (n d m : ℕ) → wanted s.place ≡ Some f → n * 10 + d ≡ m → m ≤ field_max f → decimal_grown s n d ≡ Some (within s (Decimal m))
 grown_is s f n d m w e h =
-    ap (option_and_then (λ g. option_and_then (λ k. Some (within s (Decimal k))) (appended (field_max g) 10 n d))) w
-    ∙ ap (option_and_then (λ k. Some (within s (Decimal k)))) (appended_is (field_max f) n d m e h)
+    ap (option_and_then (λ k. Some (within s (Decimal k)))) (next_is s f 10 n d w (subst (λ (k : ℕ). k ≤ field_max f) (sym e) h) ∙ ap (λ (k : ℕ). Some k) e)
 
 digit_is : (d : ℕ) → d < 10 → is_digit (48 + d) ≡ true
 digit_is d h = grind (arith, nat_tests)
@@ -49,7 +47,7 @@ digit_no_comment b h = grind (arith, nat_tests)
 other_digit : (d : ℕ) → 0 < d → (48 + d == 48) ≡ false
 other_digit d h = grind (arith, nat_tests)
 
-gap_digit : (s : Scan) (b : ℕ) → is_digit b ≡ true → (b == 48) ≡ false → gap s b ≡ decimal_grown s 0 (b - 48)
+pub gap_digit : (s : Scan) (b : ℕ) → is_digit b ≡ true → (b == 48) ≡ false → gap s b ≡ decimal_grown s 0 (b - 48)
 gap_digit s b h z = rw (digit_no_space b h, digit_no_comment b h, z, h) refl
 
 first_digit : (s : Scan) (f : Field) (n : ℕ) → n < 10 → IsBetween s → wanted s.place ≡ Some f → n ≤ field_max f → step s (48 + n) ≡ Some (digits_read s n)

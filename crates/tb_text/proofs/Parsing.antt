@@ -1,10 +1,8 @@
 -- Tokens that the reader takes up to the end of statements are statements of the grammar.
-use Rattle.std.proofs.Common.{◌≡◌, ℕ, ◌+◌, ◌⊎◌, inl, inr, Bool, true, false, cond, not, ◌&&◌, ◌==◌, List, [], ◌∷◌, ◌++◌, Option, Some, None, refl, sym, ap, subst, ◌∙◌, append_assoc}
-use Rattle.std.specs.Prelude.{nat_lt}
-use Rattle.std.specs.Option.{option_and_then}
+use Rattle.std.proofs.Common.{◌≡◌, ℕ, ◌⊎◌, inl, inr, true, not, ◌&&◌, List, [], ◌∷◌, ◌++◌, Option, Some, None, refl, sym, ap, subst, ◌∙◌, append_assoc}
 use Rattle.std.proofs.lemmas.Bool.{not-true}
 use Rattle.std.proofs.lemmas.List.{append-nil}
-use Rattle.std.proofs.lemmas.Option.{option_and_then_some}
+use Rattle.std.proofs.lemmas.Option.{cond_some, option_and_then_some, same_Some}
 use Rattle.tb_records.specs.declared.faults.FrameFault.{FrameFault}
 use Rattle.tb_records.specs.Messages.{Message, IsLawful, number_fault}
 use Rattle.tb_records.specs.declared.operations.Operation.{Operation}
@@ -15,12 +13,13 @@ use Rattle.tb_text.specs.declared.places.Place.{Place}
 use Rattle.tb_text.specs.declared.places.Place.TheVariants.{Head, Named, Wanted, Given, Opened, Parted}
 use Rattle.tb_text.specs.Words.{same_field, has_field}
 use Rattle.tb_text.specs.Entries.{Entry, is_given, may_have, suits}
-use Rattle.tb_text.specs.Scan.{Scan, behind, awaits_field, awaits_operation, opened, item_count, pushed, finished, when_lawful, closed_at, parted_at, valued_at, joined_at, mark}
-use Rattle.tb_text.specs.Grammar.{Token, Name, Number, Mark, number_as, Values, one_value, more_values, Valued, valued, Entries, no_entry, more_entries, Events, last_event, more_events, said, Statement, statement, full_statement, Statements, no_statement, more_statements}
-use Rattle.tb_text.proofs.Lexing.{after, all_after, only_true, none_some}
+use Rattle.tb_text.specs.Scan.{Scan, behind, awaits_field, awaits_operation, opened, pushed, finished, when_lawful, closed_at}
+use Rattle.tb_text.specs.Grammar.{Token, Name, Mark, number_as, Values, one_value, more_values, Valued, valued, Entries, no_entry, more_entries, Events, last_event, more_events, said, Statement, statement, full_statement, Statements, no_statement, more_statements}
+use Rattle.tb_text.proofs.Lexing.{after, all_after}
+use Rattle.tb_text.proofs.Moves.{Marked, equals, bar, comma, semicolon, mark_cases}
 use Rattle.tb_text.proofs.Ongoing.{has_id}
 use Rattle.tb_text.proofs.Standing.{Context, front, event, operation_in, stand, value_after, opened_is, pushed_is, finished_is}
-use Rattle.tb_text.proofs.Facts.{and_left, and_right, same_some, equal}
+use Rattle.tb_text.proofs.Facts.{and_left, and_right}
 
 -- WHAT REMAINS
 
@@ -132,29 +131,6 @@ Later ts u = (q : Point) → Sound q → all_after (state q) ts ≡ Some u → C
 follow : (ts : List Token) (u v : Scan) → Later ts u → all_after v ts ≡ Some u → (q : Point) → Sound q → state q ≡ v → Claim q u.pairs ts
 follow ts u v later k q sound e = later q sound (subst (λ (w : Scan). all_after w ts ≡ Some u) (sym e) k)
 
--- MARKS
-
-data Marked (s v : Scan) : ℕ → Type 0 where
-  equals : valued_at s s.place ≡ Some v → Marked s v 61
-  bar : joined_at s s.place ≡ Some v → Marked s v 124
-  comma : (o : Operation) → s.operation ≡ Some o → parted_at s o s.place ≡ Some v → Marked s v 44
-  semicolon : (o : Operation) → s.operation ≡ Some o → closed_at s o s.place ≡ Some v → Marked s v 59
-
-mark_cases : (s v : Scan) (b : ℕ) → mark s b ≡ Some v → Marked s v b
-mark_cases s v b h = by (b == 61) refl (b == 124) refl (b == 44) refl (b == 59) refl h
-  where
-    here : (n : ℕ) → (b == n) ≡ true → Marked s v n → Marked s v b
-    here n is m = subst (Marked s v) (sym (equal b n is)) m
-
-    by : (w : Bool) → (b == 61) ≡ w → (x : Bool) → (b == 124) ≡ x → (y : Bool) → (b == 44) ≡ y → (z : Bool) → (b == 59) ≡ z
-        → cond w (valued_at s s.place) (cond x (joined_at s s.place) (cond y (option_and_then (λ o. parted_at s o s.place) s.operation) (cond z (option_and_then (λ o. closed_at s o s.place) s.operation) None))) ≡ Some v
-        → Marked s v b
-    by true i x j y k z l m = here 61 i (equals m)
-    by false i true j y k z l m = here 124 j (bar m)
-    by false i false j true k z l m = here 44 k (option_and_then_some (λ (o : Operation). parted_at s o s.place) s.operation v m (λ o is n. comma o is n))
-    by false i false j false k true l m = here 59 l (option_and_then_some (λ (o : Operation). closed_at s o s.place) s.operation v m (λ o is n. semicolon o is n))
-    by false i false j false k false l m = none_some v m
-
 -- STEPS
 
 events_from : (c : Context) (f : Field) → may_have (operation_in c) f ≡ true → HasEvents c
@@ -165,7 +141,7 @@ events_from (event pairs header o done) f h = has_id o f h
 field_says : (c : Context) (place : Place) (given : List Entry) (f : Field) (ts : List Token) (u v : Scan) → Later ts u → after (stand c place given) (Name (word.Field f)) ≡ Some v → all_after v ts ≡ Some u
     → ValuedRest c u.pairs given (Name (word.Field f) ∷ ts)
 field_says c place given f ts u v later h k =
-    let test = only_true (awaits_field place && may_have (operation_in c) f && not (is_given f given)) (stand c (Named f) given) v h in
+    let test = cond_some (awaits_field place && may_have (operation_in c) f && not (is_given f given)) (stand c (Named f) given) v h in
     let may = and_right (awaits_field place) (may_have (operation_in c) f) (and_left (awaits_field place && may_have (operation_in c) f) (not (is_given f given)) test.0) in
     let new = not-true (is_given f given) (and_right (awaits_field place && may_have (operation_in c) f) (not (is_given f given)) test.0) in
     let next : NamedRest c u.pairs f given ts = follow ts u v later k (named c f given) (events_from c f may) test.1 in
@@ -183,7 +159,7 @@ entries_from c all given ts h = record { es = h.rest.es; over = h.rest.over; ent
 operation_says : (pairs : List (ℕ × Message)) (place : Place) (given : List Entry) (o : Operation) (ts : List Token) (u v : Scan) → Later ts u
     → after (stand (front pairs) place given) (Name (word.Operation o)) ≡ Some v → all_after v ts ≡ Some u → EntriesRest (front pairs) u.pairs given (Name (word.Operation o) ∷ ts)
 operation_says pairs place given o ts u v later h k =
-    let test = only_true (awaits_operation place && true && suits o given) (opened (stand (front pairs) place given) o) v h in
+    let test = cond_some (awaits_operation place && true && suits o given) (opened (stand (front pairs) place given) o) v h in
     record {
       es = given;
       over = Name (word.Operation o) ∷ ts;
@@ -249,32 +225,29 @@ closed_says : (pairs : List (ℕ × Message)) (header : List Entry) (o : Operati
 closed_says pairs header o events ts u v later h k = by (number_fault (said header o events).1) refl (sym (finished_is pairs header o events Opened []) ∙ h)
   where
     by : (fault : Option FrameFault) → number_fault (said header o events).1 ≡ fault → when_lawful (stand (event pairs header o events) Opened []) (said header o events).1 fault ≡ Some v → Closed pairs header o events u.pairs ts
-    by (Some fault) is e = none_some v e
+    by (Some fault) is e = absurd cc
     by None is e = record {
       lawful = is;
-      rest = follow ts u v later k (head (pairs ++ said header o events ∷ [])) tt (same_some (behind (pairs ++ said header o events ∷ [])) v e);
+      rest = follow ts u v later k (head (pairs ++ said header o events ∷ [])) tt (same_Some (behind (pairs ++ said header o events ∷ [])) v e);
     }
 
 named_says : (c : Context) (f : Field) (given : List Entry) (t : Token) (ts : List Token) (u v : Scan) → HasEvents c → Later ts u → after (stand c (Named f) given) t ≡ Some v → all_after v ts ≡ Some u
     → NamedRest c u.pairs f given (t ∷ ts)
-named_says c f given (Name (word.Field g)) ts u v has later h k = none_some v h
-named_says c f given (Name (word.Operation o)) ts u v has later h k = none_some v h
-named_says c f given (Name (word.Flag g)) ts u v has later h k = none_some v h
-named_says c f given (Name word.AmountMax) ts u v has later h k = none_some v h
-named_says c f given (Number n) ts u v has later h k = none_some v h
-named_says c f given (Mark b) ts u v has later h k = by (mark_cases (stand c (Named f) given) v b h)
+named_says c f given (Mark b) ts u v has later h k = by (mark_cases (stand c (Named f) given) v b h) k
   where
-    by : {m : ℕ} → Marked (stand c (Named f) given) v m → NamedRest c u.pairs f given (Mark m ∷ ts)
-    by (equals e) = (ts, refl, follow ts u v later k (valuing c f given) has (same_some (stand c (Wanted f) given) v e))
-    by (bar e) = none_some v e
-    by (comma o is e) = none_some v e
-    by (semicolon o is e) = none_some v e
+    by : {m : ℕ} {w : Scan} → Marked (stand c (Named f) given) m w → all_after w ts ≡ Some u → NamedRest c u.pairs f given (Mark m ∷ ts)
+    by {m} {w} (equals g e) k = let same : f ≡ g = cc in (ts, refl, follow ts u w later k (valuing c f given) has (ap (λ (x : Field). stand c (Wanted x) given) same))
+    by (bar g e flags) k = absurd cc
+    by (comma o g is e room) k = absurd cc
+    by (semicolon o is e) k = absurd cc
+named_says c f given (Name (word.Field g)) ts u v has later h k = absurd cc
+named_says c f given t ts u v has later h k = absurd cc
 
 valuing_says : (c : Context) (f : Field) (given : List Entry) (t : Token) (ts : List Token) (u v : Scan) → HasEvents c → Later ts u → after (stand c (Wanted f) given) t ≡ Some v → all_after v ts ≡ Some u
     → ValuesRest c u.pairs f given (t ∷ ts)
 valuing_says c f given t ts u v has later h k =
     option_and_then_some (λ (n : ℕ). Some (stand c (Given f) (given ++ (f, n) ∷ []))) (number_as (operation_in c) f t) v (sym (value_after c f given t) ∙ h)
-    (λ n is e. by n is (follow ts u v later k (given_to c f (given ++ (f, n) ∷ [])) has (same_some (stand c (Given f) (given ++ (f, n) ∷ [])) v e)))
+    (λ n is e. by n is (follow ts u v later k (given_to c f (given ++ (f, n) ∷ [])) has (same_Some (stand c (Given f) (given ++ (f, n) ∷ [])) v e)))
   where
     by : (n : ℕ) → number_as (operation_in c) f t ≡ Some n → GivenRest c u.pairs f (given ++ (f, n) ∷ []) ts → ValuesRest c u.pairs f given (t ∷ ts)
     by n is (inl rest) = record { es = given ++ (f, n) ∷ []; over = ts; values = one_value is; rest = rest }
@@ -285,106 +258,84 @@ valuing_says c f given t ts u v has later h k =
       rest = more.3.rest;
     }
 
--- a mark behind an event
-event_marked : (pairs : List (ℕ × Message)) (header : List Entry) (o : Operation) (done : List (List Entry)) (f : Field) (given : List Entry) (ts : List Token) (u v : Scan) (m : ℕ)
-    → has_field o field.Id ≡ true → Later ts u → Marked (stand (event pairs header o done) (Given f) given) v m → all_after v ts ≡ Some u → GivenRest (event pairs header o done) u.pairs f given (Mark m ∷ ts)
-event_marked pairs header o done f given ts u v m has later (equals e) k = none_some v e
-event_marked pairs header o done f given ts u v m has later (bar e) k =
-    let test = only_true (same_field field.Flags f) (stand (event pairs header o done) (Wanted f) given) v e in
-    inr (ts, refl, test.0, follow ts u v later k (valuing (event pairs header o done) f given) has test.1)
-event_marked pairs header o done f given ts u v m has later (comma p is e) k =
-    let here : parted_at (stand (event pairs header o done) (Given f) given) o (Given f) ≡ Some v = subst (λ (q : Operation). parted_at (stand (event pairs header o done) (Given f) given) q (Given f) ≡ Some v) (sym (same_some o p is)) e in
-    let test = only_true (nat_lt (item_count (stand (event pairs header o done) (Given f) given) + 1) 8190) (pushed (stand (event pairs header o done) (Given f) given) o Parted) v here in
+-- a mark behind a number
+given_marked : (c : Context) (f : Field) (given : List Entry) (ts : List Token) (u : Scan) {m : ℕ} {v : Scan} → HasEvents c → Later ts u → Marked (stand c (Given f) given) m v → all_after v ts ≡ Some u
+    → GivenRest c u.pairs f given (Mark m ∷ ts)
+given_marked c f given ts u has later (equals g e) k = absurd cc
+given_marked c f given ts u {m} {v} has later (bar g e flags) k =
+    let same : f ≡ g = cc in
+    inr (ts, refl, subst (λ (x : Field). same_field field.Flags x ≡ true) (sym same) flags, follow ts u v later k (valuing c f given) has (ap (λ (x : Field). stand c (Wanted x) given) same))
+given_marked (front pairs) f given ts u has later (comma p g is e room) k = absurd cc
+given_marked (front pairs) f given ts u has later (semicolon p is e) k = absurd cc
+given_marked (event pairs header o done) f given ts u {m} {v} has later (comma p g is e room) k =
+    let here = stand (event pairs header o done) (Given f) given in
     inl (record {
       es = given;
       over = Mark 44 ∷ ts;
       entries = no_entry;
-      rest = inr (ts, refl, follow ts u v later k (parting pairs header o (done ++ given ∷ [])) tt (sym (pushed_is pairs header o done f given Parted has) ∙ test.1));
+      rest = inr (ts, refl, follow ts u v later k (parting pairs header o (done ++ given ∷ [])) tt (sym (pushed_is pairs header o done f given Parted has) ∙ ap (λ (q : Operation). pushed here q Parted) (same_Some o p is)));
     })
-event_marked pairs header o done f given ts u v m has later (semicolon p is e) k =
-    let here : closed_at (stand (event pairs header o done) (Given f) given) o (Given f) ≡ Some v = subst (λ (q : Operation). closed_at (stand (event pairs header o done) (Given f) given) q (Given f) ≡ Some v) (sym (same_some o p is)) e in
+given_marked (event pairs header o done) f given ts u {m} {v} has later (semicolon p is e) k =
+    let here = stand (event pairs header o done) (Given f) given in
+    let closed : closed_at here o (Given f) ≡ Some v = subst (λ (q : Operation). closed_at here q (Given f) ≡ Some v) (sym (same_Some o p is)) e in
     inl (record {
       es = given;
       over = Mark 59 ∷ ts;
       entries = no_entry;
-      rest = inl (ts, refl, closed_says pairs header o (done ++ given ∷ []) ts u v later (ap (λ (s : Scan). finished s o) (sym (pushed_is pairs header o done f given Opened has)) ∙ here) k);
+      rest = inl (ts, refl, closed_says pairs header o (done ++ given ∷ []) ts u v later (ap (λ (s : Scan). finished s o) (sym (pushed_is pairs header o done f given Opened has)) ∙ closed) k);
     })
-
-front_marked : (pairs : List (ℕ × Message)) (f : Field) (given : List Entry) (ts : List Token) (u v : Scan) (m : ℕ) → Later ts u → Marked (stand (front pairs) (Given f) given) v m → all_after v ts ≡ Some u
-    → GivenRest (front pairs) u.pairs f given (Mark m ∷ ts)
-front_marked pairs f given ts u v m later (equals e) k = none_some v e
-front_marked pairs f given ts u v m later (bar e) k =
-    let test = only_true (same_field field.Flags f) (stand (front pairs) (Wanted f) given) v e in
-    inr (ts, refl, test.0, follow ts u v later k (valuing (front pairs) f given) tt test.1)
-front_marked pairs f given ts u v m later (comma p is e) k = none_some p is
-front_marked pairs f given ts u v m later (semicolon p is e) k = none_some p is
-
-given_marked : (c : Context) (f : Field) (given : List Entry) (ts : List Token) (u v : Scan) (m : ℕ) → HasEvents c → Later ts u → Marked (stand c (Given f) given) v m → all_after v ts ≡ Some u
-    → GivenRest c u.pairs f given (Mark m ∷ ts)
-given_marked (front pairs) f given ts u v m has later h k = front_marked pairs f given ts u v m later h k
-given_marked (event pairs header o done) f given ts u v m has later h k = event_marked pairs header o done f given ts u v m has later h k
 
 given_operation : (c : Context) (f : Field) (given : List Entry) (o : Operation) (ts : List Token) (u v : Scan) → Later ts u → after (stand c (Given f) given) (Name (word.Operation o)) ≡ Some v → all_after v ts ≡ Some u
     → GivenRest c u.pairs f given (Name (word.Operation o) ∷ ts)
 given_operation (front pairs) f given o ts u v later h k = inl (operation_says pairs (Given f) given o ts u v later h k)
-given_operation (event pairs header p done) f given o ts u v later h k = none_some v h
+given_operation (event pairs header p done) f given o ts u v later h k = absurd cc
 
 given_says : (c : Context) (f : Field) (given : List Entry) (t : Token) (ts : List Token) (u v : Scan) → HasEvents c → Later ts u → after (stand c (Given f) given) t ≡ Some v → all_after v ts ≡ Some u
     → GivenRest c u.pairs f given (t ∷ ts)
 given_says c f given (Name (word.Field g)) ts u v has later h k = inl (entries_from c u.pairs given (Name (word.Field g) ∷ ts) (field_says c (Given f) given g ts u v later h k))
 given_says c f given (Name (word.Operation o)) ts u v has later h k = given_operation c f given o ts u v later h k
-given_says c f given (Name (word.Flag g)) ts u v has later h k = none_some v h
-given_says c f given (Name word.AmountMax) ts u v has later h k = none_some v h
-given_says c f given (Number n) ts u v has later h k = none_some v h
-given_says c f given (Mark b) ts u v has later h k = given_marked c f given ts u v b has later (mark_cases (stand c (Given f) given) v b h) k
+given_says c f given (Mark b) ts u v has later h k = given_marked c f given ts u has later (mark_cases (stand c (Given f) given) v b h) k
+given_says c f given t ts u v has later h k = absurd cc
 
 head_says : (pairs : List (ℕ × Message)) (t : Token) (ts : List Token) (u v : Scan) → Later ts u → after (behind pairs) t ≡ Some v → all_after v ts ≡ Some u → Rest pairs u.pairs (t ∷ ts)
 head_says pairs (Name (word.Field f)) ts u v later h k =
     statement_from pairs u.pairs (Name (word.Field f) ∷ ts) (entries_from (front pairs) u.pairs [] (Name (word.Field f) ∷ ts) (field_says (front pairs) Head [] f ts u v later h k))
 head_says pairs (Name (word.Operation o)) ts u v later h k = statement_from pairs u.pairs (Name (word.Operation o) ∷ ts) (operation_says pairs Head [] o ts u v later h k)
-head_says pairs (Name (word.Flag g)) ts u v later h k = none_some v h
-head_says pairs (Name word.AmountMax) ts u v later h k = none_some v h
-head_says pairs (Number n) ts u v later h k = none_some v h
 head_says pairs (Mark b) ts u v later h k = by (mark_cases (behind pairs) v b h)
   where
-    by : {m : ℕ} → Marked (behind pairs) v m → Rest pairs u.pairs (Mark m ∷ ts)
-    by (equals e) = none_some v e
-    by (bar e) = none_some v e
-    by (comma o is e) = none_some o is
-    by (semicolon o is e) = none_some o is
+    by : {m : ℕ} {w : Scan} → Marked (behind pairs) m w → Rest pairs u.pairs (Mark m ∷ ts)
+    by (equals f e) = absurd cc
+    by (bar f e flags) = absurd cc
+    by (comma o f is e room) = absurd cc
+    by (semicolon o is e) = absurd cc
+head_says pairs t ts u v later h k = absurd cc
 
 opening_says : (pairs : List (ℕ × Message)) (header : List Entry) (o : Operation) (t : Token) (ts : List Token) (u v : Scan) → Later ts u → after (stand (event pairs header o []) Opened []) t ≡ Some v
     → all_after v ts ≡ Some u → AfterOperation pairs header o u.pairs (t ∷ ts)
 opening_says pairs header o (Name (word.Field f)) ts u v later h k =
     inr (events_from_entries pairs header o [] u.pairs (Name (word.Field f) ∷ ts) (field_says (event pairs header o []) Opened [] f ts u v later h k))
-opening_says pairs header o (Name (word.Operation p)) ts u v later h k = none_some v h
-opening_says pairs header o (Name (word.Flag g)) ts u v later h k = none_some v h
-opening_says pairs header o (Name word.AmountMax) ts u v later h k = none_some v h
-opening_says pairs header o (Number n) ts u v later h k = none_some v h
-opening_says pairs header o (Mark b) ts u v later h k = by (mark_cases (stand (event pairs header o []) Opened []) v b h)
+opening_says pairs header o (Mark b) ts u v later h k = by (mark_cases (stand (event pairs header o []) Opened []) v b h) k
   where
-    by : {m : ℕ} → Marked (stand (event pairs header o []) Opened []) v m → AfterOperation pairs header o u.pairs (Mark m ∷ ts)
-    by (equals e) = none_some v e
-    by (bar e) = none_some v e
-    by (comma p is e) = none_some v e
-    by (semicolon p is e) =
-        inl (ts, refl, closed_says pairs header o [] ts u v later (subst (λ (q : Operation). finished (stand (event pairs header o []) Opened []) q ≡ Some v) (sym (same_some o p is)) e) k)
+    by : {m : ℕ} {w : Scan} → Marked (stand (event pairs header o []) Opened []) m w → all_after w ts ≡ Some u → AfterOperation pairs header o u.pairs (Mark m ∷ ts)
+    by (equals f e) k = absurd cc
+    by (bar f e flags) k = absurd cc
+    by (comma p f is e room) k = absurd cc
+    by {m} {w} (semicolon p is e) k =
+        inl (ts, refl, closed_says pairs header o [] ts u w later (subst (λ (q : Operation). finished (stand (event pairs header o []) Opened []) q ≡ Some w) (sym (same_Some o p is)) e) k)
+opening_says pairs header o t ts u v later h k = absurd cc
 
 parting_says : (pairs : List (ℕ × Message)) (header : List Entry) (o : Operation) (done : List (List Entry)) (t : Token) (ts : List Token) (u v : Scan) → Later ts u
     → after (stand (event pairs header o done) Parted []) t ≡ Some v → all_after v ts ≡ Some u → EventsRest pairs header o done u.pairs (t ∷ ts)
 parting_says pairs header o done (Name (word.Field f)) ts u v later h k =
     events_from_entries pairs header o done u.pairs (Name (word.Field f) ∷ ts) (field_says (event pairs header o done) Parted [] f ts u v later h k)
-parting_says pairs header o done (Name (word.Operation p)) ts u v later h k = none_some v h
-parting_says pairs header o done (Name (word.Flag g)) ts u v later h k = none_some v h
-parting_says pairs header o done (Name word.AmountMax) ts u v later h k = none_some v h
-parting_says pairs header o done (Number n) ts u v later h k = none_some v h
 parting_says pairs header o done (Mark b) ts u v later h k = by (mark_cases (stand (event pairs header o done) Parted []) v b h)
   where
-    by : {m : ℕ} → Marked (stand (event pairs header o done) Parted []) v m → EventsRest pairs header o done u.pairs (Mark m ∷ ts)
-    by (equals e) = none_some v e
-    by (bar e) = none_some v e
-    by (comma p is e) = none_some v e
-    by (semicolon p is e) = none_some v e
+    by : {m : ℕ} {w : Scan} → Marked (stand (event pairs header o done) Parted []) m w → EventsRest pairs header o done u.pairs (Mark m ∷ ts)
+    by (equals f e) = absurd cc
+    by (bar f e flags) = absurd cc
+    by (comma p f is e room) = absurd cc
+    by (semicolon p is e) = absurd cc
+parting_says pairs header o done t ts u v later h k = absurd cc
 
 token_says : (t : Token) (ts : List Token) (p : Point) (u v : Scan) → Sound p → Later ts u → after (state p) t ≡ Some v → all_after v ts ≡ Some u → Claim p u.pairs (t ∷ ts)
 token_says t ts (head pairs) u v sound later h k = head_says pairs t ts u v later h k
@@ -395,28 +346,14 @@ token_says t ts (opening pairs header o) u v sound later h k = opening_says pair
 token_says t ts (parting pairs header o done) u v sound later h k = parting_says pairs header o done t ts u v later h k
 
 -- the end of the tokens
+over_at : (p : Point) → (state p).place ≡ Head → Claim p (state p).pairs []
+over_at (head pairs) at = record { later = []; statements = no_statement; all_are = sym (append-nil pairs) }
+over_at p at = absurd cc
+
 over_says : (p : Point) (u : Scan) → Some (state p) ≡ Some u → u.place ≡ Head → Claim p u.pairs []
-over_says (head pairs) u e rest = record { later = []; statements = no_statement; all_are = sym (ap (λ (s : Scan). s.pairs) (same_some (behind pairs) u e)) ∙ sym (append-nil pairs) }
-over_says (named c f given) u e rest = absurd (no_head (ap (λ (s : Scan). s.place) (same_some (stand c (Named f) given) u e) ∙ rest))
-  where
-    no_head : Named f ≡ Head → ⊥
-    no_head h = absurd cc
-over_says (valuing c f given) u e rest = absurd (no_head (ap (λ (s : Scan). s.place) (same_some (stand c (Wanted f) given) u e) ∙ rest))
-  where
-    no_head : Wanted f ≡ Head → ⊥
-    no_head h = absurd cc
-over_says (given_to c f given) u e rest = absurd (no_head (ap (λ (s : Scan). s.place) (same_some (stand c (Given f) given) u e) ∙ rest))
-  where
-    no_head : Given f ≡ Head → ⊥
-    no_head h = absurd cc
-over_says (opening pairs header o) u e rest = absurd (no_head (ap (λ (s : Scan). s.place) (same_some (stand (event pairs header o []) Opened []) u e) ∙ rest))
-  where
-    no_head : Opened ≡ Head → ⊥
-    no_head h = absurd cc
-over_says (parting pairs header o done) u e rest = absurd (no_head (ap (λ (s : Scan). s.place) (same_some (stand (event pairs header o done) Parted []) u e) ∙ rest))
-  where
-    no_head : Parted ≡ Head → ⊥
-    no_head h = absurd cc
+over_says p u e rest =
+    let same = same_Some (state p) u e in
+    subst (λ (s : Scan). Claim p s.pairs []) same (over_at p (ap (λ (s : Scan). s.place) same ∙ rest))
 
 tokens_say : (ts : List Token) (u : Scan) → u.place ≡ Head → Later ts u
 tokens_say [] u rest p sound e = over_says p u e rest

@@ -2,6 +2,7 @@
 use Rattle.std.proofs.Common.{◌≡◌, ℕ, ◌+◌, ◌<◌, Bool, true, false, cond, List, [], ◌∷◌, ◌++◌, length, get_or, take, Option, Some, None, Result, Ok, Err, refl, sym, ap, subst, ◌∙◌, ◌==◌, ◌&&◌}
 use Rattle.std.specs.Option.{option_and_then}
 use Rattle.std.proofs.lemmas.List.{take_more}
+use Rattle.std.proofs.lemmas.Option.{cond_some, option_and_then_some, same_Some}
 use Rattle.tb_text.specs.declared.words.Field.{Field}
 use Rattle.tb_text.specs.declared.words.Word.{Word}
 use Rattle.tb_text.specs.declared.words.Word.TheVariants as word
@@ -10,6 +11,7 @@ use Rattle.tb_text.specs.declared.places.Refusal.TheVariants.{Memory, Unexpected
 use Rattle.tb_text.specs.Entries.{is_positive, is_word_byte}
 use Rattle.tb_text.specs.Scan.{Scan, step, run, gap, word_named, word_ended, number_ended, may_stand, taken, wanted, entered, number_left}
 use Rattle.tb_text.specs.Steps.{Steps}
+use Rattle.tb_text.proofs.Facts.{only_false}
 
 pub run_append : (s : Scan) (xs ys : List ℕ) → run s (xs ++ ys) ≡ option_and_then (λ t. run t ys) (run s xs)
 run_append s [] ys = refl
@@ -33,47 +35,39 @@ chained before mid after (Ok done) o b e p h = ap (option_and_then (λ t. gap t 
 chained before mid after (Err Unexpected) o b e p h = (ap (option_and_then (λ t. gap t b)) e ∙ h.0, h.1 ∙ p)
 chained before mid after (Err Memory) o b e p h = tt
 
-taken_pairs : (s : Scan) (w : Word) → (taken s w).pairs ≡ s.pairs
+pub taken_pairs : (s : Scan) (w : Word) → (taken s w).pairs ≡ s.pairs
 taken_pairs s (word.Field f) = refl
-taken_pairs s (word.Operation o) = refl
-taken_pairs s (word.Flag f) = refl
-taken_pairs s word.AmountMax = refl
+taken_pairs s w = refl
 
-abbrev pub pairs_of : Option Scan → Scan → Type 0
-pairs_of None s = Unit {0}
-pairs_of (Some t) s = t.pairs ≡ s.pairs
+-- the word that was spelled, where it is taken
+pub record Taken (s t : Scan) : Type 0 where
+  pub word : Word
+  pub named : word_named s.spelled ≡ Some word
+  pub may : may_stand s word ≡ true
+  pub is : taken s word ≡ t
 
-pub word_keeps : (s : Scan) → pairs_of (word_ended s) s
-word_keeps s = by (word_named s.spelled)
-  where
-    chosen : (w : Word) (b : Bool) → pairs_of (cond b (Some (taken s w)) None) s
-    chosen w true = taken_pairs s w
-    chosen w false = tt
+pub word_taken : (s t : Scan) → word_ended s ≡ Some t → Taken s t
+word_taken s t e =
+    option_and_then_some (λ (w : Word). cond (may_stand s w) (Some (taken s w)) None) (word_named s.spelled) t e
+    (λ w named k. let test = cond_some (may_stand s w) (taken s w) t k in record { word = w; named = named; may = test.0; is = test.1 })
 
-    by : (o : Option Word) → pairs_of (option_and_then (λ w. cond (may_stand s w) (Some (taken s w)) None) o) s
-    by None = tt
-    by (Some w) = chosen w (may_stand s w)
+-- the field of a number that is taken
+pub record Entered (s t : Scan) (n : ℕ) : Type 0 where
+  pub field : Field
+  pub wants : wanted s.place ≡ Some field
+  pub positive : (n == 0 && is_positive field) ≡ false
+  pub is : entered s field n ≡ t
 
-pub number_keeps : (s : Scan) (n : ℕ) → pairs_of (number_ended s n) s
-number_keeps s n = by (wanted s.place)
-  where
-    chosen : (f : Field) (b : Bool) → pairs_of (cond b None (Some (entered s f n))) s
-    chosen f true = tt
-    chosen f false = refl
-
-    by : (o : Option Field) → pairs_of (option_and_then (λ f. cond (n == 0 && is_positive f) None (Some (entered s f n))) o) s
-    by None = tt
-    by (Some f) = chosen f (n == 0 && is_positive f)
-
-kept_where : (o : Option Scan) (s t : Scan) → pairs_of o s → o ≡ Some t → t.pairs ≡ s.pairs
-kept_where None s t h e = absurd cc
-kept_where (Some u) s t h e = let same : u ≡ t = cc in sym (ap (λ (v : Scan). v.pairs) same) ∙ h
+pub number_entered : (s t : Scan) (n : ℕ) → number_ended s n ≡ Some t → Entered s t n
+number_entered s t n e =
+    option_and_then_some (λ (f : Field). cond (n == 0 && is_positive f) None (Some (entered s f n))) (wanted s.place) t e
+    (λ f wants k. let test = only_false (n == 0 && is_positive f) (Some (entered s f n)) t k in record { field = f; wants = wants; positive = test.0; is = same_Some (entered s f n) t test.1 })
 
 pub word_kept : (s t : Scan) → word_ended s ≡ Some t → t.pairs ≡ s.pairs
-word_kept s t e = kept_where (word_ended s) s t (word_keeps s) e
+word_kept s t e = let w = word_taken s t e in ap (λ (v : Scan). v.pairs) (sym w.is) ∙ taken_pairs s w.word
 
 pub number_kept : (s t : Scan) (n : ℕ) → number_ended s n ≡ Some t → t.pairs ≡ s.pairs
-number_kept s t n e = kept_where (number_ended s n) s t (number_keeps s n) e
+number_kept s t n e = ap (λ (v : Scan). v.pairs) (sym (number_entered s t n e).is)
 
 pub number_chained : (before mid after : Scan) (r : Result (Unit {0}) Refusal) (n b : ℕ) → is_word_byte b ≡ false → number_ended before n ≡ Some mid → Steps mid r (gap mid b) after → Steps before r (number_left before n b) after
 number_chained before mid after r n b w e h =

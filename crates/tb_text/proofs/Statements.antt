@@ -29,7 +29,7 @@ use Rattle.tb_text.proofs.Entries.{told, InOrder, all_at, entries_through, value
 use Rattle.tb_text.proofs.Orders.{small_64, small_32, small_128}
 use Rattle.tb_text.proofs.Items.{mid, items_through, low, low_32}
 use Rattle.tb_text.proofs.EachKind.{accounts_state, accounts_ended, accounts_kind, transfers_state, transfers_ended, transfers_kind, sought_state, sought_ended, sought_kind}
-use Rattle.tb_text.proofs.Facts.{same_some}
+use Rattle.std.proofs.lemmas.Option.{same_Some}
 use Rattle.std.proofs.lemmas.List.{append-nil}
 
 -- the entries of a header
@@ -224,4 +224,4 @@ read_back pairs h = record {
 
 -- a text has one meaning
 pub one_meaning : (text : List ℕ) (ps qs : List (ℕ × Message)) → Means text ps → Means text qs → ps ≡ qs
-one_meaning text ps qs a b = sym a.pairs_are ∙ (ap (λ (s : Scan). s.pairs) (same_some a.last b.last (sym a.taken ∙ b.taken)) ∙ b.pairs_are)
+one_meaning text ps qs a b = sym a.pairs_are ∙ (ap (λ (s : Scan). s.pairs) (same_Some a.last b.last (sym a.taken ∙ b.taken)) ∙ b.pairs_are)

@@ -14,7 +14,7 @@ use Rattle.tb_text.proofs.Entries.{none_or, value_append, only_flags}
 use Rattle.tb_text.proofs.Items.{low, low_32}
 use Rattle.tb_text.proofs.Ongoing.{not_valued}
 use Rattle.tb_text.proofs.Statements.{numbers_of, both_not, not_both}
-use Rattle.tb_text.proofs.Lexing.{only_true, none_some}
+use Rattle.std.proofs.lemmas.Option.{cond_some}
 use Rattle.tb_text.proofs.Standing.{only_amount, same_back}
 use Rattle.tb_text.proofs.Facts.{and_left, and_right, and_both, equal, at_most}
 
@@ -47,18 +47,18 @@ below_32 n m h e = omega (arith, h, e)
 -- before an operation a value fits its field
 fits : (f : Field) (t : Token) (n : ℕ) → number_as None f t ≡ Some n → n ≤ field_max f
 fits f (Number m) n h =
-    let test = only_true (nat_le m (field_max f) && not (m == 0 && is_positive f)) m n h in
+    let test = cond_some (nat_le m (field_max f) && not (m == 0 && is_positive f)) m n h in
     subst (λ (k : ℕ). k ≤ field_max f) test.1 (at_most m (field_max f) (and_left (nat_le m (field_max f)) (not (m == 0 && is_positive f)) test.0))
-fits f (Name (word.Field g)) n h = none_some n h
-fits f (Name (word.Operation o)) n h = none_some n h
-fits f (Name (word.Flag g)) n h = absurd (never (and_right (same_field field.Flags f) false (only_true (same_field field.Flags f && false) 0 n h).0))
+fits f (Name (word.Field g)) n h = absurd cc
+fits f (Name (word.Operation o)) n h = absurd cc
+fits f (Name (word.Flag g)) n h = absurd (never (and_right (same_field field.Flags f) false (cond_some (same_field field.Flags f && false) 0 n h).0))
   where
     never : false ≡ true → ⊥
     never e = absurd cc
 fits f (Name word.AmountMax) n h =
-    let test = only_true (same_field field.Amount f) (2 ^ 128 - 1) n h in
+    let test = cond_some (same_field field.Amount f) (2 ^ 128 - 1) n h in
     subst (λ (g : Field). n ≤ field_max g) (only_amount f test.0) (subst (λ (k : ℕ). k ≤ 2 ^ 128 - 1) test.1 (lit≤ tt))
-fits f (Mark b) n h = none_some n h
+fits f (Mark b) n h = absurd cc
 
 small_more : (f : Field) (n : ℕ) (given : List Entry) → is_given f given ≡ false → n ≤ field_max f → IsSmall given → IsSmall (given ++ (f, n) ∷ [])
 small_more f n given new le h = record {

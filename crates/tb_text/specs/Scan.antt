@@ -91,62 +91,33 @@ word_named text = find (λ w. pointwise nat_eq (word_text w) text) all_words
 abbrev pub begins_word : Scan → List ℕ → Bool
 begins_word s text = list_any (λ w. may_stand s w && starts_with nat_eq (word_text w) text) all_words
 
--- with one entry more, behind which another may stand
-abbrev pub entered : Scan → Field → ℕ → Scan
-entered s f n = record {
+-- at a place of the same statement, within what is begun and with these entries given
+abbrev pub standing : Scan → Lexeme → List ℕ → Place → List Entry → Scan
+standing s lexeme spelled place given = record {
   pairs = s.pairs;
-  lexeme = Gap;
-  spelled = [];
-  place = Given f;
-  operation = s.operation;
-  header = s.header;
-  given = s.given ++ (f, n) ∷ [];
-  accounts = s.accounts;
-  transfers = s.transfers;
-  ids = s.ids;
-}
-
-abbrev pub moved : Scan → Place → Scan
-moved s place = record {
-  pairs = s.pairs;
-  lexeme = Gap;
-  spelled = [];
+  lexeme = lexeme;
+  spelled = spelled;
   place = place;
   operation = s.operation;
   header = s.header;
-  given = s.given;
+  given = given;
   accounts = s.accounts;
   transfers = s.transfers;
   ids = s.ids;
 }
+
+-- with one entry more, behind which another may stand
+abbrev pub entered : Scan → Field → ℕ → Scan
+entered s f n = standing s Gap [] (Given f) (s.given ++ (f, n) ∷ [])
+
+abbrev pub moved : Scan → Place → Scan
+moved s place = standing s Gap [] place s.given
 
 abbrev pub within : Scan → Lexeme → Scan
-within s lexeme = record {
-  pairs = s.pairs;
-  lexeme = lexeme;
-  spelled = [];
-  place = s.place;
-  operation = s.operation;
-  header = s.header;
-  given = s.given;
-  accounts = s.accounts;
-  transfers = s.transfers;
-  ids = s.ids;
-}
+within s lexeme = standing s lexeme [] s.place s.given
 
 abbrev pub spelling : Scan → List ℕ → Scan
-spelling s text = record {
-  pairs = s.pairs;
-  lexeme = Spelled;
-  spelled = text;
-  place = s.place;
-  operation = s.operation;
-  header = s.header;
-  given = s.given;
-  accounts = s.accounts;
-  transfers = s.transfers;
-  ids = s.ids;
-}
+spelling s text = standing s Spelled text s.place s.given
 
 -- an operation behind its header
 abbrev pub opened : Scan → Operation → Scan
@@ -183,56 +154,37 @@ number_ended s n = option_and_then (λ f. if n == 0 && is_positive f then None e
 abbrev pub item_count : Scan → ℕ
 item_count s = length s.accounts + length s.transfers + length s.ids
 
+-- with these events or ids, and none that is given
+abbrev pub with_items : Scan → List Account → List Transfer → List ℕ → Scan
+with_items s accounts transfers ids = record {
+  pairs = s.pairs;
+  lexeme = s.lexeme;
+  spelled = s.spelled;
+  place = s.place;
+  operation = s.operation;
+  header = s.header;
+  given = [];
+  accounts = accounts;
+  transfers = transfers;
+  ids = ids;
+}
+
 -- the account, the transfer or the id that was given stands behind the others
 abbrev pub with_account : Scan → Scan
-with_account s = record {
-  pairs = s.pairs;
-  lexeme = s.lexeme;
-  spelled = s.spelled;
-  place = s.place;
-  operation = s.operation;
-  header = s.header;
-  given = [];
-  accounts = s.accounts ++ account_of s.given ∷ [];
-  transfers = s.transfers;
-  ids = s.ids;
-}
+with_account s = with_items s (s.accounts ++ account_of s.given ∷ []) s.transfers s.ids
 
 abbrev pub with_transfer : Scan → Scan
-with_transfer s = record {
-  pairs = s.pairs;
-  lexeme = s.lexeme;
-  spelled = s.spelled;
-  place = s.place;
-  operation = s.operation;
-  header = s.header;
-  given = [];
-  accounts = s.accounts;
-  transfers = s.transfers ++ transfer_of s.given ∷ [];
-  ids = s.ids;
-}
+with_transfer s = with_items s s.accounts (s.transfers ++ transfer_of s.given ∷ []) s.ids
 
 abbrev pub with_id : Scan → Scan
-with_id s = record {
-  pairs = s.pairs;
-  lexeme = s.lexeme;
-  spelled = s.spelled;
-  place = s.place;
-  operation = s.operation;
-  header = s.header;
-  given = [];
-  accounts = s.accounts;
-  transfers = s.transfers;
-  ids = s.ids ++ value_of field.Id s.given ∷ [];
-}
+with_id s = with_items s s.accounts s.transfers (s.ids ++ value_of field.Id s.given ∷ [])
 
 -- the event, or the id, that was given stands behind the others
 abbrev pub pushed : Scan → Operation → Place → Scan
 pushed s Register place = moved s place
 pushed s CreateAccounts place = moved (with_account s) place
 pushed s CreateTransfers place = moved (with_transfer s) place
-pushed s LookupAccounts place = moved (with_id s) place
-pushed s LookupTransfers place = moved (with_id s) place
+pushed s o place = moved (with_id s) place
 
 abbrev pub body_of : Scan → Operation → Body
 body_of s Register = body.Register
@@ -288,11 +240,15 @@ word_grown s text = if begins_word s text then Some (spelling s text) else None
 abbrev pub appended : ℕ → ℕ → ℕ → ℕ → Option ℕ
 appended most base n d = if nat_le (n * base + d) most then Some (n * base + d) else None
 
+-- and where a number is to stand next
+abbrev pub next_number : Scan → ℕ → ℕ → ℕ → Option ℕ
+next_number s base n d = option_and_then (λ f. appended (field_max f) base n d) (wanted s.place)
+
 abbrev pub decimal_grown : Scan → ℕ → ℕ → Option Scan
-decimal_grown s n d = option_and_then (λ f. option_and_then (λ m. Some (within s (Decimal m))) (appended (field_max f) 10 n d)) (wanted s.place)
+decimal_grown s n d = option_and_then (λ m. Some (within s (Decimal m))) (next_number s 10 n d)
 
 abbrev pub hexadecimal_grown : Scan → ℕ → ℕ → Option Scan
-hexadecimal_grown s n d = option_and_then (λ f. option_and_then (λ m. Some (within s (Hexadecimal m))) (appended (field_max f) 16 n d)) (wanted s.place)
+hexadecimal_grown s n d = option_and_then (λ m. Some (within s (Hexadecimal m))) (next_number s 16 n d)
 
 abbrev pub zero_begun : Scan → Option Scan
 zero_begun s = option_and_then (λ f. Some (within s Zero)) (wanted s.place)

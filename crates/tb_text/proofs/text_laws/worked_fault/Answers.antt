@@ -1,7 +1,7 @@
 use Rattle.std.proofs.Common.{◌≡◌, None, codes, [], refl, sym, ◌∙◌}
 use Rattle.tb_text.specs.Words.{all_words}
 use Rattle.tb_text.specs.Scan.{behind, run, step}
-use Rattle.tb_text.proofs.Lexing.{none_some}
+use Rattle.std.proofs.lemmas.Option.{none-some}
 use Rattle.tb_text.proofs.Meanings.{says_means}
 use Rattle.tb_text.proofs.text_laws.worked_fault.Goals as goal
 
@@ -12,4 +12,4 @@ refused = refl
 pub returns : goal.returns
 returns c pairs says =
     let means = says_means (codes "at=1client=7 register;") pairs says in
-    none_some means.last (sym refused ∙ means.taken)
+    none-some means.last (sym refused ∙ means.taken)
