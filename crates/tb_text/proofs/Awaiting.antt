@@ -24,12 +24,11 @@ use Rattle.tb_text.specs.Steps.{BeginsStatements, Scans}
 use Rattle.tb_text.specs.Awaited.{GoesOn, Awaits, AwaitsBehind, MayStand, OnNextLine, awaits_equals, awaits_bar, is_given_place, is_opened_place, has_operation, awaits_comma, awaits_semicolon}
 use Rattle.tb_text.proofs.EachWord.{all_word_bytes, begins_with_letter, known}
 use Rattle.tb_text.proofs.Runs.{run_append, run_behind, word_taken, number_entered}
-use Rattle.tb_text.proofs.Tokens.{one_step, at_gap, line_end, stands_spelling, taken_between, word_through, gap_letter}
+use Rattle.tb_text.proofs.Tokens.{one_step, step_is, at_gap, line_end, stands_spelling, taken_between, word_through, gap_letter}
 use Rattle.tb_text.proofs.Ongoing.{Within, IsClear, IsOngoing, Stands, read_goes_on}
-use Rattle.tb_text.proofs.Endings.{Rests, read_begins, decimal_one, finished_rests, pushed_rests, step_is}
-use Rattle.tb_text.proofs.Lexing.{pushed_between}
+use Rattle.tb_text.proofs.Endings.{Rests, read_begins, decimal_one, finished_rests, pushed_rests}
 use Rattle.tb_text.proofs.Faults.{stopped}
-use Rattle.tb_text.proofs.Facts.{and_left, and_right}
+use Rattle.std.proofs.lemmas.Bool.{and_parts}
 
 -- these bytes are taken
 abbrev Runs : Scan → List ℕ → Type 0
@@ -99,9 +98,9 @@ not_whole s w p [] e refuses letters =
     ap (λ (o : Option Word). option_and_then (λ t. run t []) (option_and_then (λ t. gap t 10) (option_and_then (λ v. cond (may_stand (spelling s p) v) (Some (taken (spelling s p) v)) None) o))) named
     ∙ ap (λ (b : Bool). option_and_then (λ t. run t []) (option_and_then (λ t. gap t 10) (cond b (Some (taken (spelling s p) w)) None))) refused
 not_whole s w p (b ∷ q) e refuses letters =
-    let here : is_word_byte b ≡ true = and_left (is_word_byte b) (all_word_bytes q) letters in
+    let here : is_word_byte b ≡ true = (and_parts (is_word_byte b) (all_word_bytes q) letters).0 in
     ap (λ (c : Bool). option_and_then (λ t. run t (q ++ 10 ∷ [])) (cond c (word_grown (spelling s p) (p ++ b ∷ [])) (word_left (spelling s p) b))) here
-    ∙ by (begins_word (spelling s p) (p ++ b ∷ [])) (not_whole s w (p ++ b ∷ []) q (append_assoc p (b ∷ []) q ∙ e) refuses (and_right (is_word_byte b) (all_word_bytes q) letters))
+    ∙ by (begins_word (spelling s p) (p ++ b ∷ [])) (not_whole s w (p ++ b ∷ []) q (append_assoc p (b ∷ []) q ∙ e) refuses ((and_parts (is_word_byte b) (all_word_bytes q) letters).1))
   where
     by : (c : Bool) → run (spelling s (p ++ b ∷ [])) (q ++ 10 ∷ []) ≡ None → option_and_then (λ t. run t (q ++ 10 ∷ [])) (cond c (Some (spelling s (p ++ b ∷ []))) None) ≡ None
     by true later = later
@@ -114,7 +113,7 @@ not_taken s w h refuses = from (word_text w) refl (known w).letter (known w).byt
     from [] e l a = absurd cc
     from (b ∷ q) e l a =
         let first : step s b ≡ word_grown s (b ∷ []) = at_gap s b h.gap ∙ (gap_letter s b l ∙ ap (λ (p : List ℕ). word_grown s (p ++ b ∷ [])) h.spelled) in
-        ap (option_and_then (λ t. run t (q ++ 10 ∷ []))) first ∙ by (begins_word s (b ∷ [])) (not_whole s w (b ∷ []) q e refuses (and_right (is_word_byte b) (all_word_bytes q) a))
+        ap (option_and_then (λ t. run t (q ++ 10 ∷ []))) first ∙ by (begins_word s (b ∷ [])) (not_whole s w (b ∷ []) q e refuses ((and_parts (is_word_byte b) (all_word_bytes q) a).1))
       where
         by : (c : Bool) → run (spelling s (b ∷ [])) (q ++ 10 ∷ []) ≡ None → option_and_then (λ t. run t (q ++ 10 ∷ [])) (cond c (Some (spelling s (b ∷ []))) None) ≡ None
         by true later = later
@@ -175,7 +174,7 @@ comma_both : (s : Scan) (o : Option Operation) (p : Place) → step s 44 ≡ opt
 comma_both s (Some o) (Given f) e = by (nat_lt (item_count s + 1) 8190) e
   where
     by : (c : Bool) → step s 44 ≡ cond c (Some (pushed s o Parted)) None → (c ≡ true) ↔ Runs s (44 ∷ 10 ∷ [])
-    by true is = (λ h. first s (pushed s o Parted) 44 is (pushed_between s o Parted).lexeme, λ r. refl)
+    by true is = (λ h. first s (pushed s o Parted) 44 is refl, λ r. refl)
     by false is = neither s 44 is
 comma_both s o p e = neither s 44 e
 

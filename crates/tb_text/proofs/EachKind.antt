@@ -13,16 +13,16 @@ use Rattle.tb_text.specs.declared.words.Field.{Field}
 use Rattle.tb_text.specs.declared.words.Field.TheVariants as field
 use Rattle.tb_text.specs.declared.places.Place.{Place}
 use Rattle.tb_text.specs.declared.places.Place.TheVariants.{Opened, Parted}
-use Rattle.tb_text.specs.Entries.{Entry, may_have}
-use Rattle.tb_text.specs.Scan.{Scan, run, awaits_field, finished, moved, pushed, with_id}
+use Rattle.tb_text.specs.Entries.{Entry, may_have, value_of}
+use Rattle.tb_text.specs.Scan.{Scan, run, awaits_field, finished, moved, pushed, with_items}
 use Rattle.tb_text.specs.Printed.{entries_text, entry_text, account_entries, transfer_entries, account_text, transfer_text, id_text}
 use Rattle.tb_text.proofs.Tokens.{IsBetween, IsEnd, at_gap}
 use Rattle.tb_text.proofs.NamedFlags.{at, SameBits}
 use Rattle.tb_text.proofs.Entries.{told, InOrder, all_at, entries_through, none_or}
 use Rattle.tb_text.proofs.Orders.{small_128, accounts_in_order, transfers_in_order}
 use Rattle.tb_text.proofs.Items.{mid, IsKind, account_back, transfer_back}
-use Rattle.tb_text.proofs.Facts.{if_true}
 use Rattle.std.proofs.lemmas.List.{append-nil}
+use Rattle.std.proofs.lemmas.Bool.{cond-true}
 
 -- an id and further fields, behind a mark or an operation
 event_through : (q : Operation) (s : Scan) (id : ℕ) (es : List Entry) (tail : List ℕ) → IsEnd tail → IsBetween s → SameBits s.operation q → awaits_field s.place ≡ true → s.given ≡ [] → may_have s.operation field.Id ≡ true → id < 2 ^ 128
@@ -62,7 +62,7 @@ accounts_kind pairs header = record {
         at s through.0 g,
         through.1,
         record {
-          parts = λ few. at_gap (at s through.0 g) 44 refl ∙ (if_true (nat_lt (length xs + 0 + 0 + 1) 8190) _ _ (room (length xs + 0 + 0) (omega arith)) ∙ ap (λ (y : Account). Some (accounts_state pairs header (xs ++ y ∷ []) Parted)) (account_back x h));
+          parts = λ few. at_gap (at s through.0 g) 44 refl ∙ (cond-true (nat_lt (length xs + 0 + 0 + 1) 8190) _ _ (room (length xs + 0 + 0) (omega arith)) ∙ ap (λ (y : Account). Some (accounts_state pairs header (xs ++ y ∷ []) Parted)) (account_back x h));
           ends = at_gap (at s through.0 g) 59 refl ∙ ap (λ (y : Account). accounts_ended pairs header (xs ++ y ∷ [])) (account_back x h);
         },
       );
@@ -87,7 +87,7 @@ transfers_kind pairs header = record {
         at s through.0 g,
         through.1,
         record {
-          parts = λ few. at_gap (at s through.0 g) 44 refl ∙ (if_true (nat_lt (0 + length xs + 0 + 1) 8190) _ _ (room (0 + length xs + 0) (omega arith)) ∙ ap (λ (y : Transfer). Some (transfers_state pairs header (xs ++ y ∷ []) Parted)) (transfer_back x h));
+          parts = λ few. at_gap (at s through.0 g) 44 refl ∙ (cond-true (nat_lt (0 + length xs + 0 + 1) 8190) _ _ (room (0 + length xs + 0) (omega arith)) ∙ ap (λ (y : Transfer). Some (transfers_state pairs header (xs ++ y ∷ []) Parted)) (transfer_back x h));
           ends = at_gap (at s through.0 g) 59 refl ∙ ap (λ (y : Transfer). transfers_ended pairs header (xs ++ y ∷ [])) (transfer_back x h);
         },
       );
@@ -103,7 +103,7 @@ abbrev pub sought_ended : Operation → List (ℕ × Message) → List Entry →
 sought_ended o pairs header xs = finished (sought_state o pairs header xs Opened) o
 
 -- of an operation that has ids without flags, and puts each behind the others
-pub sought_kind : (o : Operation) → SameBits (Some o) Register → may_have (Some o) field.Id ≡ true → ((s : Scan) (place : Place) → pushed s o place ≡ moved (with_id s) place) → (pairs : List (ℕ × Message)) (header : List Entry)
+pub sought_kind : (o : Operation) → SameBits (Some o) Register → may_have (Some o) field.Id ≡ true → ((s : Scan) (place : Place) → pushed s o place ≡ moved (with_items s s.accounts s.transfers (s.ids ++ value_of field.Id s.given ∷ [])) place) → (pairs : List (ℕ × Message)) (header : List Entry)
     → IsKind (sought_state o pairs header) (sought_ended o pairs header) id_text IsId
 unfolding id_text
 sought_kind o bits has puts pairs header = record {
@@ -116,7 +116,7 @@ sought_kind o bits has puts pairs header = record {
         at_id,
         ap (λ (t : List ℕ). run s (t ++ tail)) (sym (append-nil (entry_text Register (field.Id, x)))) ∙ through.1,
         record {
-          parts = λ few. at_gap at_id 44 refl ∙ (if_true (nat_lt (0 + 0 + length xs + 1) 8190) _ _ (room (0 + 0 + length xs) (omega arith)) ∙ ap (λ (t : Scan). Some t) (behind Parted));
+          parts = λ few. at_gap at_id 44 refl ∙ (cond-true (nat_lt (0 + 0 + length xs + 1) 8190) _ _ (room (0 + 0 + length xs) (omega arith)) ∙ ap (λ (t : Scan). Some t) (behind Parted));
           ends = at_gap at_id 59 refl ∙ ap (λ (t : Scan). finished t o) (behind Opened);
         },
       );

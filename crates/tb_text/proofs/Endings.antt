@@ -23,11 +23,10 @@ use Rattle.tb_text.specs.Steps.{BeginsStatements}
 use Rattle.std.specs.Fmt.{decimal}
 use Rattle.tb_text.proofs.EachWord.{all_word_bytes, known}
 use Rattle.tb_text.proofs.Runs.{run_behind}
-use Rattle.tb_text.proofs.Tokens.{IsBetween, one_step, at_gap, space, word_on, word_through, taken_between}
+use Rattle.tb_text.proofs.Tokens.{IsBetween, one_step, step_is, at_gap, space, word_on, word_through, taken_between}
 use Rattle.tb_text.proofs.Numbers.{entry_through, next_is}
 use Rattle.tb_text.proofs.Items.{low_32}
-use Rattle.tb_text.proofs.Ongoing.{HeaderNumbers, given_more, IsChosen, Stands, IsBegun, Within, IsOngoing, IsClear, number_stands, wanted_stands, wanted_here, taken_clear, pushed_count, read_goes_on}
-use Rattle.tb_text.proofs.Facts.{and_right}
+use Rattle.tb_text.proofs.Ongoing.{HeaderNumbers, given_more, IsChosen, Stands, IsBegun, Within, IsOngoing, IsClear, number_stands, wanted_stands, wanted_here, taken_clear, pushed_most, read_goes_on}
 
 -- bytes that go on to the end of a statement
 record CanEnd (s : Scan) : Type 0 where
@@ -88,8 +87,7 @@ finished_rests s o h few =
     (behind (s.pairs ++ (value_of field.At s.header % 2 ^ 64, request_of s o) ∷ []), ap (when_lawful s (request_of s o)) (request_lawful s o h few), refl)
 
 pub pushed_rests : (s : Scan) (o : Operation) → IsChosen o s.header → item_count s < 8190 → Rests (finished (pushed s o Opened) o)
-pushed_rests s Register h lt = finished_rests (moved s Opened) Register h (omega (arith, lt))
-pushed_rests s o h lt = finished_rests (pushed s o Opened) o h (omega (arith, lt, pushed_count s o Opened refl))
+pushed_rests s o h lt = finished_rests (pushed s o Opened) o h (omega (arith, lt, pushed_most s o Opened))
 
 closes : (s : Scan) (o : Operation) (place : Place) → s.lexeme ≡ Gap → s.operation ≡ Some o → s.place ≡ place → Rests (closed_at s o place) → CanEnd s
 closes s o place g e p h =
@@ -165,10 +163,6 @@ ends_number s f n e p positive most h =
     steps s (entered s f n) 32 (e ∙ number_over s f n (ap wanted p) positive)
     (ends_given (entered s f n) f (record { lexeme = refl; spelled = refl }) refl (number_stands s.operation f n s.given s.header (item_count s) positive most h))
 
-pub step_is : (s : Scan) (b : ℕ) (l : Lexeme) → s.lexeme ≡ l → step s b ≡ step_at s b l
-unfolding step
-step_is s b l e = ap (step_at s b) e
-
 least : (f : Field) → 1 ≤ field_max f
 least field.At = lit≤ tt
 least f = lit≤ tt
@@ -235,7 +229,7 @@ ends_clear s h = by s.place refl h.stands s.operation refl h.stands
 
 all_behind : (p q : List ℕ) → all_word_bytes (p ++ q) ≡ true → all_word_bytes q ≡ true
 all_behind [] q h = h
-all_behind (b ∷ p) q h = all_behind p q (and_right _ (all_word_bytes (p ++ q)) h)
+all_behind (b ∷ p) q h = all_behind p q ((and_parts _ (all_word_bytes (p ++ q)) h).1)
 
 spelled_is : (s : Scan) → s.lexeme ≡ Spelled → s ≡ spelling s s.spelled
 spelled_is s e = ap (λ (l : Lexeme). standing s l s.spelled s.place s.given) e

@@ -111,28 +111,8 @@ number_before s f n text h between m small le p =
 
 -- no other field has the place of the flags
 pub only_flags : (f : Field) → same_field f field.Flags ≡ true → f ≡ field.Flags
-only_flags field.At h = absurd cc
-only_flags field.Client h = absurd cc
-only_flags field.Session h = absurd cc
-only_flags field.Request h = absurd cc
-only_flags field.Id h = absurd cc
-only_flags field.DebitsPending h = absurd cc
-only_flags field.DebitsPosted h = absurd cc
-only_flags field.CreditsPending h = absurd cc
-only_flags field.CreditsPosted h = absurd cc
-only_flags field.DebitAccountId h = absurd cc
-only_flags field.CreditAccountId h = absurd cc
-only_flags field.Amount h = absurd cc
-only_flags field.PendingId h = absurd cc
-only_flags field.UserData128 h = absurd cc
-only_flags field.UserData64 h = absurd cc
-only_flags field.UserData32 h = absurd cc
-only_flags field.Reserved h = absurd cc
-only_flags field.Timeout h = absurd cc
-only_flags field.Ledger h = absurd cc
-only_flags field.Code h = absurd cc
 only_flags field.Flags h = refl
-only_flags field.Timestamp h = absurd cc
+only_flags f h = absurd cc
 
 flags_before_text : (s : Scan) (o : Operation) (f : Field) (n : ℕ) (text : List ℕ) → f ≡ field.Flags → IsEnd text → IsBetween s → SameBits s.operation o → may_stand s (word.Field f) ≡ true → n ≤ field_max f
     → run s ((field_name f ++ flags_text o n) ++ text) ≡ run (at s f (s.given ++ flag_entries o (flags_of o) 61 (unnamed o n) n)) text

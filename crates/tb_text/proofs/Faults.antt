@@ -8,8 +8,8 @@ use Rattle.tb_text.specs.Scan.{Scan, behind, step, run, is_at_rest}
 use Rattle.tb_text.specs.Steps.{BeginsUpTo, Means, Reads, Stops}
 use Rattle.tb_text.proofs.Runs.{run_append, run_behind}
 use Rattle.tb_text.proofs.Endings.{read_begins}
+use Rattle.std.proofs.lemmas.Bool.{both_ways}
 use Rattle.std.proofs.lemmas.Option.{same_Some}
-use Rattle.tb_text.proofs.Facts.{true_false}
 use Rattle.std.proofs.lemmas.List.{append-nil}
 
 -- no run goes through the byte at the place
@@ -41,7 +41,7 @@ no_meaning text pairs others place stops means = by stops.why
     by (inr over) =
         let whole : take place text ≡ text = ap (λ (n : ℕ). take n text) over.0 ∙ take-length text in
         let same = same_Some stops.last means.last (sym stops.taken ∙ (ap (run (behind [])) whole ∙ means.taken)) in
-        true_false (is_at_rest stops.last) (ap is_at_rest same ∙ means.whole) over.1
+        both_ways (is_at_rest stops.last) over.1 (ap is_at_rest same ∙ means.whole)
 
 not_past : (text : List ℕ) (pairs : List (ℕ × Message)) (place : ℕ) → Stops text pairs place → place ≤ length text
 not_past text pairs place stops = by stops.why

@@ -7,14 +7,13 @@ use Rattle.tb_text.specs.declared.places.Lexeme.{Lexeme}
 use Rattle.tb_text.specs.declared.places.Place.TheVariants.{Parted}
 use Rattle.tb_text.specs.Scan.{Scan, behind, step, run, entered, pushed, taken}
 use Rattle.tb_text.specs.Steps.{StandFirst, Means, Stops}
-use Rattle.tb_text.proofs.Moves.{Marked, comma, semicolon, Gapped, marked, Stepped, between, word_over, zero_over, decimal_over, hexadecimal_over, pushed_pairs, closed_is, mark_cases, step_cases}
+use Rattle.tb_text.proofs.Moves.{Marked, semicolon, Gapped, marked, Stepped, between, word_over, zero_over, decimal_over, hexadecimal_over, closed_is, mark_cases, step_cases}
 use Rattle.tb_text.proofs.Runs.{run_behind, taken_pairs}
 
 alike : (s t : Scan) → t.pairs ≡ s.pairs → StandFirst s.pairs t.pairs
 alike s t e = ([], e ∙ sym (append-nil s.pairs))
 
 marked_grows : (s : Scan) {b : ℕ} {v : Scan} → Marked s b v → StandFirst s.pairs v.pairs
-marked_grows s (comma o f is p room) = alike s (pushed s o Parted) (pushed_pairs s o Parted)
 marked_grows s (semicolon {v} o is e) = let over = closed_is s v o s.place e in (over.0 ∷ [], ap (λ (t : Scan). t.pairs) (sym over.1))
 marked_grows s m = alike s s refl
 

@@ -21,6 +21,7 @@ use Rattle.tb_text.specs.Entries.{is_space, is_digit, is_word_byte, digit_of, is
 use Rattle.tb_text.specs.Scan.{Scan, behind, step, run, rests, is_at_rest, wanted, may_stand, word_named, entered, standing, within, taken, number_ended, pushed, mark}
 use Rattle.tb_text.specs.Grammar.{Token, Name, Number, Mark, Text, nothing, blank as blank_text, comment, last_comment, token, Writes, is_line, is_mark, ends_word, number_behind, number_of}
 use Rattle.tb_text.proofs.Tokens.{IsBetween, taken_between}
+use Rattle.tb_text.proofs.Numbers.{number_more, number_first, digit_is, below_ten, digit_says}
 use Rattle.tb_text.proofs.Moves.{Fits, Marked, equals, comma, semicolon, Gapped, blank, sharp, nought, digit, letter, marked, Numbered, Stepped, between, line_over, line_goes, word_goes, word_over, prefixed, zero_goes, zero_over, hexadecimal_begins, decimal_goes, decimal_over, hexadecimal_goes, hexadecimal_over, closed_is, mark_cases, step_cases}
 use Rattle.tb_text.proofs.Ongoing.{fits_most, IsOngoing, Within, step_goes}
 
@@ -39,12 +40,7 @@ one_after s u t ts h = ap (option_and_then (λ v. all_after v ts)) h
 
 -- MARKS
 
-pub pushed_between : (s : Scan) (o : Operation) (place : Place) → IsBetween (pushed s o place)
-pushed_between s Register place = record { lexeme = refl; spelled = refl }
-pushed_between s o place = record { lexeme = refl; spelled = refl }
-
 marked_between : (s : Scan) {b : ℕ} {v : Scan} → Marked s b v → IsBetween v
-marked_between s (comma o f is p room) = pushed_between s o Parted
 marked_between s (semicolon {v} o is e) = subst IsBetween (closed_is s v o s.place e).1 (record { lexeme = refl; spelled = refl })
 marked_between s m = record { lexeme = refl; spelled = refl }
 
@@ -59,58 +55,6 @@ mark_is s m = refl
 pub between_same : (s : Scan) → IsBetween s → within s Gap ≡ s
 between_same s h =
     sym (ap (λ (l : Lexeme). standing s l s.spelled s.place s.given) h.lexeme ∙ ap (λ (p : List ℕ). standing s Gap p s.place s.given) h.spelled)
-
--- NUMBERS
-
--- a digit of a number
-pub record IsDigit (base n b m : ℕ) (bs : List ℕ) : Type 0 where
-  pub digit : ℕ
-  pub is : digit_of b ≡ Some digit
-  pub below : nat_lt digit base ≡ true
-  pub later : number_behind base (n * base + digit) bs ≡ Some m
-
-pub first_digit_of : (base n b m : ℕ) (bs : List ℕ) → number_behind base n (b ∷ bs) ≡ Some m → IsDigit base n b m bs
-first_digit_of base n b m bs h =
-    option_and_then_some (λ (d : ℕ). cond (nat_lt d base) (number_behind base (n * base + d) bs) None) (digit_of b) m h (λ d is k. by d is (nat_lt d base) refl k)
-  where
-    by : (d : ℕ) → digit_of b ≡ Some d → (c : Bool) → nat_lt d base ≡ c → cond c (number_behind base (n * base + d) bs) None ≡ Some m → IsDigit base n b m bs
-    by d is true lt k = record { digit = d; is = is; below = lt; later = k }
-    by d is false lt k = absurd cc
-
-digit_read : (base n b d : ℕ) (bs : List ℕ) → digit_of b ≡ Some d → nat_lt d base ≡ true → number_behind base n (b ∷ bs) ≡ number_behind base (n * base + d) bs
-digit_read base n b d bs e lt =
-    ap (option_and_then (λ x. cond (nat_lt x base) (number_behind base (n * base + x) bs) None)) e ∙ ap (λ (c : Bool). cond c (number_behind base (n * base + d) bs) None) lt
-
--- one digit more
-behind_more : (base n m b d : ℕ) (bs : List ℕ) → number_behind base n bs ≡ Some m → digit_of b ≡ Some d → nat_lt d base ≡ true → number_behind base n (bs ++ b ∷ []) ≡ Some (m * base + d)
-behind_more base n m b d [] h e lt = digit_read base n b d [] e lt ∙ ap (λ (k : ℕ). Some (k * base + d)) (same_Some n m h)
-behind_more base n m b d (c ∷ cs) h e lt =
-    let x = first_digit_of base n c m cs h in
-    digit_read base n c x.digit (cs ++ b ∷ []) x.is x.below ∙ behind_more base (n * base + x.digit) m b d cs x.later e lt
-
-number_more : (base m b d : ℕ) (bs : List ℕ) → number_of base bs ≡ Some m → digit_of b ≡ Some d → nat_lt d base ≡ true → number_of base (bs ++ b ∷ []) ≡ Some (m * base + d)
-number_more base m b d [] h e lt = absurd cc
-number_more base m b d (c ∷ cs) h e lt = behind_more base 0 m b d (c ∷ cs) h e lt
-
-number_first : (base b d : ℕ) → digit_of b ≡ Some d → nat_lt d base ≡ true → number_of base (b ∷ []) ≡ Some (0 * base + d)
-number_first base b d e lt = behind_more base 0 0 b d [] refl e lt
-
-pub digit_is : (b : ℕ) → is_digit b ≡ true → digit_of b ≡ Some (b - 48)
-digit_is b h = ap (λ (c : Bool). cond c (Some (b - 48)) (cond (nat_le 97 b && nat_le b 102) (Some (b - 87)) (cond (nat_le 65 b && nat_le b 70) (Some (b - 55)) None))) h
-
-below_ten : (b : ℕ) → is_digit b ≡ true → nat_lt (b - 48) 10 ≡ true
-below_ten b h = grind (arith, nat_tests)
-
--- a digit is below 16, and one below 10 is decimal
-pub digit_says : (b d : ℕ) → digit_of b ≡ Some d → (nat_lt d 16 ≡ true) × (nat_lt d 10 ≡ true → is_digit b ≡ true)
-digit_says b d h = by (is_digit b) refl (nat_le 97 b && nat_le b 102) refl (nat_le 65 b && nat_le b 70) refl h
-  where
-    by : (w : Bool) → is_digit b ≡ w → (x : Bool) → (nat_le 97 b && nat_le b 102) ≡ x → (y : Bool) → (nat_le 65 b && nat_le b 70) ≡ y
-        → cond w (Some (b - 48)) (cond x (Some (b - 87)) (cond y (Some (b - 55)) None)) ≡ Some d → (nat_lt d 16 ≡ true) × (nat_lt d 10 ≡ true → is_digit b ≡ true)
-    by true i x j y k e = (let same : b - 48 ≡ d = same_Some (b - 48) d e in grind (arith, nat_tests), λ low. i)
-    by false i true j y k e = let same : b - 87 ≡ d = same_Some (b - 87) d e in (grind (arith, nat_tests), λ low. grind (arith, nat_tests))
-    by false i false j true k e = let same : b - 55 ≡ d = same_Some (b - 55) d e in (grind (arith, nat_tests), λ low. grind (arith, nat_tests))
-    by false i false j false k e = absurd cc
 
 -- WORDS
 

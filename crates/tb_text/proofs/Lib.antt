@@ -1,4 +1,3 @@
-pub mod Facts
 pub mod EachWord
 pub mod Runs
 pub mod Tokens

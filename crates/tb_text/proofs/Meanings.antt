@@ -16,22 +16,8 @@ use Rattle.tb_text.proofs.Stating.{statements_taken}
 
 rests_at_head : (l : Lexeme) (p : Place) → rests l p ≡ true → p ≡ Head
 rests_at_head Gap Head h = refl
-rests_at_head Gap (Named f) h = absurd cc
-rests_at_head Gap (Wanted f) h = absurd cc
-rests_at_head Gap (Given f) h = absurd cc
-rests_at_head Gap Opened h = absurd cc
-rests_at_head Gap Parted h = absurd cc
 rests_at_head Comment Head h = refl
-rests_at_head Comment (Named f) h = absurd cc
-rests_at_head Comment (Wanted f) h = absurd cc
-rests_at_head Comment (Given f) h = absurd cc
-rests_at_head Comment Opened h = absurd cc
-rests_at_head Comment Parted h = absurd cc
-rests_at_head Spelled p h = absurd cc
-rests_at_head Zero p h = absurd cc
-rests_at_head Prefix p h = absurd cc
-rests_at_head (Decimal n) p h = absurd cc
-rests_at_head (Hexadecimal n) p h = absurd cc
+rests_at_head l p h = absurd cc
 
 pub means_says : (text : List ℕ) (pairs : List (ℕ × Message)) → Means text pairs → Says text pairs
 means_says text pairs m =

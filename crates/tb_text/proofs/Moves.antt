@@ -18,8 +18,7 @@ use Rattle.tb_text.specs.declared.words.Word.{Word}
 use Rattle.tb_text.specs.Words.{field_max, same_field}
 use Rattle.tb_text.specs.Entries.{is_space, is_digit, is_word_byte, digit_of, is_positive, value_of}
 use Rattle.tb_text.specs.Scan.{Scan, behind, step, step_at, gap, wanted, may_stand, begins_word, word_named, entered, moved, within, spelling, taken, word_ended, number_ended, item_count, pushed, when_lawful, request_of, closed_at, parted_at, valued_at, joined_at, mark, word_grown, next_number, decimal_grown, hexadecimal_grown, zero_begun, word_left, number_left, hexadecimal_at}
-use Rattle.tb_text.proofs.Facts.{only_false}
-use Rattle.tb_text.proofs.Runs.{word_taken, number_entered}
+use Rattle.tb_text.proofs.Runs.{word_taken, number_entered, only_false}
 
 -- a number of the field that is wanted
 pub record Fits (place : Place) (n : ℕ) : Type 0 where
@@ -69,10 +68,6 @@ pub data Stepped (s : Scan) (b : ℕ) : Lexeme → Scan → Type 0 where
 
 -- MARKS
 
-pub pushed_pairs : (s : Scan) (o : Operation) (place : Place) → (pushed s o place).pairs ≡ s.pairs
-pushed_pairs s Register place = refl
-pushed_pairs s o place = refl
-
 finished_with : (s v : Scan) (r : Message) (fault : Option FrameFault) → when_lawful s r fault ≡ Some v → behind (s.pairs ++ (value_of field.At s.header % 2 ^ 64, r) ∷ []) ≡ v
 finished_with s v r None e = same_Some (behind (s.pairs ++ (value_of field.At s.header % 2 ^ 64, r) ∷ [])) v e
 finished_with s v r (Some fault) e = absurd cc
@@ -82,7 +77,7 @@ pub closed_is : (s v : Scan) (o : Operation) (place : Place) → closed_at s o p
 closed_is s v o Opened e = (_, finished_with s v (request_of s o) (number_fault (request_of s o)) e)
 closed_is s v o (Given f) e =
     let t = pushed s o Opened in
-    (_, ap (λ (ps : List (ℕ × Message)). behind (ps ++ (value_of field.At t.header % 2 ^ 64, request_of t o) ∷ [])) (sym (pushed_pairs s o Opened)) ∙ finished_with t v (request_of t o) (number_fault (request_of t o)) e)
+    (_, finished_with t v (request_of t o) (number_fault (request_of t o)) e)
 closed_is s v o place e = absurd cc
 
 valued_cases : (s v : Scan) (place : Place) → s.place ≡ place → valued_at s place ≡ Some v → Marked s 61 v
@@ -121,9 +116,9 @@ number_cases s v lexeme base n d e =
     option_and_then_some (λ (m : ℕ). Some (within s (lexeme m))) (next_number s base n d) v e
     (λ m is k. option_and_then_some (λ (f : Field). cond (nat_le (n * base + d) (field_max f)) (Some (n * base + d)) None) (wanted s.place) m is
     (λ f w j. let test = cond_some (nat_le (n * base + d) (field_max f)) (n * base + d) m j in (
-        record { field = f; is = w; most = leb-true (n * base + d) (field_max f) test.0 },
-        ap (λ (x : ℕ). within s (lexeme x)) test.1 ∙ same_Some (within s (lexeme m)) v k,
-      )))
+      record { field = f; is = w; most = leb-true (n * base + d) (field_max f) test.0 },
+      ap (λ (x : ℕ). within s (lexeme x)) test.1 ∙ same_Some (within s (lexeme m)) v k,
+    )))
 
 gap_cases : (s v : Scan) (b : ℕ) → gap s b ≡ Some v → Gapped s b v
 gap_cases s v b e = by (is_space b) refl (b == 35) refl (b == 48) refl (is_digit b) refl (is_word_byte b) refl e

@@ -17,8 +17,8 @@ use Rattle.tb_text.specs.declared.places.Lexeme.TheVariants.{Gap}
 use Rattle.tb_text.specs.declared.places.Place.{Place}
 use Rattle.tb_text.specs.declared.places.Place.TheVariants.{Given, Named, Wanted}
 use Rattle.tb_text.specs.Words.{field_name, flag_bit, flag_name, flags_of}
-use Rattle.tb_text.specs.Entries.{Entry, value_from, bit_of}
-use Rattle.tb_text.specs.Scan.{Scan, may_stand, run, step}
+use Rattle.tb_text.specs.Entries.{Entry, value_from, bit_of, is_word_byte}
+use Rattle.tb_text.specs.Scan.{Scan, standing, may_stand, run, step}
 use Rattle.tb_text.specs.Printed.{barred, flags_text, has_flag, unnamed, with_unnamed}
 use Rattle.tb_text.proofs.Tokens.{IsBetween, IsEnd, at_gap, one_step, word_through}
 use Rattle.tb_text.proofs.Numbers.{number_through}
@@ -31,18 +31,7 @@ flags_from (f ∷ fs) mark rest n = cond (n % 2 == 0) (flags_from fs mark rest (
 
 -- the statement, at a place and with these entries of its event
 abbrev pub placed : Scan → Place → List Entry → Scan
-placed s place given = record {
-  pairs = s.pairs;
-  lexeme = Gap;
-  spelled = [];
-  place = place;
-  operation = s.operation;
-  header = s.header;
-  given = given;
-  accounts = s.accounts;
-  transfers = s.transfers;
-  ids = s.ids;
-}
+placed s place given = standing s Gap [] place given
 
 -- a field was given, as the last of these
 abbrev pub at : Scan → Field → List Entry → Scan
@@ -64,11 +53,9 @@ HasFlags o [] = Unit {0}
 HasFlags o (f ∷ fs) = ((flag_bit o f == 0) ≡ false) × HasFlags o fs
 
 has_flags : (o : Operation) → HasFlags o (flags_of o)
-has_flags Register = tt
 has_flags CreateAccounts = (refl, (refl, (refl, (refl, (refl, (refl, tt))))))
 has_flags CreateTransfers = (refl, (refl, (refl, (refl, (refl, (refl, (refl, (refl, (refl, tt)))))))))
-has_flags LookupAccounts = tt
-has_flags LookupTransfers = tt
+has_flags o = tt
 
 between : (s : Scan) (place : Place) (g : List Entry) → IsBetween (placed s place g)
 between s place g = record { lexeme = refl; spelled = refl }
@@ -100,6 +87,14 @@ one_number s start mark n g tail few ready e =
     ∙ (number_through behind field.Flags n e.byte e.rest (between s (Wanted field.Flags) g) refl (omega arith) (omega arith) (never (n == 0)) e.ends
     ∙ ap (run (at s field.Flags (g ++ (field.Flags, n) ∷ []))) (sym e.text_is)))
 
+-- where a flag is printed its mark ends what stands before it
+marked_end : (f : Flag) (fs : List Flag) (mark rest n : ℕ) (text : List ℕ) → is_word_byte mark ≡ false → IsEnd (flags_from fs mark rest (n / 2) ++ text) → IsEnd (flags_from (f ∷ fs) mark rest n ++ text)
+marked_end f fs mark rest n text ends skipped = by (n % 2 == 0)
+  where
+    by : (b : Bool) → IsEnd (cond b (flags_from fs mark rest (n / 2)) (mark ∷ flag_name f ++ flags_from fs 124 rest (n / 2)) ++ text)
+    by true = skipped
+    by false = record { byte = mark; rest = (flag_name f ++ flags_from fs 124 rest (n / 2)) ++ text; text_is = refl; ends = ends }
+
 -- behind a flag there is an end, be it a mark
 more_end : (fs : List Flag) (rest n : ℕ) (text : List ℕ) → IsEnd text → IsEnd (flags_from fs 124 rest n ++ text)
 more_end [] rest n text e = by (rest == 0)
@@ -107,79 +102,55 @@ more_end [] rest n text e = by (rest == 0)
     by : (b : Bool) → IsEnd (cond b [] (124 ∷ decimal rest) ++ text)
     by true = e
     by false = record { byte = 124; rest = decimal rest ++ text; text_is = refl; ends = refl }
-more_end (f ∷ fs) rest n text e = by (n % 2 == 0) (more_end fs rest (n / 2) text e)
-  where
-    by : (b : Bool) → IsEnd (flags_from fs 124 rest (n / 2) ++ text) → IsEnd (cond b (flags_from fs 124 rest (n / 2)) (124 ∷ flag_name f ++ flags_from fs 124 rest (n / 2)) ++ text)
-    by true later = later
-    by false later = record { byte = 124; rest = (flag_name f ++ flags_from fs 124 rest (n / 2)) ++ text; text_is = refl; ends = refl }
+more_end (f ∷ fs) rest n text e = marked_end f fs 124 rest n text refl (more_end fs rest (n / 2) text e)
 
 -- behind the field's name stands `=`
 first_end : (fs : List Flag) (rest n : ℕ) (text : List ℕ) → IsEnd (flags_from fs 61 rest n ++ text)
 first_end [] rest n text = record { byte = 61; rest = decimal rest ++ text; text_is = refl; ends = refl }
-first_end (f ∷ fs) rest n text = by (n % 2 == 0) (first_end fs rest (n / 2) text)
-  where
-    by : (b : Bool) → IsEnd (flags_from fs 61 rest (n / 2) ++ text) → IsEnd (cond b (flags_from fs 61 rest (n / 2)) (61 ∷ flag_name f ++ flags_from fs 124 rest (n / 2)) ++ text)
-    by true later = later
-    by false later = record { byte = 61; rest = (flag_name f ++ flags_from fs 124 rest (n / 2)) ++ text; text_is = refl; ends = refl }
+first_end (f ∷ fs) rest n text = marked_end f fs 61 rest n text refl (first_end fs rest (n / 2) text)
 
--- flags behind others
-more_through : (fs : List Flag) (s : Scan) (o : Operation) (rest n : ℕ) (g : List Entry) (text : List ℕ) → SameBits s.operation o → HasFlags o fs → rest < 2 ^ 16 → IsEnd text
-    → run (at s field.Flags g) (flags_from fs 124 rest n ++ text) ≡ run (at s field.Flags (g ++ flag_entries o fs 124 rest n)) text
-more_through [] s o rest n g text bits flags few e = by (rest == 0)
+-- flags, one by one, behind others or behind the field's name: `start` is the reader there, and each mark leads to the next value
+through : (fs : List Flag) (s start : Scan) (o : Operation) (mark rest n : ℕ) (g : List Entry) (text : List ℕ) → SameBits s.operation o → HasFlags o fs → rest < 2 ^ 16 → IsEnd text
+    → step start mark ≡ Some (placed s (Wanted field.Flags) g) → ((mark == 124) ≡ true → start ≡ at s field.Flags g)
+    → run start (flags_from fs mark rest n ++ text) ≡ run (at s field.Flags (g ++ flag_entries o fs mark rest n)) text
+through [] s start o mark rest n g text bits flags few e ready same = by (mark == 124) refl (rest == 0)
   where
-    by : (b : Bool) → run (at s field.Flags g) (cond b [] (124 ∷ decimal rest) ++ text) ≡ run (at s field.Flags (g ++ cond b [] ((field.Flags, rest) ∷ []))) text
-    by true = ap (λ (h : List Entry). run (at s field.Flags h) text) (sym (append-nil g))
-    by false = one_number s (at s field.Flags g) 124 rest g text few (at_gap (at s field.Flags g) 124 refl) e
-more_through (f ∷ fs) s o rest n g text bits flags few e =
-    by (n % 2 == 0) (more_through fs s o rest (n / 2) g text bits flags.1 few e) (more_through fs s o rest (n / 2) (g ++ (field.Flags, flag_bit o f) ∷ []) text bits flags.1 few e)
+    by : (c : Bool) → (mark == 124) ≡ c → (b : Bool) → run start (cond (c && b) [] (mark ∷ decimal rest) ++ text) ≡ run (at s field.Flags (g ++ cond (c && b) [] ((field.Flags, rest) ∷ []))) text
+    by true is true = ap (λ (t : Scan). run t text) (same is) ∙ ap (λ (h : List Entry). run (at s field.Flags h) text) (sym (append-nil g))
+    by true is false = one_number s start mark rest g text few ready e
+    by false is b = one_number s start mark rest g text few ready e
+through (f ∷ fs) s start o mark rest n g text bits flags few e ready same =
+    by (n % 2 == 0) (through fs s start o mark rest (n / 2) g text bits flags.1 few e ready same)
+    (through fs s (at s field.Flags more) o 124 rest (n / 2) more text bits flags.1 few e (at_gap (at s field.Flags more) 124 refl) (λ is. refl))
   where
-    by : (b : Bool) → run (at s field.Flags g) (flags_from fs 124 rest (n / 2) ++ text) ≡ run (at s field.Flags (g ++ flag_entries o fs 124 rest (n / 2))) text
-        → run (at s field.Flags (g ++ (field.Flags, flag_bit o f) ∷ [])) (flags_from fs 124 rest (n / 2) ++ text)
-        ≡ run (at s field.Flags ((g ++ (field.Flags, flag_bit o f) ∷ []) ++ flag_entries o fs 124 rest (n / 2))) text
-        → run (at s field.Flags g) (cond b (flags_from fs 124 rest (n / 2)) (124 ∷ flag_name f ++ flags_from fs 124 rest (n / 2)) ++ text)
-        ≡ run (at s field.Flags (g ++ cond b (flag_entries o fs 124 rest (n / 2)) ((field.Flags, flag_bit o f) ∷ flag_entries o fs 124 rest (n / 2)))) text
+    more : List Entry
+    more = g ++ (field.Flags, flag_bit o f) ∷ []
+
+    by : (b : Bool) → run start (flags_from fs mark rest (n / 2) ++ text) ≡ run (at s field.Flags (g ++ flag_entries o fs mark rest (n / 2))) text
+        → run (at s field.Flags more) (flags_from fs 124 rest (n / 2) ++ text) ≡ run (at s field.Flags (more ++ flag_entries o fs 124 rest (n / 2))) text
+        → run start (cond b (flags_from fs mark rest (n / 2)) (mark ∷ flag_name f ++ flags_from fs 124 rest (n / 2)) ++ text)
+        ≡ run (at s field.Flags (g ++ cond b (flag_entries o fs mark rest (n / 2)) ((field.Flags, flag_bit o f) ∷ flag_entries o fs 124 rest (n / 2)))) text
     by true skipped later = skipped
     by false skipped later =
-        ap (λ (t : List ℕ). run (at s field.Flags g) (124 ∷ t)) (append_assoc (flag_name f) (flags_from fs 124 rest (n / 2)) text)
-        ∙ (one_flag s (at s field.Flags g) o 124 g f (flags_from fs 124 rest (n / 2) ++ text) bits flags.0 (at_gap (at s field.Flags g) 124 refl) (more_end fs rest (n / 2) text e)
-        ∙ (later ∙ ap (λ (h : List Entry). run (at s field.Flags h) text) (append_assoc g ((field.Flags, flag_bit o f) ∷ []) (flag_entries o fs 124 rest (n / 2)))))
-
--- flags behind the field's name
-first_through : (fs : List Flag) (s : Scan) (o : Operation) (rest n : ℕ) (g : List Entry) (text : List ℕ) → SameBits s.operation o → HasFlags o fs → rest < 2 ^ 16 → IsEnd text
-    → run (placed s (Named field.Flags) g) (flags_from fs 61 rest n ++ text) ≡ run (at s field.Flags (g ++ flag_entries o fs 61 rest n)) text
-first_through [] s o rest n g text bits flags few e =
-    one_number s (placed s (Named field.Flags) g) 61 rest g text few (at_gap (placed s (Named field.Flags) g) 61 refl) e
-first_through (f ∷ fs) s o rest n g text bits flags few e =
-    by (n % 2 == 0) (first_through fs s o rest (n / 2) g text bits flags.1 few e) (more_through fs s o rest (n / 2) (g ++ (field.Flags, flag_bit o f) ∷ []) text bits flags.1 few e)
-  where
-    by : (b : Bool) → run (placed s (Named field.Flags) g) (flags_from fs 61 rest (n / 2) ++ text) ≡ run (at s field.Flags (g ++ flag_entries o fs 61 rest (n / 2))) text
-        → run (at s field.Flags (g ++ (field.Flags, flag_bit o f) ∷ [])) (flags_from fs 124 rest (n / 2) ++ text)
-        ≡ run (at s field.Flags ((g ++ (field.Flags, flag_bit o f) ∷ []) ++ flag_entries o fs 124 rest (n / 2))) text
-        → run (placed s (Named field.Flags) g) (cond b (flags_from fs 61 rest (n / 2)) (61 ∷ flag_name f ++ flags_from fs 124 rest (n / 2)) ++ text)
-        ≡ run (at s field.Flags (g ++ cond b (flag_entries o fs 61 rest (n / 2)) ((field.Flags, flag_bit o f) ∷ flag_entries o fs 124 rest (n / 2)))) text
-    by true skipped later = skipped
-    by false skipped later =
-        ap (λ (t : List ℕ). run (placed s (Named field.Flags) g) (61 ∷ t)) (append_assoc (flag_name f) (flags_from fs 124 rest (n / 2)) text)
-        ∙ (one_flag s (placed s (Named field.Flags) g) o 61 g f (flags_from fs 124 rest (n / 2) ++ text) bits flags.0 (at_gap (placed s (Named field.Flags) g) 61 refl) (more_end fs rest (n / 2) text e)
+        ap (λ (t : List ℕ). run start (mark ∷ t)) (append_assoc (flag_name f) (flags_from fs 124 rest (n / 2)) text)
+        ∙ (one_flag s start o mark g f (flags_from fs 124 rest (n / 2) ++ text) bits flags.0 ready (more_end fs rest (n / 2) text e)
         ∙ (later ∙ ap (λ (h : List Entry). run (at s field.Flags h) text) (append_assoc g ((field.Flags, flag_bit o f) ∷ []) (flag_entries o fs 124 rest (n / 2)))))
 
 unnamed_most : (o : Operation) (n : ℕ) → n < 2 ^ 16 → unnamed o n < 2 ^ 16
 unnamed_most Register n h = omega arith
-unnamed_most CreateAccounts n h = omega arith
-unnamed_most CreateTransfers n h = omega arith
-unnamed_most LookupAccounts n h = omega arith
-unnamed_most LookupTransfers n h = omega arith
+unnamed_most o n h = omega arith
 
 -- the field, and the flags
 flags_from_through : (s : Scan) (o : Operation) (n : ℕ) (text : List ℕ) → IsBetween s → may_stand s (word.Field field.Flags) ≡ true → SameBits s.operation o → n < 2 ^ 16 → IsEnd text
     → run s ((field_name field.Flags ++ flags_from (flags_of o) 61 (unnamed o n) n) ++ text) ≡ run (at s field.Flags (s.given ++ flag_entries o (flags_of o) 61 (unnamed o n) n)) text
 flags_from_through s o n text b may bits few e =
+    let named = placed s (Named field.Flags) s.given in
     let next = first_end (flags_of o) (unnamed o n) n text in
     ap (run s) (append_assoc (field_name field.Flags) (flags_from (flags_of o) 61 (unnamed o n) n) text)
     ∙ (ap (λ (t : List ℕ). run s (field_name field.Flags ++ t)) next.text_is
     ∙ (word_through s (word.Field field.Flags) next.byte next.rest b may next.ends
-    ∙ (ap (run (placed s (Named field.Flags) s.given)) (sym next.text_is)
-    ∙ first_through (flags_of o) s o (unnamed o n) n s.given text bits (has_flags o) (unnamed_most o n few) e)))
+    ∙ (ap (run named) (sym next.text_is)
+    ∙ through (flags_of o) s named o 61 (unnamed o n) n s.given text bits (has_flags o) (unnamed_most o n few) e (at_gap named 61 refl) (λ is. absurd cc))))
 
 -- the number that they make
 
@@ -189,11 +160,9 @@ HasBits o k [] = Unit {0}
 HasBits o k (f ∷ fs) = (flag_bit o f ≡ 2 ^ k) × HasBits o (k + 1) fs
 
 has_bits : (o : Operation) → HasBits o 0 (flags_of o)
-has_bits Register = tt
 has_bits CreateAccounts = (refl, (refl, (refl, (refl, (refl, (refl, tt))))))
 has_bits CreateTransfers = (refl, (refl, (refl, (refl, (refl, (refl, (refl, (refl, (refl, tt)))))))))
-has_bits LookupAccounts = tt
-has_bits LookupTransfers = tt
+has_bits o = tt
 
 -- the names of flags are what is printed flag by flag
 
@@ -254,10 +223,7 @@ IsLeft (f ∷ fs) k n rest = IsLeft fs (k + 1) (n / 2) rest
 
 is_left : (o : Operation) (n : ℕ) → IsLeft (flags_of o) 0 n (unnamed o n)
 is_left Register n = omega arith
-is_left CreateAccounts n = omega arith
-is_left CreateTransfers n = omega arith
-is_left LookupAccounts n = omega arith
-is_left LookupTransfers n = omega arith
+is_left o n = omega arith
 
 or_above : (v n k : ℕ) → v < 2 ^ k → bit_or v (n * 2 ^ k) ≡ v + n * 2 ^ k
 or_above v n k h =

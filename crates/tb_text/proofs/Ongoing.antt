@@ -5,7 +5,7 @@ use Rattle.std.specs.Prelude.{nat_lt, nat_eq, bit_or}
 use Rattle.std.specs.Option.{is_none}
 use Rattle.std.specs.List.{list_any, starts_with}
 use Rattle.std.specs.Cmp.Lexicographic.{bytes_decides}
-use Rattle.std.proofs.lemmas.Bool.{not-true}
+use Rattle.std.proofs.lemmas.Bool.{and_parts, eqb-true, not-true, or_parts}
 use Rattle.std.proofs.lemmas.Bool.Decides.{nat_tests}
 use Rattle.std.proofs.lemmas.List.{take-append-drop}
 use Rattle.std.proofs.lemmas.Option.{option_and_then_some, same_Some}
@@ -25,7 +25,6 @@ use Rattle.tb_text.specs.Entries.{Entry, is_given, value_from, value_of, account
 use Rattle.tb_text.specs.Scan.{Scan, behind, step, run, wanted, is_field, awaits_field, awaits_operation, may_stand, begins_word, entered, spelling, taken, item_count, pushed}
 use Rattle.tb_text.proofs.Tokens.{stands_spelling}
 use Rattle.tb_text.proofs.Entries.{none_or, value_append}
-use Rattle.tb_text.proofs.Facts.{and_left, and_right, or_left, or_right, equal}
 use Rattle.tb_text.proofs.Moves.{Fits, Marked, equals, bar, comma, semicolon, Gapped, blank, sharp, nought, digit, letter, marked, Numbered, Stepped, between, line_over, line_goes, word_goes, word_over, prefixed, zero_goes, zero_over, hexadecimal_begins, decimal_goes, decimal_over, hexadecimal_goes, hexadecimal_over, closed_is, mark_cases, step_cases}
 
 -- the numbers that stand before an operation
@@ -98,8 +97,8 @@ ongoing s h = record { lexeme = subst (λ (l : Lexeme). Within l s) (sym h.gap) 
 pub not_valued : (g f : Field) → field_index g ≡ field_index f → (n : ℕ) (es : List Entry) → is_given f es ≡ false → value_from n g es ≡ n
 not_valued g f same n [] h = refl
 not_valued g f same n (e ∷ es) h =
-    let other : same_field g e.0 ≡ false = ap (λ (k : ℕ). k == field_index e.0) same ∙ or_left (same_field f e.0) (is_given f es) h in
-    ap (λ (b : Bool). value_from (cond b (bit_or n e.1) n) g es) other ∙ not_valued g f same n es (or_right (same_field f e.0) (is_given f es) h)
+    let other : same_field g e.0 ≡ false = ap (λ (k : ℕ). k == field_index e.0) same ∙ (or_parts (same_field f e.0) (is_given f es) h).0 in
+    ap (λ (b : Bool). value_from (cond b (bit_or n e.1) n) g es) other ∙ not_valued g f same n es ((or_parts (same_field f e.0) (is_given f es) h).1)
 
 pub given_more : (f : Field) (es : List Entry) (e : Entry) → is_given f (es ++ e ∷ []) ≡ (is_given f es || same_field f e.0)
 given_more f [] e = by (same_field f e.0)
@@ -145,7 +144,7 @@ below_request f n h e = omega (arith, h, request_max f e)
 
 -- a client's number, and that of a request, are not 0
 not_none : (n i k : ℕ) → (n == 0 && ((i == 1) || (i == 3))) ≡ false → (k == i) ≡ true → ((k == 1) || (k == 3)) ≡ true → (n == 0) ≡ false
-not_none n i k p e one = by (n == 0) (sym (ap (λ (b : Bool). n == 0 && b) one) ∙ subst (λ (j : ℕ). (n == 0 && ((j == 1) || (j == 3))) ≡ false) (sym (equal k i e)) p)
+not_none n i k p e one = by (n == 0) (sym (ap (λ (b : Bool). n == 0 && b) one) ∙ subst (λ (j : ℕ). (n == 0 && ((j == 1) || (j == 3))) ≡ false) (sym (eqb-true k i e)) p)
   where
     by : (b : Bool) → (b && true) ≡ false → b ≡ false
     by true h = absurd cc
@@ -158,9 +157,9 @@ pub number_stands : (o : Option Operation) (f : Field) (n : ℕ) (given header :
     → Stands o (Wanted f) given header count → Stands o (Given f) (given ++ (f, n) ∷ []) header count
 number_stands None f n given header count positive most h = (
   record {
-    client = valued_more field.Client f n given h.0.client (λ e. (not_valued field.Client f (equal 1 (field_index f) e) 0 given h.1.1, not_none n (field_index f) 1 positive e refl));
-    request = valued_more field.Request f n given h.0.request (λ e. (not_valued field.Request f (equal 3 (field_index f) e) 0 given h.1.1, not_none n (field_index f) 3 positive e refl));
-    small = below_more field.Request f n (2 ^ 32) given h.0.small (λ e. (not_valued field.Request f (equal 3 (field_index f) e) 0 given h.1.1, below_request f n most e));
+    client = valued_more field.Client f n given h.0.client (λ e. (not_valued field.Client f (eqb-true 1 (field_index f) e) 0 given h.1.1, not_none n (field_index f) 1 positive e refl));
+    request = valued_more field.Request f n given h.0.request (λ e. (not_valued field.Request f (eqb-true 3 (field_index f) e) 0 given h.1.1, not_none n (field_index f) 3 positive e refl));
+    small = below_more field.Request f n (2 ^ 32) given h.0.small (λ e. (not_valued field.Request f (eqb-true 3 (field_index f) e) 0 given h.1.1, below_request f n most e));
   },
   h.1.0,
 )
@@ -219,22 +218,22 @@ pub taken_clear : (s : Scan) (w : Word) → may_stand s w ≡ true → Stands s.
 taken_clear s (word.Field f) may h = record {
   gap = refl;
   spelled = refl;
-  stands = name_stands s.operation s.place f s.given s.header (item_count s) (and_right (awaits_field s.place) (may_have s.operation f) (and_left (awaits_field s.place && may_have s.operation f) (not (is_given f s.given)) may))
-      (not-true (is_given f s.given) (and_right (awaits_field s.place && may_have s.operation f) (not (is_given f s.given)) may)) h;
+  stands = name_stands s.operation s.place f s.given s.header (item_count s) ((and_parts (awaits_field s.place) (may_have s.operation f) ((and_parts (awaits_field s.place && may_have s.operation f) (not (is_given f s.given)) may).0)).1)
+      (not-true (is_given f s.given) ((and_parts (awaits_field s.place && may_have s.operation f) (not (is_given f s.given)) may).1)) h;
 }
 taken_clear s (word.Operation o) may h =
-    let front = and_left (awaits_operation s.place && is_none s.operation) (suits o s.given) may in
-    let numbers = numbers_before s.operation s.place s.given s.header (item_count s) (and_right (awaits_operation s.place) (is_none s.operation) front) h in
+    let front = (and_parts (awaits_operation s.place && is_none s.operation) (suits o s.given) may).0 in
+    let numbers = numbers_before s.operation s.place s.given s.header (item_count s) ((and_parts (awaits_operation s.place) (is_none s.operation) front).1) h in
     record {
       gap = refl;
       spelled = refl;
-      stands = (record { suited = and_right (awaits_operation s.place && is_none s.operation) (suits o s.given) may; small = numbers.small }, lit< tt, tt);
+      stands = (record { suited = (and_parts (awaits_operation s.place && is_none s.operation) (suits o s.given) may).1; small = numbers.small }, lit< tt, tt);
     }
 taken_clear s (word.Flag f) may h = record {
   gap = refl;
   spelled = refl;
   stands = named_number_stands s.operation s.place field.Flags (bit_of s.operation (word.Flag f)) s.given s.header (item_count s)
-      (and_left (is_field field.Flags (wanted s.place)) (not (bit_of s.operation (word.Flag f) == 0)) may) no_header_flags h;
+      ((and_parts (is_field field.Flags (wanted s.place)) (not (bit_of s.operation (word.Flag f) == 0)) may).0) no_header_flags h;
 }
 taken_clear s word.AmountMax may h = record {
   gap = refl;
@@ -270,28 +269,21 @@ fresh pairs = record { gap = refl; spelled = refl; stands = (record { client = �
 has_room : (n : ℕ) → nat_lt (n + 1) 8190 ≡ true → n + 1 < 8190
 has_room n h = grind (arith, nat_tests)
 
--- an event stands behind the others
-parted_stands : (s : Scan) (o : Operation) (count : ℕ) → s.operation ≡ Some o → IsChosen o s.header → has_field o field.Id ≡ true → count < 8190 → Stands s.operation Parted [] s.header count
-parted_stands s o count e chosen id lt = subst (λ (q : Option Operation). Stands q Parted [] s.header count) (sym e) (chosen, lt, (refl, id))
-
 -- one more than before
-pub pushed_count : (s : Scan) (o : Operation) (place : Place) → has_field o field.Id ≡ true → item_count (pushed s o place) ≡ item_count s + 1
-pushed_count s Register place id = absurd cc
-pushed_count s CreateAccounts place id = omega (arith, length-append s.accounts (account_of s.given ∷ []))
-pushed_count s CreateTransfers place id = omega (arith, length-append s.transfers (transfer_of s.given ∷ []))
-pushed_count s LookupAccounts place id = omega (arith, length-append s.ids (value_of field.Id s.given ∷ []))
-pushed_count s LookupTransfers place id = omega (arith, length-append s.ids (value_of field.Id s.given ∷ []))
-
-pushed_goes : (s : Scan) (o : Operation) → s.operation ≡ Some o → IsChosen o s.header → has_field o field.Id ≡ true → item_count s + 1 < 8190 → IsOngoing (pushed s o Parted)
-pushed_goes s Register e chosen id lt = absurd cc
-pushed_goes s o e chosen id lt = record { lexeme = refl; stands = parted_stands s o _ e chosen id (omega (arith, lt, pushed_count s o Parted id)) }
+pub pushed_most : (s : Scan) (o : Operation) (place : Place) → item_count (pushed s o place) ≤ item_count s + 1
+pushed_most s Register place = omega arith
+pushed_most s CreateAccounts place = omega (arith, length-append s.accounts (account_of s.given ∷ []))
+pushed_most s CreateTransfers place = omega (arith, length-append s.transfers (transfer_of s.given ∷ []))
+pushed_most s LookupAccounts place = omega (arith, length-append s.ids (value_of field.Id s.given ∷ []))
+pushed_most s LookupTransfers place = omega (arith, length-append s.ids (value_of field.Id s.given ∷ []))
 
 marked_goes : (s : Scan) {b : ℕ} {v : Scan} → Marked s b v → Stands s.operation s.place s.given s.header (item_count s) → IsOngoing v
 marked_goes s (equals f p) h = record { lexeme = refl; stands = wanted_stands s.operation f s.given s.header (item_count s) (at_place s (Named f) p h) }
 marked_goes s (bar f p flags) h = record { lexeme = refl; stands = joined_stands s.operation f s.given s.header (item_count s) flags (at_place s (Given f) p h) }
 marked_goes s (comma o f is p room) h =
     let here = subst (λ (q : Option Operation). Stands q (Given f) s.given s.header (item_count s)) is (at_place s (Given f) p h) in
-    pushed_goes s o is here.0 here.2 (has_room (item_count s) room)
+    let few : item_count (pushed s o Parted) < 8190 = omega (arith, pushed_most s o Parted, has_room (item_count s) room) in
+    record { lexeme = refl; stands = subst (λ (q : Option Operation). Stands q Parted [] s.header (item_count (pushed s o Parted))) (sym is) (here.0, few, (refl, here.2)) }
 marked_goes s (semicolon {v} o is e) h = subst IsOngoing (closed_is s v o s.place e).1 (ongoing (behind _) (fresh _))
 
 -- BYTES

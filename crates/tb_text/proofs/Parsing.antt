@@ -1,6 +1,6 @@
 -- Tokens that the reader takes up to the end of statements are statements of the grammar.
 use Rattle.std.proofs.Common.{◌≡◌, ℕ, ◌⊎◌, inl, inr, true, not, ◌&&◌, List, [], ◌∷◌, ◌++◌, Option, Some, None, refl, sym, ap, subst, ◌∙◌, append_assoc}
-use Rattle.std.proofs.lemmas.Bool.{not-true}
+use Rattle.std.proofs.lemmas.Bool.{and_parts, not-true}
 use Rattle.std.proofs.lemmas.List.{append-nil}
 use Rattle.std.proofs.lemmas.Option.{cond_some, option_and_then_some, same_Some}
 use Rattle.tb_records.specs.declared.faults.FrameFault.{FrameFault}
@@ -19,7 +19,6 @@ use Rattle.tb_text.proofs.Lexing.{after, all_after}
 use Rattle.tb_text.proofs.Moves.{Marked, equals, bar, comma, semicolon, mark_cases}
 use Rattle.tb_text.proofs.Ongoing.{has_id}
 use Rattle.tb_text.proofs.Standing.{Context, front, event, operation_in, stand, value_after, opened_is, pushed_is, finished_is}
-use Rattle.tb_text.proofs.Facts.{and_left, and_right}
 
 -- WHAT REMAINS
 
@@ -142,8 +141,8 @@ field_says : (c : Context) (place : Place) (given : List Entry) (f : Field) (ts 
     → ValuedRest c u.pairs given (Name (word.Field f) ∷ ts)
 field_says c place given f ts u v later h k =
     let test = cond_some (awaits_field place && may_have (operation_in c) f && not (is_given f given)) (stand c (Named f) given) v h in
-    let may = and_right (awaits_field place) (may_have (operation_in c) f) (and_left (awaits_field place && may_have (operation_in c) f) (not (is_given f given)) test.0) in
-    let new = not-true (is_given f given) (and_right (awaits_field place && may_have (operation_in c) f) (not (is_given f given)) test.0) in
+    let may = (and_parts (awaits_field place) (may_have (operation_in c) f) ((and_parts (awaits_field place && may_have (operation_in c) f) (not (is_given f given)) test.0).0)).1 in
+    let new = not-true (is_given f given) ((and_parts (awaits_field place && may_have (operation_in c) f) (not (is_given f given)) test.0).1) in
     let next : NamedRest c u.pairs f given ts = follow ts u v later k (named c f given) (events_from c f may) test.1 in
     record {
       es = next.2.es;

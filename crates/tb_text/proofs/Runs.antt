@@ -11,7 +11,6 @@ use Rattle.tb_text.specs.declared.places.Refusal.TheVariants.{Memory, Unexpected
 use Rattle.tb_text.specs.Entries.{is_positive, is_word_byte}
 use Rattle.tb_text.specs.Scan.{Scan, step, run, gap, word_named, word_ended, number_ended, may_stand, taken, wanted, entered, number_left}
 use Rattle.tb_text.specs.Steps.{Steps}
-use Rattle.tb_text.proofs.Facts.{only_false}
 
 pub run_append : (s : Scan) (xs ys : List ℕ) → run s (xs ++ ys) ≡ option_and_then (λ t. run t ys) (run s xs)
 run_append s [] ys = refl
@@ -34,6 +33,10 @@ pub chained : (before mid after : Scan) (r : Result (Unit {0}) Refusal) (o : Opt
 chained before mid after (Ok done) o b e p h = ap (option_and_then (λ t. gap t b)) e ∙ h
 chained before mid after (Err Unexpected) o b e p h = (ap (option_and_then (λ t. gap t b)) e ∙ h.0, h.1 ∙ p)
 chained before mid after (Err Memory) o b e p h = tt
+
+pub only_false : {A : Type 0} (c : Bool) (x : Option A) (z : A) → cond c None x ≡ Some z → (c ≡ false) × (x ≡ Some z)
+only_false true x z h = absurd cc
+only_false false x z h = (refl, h)
 
 pub taken_pairs : (s : Scan) (w : Word) → (taken s w).pairs ≡ s.pairs
 taken_pairs s (word.Field f) = refl

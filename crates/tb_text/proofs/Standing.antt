@@ -17,7 +17,7 @@ use Rattle.tb_text.specs.declared.places.Place.{Place}
 use Rattle.tb_text.specs.declared.places.Place.TheVariants.{Wanted, Given, Opened}
 use Rattle.tb_text.specs.Words.{field_max, same_field, has_field}
 use Rattle.tb_text.specs.Entries.{Entry, value_of, account_of, transfer_of, bit_of, is_positive}
-use Rattle.tb_text.specs.Scan.{Scan, entered, opened, item_count, pushed, finished, when_lawful, request_of, closed_at, parted_at, mark}
+use Rattle.tb_text.specs.Scan.{Scan, entered, opened, with_items, item_count, pushed, finished, when_lawful, request_of, closed_at, parted_at, mark}
 use Rattle.tb_text.specs.Grammar.{Token, Name, Number, Mark, number_as, body_said, said}
 use Rattle.tb_text.proofs.Entries.{only_flags}
 use Rattle.tb_text.proofs.Lexing.{after}
@@ -134,28 +134,18 @@ value_after c f given (Mark b) = no_mark c f given b
 
 pub opened_is : (pairs : List (ℕ × Message)) (place : Place) (given : List Entry) (o : Operation) → opened (stand (front pairs) place given) o ≡ stand (event pairs given o []) Opened []
 opened_is pairs place given Register = refl
-opened_is pairs place given CreateAccounts = refl
-opened_is pairs place given CreateTransfers = refl
-opened_is pairs place given LookupAccounts = refl
-opened_is pairs place given LookupTransfers = refl
-
-abbrev with_accounts : Scan → List Account → Scan
-with_accounts s accounts = record { pairs = s.pairs; lexeme = s.lexeme; spelled = s.spelled; place = s.place; operation = s.operation; header = s.header; given = s.given; accounts = accounts; transfers = s.transfers; ids = s.ids }
-
-abbrev with_transfers : Scan → List Transfer → Scan
-with_transfers s transfers = record { pairs = s.pairs; lexeme = s.lexeme; spelled = s.spelled; place = s.place; operation = s.operation; header = s.header; given = s.given; accounts = s.accounts; transfers = transfers; ids = s.ids }
-
-abbrev with_ids : Scan → List ℕ → Scan
-with_ids s ids = record { pairs = s.pairs; lexeme = s.lexeme; spelled = s.spelled; place = s.place; operation = s.operation; header = s.header; given = s.given; accounts = s.accounts; transfers = s.transfers; ids = ids }
+opened_is pairs place given o = refl
 
 -- an event stands behind those that are done
 pub pushed_is : (pairs : List (ℕ × Message)) (header : List Entry) (o : Operation) (done : List (List Entry)) (f : Field) (given : List Entry) (place : Place) → has_field o field.Id ≡ true
     → pushed (stand (event pairs header o done) (Given f) given) o place ≡ stand (event pairs header o (done ++ given ∷ [])) place []
 pushed_is pairs header Register done f given place h = absurd cc
-pushed_is pairs header CreateAccounts done f given place h = ap (with_accounts (stand (event pairs header CreateAccounts []) place [])) (sym (map-append account_of done (given ∷ [])))
-pushed_is pairs header CreateTransfers done f given place h = ap (with_transfers (stand (event pairs header CreateTransfers []) place [])) (sym (map-append transfer_of done (given ∷ [])))
-pushed_is pairs header LookupAccounts done f given place h = ap (with_ids (stand (event pairs header LookupAccounts []) place [])) (sym (map-append (value_of field.Id) done (given ∷ [])))
-pushed_is pairs header LookupTransfers done f given place h = ap (with_ids (stand (event pairs header LookupTransfers []) place [])) (sym (map-append (value_of field.Id) done (given ∷ [])))
+pushed_is pairs header CreateAccounts done f given place h =
+    ap (λ (xs : List Account). with_items (stand (event pairs header CreateAccounts []) place []) xs [] []) (sym (map-append account_of done (given ∷ [])))
+pushed_is pairs header CreateTransfers done f given place h =
+    ap (λ (xs : List Transfer). with_items (stand (event pairs header CreateTransfers []) place []) [] xs []) (sym (map-append transfer_of done (given ∷ [])))
+pushed_is pairs header o done f given place h =
+    ap (with_items (stand (event pairs header o []) place []) [] []) (sym (map-append (value_of field.Id) done (given ∷ [])))
 
 -- as many as there are
 pub counted : (pairs : List (ℕ × Message)) (header : List Entry) (o : Operation) (done : List (List Entry)) (place : Place) (given : List Entry) → has_field o field.Id ≡ true
@@ -163,23 +153,18 @@ pub counted : (pairs : List (ℕ × Message)) (header : List Entry) (o : Operati
 counted pairs header Register done place given h = absurd cc
 counted pairs header CreateAccounts done place given h = omega (arith, length-map done account_of)
 counted pairs header CreateTransfers done place given h = omega (arith, length-map done transfer_of)
-counted pairs header LookupAccounts done place given h = omega (arith, length-map done (value_of field.Id))
-counted pairs header LookupTransfers done place given h = omega (arith, length-map done (value_of field.Id))
+counted pairs header o done place given h = omega (arith, length-map done (value_of field.Id))
 
 pub body_counted : (o : Operation) (events : List (List Entry)) → has_field o field.Id ≡ true → body_count (body_said o events) ≡ length events
 body_counted Register events h = absurd cc
 body_counted CreateAccounts events h = length-map events account_of
 body_counted CreateTransfers events h = length-map events transfer_of
-body_counted LookupAccounts events h = length-map events (value_of field.Id)
-body_counted LookupTransfers events h = length-map events (value_of field.Id)
+body_counted o events h = length-map events (value_of field.Id)
 
 request_is : (pairs : List (ℕ × Message)) (header : List Entry) (o : Operation) (events : List (List Entry)) (place : Place) (given : List Entry)
     → request_of (stand (event pairs header o events) place given) o ≡ (said header o events).1
 request_is pairs header Register events place given = refl
-request_is pairs header CreateAccounts events place given = refl
-request_is pairs header CreateTransfers events place given = refl
-request_is pairs header LookupAccounts events place given = refl
-request_is pairs header LookupTransfers events place given = refl
+request_is pairs header o events place given = refl
 
 -- what `;` makes of events
 pub finished_is : (pairs : List (ℕ × Message)) (header : List Entry) (o : Operation) (events : List (List Entry)) (place : Place) (given : List Entry)

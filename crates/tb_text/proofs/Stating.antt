@@ -20,7 +20,7 @@ use Rattle.tb_text.proofs.Ongoing.{has_id}
 use Rattle.tb_text.proofs.Statements.{few}
 use Rattle.tb_text.proofs.Standing.{Context, front, event, operation_in, stand, value_after, opened_is, pushed_is, counted, body_counted, finished_is}
 use Rattle.tb_text.proofs.Suiting.{header_small, header_suits}
-use Rattle.tb_text.proofs.Facts.{and_both, if_true}
+use Rattle.std.proofs.lemmas.Bool.{and_from, cond-true}
 
 values_taken : (c : Context) (f : Field) {given es : List Entry} {ts rest : List Token} → Values (operation_in c) f given ts es rest
     → all_after (stand c (Wanted f) given) ts ≡ all_after (stand c (Given f) es) rest
@@ -31,14 +31,14 @@ values_taken c f (more_values {t} {n} {given} {es} {ts} {rest} is flags more) =
     one_after (stand c (Wanted f) given) (stand c (Given f) (given ++ (f, n) ∷ [])) t (Mark 124 ∷ ts)
     (value_after c f given t ∙ ap (option_and_then (λ m. Some (stand c (Given f) (given ++ (f, m) ∷ [])))) is)
     ∙ (one_after (stand c (Given f) (given ++ (f, n) ∷ [])) (stand c (Wanted f) (given ++ (f, n) ∷ [])) (Mark 124) ts
-    (if_true (same_field field.Flags f) (Some (stand c (Wanted f) (given ++ (f, n) ∷ []))) None flags)
+    (cond-true (same_field field.Flags f) (Some (stand c (Wanted f) (given ++ (f, n) ∷ []))) None flags)
     ∙ values_taken c f more)
 
 field_taken : (c : Context) (place : Place) (given : List Entry) (f : Field) → awaits_field place ≡ true → may_have (operation_in c) f ≡ true → is_given f given ≡ false
     → after (stand c place given) (Name (word.Field f)) ≡ Some (stand c (Named f) given)
 field_taken c place given f awaits may new =
-    if_true (awaits_field place && may_have (operation_in c) f && not (is_given f given)) (Some (stand c (Named f) given)) None
-    (and_both (awaits_field place && may_have (operation_in c) f) (not (is_given f given)) (and_both (awaits_field place) (may_have (operation_in c) f) awaits may) (ap not new))
+    cond-true (awaits_field place && may_have (operation_in c) f && not (is_given f given)) (Some (stand c (Named f) given)) None
+    (and_from (awaits_field place && may_have (operation_in c) f) (not (is_given f given)) (and_from (awaits_field place) (may_have (operation_in c) f) awaits may) (ap not new))
 
 -- behind entries the reader stands behind a number that was given
 record Taken (c : Context) (from : Scan) (ts : List Token) (es : List Entry) (rest : List Token) : Type 0 where
@@ -79,8 +79,8 @@ header_taken pairs e (more_entries {given} {es} {all} {ts} {mid} {rest} first mo
 operation_taken : (pairs : List (ℕ × Message)) (place : Place) (header : List Entry) (o : Operation) → awaits_operation place ≡ true → suits o header ≡ true
     → after (stand (front pairs) place header) (Name (word.Operation o)) ≡ Some (stand (event pairs header o []) Opened [])
 operation_taken pairs place header o awaits suited =
-    if_true (awaits_operation place && true && suits o header) (Some (opened (stand (front pairs) place header) o)) None
-    (and_both (awaits_operation place && true) (suits o header) (and_both (awaits_operation place) true awaits refl) suited)
+    cond-true (awaits_operation place && true && suits o header) (Some (opened (stand (front pairs) place header) o)) None
+    (and_from (awaits_operation place && true) (suits o header) (and_from (awaits_operation place) true awaits refl) suited)
     ∙ ap (λ (s : Scan). Some s) (opened_is pairs place header o)
 
 -- EVENTS
@@ -118,7 +118,7 @@ event_taken c place awaits first entries =
 comma_taken : (pairs : List (ℕ × Message)) (header : List Entry) (o : Operation) (done events : List (List Entry)) (f : Field) (es : List Entry) → has_field o field.Id ≡ true → length (done ++ es ∷ []) + 1 ≤ length events → length events ≤ 8190
     → after (stand (event pairs header o done) (Given f) es) (Mark 44) ≡ Some (stand (event pairs header o (done ++ es ∷ [])) Parted [])
 comma_taken pairs header o done events f es has more most =
-    if_true (nat_lt (item_count (stand (event pairs header o done) (Given f) es) + 1) 8190) (Some (pushed (stand (event pairs header o done) (Given f) es) o Parted)) None
+    cond-true (nat_lt (item_count (stand (event pairs header o done) (Given f) es) + 1) 8190) (Some (pushed (stand (event pairs header o done) (Given f) es) o Parted)) None
     (room (item_count (stand (event pairs header o done) (Given f) es)) (length done) (length events) (counted pairs header o done (Given f) es has) (omega (arith, more, length-append done (es ∷ []))) most)
     ∙ ap (λ (s : Scan). Some s) (pushed_is pairs header o done f es Parted has)
 

@@ -12,69 +12,47 @@ use Rattle.tb_text.specs.Entries.{Entry, is_given, value_of, is_positive, suits}
 use Rattle.tb_text.specs.Grammar.{Token, Name, Number, Mark, number_as, Values, one_value, more_values, Valued, valued, Entries, no_entry, more_entries, said}
 use Rattle.tb_text.proofs.Entries.{none_or, value_append, only_flags}
 use Rattle.tb_text.proofs.Items.{low, low_32}
-use Rattle.tb_text.proofs.Ongoing.{not_valued}
+use Rattle.tb_text.proofs.Ongoing.{not_valued, below_more, below_request, no_header_flags}
 use Rattle.tb_text.proofs.Statements.{numbers_of, both_not, not_both}
 use Rattle.std.proofs.lemmas.Option.{cond_some}
 use Rattle.tb_text.proofs.Standing.{only_amount, same_back}
-use Rattle.tb_text.proofs.Facts.{and_left, and_right, and_both, equal, at_most}
+use Rattle.std.proofs.lemmas.Bool.{and_from, and_parts, eqb-true, leb-true}
 
 -- the numbers of a session and of a request have room
 pub record IsSmall (given : List Entry) : Type 0 where
   pub session : value_of field.Session given < 2 ^ 64
   pub request : value_of field.Request given < 2 ^ 32
 
-below_more : (g f : Field) (n most : ℕ) (given : List Entry) → value_of g given < most → (same_field g f ≡ true → (value_of g given ≡ 0) × (n < most)) → value_of g (given ++ (f, n) ∷ []) < most
-below_more g f n most given before new = subst (λ (m : ℕ). m < most) (sym (value_append g 0 given ((f, n) ∷ []))) (by (same_field g f) new)
-  where
-    by : (b : Bool) → (b ≡ true → (value_of g given ≡ 0) × (n < most)) → cond b (bit_or (value_of g given) n) (value_of g given) < most
-    by true fresh = subst (λ (m : ℕ). m < most) (sym (ap (λ (m : ℕ). bit_or m n) (fresh refl).0 ∙ none_or n)) (fresh refl).1
-    by false fresh = before
-
 session_max : (f : Field) → same_field field.Session f ≡ true → field_max f ≡ 2 ^ 64 - 1
 session_max field.Session h = refl
 session_max f h = absurd cc
 
-request_max : (f : Field) → same_field field.Request f ≡ true → field_max f ≡ 2 ^ 32 - 1
-request_max field.Request h = refl
-request_max f h = absurd cc
-
-below_64 : (n m : ℕ) → n ≤ m → m ≡ 2 ^ 64 - 1 → n < 2 ^ 64
-below_64 n m h e = omega (arith, h, e)
-
-below_32 : (n m : ℕ) → n ≤ m → m ≡ 2 ^ 32 - 1 → n < 2 ^ 32
-below_32 n m h e = omega (arith, h, e)
+below_session : (f : Field) (n : ℕ) → n ≤ field_max f → same_field field.Session f ≡ true → n < 2 ^ 64
+below_session f n h e = omega (arith, h, session_max f e)
 
 -- before an operation a value fits its field
 fits : (f : Field) (t : Token) (n : ℕ) → number_as None f t ≡ Some n → n ≤ field_max f
 fits f (Number m) n h =
     let test = cond_some (nat_le m (field_max f) && not (m == 0 && is_positive f)) m n h in
-    subst (λ (k : ℕ). k ≤ field_max f) test.1 (at_most m (field_max f) (and_left (nat_le m (field_max f)) (not (m == 0 && is_positive f)) test.0))
-fits f (Name (word.Field g)) n h = absurd cc
-fits f (Name (word.Operation o)) n h = absurd cc
-fits f (Name (word.Flag g)) n h = absurd (never (and_right (same_field field.Flags f) false (cond_some (same_field field.Flags f && false) 0 n h).0))
+    subst (λ (k : ℕ). k ≤ field_max f) test.1 (leb-true m (field_max f) ((and_parts (nat_le m (field_max f)) (not (m == 0 && is_positive f)) test.0).0))
+fits f (Name (word.Flag g)) n h = absurd (never ((and_parts (same_field field.Flags f) false (cond_some (same_field field.Flags f && false) 0 n h).0).1))
   where
     never : false ≡ true → ⊥
     never e = absurd cc
 fits f (Name word.AmountMax) n h =
     let test = cond_some (same_field field.Amount f) (2 ^ 128 - 1) n h in
     subst (λ (g : Field). n ≤ field_max g) (only_amount f test.0) (subst (λ (k : ℕ). k ≤ 2 ^ 128 - 1) test.1 (lit≤ tt))
-fits f (Mark b) n h = absurd cc
+fits f t n h = absurd cc
 
 small_more : (f : Field) (n : ℕ) (given : List Entry) → is_given f given ≡ false → n ≤ field_max f → IsSmall given → IsSmall (given ++ (f, n) ∷ [])
 small_more f n given new le h = record {
-  session = below_more field.Session f n (2 ^ 64) given h.session (λ e. (not_valued field.Session f (equal 2 (field_index f) e) 0 given new, below_64 n (field_max f) le (session_max f e)));
-  request = below_more field.Request f n (2 ^ 32) given h.request (λ e. (not_valued field.Request f (equal 3 (field_index f) e) 0 given new, below_32 n (field_max f) le (request_max f e)));
+  session = below_more field.Session f n (2 ^ 64) given h.session (λ e. (not_valued field.Session f (eqb-true 2 (field_index f) e) 0 given new, below_session f n le e));
+  request = below_more field.Request f n (2 ^ 32) given h.request (λ e. (not_valued field.Request f (eqb-true 3 (field_index f) e) 0 given new, below_request f n le e));
 }
-
-no_flags : (f : Field) → is_header_field f ≡ true → same_field field.Flags f ≡ true → ⊥
-no_flags f h e = never (sym (ap is_header_field (only_flags f (same_back field.Flags f e))) ∙ h)
-  where
-    never : false ≡ true → ⊥
-    never k = absurd cc
 
 values_small : (f : Field) {given es : List Entry} {ts rest : List Token} → Values None f given ts es rest → is_header_field f ≡ true → is_given f given ≡ false → IsSmall given → IsSmall es
 values_small f (one_value {t} {n} {given} {rest} is) header new h = small_more f n given new (fits f t n is) h
-values_small f (more_values {t} {n} {given} {es} {ts} {rest} is flags more) header new h = absurd (no_flags f header flags)
+values_small f (more_values {t} {n} {given} {es} {ts} {rest} is flags more) header new h = absurd (no_header_flags f header flags)
 
 valued_small : {given es : List Entry} {ts rest : List Token} → Valued None given ts es rest → IsSmall given → IsSmall es
 valued_small (valued {f} {es} {ts} {rest} may new values) h = values_small f values may new h
@@ -94,7 +72,7 @@ no_zero n h = by (n == 0) refl
     never e = absurd cc
 
     by : (c : Bool) → (n == 0) ≡ c → c ≡ false
-    by true is = absurd (never (sym (ap (λ (m : ℕ). m % 2 ^ 32 == 0) (equal n 0 is)) ∙ h))
+    by true is = absurd (never (sym (ap (λ (m : ℕ). m % 2 ^ 32 == 0) (eqb-true n 0 is)) ∙ h))
     by false is = refl
 
 numbered : (header : List Entry) → (value_of field.Client header == 0) ≡ false → (value_of field.Request header % 2 ^ 32 == 0) ≡ false
@@ -106,12 +84,9 @@ header_suits header Register events small h =
     let n = numbers_of (said header Register events).1 h in
     let both = not_both (value_of field.Session header % 2 ^ 64 == 0) (value_of field.Request header % 2 ^ 32 == 0) n.register in
     let session : (value_of field.Session header == 0) ≡ true =
-    ap (λ (m : ℕ). m == 0) (sym (low (value_of field.Session header) small.session)) ∙ and_left (value_of field.Session header % 2 ^ 64 == 0) (value_of field.Request header % 2 ^ 32 == 0) both in
+    ap (λ (m : ℕ). m == 0) (sym (low (value_of field.Session header) small.session)) ∙ (and_parts (value_of field.Session header % 2 ^ 64 == 0) (value_of field.Request header % 2 ^ 32 == 0) both).0 in
     let request : (value_of field.Request header == 0) ≡ true =
-    ap (λ (m : ℕ). m == 0) (sym (low_32 (value_of field.Request header) small.request)) ∙ and_right (value_of field.Session header % 2 ^ 64 == 0) (value_of field.Request header % 2 ^ 32 == 0) both in
-    and_both (not (value_of field.Client header == 0) && value_of field.Session header == 0) (value_of field.Request header == 0)
-    (and_both (not (value_of field.Client header == 0)) (value_of field.Session header == 0) (ap not n.client) session) request
-header_suits header CreateAccounts events small h = let n = numbers_of (said header CreateAccounts events).1 h in numbered header n.client n.numbered
-header_suits header CreateTransfers events small h = let n = numbers_of (said header CreateTransfers events).1 h in numbered header n.client n.numbered
-header_suits header LookupAccounts events small h = let n = numbers_of (said header LookupAccounts events).1 h in numbered header n.client n.numbered
-header_suits header LookupTransfers events small h = let n = numbers_of (said header LookupTransfers events).1 h in numbered header n.client n.numbered
+    ap (λ (m : ℕ). m == 0) (sym (low_32 (value_of field.Request header) small.request)) ∙ (and_parts (value_of field.Session header % 2 ^ 64 == 0) (value_of field.Request header % 2 ^ 32 == 0) both).1 in
+    and_from (not (value_of field.Client header == 0) && value_of field.Session header == 0) (value_of field.Request header == 0)
+    (and_from (not (value_of field.Client header == 0)) (value_of field.Session header == 0) (ap not n.client) session) request
+header_suits header o events small h = let n = numbers_of (said header o events).1 h in numbered header n.client n.numbered

@@ -5,16 +5,17 @@ use Rattle.std.specs.Option.{option_and_then}
 use Rattle.std.specs.List.{starts_with}
 use Rattle.std.specs.Cmp.Lexicographic.{bytes_decides}
 use Rattle.std.proofs.lemmas.Bool.Decides.{nat_tests}
-use Rattle.std.proofs.lemmas.List.{take_at}
+use Rattle.std.proofs.lemmas.List.{append-nil, take_at}
 use Rattle.std.proofs.lemmas.List.Folds.{list_any_at}
 use Rattle.tb_text.specs.declared.words.Word.{Word}
 use Rattle.tb_text.specs.declared.words.Word.TheVariants as word
+use Rattle.tb_text.specs.declared.places.Lexeme.{Lexeme}
 use Rattle.tb_text.specs.declared.places.Lexeme.TheVariants.{Gap}
 use Rattle.tb_text.specs.Words.{word_text, all_words}
 use Rattle.tb_text.specs.Entries.{is_space, is_digit, is_word_byte}
-use Rattle.tb_text.specs.Scan.{Scan, step, run, gap, may_stand, taken, spelling, word_named, word_grown, begins_word}
+use Rattle.tb_text.specs.Scan.{Scan, step, step_at, run, gap, may_stand, taken, spelling, word_named, word_grown, begins_word}
 use Rattle.tb_text.proofs.EachWord.{is_letter, all_word_bytes, begins_with_letter, known}
-use Rattle.tb_text.proofs.Facts.{if_false, if_true, and_both, and_left, and_right}
+use Rattle.std.proofs.lemmas.Bool.{and_from, and_parts}
 
 -- between words, numbers and marks
 pub record IsBetween (s : Scan) : Type 0 where
@@ -38,6 +39,10 @@ pub at_gap : (s : Scan) (b : ℕ) → s.lexeme ≡ Gap → step s b ≡ gap s b
 unfolding step
 at_gap s b h = rw h refl
 
+pub step_is : (s : Scan) (b : ℕ) (l : Lexeme) → s.lexeme ≡ l → step s b ≡ step_at s b l
+unfolding step
+step_is s b l e = ap (step_at s b) e
+
 pub space : (s : Scan) (bs : List ℕ) → s.lexeme ≡ Gap → run s (32 ∷ bs) ≡ run s bs
 space s bs h = one_step s s 32 bs (at_gap s 32 h)
 
@@ -53,25 +58,19 @@ begins_so : (s : Scan) (w : Word) (p q : List ℕ) → p ++ q ≡ word_text w �
 begins_so s w p q e h =
     list_any_at (λ v. may_stand s v && starts_with nat_eq (word_text v) p) all_words (known w).place word.AmountMax (known w).below
     (subst (λ (v : Word). (may_stand s v && starts_with nat_eq (word_text v) p) ≡ true) (sym (known w).stands)
-    (and_both (may_stand s w) (starts_with nat_eq (word_text w) p) h (subst (λ (t : List ℕ). starts_with nat_eq t p ≡ true) e (begins p q))))
+    (and_from (may_stand s w) (starts_with nat_eq (word_text w) p) h (subst (λ (t : List ℕ). starts_with nat_eq t p ≡ true) e (begins p q))))
 
 pub stands_spelling : (s : Scan) (p : List ℕ) (w : Word) → may_stand (spelling s p) w ≡ may_stand s w
 stands_spelling s p (word.Field f) = refl
-stands_spelling s p (word.Operation o) = refl
-stands_spelling s p (word.Flag f) = refl
-stands_spelling s p word.AmountMax = refl
+stands_spelling s p w = refl
 
 taken_spelling : (s : Scan) (p : List ℕ) (w : Word) → taken (spelling s p) w ≡ taken s w
 taken_spelling s p (word.Field f) = refl
-taken_spelling s p (word.Operation o) = refl
-taken_spelling s p (word.Flag f) = refl
-taken_spelling s p word.AmountMax = refl
+taken_spelling s p w = refl
 
 pub taken_between : (s : Scan) (w : Word) → IsBetween (taken s w)
 taken_between s (word.Field f) = record { lexeme = refl; spelled = refl }
-taken_between s (word.Operation o) = record { lexeme = refl; spelled = refl }
-taken_between s (word.Flag f) = record { lexeme = refl; spelled = refl }
-taken_between s word.AmountMax = record { lexeme = refl; spelled = refl }
+taken_between s w = record { lexeme = refl; spelled = refl }
 
 -- behind a word that is named so
 abbrev left_at : Scan → List ℕ → ℕ → Option Word → Option Scan
@@ -97,14 +96,10 @@ word_longer s w p q b e h y =
 pub word_on : (s : Scan) (w : Word) (p q : List ℕ) (d : ℕ) (rest : List ℕ) → p ++ q ≡ word_text w → may_stand s w ≡ true → all_word_bytes q ≡ true → is_word_byte d ≡ false
     → run (spelling s p) (q ++ d ∷ rest) ≡ run (taken s w) (d ∷ rest)
 word_on s w p [] d rest e h a n =
-    same_step (spelling s p) (taken s w) d rest (word_whole s w p d (sym (append_end p) ∙ e) h n ∙ sym (at_gap (taken s w) d (taken_between s w).lexeme))
-  where
-    append_end : (xs : List ℕ) → xs ++ [] ≡ xs
-    append_end [] = refl
-    append_end (x ∷ xs) = ap (λ (ys : List ℕ). x ∷ ys) (append_end xs)
+    same_step (spelling s p) (taken s w) d rest (word_whole s w p d (sym (append-nil p) ∙ e) h n ∙ sym (at_gap (taken s w) d (taken_between s w).lexeme))
 word_on s w p (b ∷ q) d rest e h a n =
-    one_step (spelling s p) (spelling s (p ++ b ∷ [])) b (q ++ d ∷ rest) (word_longer s w p q b e h (and_left (is_word_byte b) (all_word_bytes q) a))
-    ∙ word_on s w (p ++ b ∷ []) q d rest (append_assoc p (b ∷ []) q ∙ e) h (and_right (is_word_byte b) (all_word_bytes q) a) n
+    one_step (spelling s p) (spelling s (p ++ b ∷ [])) b (q ++ d ∷ rest) (word_longer s w p q b e h ((and_parts (is_word_byte b) (all_word_bytes q) a).0))
+    ∙ word_on s w (p ++ b ∷ []) q d rest (append_assoc p (b ∷ []) q ∙ e) h ((and_parts (is_word_byte b) (all_word_bytes q) a).1) n
 
 no_space : (b : ℕ) → is_letter b ≡ true → is_space b ≡ false
 no_space b h = grind (arith, nat_tests)
@@ -122,9 +117,7 @@ a_word_byte : (b : ℕ) → is_letter b ≡ true → is_word_byte b ≡ true
 a_word_byte b h = rw h refl
 
 pub gap_letter : (s : Scan) (b : ℕ) → is_letter b ≡ true → gap s b ≡ word_grown s (s.spelled ++ b ∷ [])
-gap_letter s b h =
-    if_false (is_space b) _ _ (no_space b h) ∙ (if_false (b == 35) _ _ (no_comment b h) ∙ (if_false (b == 48) _ _ (no_zero b h)
-    ∙ (if_false (is_digit b) _ _ (no_digit b h) ∙ if_true (is_word_byte b) _ _ (a_word_byte b h))))
+gap_letter s b h = rw (no_space b h, no_comment b h, no_zero b h, a_word_byte b h, no_digit b h) refl
 
 pub word_through : (s : Scan) (w : Word) (d : ℕ) (rest : List ℕ) → IsBetween s → may_stand s w ≡ true → is_word_byte d ≡ false → run s (word_text w ++ d ∷ rest) ≡ run (taken s w) (d ∷ rest)
 word_through s w d rest between h n = from (word_text w) refl (known w).letter (known w).bytes
@@ -135,4 +128,4 @@ word_through s w d rest between h n = from (word_text w) refl (known w).letter (
         let one : begins_word s (b ∷ []) ≡ true = begins_so s w (b ∷ []) q e h in
         let first : step s b ≡ Some (spelling s (b ∷ [])) =
         at_gap s b between.lexeme ∙ (gap_letter s b l ∙ (ap (λ (p : List ℕ). word_grown s (p ++ b ∷ [])) between.spelled ∙ ap (λ (c : Bool). cond c (Some (spelling s (b ∷ []))) None) one)) in
-        one_step s (spelling s (b ∷ [])) b (q ++ d ∷ rest) first ∙ word_on s w (b ∷ []) q d rest e h (and_right (is_word_byte b) (all_word_bytes q) a) n
+        one_step s (spelling s (b ∷ [])) b (q ++ d ∷ rest) first ∙ word_on s w (b ∷ []) q d rest e h ((and_parts (is_word_byte b) (all_word_bytes q) a).1) n

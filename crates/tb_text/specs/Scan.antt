@@ -170,21 +170,21 @@ with_items s accounts transfers ids = record {
 }
 
 -- the account, the transfer or the id that was given stands behind the others
-abbrev pub with_account : Scan → Scan
-with_account s = with_items s (s.accounts ++ account_of s.given ∷ []) s.transfers s.ids
+abbrev pub accounts_with : Scan → Operation → List Account
+accounts_with s CreateAccounts = s.accounts ++ account_of s.given ∷ []
+accounts_with s o = s.accounts
 
-abbrev pub with_transfer : Scan → Scan
-with_transfer s = with_items s s.accounts (s.transfers ++ transfer_of s.given ∷ []) s.ids
+abbrev pub transfers_with : Scan → Operation → List Transfer
+transfers_with s CreateTransfers = s.transfers ++ transfer_of s.given ∷ []
+transfers_with s o = s.transfers
 
-abbrev pub with_id : Scan → Scan
-with_id s = with_items s s.accounts s.transfers (s.ids ++ value_of field.Id s.given ∷ [])
+abbrev pub ids_with : Scan → Operation → List ℕ
+ids_with s LookupAccounts = s.ids ++ value_of field.Id s.given ∷ []
+ids_with s LookupTransfers = s.ids ++ value_of field.Id s.given ∷ []
+ids_with s o = s.ids
 
--- the event, or the id, that was given stands behind the others
 abbrev pub pushed : Scan → Operation → Place → Scan
-pushed s Register place = moved s place
-pushed s CreateAccounts place = moved (with_account s) place
-pushed s CreateTransfers place = moved (with_transfer s) place
-pushed s o place = moved (with_id s) place
+pushed s o place = moved (with_items s (accounts_with s o) (transfers_with s o) (ids_with s o)) place
 
 abbrev pub body_of : Scan → Operation → Body
 body_of s Register = body.Register

@@ -68,28 +68,18 @@ field_index Timestamp = 21
 
 -- the greatest number that a field has room for
 abbrev pub field_max : Field → ℕ
-field_max At = 2 ^ 64 - 1
-field_max Client = 2 ^ 128 - 1
-field_max Session = 2 ^ 64 - 1
+field_max Code = 2 ^ 16 - 1
+field_max Flags = 2 ^ 16 - 1
 field_max Request = 2 ^ 32 - 1
-field_max Id = 2 ^ 128 - 1
-field_max DebitsPending = 2 ^ 128 - 1
-field_max DebitsPosted = 2 ^ 128 - 1
-field_max CreditsPending = 2 ^ 128 - 1
-field_max CreditsPosted = 2 ^ 128 - 1
-field_max DebitAccountId = 2 ^ 128 - 1
-field_max CreditAccountId = 2 ^ 128 - 1
-field_max Amount = 2 ^ 128 - 1
-field_max PendingId = 2 ^ 128 - 1
-field_max UserData128 = 2 ^ 128 - 1
-field_max UserData64 = 2 ^ 64 - 1
 field_max UserData32 = 2 ^ 32 - 1
 field_max Reserved = 2 ^ 32 - 1
 field_max Timeout = 2 ^ 32 - 1
 field_max Ledger = 2 ^ 32 - 1
-field_max Code = 2 ^ 16 - 1
-field_max Flags = 2 ^ 16 - 1
+field_max At = 2 ^ 64 - 1
+field_max Session = 2 ^ 64 - 1
+field_max UserData64 = 2 ^ 64 - 1
 field_max Timestamp = 2 ^ 64 - 1
+field_max f = 2 ^ 128 - 1
 
 abbrev pub same_field : Field → Field → Bool
 same_field f g = field_index f == field_index g

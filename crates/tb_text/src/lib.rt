@@ -3,6 +3,8 @@
 //! Modules, each over those before it:
 //!
 //! - `words`: fields and flags by name, and which of them each operation has; operations are those of tb_records.
+//! - `lexemes`: the bytes of words and numbers, and the word that is named so.
+//! - `given`: the fields that were given, and the account or transfer that they make.
 //! - `places`: where a reader stands: in a word or number, and among the parts of a statement.
 //! - `scanner`: the reader, a byte at a time.
 //! - `reading`: `read_text`, a text as requests, or its fault's place, line and column.
@@ -20,6 +22,8 @@
 #![tactic(auto)]
 
 mod awaited;
+mod given;
+mod lexemes;
 mod messages;
 mod nearest;
 mod places;
@@ -30,9 +34,9 @@ pub mod text_laws;
 mod words;
 
 pub use awaited::{Awaited, awaited_behind};
+pub use lexemes::{digit, word_named};
 pub use messages::{explain_fault, word_around};
 pub use places::{Lexeme, Place, Refusal};
 pub use printing::{print_request, print_requests};
 pub use reading::{Reading, TextFault, position, read_text};
-pub use scanner::{digit, word_named};
 pub use words::{Field, Flag, Word, flags, has_field};

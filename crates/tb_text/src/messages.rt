@@ -4,9 +4,9 @@ ghost use Rattle.std.specs.Prelude.{◌≡◌, ◌≤◌, length};
 ghost use Rattle.tb_text.specs.Positions.{is_of_word, ending_word, leading_word};
 
 use crate::awaited::{Awaited, awaited_behind};
+use crate::lexemes::word_named;
 use crate::nearest::nearest_word;
 use crate::reading::{TextFault, position};
-use crate::scanner::word_named;
 use crate::words::{Field, Word};
 use std::alloc::{AllocError, Global};
 use tb_records::Operation;
@@ -21,13 +21,7 @@ const SHOWN_BEFORE: usize = 60;
 fn is_of_word(byte: u8) -> bool
     ensures { result ≡ is_of_word byte }
 {
-    b'!' <= byte
-        && byte != b','
-        && byte != b';'
-        && byte != b'='
-        && byte != b'|'
-        && byte != b'#'
-        && byte != 127
+    b'!' <= byte && !matches!(byte, b',' | b';' | b'=' | b'|' | b'#' | 127)
 }
 
 /// The length of the word that the bytes end with.
@@ -93,12 +87,9 @@ fn ending_line(bytes: &[u8]) -> &[u8] {
 
 /// The bytes of the line that the bytes begin with.
 fn leading_line(bytes: &[u8]) -> &[u8] {
-    for (place, byte) in bytes.iter().enumerate() {
-        if *byte == b'\n' || *byte == b'\r' {
-            return around(bytes, place).0;
-        }
-    }
-    bytes
+    let is_end = |byte: &u8| matches!(*byte, b'\n' | b'\r');
+    let length = bytes.iter().position(is_end).unwrap_or(bytes.len());
+    around(bytes, length).0
 }
 
 /// Appends text.
@@ -128,14 +119,11 @@ fn put_number(alloc: Global, out: &mut Vec<u8>, number: usize) -> Result<(), All
 
 /// Says that a field could stand next.
 fn awaits(awaited: &Awaited, wanted: Field) -> bool {
-    for word in awaited.words.as_slice() {
-        if let Word::Field(field) = word {
-            if field.index() == wanted.index() {
-                return true;
-            }
-        }
-    }
-    false
+    let is_wanted = |word: &Word| match word {
+        Word::Field(field) => field.index() == wanted.index(),
+        _ => false,
+    };
+    awaited.words.iter().any(is_wanted)
 }
 
 /// Says that bytes are digits, or `0x` and digits.
@@ -144,22 +132,12 @@ fn is_number(text: &[u8]) -> bool {
         [b'0', b'x', rest @ ..] => rest,
         _ => text,
     };
-    for byte in digits {
-        if !matches!(*byte, b'0'..=b'9' | b'a'..=b'f' | b'A'..=b'F') {
-            return false;
-        }
-    }
-    !digits.is_empty()
+    !digits.is_empty() && digits.iter().all(|byte| byte.is_ascii_hexdigit())
 }
 
 /// Says that bytes have no digit but 0.
 fn is_zero(text: &[u8]) -> bool {
-    for byte in text {
-        if !matches!(*byte, b'0' | b'x') {
-            return false;
-        }
-    }
-    true
+    text.iter().all(|byte| matches!(*byte, b'0' | b'x'))
 }
 
 /// Appends what stands at a place where no word does.
@@ -168,8 +146,7 @@ fn put_byte(alloc: Global, out: &mut Vec<u8>, next: Option<u8>) -> Result<(), Al
         None => put(out, "the text ends within a statement"),
         Some(b' ') => put(out, "found a space"),
         Some(b'\t') => put(out, "found a tab"),
-        Some(b'\n') => put(out, "found the end of the line"),
-        Some(b'\r') => put(out, "found the end of the line"),
+        Some(b'\n' | b'\r') => put(out, "found the end of the line"),
         Some(byte) if b'!' <= byte && byte <= b'~' => put_word(out, "found ", &[byte], ""),
         Some(byte) => {
             put(out, "found the byte ")?;
@@ -233,8 +210,7 @@ fn begins_statement(word: Word) -> bool {
     match word {
         Word::Field(field) => field.is_header(),
         Word::Operation(_) => true,
-        Word::Flag(_) => false,
-        Word::AmountMax => false,
+        Word::Flag(_) | Word::AmountMax => false,
     }
 }
 
@@ -260,8 +236,7 @@ fn put_shown(out: &mut Vec<u8>, bytes: &[u8]) -> Result<(), AllocError> {
     for byte in bytes {
         let shown = match *byte {
             b'\t' => b'\t',
-            0..=31 => b'?',
-            127 => b'?',
+            0..=31 | 127 => b'?',
             byte => byte,
         };
         out.push(shown)?;
@@ -346,17 +321,12 @@ fn names(alloc: Global, awaited: &Awaited) -> Result<Vec<&'static str>, AllocErr
 /// Appends names, the last one behind an `or`.
 fn put_names(out: &mut Vec<u8>, names: &[&'static str]) -> Result<(), AllocError> {
     for (place, name) in names.iter().enumerate() {
-        if place != 0 {
-            put(
-                out,
-                if place == names.len() - 1 {
-                    " or "
-                } else {
-                    ", "
-                },
-            )?;
-        }
-        put(out, name)?;
+        let mark = match place {
+            0 => "",
+            _ if place == names.len() - 1 => " or ",
+            _ => ", ",
+        };
+        put_parts(out, &[mark.as_bytes(), name.as_bytes()])?;
     }
     Ok(())
 }

@@ -1,5 +1,6 @@
 //! Where a reader of statements stands: within a word or number, and among the parts of a statement.
 use crate::words::Field;
+use std::alloc::AllocFailed;
 
 /// What the byte before the next one belongs to.
 #[derive(Clone, Copy, Debug, PartialEq, Eq)]
@@ -44,4 +45,15 @@ pub enum Refusal {
     Unexpected,
     /// There is no memory.
     Memory,
+}
+
+impl<T: Drop> From<AllocFailed<T>> for Refusal {
+    ghost use Rattle.std.specs.Prelude.{◌≡◌};
+    ghost use Rattle.tb_text.specs.declared.places.Refusal.TheVariants.{Memory};
+
+    ghost from_gives = { λ _ refusal. refusal ≡ Memory };
+
+    fn from(_: AllocFailed<T>) -> Refusal {
+        Refusal::Memory
+    }
 }

@@ -24,13 +24,12 @@ fn put_number(alloc: Global, out: &mut Vec<u8>, n: u128) -> Result<(), AllocErro
 fn unnamed(operation: Operation, number: u128) -> u128
     ensures { result ≡ unnamed operation number }
 {
-    match operation {
-        Operation::CreateAccounts => number / 64 * 64,
-        Operation::CreateTransfers => number / 512 * 512,
-        Operation::Register => number,
-        Operation::LookupAccounts => number,
-        Operation::LookupTransfers => number,
-    }
+    let named = match operation {
+        Operation::CreateAccounts => 64,
+        Operation::CreateTransfers => 512,
+        _ => 1,
+    };
+    number / named * named
 }
 
 /// Appends a mark and the name of a flag.
@@ -57,7 +56,7 @@ fn put_flags(
             put_flag(out, mark, *flag)?;
             mark = b'|';
         }
-        bits = bits / 2;
+        bits /= 2;
     }
     let rest = unnamed(operation, number);
     if mark == b'|' && rest == 0 {

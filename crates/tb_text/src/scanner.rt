@@ -1,15 +1,19 @@
 //! A reader of statements, byte by byte.
 ghost use Rattle.std.specs.Option.{option_and_then};
-ghost use Rattle.std.specs.Prelude.{nat_lt, ◌≡◌, ◌++◌, ◌∷◌, ◌+◌, ◌*◌, ◌%◌, ◌^◌, ◌<◌, ◌-◌, [], ℕ, Bool, Some, None, IfOk, OnOk, IfSome};
-ghost use Rattle.tb_text.specs.Entries.{Entry, is_space, is_digit, is_word_byte, digit_of, is_given, value_from, value_of, account_of, transfer_of, is_positive, suits, may_have, bit_of};
+ghost use Rattle.std.specs.Prelude.{nat_lt, ◌≡◌, ◌++◌, ◌∷◌, ◌+◌, [], Some, IfOk};
 ghost use Rattle.tb_text.specs.Scan.{Scan, behind};
-ghost use Rattle.tb_text.specs.Scan.{awaits_field, awaits_operation, wanted, with_account, with_transfer, with_id, body_of, is_field, may_stand, word_named, begins_word, entered, moved, within, spelling, opened, taken};
-ghost use Rattle.tb_text.specs.Scan.{word_ended, number_ended, item_count, pushed, request_of, finished, closed_at, parted_at, valued_at, joined_at, mark, word_grown, appended, decimal_grown, hexadecimal_grown, zero_begun, zero_left, gap, word_left, number_left, step, is_at_rest, hexadecimal_at};
+ghost use Rattle.tb_text.specs.Scan.{awaits_field, awaits_operation, wanted, with_items, body_of, is_field, may_stand, begins_word, entered, moved, within, opened, taken};
+ghost use Rattle.tb_text.specs.Scan.{word_ended, number_ended, item_count, pushed, finished, closed_at, parted_at, valued_at, joined_at, mark, word_grown, next_number, decimal_grown, hexadecimal_grown, zero_begun, zero_left, gap, word_left, number_left, step, is_at_rest};
 ghost use Rattle.tb_text.specs.Awaited.{has_operation};
 ghost use Rattle.tb_text.specs.Steps.{Steps, Scans};
 
+use crate::given::{
+    account_of, bit_of, is_given, is_positive, low_32, low_64, may_have, suits, transfer_of,
+    value_of,
+};
+use crate::lexemes::{appended, digit, is_digit, is_space, is_word_byte, word_named};
 use crate::places::{Lexeme, Place, Refusal};
-use crate::words::{Field, Flag, Word, has_field, words};
+use crate::words::{Field, Word, words};
 use std::alloc::{AllocError, Global};
 use std::marker::Model;
 use std::mem;
@@ -51,180 +55,22 @@ impl Model for Scanner {
         } };
 }
 
-/// Says that a byte is space.
-fn is_space(byte: u8) -> bool
-    ensures { result ≡ is_space byte }
-{
-    byte == b' ' || byte == b'\n' || byte == b'\t' || byte == b'\r'
-}
-
-/// Says that a byte is a decimal digit.
-fn is_digit(byte: u8) -> bool
-    ensures { result ≡ is_digit byte }
-{
-    b'0' <= byte && byte <= b'9'
-}
-
-/// Says that a byte belongs to words and numbers: a lower letter, a digit or `_`.
-pub(crate) fn is_word_byte(byte: u8) -> bool
-    ensures { result ≡ is_word_byte byte }
-{
-    (b'a' <= byte && byte <= b'z') || is_digit(byte) || byte == b'_'
-}
-
-/// The value of a digit to the base 16.
-pub fn digit(byte: u8) -> Option<u128>
-    ensures value { result ≡ digit_of byte }
-    ensures small { IfSome result (λ d. d < 16) }
-{
-    if is_digit(byte) {
-        Some((byte - b'0') as u128)
-    } else if b'a' <= byte && byte <= b'f' {
-        Some((byte - 87) as u128)
-    } else if b'A' <= byte && byte <= b'F' {
-        Some((byte - 55) as u128)
-    } else {
-        None
-    }
-}
-
-/// A number with one digit more, where it is not above the greatest.
-fn appended(most: u128, base: u128, n: u128, digit: u128) -> Option<u128>
-    ensures { result ≡ appended most base n digit }
-{
-    let n = n.checked_mul(base)?.checked_add(digit)?;
-    if n <= most { Some(n) } else { None }
-}
-
-/// Says that a field has been given.
-fn is_given(field: Field, given: &[(Field, u128)]) -> bool
-    ensures { result ≡ is_given field given.now }
-{
-    for (other, _) in given {
-        if field.index() == other.index() {
-            return true;
-        }
-    }
-    false
-}
-
-/// The number of a field, 0 where it is left out; flags that were named one by one are joined.
-fn value_of(field: Field, given: &[(Field, u128)]) -> u128
-    ensures { result ≡ value_of field given.now }
-{
-    let mut n = 0;
-    for (other, value) in given {
-        if field.index() == other.index() {
-            n |= *value;
-        }
-    }
-    n
-}
-
-/// The lowest 64 bits.
-fn low_64(n: u128) -> u64
-    ensures { result ≡ n % 2 ^ 64 }
-{
-    (n % 0x1_0000_0000_0000_0000) as u64
-}
-
-/// The lowest 32 bits.
-fn low_32(n: u128) -> u32
-    ensures { result ≡ n % 2 ^ 32 }
-{
-    (n % 0x1_0000_0000) as u32
-}
-
-/// The lowest 16 bits.
-fn low_16(n: u128) -> u16
-    ensures { result ≡ n % 2 ^ 16 }
-{
-    (n % 0x1_0000) as u16
-}
-
-/// The account of the fields that were given.
-#[tactic(auto, unfolding(crate::specs::Entries::account_of))]
-fn account_of(given: &[(Field, u128)]) -> Account
-    ensures { result ≡ account_of given.now }
-{
-    Account {
-        id: value_of(Field::Id, given),
-        debits_pending: value_of(Field::DebitsPending, given),
-        debits_posted: value_of(Field::DebitsPosted, given),
-        credits_pending: value_of(Field::CreditsPending, given),
-        credits_posted: value_of(Field::CreditsPosted, given),
-        user_data_128: value_of(Field::UserData128, given),
-        user_data_64: low_64(value_of(Field::UserData64, given)),
-        user_data_32: low_32(value_of(Field::UserData32, given)),
-        reserved: low_32(value_of(Field::Reserved, given)),
-        ledger: low_32(value_of(Field::Ledger, given)),
-        code: low_16(value_of(Field::Code, given)),
-        flags: low_16(value_of(Field::Flags, given)),
-        timestamp: low_64(value_of(Field::Timestamp, given)),
-    }
-}
-
-/// The transfer of the fields that were given.
-#[tactic(auto, unfolding(crate::specs::Entries::transfer_of))]
-fn transfer_of(given: &[(Field, u128)]) -> Transfer
-    ensures { result ≡ transfer_of given.now }
-{
-    Transfer {
-        id: value_of(Field::Id, given),
-        debit_account_id: value_of(Field::DebitAccountId, given),
-        credit_account_id: value_of(Field::CreditAccountId, given),
-        amount: value_of(Field::Amount, given),
-        pending_id: value_of(Field::PendingId, given),
-        user_data_128: value_of(Field::UserData128, given),
-        user_data_64: low_64(value_of(Field::UserData64, given)),
-        user_data_32: low_32(value_of(Field::UserData32, given)),
-        timeout: low_32(value_of(Field::Timeout, given)),
-        ledger: low_32(value_of(Field::Ledger, given)),
-        code: low_16(value_of(Field::Code, given)),
-        flags: low_16(value_of(Field::Flags, given)),
-        timestamp: low_64(value_of(Field::Timestamp, given)),
-    }
-}
-
-/// The word that is written so.
-pub fn word_named(text: &[u8]) -> Option<Word>
-    ensures { result ≡ word_named text.now }
-{
-    for word in words() {
-        if word.text().as_bytes() == text {
-            return Some(*word);
-        }
-    }
-    None
-}
-
 impl Place {
     /// Says that a field may stand next.
     fn awaits_field(self) -> bool
         ensures { result ≡ awaits_field self }
     {
-        match self {
-            Place::Head => true,
-            Place::Opened => true,
-            Place::Parted => true,
-            Place::Given(_) => true,
-            Place::Named(_) => false,
-            Place::Wanted(_) => false,
-        }
+        matches!(
+            self,
+            Place::Head | Place::Opened | Place::Parted | Place::Given(_)
+        )
     }
 
     /// Says that an operation may stand next.
     fn awaits_operation(self) -> bool
         ensures { result ≡ awaits_operation self }
     {
-        match self {
-            Place::Head => true,
-            Place::Given(_) => true,
-            Place::Opened => false,
-            Place::Parted => false,
-            Place::Named(_) => false,
-            Place::Wanted(_) => false,
-        }
+        matches!(self, Place::Head | Place::Given(_))
     }
 
     /// The field whose number is to stand next.
@@ -235,42 +81,6 @@ impl Place {
             Place::Wanted(field) => Some(field),
             _ => None,
         }
-    }
-}
-
-/// Says that a field may stand before the operation, or among the fields of an operation's events.
-fn may_have(operation: Option<Operation>, field: Field) -> bool
-    ensures { result ≡ may_have operation field }
-{
-    match operation {
-        Some(operation) => has_field(operation, field),
-        None => field.is_header(),
-    }
-}
-
-/// Says that the numbers before an operation are those of a request.
-fn suits(operation: Operation, given: &[(Field, u128)]) -> bool
-    ensures { result ≡ suits operation given.now }
-{
-    let client = value_of(Field::Client, given);
-    let session = value_of(Field::Session, given);
-    let request = value_of(Field::Request, given);
-    match operation {
-        Operation::Register => client != 0 && session == 0 && request == 0,
-        Operation::CreateAccounts => client != 0 && request != 0,
-        Operation::CreateTransfers => client != 0 && request != 0,
-        Operation::LookupAccounts => client != 0 && request != 0,
-        Operation::LookupTransfers => client != 0 && request != 0,
-    }
-}
-
-/// The bit of a flag in the events of an operation, 0 where they do not have it.
-fn bit_of(operation: Option<Operation>, flag: Flag) -> u128
-    ensures { result ≡ bit_of operation (Word.Flag flag) }
-{
-    match operation {
-        Some(operation) => flag.bit(operation),
-        None => 0,
     }
 }
 
@@ -340,11 +150,19 @@ impl Scanner {
     fn enter(&mut self, field: Field, number: u128) -> Result<(), Refusal>
         ensures { Steps self.old result (Some (entered self.old field number)) self.new }
     {
-        if self.given.push((field, number)).is_err() {
-            return Err(Refusal::Memory);
-        }
+        self.given.push((field, number))?;
         self.go(Place::Given(field));
         Ok(())
+    }
+
+    /// Forgets the event that was given, and those before it.
+    fn clear(&mut self)
+        ensures { self.new ≡ with_items self.old [] [] [] }
+    {
+        self.given.clear();
+        self.accounts.clear();
+        self.transfers.clear();
+        self.ids.clear();
     }
 
     /// Begins the events of an operation.
@@ -353,9 +171,7 @@ impl Scanner {
     {
         self.header = mem::replace(&mut self.given, Vec::new(self.alloc));
         self.operation = Some(operation);
-        self.accounts.clear();
-        self.transfers.clear();
-        self.ids.clear();
+        self.clear();
         self.go(Place::Opened);
     }
 
@@ -376,15 +192,11 @@ impl Scanner {
     fn end_word(&mut self) -> Result<(), Refusal>
         ensures { Steps self.old result (word_ended self.old) self.new }
     {
-        match word_named(self.spelled.as_slice()) {
-            Some(word) => {
-                if self.may_stand(word) {
-                    self.take(word)
-                } else {
-                    Err(Refusal::Unexpected)
-                }
-            }
-            None => Err(Refusal::Unexpected),
+        let word = word_named(self.spelled.as_slice()).ok_or(Refusal::Unexpected)?;
+        if self.may_stand(word) {
+            self.take(word)
+        } else {
+            Err(Refusal::Unexpected)
         }
     }
 
@@ -392,24 +204,19 @@ impl Scanner {
     fn end_number(&mut self, number: u128) -> Result<(), Refusal>
         ensures { Steps self.old result (number_ended self.old number) self.new }
     {
-        match self.place.wanted() {
-            Some(field) => {
-                if number == 0 && is_positive(field) {
-                    Err(Refusal::Unexpected)
-                } else {
-                    self.enter(field, number)
-                }
-            }
-            None => Err(Refusal::Unexpected),
+        let field = self.place.wanted().ok_or(Refusal::Unexpected)?;
+        if number == 0 && is_positive(field) {
+            return Err(Refusal::Unexpected);
         }
+        self.enter(field, number)
     }
 }
 
-/// Says that the number of a field is not 0 where it stands: a client and a request's number.
-fn is_positive(field: Field) -> bool
-    ensures { result ≡ is_positive field }
+/// Takes the elements out of a vector.
+fn take_items<T: Drop>(items: &mut Vec<T>, alloc: Global) -> Items<T>
+    ensures { result ≡ items.old.items }
 {
-    field.index() == Field::Client.index() || field.index() == Field::Request.index()
+    Items::new(mem::replace(items, Vec::new(alloc)))
 }
 
 impl Scanner {
@@ -417,44 +224,17 @@ impl Scanner {
     fn push(&mut self, operation: Operation, place: Place) -> Result<(), Refusal>
         ensures { Steps self.old result (Some (pushed self.old operation place)) self.new }
     {
-        let pushed = match operation {
-            Operation::Register => Ok(()),
-            Operation::CreateAccounts => self.push_account(),
-            Operation::CreateTransfers => self.push_transfer(),
-            Operation::LookupAccounts => self.push_id(),
-            Operation::LookupTransfers => self.push_id(),
-        };
-        if pushed.is_err() {
-            return Err(Refusal::Memory);
+        let given = self.given.as_slice();
+        match operation {
+            Operation::Register => {}
+            Operation::CreateAccounts => self.accounts.push(account_of(given))?,
+            Operation::CreateTransfers => self.transfers.push(transfer_of(given))?,
+            Operation::LookupAccounts | Operation::LookupTransfers => {
+                self.ids.push(value_of(Field::Id, given))?
+            }
         }
+        self.given.clear();
         self.go(place);
-        Ok(())
-    }
-
-    /// Puts the account that was given behind the others.
-    fn push_account(&mut self) -> Result<(), AllocError>
-        ensures { OnOk result (self.new ≡ with_account self.old) }
-    {
-        self.accounts.push(account_of(self.given.as_slice()))?;
-        self.given.clear();
-        Ok(())
-    }
-
-    /// Puts the transfer that was given behind the others.
-    fn push_transfer(&mut self) -> Result<(), AllocError>
-        ensures { OnOk result (self.new ≡ with_transfer self.old) }
-    {
-        self.transfers.push(transfer_of(self.given.as_slice()))?;
-        self.given.clear();
-        Ok(())
-    }
-
-    /// Puts the id that was given behind the others.
-    fn push_id(&mut self) -> Result<(), AllocError>
-        ensures { OnOk result (self.new ≡ with_id self.old) }
-    {
-        self.ids.push(value_of(Field::Id, self.given.as_slice()))?;
-        self.given.clear();
         Ok(())
     }
 
@@ -464,24 +244,17 @@ impl Scanner {
         ensures pairs { self.new.pairs ≡ self.old.pairs }
         ensures header { self.new.header ≡ self.old.header }
     {
+        let alloc = self.alloc;
         match operation {
             Operation::Register => Body::Register,
-            Operation::CreateAccounts => Body::CreateAccounts(Items::new(mem::replace(
-                &mut self.accounts,
-                Vec::new(self.alloc),
-            ))),
-            Operation::CreateTransfers => Body::CreateTransfers(Items::new(mem::replace(
-                &mut self.transfers,
-                Vec::new(self.alloc),
-            ))),
-            Operation::LookupAccounts => Body::LookupAccounts(Items::new(mem::replace(
-                &mut self.ids,
-                Vec::new(self.alloc),
-            ))),
-            Operation::LookupTransfers => Body::LookupTransfers(Items::new(mem::replace(
-                &mut self.ids,
-                Vec::new(self.alloc),
-            ))),
+            Operation::CreateAccounts => {
+                Body::CreateAccounts(take_items(&mut self.accounts, alloc))
+            }
+            Operation::CreateTransfers => {
+                Body::CreateTransfers(take_items(&mut self.transfers, alloc))
+            }
+            Operation::LookupAccounts => Body::LookupAccounts(take_items(&mut self.ids, alloc)),
+            Operation::LookupTransfers => Body::LookupTransfers(take_items(&mut self.ids, alloc)),
         }
     }
 
@@ -491,10 +264,7 @@ impl Scanner {
     {
         self.operation = None;
         self.header.clear();
-        self.given.clear();
-        self.accounts.clear();
-        self.transfers.clear();
-        self.ids.clear();
+        self.clear();
         self.go(Place::Head);
     }
 
@@ -508,16 +278,12 @@ impl Scanner {
         let session = low_64(value_of(Field::Session, header));
         let number = low_32(value_of(Field::Request, header));
         let body = self.take_body(operation);
-        match Request::new(client, session, number, body) {
-            Ok(request) => {
-                if self.pairs.push((at, request)).is_err() {
-                    return Err(Refusal::Memory);
-                }
-                self.renew();
-                Ok(())
-            }
-            Err(_) => Err(Refusal::Unexpected),
-        }
+        let Ok(request) = Request::new(client, session, number, body) else {
+            return Err(Refusal::Unexpected);
+        };
+        self.pairs.push((at, request))?;
+        self.renew();
+        Ok(())
     }
 
     /// Takes a `;`.
@@ -528,10 +294,10 @@ impl Scanner {
     {
         match (self.operation, self.place) {
             (Some(operation), Place::Opened) => self.finish(operation),
-            (Some(operation), Place::Given(_)) => match self.push(operation, Place::Opened) {
-                Ok(()) => self.finish(operation),
-                Err(_) => Err(Refusal::Memory),
-            },
+            (Some(operation), Place::Given(_)) => {
+                self.push(operation, Place::Opened)?;
+                self.finish(operation)
+            }
             _ => Err(Refusal::Unexpected),
         }
     }
@@ -604,9 +370,7 @@ impl Scanner {
     fn grow_word(&mut self, byte: u8) -> Result<(), Refusal>
         ensures { Steps self.old result (word_grown self.old (self.old.spelled ++ byte ∷ [])) self.new }
     {
-        if self.spelled.push(byte).is_err() {
-            return Err(Refusal::Memory);
-        }
+        self.spelled.push(byte)?;
         if !self.begins_word(self.spelled.as_slice()) {
             return Err(Refusal::Unexpected);
         }
@@ -614,36 +378,33 @@ impl Scanner {
         Ok(())
     }
 
+    /// A number that may stand next, with one digit more.
+    fn next_number(&self, base: u128, number: u128, digit: u128) -> Option<u128>
+        ensures { result ≡ next_number self.now base number digit }
+    {
+        appended(self.place.wanted()?.max(), base, number, digit)
+    }
+
     /// Goes on with a decimal number that has one digit more.
     fn grow_decimal(&mut self, number: u128, digit: u128) -> Result<(), Refusal>
         ensures { Steps self.old result (decimal_grown self.old number digit) self.new }
     {
-        let Some(field) = self.place.wanted() else {
-            return Err(Refusal::Unexpected);
-        };
-        match appended(field.max(), 10, number, digit) {
-            Some(number) => {
-                self.begin(Lexeme::Decimal(number));
-                Ok(())
-            }
-            None => Err(Refusal::Unexpected),
-        }
+        let number = self
+            .next_number(10, number, digit)
+            .ok_or(Refusal::Unexpected)?;
+        self.begin(Lexeme::Decimal(number));
+        Ok(())
     }
 
     /// Goes on with a number behind `0x` that has one digit more.
     fn grow_hexadecimal(&mut self, number: u128, digit: u128) -> Result<(), Refusal>
         ensures { Steps self.old result (hexadecimal_grown self.old number digit) self.new }
     {
-        let Some(field) = self.place.wanted() else {
-            return Err(Refusal::Unexpected);
-        };
-        match appended(field.max(), 16, number, digit) {
-            Some(number) => {
-                self.begin(Lexeme::Hexadecimal(number));
-                Ok(())
-            }
-            None => Err(Refusal::Unexpected),
-        }
+        let number = self
+            .next_number(16, number, digit)
+            .ok_or(Refusal::Unexpected)?;
+        self.begin(Lexeme::Hexadecimal(number));
+        Ok(())
     }
 
     /// Begins a number with a 0.
@@ -741,10 +502,10 @@ impl Scanner {
                 }
             }
             Lexeme::Zero => self.after_zero(byte),
-            Lexeme::Prefix => match digit(byte) {
-                Some(digit) => self.grow_hexadecimal(0, digit),
-                None => Err(Refusal::Unexpected),
-            },
+            Lexeme::Prefix => {
+                let digit = digit(byte).ok_or(Refusal::Unexpected)?;
+                self.grow_hexadecimal(0, digit)
+            }
             Lexeme::Decimal(number) => {
                 if is_digit(byte) {
                     self.grow_decimal(number, (byte - b'0') as u128)

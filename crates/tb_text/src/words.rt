@@ -199,28 +199,13 @@ impl Field {
         ensures { result ≡ field_max self }
     {
         match self {
-            Field::At => 0xffff_ffff_ffff_ffff,
-            Field::Client => u128::MAX,
-            Field::Session => 0xffff_ffff_ffff_ffff,
-            Field::Request => 0xffff_ffff,
-            Field::Id => u128::MAX,
-            Field::DebitsPending => u128::MAX,
-            Field::DebitsPosted => u128::MAX,
-            Field::CreditsPending => u128::MAX,
-            Field::CreditsPosted => u128::MAX,
-            Field::DebitAccountId => u128::MAX,
-            Field::CreditAccountId => u128::MAX,
-            Field::Amount => u128::MAX,
-            Field::PendingId => u128::MAX,
-            Field::UserData128 => u128::MAX,
-            Field::UserData64 => 0xffff_ffff_ffff_ffff,
-            Field::UserData32 => 0xffff_ffff,
-            Field::Reserved => 0xffff_ffff,
-            Field::Timeout => 0xffff_ffff,
-            Field::Ledger => 0xffff_ffff,
-            Field::Code => 0xffff,
-            Field::Flags => 0xffff,
-            Field::Timestamp => 0xffff_ffff_ffff_ffff,
+            Field::Code | Field::Flags => 0xffff,
+            Field::Request | Field::UserData32 | Field::Reserved | Field::Timeout | Field::Ledger =>
+                0xffff_ffff,
+            Field::At | Field::Session | Field::UserData64 | Field::Timestamp => {
+                0xffff_ffff_ffff_ffff
+            }
+            _ => u128::MAX,
         }
     }
 
@@ -286,9 +271,7 @@ pub fn flags(operation: Operation) -> &'static [Flag]
     match operation {
         Operation::CreateAccounts => &ACCOUNT_FLAGS,
         Operation::CreateTransfers => &TRANSFER_FLAGS,
-        Operation::Register => &[],
-        Operation::LookupAccounts => &[],
-        Operation::LookupTransfers => &[],
+        _ => &[],
     }
 }
 
@@ -300,8 +283,7 @@ pub fn has_field(operation: Operation, field: Field) -> bool
         Operation::Register => false,
         Operation::CreateAccounts => field.is_of_accounts(),
         Operation::CreateTransfers => field.is_of_transfers(),
-        Operation::LookupAccounts => field.index() == 4,
-        Operation::LookupTransfers => field.index() == 4,
+        Operation::LookupAccounts | Operation::LookupTransfers => field.index() == 4,
     }
 }
 
@@ -318,13 +300,7 @@ impl Flag {
             Flag::History => Some(AccountFlag::History),
             Flag::Imported => Some(AccountFlag::Imported),
             Flag::Closed => Some(AccountFlag::Closed),
-            Flag::Pending
-            | Flag::PostPendingTransfer
-            | Flag::VoidPendingTransfer
-            | Flag::BalancingDebit
-            | Flag::BalancingCredit
-            | Flag::ClosingDebit
-            | Flag::ClosingCredit => None,
+            _ => None,
         }
     }
 
@@ -343,10 +319,7 @@ impl Flag {
             Flag::BalancingCredit => Some(TransferFlag::BalancingCredit),
             Flag::ClosingDebit => Some(TransferFlag::ClosingDebit),
             Flag::ClosingCredit => Some(TransferFlag::ClosingCredit),
-            Flag::DebitsMustNotExceedCredits
-            | Flag::CreditsMustNotExceedDebits
-            | Flag::History
-            | Flag::Closed => None,
+            _ => None,
         }
     }
 
@@ -365,20 +338,14 @@ impl Flag {
     fn account_bit(self) -> u128
         ensures { result ≡ account_bit self }
     {
-        match self.account_flag() {
-            Some(flag) => flag.bit() as u128,
-            None => 0,
-        }
+        self.account_flag().map_or(0, |flag| flag.bit() as u128)
     }
 
     /// The flag's bit in a transfer, 0 where transfers do not have it.
     fn transfer_bit(self) -> u128
         ensures { result ≡ transfer_bit self }
     {
-        match self.transfer_flag() {
-            Some(flag) => flag.bit() as u128,
-            None => 0,
-        }
+        self.transfer_flag().map_or(0, |flag| flag.bit() as u128)
     }
 
     /// The flag's bit in the events of an operation, 0 where they do not have it.
@@ -388,9 +355,7 @@ impl Flag {
         match operation {
             Operation::CreateAccounts => self.account_bit(),
             Operation::CreateTransfers => self.transfer_bit(),
-            Operation::Register => 0,
-            Operation::LookupAccounts => 0,
-            Operation::LookupTransfers => 0,
+            _ => 0,
         }
     }
 }
