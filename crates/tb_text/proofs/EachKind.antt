@@ -22,7 +22,7 @@ use Rattle.tb_text.proofs.Entries.{told, InOrder, all_at, entries_through, none_
 use Rattle.tb_text.proofs.Orders.{small_128, accounts_in_order, transfers_in_order}
 use Rattle.tb_text.proofs.Items.{mid, IsKind, account_back, transfer_back}
 use Rattle.std.proofs.lemmas.List.{append-nil}
-use Rattle.std.proofs.lemmas.Bool.{cond-true}
+use Rattle.std.proofs.lemmas.Bool.{and_right, cond-true, lt-ltb}
 
 -- an id and further fields, behind a mark or an operation
 event_through : (q : Operation) (s : Scan) (id : ℕ) (es : List Entry) (tail : List ℕ) → IsEnd tail → IsBetween s → SameBits s.operation q → awaits_field s.place ≡ true → s.given ≡ [] → may_have s.operation field.Id ≡ true → id < 2 ^ 128
@@ -31,19 +31,9 @@ event_through q s id es tail e b bits a n m fits o =
     let small = small_128 id fits in
     let all = all_at q es s field.Id (s.given ++ (field.Id, id) ∷ []) in (
       all.0,
-      entries_through q (field.Id, id) es s tail e b bits a n m small.most small.short (positive id) o
+      entries_through q (field.Id, id) es s tail e b bits a n m small.most small.short (and_right (id == 0) false refl) o
           ∙ (ap (λ (t : Scan). run t tail) all.1 ∙ ap (λ (g : List Entry). run (at s all.0 ((g ++ (field.Id, id) ∷ []) ++ told q es)) tail) n),
     )
-  where
-    positive : (k : ℕ) → (k == 0 && false) ≡ false
-    positive k = by (k == 0)
-      where
-        by : (c : Bool) → (c && false) ≡ false
-        by true = refl
-        by false = refl
-
-room : (n : ℕ) → n + 1 < 8190 → nat_lt (n + 1) 8190 ≡ true
-room n h = grind (arith, nat_tests)
 
 -- a statement of accounts, so far
 abbrev pub accounts_state : List (ℕ × Message) → List Entry → List Account → Place → Scan
@@ -62,7 +52,7 @@ accounts_kind pairs header = record {
         at s through.0 g,
         through.1,
         record {
-          parts = λ few. at_gap (at s through.0 g) 44 refl ∙ (cond-true (nat_lt (length xs + 0 + 0 + 1) 8190) _ _ (room (length xs + 0 + 0) (omega arith)) ∙ ap (λ (y : Account). Some (accounts_state pairs header (xs ++ y ∷ []) Parted)) (account_back x h));
+          parts = λ few. at_gap (at s through.0 g) 44 refl ∙ (cond-true (nat_lt (length xs + 0 + 0 + 1) 8190) _ _ (lt-ltb (length xs + 0 + 0 + 1) 8190 (omega arith)) ∙ ap (λ (y : Account). Some (accounts_state pairs header (xs ++ y ∷ []) Parted)) (account_back x h));
           ends = at_gap (at s through.0 g) 59 refl ∙ ap (λ (y : Account). accounts_ended pairs header (xs ++ y ∷ [])) (account_back x h);
         },
       );
@@ -87,7 +77,7 @@ transfers_kind pairs header = record {
         at s through.0 g,
         through.1,
         record {
-          parts = λ few. at_gap (at s through.0 g) 44 refl ∙ (cond-true (nat_lt (0 + length xs + 0 + 1) 8190) _ _ (room (0 + length xs + 0) (omega arith)) ∙ ap (λ (y : Transfer). Some (transfers_state pairs header (xs ++ y ∷ []) Parted)) (transfer_back x h));
+          parts = λ few. at_gap (at s through.0 g) 44 refl ∙ (cond-true (nat_lt (0 + length xs + 0 + 1) 8190) _ _ (lt-ltb (0 + length xs + 0 + 1) 8190 (omega arith)) ∙ ap (λ (y : Transfer). Some (transfers_state pairs header (xs ++ y ∷ []) Parted)) (transfer_back x h));
           ends = at_gap (at s through.0 g) 59 refl ∙ ap (λ (y : Transfer). transfers_ended pairs header (xs ++ y ∷ [])) (transfer_back x h);
         },
       );
@@ -116,7 +106,7 @@ sought_kind o bits has puts pairs header = record {
         at_id,
         ap (λ (t : List ℕ). run s (t ++ tail)) (sym (append-nil (entry_text Register (field.Id, x)))) ∙ through.1,
         record {
-          parts = λ few. at_gap at_id 44 refl ∙ (cond-true (nat_lt (0 + 0 + length xs + 1) 8190) _ _ (room (0 + 0 + length xs) (omega arith)) ∙ ap (λ (t : Scan). Some t) (behind Parted));
+          parts = λ few. at_gap at_id 44 refl ∙ (cond-true (nat_lt (0 + 0 + length xs + 1) 8190) _ _ (lt-ltb (0 + 0 + length xs + 1) 8190 (omega arith)) ∙ ap (λ (t : Scan). Some t) (behind Parted));
           ends = at_gap at_id 59 refl ∙ ap (λ (t : Scan). finished t o) (behind Opened);
         },
       );

@@ -2,7 +2,7 @@
 use Rattle.std.proofs.Common.{◌≡◌, ℕ, ◌%◌, ◌^◌, ◌<◌, ◌≤◌, Bool, true, false, cond, not, ◌&&◌, ◌==◌, List, [], ◌∷◌, ◌++◌, Option, Some, None, refl, sym, ap, subst, ◌∙◌, append_assoc, arith, lit<, lit≤}
 use Rattle.std.specs.Prelude.{nat_lt}
 use Rattle.std.specs.Option.{option_and_then, is_none}
-use Rattle.std.proofs.lemmas.Bool.{and_from, and_parts, eqb-true, not-true, or_left, or_right}
+use Rattle.std.proofs.lemmas.Bool.{and_from, and_parts, eqb-true, not-true, or_left, or_right, le-ltb}
 use Rattle.std.proofs.lemmas.Bool.Decides.{nat_tests}
 use Rattle.tb_records.specs.Messages.{Message, number_fault, is_register, item_count as body_count}
 use Rattle.tb_records.specs.declared.operations.Operation.{Operation}
@@ -52,9 +52,6 @@ number_lawful : (m : Message) → (m.client == 0) ≡ false → (is_register m.b
     → number_fault m ≡ None
 number_lawful m a b c d = rw (a, b, c, d) refl
 
-no_more : (n m : ℕ) → n ≤ m → m ≤ 8190 → nat_lt 8190 n ≡ false
-no_more n m h k = grind (arith, nat_tests)
-
 low_number : (n : ℕ) → n < 2 ^ 32 → (n == 0) ≡ false → (n % 2 ^ 32 == 0) ≡ false
 low_number n lt h = ap (λ (m : ℕ). m == 0) (low_32 n lt) ∙ h
 
@@ -76,7 +73,7 @@ request_lawful s Register h few =
 request_lawful s o h few =
     let both = and_parts (not (value_of field.Client s.header == 0)) (not (value_of field.Request s.header == 0)) h.suited in
     number_lawful (request_of s o) (not-true (value_of field.Client s.header == 0) both.0) refl (low_number (value_of field.Request s.header) h.small (not-true (value_of field.Request s.header == 0) both.1))
-    (no_more (body_count (body_of s o)) (item_count s) (few_items s o) few)
+    (le-ltb 8190 (body_count (body_of s o)) (omega (arith, few, few_items s o)))
 
 -- what is answered is a state at rest
 abbrev pub Rests : Option Scan → Type 0

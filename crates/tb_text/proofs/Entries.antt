@@ -1,5 +1,6 @@
 -- Entries that are printed one behind the other are read as what they are, and give each field its number.
 use Rattle.std.proofs.Common.{◌≡◌, ℕ, ◌+◌, ◌/◌, ◌%◌, ◌^◌, ◌<◌, ◌≤◌, Bool, true, false, cond, ◌&&◌, ◌||◌, ◌==◌, not, List, [], ◌∷◌, ◌++◌, Option, refl, sym, ap, subst, ◌∙◌, append_assoc, arith, lit<, ◌*◌}
+use Rattle.std.proofs.lemmas.Bool.{and_left, eqb-true}
 use Rattle.std.proofs.lemmas.Nat.{or_shifted, or_comm}
 use Rattle.std.specs.Prelude.{bit_or}
 use Rattle.std.specs.Fmt.{decimal}
@@ -66,15 +67,12 @@ flags_before o (f ∷ fs) k mark rest n lt = by (n % 2 == 0) (flags_before o fs 
     by true skipped later = skipped
     by false skipped later = (lt, later)
 
-same_index : (f g : Field) → same_field f g ≡ true → field_index f ≡ field_index g
-same_index f g h = grind (arith, nat_tests)
-
 -- each entry that a printed one is read as has its field
 before_one : (o : Operation) (k : ℕ) (e : Entry) → field_index e.0 < k → Before k (entries_of o e)
 before_one o k e lt = by (same_field e.0 field.Flags) refl
   where
     by : (b : Bool) → same_field e.0 field.Flags ≡ b → Before k (cond b (flag_entries o (flags_of o) 61 (unnamed o e.1) e.1) (e ∷ []))
-    by true is = flags_before o (flags_of o) k 61 (unnamed o e.1) e.1 (subst (λ (i : ℕ). i < k) (same_index e.0 field.Flags is) lt)
+    by true is = flags_before o (flags_of o) k 61 (unnamed o e.1) e.1 (subst (λ (i : ℕ). i < k) (eqb-true (field_index e.0) (field_index field.Flags) is) lt)
     by false is = (lt, tt)
 
 before_with : (o : Operation) (k : ℕ) (es : List Entry) (e : Entry) → Before k es → field_index e.0 < k → Before k (es ++ entries_of o e)
@@ -91,9 +89,6 @@ stands : (s : Scan) (f : Field) (k : ℕ) → awaits_field s.place ≡ true → 
 stands s f k a m le h =
     ap (λ (b : Bool). b && may_have s.operation f && not (is_given f s.given)) a
     ∙ (ap (λ (b : Bool). true && b && not (is_given f s.given)) m ∙ ap (λ (b : Bool). true && true && not b) (not_given f k s.given le h))
-
-positive : (f : Field) (n : ℕ) → (n == 0) ≡ false → (n == 0 && is_positive f) ≡ false
-positive f n h = ap (λ (b : Bool). b && is_positive f) h
 
 further_ends : (o : Operation) (es : List Entry) (text : List ℕ) → IsEnd text → IsEnd (further_text o es ++ text)
 further_ends o [] text h = h
@@ -146,7 +141,7 @@ further_through q (e ∷ es) s k text h between bits a o g =
     by false is zero_later later =
         ap (run s) (append_assoc (32 ∷ entry_text q e) (further_text q es) text)
         ∙ (space s (entry_text q e ++ (further_text q es ++ text)) between.lexeme
-        ∙ (entry_before s q e (further_text q es ++ text) (further_ends q es text h) between bits (stands s e.0 k a o.1 o.0 g) o.3 o.2 (positive e.0 e.1 is) ∙ later))
+        ∙ (entry_before s q e (further_text q es ++ text) (further_ends q es text h) between bits (stands s e.0 k a o.1 o.0 g) o.3 o.2 (and_left (e.1 == 0) (is_positive e.0) is) ∙ later))
 
 pub entries_through : (q : Operation) (first : Entry) (es : List Entry) (s : Scan) (text : List ℕ) → IsEnd text → IsBetween s → SameBits s.operation q → awaits_field s.place ≡ true → s.given ≡ []
     → may_have s.operation first.0 ≡ true → first.1 ≤ field_max first.0 → first.1 < 10 ^ 64 → (first.1 == 0 && is_positive first.0) ≡ false → InOrder s.operation (field_index first.0 + 1) es
@@ -207,7 +202,7 @@ adds_elsewhere o f v e is = by (same_field e.0 field.Flags) refl
     by : (b : Bool) → same_field e.0 field.Flags ≡ b
         → value_from v f (cond b (flag_entries o (flags_of o) 61 (unnamed o e.1) e.1) (e ∷ [])) ≡ cond (same_field f e.0) (bit_or v e.1) v
     by true flags =
-        let apart : same_field f e.0 ≡ false = ap (λ (i : ℕ). field_index f == i) (same_index e.0 field.Flags flags) ∙ is in
+        let apart : same_field f e.0 ≡ false = ap (λ (i : ℕ). field_index f == i) (eqb-true (field_index e.0) (field_index field.Flags) flags) ∙ is in
         flags_elsewhere o (flags_of o) f v 61 (unnamed o e.1) e.1 is ∙ sym (ap (λ (c : Bool). cond c (bit_or v e.1) v) apart)
     by false flags = refl
 
@@ -217,7 +212,7 @@ adds_first o e = by (same_field e.0 field.Flags) refl
     by : (b : Bool) → same_field e.0 field.Flags ≡ b
         → value_from 0 field.Flags (cond b (flag_entries o (flags_of o) 61 (unnamed o e.1) e.1) (e ∷ [])) ≡ cond (same_field field.Flags e.0) (bit_or 0 e.1) 0
     by true flags =
-        let same : same_field field.Flags e.0 ≡ true = ap (λ (i : ℕ). field_index field.Flags == i) (same_index e.0 field.Flags flags) in
+        let same : same_field field.Flags e.0 ≡ true = ap (λ (i : ℕ). field_index field.Flags == i) (eqb-true (field_index e.0) (field_index field.Flags) flags) in
         flags_make o e.1 ∙ (sym (none_or e.1) ∙ sym (ap (λ (c : Bool). cond c (bit_or 0 e.1) 0) same))
     by false flags = refl
 
@@ -231,11 +226,8 @@ told_one o f v e es adds same later = by (e.1 == 0) refl
     nothing true none = ap (bit_or v) none ∙ or_none v
     nothing false none = refl
 
-    is_zero : (n : ℕ) → (n == 0) ≡ true → n ≡ 0
-    is_zero n h = grind (arith, nat_tests)
-
     by : (b : Bool) → (e.1 == 0) ≡ b → value_from v f (cond b (told o es) (entries_of o e ++ told o es)) ≡ value_from (cond (same_field f e.0) (bit_or v e.1) v) f es
-    by true is = same ∙ ap (λ (k : ℕ). value_from k f es) (sym (nothing (same_field f e.0) (is_zero e.1 is)))
+    by true is = same ∙ ap (λ (k : ℕ). value_from k f es) (sym (nothing (same_field f e.0) (eqb-true e.1 0 is)))
     by false is = value_append f v (entries_of o e) (told o es) ∙ (ap (λ (k : ℕ). value_from k f (told o es)) adds ∙ later)
 
 -- the number of another field than the flags
@@ -266,7 +258,7 @@ flags_told o q k v (e ∷ es) order first =
         → ((field_index e.0 + 1 ≤ field_index field.Flags → cond (same_field field.Flags e.0) (bit_or v e.1) v ≡ 0) → Same (cond (same_field field.Flags e.0) (bit_or v e.1) v))
         → value_from v field.Flags (told o (e ∷ es)) ≡ value_from v field.Flags (e ∷ es)
     by true is elsewhere later =
-        let index : field_index field.Flags ≡ field_index e.0 = same_index field.Flags e.0 is in
+        let index : field_index field.Flags ≡ field_index e.0 = eqb-true (field_index field.Flags) (field_index e.0) is in
         let none : v ≡ 0 = first (omega (arith, order.0, index)) in
         told_one o field.Flags v e es (subst (λ (m : ℕ). Adds o field.Flags m e) (sym none) (adds_first o e)) elsewhere
         (later (λ le. absurd (omega (arith, le, index))))

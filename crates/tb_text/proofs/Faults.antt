@@ -9,7 +9,7 @@ use Rattle.tb_text.specs.Steps.{BeginsUpTo, Means, Reads, Stops}
 use Rattle.tb_text.proofs.Runs.{run_append, run_behind}
 use Rattle.tb_text.proofs.Endings.{read_begins}
 use Rattle.std.proofs.lemmas.Bool.{both_ways}
-use Rattle.std.proofs.lemmas.Option.{same_Some}
+use Rattle.std.proofs.lemmas.Option.{same_Some, none-some}
 use Rattle.std.proofs.lemmas.List.{append-nil}
 
 -- no run goes through the byte at the place
@@ -21,14 +21,11 @@ stopped text place last more lt taken none =
     ∙ (run_behind (behind []) last (take place text) (get_or text place 0 ∷ []) taken ∙ ap (option_and_then (λ t. Some t)) none) in
     run_append (behind []) (take (place + 1) text) more ∙ ap (option_and_then (λ t. run t more)) one
 
-some_none : (s : Scan) → Some s ≡ None → ⊥
-some_none s e = absurd cc
-
 pub nothing_goes_on : (text : List ℕ) (pairs others : List (ℕ × Message)) (place : ℕ) (more : List ℕ) → place < length text → Stops text pairs place → Means (take (place + 1) text ++ more) others → ⊥
 nothing_goes_on text pairs others place more lt stops means = by stops.why
   where
     by : ((place < length text) × (step stops.last (get_or text place 0) ≡ None)) ⊎ ((place ≡ length text) × (is_at_rest stops.last ≡ false)) → ⊥
-    by (inl here) = some_none means.last (sym means.taken ∙ stopped text place stops.last more here.0 stops.taken here.1)
+    by (inl here) = none-some means.last (sym (stopped text place stops.last more here.0 stops.taken here.1) ∙ means.taken)
     by (inr over) = absurd (omega arith)
 
 pub no_meaning : (text : List ℕ) (pairs others : List (ℕ × Message)) (place : ℕ) → Stops text pairs place → Means text others → ⊥

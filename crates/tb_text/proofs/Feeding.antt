@@ -1,5 +1,6 @@
 -- A text of tokens, each of which the reader takes, is read byte by byte.
 use Rattle.std.proofs.Common.{◌≡◌, ℕ, ◌+◌, ◌*◌, ◌-◌, ◌≤◌, inl, inr, Bool, true, false, cond, not, ◌&&◌, ◌==◌, List, [], ◌∷◌, ◌++◌, Some, None, refl, sym, ap, subst, ◌∙◌, arith}
+use Rattle.tb_text.proofs.Moves.{Marked, equals, mark_cases}
 use Rattle.std.specs.Prelude.{nat_le, nat_lt}
 use Rattle.std.specs.Option.{option_and_then}
 use Rattle.std.proofs.lemmas.Bool.Decides.{nat_tests}
@@ -43,23 +44,9 @@ number_fed s f n d text rest between h none (inr hexadecimal) =
 
 -- TOKENS
 
-gap_mark : (s : Scan) (b : ℕ) → is_mark b ≡ true → gap s b ≡ mark s b
-gap_mark s b h = rw (no_blank b h, no_comment b h, no_zero b h, no_letter b h, no_decimal b h) refl
-  where
-    no_blank : (c : ℕ) → is_mark c ≡ true → is_space c ≡ false
-    no_blank c k = grind (arith, nat_tests)
-
-    no_comment : (c : ℕ) → is_mark c ≡ true → (c == 35) ≡ false
-    no_comment c k = grind (arith, nat_tests)
-
-    no_zero : (c : ℕ) → is_mark c ≡ true → (c == 48) ≡ false
-    no_zero c k = grind (arith, nat_tests)
-
-    no_decimal : (c : ℕ) → is_mark c ≡ true → is_digit c ≡ false
-    no_decimal c k = grind (arith, nat_tests)
-
-    no_letter : (c : ℕ) → is_mark c ≡ true → is_word_byte c ≡ false
-    no_letter c k = grind (arith, nat_tests)
+gap_mark : (s : Scan) {b : ℕ} {v : Scan} → Marked s b v → gap s b ≡ mark s b
+gap_mark s (equals f p) = refl
+gap_mark s m = refl
 
 -- one token is read
 record Fed (s v : Scan) (text bs : List ℕ) : Type 0 where
@@ -98,7 +85,7 @@ token_fed : (t : Token) (s v : Scan) (text bs : List ℕ) → IsBetween s → Wr
 token_fed (Name w) s v text bs between e p h = word_fed s v w text bs between e p h
 token_fed (Number n) s v text bs between e p h = a_number_fed s v n text bs between e p h
 token_fed (Mark b) s v text bs between e p h = record {
-  read = ap (λ (t : List ℕ). run s (t ++ bs)) e.0 ∙ one_step s v b bs (at_gap s b between.lexeme ∙ (gap_mark s b e.1 ∙ h));
+  read = ap (λ (t : List ℕ). run s (t ++ bs)) e.0 ∙ one_step s v b bs (at_gap s b between.lexeme ∙ (gap_mark s (mark_cases s v b h) ∙ h));
   between = mark_between s v b h;
 }
 

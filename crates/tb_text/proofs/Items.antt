@@ -94,20 +94,14 @@ event_value o q id es f order = by (same_field f field.Flags) refl
 
 -- accounts
 
-account_value : (a : Account) (f : Field) → IsAccount a → value_of f ((field.Id, a.id) ∷ told CreateAccounts (account_entries a)) ≡ value_of f ((field.Id, a.id) ∷ account_entries a)
-account_value a f h = event_value CreateAccounts (Some CreateAccounts) a.id (account_entries a) f (accounts_in_order a h)
-
 pub account_back : (a : Account) → IsAccount a → account_of ((field.Id, a.id) ∷ told CreateAccounts (account_entries a)) ≡ a
 unfolding account_of
 account_back a h =
-    let value : (f : Field) → value_of f ((field.Id, a.id) ∷ told CreateAccounts (account_entries a)) ≡ value_of f ((field.Id, a.id) ∷ account_entries a) = λ f. account_value a f h in
+    let value : (f : Field) → value_of f ((field.Id, a.id) ∷ told CreateAccounts (account_entries a)) ≡ value_of f ((field.Id, a.id) ∷ account_entries a) = λ f. event_value CreateAccounts (Some CreateAccounts) a.id (account_entries a) f (accounts_in_order a h) in
     simp (value, none_or, low a.user_data_64 h.user_data_64, low_32 a.user_data_32 h.user_data_32, low_32 a.reserved h.reserved, low_32 a.ledger h.ledger, low_16 a.code h.code, low_16 a.flags h.flags, low a.timestamp h.timestamp)
-
-transfer_value : (t : Transfer) (f : Field) → IsTransfer t → value_of f ((field.Id, t.id) ∷ told CreateTransfers (transfer_entries t)) ≡ value_of f ((field.Id, t.id) ∷ transfer_entries t)
-transfer_value t f h = event_value CreateTransfers (Some CreateTransfers) t.id (transfer_entries t) f (transfers_in_order t h)
 
 pub transfer_back : (t : Transfer) → IsTransfer t → transfer_of ((field.Id, t.id) ∷ told CreateTransfers (transfer_entries t)) ≡ t
 unfolding transfer_of
 transfer_back t h =
-    let value : (f : Field) → value_of f ((field.Id, t.id) ∷ told CreateTransfers (transfer_entries t)) ≡ value_of f ((field.Id, t.id) ∷ transfer_entries t) = λ f. transfer_value t f h in
+    let value : (f : Field) → value_of f ((field.Id, t.id) ∷ told CreateTransfers (transfer_entries t)) ≡ value_of f ((field.Id, t.id) ∷ transfer_entries t) = λ f. event_value CreateTransfers (Some CreateTransfers) t.id (transfer_entries t) f (transfers_in_order t h) in
     simp (value, none_or, low t.user_data_64 h.user_data_64, low_32 t.user_data_32 h.user_data_32, low_32 t.timeout h.timeout, low_32 t.ledger h.ledger, low_16 t.code h.code, low_16 t.flags h.flags, low t.timestamp h.timestamp)

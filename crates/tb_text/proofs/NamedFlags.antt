@@ -1,5 +1,6 @@
 -- Flags that are printed by name are read as what they are, and make their number.
 use Rattle.std.proofs.Common.{◌≡◌, ℕ, suc, ◌+◌, ◌*◌, ◌/◌, ◌%◌, ◌^◌, ◌<◌, Bool, true, false, cond, not, ◌&&◌, ◌==◌, List, [], ◌∷◌, ◌++◌, length, drop, get_or, ◌≢◌, Option, Some, refl, sym, ap, subst, ◌∙◌, append_assoc, arith, lit<, map, filter, flat_map, pow-suc}
+use Rattle.std.proofs.lemmas.Bool.{and_right, eqb-true}
 use Rattle.std.specs.Prelude.{bit_or}
 use Rattle.std.specs.Fmt.{decimal}
 use Rattle.std.proofs.lemmas.Bool.Decides.{nat_tests}
@@ -73,10 +74,6 @@ one_flag s start o mark g f tail bits is ready e =
     ∙ (ap (λ (b : ℕ). run (at s field.Flags (g ++ (field.Flags, b) ∷ [])) (e.byte ∷ e.rest)) (bits f)
     ∙ ap (run (at s field.Flags (g ++ (field.Flags, flag_bit o f) ∷ []))) (sym e.text_is))))
 
-never : (b : Bool) → (b && false) ≡ false
-never true = refl
-never false = refl
-
 -- a mark and what has no name
 one_number : (s start : Scan) (mark n : ℕ) (g : List Entry) (tail : List ℕ) → n < 2 ^ 16 → step start mark ≡ Some (placed s (Wanted field.Flags) g) → IsEnd tail
     → run start (mark ∷ decimal n ++ tail) ≡ run (at s field.Flags (g ++ (field.Flags, n) ∷ [])) tail
@@ -84,7 +81,7 @@ one_number s start mark n g tail few ready e =
     let behind = placed s (Wanted field.Flags) g in
     one_step start behind mark (decimal n ++ tail) ready
     ∙ (ap (λ (t : List ℕ). run behind (decimal n ++ t)) e.text_is
-    ∙ (number_through behind field.Flags n e.byte e.rest (between s (Wanted field.Flags) g) refl (omega arith) (omega arith) (never (n == 0)) e.ends
+    ∙ (number_through behind field.Flags n e.byte e.rest (between s (Wanted field.Flags) g) refl (omega arith) (omega arith) (and_right (n == 0) false refl) e.ends
     ∙ ap (run (at s field.Flags (g ++ (field.Flags, n) ∷ []))) (sym e.text_is)))
 
 -- where a flag is printed its mark ends what stands before it
@@ -235,14 +232,11 @@ or_bit v k h =
     let one : 1 * 2 ^ k ≡ 2 ^ k = omega arith in
     subst (λ (p : ℕ). bit_or v p ≡ v + p) one (or_above v 1 k h)
 
-is_zero : (n : ℕ) → (n == 0) ≡ true → n ≡ 0
-is_zero n h = grind (arith, nat_tests)
-
 is_one : (n : ℕ) → (n % 2 == 0) ≡ false → n % 2 ≡ 1
 is_one n h = grind (arith, nat_tests)
 
 no_rest : (a : Bool) (rest : ℕ) → (a && rest == 0) ≡ true → rest ≡ 0
-no_rest true rest h = is_zero rest h
+no_rest true rest h = eqb-true rest 0 h
 no_rest false rest h = absurd cc
 
 entries_make : (fs : List Flag) (o : Operation) (k mark rest n v : ℕ) → HasBits o k fs → IsLeft fs k n rest → v < 2 ^ k → value_from v field.Flags (flag_entries o fs mark rest n) ≡ v + n * 2 ^ k
@@ -271,7 +265,7 @@ entries_make (f ∷ fs) o k mark rest n v bits left low =
         → (v + 2 ^ k < 2 ^ (k + 1) → value_from (v + 2 ^ k) field.Flags (flag_entries o fs 124 rest (n / 2)) ≡ v + 2 ^ k + n / 2 * 2 ^ (k + 1))
         → value_from v field.Flags (cond b (flag_entries o fs mark rest (n / 2)) ((field.Flags, flag_bit o f) ∷ flag_entries o fs 124 rest (n / 2))) ≡ v + n * 2 ^ k
     by true is skipped later =
-        let same = halves 0 (is_zero (n % 2) is) in
+        let same = halves 0 (eqb-true (n % 2) 0 is) in
         let sum : v + n / 2 * 2 ^ (k + 1) ≡ v + n * 2 ^ k = omega (arith, same) in
         skipped (omega (arith, twice, low)) ∙ sum
     by false is skipped later =

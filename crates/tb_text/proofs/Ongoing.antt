@@ -5,7 +5,7 @@ use Rattle.std.specs.Prelude.{nat_lt, nat_eq, bit_or}
 use Rattle.std.specs.Option.{is_none}
 use Rattle.std.specs.List.{list_any, starts_with}
 use Rattle.std.specs.Cmp.Lexicographic.{bytes_decides}
-use Rattle.std.proofs.lemmas.Bool.{and_parts, eqb-true, not-true, or_parts}
+use Rattle.std.proofs.lemmas.Bool.{and_parts, eqb-true, not-true, or_parts, ltb-true}
 use Rattle.std.proofs.lemmas.Bool.Decides.{nat_tests}
 use Rattle.std.proofs.lemmas.List.{take-append-drop}
 use Rattle.std.proofs.lemmas.Option.{option_and_then_some, same_Some}
@@ -266,9 +266,6 @@ word_begun s text e h = record { lexeme = spelling_begun s text (begun_among s t
 pub fresh : (pairs : List (ℕ × Message)) → IsClear (behind pairs)
 fresh pairs = record { gap = refl; spelled = refl; stands = (record { client = λ e. absurd cc; request = λ e. absurd cc; small = lit< tt }, tt) }
 
-has_room : (n : ℕ) → nat_lt (n + 1) 8190 ≡ true → n + 1 < 8190
-has_room n h = grind (arith, nat_tests)
-
 -- one more than before
 pub pushed_most : (s : Scan) (o : Operation) (place : Place) → item_count (pushed s o place) ≤ item_count s + 1
 pushed_most s Register place = omega arith
@@ -282,7 +279,7 @@ marked_goes s (equals f p) h = record { lexeme = refl; stands = wanted_stands s.
 marked_goes s (bar f p flags) h = record { lexeme = refl; stands = joined_stands s.operation f s.given s.header (item_count s) flags (at_place s (Given f) p h) }
 marked_goes s (comma o f is p room) h =
     let here = subst (λ (q : Option Operation). Stands q (Given f) s.given s.header (item_count s)) is (at_place s (Given f) p h) in
-    let few : item_count (pushed s o Parted) < 8190 = omega (arith, pushed_most s o Parted, has_room (item_count s) room) in
+    let few : item_count (pushed s o Parted) < 8190 = omega (arith, pushed_most s o Parted, ltb-true (item_count s + 1) 8190 room) in
     record { lexeme = refl; stands = subst (λ (q : Option Operation). Stands q Parted [] s.header (item_count (pushed s o Parted))) (sym is) (here.0, few, (refl, here.2)) }
 marked_goes s (semicolon {v} o is e) h = subst IsOngoing (closed_is s v o s.place e).1 (ongoing (behind _) (fresh _))
 

@@ -1,5 +1,6 @@
 -- What is printed of requests is read back.
 use Rattle.std.proofs.Common.{◌≡◌, ℕ, ◌%◌, ◌^◌, ◌≤◌, Bool, true, false, cond, not, ◌&&◌, ◌==◌, List, [], ◌∷◌, ◌++◌, Option, Some, None, All, refl, sym, ap, subst, ◌∙◌, append_assoc, arith, lit≤}
+use Rattle.std.proofs.lemmas.Bool.{ltb-false, and_right, not-false}
 use Rattle.std.specs.Prelude.{nat_lt, codes}
 use Rattle.std.specs.List.{AllByRecursion}
 use Rattle.std.specs.Option.{option_and_then}
@@ -105,13 +106,9 @@ header_through pairs moment r tail h e =
     let small = small_64 moment h.0 in
     let all = all_at Register (header_entries r) (behind pairs) field.At ((field.At, moment) ∷ []) in (
       all.0,
-      entries_through Register (field.At, moment) (header_entries r) (behind pairs) tail e (record { lexeme = refl; spelled = refl }) (λ f. refl) refl refl refl small.most small.short (positive (moment == 0)) (header_in_order r h.1)
+      entries_through Register (field.At, moment) (header_entries r) (behind pairs) tail e (record { lexeme = refl; spelled = refl }) (λ f. refl) refl refl refl small.most small.short (and_right (moment == 0) false refl) (header_in_order r h.1)
           ∙ ap (λ (t : Scan). run t tail) all.1,
     )
-  where
-    positive : (c : Bool) → (c && false) ≡ false
-    positive true = refl
-    positive false = refl
 
 -- the operation behind a header
 operation_through : (pairs : List (ℕ × Message)) (f : Field) (header : List Entry) (o : Operation) (tail : List ℕ) → suits o header ≡ true → IsEnd tail
@@ -138,25 +135,17 @@ suits_numbered o moment r h k =
     (ap (λ (m : ℕ). m == 0) (client_back moment r) ∙ n.client)
     (ap (λ (m : ℕ). m == 0) (number_back moment r) ∙ (sym (ap (λ (b : Bool). not b && r.request == 0) k) ∙ n.numbered))
 
-pub not_both : (a b : Bool) → not (a && b) ≡ false → (a && b) ≡ true
-not_both true true h = refl
-not_both true false h = absurd cc
-not_both false b h = absurd cc
-
 suits_register : (moment : ℕ) (r : Message) → IsLawful r → (is_register r.body) ≡ true → suits Register (header_of moment r) ≡ true
 suits_register moment r h k =
     let n = numbers_of r h in
-    let both : (r.session == 0 && r.request == 0) ≡ true = not_both (r.session == 0) (r.request == 0) (sym (ap (λ (b : Bool). b && not (r.session == 0 && r.request == 0)) k) ∙ n.register) in
+    let both : (r.session == 0 && r.request == 0) ≡ true = not-false (r.session == 0 && r.request == 0) (sym (ap (λ (b : Bool). b && not (r.session == 0 && r.request == 0)) k) ∙ n.register) in
     ap (λ (m : ℕ). not (m == 0) && value_of field.Session (header_of moment r) == 0 && value_of field.Request (header_of moment r) == 0) (client_back moment r)
     ∙ (ap (λ (b : Bool). not b && value_of field.Session (header_of moment r) == 0 && value_of field.Request (header_of moment r) == 0) n.client
     ∙ (ap (λ (m : ℕ). m == 0 && value_of field.Request (header_of moment r) == 0) (session_back moment r)
     ∙ (ap (λ (m : ℕ). r.session == 0 && m == 0) (number_back moment r) ∙ both)))
 
 pub few : (r : Message) → IsLawful r → item_count r.body ≤ 8190
-few r h = at_most (item_count r.body) (numbers_of r h).items
-  where
-    at_most : (n : ℕ) → nat_lt 8190 n ≡ false → n ≤ 8190
-    at_most n h = grind (arith, nat_tests)
+few r h = ltb-false 8190 (item_count r.body) (numbers_of r h).items
 
 -- the body of a statement, and its end
 body_through : (pairs : List (ℕ × Message)) (moment : ℕ) (r : Message) (f : Field) (tail : List ℕ) (b : Body) → b ≡ r.body → IsTimed (moment, r) → BodyFits b

@@ -20,7 +20,7 @@ use Rattle.tb_text.proofs.Ongoing.{has_id}
 use Rattle.tb_text.proofs.Statements.{few}
 use Rattle.tb_text.proofs.Standing.{Context, front, event, operation_in, stand, value_after, opened_is, pushed_is, counted, body_counted, finished_is}
 use Rattle.tb_text.proofs.Suiting.{header_small, header_suits}
-use Rattle.std.proofs.lemmas.Bool.{and_from, cond-true}
+use Rattle.std.proofs.lemmas.Bool.{and_from, cond-true, lt-ltb}
 
 values_taken : (c : Context) (f : Field) {given es : List Entry} {ts rest : List Token} → Values (operation_in c) f given ts es rest
     → all_after (stand c (Wanted f) given) ts ≡ all_after (stand c (Given f) es) rest
@@ -102,10 +102,7 @@ record EventsTaken (pairs : List (ℕ × Message)) (header : List Entry) (o : Op
   taken : all_after from ts ≡ all_after (stand (event pairs header o done) (Given last) es) rest
 
 room : (n m k : ℕ) → n ≡ m → m + 2 ≤ k → k ≤ 8190 → nat_lt (n + 1) 8190 ≡ true
-room n m k e h le = below (n + 1) (omega (arith, e, h, le))
-  where
-    below : (x : ℕ) → x < 8190 → nat_lt x 8190 ≡ true
-    below x lt = grind (arith, nat_tests)
+room n m k e h le = lt-ltb (n + 1) 8190 (omega (arith, e, h, le))
 
 -- an event, behind those that are done
 event_taken : (c : Context) (place : Place) {es all : List Entry} {ts mid rest : List Token} → awaits_field place ≡ true → Valued (operation_in c) [] ts es mid → Entries (operation_in c) es mid all rest → Taken c (stand c place []) ts all rest

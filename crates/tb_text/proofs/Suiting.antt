@@ -13,10 +13,10 @@ use Rattle.tb_text.specs.Grammar.{Token, Name, Number, Mark, number_as, Values, 
 use Rattle.tb_text.proofs.Entries.{none_or, value_append, only_flags}
 use Rattle.tb_text.proofs.Items.{low, low_32}
 use Rattle.tb_text.proofs.Ongoing.{not_valued, below_more, below_request, no_header_flags}
-use Rattle.tb_text.proofs.Statements.{numbers_of, both_not, not_both}
+use Rattle.tb_text.proofs.Statements.{numbers_of, both_not}
 use Rattle.std.proofs.lemmas.Option.{cond_some}
 use Rattle.tb_text.proofs.Standing.{only_amount, same_back}
-use Rattle.std.proofs.lemmas.Bool.{and_from, and_parts, eqb-true, leb-true}
+use Rattle.std.proofs.lemmas.Bool.{and_from, and_parts, eqb-true, leb-true, not-false, both_ways, false_from_ne_true}
 
 -- the numbers of a session and of a request have room
 pub record IsSmall (given : List Entry) : Type 0 where
@@ -35,10 +35,7 @@ fits : (f : Field) (t : Token) (n : ℕ) → number_as None f t ≡ Some n → n
 fits f (Number m) n h =
     let test = cond_some (nat_le m (field_max f) && not (m == 0 && is_positive f)) m n h in
     subst (λ (k : ℕ). k ≤ field_max f) test.1 (leb-true m (field_max f) ((and_parts (nat_le m (field_max f)) (not (m == 0 && is_positive f)) test.0).0))
-fits f (Name (word.Flag g)) n h = absurd (never ((and_parts (same_field field.Flags f) false (cond_some (same_field field.Flags f && false) 0 n h).0).1))
-  where
-    never : false ≡ true → ⊥
-    never e = absurd cc
+fits f (Name (word.Flag g)) n h = absurd (both_ways false refl (and_parts (same_field field.Flags f) false (cond_some (same_field field.Flags f && false) 0 n h).0).1)
 fits f (Name word.AmountMax) n h =
     let test = cond_some (same_field field.Amount f) (2 ^ 128 - 1) n h in
     subst (λ (g : Field). n ≤ field_max g) (only_amount f test.0) (subst (λ (k : ℕ). k ≤ 2 ^ 128 - 1) test.1 (lit≤ tt))
@@ -66,14 +63,7 @@ header_small entries = entries_small entries (record { session = lit< tt; reques
 
 -- where what is left of a number is not 0, the number is not
 no_zero : (n : ℕ) → (n % 2 ^ 32 == 0) ≡ false → (n == 0) ≡ false
-no_zero n h = by (n == 0) refl
-  where
-    never : true ≡ false → ⊥
-    never e = absurd cc
-
-    by : (c : Bool) → (n == 0) ≡ c → c ≡ false
-    by true is = absurd (never (sym (ap (λ (m : ℕ). m % 2 ^ 32 == 0) (eqb-true n 0 is)) ∙ h))
-    by false is = refl
+no_zero n h = false_from_ne_true (n == 0) (λ is. both_ways (n % 2 ^ 32 == 0) h (ap (λ (m : ℕ). m % 2 ^ 32 == 0) (eqb-true n 0 is)))
 
 numbered : (header : List Entry) → (value_of field.Client header == 0) ≡ false → (value_of field.Request header % 2 ^ 32 == 0) ≡ false
     → (not (value_of field.Client header == 0) && not (value_of field.Request header == 0)) ≡ true
@@ -82,7 +72,7 @@ numbered header c r = both_not (value_of field.Client header == 0) (value_of fie
 pub header_suits : (header : List Entry) (o : Operation) (events : List (List Entry)) → IsSmall header → IsLawful (said header o events).1 → suits o header ≡ true
 header_suits header Register events small h =
     let n = numbers_of (said header Register events).1 h in
-    let both = not_both (value_of field.Session header % 2 ^ 64 == 0) (value_of field.Request header % 2 ^ 32 == 0) n.register in
+    let both = not-false (value_of field.Session header % 2 ^ 64 == 0 && value_of field.Request header % 2 ^ 32 == 0) n.register in
     let session : (value_of field.Session header == 0) ≡ true =
     ap (λ (m : ℕ). m == 0) (sym (low (value_of field.Session header) small.session)) ∙ (and_parts (value_of field.Session header % 2 ^ 64 == 0) (value_of field.Request header % 2 ^ 32 == 0) both).0 in
     let request : (value_of field.Request header == 0) ≡ true =
