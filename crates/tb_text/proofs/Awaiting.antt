@@ -7,16 +7,10 @@ use Rattle.std.specs.List.{Contains, filter}
 use Rattle.std.proofs.lemmas.List.{append-nil, take-append-drop}
 use Rattle.std.proofs.lemmas.List.Elements.{All-contains, filter_passes, filter_more, filter-append, Contains-push, Contains-append_left}
 use Rattle.std.proofs.lemmas.Option.{none-some, option_and_then_some, same_Some}
-use Rattle.tb_records.specs.declared.operations.Operation.{Operation}
+use Rattle.tb_text.proofs.Names.{Operation, Field, Word, Lexeme, Gap, Comment, Spelled, Zero, Prefix, Decimal, Hexadecimal, Place, Named, Wanted, Given, Opened, Parted}
 use Rattle.tb_text.specs.declared.awaited.Awaited.{Awaited}
-use Rattle.tb_text.specs.declared.words.Field.{Field}
 use Rattle.tb_text.specs.declared.words.Field.TheVariants as field
-use Rattle.tb_text.specs.declared.words.Word.{Word}
 use Rattle.tb_text.specs.declared.words.Word.TheVariants as word
-use Rattle.tb_text.specs.declared.places.Lexeme.{Lexeme}
-use Rattle.tb_text.specs.declared.places.Lexeme.TheVariants.{Gap, Comment, Spelled, Zero, Prefix, Decimal, Hexadecimal}
-use Rattle.tb_text.specs.declared.places.Place.{Place}
-use Rattle.tb_text.specs.declared.places.Place.TheVariants.{Named, Wanted, Given, Opened, Parted}
 use Rattle.tb_text.specs.Words.{word_text, all_words, same_field, field_max}
 use Rattle.tb_text.specs.Entries.{is_word_byte, is_positive}
 use Rattle.tb_text.specs.Scan.{Scan, behind, step, step_at, run, gap, word_ended, number_ended, item_count, pushed, closed_at, parted_at, valued_at, joined_at, entered, moved, within, spelling, taken, wanted, may_stand, word_named, number_left, word_left, word_grown, begins_word, decimal_grown, appended, finished, rests}

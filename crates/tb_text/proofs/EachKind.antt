@@ -1,18 +1,11 @@
 -- Accounts, transfers and ids are read as what they are.
-use Rattle.std.proofs.Common.{◌≡◌, ℕ, ◌+◌, ◌^◌, ◌<◌, Bool, true, false, ◌&&◌, ◌==◌, List, [], ◌∷◌, ◌++◌, length, Option, Some, refl, sym, ap, ◌∙◌, arith}
+use Rattle.std.proofs.Common.{◌≡◌, ℕ, ◌+◌, ◌^◌, ◌<◌, true, false, ◌==◌, List, [], ◌∷◌, ◌++◌, length, Some, refl, sym, ap, ◌∙◌, arith}
 use Rattle.std.specs.Prelude.{nat_lt}
-use Rattle.std.proofs.lemmas.Bool.Decides.{nat_tests}
-use Rattle.tb_records.specs.declared.operations.Operation.{Operation}
-use Rattle.tb_records.specs.declared.operations.Operation.TheVariants.{Register, CreateAccounts, CreateTransfers}
-use Rattle.tb_records.specs.declared.records.Account.{Account}
-use Rattle.tb_records.specs.declared.records.Transfer.{Transfer}
+use Rattle.tb_text.proofs.Names.{Operation, Register, CreateAccounts, CreateTransfers, Account, Transfer, Field, Place, Opened, Parted}
 use Rattle.tb_records.specs.RecordBytes.{IsAccount, IsTransfer}
 use Rattle.tb_records.specs.Messages.{Message}
 use Rattle.tb_records.specs.Frames.{IsId}
-use Rattle.tb_text.specs.declared.words.Field.{Field}
 use Rattle.tb_text.specs.declared.words.Field.TheVariants as field
-use Rattle.tb_text.specs.declared.places.Place.{Place}
-use Rattle.tb_text.specs.declared.places.Place.TheVariants.{Opened, Parted}
 use Rattle.tb_text.specs.Entries.{Entry, may_have, value_of}
 use Rattle.tb_text.specs.Scan.{Scan, run, awaits_field, finished, moved, pushed, with_items}
 use Rattle.tb_text.specs.Printed.{entries_text, entry_text, account_entries, transfer_entries, account_text, transfer_text, id_text}
@@ -37,12 +30,9 @@ event_through q s id es tail e b bits a n m fits o =
 
 -- a statement of accounts, so far
 abbrev pub accounts_state : List (ℕ × Message) → List Entry → List Account → Place → Scan
-accounts_state pairs header xs place = mid pairs header CreateAccounts place xs [] [] []
+accounts_state pairs header xs place = mid pairs header CreateAccounts place xs [] []
 
-abbrev pub accounts_ended : List (ℕ × Message) → List Entry → List Account → Option Scan
-accounts_ended pairs header xs = finished (accounts_state pairs header xs Opened) CreateAccounts
-
-pub accounts_kind : (pairs : List (ℕ × Message)) (header : List Entry) → IsKind (accounts_state pairs header) (accounts_ended pairs header) account_text IsAccount
+pub accounts_kind : (pairs : List (ℕ × Message)) (header : List Entry) → IsKind (accounts_state pairs header) CreateAccounts account_text IsAccount
 unfolding account_text
 accounts_kind pairs header = record {
   item = λ xs place awaits x h tail end.
@@ -53,7 +43,7 @@ accounts_kind pairs header = record {
         through.1,
         record {
           parts = λ few. at_gap (at s through.0 g) 44 refl ∙ (cond-true (nat_lt (length xs + 0 + 0 + 1) 8190) _ _ (lt-ltb (length xs + 0 + 0 + 1) 8190 (omega arith)) ∙ ap (λ (y : Account). Some (accounts_state pairs header (xs ++ y ∷ []) Parted)) (account_back x h));
-          ends = at_gap (at s through.0 g) 59 refl ∙ ap (λ (y : Account). accounts_ended pairs header (xs ++ y ∷ [])) (account_back x h);
+          ends = at_gap (at s through.0 g) 59 refl ∙ ap (λ (y : Account). finished (accounts_state pairs header (xs ++ y ∷ []) Opened) CreateAccounts) (account_back x h);
         },
       );
   between = λ xs place. refl;
@@ -62,12 +52,9 @@ accounts_kind pairs header = record {
 
 -- a statement of transfers, so far
 abbrev pub transfers_state : List (ℕ × Message) → List Entry → List Transfer → Place → Scan
-transfers_state pairs header xs place = mid pairs header CreateTransfers place [] xs [] []
+transfers_state pairs header xs place = mid pairs header CreateTransfers place [] xs []
 
-abbrev pub transfers_ended : List (ℕ × Message) → List Entry → List Transfer → Option Scan
-transfers_ended pairs header xs = finished (transfers_state pairs header xs Opened) CreateTransfers
-
-pub transfers_kind : (pairs : List (ℕ × Message)) (header : List Entry) → IsKind (transfers_state pairs header) (transfers_ended pairs header) transfer_text IsTransfer
+pub transfers_kind : (pairs : List (ℕ × Message)) (header : List Entry) → IsKind (transfers_state pairs header) CreateTransfers transfer_text IsTransfer
 unfolding transfer_text
 transfers_kind pairs header = record {
   item = λ xs place awaits x h tail end.
@@ -78,7 +65,7 @@ transfers_kind pairs header = record {
         through.1,
         record {
           parts = λ few. at_gap (at s through.0 g) 44 refl ∙ (cond-true (nat_lt (0 + length xs + 0 + 1) 8190) _ _ (lt-ltb (0 + length xs + 0 + 1) 8190 (omega arith)) ∙ ap (λ (y : Transfer). Some (transfers_state pairs header (xs ++ y ∷ []) Parted)) (transfer_back x h));
-          ends = at_gap (at s through.0 g) 59 refl ∙ ap (λ (y : Transfer). transfers_ended pairs header (xs ++ y ∷ [])) (transfer_back x h);
+          ends = at_gap (at s through.0 g) 59 refl ∙ ap (λ (y : Transfer). finished (transfers_state pairs header (xs ++ y ∷ []) Opened) CreateTransfers) (transfer_back x h);
         },
       );
   between = λ xs place. refl;
@@ -87,14 +74,11 @@ transfers_kind pairs header = record {
 
 -- a lookup of ids, so far
 abbrev pub sought_state : Operation → List (ℕ × Message) → List Entry → List ℕ → Place → Scan
-sought_state o pairs header xs place = mid pairs header o place [] [] xs []
-
-abbrev pub sought_ended : Operation → List (ℕ × Message) → List Entry → List ℕ → Option Scan
-sought_ended o pairs header xs = finished (sought_state o pairs header xs Opened) o
+sought_state o pairs header xs place = mid pairs header o place [] [] xs
 
 -- of an operation that has ids without flags, and puts each behind the others
 pub sought_kind : (o : Operation) → SameBits (Some o) Register → may_have (Some o) field.Id ≡ true → ((s : Scan) (place : Place) → pushed s o place ≡ moved (with_items s s.accounts s.transfers (s.ids ++ value_of field.Id s.given ∷ [])) place) → (pairs : List (ℕ × Message)) (header : List Entry)
-    → IsKind (sought_state o pairs header) (sought_ended o pairs header) id_text IsId
+    → IsKind (sought_state o pairs header) o id_text IsId
 unfolding id_text
 sought_kind o bits has puts pairs header = record {
   item = λ xs place awaits x h tail end.

@@ -3,21 +3,13 @@ use Rattle.std.proofs.Common.{◌≡◌, ℕ, ◌%◌, ◌^◌, ◌<◌, ◌≤�
 use Rattle.std.specs.Prelude.{nat_lt}
 use Rattle.std.specs.Option.{option_and_then, is_none}
 use Rattle.std.proofs.lemmas.Bool.{and_from, and_parts, eqb-true, not-true, or_left, or_right, le-ltb}
-use Rattle.std.proofs.lemmas.Bool.Decides.{nat_tests}
 use Rattle.tb_records.specs.Messages.{Message, number_fault, is_register, item_count as body_count}
-use Rattle.tb_records.specs.declared.operations.Operation.{Operation}
-use Rattle.tb_records.specs.declared.operations.Operation.TheVariants.{Register, CreateAccounts, CreateTransfers, LookupAccounts, LookupTransfers}
-use Rattle.tb_text.specs.declared.words.Field.{Field}
+use Rattle.tb_text.proofs.Names.{Operation, Register, CreateAccounts, CreateTransfers, LookupAccounts, LookupTransfers, Field, Word, Lexeme, Gap, Comment, Spelled, Zero, Prefix, Decimal, Hexadecimal, Place, Head, Named, Wanted, Given, Opened, Parted}
 use Rattle.tb_text.specs.declared.words.Field.TheVariants as field
-use Rattle.tb_text.specs.declared.words.Word.{Word}
 use Rattle.tb_text.specs.declared.words.Word.TheVariants as word
-use Rattle.tb_text.specs.declared.places.Lexeme.{Lexeme}
-use Rattle.tb_text.specs.declared.places.Lexeme.TheVariants.{Gap, Comment, Spelled, Zero, Prefix, Decimal, Hexadecimal}
-use Rattle.tb_text.specs.declared.places.Place.{Place}
-use Rattle.tb_text.specs.declared.places.Place.TheVariants.{Head, Named, Wanted, Given, Opened, Parted}
 use Rattle.tb_text.specs.Words.{field_name, word_text, field_max, has_field, is_header_field}
 use Rattle.tb_text.specs.Entries.{Entry, is_given, value_of, may_have, suits, is_positive}
-use Rattle.tb_text.specs.Scan.{Scan, behind, step, step_at, run, gap, is_at_rest, rests, wanted, awaits_field, awaits_operation, may_stand, entered, standing, moved, within, spelling, opened, taken}
+use Rattle.tb_text.specs.Scan.{Scan, behind, step, run, gap, is_at_rest, rests, wanted, awaits_field, awaits_operation, may_stand, entered, standing, moved, within, spelling, opened, taken}
 use Rattle.tb_text.specs.Scan.{item_count, pushed, body_of, finished, when_lawful, request_of, closed_at, valued_at, decimal_grown, hexadecimal_grown, number_left}
 use Rattle.tb_text.specs.Steps.{BeginsStatements}
 use Rattle.std.specs.Fmt.{decimal}

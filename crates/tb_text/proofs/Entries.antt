@@ -5,11 +5,9 @@ use Rattle.std.proofs.lemmas.Nat.{or_shifted, or_comm}
 use Rattle.std.specs.Prelude.{bit_or}
 use Rattle.std.specs.Fmt.{decimal}
 use Rattle.std.proofs.lemmas.Bool.Decides.{nat_tests}
-use Rattle.tb_records.specs.declared.operations.Operation.{Operation}
-use Rattle.tb_text.specs.declared.words.Field.{Field}
+use Rattle.tb_text.proofs.Names.{Operation, Field, Flag}
 use Rattle.tb_text.specs.declared.words.Field.TheVariants as field
 use Rattle.tb_text.specs.declared.words.Word.TheVariants as word
-use Rattle.tb_text.specs.declared.words.Flag.{Flag}
 use Rattle.tb_text.specs.Words.{field_max, field_index, field_name, same_field, flag_bit, flags_of}
 use Rattle.tb_text.specs.Entries.{Entry, may_have, is_given, is_positive, value_from}
 use Rattle.tb_text.specs.Scan.{Scan, run, may_stand, awaits_field, entered}
@@ -230,38 +228,28 @@ told_one o f v e es adds same later = by (e.1 == 0) refl
     by true is = same ∙ ap (λ (k : ℕ). value_from k f es) (sym (nothing (same_field f e.0) (eqb-true e.1 0 is)))
     by false is = value_append f v (entries_of o e) (told o es) ∙ (ap (λ (k : ℕ). value_from k f (told o es)) adds ∙ later)
 
--- the number of another field than the flags
-pub value_told : (o : Operation) (f : Field) (v : ℕ) (es : List Entry) → same_field f field.Flags ≡ false → value_from v f (told o es) ≡ value_from v f es
-value_told o f v [] is = refl
-value_told o f v (e ∷ es) is =
-    told_one o f v e es (adds_elsewhere o f v e is) (value_told o f v es is) (value_told o f (cond (same_field f e.0) (bit_or v e.1) v) es is)
-
--- the flags stand once
-pub flags_told : (o : Operation) (q : Option Operation) (k v : ℕ) (es : List Entry) → InOrder q k es → (k ≤ field_index field.Flags → v ≡ 0) → value_from v field.Flags (told o es) ≡ value_from v field.Flags es
-flags_told o q k v [] order first = refl
-flags_told o q k v (e ∷ es) order first =
-    by (same_field field.Flags e.0) refl (flags_told o q (field_index e.0 + 1) v es order.4 (λ le. first (omega (arith, order.0, le))))
-    (λ above. flags_told o q (field_index e.0 + 1) (cond (same_field field.Flags e.0) (bit_or v e.1) v) es order.4 above)
+-- the number of a field, where nothing stands before that of the flags, which stand once
+adds : (o : Operation) (f : Field) (v : ℕ) (e : Entry) → (same_field f field.Flags ≡ true → same_field field.Flags e.0 ≡ true → v ≡ 0) → Adds o f v e
+adds o f v e first = by (same_field f field.Flags) refl (same_field field.Flags e.0) refl
   where
-    Same : ℕ → Type 0
-    Same m = value_from m field.Flags (told o es) ≡ value_from m field.Flags es
-
     swapped : (m n : ℕ) → (m == n) ≡ false → (n == m) ≡ false
     swapped m n h = grind (arith, nat_tests)
 
-    other_adds : same_field field.Flags e.0 ≡ false → Adds o field.Flags v e
-    other_adds is =
-        let apart : same_field e.0 field.Flags ≡ false = swapped (field_index field.Flags) (field_index e.0) is in
-        ap (λ (c : Bool). value_from v field.Flags (cond c (flag_entries o (flags_of o) 61 (unnamed o e.1) e.1) (e ∷ []))) apart
+    by : (a : Bool) → same_field f field.Flags ≡ a → (b : Bool) → same_field field.Flags e.0 ≡ b → Adds o f v e
+    by false is b same = adds_elsewhere o f v e is
+    by true is true same = subst (λ (g : Field). Adds o g v e) (sym (only_flags f is)) (subst (λ (m : ℕ). Adds o field.Flags m e) (sym (first is same)) (adds_first o e))
+    by true is false same =
+        ap (λ (c : Bool). value_from v f (cond c (flag_entries o (flags_of o) 61 (unnamed o e.1) e.1) (e ∷ []))) (swapped (field_index field.Flags) (field_index e.0) same)
 
-    by : (b : Bool) → same_field field.Flags e.0 ≡ b → Same v
-        → ((field_index e.0 + 1 ≤ field_index field.Flags → cond (same_field field.Flags e.0) (bit_or v e.1) v ≡ 0) → Same (cond (same_field field.Flags e.0) (bit_or v e.1) v))
-        → value_from v field.Flags (told o (e ∷ es)) ≡ value_from v field.Flags (e ∷ es)
-    by true is elsewhere later =
-        let index : field_index field.Flags ≡ field_index e.0 = eqb-true (field_index field.Flags) (field_index e.0) is in
-        let none : v ≡ 0 = first (omega (arith, order.0, index)) in
-        told_one o field.Flags v e es (subst (λ (m : ℕ). Adds o field.Flags m e) (sym none) (adds_first o e)) elsewhere
-        (later (λ le. absurd (omega (arith, le, index))))
-    by false is elsewhere later =
-        let same : cond (same_field field.Flags e.0) (bit_or v e.1) v ≡ v = ap (λ (c : Bool). cond c (bit_or v e.1) v) is in
-        told_one o field.Flags v e es (other_adds is) elsewhere (subst Same (sym same) elsewhere)
+pub value_told : (o : Operation) (q : Option Operation) (f : Field) (k v : ℕ) (es : List Entry) → InOrder q k es → (same_field f field.Flags ≡ true → k ≤ field_index field.Flags → v ≡ 0)
+    → value_from v f (told o es) ≡ value_from v f es
+value_told o q f k v [] order first = refl
+value_told o q f k v (e ∷ es) order first =
+    told_one o f v e es (adds o f v e (λ is same. first is (omega (arith, order.0, eqb-true (field_index field.Flags) (field_index e.0) same))))
+    (value_told o q f (field_index e.0 + 1) v es order.4 (λ is le. first is (omega (arith, order.0, le))))
+    (value_told o q f (field_index e.0 + 1) (cond (same_field f e.0) (bit_or v e.1) v) es order.4 later)
+  where
+    later : same_field f field.Flags ≡ true → field_index e.0 + 1 ≤ field_index field.Flags → cond (same_field f e.0) (bit_or v e.1) v ≡ 0
+    later is le =
+        let apart : same_field f e.0 ≡ false = other (field_index f) (field_index e.0) (omega (arith, le, eqb-true (field_index f) (field_index field.Flags) is)) in
+        ap (λ (c : Bool). cond c (bit_or v e.1) v) apart ∙ first is (omega (arith, order.0, le))

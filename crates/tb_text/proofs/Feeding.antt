@@ -1,22 +1,18 @@
 -- A text of tokens, each of which the reader takes, is read byte by byte.
-use Rattle.std.proofs.Common.{◌≡◌, ℕ, ◌+◌, ◌*◌, ◌-◌, ◌≤◌, inl, inr, Bool, true, false, cond, not, ◌&&◌, ◌==◌, List, [], ◌∷◌, ◌++◌, Some, None, refl, sym, ap, subst, ◌∙◌, arith}
+use Rattle.std.proofs.Common.{◌≡◌, ℕ, inl, inr, Bool, true, false, cond, not, ◌&&◌, ◌==◌, List, [], ◌∷◌, ◌++◌, Some, None, refl, sym, ap, subst, ◌∙◌, arith}
 use Rattle.tb_text.proofs.Moves.{Marked, equals, mark_cases}
-use Rattle.std.specs.Prelude.{nat_le, nat_lt}
+use Rattle.std.specs.Prelude.{nat_le}
 use Rattle.std.specs.Option.{option_and_then}
 use Rattle.std.proofs.lemmas.Bool.Decides.{nat_tests}
-use Rattle.std.proofs.lemmas.Bool.{and_parts, cond-false, cond-true, eqb-true, leb-true, not-true}
+use Rattle.std.proofs.lemmas.Bool.{and_parts, cond-true, leb-true, not-true}
 use Rattle.std.proofs.lemmas.List.{append-nil}
 use Rattle.std.proofs.lemmas.Option.{cond_some, option_and_then_some, same_Some}
-use Rattle.tb_text.specs.declared.words.Field.{Field}
-use Rattle.tb_text.specs.declared.words.Word.{Word}
-use Rattle.tb_text.specs.declared.places.Lexeme.{Lexeme}
-use Rattle.tb_text.specs.declared.places.Lexeme.TheVariants.{Gap, Comment, Zero, Prefix, Decimal, Hexadecimal}
-use Rattle.tb_text.specs.declared.places.Place.TheVariants.{Head}
+use Rattle.tb_text.proofs.Names.{Field, Word, Lexeme, Gap, Comment, Head}
 use Rattle.tb_text.specs.Words.{word_text, field_max}
 use Rattle.tb_text.specs.Entries.{is_space, is_digit, is_word_byte, digit_of, is_positive}
-use Rattle.tb_text.specs.Scan.{Scan, step, run, gap, rests, is_at_rest, wanted, may_stand, entered, within, taken, number_ended, mark, decimal_grown, hexadecimal_grown, hexadecimal_at}
-use Rattle.tb_text.specs.Grammar.{Token, Name, Number, Mark, Text, nothing, blank, comment, last_comment, token, Writes, parts, is_line, is_mark, ends_word, number_behind, number_of}
-use Rattle.tb_text.proofs.Tokens.{IsBetween, one_step, same_step, step_is, at_gap, word_through, taken_between}
+use Rattle.tb_text.specs.Scan.{Scan, step, run, gap, rests, is_at_rest, wanted, may_stand, entered, within, taken, number_ended, mark}
+use Rattle.tb_text.specs.Grammar.{Token, Name, Number, Mark, Text, nothing, blank, comment, last_comment, token, Writes, parts, is_line, ends_word}
+use Rattle.tb_text.proofs.Tokens.{IsBetween, one_step, step_is, at_gap, word_through, taken_between}
 use Rattle.tb_text.proofs.Numbers.{Ended, decimal_fed, hexadecimal_fed}
 use Rattle.tb_text.proofs.Lexing.{after, all_after, mark_between, between_same}
 use Rattle.tb_text.proofs.Runs.{only_false}

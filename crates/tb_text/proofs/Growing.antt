@@ -3,9 +3,8 @@ use Rattle.std.proofs.Common.{◌≡◌, ℕ, List, [], ◌∷◌, ◌++◌, tak
 use Rattle.std.proofs.lemmas.List.{append-nil}
 use Rattle.std.proofs.lemmas.Option.{option_and_then_some, same_Some}
 use Rattle.tb_records.specs.Messages.{Message}
-use Rattle.tb_text.specs.declared.places.Lexeme.{Lexeme}
-use Rattle.tb_text.specs.declared.places.Place.TheVariants.{Parted}
-use Rattle.tb_text.specs.Scan.{Scan, behind, step, run, entered, pushed, taken}
+use Rattle.tb_text.proofs.Names.{Lexeme}
+use Rattle.tb_text.specs.Scan.{Scan, behind, step, run, entered, taken}
 use Rattle.tb_text.specs.Steps.{StandFirst, Means, Stops}
 use Rattle.tb_text.proofs.Moves.{Marked, semicolon, Gapped, marked, Stepped, between, word_over, zero_over, decimal_over, hexadecimal_over, closed_is, mark_cases, step_cases}
 use Rattle.tb_text.proofs.Runs.{run_behind, taken_pairs}

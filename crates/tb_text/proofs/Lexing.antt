@@ -1,6 +1,6 @@
 -- What is read byte by byte is a text of tokens, each of which the reader takes.
-use Rattle.std.proofs.Common.{◌≡◌, ℕ, ◌+◌, ◌*◌, ◌-◌, inl, inr, Bool, true, false, cond, not, ◌&&◌, ◌||◌, ◌==◌, List, [], ◌∷◌, ◌++◌, Option, Some, None, refl, sym, ap, subst, ◌∙◌, append_assoc, arith}
-use Rattle.std.specs.Prelude.{nat_le, nat_lt, nat_eq}
+use Rattle.std.proofs.Common.{◌≡◌, ℕ, ◌-◌, inl, inr, Bool, true, false, cond, not, ◌&&◌, ◌||◌, ◌==◌, List, [], ◌∷◌, ◌++◌, Option, Some, None, refl, sym, ap, subst, ◌∙◌, append_assoc, arith}
+use Rattle.std.specs.Prelude.{nat_le, nat_eq}
 use Rattle.std.specs.Option.{option_and_then}
 use Rattle.std.specs.List.{find}
 use Rattle.std.specs.Cmp.Lexicographic.{pointwise, bytes_decides}
@@ -8,21 +8,15 @@ use Rattle.std.proofs.lemmas.Bool.{both_ways, eqb-true, le-leb, or_left, or_righ
 use Rattle.std.proofs.lemmas.Bool.Decides.{nat_tests}
 use Rattle.std.proofs.lemmas.List.{append-nil}
 use Rattle.std.proofs.lemmas.Option.{option_and_then_some, same_Some}
-use Rattle.tb_records.specs.declared.operations.Operation.{Operation}
-use Rattle.tb_records.specs.declared.operations.Operation.TheVariants.{Register}
-use Rattle.tb_text.specs.declared.words.Word.{Word}
+use Rattle.tb_text.proofs.Names.{Word, Lexeme, Gap, Comment, Spelled, Zero, Prefix, Decimal, Hexadecimal}
 use Rattle.tb_text.specs.declared.words.Word.TheVariants as word
-use Rattle.tb_text.specs.declared.places.Lexeme.{Lexeme}
-use Rattle.tb_text.specs.declared.places.Lexeme.TheVariants.{Gap, Comment, Spelled, Zero, Prefix, Decimal, Hexadecimal}
-use Rattle.tb_text.specs.declared.places.Place.{Place}
-use Rattle.tb_text.specs.declared.places.Place.TheVariants.{Parted}
 use Rattle.tb_text.specs.Words.{word_text, all_words, field_max}
-use Rattle.tb_text.specs.Entries.{is_space, is_digit, is_word_byte, digit_of, is_positive}
-use Rattle.tb_text.specs.Scan.{Scan, behind, step, run, rests, is_at_rest, wanted, may_stand, word_named, entered, standing, within, taken, number_ended, pushed, mark}
-use Rattle.tb_text.specs.Grammar.{Token, Name, Number, Mark, Text, nothing, blank as blank_text, comment, last_comment, token, Writes, is_line, is_mark, ends_word, number_behind, number_of}
+use Rattle.tb_text.specs.Entries.{is_space, is_digit, is_word_byte, is_positive}
+use Rattle.tb_text.specs.Scan.{Scan, behind, step, run, rests, is_at_rest, wanted, may_stand, word_named, entered, standing, within, taken, number_ended, mark}
+use Rattle.tb_text.specs.Grammar.{Token, Name, Number, Mark, Text, nothing, blank as blank_text, comment, last_comment, token, Writes, is_line, is_mark, ends_word, number_of}
 use Rattle.tb_text.proofs.Tokens.{IsBetween, taken_between}
 use Rattle.tb_text.proofs.Numbers.{number_more, number_first, digit_is, below_ten, digit_says}
-use Rattle.tb_text.proofs.Moves.{Fits, Marked, equals, comma, semicolon, Gapped, blank, sharp, nought, digit, letter, marked, Numbered, Stepped, between, line_over, line_goes, word_goes, word_over, prefixed, zero_goes, zero_over, hexadecimal_begins, decimal_goes, decimal_over, hexadecimal_goes, hexadecimal_over, closed_is, mark_cases, step_cases}
+use Rattle.tb_text.proofs.Moves.{Fits, Marked, equals, semicolon, Gapped, blank, sharp, nought, digit, letter, marked, Numbered, Stepped, between, line_over, line_goes, word_goes, word_over, prefixed, zero_goes, zero_over, hexadecimal_begins, decimal_goes, decimal_over, hexadecimal_goes, hexadecimal_over, closed_is, mark_cases, step_cases}
 use Rattle.tb_text.proofs.Ongoing.{fits_most, IsOngoing, Within, step_goes}
 
 -- behind a token

@@ -1,3 +1,4 @@
+pub mod Names
 pub mod EachWord
 pub mod Runs
 pub mod Tokens

@@ -1,10 +1,7 @@
 -- What a text means is what the grammar says that it says.
 use Rattle.std.proofs.Common.{◌≡◌, ℕ, true, List, [], refl, subst}
 use Rattle.tb_records.specs.Messages.{Message}
-use Rattle.tb_text.specs.declared.places.Lexeme.{Lexeme}
-use Rattle.tb_text.specs.declared.places.Lexeme.TheVariants.{Gap, Comment, Spelled, Zero, Prefix, Decimal, Hexadecimal}
-use Rattle.tb_text.specs.declared.places.Place.{Place}
-use Rattle.tb_text.specs.declared.places.Place.TheVariants.{Head, Named, Wanted, Given, Opened, Parted}
+use Rattle.tb_text.proofs.Names.{Lexeme, Gap, Comment, Place, Head}
 use Rattle.tb_text.specs.Scan.{behind, rests, within}
 use Rattle.tb_text.specs.Steps.{Means}
 use Rattle.tb_text.specs.Grammar.{Says, Statements}

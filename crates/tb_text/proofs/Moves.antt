@@ -1,20 +1,12 @@
 -- The ways in which the reader goes on with a byte.
-use Rattle.std.proofs.Common.{◌≡◌, ℕ, ◌+◌, ◌*◌, ◌-◌, ◌%◌, ◌^◌, ◌≤◌, Bool, true, false, cond, ◌&&◌, ◌==◌, List, [], ◌∷◌, ◌++◌, Option, Some, None, refl, sym, ap, subst, ◌∙◌, arith}
+use Rattle.std.proofs.Common.{◌≡◌, ℕ, ◌+◌, ◌*◌, ◌-◌, ◌%◌, ◌^◌, ◌≤◌, Bool, true, false, cond, ◌&&◌, ◌==◌, [], ◌∷◌, ◌++◌, Option, Some, None, refl, sym, ap, subst, ◌∙◌, arith}
 use Rattle.std.specs.Prelude.{nat_le, nat_lt}
 use Rattle.std.specs.Option.{option_and_then}
 use Rattle.std.proofs.lemmas.Bool.{leb-true, eqb-true}
 use Rattle.std.proofs.lemmas.Option.{cond_some, option_and_then_some, same_Some}
-use Rattle.tb_records.specs.declared.faults.FrameFault.{FrameFault}
-use Rattle.tb_records.specs.declared.operations.Operation.{Operation}
-use Rattle.tb_records.specs.declared.operations.Operation.TheVariants.{Register}
+use Rattle.tb_text.proofs.Names.{FrameFault, Operation, Lexeme, Gap, Comment, Spelled, Zero, Prefix, Decimal, Hexadecimal, Place, Named, Wanted, Given, Opened, Parted, Field, Word}
 use Rattle.tb_records.specs.Messages.{Message, number_fault}
-use Rattle.tb_text.specs.declared.places.Lexeme.{Lexeme}
-use Rattle.tb_text.specs.declared.places.Lexeme.TheVariants.{Gap, Comment, Spelled, Zero, Prefix, Decimal, Hexadecimal}
-use Rattle.tb_text.specs.declared.places.Place.{Place}
-use Rattle.tb_text.specs.declared.places.Place.TheVariants.{Named, Wanted, Given, Opened, Parted}
-use Rattle.tb_text.specs.declared.words.Field.{Field}
 use Rattle.tb_text.specs.declared.words.Field.TheVariants as field
-use Rattle.tb_text.specs.declared.words.Word.{Word}
 use Rattle.tb_text.specs.Words.{field_max, same_field}
 use Rattle.tb_text.specs.Entries.{is_space, is_digit, is_word_byte, digit_of, is_positive, value_of}
 use Rattle.tb_text.specs.Scan.{Scan, behind, step, step_at, gap, wanted, may_stand, begins_word, word_named, entered, moved, within, spelling, taken, word_ended, number_ended, item_count, pushed, when_lawful, request_of, closed_at, parted_at, valued_at, joined_at, mark, word_grown, next_number, decimal_grown, hexadecimal_grown, zero_begun, word_left, number_left, hexadecimal_at}

@@ -7,16 +7,10 @@ use Rattle.std.proofs.lemmas.Bool.Decides.{nat_tests}
 use Rattle.std.proofs.lemmas.List.{at_drop_more}
 use Rattle.std.proofs.lemmas.Nat.{or_shifted, or_comm}
 use Rattle.std.proofs.Math.Nat.{div-div-eq-div-mul}
-use Rattle.tb_records.specs.declared.operations.Operation.{Operation}
-use Rattle.tb_records.specs.declared.operations.Operation.TheVariants.{Register, CreateAccounts, CreateTransfers, LookupAccounts, LookupTransfers}
-use Rattle.tb_text.specs.declared.words.Field.{Field}
+use Rattle.tb_text.proofs.Names.{Operation, Register, CreateAccounts, CreateTransfers, Field, Flag, Gap, Place, Given, Named, Wanted}
 use Rattle.tb_text.specs.declared.words.Field.TheVariants as field
-use Rattle.tb_text.specs.declared.words.Flag.{Flag}
 use Rattle.tb_text.specs.declared.words.Flag.TheVariants as flag
 use Rattle.tb_text.specs.declared.words.Word.TheVariants as word
-use Rattle.tb_text.specs.declared.places.Lexeme.TheVariants.{Gap}
-use Rattle.tb_text.specs.declared.places.Place.{Place}
-use Rattle.tb_text.specs.declared.places.Place.TheVariants.{Given, Named, Wanted}
 use Rattle.tb_text.specs.Words.{field_name, flag_bit, flag_name, flags_of}
 use Rattle.tb_text.specs.Entries.{Entry, value_from, bit_of, is_word_byte}
 use Rattle.tb_text.specs.Scan.{Scan, standing, may_stand, run, step}

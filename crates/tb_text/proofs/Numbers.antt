@@ -7,11 +7,8 @@ use Rattle.std.proofs.lemmas.Bool.{cond-false, cond-true, eqb-true, le-leb, lt-l
 use Rattle.std.proofs.lemmas.Bool.Decides.{nat_tests}
 use Rattle.std.proofs.lemmas.Fmt.{decimal_by_steps_wide}
 use Rattle.std.proofs.lemmas.Option.{option_and_then_some, same_Some}
-use Rattle.tb_text.specs.declared.words.Field.{Field}
+use Rattle.tb_text.proofs.Names.{Field, Lexeme, Zero, Prefix, Decimal, Hexadecimal, Wanted, Named}
 use Rattle.tb_text.specs.declared.words.Word.TheVariants as word
-use Rattle.tb_text.specs.declared.places.Lexeme.{Lexeme}
-use Rattle.tb_text.specs.declared.places.Lexeme.TheVariants.{Zero, Prefix, Decimal, Hexadecimal}
-use Rattle.tb_text.specs.declared.places.Place.TheVariants.{Wanted, Named}
 use Rattle.tb_text.specs.Words.{field_max, field_name}
 use Rattle.tb_text.specs.Entries.{is_space, is_digit, is_word_byte, digit_of, is_positive}
 use Rattle.tb_text.specs.Scan.{Scan, step, run, gap, may_stand, within, moved, entered, wanted, appended, next_number, decimal_grown, hexadecimal_grown, hexadecimal_at, number_ended, number_left}

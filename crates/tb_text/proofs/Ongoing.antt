@@ -1,25 +1,17 @@
 -- What holds of whatever has been read: the numbers before an operation are those of a request, a number that is begun
 -- fits, a word that is begun goes on, and there is room for the event that is begun.
 use Rattle.std.proofs.Common.{◌≡◌, ℕ, ◌+◌, ◌-◌, ◌^◌, ◌<◌, ◌≤◌, Bool, true, false, cond, not, ◌&&◌, ◌||◌, ◌==◌, List, [], ◌∷◌, ◌++◌, length, take, drop, Option, Some, None, refl, sym, ap, subst, ◌∙◌, arith, length-append, lit<}
-use Rattle.std.specs.Prelude.{nat_lt, nat_eq, bit_or}
+use Rattle.std.specs.Prelude.{nat_eq, bit_or}
 use Rattle.std.specs.Option.{is_none}
 use Rattle.std.specs.List.{list_any, starts_with}
 use Rattle.std.specs.Cmp.Lexicographic.{bytes_decides}
 use Rattle.std.proofs.lemmas.Bool.{and_parts, eqb-true, not-true, or_parts, ltb-true}
-use Rattle.std.proofs.lemmas.Bool.Decides.{nat_tests}
 use Rattle.std.proofs.lemmas.List.{take-append-drop}
 use Rattle.std.proofs.lemmas.Option.{option_and_then_some, same_Some}
 use Rattle.tb_records.specs.Messages.{Message}
-use Rattle.tb_records.specs.declared.operations.Operation.{Operation}
-use Rattle.tb_records.specs.declared.operations.Operation.TheVariants.{Register, CreateAccounts, CreateTransfers, LookupAccounts, LookupTransfers}
-use Rattle.tb_text.specs.declared.words.Field.{Field}
+use Rattle.tb_text.proofs.Names.{Operation, Register, CreateAccounts, CreateTransfers, LookupAccounts, LookupTransfers, Field, Word, Lexeme, Gap, Comment, Spelled, Zero, Prefix, Decimal, Hexadecimal, Place, Head, Named, Wanted, Given, Opened, Parted}
 use Rattle.tb_text.specs.declared.words.Field.TheVariants as field
-use Rattle.tb_text.specs.declared.words.Word.{Word}
 use Rattle.tb_text.specs.declared.words.Word.TheVariants as word
-use Rattle.tb_text.specs.declared.places.Lexeme.{Lexeme}
-use Rattle.tb_text.specs.declared.places.Lexeme.TheVariants.{Gap, Comment, Spelled, Zero, Prefix, Decimal, Hexadecimal}
-use Rattle.tb_text.specs.declared.places.Place.{Place}
-use Rattle.tb_text.specs.declared.places.Place.TheVariants.{Head, Named, Wanted, Given, Opened, Parted}
 use Rattle.tb_text.specs.Words.{word_text, all_words, field_index, field_max, same_field, is_header_field, has_field}
 use Rattle.tb_text.specs.Entries.{Entry, is_given, value_from, value_of, account_of, transfer_of, may_have, suits, is_positive, bit_of}
 use Rattle.tb_text.specs.Scan.{Scan, behind, step, run, wanted, is_field, awaits_field, awaits_operation, may_stand, begins_word, entered, spelling, taken, item_count, pushed}

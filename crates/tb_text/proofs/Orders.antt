@@ -1,11 +1,7 @@
 -- The fields of accounts and transfers stand in the order of the records, and their numbers fit.
 use Rattle.std.proofs.Common.{◌≡◌, ℕ, ◌-◌, ◌^◌, ◌<◌, ◌≤◌, true, Some, refl, arith, lit≤}
-use Rattle.tb_records.specs.declared.operations.Operation.{Operation}
-use Rattle.tb_records.specs.declared.operations.Operation.TheVariants.{CreateAccounts, CreateTransfers}
-use Rattle.tb_records.specs.declared.records.Account.{Account}
-use Rattle.tb_records.specs.declared.records.Transfer.{Transfer}
+use Rattle.tb_text.proofs.Names.{Operation, CreateAccounts, CreateTransfers, Account, Transfer, Field}
 use Rattle.tb_records.specs.RecordBytes.{IsAccount, IsTransfer}
-use Rattle.tb_text.specs.declared.words.Field.{Field}
 use Rattle.tb_text.specs.declared.words.Field.TheVariants as field
 use Rattle.tb_text.specs.Printed.{account_entries, transfer_entries}
 use Rattle.tb_text.specs.Words.{field_index, field_max, has_field}

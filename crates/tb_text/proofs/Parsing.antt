@@ -3,14 +3,10 @@ use Rattle.std.proofs.Common.{◌≡◌, ℕ, ◌⊎◌, inl, inr, true, not, �
 use Rattle.std.proofs.lemmas.Bool.{and_parts, not-true}
 use Rattle.std.proofs.lemmas.List.{append-nil}
 use Rattle.std.proofs.lemmas.Option.{cond_some, option_and_then_some, same_Some}
-use Rattle.tb_records.specs.declared.faults.FrameFault.{FrameFault}
+use Rattle.tb_text.proofs.Names.{FrameFault, Operation, Field, Place, Head, Named, Wanted, Given, Opened, Parted}
 use Rattle.tb_records.specs.Messages.{Message, IsLawful, number_fault}
-use Rattle.tb_records.specs.declared.operations.Operation.{Operation}
-use Rattle.tb_text.specs.declared.words.Field.{Field}
 use Rattle.tb_text.specs.declared.words.Field.TheVariants as field
 use Rattle.tb_text.specs.declared.words.Word.TheVariants as word
-use Rattle.tb_text.specs.declared.places.Place.{Place}
-use Rattle.tb_text.specs.declared.places.Place.TheVariants.{Head, Named, Wanted, Given, Opened, Parted}
 use Rattle.tb_text.specs.Words.{same_field, has_field}
 use Rattle.tb_text.specs.Entries.{Entry, is_given, may_have, suits}
 use Rattle.tb_text.specs.Scan.{Scan, behind, awaits_field, awaits_operation, opened, pushed, finished, when_lawful, closed_at}

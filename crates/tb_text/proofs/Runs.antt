@@ -3,8 +3,7 @@ use Rattle.std.proofs.Common.{◌≡◌, ℕ, ◌+◌, ◌<◌, Bool, true, fals
 use Rattle.std.specs.Option.{option_and_then}
 use Rattle.std.proofs.lemmas.List.{take_more}
 use Rattle.std.proofs.lemmas.Option.{cond_some, option_and_then_some, same_Some}
-use Rattle.tb_text.specs.declared.words.Field.{Field}
-use Rattle.tb_text.specs.declared.words.Word.{Word}
+use Rattle.tb_text.proofs.Names.{Field, Word}
 use Rattle.tb_text.specs.declared.words.Word.TheVariants as word
 use Rattle.tb_text.specs.declared.places.Refusal.{Refusal}
 use Rattle.tb_text.specs.declared.places.Refusal.TheVariants.{Memory, Unexpected}

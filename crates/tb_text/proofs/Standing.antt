@@ -4,20 +4,13 @@ use Rattle.std.specs.Prelude.{nat_le}
 use Rattle.std.specs.Option.{option_and_then}
 use Rattle.std.proofs.lemmas.Bool.Decides.{nat_tests}
 use Rattle.std.proofs.lemmas.List.{map-append, length-map}
-use Rattle.tb_records.specs.declared.operations.Operation.{Operation}
-use Rattle.tb_records.specs.declared.operations.Operation.TheVariants.{Register, CreateAccounts, CreateTransfers, LookupAccounts, LookupTransfers}
-use Rattle.tb_records.specs.declared.records.Account.{Account}
-use Rattle.tb_records.specs.declared.records.Transfer.{Transfer}
+use Rattle.tb_text.proofs.Names.{Operation, Register, CreateAccounts, CreateTransfers, LookupAccounts, LookupTransfers, Account, Transfer, Field, Gap, Place, Wanted, Given, Opened}
 use Rattle.tb_records.specs.Messages.{Message, number_fault, item_count as body_count}
-use Rattle.tb_text.specs.declared.words.Field.{Field}
 use Rattle.tb_text.specs.declared.words.Field.TheVariants as field
 use Rattle.tb_text.specs.declared.words.Word.TheVariants as word
-use Rattle.tb_text.specs.declared.places.Lexeme.TheVariants.{Gap}
-use Rattle.tb_text.specs.declared.places.Place.{Place}
-use Rattle.tb_text.specs.declared.places.Place.TheVariants.{Wanted, Given, Opened}
 use Rattle.tb_text.specs.Words.{field_max, same_field, has_field}
 use Rattle.tb_text.specs.Entries.{Entry, value_of, account_of, transfer_of, bit_of, is_positive}
-use Rattle.tb_text.specs.Scan.{Scan, entered, opened, with_items, item_count, pushed, finished, when_lawful, request_of, closed_at, parted_at, mark}
+use Rattle.tb_text.specs.Scan.{Scan, bare, standing, entered, opened, with_items, item_count, pushed, finished, when_lawful, request_of, closed_at, parted_at, mark}
 use Rattle.tb_text.specs.Grammar.{Token, Name, Number, Mark, number_as, body_said, said}
 use Rattle.tb_text.proofs.Entries.{only_flags}
 use Rattle.tb_text.proofs.Lexing.{after}
@@ -66,18 +59,7 @@ ids_in (event pairs header o done) = ids_said o done
 
 -- the reader there
 abbrev pub stand : Context → Place → List Entry → Scan
-stand c place given = record {
-  pairs = pairs_in c;
-  lexeme = Gap;
-  spelled = [];
-  place = place;
-  operation = operation_in c;
-  header = header_in c;
-  given = given;
-  accounts = accounts_in c;
-  transfers = transfers_in c;
-  ids = ids_in c;
-}
+stand c place given = standing (with_items (bare (pairs_in c) place (operation_in c) (header_in c)) (accounts_in c) (transfers_in c) (ids_in c)) Gap [] place given
 
 -- VALUES
 

@@ -1,16 +1,12 @@
 -- The reader takes the tokens of statements, up to the requests that they say.
-use Rattle.std.proofs.Common.{◌≡◌, ℕ, ◌+◌, ◌<◌, ◌≤◌, true, false, not, ◌&&◌, List, [], ◌∷◌, ◌++◌, length, Some, None, refl, sym, ap, subst, ◌∙◌, append_assoc, arith, length-append}
+use Rattle.std.proofs.Common.{◌≡◌, ℕ, ◌+◌, ◌≤◌, true, false, not, ◌&&◌, List, [], ◌∷◌, ◌++◌, length, Some, None, refl, sym, ap, subst, ◌∙◌, append_assoc, arith, length-append}
 use Rattle.std.specs.Prelude.{nat_lt}
 use Rattle.std.specs.Option.{option_and_then}
-use Rattle.std.proofs.lemmas.Bool.Decides.{nat_tests}
 use Rattle.std.proofs.lemmas.List.{append-nil}
 use Rattle.tb_records.specs.Messages.{Message, IsLawful}
-use Rattle.tb_records.specs.declared.operations.Operation.{Operation}
-use Rattle.tb_text.specs.declared.words.Field.{Field}
+use Rattle.tb_text.proofs.Names.{Operation, Field, Place, Head, Named, Wanted, Given, Opened, Parted}
 use Rattle.tb_text.specs.declared.words.Field.TheVariants as field
 use Rattle.tb_text.specs.declared.words.Word.TheVariants as word
-use Rattle.tb_text.specs.declared.places.Place.{Place}
-use Rattle.tb_text.specs.declared.places.Place.TheVariants.{Head, Named, Wanted, Given, Opened, Parted}
 use Rattle.tb_text.specs.Words.{same_field, has_field}
 use Rattle.tb_text.specs.Entries.{Entry, is_given, may_have, suits}
 use Rattle.tb_text.specs.Scan.{Scan, behind, awaits_field, awaits_operation, item_count, opened, pushed, finished, when_lawful}

@@ -1,21 +1,18 @@
 -- An operation suits a header whose request keeps the rules of requests.
-use Rattle.std.proofs.Common.{◌≡◌, ℕ, ◌-◌, ◌%◌, ◌^◌, ◌<◌, ◌≤◌, Bool, true, false, cond, not, ◌&&◌, ◌==◌, List, [], ◌∷◌, ◌++◌, Some, None, refl, sym, ap, subst, ◌∙◌, arith, lit<, lit≤}
-use Rattle.std.specs.Prelude.{nat_le, bit_or}
+use Rattle.std.proofs.Common.{◌≡◌, ℕ, ◌-◌, ◌%◌, ◌^◌, ◌<◌, ◌≤◌, true, false, not, ◌&&◌, ◌==◌, List, [], ◌∷◌, ◌++◌, Some, None, refl, sym, ap, subst, ◌∙◌, arith, lit<, lit≤}
+use Rattle.std.specs.Prelude.{nat_le}
 use Rattle.tb_records.specs.Messages.{IsLawful}
-use Rattle.tb_records.specs.declared.operations.Operation.{Operation}
-use Rattle.tb_records.specs.declared.operations.Operation.TheVariants.{Register, CreateAccounts, CreateTransfers, LookupAccounts, LookupTransfers}
-use Rattle.tb_text.specs.declared.words.Field.{Field}
+use Rattle.tb_text.proofs.Names.{Operation, Register, Field}
 use Rattle.tb_text.specs.declared.words.Field.TheVariants as field
 use Rattle.tb_text.specs.declared.words.Word.TheVariants as word
 use Rattle.tb_text.specs.Words.{field_max, field_index, same_field, is_header_field}
 use Rattle.tb_text.specs.Entries.{Entry, is_given, value_of, is_positive, suits}
-use Rattle.tb_text.specs.Grammar.{Token, Name, Number, Mark, number_as, Values, one_value, more_values, Valued, valued, Entries, no_entry, more_entries, said}
-use Rattle.tb_text.proofs.Entries.{none_or, value_append, only_flags}
+use Rattle.tb_text.specs.Grammar.{Token, Name, Number, number_as, Values, one_value, more_values, Valued, valued, Entries, no_entry, more_entries, said}
 use Rattle.tb_text.proofs.Items.{low, low_32}
 use Rattle.tb_text.proofs.Ongoing.{not_valued, below_more, below_request, no_header_flags}
 use Rattle.tb_text.proofs.Statements.{numbers_of, both_not}
 use Rattle.std.proofs.lemmas.Option.{cond_some}
-use Rattle.tb_text.proofs.Standing.{only_amount, same_back}
+use Rattle.tb_text.proofs.Standing.{only_amount}
 use Rattle.std.proofs.lemmas.Bool.{and_from, and_parts, eqb-true, leb-true, not-false, both_ways, false_from_ne_true}
 
 -- the numbers of a session and of a request have room

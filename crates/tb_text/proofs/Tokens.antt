@@ -7,10 +7,8 @@ use Rattle.std.specs.Cmp.Lexicographic.{bytes_decides}
 use Rattle.std.proofs.lemmas.Bool.Decides.{nat_tests}
 use Rattle.std.proofs.lemmas.List.{append-nil, take_at}
 use Rattle.std.proofs.lemmas.List.Folds.{list_any_at}
-use Rattle.tb_text.specs.declared.words.Word.{Word}
+use Rattle.tb_text.proofs.Names.{Word, Lexeme, Gap}
 use Rattle.tb_text.specs.declared.words.Word.TheVariants as word
-use Rattle.tb_text.specs.declared.places.Lexeme.{Lexeme}
-use Rattle.tb_text.specs.declared.places.Lexeme.TheVariants.{Gap}
 use Rattle.tb_text.specs.Words.{word_text, all_words}
 use Rattle.tb_text.specs.Entries.{is_space, is_digit, is_word_byte}
 use Rattle.tb_text.specs.Scan.{Scan, step, step_at, run, gap, may_stand, taken, spelling, word_named, word_grown, begins_word}

@@ -36,20 +36,24 @@ pub record Scan : Type 0 where
   pub transfers : List Transfer
   pub ids : List ℕ
 
--- nothing of a statement behind these pairs
-abbrev pub behind : List (ℕ × Message) → Scan
-behind pairs = record {
+-- a statement of which nothing is given behind its header
+abbrev pub bare : List (ℕ × Message) → Place → Option Operation → List Entry → Scan
+bare pairs place operation header = record {
   pairs = pairs;
   lexeme = Gap;
   spelled = [];
-  place = Head;
-  operation = None;
-  header = [];
+  place = place;
+  operation = operation;
+  header = header;
   given = [];
   accounts = [];
   transfers = [];
   ids = [];
 }
+
+-- nothing of a statement behind these pairs
+abbrev pub behind : List (ℕ × Message) → Scan
+behind pairs = bare pairs Head None []
 
 -- words
 
@@ -121,18 +125,7 @@ spelling s text = standing s Spelled text s.place s.given
 
 -- an operation behind its header
 abbrev pub opened : Scan → Operation → Scan
-opened s o = record {
-  pairs = s.pairs;
-  lexeme = Gap;
-  spelled = [];
-  place = Opened;
-  operation = Some o;
-  header = s.given;
-  given = [];
-  accounts = [];
-  transfers = [];
-  ids = [];
-}
+opened s o = bare s.pairs Opened (Some o) s.given
 
 -- what a word that may stand here makes of the statement
 abbrev pub taken : Scan → Word → Scan

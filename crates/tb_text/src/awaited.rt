@@ -1,7 +1,7 @@
 //! What could stand next in a text of statements.
 ghost use Rattle.std.specs.List.{filter};
 ghost use Rattle.std.specs.Prelude.{◌≡◌, IfOk};
-ghost use Rattle.tb_text.specs.Awaited.{AwaitsBehind, MayStand, OnNextLine, awaits_equals, awaits_bar, is_given_place, is_opened_place, awaits_comma, awaits_semicolon};
+ghost use Rattle.tb_text.specs.Awaited.{AwaitsBehind, MayStand, OnNextLine, awaits_comma, awaits_semicolon};
 ghost use Rattle.tb_text.specs.Scan.{may_stand};
 ghost use Rattle.tb_text.specs.Words.{all_words};
 
@@ -27,39 +27,6 @@ pub struct Awaited {
     pub semicolon: bool,
 }
 
-impl Place {
-    /// Says that a `=` may stand next.
-    fn awaits_equals(self) -> bool
-        ensures { result ≡ awaits_equals self }
-    {
-        matches!(self, Place::Named(_))
-    }
-
-    /// Says that a `|` may stand next.
-    fn awaits_bar(self) -> bool
-        ensures { result ≡ awaits_bar self }
-    {
-        match self {
-            Place::Given(field) => Field::Flags.index() == field.index(),
-            _ => false,
-        }
-    }
-
-    /// Says that a field's number has just been given.
-    fn is_given(self) -> bool
-        ensures { result ≡ is_given_place self }
-    {
-        matches!(self, Place::Given(_))
-    }
-
-    /// Says that a statement with an operation may end.
-    fn is_opened(self) -> bool
-        ensures { result ≡ is_opened_place self }
-    {
-        matches!(self, Place::Given(_) | Place::Opened)
-    }
-}
-
 impl Scanner {
     /// The words that may stand next.
     fn words_that_may_stand(&self, alloc: Global) -> Result<Vec<Word>, AllocError>
@@ -78,14 +45,14 @@ impl Scanner {
     fn awaits_comma(&self) -> bool
         ensures { result ≡ awaits_comma self.now }
     {
-        self.has_operation() && self.place().is_given() && self.has_room()
+        self.has_operation() && matches!(self.place(), Place::Given(_)) && self.has_room()
     }
 
     /// Says that a `;` may stand next.
     fn awaits_semicolon(&self) -> bool
         ensures { result ≡ awaits_semicolon self.now }
     {
-        self.has_operation() && self.place().is_opened()
+        self.has_operation() && matches!(self.place(), Place::Given(_) | Place::Opened)
     }
 
     /// What may stand next, where no word or number is begun.
@@ -97,8 +64,8 @@ impl Scanner {
         Ok(Awaited {
             words,
             number: place.wanted(),
-            equals: place.awaits_equals(),
-            bar: place.awaits_bar(),
+            equals: matches!(place, Place::Named(_)),
+            bar: matches!(place, Place::Given(Field::Flags)),
             comma: self.awaits_comma(),
             semicolon: self.awaits_semicolon(),
         })

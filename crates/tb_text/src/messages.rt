@@ -318,9 +318,11 @@ fn names(alloc: Global, awaited: &Awaited) -> Result<Vec<&'static str>, AllocErr
     Ok(names)
 }
 
-/// Appends names, the last one behind an `or`.
-fn put_names(out: &mut Vec<u8>, names: &[&'static str]) -> Result<(), AllocError> {
-    for (place, name) in names.iter().enumerate() {
+/// Appends what could stand next, the last name behind an `or`.
+fn put_expected(alloc: Global, out: &mut Vec<u8>, awaited: &Awaited) -> Result<(), AllocError> {
+    let names = names(alloc, awaited)?;
+    put(out, "\n  expected ")?;
+    for (place, name) in names.as_slice().iter().enumerate() {
         let mark = match place {
             0 => "",
             _ if place == names.len() - 1 => " or ",
@@ -329,13 +331,6 @@ fn put_names(out: &mut Vec<u8>, names: &[&'static str]) -> Result<(), AllocError
         put_parts(out, &[mark.as_bytes(), name.as_bytes()])?;
     }
     Ok(())
-}
-
-/// Appends what could stand next.
-fn put_expected(alloc: Global, out: &mut Vec<u8>, awaited: &Awaited) -> Result<(), AllocError> {
-    let names = names(alloc, awaited)?;
-    put(out, "\n  expected ")?;
-    put_names(out, names.as_slice())
 }
 
 /// Appends what is wrong where a text goes wrong, and what could stand there. The word at the place is its bytes, and

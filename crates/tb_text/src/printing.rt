@@ -84,24 +84,6 @@ fn put_entry(
     put_number(alloc, out, number)
 }
 
-/// Appends fields that stand behind others, those that are 0 left out.
-fn put_further(
-    alloc: Global,
-    out: &mut Vec<u8>,
-    operation: Operation,
-    entries: &[(Field, u128)],
-) -> Result<(), AllocError>
-    ensures { OnOk result (out.new.items ≡ out.old.items ++ further_text operation entries.now) }
-{
-    for (field, number) in entries {
-        if *number != 0 {
-            out.extend_from_slice(b" ")?;
-            put_entry(alloc, out, operation, *field, *number)?;
-        }
-    }
-    Ok(())
-}
-
 /// Appends a field, and those behind it that are not 0.
 fn put_entries(
     alloc: Global,
@@ -115,7 +97,13 @@ fn put_entries(
         (out.new.items ≡ out.old.items ++ entries_text operation (field, number) others.now) }
 {
     put_entry(alloc, out, operation, field, number)?;
-    put_further(alloc, out, operation, others)
+    for (other, value) in others {
+        if *value != 0 {
+            out.extend_from_slice(b" ")?;
+            put_entry(alloc, out, operation, *other, *value)?;
+        }
+    }
+    Ok(())
 }
 
 /// The fields before the operation of a request, behind the moment.
@@ -247,21 +235,6 @@ fn put_more<T: Event>(alloc: Global, out: &mut Vec<u8>, events: &[T]) -> Result<
     Ok(())
 }
 
-/// Appends the events of an operation.
-fn put_events<T: Event>(alloc: Global, out: &mut Vec<u8>, events: &[T]) -> Result<(), AllocError>
-    ensures put { OnOk result (out.new.items ≡ out.old.items ++ items_text T.text events.now) }
-    ensures fits { OnOk result (All T.Fits events.now) }
-{
-    match events {
-        [] => Ok(()),
-        [first, rest @ ..] => {
-            out.extend_from_slice(b" ")?;
-            first.put(alloc, out)?;
-            put_more(alloc, out, rest)
-        }
-    }
-}
-
 /// Appends the name of an operation and its events.
 fn put_operation<T: Event>(
     alloc: Global,
@@ -275,7 +248,14 @@ fn put_operation<T: Event>(
     ensures fits { OnOk result (All T.Fits events.now) }
 {
     out.extend_from_slice(operation.name().as_bytes())?;
-    put_events(alloc, out, events)
+    match events {
+        [] => Ok(()),
+        [first, rest @ ..] => {
+            out.extend_from_slice(b" ")?;
+            first.put(alloc, out)?;
+            put_more(alloc, out, rest)
+        }
+    }
 }
 
 /// Appends an operation and its events.

@@ -84,6 +84,13 @@ impl Place {
     }
 }
 
+/// Takes the elements out of a vector.
+fn take_items<T: Drop>(items: &mut Vec<T>, alloc: Global) -> Items<T>
+    ensures { result ≡ items.old.items }
+{
+    Items::new(mem::replace(items, Vec::new(alloc)))
+}
+
 /// Says that a field's number is to stand next.
 fn is_field(field: Field, wanted: Option<Field>) -> bool
     ensures { result ≡ is_field field wanted }
@@ -210,16 +217,7 @@ impl Scanner {
         }
         self.enter(field, number)
     }
-}
 
-/// Takes the elements out of a vector.
-fn take_items<T: Drop>(items: &mut Vec<T>, alloc: Global) -> Items<T>
-    ensures { result ≡ items.old.items }
-{
-    Items::new(mem::replace(items, Vec::new(alloc)))
-}
-
-impl Scanner {
     /// Puts the event, or the id, that was given behind the others, and goes to a place.
     fn push(&mut self, operation: Operation, place: Place) -> Result<(), Refusal>
         ensures { Steps self.old result (Some (pushed self.old operation place)) self.new }
@@ -411,9 +409,7 @@ impl Scanner {
     fn begin_zero(&mut self) -> Result<(), Refusal>
         ensures { Steps self.old result (zero_begun self.old) self.new }
     {
-        if self.place.wanted().is_none() {
-            return Err(Refusal::Unexpected);
-        }
+        self.place.wanted().ok_or(Refusal::Unexpected)?;
         self.begin(Lexeme::Zero);
         Ok(())
     }
@@ -459,9 +455,7 @@ impl Scanner {
         self.end_number(number)?;
         self.gap(byte)
     }
-}
 
-impl Scanner {
     /// Nothing read yet.
     pub fn new(alloc: Global) -> Scanner
         ensures { result ≡ behind [] }

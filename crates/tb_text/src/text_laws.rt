@@ -13,16 +13,19 @@ ghost use Rattle.tb_text.specs.Printed.{flags_text, printed};
 ghost use Rattle.tb_text.specs.Steps.{BeginsUpTo, Means, Reads, StandFirst, Stops};
 
 /// What is printed of requests and their moments is a text that means them.
+#[tactic(auto, using(crate::proofs::Statements::read_back))]
 pub fn printed_is_read()
     ensures { (pairs : List (ℕ × Message)) → All IsTimed pairs → Means (printed pairs) pairs }
 {}
 
 /// A text has at most one meaning.
+#[tactic(auto, using(crate::proofs::Statements::one_meaning))]
 pub fn one_meaning()
     ensures { (text : List ℕ) (ps qs : List (ℕ × Message)) → Means text ps → Means text qs → ps ≡ qs }
 {}
 
 /// The statements of a text are these requests exactly where the grammar of statements says that the text says them.
+#[tactic(auto, using(crate::proofs::Meanings::means_says, crate::proofs::Meanings::says_means))]
 pub fn means_what_it_says()
     ensures said { (text : List ℕ) (pairs : List (ℕ × Message)) → Means text pairs → Says text pairs }
     ensures meant { (text : List ℕ) (pairs : List (ℕ × Message)) → Says text pairs → Means text pairs }
@@ -80,6 +83,7 @@ pub fn nothing_goes_on()
 
 /// A text that is read as a whole is a text of statements; one in which reading stops begins one up to that place, and
 /// not with the byte there.
+#[tactic(auto, using(crate::proofs::Faults::begins_up_to))]
 pub fn begins_up_to_the_place()
     ensures { (text : List ℕ) (pairs : List (ℕ × Message)) (place : Option ℕ) → Reads text pairs place
         → BeginsUpTo text place }

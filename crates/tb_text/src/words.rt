@@ -2,7 +2,7 @@
 ghost use Rattle.std.specs.Prelude.{◌≡◌, IfSome, Some};
 ghost use Rattle.tb_records.specs.AccountFlags.{account_flag_name};
 ghost use Rattle.tb_records.specs.TransferFlags.{transfer_flag_name};
-ghost use Rattle.tb_text.specs.Words.{field_name, field_index, field_max, has_account_field, has_transfer_field, is_header_field, has_field, account_flag, transfer_flag, flag_name, flags_of, account_bit, transfer_bit, flag_bit, word_text, all_words};
+ghost use Rattle.tb_text.specs.Words.{field_name, field_index, field_max, has_account_field, has_transfer_field, is_header_field, has_field, account_flag, transfer_flag, flag_name, flags_of, flag_bit, word_text, all_words};
 
 use tb_records::{AccountFlag, Operation, TransferFlag};
 
@@ -334,27 +334,13 @@ impl Flag {
         }
     }
 
-    /// The flag's bit in an account, 0 where accounts do not have it.
-    fn account_bit(self) -> u128
-        ensures { result ≡ account_bit self }
-    {
-        self.account_flag().map_or(0, |flag| flag.bit() as u128)
-    }
-
-    /// The flag's bit in a transfer, 0 where transfers do not have it.
-    fn transfer_bit(self) -> u128
-        ensures { result ≡ transfer_bit self }
-    {
-        self.transfer_flag().map_or(0, |flag| flag.bit() as u128)
-    }
-
     /// The flag's bit in the events of an operation, 0 where they do not have it.
     pub fn bit(self, operation: Operation) -> u128
         ensures { result ≡ flag_bit operation self }
     {
         match operation {
-            Operation::CreateAccounts => self.account_bit(),
-            Operation::CreateTransfers => self.transfer_bit(),
+            Operation::CreateAccounts => self.account_flag().map_or(0, |flag| flag.bit() as u128),
+            Operation::CreateTransfers => self.transfer_flag().map_or(0, |flag| flag.bit() as u128),
             _ => 0,
         }
     }
