@@ -16,9 +16,10 @@
 //!
 //! specs/Grammar is what a text says, with no reader: tokens, and phrases of them. specs/Scan is what a byte makes of
 //! what was read (each lexeme, word, mark), specs/Steps what a text means, which the law `means_what_it_says` joins to
-//! the grammar. specs/Entries is what entries mean, for both; specs/Printed the one printed text. proofs/Ongoing is
-//! what holds of whatever was read, proofs/Endings how each state of the reader goes on to the end of a statement.
-//! proofs/Lexing and proofs/Parsing lead from the reader to the grammar, proofs/Feeding and proofs/Stating back.
+//! the grammar. specs/Entries is what entries mean, for both; specs/Printed the one printed text. proofs/Moves is each
+//! way in which a byte is taken, proofs/Ongoing what holds of whatever was read, proofs/Endings how each state of the
+//! reader goes on to the end of a statement. proofs/Lexing and proofs/Parsing lead from the reader to the grammar,
+//! proofs/Feeding and proofs/Stating back.
 #![tactic(auto)]
 
 mod awaited;
