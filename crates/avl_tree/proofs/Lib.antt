@@ -1,13 +1,9 @@
 pub mod Around
 pub mod Crosses
-pub mod Exchange
-pub mod Firsts
 pub mod InPlace
-pub mod Inserts
 pub mod Least
 pub mod Ranges
 pub mod Shape
-pub mod Sides
 pub mod Steps
 pub mod TwoInPlace
 pub mod Whole

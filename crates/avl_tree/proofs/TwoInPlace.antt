@@ -1,136 +1,83 @@
 -- A change of two values in the sides of a tree is a change in the tree.
-use Rattle.std.proofs.Common.{◌≡◌, ℕ, [], ◌∷◌, ◌++◌, ◌⊎◌, inl, inr, not, Bool, true, false, cond, List, Option, None, Some, sym, ap, ◌∙◌, refl, subst}
+use Rattle.std.proofs.Common.{◌≡◌, ℕ, [], ◌∷◌, ◌⊎◌, inl, inr, not, Bool, true, false, cond, List, Option, None, Some, sym, ap, ◌∙◌, refl}
+use Rattle.std.specs.declared.boxed.Box.{Box}
 use Rattle.std.specs.declared.cmp.Ordering.{Ordering}
 use Rattle.std.specs.declared.cmp.Ordering.TheVariants.{Less, Equal, Greater}
+use Rattle.std.specs.Box.{with_value}
 use Rattle.std.specs.Ordering.{ordering_reverse}
 use Rattle.std.specs.Cmp.{IsTotalOrder, Equal-is, tied_back}
 use Rattle.std.specs.Option.{IsSome, IfSome, IfNone}
-use Rattle.std.specs.List.Sorted.{IsStrictlySortedBy}
 use Rattle.std.specs.Map.{lookup, set_value}
 use Rattle.std.specs.BTreeMap.{is_at}
-use Rattle.std.proofs.lemmas.Map.{keys-set_value}
-use Rattle.avl_tree.specs.Nodes.{entries, IsAvl, IsOrdered}
+use Rattle.avl_tree.specs.Nodes.{entries, IsSearchTree}
 use Rattle.avl_tree.specs.Changes.{ChangedTwo}
 use Rattle.avl_tree.specs.Pairs.{Taking, CalledAtBoth, ChangesBeside, ChangesApart, ChangesBoth}
+use Rattle.avl_tree.specs.declared.tree.Node.{Node}
 use Rattle.avl_tree.specs.declared.tree.Tree.{Tree}
-use Rattle.avl_tree.specs.declared.tree.Tree.TheVariants.{Fork'}
+use Rattle.avl_tree.specs.declared.tree.Tree.TheViews.{Fork}
 use Rattle.avl_tree.proofs.Around.{reversed_Greater}
-use Rattle.avl_tree.proofs.InPlace.{keeps, same}
-use Rattle.avl_tree.proofs.Steps.{GoesLeft, GoesRight, StandsHere, goes_left, goes_right, stands_here}
+use Rattle.avl_tree.proofs.Steps.{GoesTo, StandsHere, goes, stands_here, found, written, carried, keeps_both, searched_after}
 
 -- a call at y and x in the other order
 pub other_way : {F V R : Type 0} (c : Taking F V R) (b : Bool) (f f' : F) (x y x' y' : V) (r : R) → CalledAtBoth c (not b) f y x r f' y' x' → CalledAtBoth c b f x y r f' x' y'
 other_way c true f f' x y x' y' r p = p
 other_way c false f f' x y x' y' r p = p
 
-module _ {F K V A R : Type 0} (c : Taking F V R) (b : Bool) {cmp : K → K → Ordering} {k : K} {h : ℕ} {p : _} {t l r : Tree K V A} {a : K} {z : V} where
-  pub beside_left : (d : V) → t ≡ Fork' h p a l r z → GoesLeft cmp k (entries l) (a, z) (entries r) → IsAvl (Fork' h p a l r z) → (o : Option R) (l' : Tree K V A) (f f' : F) (d' : V) → ChangesBeside c b (is_at (cmp k)) d l f o f' d' l' → ChangesBeside c b (is_at (cmp k)) d t f o f' d' (Fork' h p a l' r z)
-  beside_left d is w avl (Some v) l' f f' d' x =
-      let y = x.0 in
-      rw is (
-        record {
-          value = y.value;
-          left = y.left;
-          found = w.found ∙ y.found;
-          called = y.called;
-          written = ap (λ es. es ++ (a, z) ∷ entries r) y.written ∙ sym (w.written y.left);
-        },
-        keeps avl x.1 (same avl.1),
-      )
-  beside_left d is w avl None l' f f' d' x = rw is (w.found ∙ x.0, x.1, x.2, ap (λ u. Fork' h p a u r z) x.3)
+module _ {F K V A R : Type 0} (c : Taking F V R) (b : Bool) {cmp : K → K → Ordering} {k : K} {t : Tree K V A} (f f' : F) where
+  module _ {side : Tree K V A} {put : Tree K V A → Tree K V A} {beside : List (K × V) → List (K × V)} (w : GoesTo cmp k t side put beside) where
+    pub beside_side : (d d' : V) (o : Option R) (u : Tree K V A) → ChangesBeside c b (is_at (cmp k)) d side f o f' d' u → ChangesBeside c b (is_at (cmp k)) d t f o f' d' (put u)
+    beside_side d d' (Some v) u x =
+        let y = x.0 in
+        (record { value = y.value; left = y.left; found = found w ∙ y.found; called = y.called; written = written w y.left u y.written }, w.keeps u x.1)
+    beside_side d d' None u x = (found w ∙ x.0, x.1, x.2, ap put x.3 ∙ w.whole)
 
-  pub beside_right : (d : V) → t ≡ Fork' h p a l r z → GoesRight cmp k (entries l) (a, z) (entries r) → IsAvl (Fork' h p a l r z) → (o : Option R) (r' : Tree K V A) (f f' : F) (d' : V) → ChangesBeside c b (is_at (cmp k)) d r f o f' d' r' → ChangesBeside c b (is_at (cmp k)) d t f o f' d' (Fork' h p a l r' z)
-  beside_right d is w avl (Some v) r' f f' d' x =
-      let y = x.0 in
-      rw is (
-        record {
-          value = y.value;
-          left = y.left;
-          found = w.found ∙ y.found;
-          called = y.called;
-          written = ap (λ es. entries l ++ (a, z) ∷ es) y.written ∙ sym (w.written y.left);
-        },
-        keeps avl (same avl.0) x.1,
-      )
-  beside_right d is w avl None r' f f' d' x = rw is (w.found ∙ x.0, x.1, x.2, ap (λ u. Fork' h p a l u z) x.3)
+    -- the trees are handed on in the other order
+    pub apart_side : (k2 : K) (u : Tree K V A) (o : Option R) (s' u' : Tree K V A) → ChangesApart c (not b) (is_at (cmp k2)) (is_at (cmp k)) u side f o f' u' s' → ChangesApart c b (is_at (cmp k)) (is_at (cmp k2)) t u f o f' (put s') u'
+    apart_side k2 u (Some v) s' u' x =
+        let y = x.0 in (
+          record {
+            value = y.other;
+            left = y.other_left;
+            other = y.value;
+            other_left = y.left;
+            found = found w ∙ y.other_found;
+            other_found = y.found;
+            called = other_way c b f f' y.other y.value y.other_left y.left v y.called;
+            written = written w y.other_left s' y.other_written;
+            other_written = y.written;
+          },
+          w.keeps s' x.2,
+          x.1,
+        )
+    apart_side k2 u None s' u' x =
+        (elim x.0 [ inl n ↦ inr n | inr n ↦ inl (found w ∙ n) ], x.1, ap put x.3 ∙ w.whole, x.2)
 
-  pub beside_here : (d : V) → t ≡ Fork' h p a l r z → StandsHere cmp k (entries l) (a, z) (entries r) → IsAvl (Fork' h p a l r z) → (o : Option R) (z' : V) (f f' : F) (d' : V) → IsSome o → IfSome o (λ v. CalledAtBoth c b f d z v f' d' z') → ChangesBeside c b (is_at (cmp k)) d t f o f' d' (Fork' h p a l r z')
-  beside_here d is w avl (Some v) z' f f' d' there y =
-      rw is (
-        record {
-          value = z;
-          left = z';
-          found = w.found;
-          called = y;
-          written = sym (w.written z');
-        },
-        keeps avl (same avl.0) (same avl.1),
-      )
-  beside_here d is w avl None z' f f' d' there y = absurd (cc)
+  module _ {n : Node K V A} {put : V → Tree K V A} (w : StandsHere cmp k t n put) where
+    pub beside_here : (d d' : V) (o : Option R) (z' : V) → IsSome o → IfSome o (λ v. CalledAtBoth c b f d n.value v f' d' z') → ChangesBeside c b (is_at (cmp k)) d t f o f' d' (put z')
+    beside_here d d' (Some v) z' there called =
+        (record { value = n.value; left = z'; found = w.found; called = called; written = w.written z' }, w.keeps z')
+    beside_here d d' None z' there called = absurd (cc)
 
-  pub apart_left : (u : Tree K V A) (k2 : K) → t ≡ Fork' h p a l r z → GoesLeft cmp k (entries l) (a, z) (entries r) → IsAvl (Fork' h p a l r z) → (o : Option R) (l' u' : Tree K V A) (f f' : F) → ChangesApart c (not b) (is_at (cmp k2)) (is_at (cmp k)) u l f o f' u' l' → ChangesApart c b (is_at (cmp k)) (is_at (cmp k2)) t u f o f' (Fork' h p a l' r z) u'
-  apart_left u k2 is w avl (Some v) l' u' f f' x =
-      let y = x.0 in
-      rw is (
-        record {
-          value = y.other;
-          left = y.other_left;
-          other = y.value;
-          other_left = y.left;
-          found = w.found ∙ y.other_found;
-          other_found = y.found;
-          called = other_way c b f f' y.other y.value y.other_left y.left v y.called;
-          written = ap (λ es. es ++ (a, z) ∷ entries r) y.other_written ∙ sym (w.written y.other_left);
-          other_written = y.written;
-        },
-        keeps avl x.2 (same avl.1),
-        x.1,
-      )
-  apart_left u k2 is w avl None l' u' f f' x =
-      rw is (elim x.0 [ inl n ↦ inr n | inr n ↦ inl (w.found ∙ n) ], x.1, ap (λ u. Fork' h p a u r z) x.3, x.2)
+    pub apart_here : put n.value ≡ t → (k2 : K) (u : Tree K V A) (o : Option R) (z' : V) (u' : Tree K V A) → ChangesBeside c b (is_at (cmp k2)) n.value u f o f' z' u' → ChangesApart c b (is_at (cmp k)) (is_at (cmp k2)) t u f o f' (put z') u'
+    apart_here whole k2 u (Some v) z' u' x =
+        let y = x.0 in (
+          record {
+            value = n.value;
+            left = z';
+            other = y.value;
+            other_left = y.left;
+            found = w.found;
+            other_found = y.found;
+            called = y.called;
+            written = w.written z';
+            other_written = y.written;
+          },
+          w.keeps z',
+          x.1,
+        )
+    apart_here whole k2 u None z' u' x = (inr x.0, x.1, ap put x.2 ∙ whole, x.3)
 
-  pub apart_right : (u : Tree K V A) (k2 : K) → t ≡ Fork' h p a l r z → GoesRight cmp k (entries l) (a, z) (entries r) → IsAvl (Fork' h p a l r z) → (o : Option R) (r' u' : Tree K V A) (f f' : F) → ChangesApart c (not b) (is_at (cmp k2)) (is_at (cmp k)) u r f o f' u' r' → ChangesApart c b (is_at (cmp k)) (is_at (cmp k2)) t u f o f' (Fork' h p a l r' z) u'
-  apart_right u k2 is w avl (Some v) r' u' f f' x =
-      let y = x.0 in
-      rw is (
-        record {
-          value = y.other;
-          left = y.other_left;
-          other = y.value;
-          other_left = y.left;
-          found = w.found ∙ y.other_found;
-          other_found = y.found;
-          called = other_way c b f f' y.other y.value y.other_left y.left v y.called;
-          written = ap (λ es. entries l ++ (a, z) ∷ es) y.other_written ∙ sym (w.written y.other_left);
-          other_written = y.written;
-        },
-        keeps avl (same avl.0) x.2,
-        x.1,
-      )
-  apart_right u k2 is w avl None r' u' f f' x =
-      rw is (elim x.0 [ inl n ↦ inr n | inr n ↦ inl (w.found ∙ n) ], x.1, ap (λ u. Fork' h p a l u z) x.3, x.2)
-
-  pub apart_here : (u : Tree K V A) (k2 : K) → t ≡ Fork' h p a l r z → StandsHere cmp k (entries l) (a, z) (entries r) → IsAvl (Fork' h p a l r z) → (o : Option R) (z' : V) (u' : Tree K V A) (f f' : F) → ChangesBeside c b (is_at (cmp k2)) z u f o f' z' u' → ChangesApart c b (is_at (cmp k)) (is_at (cmp k2)) t u f o f' (Fork' h p a l r z') u'
-  apart_here u k2 is w avl (Some v) z' u' f f' x =
-      let y = x.0 in
-      rw is (
-        record {
-          value = z;
-          left = z';
-          other = y.value;
-          other_left = y.left;
-          found = w.found;
-          other_found = y.found;
-          called = y.called;
-          written = sym (w.written z');
-          other_written = y.written;
-        },
-        keeps avl (same avl.0) (same avl.1),
-        x.1,
-      )
-  apart_here u k2 is w avl None z' u' f f' x = rw is (inr x.0, x.1, ap (λ y. Fork' h p a l r y) x.2, x.3)
-
--- one key is below the other: where the lower one goes or stands, and where both values are written
+-- one key is below the other: where the other one goes where the lower one does not go left
 module _ {K : Type 0} {cmp : K → K → Ordering} (o : IsTotalOrder cmp) (low high : K) where
   pub higher : (x : K) → cmp low high ≡ Less → Greater ≡ cmp low x → Greater ≡ cmp high x
   higher x q n =
@@ -140,160 +87,97 @@ module _ {K : Type 0} {cmp : K → K → Ordering} (o : IsTotalOrder cmp) (low h
   pub higher_here : (x : K) → cmp low high ≡ Less → Equal ≡ cmp low x → Greater ≡ cmp high x
   higher_here x q n = sym (o.antisymm high x ∙ ap ordering_reverse (sym (o.congr low x high (sym n)) ∙ q))
 
-  module _ {V : Type 0} (l r : List (K × V)) where
-    after : (v : V) (e : K × V) → IsOrdered cmp (l ++ e ∷ r) → {es : List (K × V)} → set_value (is_at (cmp low)) (l ++ e ∷ r) v ≡ es → IsOrdered cmp es
-    after v e s is = subst (λ es. IsOrdered cmp es) is (subst (λ ks. IsStrictlySortedBy cmp ks) (sym (keys-set_value (is_at (cmp low)) (l ++ e ∷ r) v)) s)
-
-    module _ (e : K × V) (s : IsOrdered cmp (l ++ e ∷ r)) (v w : V) where
-      abbrev both : List (K × V)
-      both = set_value (is_at (cmp high)) (set_value (is_at (cmp low)) (l ++ e ∷ r) v) w
-
-      written_right : Greater ≡ cmp low e.0 → Greater ≡ cmp high e.0 → both ≡ l ++ e ∷ set_value (is_at (cmp high)) (set_value (is_at (cmp low)) r v) w
-      written_right p q =
-          let x = goes_right o low l e r p s in
-          let y = goes_right o high l e (set_value (is_at (cmp low)) r v) q (after v e s (x.written v)) in
-          ap (λ es. set_value (is_at (cmp high)) es w) (x.written v) ∙ y.written w
-
-      written_left : Less ≡ cmp low e.0 → Less ≡ cmp high e.0 → both ≡ set_value (is_at (cmp high)) (set_value (is_at (cmp low)) l v) w ++ e ∷ r
-      written_left p q =
-          let x = goes_left o low l e r p s in
-          let y = goes_left o high (set_value (is_at (cmp low)) l v) e r q (after v e s (x.written v)) in
-          ap (λ es. set_value (is_at (cmp high)) es w) (x.written v) ∙ y.written w
-
-      written_apart : Less ≡ cmp low e.0 → Greater ≡ cmp high e.0 → both ≡ set_value (is_at (cmp low)) l v ++ e ∷ set_value (is_at (cmp high)) r w
-      written_apart p q =
-          let x = goes_left o low l e r p s in
-          let y = goes_right o high (set_value (is_at (cmp low)) l v) e r q (after v e s (x.written v)) in
-          ap (λ es. set_value (is_at (cmp high)) es w) (x.written v) ∙ y.written w
-
-      written_here_right : Equal ≡ cmp low e.0 → Greater ≡ cmp high e.0 → both ≡ l ++ (e.0, v) ∷ set_value (is_at (cmp high)) r w
-      written_here_right p q =
-          let x = stands_here o low l e r p s in
-          let y = goes_right o high l (e.0, v) r q (after v e s (x.written v)) in
-          ap (λ es. set_value (is_at (cmp high)) es w) (x.written v) ∙ y.written w
-
-      written_left_here : Less ≡ cmp low e.0 → Equal ≡ cmp high e.0 → both ≡ set_value (is_at (cmp low)) l v ++ (e.0, w) ∷ r
-      written_left_here p q =
-          let x = goes_left o low l e r p s in
-          let y = stands_here o high (set_value (is_at (cmp low)) l v) e r q (after v e s (x.written v)) in
-          ap (λ es. set_value (is_at (cmp high)) es w) (x.written v) ∙ y.written w
-
-module _ {F K V A R : Type 0} (c : Taking F V R) (b : Bool) {cmp : K → K → Ordering} (o : IsTotalOrder cmp) (low high : K) {h : ℕ} {p : _} {t l r : Tree K V A} {a : K} {z : V} (is : t ≡ Fork' h p a l r z) (avl : IsAvl (Fork' h p a l r z)) (s : IsOrdered cmp (entries l ++ (a, z) ∷ entries r)) where
-  pub both_right : Greater ≡ cmp low a → Greater ≡ cmp high a → (v : Option R) (r' : Tree K V A) (f f' : F) → ChangesBoth c b (is_at (cmp low)) (is_at (cmp high)) r f v f' r' → ChangesBoth c b (is_at (cmp low)) (is_at (cmp high)) t f v f' (Fork' h p a l r' z)
-  both_right m n (Some v) r' f f' x =
-      let y = x.0 in
-      rw is (
+module _ {F K V A R : Type 0} (c : Taking F V R) (in_order : Bool) {cmp : K → K → Ordering} (o : IsTotalOrder cmp) (low high : K) {t : Tree K V A} (f f' : F) where
+  -- both keys are sought in one side
+  pub both_side : {side : Tree K V A} {put : Tree K V A → Tree K V A} {beside : List (K × V) → List (K × V)} → GoesTo cmp low t side put beside → GoesTo cmp high t side put beside → (v : Option R) (u : Tree K V A) → ChangesBoth c in_order (is_at (cmp low)) (is_at (cmp high)) side f v f' u → ChangesBoth c in_order (is_at (cmp low)) (is_at (cmp high)) t f v f' (put u)
+  both_side w x (Some v) u d =
+      let y = d.0 in (
         record {
           value = y.value;
           left = y.left;
           other = y.other;
           other_left = y.other_left;
-          found = (goes_right o low (entries l) (a, z) (entries r) m s).found ∙ y.found;
-          other_found = (goes_right o high (entries l) (a, z) (entries r) n s).found ∙ y.other_found;
+          found = found w ∙ y.found;
+          other_found = found x ∙ y.other_found;
           called = y.called;
-          written = ap (λ es. entries l ++ (a, z) ∷ es) y.written ∙ sym (written_right o low high (entries l) (entries r) (a, z) s y.left y.other_left m n);
+          written = carried w (λ es. set_value (is_at (cmp high)) (set_value (is_at (cmp low)) es y.left) y.other_left)
+              (λ m. ap (λ es. set_value (is_at (cmp high)) es y.other_left) (w.passes.written y.left m) ∙ x.passes.written y.other_left (set_value (is_at (cmp low)) m y.left)) u y.written;
         },
-        keeps avl (same avl.0) x.1,
+        w.keeps u d.1,
       )
-  both_right m n None r' f f' x =
-      rw is (
-        elim x.0 [
-          | inl q ↦ inl ((goes_right o low (entries l) (a, z) (entries r) m s).found ∙ q)
-          | inr q ↦ inr ((goes_right o high (entries l) (a, z) (entries r) n s).found ∙ q)
-        ],
-        x.1,
-        ap (λ u. Fork' h p a l u z) x.2,
-      )
+  both_side {put = put} w x None u d =
+      (elim d.0 [ inl q ↦ inl (found w ∙ q) | inr q ↦ inr (found x ∙ q) ], d.1, ap put d.2 ∙ w.whole)
 
-  pub both_left : Less ≡ cmp low a → Less ≡ cmp high a → (v : Option R) (l' : Tree K V A) (f f' : F) → ChangesBoth c b (is_at (cmp low)) (is_at (cmp high)) l f v f' l' → ChangesBoth c b (is_at (cmp low)) (is_at (cmp high)) t f v f' (Fork' h p a l' r z)
-  both_left m n (Some v) l' f f' x =
-      let y = x.0 in
-      rw is (
-        record {
-          value = y.value;
-          left = y.left;
-          other = y.other;
-          other_left = y.other_left;
-          found = (goes_left o low (entries l) (a, z) (entries r) m s).found ∙ y.found;
-          other_found = (goes_left o high (entries l) (a, z) (entries r) n s).found ∙ y.other_found;
-          called = y.called;
-          written = ap (λ es. es ++ (a, z) ∷ entries r) y.written ∙ sym (written_left o low high (entries l) (entries r) (a, z) s y.left y.other_left m n);
-        },
-        keeps avl x.1 (same avl.1),
-      )
-  both_left m n None l' f f' x =
-      rw is (
-        elim x.0 [
-          | inl q ↦ inl ((goes_left o low (entries l) (a, z) (entries r) m s).found ∙ q)
-          | inr q ↦ inr ((goes_left o high (entries l) (a, z) (entries r) n s).found ∙ q)
-        ],
-        x.1,
-        ap (λ u. Fork' h p a u r z) x.2,
-      )
+  module _ {h : ℕ} {b : Box (Node K V A) A} (is : t ≡ Fork h b) (s : IsSearchTree cmp t) where
+    pub both_apart : Less ≡ cmp low b.value.key → Greater ≡ cmp high b.value.key → (v : Option R) (l r : Tree K V A) → ChangesApart c in_order (is_at (cmp low)) (is_at (cmp high)) b.value.left b.value.right f v f' l r → ChangesBoth c in_order (is_at (cmp low)) (is_at (cmp high)) t f v f' (Fork h (with_value b (record b.value { left = l; right = r })))
+    both_apart p q (Some v) l r x =
+        let y = x.0 in
+        let lower = goes o low is Less p refl s in
+        let first = written lower y.left l y.written in
+        let kept = lower.keeps l x.1 in
+        let then = goes o high refl Greater q refl (searched_after cmp (is_at (cmp low)) y.left s kept first) in (
+          record {
+            value = y.value;
+            left = y.left;
+            other = y.other;
+            other_left = y.other_left;
+            found = found lower ∙ y.found;
+            other_found = found (goes o high is Greater q refl s) ∙ y.other_found;
+            called = y.called;
+            written = written then y.other_left r y.other_written ∙ ap (λ es. set_value (is_at (cmp high)) es y.other_left) first;
+          },
+          keeps_both kept (then.keeps r x.2),
+        )
+    both_apart p q None l r x = (
+      elim x.0 [
+        | inl none ↦ inl (found (goes o low is Less p refl s) ∙ none)
+        | inr none ↦ inr (found (goes o high is Greater q refl s) ∙ none)
+      ],
+      x.1,
+      (λ i. Fork h (with_value b (record b.value { left = x.2 i; right = x.3 i }))) ∙ sym is,
+    )
 
-  pub both_apart : Less ≡ cmp low a → Greater ≡ cmp high a → (v : Option R) (l' r' : Tree K V A) (f f' : F) → ChangesApart c b (is_at (cmp low)) (is_at (cmp high)) l r f v f' l' r' → ChangesBoth c b (is_at (cmp low)) (is_at (cmp high)) t f v f' (Fork' h p a l' r' z)
-  both_apart m n (Some v) l' r' f f' x =
-      let y = x.0 in
-      rw is (
-        record {
-          value = y.value;
-          left = y.left;
-          other = y.other;
-          other_left = y.other_left;
-          found = (goes_left o low (entries l) (a, z) (entries r) m s).found ∙ y.found;
-          other_found = (goes_right o high (entries l) (a, z) (entries r) n s).found ∙ y.other_found;
-          called = y.called;
-          written = (λ i. y.written i ++ (a, z) ∷ y.other_written i) ∙ sym (written_apart o low high (entries l) (entries r) (a, z) s y.left y.other_left m n);
-        },
-        keeps avl x.1 x.2,
-      )
-  both_apart m n None l' r' f f' x =
-      rw is (
-        elim x.0 [
-          | inl q ↦ inl ((goes_left o low (entries l) (a, z) (entries r) m s).found ∙ q)
-          | inr q ↦ inr ((goes_right o high (entries l) (a, z) (entries r) n s).found ∙ q)
-        ],
-        x.1,
-        λ i. Fork' h p a (x.2 i) (x.3 i) z,
-      )
+    pub both_here_right : Equal ≡ cmp low b.value.key → Greater ≡ cmp high b.value.key → (v : Option R) (r : Tree K V A) (z : V) → ChangesBeside c in_order (is_at (cmp high)) b.value.value b.value.right f v f' z r → ChangesBoth c in_order (is_at (cmp low)) (is_at (cmp high)) t f v f' (Fork h (with_value b (record b.value { right = r; value = z })))
+    both_here_right p q (Some v) r z x =
+        let y = x.0 in
+        let here = stands_here o low is p s in
+        let then = goes o high refl Greater q refl (searched_after cmp (is_at (cmp low)) z s (here.keeps z) (here.written z)) in (
+          record {
+            value = b.value.value;
+            left = z;
+            other = y.value;
+            other_left = y.left;
+            found = here.found;
+            other_found = found (goes o high is Greater q refl s) ∙ y.found;
+            called = y.called;
+            written = written then y.left r y.written ∙ ap (λ es. set_value (is_at (cmp high)) es y.left) (here.written z);
+          },
+          keeps_both (here.keeps z) (then.keeps r x.1),
+        )
+    both_here_right p q None r z x =
+        (inr (found (goes o high is Greater q refl s) ∙ x.0), x.1, (λ i. Fork h (with_value b (record b.value { right = x.3 i; value = x.2 i }))) ∙ sym is)
 
-  pub both_here_right : Equal ≡ cmp low a → Greater ≡ cmp high a → (v : Option R) (r' : Tree K V A) (z' : V) (f f' : F) → ChangesBeside c b (is_at (cmp high)) z r f v f' z' r' → ChangesBoth c b (is_at (cmp low)) (is_at (cmp high)) t f v f' (Fork' h p a l r' z')
-  both_here_right m n (Some v) r' z' f f' x =
-      let y = x.0 in
-      rw is (
-        record {
-          value = z;
-          left = z';
-          other = y.value;
-          other_left = y.left;
-          found = (stands_here o low (entries l) (a, z) (entries r) m s).found;
-          other_found = (goes_right o high (entries l) (a, z) (entries r) n s).found ∙ y.found;
-          called = y.called;
-          written = ap (λ es. entries l ++ (a, z') ∷ es) y.written ∙ sym (written_here_right o low high (entries l) (entries r) (a, z) s z' y.left m n);
-        },
-        keeps avl (same avl.0) x.1,
-      )
-  both_here_right m n None r' z' f f' x =
-      rw is (inr ((goes_right o high (entries l) (a, z) (entries r) n s).found ∙ x.0), x.1, λ i. Fork' h p a l (x.3 i) (x.2 i))
-
-  pub both_left_here : Less ≡ cmp low a → Equal ≡ cmp high a → (v : Option R) (l' : Tree K V A) (z' : V) (f f' : F) → ChangesBeside c (not b) (is_at (cmp low)) z l f v f' z' l' → ChangesBoth c b (is_at (cmp low)) (is_at (cmp high)) t f v f' (Fork' h p a l' r z')
-  both_left_here m n (Some v) l' z' f f' x =
-      let y = x.0 in
-      rw is (
-        record {
-          value = y.value;
-          left = y.left;
-          other = z;
-          other_left = z';
-          found = (goes_left o low (entries l) (a, z) (entries r) m s).found ∙ y.found;
-          other_found = (stands_here o high (entries l) (a, z) (entries r) n s).found;
-          called = other_way c b f f' y.value z y.left z' v y.called;
-          written = ap (λ es. es ++ (a, z') ∷ entries r) y.written ∙ sym (written_left_here o low high (entries l) (entries r) (a, z) s y.left z' m n);
-        },
-        keeps avl x.1 (same avl.1),
-      )
-  both_left_here m n None l' z' f f' x =
-      rw is (inl ((goes_left o low (entries l) (a, z) (entries r) m s).found ∙ x.0), x.1, λ i. Fork' h p a (x.3 i) r (x.2 i))
+    pub both_left_here : Less ≡ cmp low b.value.key → Equal ≡ cmp high b.value.key → (v : Option R) (l : Tree K V A) (z : V) → ChangesBeside c (not in_order) (is_at (cmp low)) b.value.value b.value.left f v f' z l → ChangesBoth c in_order (is_at (cmp low)) (is_at (cmp high)) t f v f' (Fork h (with_value b (record b.value { left = l; value = z })))
+    both_left_here p q (Some v) l z x =
+        let y = x.0 in
+        let lower = goes o low is Less p refl s in
+        let first = written lower y.left l y.written in
+        let kept = lower.keeps l x.1 in
+        let here = stands_here o high refl q (searched_after cmp (is_at (cmp low)) y.left s kept first) in (
+          record {
+            value = y.value;
+            left = y.left;
+            other = b.value.value;
+            other_left = z;
+            found = found lower ∙ y.found;
+            other_found = (stands_here o high is q s).found;
+            called = other_way c in_order f f' y.value b.value.value y.left z v y.called;
+            written = here.written z ∙ ap (λ es. set_value (is_at (cmp high)) es z) first;
+          },
+          keeps_both kept (here.keeps z),
+        )
+    both_left_here p q None l z x =
+        (inl (found (goes o low is Less p refl s) ∙ x.0), x.1, (λ i. Fork h (with_value b (record b.value { left = x.3 i; value = x.2 i }))) ∙ sym is)
 
 -- two keys of which one is below the other are not at one place, so the order of the writes makes no difference
 module _ {K : Type 0} {cmp : K → K → Ordering} (o : IsTotalOrder cmp) (low high : K) (q : cmp low high ≡ Less) where

@@ -83,8 +83,7 @@ IsSearchTree cmp t = IsAvl t × IsOrdered cmp (entries t)
 
 -- a search for k in t may go on in u
 pub record LeadsTo {K V A : Type 0} (cmp : K → K → Ordering) (k : K) (t u : Tree K V A) : Type 0 where
-  pub balanced : IsAvl u
-  pub sorted : IsOrdered cmp (entries u)
+  pub searched : IsSearchTree cmp u
   pub same : lookup (is_at (cmp k)) (entries u) ≡ lookup (is_at (cmp k)) (entries t)
 
 -- the shape of the tree, with its entries

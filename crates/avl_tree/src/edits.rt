@@ -3,7 +3,7 @@ ghost use Rattle.std.specs.Prelude.{◌≡◌, ◌≢◌, ◌+◌, ◌<◌, ◌�
 ghost use Rattle.std.specs.Option.{option_map, is_some};
 ghost use Rattle.std.specs.Map.{lookup, remove_entry};
 ghost use Rattle.std.specs.BTreeMap.{is_at, insert_entry};
-ghost use Rattle.avl_tree.specs.Nodes.{entries, entry, with_first, stored_height, IsAvl, IsNearlyAvl, SettlesTo, IsOrdered, IsBare, HasLeft, HasNoLeft, beside_root, root_entry, IsSearchTree, IsShrunk, IsTold, IsGrownAsTold, IsShrunkAsTold, Exchanges};
+ghost use Rattle.avl_tree.specs.Nodes.{entries, entry, with_first, stored_height, IsAvl, IsNearlyAvl, SettlesTo, IsBare, HasLeft, HasNoLeft, beside_root, root_entry, IsSearchTree, IsShrunk, IsTold, IsGrownAsTold, IsShrunkAsTold, Exchanges};
 ghost use Rattle.avl_tree.specs.Map.{first_to};
 ghost use Rattle.avl_tree.specs.declared.tree.Tree.TheVariants.{Empty};
 
@@ -25,8 +25,7 @@ fn exchange_value<K, V, A: Allocator>(node: &mut Node<K, V, A>, value: &mut V)
 
 /// Exchanges the value at the key that compares equal, and says whether there is one.
 pub fn exchange<K: Ord, V, A: Allocator>(tree: &mut Tree<K, V, A>, key: &K, value: &mut V) -> bool
-    requires balanced { IsAvl tree.old }
-    requires sorted { IsOrdered K.cmp (entries tree.old) }
+    requires searched { IsSearchTree K.cmp tree.old }
     ensures { Exchanges (is_at (K.cmp key.now)) tree.old value.old result tree.new value.new }
 {
     match tree {

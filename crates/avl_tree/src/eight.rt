@@ -3,7 +3,7 @@ ghost use Rattle.std.specs.Prelude.{◌≡◌, map};
 ghost use Rattle.std.specs.Option.{option_copied};
 ghost use Rattle.std.specs.Map.{lookup};
 ghost use Rattle.std.specs.BTreeMap.{is_at};
-ghost use Rattle.avl_tree.specs.Nodes.{entries, IsAvl, IsOrdered, LeadsTo};
+ghost use Rattle.avl_tree.specs.Nodes.{entries, LeadsTo, IsSearchTree};
 
 use crate::tree::{Tree, height};
 use crate::walks::{compare, find};
@@ -15,8 +15,7 @@ use std::cmp::Ordering;
 /// An address taken from a list in place of a jump to one of three: which side comes next can't be foretold, and a jump that was
 /// foretold wrongly would hold up all eight searches. A choice between the addresses becomes a jump where a link has 24 bytes.
 fn step<'a, K: Ord, V, A: Allocator>(tree: &'a Tree<K, V, A>, key: &K) -> &'a Tree<K, V, A>
-    requires balanced { IsAvl tree.now }
-    requires sorted { IsOrdered K.cmp (entries tree.now) }
+    requires searched { IsSearchTree K.cmp tree.now }
     ensures { LeadsTo K.cmp key.now tree.now result.now }
 {
     let Tree::Fork(_, node) = tree else {
@@ -36,8 +35,7 @@ pub fn find_eight<'a, K: Ord, V, A: Allocator>(
     tree: &'a Tree<K, V, A>,
     keys: &[K; 8],
 ) -> [Option<&'a V>; 8]
-    requires balanced { IsAvl tree.now }
-    requires sorted { IsOrdered K.cmp (entries tree.now) }
+    requires searched { IsSearchTree K.cmp tree.now }
     ensures { map option_copied result ≡ map (λ k. lookup (is_at (K.cmp k)) (entries tree.now)) keys.now }
 {
     let [ka, kb, kc, kd, ke, kf, kg, kh] = keys;

@@ -2,7 +2,7 @@
 ghost use Rattle.std.specs.Prelude.{◌≡◌, None, Some, IsSome, IfSome};
 ghost use Rattle.std.specs.BTreeMap.{is_at};
 ghost use Rattle.std.specs.declared.cmp.Ordering.TheVariants.{Less};
-ghost use Rattle.avl_tree.specs.Nodes.{entries, entry, IsAvl, IsOrdered, IsSearchTree};
+ghost use Rattle.avl_tree.specs.Nodes.{entry, IsSearchTree};
 ghost use Rattle.avl_tree.specs.Pairs.{CalledAtBoth, ChangesBeside, ChangesApart, ChangesBoth};
 
 use crate::tree::{Node, Tree, side};
@@ -72,8 +72,7 @@ fn beside<K: Ord, V, A: Allocator, R, F: FnMut(&mut V, &mut V) -> R>(
     f: &mut F,
     out: &mut Option<R>,
 )
-    requires balanced { IsAvl tree.old }
-    requires sorted { IsOrdered K.cmp (entries tree.old) }
+    requires searched { IsSearchTree K.cmp tree.old }
     requires callable { F.IsAlwaysCallable f.old }
     requires empty { out.old ≡ None }
     ensures callable { F.IsAlwaysCallable f.new }
@@ -98,8 +97,7 @@ fn beside_left<K: Ord, V, A: Allocator, R, F: FnMut(&mut V, &mut V) -> R>(
     f: &mut F,
     out: &mut Option<R>,
 )
-    requires balanced { IsAvl node.old.left }
-    requires sorted { IsOrdered K.cmp (entries node.old.left) }
+    requires searched { IsSearchTree K.cmp node.old.left }
     requires callable { F.IsAlwaysCallable f.old }
     requires empty { out.old ≡ None }
     ensures callable { F.IsAlwaysCallable f.new }
@@ -119,8 +117,7 @@ fn beside_right<K: Ord, V, A: Allocator, R, F: FnMut(&mut V, &mut V) -> R>(
     f: &mut F,
     out: &mut Option<R>,
 )
-    requires balanced { IsAvl node.old.right }
-    requires sorted { IsOrdered K.cmp (entries node.old.right) }
+    requires searched { IsSearchTree K.cmp node.old.right }
     requires callable { F.IsAlwaysCallable f.old }
     requires empty { out.old ≡ None }
     ensures callable { F.IsAlwaysCallable f.new }
@@ -148,10 +145,8 @@ fn apart<K: Ord, V, A: Allocator, R, F: FnMut(&mut V, &mut V) -> R>(
     f: &mut F,
     out: &mut Option<R>,
 )
-    requires balanced { IsAvl tree.old }
-    requires sorted { IsOrdered K.cmp (entries tree.old) }
-    requires other_balanced { IsAvl other.old }
-    requires other_sorted { IsOrdered K.cmp (entries other.old) }
+    requires searched { IsSearchTree K.cmp tree.old }
+    requires other_searched { IsSearchTree K.cmp other.old }
     requires callable { F.IsAlwaysCallable f.old }
     requires empty { out.old ≡ None }
     ensures callable { F.IsAlwaysCallable f.new }
@@ -181,10 +176,8 @@ fn apart_below<K: Ord, V, A: Allocator, R, F: FnMut(&mut V, &mut V) -> R>(
     f: &mut F,
     out: &mut Option<R>,
 )
-    requires balanced { IsAvl tree.old }
-    requires sorted { IsOrdered K.cmp (entries tree.old) }
-    requires other_balanced { IsAvl other.old }
-    requires other_sorted { IsOrdered K.cmp (entries other.old) }
+    requires searched { IsSearchTree K.cmp tree.old }
+    requires other_searched { IsSearchTree K.cmp other.old }
     requires callable { F.IsAlwaysCallable f.old }
     requires empty { out.old ≡ None }
     ensures callable { F.IsAlwaysCallable f.new }
@@ -224,8 +217,7 @@ fn seek_both<K: Ord, V, A: Allocator, R, F: FnMut(&mut V, &mut V) -> R>(
     f: &mut F,
     out: &mut Option<R>,
 )
-    requires balanced { IsAvl tree.old }
-    requires sorted { IsOrdered K.cmp (entries tree.old) }
+    requires searched { IsSearchTree K.cmp tree.old }
     requires lower { K.cmp low.now high.now ≡ Less }
     requires callable { F.IsAlwaysCallable f.old }
     requires empty { out.old ≡ None }
@@ -257,8 +249,7 @@ pub fn update_two<K: Ord, V, A: Allocator, R, F: FnMut(&mut V, &mut V) -> R>(
     in_order: bool,
     f: &mut F,
 ) -> Option<R>
-    requires balanced { IsAvl tree.old }
-    requires sorted { IsOrdered K.cmp (entries tree.old) }
+    requires searched { IsSearchTree K.cmp tree.old }
     requires lower { K.cmp low.now high.now ≡ Less }
     requires callable { F.IsAlwaysCallable f.old }
     ensures callable { F.IsAlwaysCallable f.new }

@@ -1,5 +1,5 @@
 // Walks over a range of keys.
-ghost use Rattle.avl_tree.specs.Nodes.{entries, entry, IsAvl, IsOrdered};
+ghost use Rattle.avl_tree.specs.Nodes.{entries, entry, IsSearchTree};
 ghost use Rattle.avl_tree.specs.Visits.{between, CalledAtEntry, VisitsTo};
 
 use crate::tree::{Node, Tree};
@@ -23,8 +23,7 @@ pub fn visit<K: Ord, V, A: Allocator, F: FnMut(&K, &V)>(
     high: &K,
     f: &mut F,
 )
-    requires balanced { IsAvl tree.now }
-    requires sorted { IsOrdered K.cmp (entries tree.now) }
+    requires searched { IsSearchTree K.cmp tree.now }
     requires callable { F.IsAlwaysCallable f.old }
     ensures callable { F.IsAlwaysCallable f.new }
     ensures visited { VisitsTo F.FnMut f.old (between K.cmp low.now high.now (entries tree.now)) f.new }

@@ -2,7 +2,7 @@
 ghost use Rattle.std.specs.Prelude.{◌≡◌};
 ghost use Rattle.std.specs.BTreeMap.{is_at};
 ghost use Rattle.std.specs.Fn.{CalledAtMut};
-ghost use Rattle.avl_tree.specs.Nodes.{entries, IsAvl, IsOrdered};
+ghost use Rattle.avl_tree.specs.Nodes.{entries, IsSearchTree};
 ghost use Rattle.avl_tree.specs.Changes.{Changes, TakesAtMut, TakesFound};
 
 use crate::tree::{Node, Tree};
@@ -30,8 +30,7 @@ pub fn update<K: Ord, V, A: Allocator, R, F: FnMut(&mut V) -> R>(
     key: &K,
     f: &mut F,
 ) -> Option<R>
-    requires balanced { IsAvl tree.old }
-    requires sorted { IsOrdered K.cmp (entries tree.old) }
+    requires searched { IsSearchTree K.cmp tree.old }
     requires callable { TakesFound F.FnMut (is_at (K.cmp key.now)) (entries tree.old) f.old }
     ensures { Changes F.FnMut (is_at (K.cmp key.now)) tree.old f.old result f.new tree.new }
 {

@@ -6,7 +6,7 @@ ghost use Rattle.std.specs.Map.{lookup};
 ghost use Rattle.std.specs.Ordering.{is_lt};
 ghost use Rattle.std.specs.BTreeMap.{is_at};
 ghost use Rattle.avl_tree.specs.Search.{path_length};
-ghost use Rattle.avl_tree.specs.Nodes.{entries, entry, search_of, stored_height, IsAvl, IsOrdered};
+ghost use Rattle.avl_tree.specs.Nodes.{entries, entry, search_of, stored_height, IsAvl, IsSearchTree};
 
 use crate::tree::{Node, Tree};
 use std::alloc::Allocator;
@@ -35,8 +35,7 @@ fn value_of<K, V, A: Allocator>(node: &Node<K, V, A>) -> &V
 
 /// The value at the key that compares equal.
 pub fn find<'a, K: Ord, V, A: Allocator>(tree: &'a Tree<K, V, A>, key: &K) -> Option<&'a V>
-    requires balanced { IsAvl tree.now }
-    requires sorted { IsOrdered K.cmp (entries tree.now) }
+    requires searched { IsSearchTree K.cmp tree.now }
     ensures { option_copied result ≡ lookup (is_at (K.cmp key.now)) (entries tree.now) }
 {
     let mut at = tree;
@@ -76,8 +75,7 @@ pub fn count_visits<'a, K: Ord, V, A: Allocator>(
     tree: &'a Tree<K, V, A>,
     key: &K,
 ) -> (Option<&'a V>, u32)
-    requires balanced { IsAvl tree.now }
-    requires sorted { IsOrdered K.cmp (entries tree.now) }
+    requires searched { IsSearchTree K.cmp tree.now }
     requires height_fits { stored_height tree.now < 256 }
     ensures value { option_copied result.0 ≡ lookup (is_at (K.cmp key.now)) (entries tree.now) }
     ensures visits { result.1 ≡ path_length (K.cmp key.now) (search_of tree.now) }
