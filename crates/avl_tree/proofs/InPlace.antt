@@ -28,13 +28,3 @@ module _ {K V A : Type 0} {cmp : K → K → Ordering} {k : K} {t side : Tree K 
 pub changes_here : {F K V A R : Type 0} (c : Mut F (MutBor V × Unit {0}) (R × (MutBor V × Unit {0}))) {cmp : K → K → Ordering} {k : K} {t : Tree K V A} {n : Node K V A} {put : V → Tree K V A} → StandsHere cmp k t n put → (r : R) (v : V) (f f' : F) → CalledAtMut c f n.value r f' v → Changes c (is_at (cmp k)) t f (Some r) f' (put v)
 changes_here c {n = n} w r v f f' called =
     (record { value = n.value; left = v; found = w.found; called = called; written = w.written v }, w.keeps v)
-
--- what the two answers say
-module _ {F K V A R : Type 0} (c : Mut F (MutBor V × Unit {0}) (R × (MutBor V × Unit {0}))) (test : K → Bool) (t t' : Tree K V A) (f f' : F) where
-  pub changed : (o : Option R) → Changes c test t f o f' t' → IfSome o (λ r. Changed c test (entries t) f r f' (entries t'))
-  changed None x = tt
-  changed (Some r) x = x.0
-
-  pub unchanged : {P : Type 0} (o : Option R) → Changes c test t f o f' t' → ((lookup test (entries t) ≡ None) × (f' ≡ f) × (t' ≡ t) → P) → IfNone o P
-  unchanged None x then = then x
-  unchanged (Some r) x then = tt

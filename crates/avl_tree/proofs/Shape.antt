@@ -18,10 +18,10 @@ module _ {K V : Type 0} (compare : K → Ordering) (l r : Search (K × V)) (e : 
   path-right p = let q = sym p in rw q refl
 
 -- the entries of the shape are those of the nodes
-pub entries-search_of : {K V A : Type 0} (t : Tree K V A) → entries_of (search_of t) ≡ entries t
-entries-search_of Empty = refl
-entries-search_of (Fork' h p k l r v) =
-    ap (λ m. m ++ (k, v) ∷ entries_of (search_of r)) (entries-search_of l) ∙ ap (λ m. entries l ++ (k, v) ∷ m) (entries-search_of r)
+pub entries_search_of : {K V A : Type 0} (t : Tree K V A) → entries_of (search_of t) ≡ entries t
+entries_search_of Empty = refl
+entries_search_of (Fork' h p k l r v) =
+    ap (λ m. m ++ (k, v) ∷ entries_of (search_of r)) (entries_search_of l) ∙ ap (λ m. entries l ++ (k, v) ∷ m) (entries_search_of r)
 
 -- no path is longer than the tree is high
 path-fork : {K V : Type 0} (compare : K → Ordering) (l r : Search (K × V)) (e : K × V) (n : ℕ) → path_length compare l ≤ n → path_length compare r ≤ n → path_length compare (fork l e r) ≤ n + 1

@@ -197,38 +197,18 @@ module _ {K : Type 0} {cmp : K → K → Ordering} (o : IsTotalOrder cmp) (low h
       by false true a b rest = rw (a, b) refl
       by false false a b rest = rw (a, b) (ap (λ m. x ∷ m) rest)
 
--- what the two answers say
-module _ {F K V A R : Type 0} (c : Taking F V R) {cmp : K → K → Ordering} (o : IsTotalOrder cmp) (low high : K) (t t' : Tree K V A) (f f' : F) where
-  pub changed_two : (v : Option R) → ChangesBoth c true (is_at (cmp low)) (is_at (cmp high)) t f v f' t' → IfSome v (λ r. ChangedTwo c (is_at (cmp low)) (is_at (cmp high)) (entries t) f r f' (entries t'))
-  changed_two None x = tt
-  changed_two (Some r) x =
-      let y = x.0 in
-      record {
-        value = y.value;
-        left = y.left;
-        other = y.other;
-        other_left = y.other_left;
-        found = y.found;
-        other_found = y.other_found;
-        called = y.called;
-        written = y.written;
-      }
-
-  pub changed_two_other_way : cmp low high ≡ Less → (v : Option R) → ChangesBoth c false (is_at (cmp low)) (is_at (cmp high)) t f v f' t' → IfSome v (λ r. ChangedTwo c (is_at (cmp high)) (is_at (cmp low)) (entries t) f r f' (entries t'))
-  changed_two_other_way q None x = tt
-  changed_two_other_way q (Some r) x =
-      let y = x.0 in
-      record {
-        value = y.other;
-        left = y.other_left;
-        other = y.value;
-        other_left = y.left;
-        found = y.other_found;
-        other_found = y.found;
-        called = y.called;
-        written = y.written ∙ set_value-other_way o low high q y.left y.other_left (entries t);
-      }
-
-pub unchanged_two : {F K V A R P : Type 0} (c : Taking F V R) (b : Bool) (low high : K → Bool) (t t' : Tree K V A) (f f' : F) (v : Option R) → ChangesBoth c b low high t f v f' t' → (((lookup low (entries t) ≡ None) ⊎ (lookup high (entries t) ≡ None)) × (f' ≡ f) × (t' ≡ t) → P) → IfNone v P
-unchanged_two c b low high t t' f f' None x then = then x
-unchanged_two c b low high t t' f f' (Some r) x then = tt
+-- a call in the other order, as the caller put the keys
+pub changed_other_way : {F K V A R : Type 0} (c : Taking F V R) {cmp : K → K → Ordering} (o : IsTotalOrder cmp) (low high : K) (t t' : Tree K V A) (f f' : F) → cmp low high ≡ Less → (v : Option R) → ChangesBoth c false (is_at (cmp low)) (is_at (cmp high)) t f v f' t' → IfSome v (λ r. ChangedTwo c (is_at (cmp high)) (is_at (cmp low)) (entries t) f r f' (entries t'))
+changed_other_way c o low high t t' f f' q None x = tt
+changed_other_way c o low high t t' f f' q (Some r) x =
+    let y = x.0 in
+    record {
+      value = y.other;
+      left = y.other_left;
+      other = y.value;
+      other_left = y.left;
+      found = y.other_found;
+      other_found = y.found;
+      called = y.called;
+      written = y.written ∙ set_value-other_way o low high q y.left y.other_left (entries t);
+    }

@@ -1,7 +1,7 @@
 use Rattle.std.proofs.Common.{Some, refl, sym, ap, ◌∙◌, arith}
 use Rattle.std.specs.List.{slice_get}
 use Rattle.avl_tree.specs.Nodes.{entry}
-use Rattle.avl_tree.proofs.Shape.{entries-search_of}
+use Rattle.avl_tree.proofs.Shape.{entries_search_of}
 use Rattle.avl_tree.proofs.Whole.{low_height, whole_pop}
 use Rattle.avl_tree.proofs.map.AvlMap.pop_first.Goals as goal
 
@@ -12,22 +12,3 @@ pub invariant_of-self-2 : goal.invariant_of-self-2
 invariant_of-self-2 g c =
     let r = c.in_ok-node.ensures in
     (refl, tt, whole_pop c.self.invariant (entry c.in_ok-node.node.value) r.entries r.balanced c.retire.ensures.one_less c.retire.ensures.one_more)
-
-pub returns-clause-pair : goal.returns-clause-pair
-returns-clause-pair g c =
-    let r = c.in_ok-node.ensures in
-    let e = entries-search_of c.self.inside.root in
-    rw (← c.self.view_is, e) (ap Some c.retire.ensures.pair ∙ ap (λ es. slice_get es 0) (sym r.entries))
-
-pub returns-clause-rest : goal.returns-clause-rest
-returns-clause-rest g c =
-    let r = c.in_ok-node.ensures in
-    let e = entries-search_of c.self.inside.root in
-    let n = entries-search_of c.take_first.new.tree in
-    let pair = c.retire.ensures.pair in
-    rw (← c.self.view_is, e, n, pair) r.entries
-
-pub returns-clause-ordered : goal.returns-clause-ordered
-returns-clause-ordered g c =
-    let e = entries-search_of c.self.inside.root in
-    rw (← c.self.view_is, e) c.self.invariant.sorted

@@ -2,8 +2,8 @@ use Rattle.std.proofs.Common.{true, false, refl, sym, ◌∙◌}
 use Rattle.std.proofs.Math.Logic.{⊎_swap}
 use Rattle.std.specs.BTreeMap.{is_at}
 use Rattle.avl_tree.proofs.Around.{reversed_Greater}
-use Rattle.avl_tree.proofs.Shape.{entries-search_of}
-use Rattle.avl_tree.proofs.TwoInPlace.{changed_two, changed_two_other_way, unchanged_two}
+use Rattle.avl_tree.proofs.Shape.{entries_search_of}
+use Rattle.avl_tree.proofs.TwoInPlace.{changed_other_way}
 use Rattle.avl_tree.proofs.Whole.{whole_changes_two}
 use Rattle.avl_tree.proofs.map.AvlMap.update_two.Goals as goal
 
@@ -13,25 +13,9 @@ invariant_of-self g c = (refl, tt, whole_changes_two c.self.invariant g.F.FnMut 
 pub invariant_of-self-in-Greater : goal.invariant_of-self-in-Greater
 invariant_of-self-in-Greater g c = (refl, tt, whole_changes_two c.self.invariant g.F.FnMut false c.args.b.now c.args.a.now c.update_two-in-Greater.result c.args.f.now c.update_two-in-Greater.new.f c.update_two-in-Greater.new.tree c.update_two-in-Greater.ensures.changes)
 
-pub returns-in-Less-clause-changed : goal.returns-in-Less-clause-changed
-returns-in-Less-clause-changed g c =
-    let e = entries-search_of c.self.inside.root in
-    let n = entries-search_of c.update_two.new.tree in
-    rw (← c.self.view_is, e, n) (changed_two g.F.FnMut g.met.K.Ord.total c.args.a.now c.args.b.now c.self.inside.root c.update_two.new.tree c.args.f.now c.update_two.new.f c.update_two.result c.update_two.ensures.changes)
-
-pub returns-in-Less-clause-absent : goal.returns-in-Less-clause-absent
-returns-in-Less-clause-absent g c =
-    let e = entries-search_of c.self.inside.root in
-    unchanged_two g.F.FnMut true (is_at (g.K.Ord.cmp c.args.a.now)) (is_at (g.K.Ord.cmp c.args.b.now)) c.self.inside.root c.update_two.new.tree c.args.f.now c.update_two.new.f c.update_two.result c.update_two.ensures.changes (λ x. (rw (← c.self.view_is, e) x.0, x.1, (let same = x.2 in rw same c.self.view_is)))
-
 pub returns-in-Greater-clause-changed : goal.returns-in-Greater-clause-changed
 returns-in-Greater-clause-changed g c =
-    let e = entries-search_of c.self.inside.root in
-    let n = entries-search_of c.update_two-in-Greater.new.tree in
+    let e = entries_search_of c.self.inside.root in
+    let n = entries_search_of c.update_two-in-Greater.new.tree in
     let below = reversed_Greater (g.K.Ord.cmp c.args.b.now c.args.a.now) (sym (g.met.K.Ord.total.antisymm c.args.a.now c.args.b.now) ∙ sym c.in-Greater.ensures) in
-    rw (← c.self.view_is, e, n) (changed_two_other_way g.F.FnMut g.met.K.Ord.total c.args.b.now c.args.a.now c.self.inside.root c.update_two-in-Greater.new.tree c.args.f.now c.update_two-in-Greater.new.f below c.update_two-in-Greater.result c.update_two-in-Greater.ensures.changes)
-
-pub returns-in-Greater-clause-absent : goal.returns-in-Greater-clause-absent
-returns-in-Greater-clause-absent g c =
-    let e = entries-search_of c.self.inside.root in
-    unchanged_two g.F.FnMut false (is_at (g.K.Ord.cmp c.args.b.now)) (is_at (g.K.Ord.cmp c.args.a.now)) c.self.inside.root c.update_two-in-Greater.new.tree c.args.f.now c.update_two-in-Greater.new.f c.update_two-in-Greater.result c.update_two-in-Greater.ensures.changes (λ x. (rw (← c.self.view_is, e) (⊎_swap x.0), x.1, (let same = x.2 in rw same c.self.view_is)))
+    rw (← c.self.view_is, e, n) (changed_other_way g.F.FnMut g.met.K.Ord.total c.args.b.now c.args.a.now c.self.inside.root c.update_two-in-Greater.new.tree c.args.f.now c.update_two-in-Greater.new.f below c.update_two-in-Greater.result c.update_two-in-Greater.ensures.changes)
