@@ -169,30 +169,6 @@ fn is_top_to<K: Ord, V, A: Allocator>(tree: &Tree<K, V, A>, bound: &K) -> bool
     }
 }
 
-/// Takes the root off, where it has no left side and is at most the bound.
-fn take_top_to<K: Ord, V, A: Allocator>(
-    tree: &mut Tree<K, V, A>,
-    bound: &K,
-    lower: &mut bool,
-) -> Option<Box<Node<K, V, A>, A>>
-    requires balanced { IsAvl tree.old }
-    requires no_left { HasNoLeft tree.old }
-    requires not_lower { lower.old ≡ false }
-    ensures balanced { IsAvl tree.new }
-    ensures first { option_map (λ b. entry b.value) result ≡ first_to K.cmp bound.now (entries tree.old) }
-    ensures entries { entries tree.old
-        ≡ with_first (option_map (λ b. entry b.value) result) (entries tree.new) }
-    ensures taken { MatchOption result ((tree.new ≡ tree.old) × (lower.new ≡ false))
-        (λ b. IsBare b.value) }
-    ensures height { IsShrunkAsTold lower.new (stored_height tree.old) (stored_height tree.new) }
-{
-    if !is_top_to(tree, bound) {
-        return None;
-    }
-    *lower = true;
-    take_top(tree)
-}
-
 /// Takes the node of the least key off, where that key is at most the bound, and says whether the tree is lower than
 /// before. Above a side that is not, nothing changes.
 pub fn take_first_to<K: Ord, V, A: Allocator>(
@@ -212,7 +188,11 @@ pub fn take_first_to<K: Ord, V, A: Allocator>(
     ensures height { IsShrunkAsTold lower.new (stored_height tree.old) (stored_height tree.new) }
 {
     if !has_left(tree) {
-        return take_top_to(tree, bound, lower);
+        if !is_top_to(tree, bound) {
+            return None;
+        }
+        *lower = true;
+        return take_top(tree);
     }
     let taken = match tree {
         Tree::Empty => return None,
@@ -255,25 +235,6 @@ fn take_root<K, V, A: Allocator>(tree: &mut Tree<K, V, A>) -> Option<Box<Node<K,
     }
 }
 
-/// Takes the root off, and says whether the tree is lower than before.
-fn take_root_off<K, V, A: Allocator>(
-    tree: &mut Tree<K, V, A>,
-    lower: &mut bool,
-) -> Option<Box<Node<K, V, A>, A>>
-    requires balanced { IsAvl tree.old }
-    requires height_fits { stored_height tree.old < 200 }
-    ensures balanced { IsAvl tree.new }
-    ensures entries { entries tree.new ≡ beside_root tree.old }
-    ensures root { option_map (λ b. entry b.value) result ≡ root_entry tree.old }
-    ensures taken { IfSome result (λ b. IsBare b.value) }
-    ensures height { IsShrunkAsTold lower.new (stored_height tree.old) (stored_height tree.new) }
-{
-    let before = height(tree);
-    let taken = take_root(tree);
-    *lower = height(tree) != before;
-    taken
-}
-
 /// Takes the node off whose key compares equal, and says whether the tree is lower than before. Above a side that is not,
 /// nothing changes.
 pub fn remove<K: Ord, V, A: Allocator>(
@@ -296,7 +257,12 @@ pub fn remove<K: Ord, V, A: Allocator>(
         Tree::Fork(_, node) => match compare(key, node) {
             Ordering::Less => remove(&mut node.left, key, lower),
             Ordering::Greater => remove(&mut node.right, key, lower),
-            Ordering::Equal => return take_root_off(tree, lower),
+            Ordering::Equal => {
+                let before = height(tree);
+                let taken = take_root(tree);
+                *lower = height(tree) != before;
+                return taken;
+            }
         },
     };
     if !*lower {

@@ -29,13 +29,13 @@ pub returns-in-Equal-clause-entries : goal.returns-in-Equal-clause-entries
 returns-in-Equal-clause-entries g t c =
     let p = rw c.deref.ensures at c.in-Equal.ensures in
     let w = stands_here g.met.K.Ord.total c.args.key.now c.in-Fork.is p c.requires.searched in
-    c.take_root_off.ensures.entries ∙ w.removed
+    c.take_root-taken.ensures.entries ∙ w.removed
 
 pub returns-in-Equal-clause-value : goal.returns-in-Equal-clause-value
 returns-in-Equal-clause-value g t c =
     let p = rw c.deref.ensures at c.in-Equal.ensures in
     let w = stands_here g.met.K.Ord.total c.args.key.now c.in-Fork.is p c.requires.searched in
-    map_map (λ b. entry b.value) (λ e. e.1) c.take_root_off.result ∙ ap (λ e. option_map (λ f. f.1) e) c.take_root_off.ensures.root ∙ sym w.found
+    map_map (λ b. entry b.value) (λ e. e.1) c.take_root-taken.result ∙ ap (λ e. option_map (λ f. f.1) e) c.take_root-taken.ensures.root ∙ sym w.found
 
 pub returns-clause-entries : goal.returns-clause-entries
 returns-clause-entries g t c =
