@@ -54,9 +54,13 @@ module _ {K V : Type 0} (cmp : K → K → Ordering) (k : K) where
   set_value-below w [] b = refl
   set_value-below w (x ∷ m) b = let p = b.0 in rw p (ap (λ es. x ∷ es) (set_value-below w m b.1))
 
-  remove_entry-below : (m : List (K × V)) → IsBelow cmp k m → remove_entry (is_at (cmp k)) m ≡ m
-  remove_entry-below [] b = refl
-  remove_entry-below (x ∷ m) b = let p = b.0 in rw p (ap (λ es. x ∷ es) (remove_entry-below m b.1))
+  pub remove_entry-absent : (es : List (K × V)) → lookup (is_at (cmp k)) es ≡ None → remove_entry (is_at (cmp k)) es ≡ es
+  remove_entry-absent [] n = refl
+  remove_entry-absent (x ∷ es) n = by (is_at (cmp k) x.0) (remove_entry-absent es) n
+    where
+      by : (t : Bool) → (lookup (is_at (cmp k)) es ≡ None → remove_entry (is_at (cmp k)) es ≡ es) → cond t (Some x.1) (lookup (is_at (cmp k)) es) ≡ None → cond t es (x ∷ remove_entry (is_at (cmp k)) es) ≡ x ∷ es
+      by true f h = absurd (cc)
+      by false f h = ap (λ r. x ∷ r) (f h)
 
   insert_entry-below : (v : V) (m : List (K × V)) → IsBelow cmp k m → insert_entry cmp m k v ≡ (k, v) ∷ m
   insert_entry-below v [] b = refl
@@ -78,7 +82,7 @@ module _ {K V : Type 0} (cmp : K → K → Ordering) (k : K) where
           ]
 
       removed : (l : List (K × V)) → remove_entry (is_at (cmp k)) (l ++ m) ≡ remove_entry (is_at (cmp k)) l ++ m
-      removed [] = remove_entry-below m b
+      removed [] = remove_entry-absent m (lookup-none_below m b)
       removed (x ∷ l) =
           elim (is_at (cmp k) x.0) as (λ t. cond t (l ++ m) (x ∷ remove_entry (is_at (cmp k)) (l ++ m)) ≡ cond t l (x ∷ remove_entry (is_at (cmp k)) l) ++ m) [
             | true ↦ refl
@@ -111,14 +115,6 @@ module _ {K V : Type 0} (cmp : K → K → Ordering) (k : K) where
       by : (t : Bool) → (lookup (is_at (cmp k)) es ≡ Some v → length (remove_entry (is_at (cmp k)) es) + 1 ≡ length es) → cond t (Some x.1) (lookup (is_at (cmp k)) es) ≡ Some v → length (cond t es (x ∷ remove_entry (is_at (cmp k)) es)) + 1 ≡ length (x ∷ es)
       by true f h = omega arith
       by false f h = omega (arith, f h)
-
-  pub remove_entry-absent : (es : List (K × V)) → lookup (is_at (cmp k)) es ≡ None → remove_entry (is_at (cmp k)) es ≡ es
-  remove_entry-absent [] n = refl
-  remove_entry-absent (x ∷ es) n = by (is_at (cmp k) x.0) (remove_entry-absent es) n
-    where
-      by : (t : Bool) → (lookup (is_at (cmp k)) es ≡ None → remove_entry (is_at (cmp k)) es ≡ es) → cond t (Some x.1) (lookup (is_at (cmp k)) es) ≡ None → cond t es (x ∷ remove_entry (is_at (cmp k)) es) ≡ x ∷ es
-      by true f h = absurd (cc)
-      by false f h = ap (λ r. x ∷ r) (f h)
 
 -- the keys of either part rise
 pub ordered_left : {K V : Type 0} (cmp : K → K → Ordering) (l m : List (K × V)) → IsOrdered cmp (l ++ m) → IsOrdered cmp l

@@ -1,12 +1,10 @@
 -- A change of a value in one side of a tree is a change in the tree.
-use Rattle.std.proofs.Common.{◌≡◌, Bool, true, false, List, Option, None, Some, ap, ◌∙◌}
+use Rattle.std.proofs.Common.{Bool, true, false, List, Option, None, Some, ap, ◌∙◌}
 use Rattle.std.specs.declared.cmp.Ordering.{Ordering}
 use Rattle.std.specs.Fn.{Mut, CalledAtMut}
-use Rattle.std.specs.Option.{IfSome, IfNone}
-use Rattle.std.specs.Map.{lookup}
 use Rattle.std.specs.BTreeMap.{is_at}
-use Rattle.avl_tree.specs.Nodes.{entries, Exchanges}
-use Rattle.avl_tree.specs.Changes.{Changed, Changes}
+use Rattle.avl_tree.specs.Nodes.{Exchanges}
+use Rattle.avl_tree.specs.Changes.{Changes}
 use Rattle.avl_tree.specs.declared.tree.Node.{Node}
 use Rattle.avl_tree.specs.declared.tree.Tree.{Tree}
 use Rattle.avl_tree.proofs.Steps.{GoesTo, StandsHere, found, written}

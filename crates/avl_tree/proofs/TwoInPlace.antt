@@ -1,16 +1,16 @@
 -- A change of two values in the sides of a tree is a change in the tree.
-use Rattle.std.proofs.Common.{◌≡◌, ℕ, [], ◌∷◌, ◌⊎◌, inl, inr, not, Bool, true, false, cond, List, Option, None, Some, sym, ap, ◌∙◌, refl}
+use Rattle.std.proofs.Common.{◌≡◌, ℕ, [], ◌∷◌, inl, inr, not, Bool, true, false, cond, List, Option, None, Some, sym, ap, ◌∙◌, refl}
 use Rattle.std.specs.declared.boxed.Box.{Box}
 use Rattle.std.specs.declared.cmp.Ordering.{Ordering}
 use Rattle.std.specs.declared.cmp.Ordering.TheVariants.{Less, Equal, Greater}
 use Rattle.std.specs.Box.{with_value}
 use Rattle.std.specs.Ordering.{ordering_reverse}
 use Rattle.std.specs.Cmp.{IsTotalOrder, Equal-is, tied_back}
-use Rattle.std.specs.Option.{IsSome, IfSome, IfNone}
+use Rattle.std.specs.Option.{IsSome, IfSome}
 use Rattle.std.specs.Map.{lookup, set_value}
 use Rattle.std.specs.BTreeMap.{is_at}
 use Rattle.avl_tree.specs.Nodes.{entries, IsSearchTree}
-use Rattle.avl_tree.specs.Changes.{ChangedTwo}
+use Rattle.avl_tree.specs.Changes.{ChangedTwo, KeepsLinks}
 use Rattle.avl_tree.specs.Pairs.{Taking, CalledAtBoth, ChangesBeside, ChangesApart, ChangesBoth}
 use Rattle.avl_tree.specs.declared.tree.Node.{Node}
 use Rattle.avl_tree.specs.declared.tree.Tree.{Tree}
@@ -108,6 +108,23 @@ module _ {F K V A R : Type 0} (c : Taking F V R) (in_order : Bool) {cmp : K → 
   both_side {put = put} w x None u d =
       (elim d.0 [ inl q ↦ inl (found w ∙ q) | inr q ↦ inr (found x ∙ q) ], d.1, ap put d.2 ∙ w.whole)
 
+  -- the two values are written one after the other
+  in_turn : {t₁ t₂ : Tree K V A} {r : R} (value left other other_left : V) → lookup (is_at (cmp low)) (entries t) ≡ Some value → lookup (is_at (cmp high)) (entries t) ≡ Some other → CalledAtBoth c in_order f value other r f' left other_left
+      → KeepsLinks t t₁ → entries t₁ ≡ set_value (is_at (cmp low)) (entries t) left → KeepsLinks t₁ t₂ → entries t₂ ≡ set_value (is_at (cmp high)) (entries t₁) other_left → ChangesBoth c in_order (is_at (cmp low)) (is_at (cmp high)) t f (Some r) f' t₂
+  in_turn value left other other_left found other_found called kept first then second = (
+    record {
+      value = value;
+      left = left;
+      other = other;
+      other_left = other_left;
+      found = found;
+      other_found = other_found;
+      called = called;
+      written = second ∙ ap (λ es. set_value (is_at (cmp high)) es other_left) first;
+    },
+    keeps_both kept then,
+  )
+
   module _ {h : ℕ} {b : Box (Node K V A) A} (is : t ≡ Fork h b) (s : IsSearchTree cmp t) where
     pub both_apart : Less ≡ cmp low b.value.key → Greater ≡ cmp high b.value.key → (v : Option R) (l r : Tree K V A) → ChangesApart c in_order (is_at (cmp low)) (is_at (cmp high)) b.value.left b.value.right f v f' l r → ChangesBoth c in_order (is_at (cmp low)) (is_at (cmp high)) t f v f' (Fork h (with_value b (record b.value { left = l; right = r })))
     both_apart p q (Some v) l r x =
@@ -115,19 +132,8 @@ module _ {F K V A R : Type 0} (c : Taking F V R) (in_order : Bool) {cmp : K → 
         let lower = goes o low is Less p refl s in
         let first = written lower y.left l y.written in
         let kept = lower.keeps l x.1 in
-        let then = goes o high refl Greater q refl (searched_after cmp (is_at (cmp low)) y.left s kept first) in (
-          record {
-            value = y.value;
-            left = y.left;
-            other = y.other;
-            other_left = y.other_left;
-            found = found lower ∙ y.found;
-            other_found = found (goes o high is Greater q refl s) ∙ y.other_found;
-            called = y.called;
-            written = written then y.other_left r y.other_written ∙ ap (λ es. set_value (is_at (cmp high)) es y.other_left) first;
-          },
-          keeps_both kept (then.keeps r x.2),
-        )
+        let then = goes o high refl Greater q refl (searched_after cmp (is_at (cmp low)) y.left s kept first) in
+        in_turn y.value y.left y.other y.other_left (found lower ∙ y.found) (found (goes o high is Greater q refl s) ∙ y.other_found) y.called kept first (then.keeps r x.2) (written then y.other_left r y.other_written)
     both_apart p q None l r x = (
       elim x.0 [
         | inl none ↦ inl (found (goes o low is Less p refl s) ∙ none)
@@ -141,19 +147,8 @@ module _ {F K V A R : Type 0} (c : Taking F V R) (in_order : Bool) {cmp : K → 
     both_here_right p q (Some v) r z x =
         let y = x.0 in
         let here = stands_here o low is p s in
-        let then = goes o high refl Greater q refl (searched_after cmp (is_at (cmp low)) z s (here.keeps z) (here.written z)) in (
-          record {
-            value = b.value.value;
-            left = z;
-            other = y.value;
-            other_left = y.left;
-            found = here.found;
-            other_found = found (goes o high is Greater q refl s) ∙ y.found;
-            called = y.called;
-            written = written then y.left r y.written ∙ ap (λ es. set_value (is_at (cmp high)) es y.left) (here.written z);
-          },
-          keeps_both (here.keeps z) (then.keeps r x.1),
-        )
+        let then = goes o high refl Greater q refl (searched_after cmp (is_at (cmp low)) z s (here.keeps z) (here.written z)) in
+        in_turn b.value.value z y.value y.left here.found (found (goes o high is Greater q refl s) ∙ y.found) y.called (here.keeps z) (here.written z) (then.keeps r x.1) (written then y.left r y.written)
     both_here_right p q None r z x =
         (inr (found (goes o high is Greater q refl s) ∙ x.0), x.1, (λ i. Fork h (with_value b (record b.value { right = x.3 i; value = x.2 i }))) ∙ sym is)
 
@@ -163,19 +158,9 @@ module _ {F K V A R : Type 0} (c : Taking F V R) (in_order : Bool) {cmp : K → 
         let lower = goes o low is Less p refl s in
         let first = written lower y.left l y.written in
         let kept = lower.keeps l x.1 in
-        let here = stands_here o high refl q (searched_after cmp (is_at (cmp low)) y.left s kept first) in (
-          record {
-            value = y.value;
-            left = y.left;
-            other = b.value.value;
-            other_left = z;
-            found = found lower ∙ y.found;
-            other_found = (stands_here o high is q s).found;
-            called = other_way c in_order f f' y.value b.value.value y.left z v y.called;
-            written = here.written z ∙ ap (λ es. set_value (is_at (cmp high)) es z) first;
-          },
-          keeps_both kept (here.keeps z),
-        )
+        let here = stands_here o high refl q (searched_after cmp (is_at (cmp low)) y.left s kept first) in
+        let called = other_way c in_order f f' y.value b.value.value y.left z v y.called in
+        in_turn y.value y.left b.value.value z (found lower ∙ y.found) (stands_here o high is q s).found called kept first (here.keeps z) (here.written z)
     both_left_here p q None l z x =
         (inl (found (goes o low is Less p refl s) ∙ x.0), x.1, (λ i. Fork h (with_value b (record b.value { left = x.3 i; value = x.2 i }))) ∙ sym is)
 

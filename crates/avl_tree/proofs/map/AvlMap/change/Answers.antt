@@ -1,6 +1,4 @@
 use Rattle.std.proofs.Common.{refl}
-use Rattle.std.specs.BTreeMap.{is_at}
-
 use Rattle.avl_tree.proofs.Whole.{whole_changes}
 use Rattle.avl_tree.proofs.map.AvlMap.change.Goals as goal
 

@@ -1,5 +1,4 @@
 use Rattle.std.proofs.Common.{refl}
-use Rattle.avl_tree.proofs.Shape.{entries_search_of}
 use Rattle.avl_tree.proofs.Whole.{whole_exchange}
 use Rattle.avl_tree.proofs.map.AvlMap.exchange.Goals as goal
 

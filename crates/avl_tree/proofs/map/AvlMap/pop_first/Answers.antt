@@ -1,7 +1,5 @@
-use Rattle.std.proofs.Common.{Some, refl, sym, ap, ◌∙◌, arith}
-use Rattle.std.specs.List.{slice_get}
+use Rattle.std.proofs.Common.{refl, arith}
 use Rattle.avl_tree.specs.Nodes.{entry}
-use Rattle.avl_tree.proofs.Shape.{entries_search_of}
 use Rattle.avl_tree.proofs.Whole.{low_height, whole_pop}
 use Rattle.avl_tree.proofs.map.AvlMap.pop_first.Goals as goal
 

@@ -1,6 +1,5 @@
-use Rattle.std.proofs.Common.{Some, ap, refl, ◌∙◌, arith}
+use Rattle.std.proofs.Common.{refl, arith}
 use Rattle.avl_tree.specs.Nodes.{entry}
-use Rattle.avl_tree.proofs.Shape.{entries_search_of}
 use Rattle.avl_tree.proofs.Whole.{low_height, whole_pop}
 use Rattle.avl_tree.proofs.map.AvlMap.pop_first_to.Goals as goal
 

@@ -1,5 +1,4 @@
-use Rattle.std.proofs.Common.{Some, refl, sym, ap, ◌∙◌, arith}
-use Rattle.avl_tree.proofs.Shape.{entries_search_of}
+use Rattle.std.proofs.Common.{refl, sym, arith}
 use Rattle.avl_tree.proofs.Whole.{low_height, whole_remove, whole_absent}
 use Rattle.avl_tree.proofs.map.AvlMap.remove.Goals as goal
 

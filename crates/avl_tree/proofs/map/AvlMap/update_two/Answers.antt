@@ -1,6 +1,4 @@
 use Rattle.std.proofs.Common.{true, false, refl, sym, ◌∙◌}
-use Rattle.std.proofs.Math.Logic.{⊎_swap}
-use Rattle.std.specs.BTreeMap.{is_at}
 use Rattle.avl_tree.proofs.Around.{reversed_Greater}
 use Rattle.avl_tree.proofs.Shape.{entries_search_of}
 use Rattle.avl_tree.proofs.TwoInPlace.{changed_other_way}
