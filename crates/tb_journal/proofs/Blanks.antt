@@ -1,4 +1,5 @@
 -- Whether a file is blank: by its length, and then by its bytes.
+use Rattle.std.proofs.lemmas.Grind.{common_steps}
 use Rattle.std.proofs.Common.{◌≡◌, inl, ℕ, ◌<◌, Bool, true, false, List, length, refl, arith, Result, Ok}
 use Rattle.tb_journal.specs.declared.faults.Fault.{Fault}
 use Rattle.tb_journal.specs.Device.{Disk, LeavesOnly, Looks}
@@ -8,8 +9,7 @@ use Rattle.tb_journal.proofs.Moments.{started, goes_on}
 use Rattle.tb_journal.proofs.FirstWrite.{blank_short}
 
 too_long : (file : List ℕ) (b : Bool) → is_blank file ≡ b → 9 < length file → false ≡ b
-too_long file true is long = absurd (let short = blank_short file is in omega (arith, short, long))
-too_long file false is long = refl
+too_long file b is long = grind (arith, common_steps, blank_short)
 
 module _ (before mid : Disk) (now : (c : List ℕ) → before.left_since before.moment c → before.may_leave c) (result : Result ℕ Fault) (looks : Looks result before mid) where
   looked : LeavesOnly before mid (IsAsBefore before)

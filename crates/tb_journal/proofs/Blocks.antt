@@ -1,5 +1,6 @@
 -- A block that is written is read as it was.
-use Rattle.std.proofs.Common.{◌≡◌, ℕ, suc, ◌+◌, ◌*◌, ◌/◌, ◌%◌, ◌^◌, ◌<◌, ◌≤◌, ◌==◌, ◌&&◌, Bool, true, false, List, [], ◌∷◌, ◌++◌, length, take, flat_map, refl, sym, ◌∙◌, ap, arith, nat_le, length-append, if◌then◌else◌}
+use Rattle.std.proofs.Common.{rules, ◌≡◌, ℕ, suc, ◌+◌, ◌*◌, ◌/◌, ◌%◌, ◌^◌, ◌<◌, ◌≤◌, ◌==◌, ◌&&◌, Bool, true, false, List, [], ◌∷◌, ◌++◌, length, take, flat_map, refl, sym, ◌∙◌, ap, arith, nat_le, length-append, if◌then◌else◌}
+use Rattle.std.proofs.lemmas.Grind.{common_steps}
 use Rattle.std.proofs.lemmas.List.{append_assoc, take_at, drop_at}
 use Rattle.std.proofs.lemmas.Bool.Decides.{nat_tests}
 use Rattle.std.proofs.lemmas.Nat.{from_le_bytes-to_le_bytes_4, xor_of_32}
@@ -17,8 +18,7 @@ unfolding bit_on
 bit_fits c h = xor_of_32 (c / 2) _ (omega arith) (poly (c % 2 == 1))
   where
     poly : (b : Bool) → (if b then 0x82F63B78 else 0) < 2 ^ 32
-    poly true = omega arith
-    poly false = omega arith
+    poly b = grind (arith, common_steps)
 
 byte_fits : (c : ℕ) → c < 2 ^ 32 → byte_on c < 2 ^ 32
 unfolding byte_on
@@ -32,10 +32,7 @@ pub checksum_fits : (bytes : List ℕ) → AllByRecursion (λ byte. byte < 256) 
 checksum_fits bytes all = xor_of_32 (remainder bytes 0xFFFFFFFF) 0xFFFFFFFF (remainder_fits bytes 0xFFFFFFFF (omega arith) all) (omega arith)
 
 three_bytes : (n : ℕ) → n < 2 ^ 24 → n % 256 + n / 256 % 256 * 256 + n / 65536 % 256 * 65536 + 0 ≡ n
-three_bytes n h =
-    let whole : n % 256 + n / 256 % 256 * 256 + n / 65536 % 256 * 65536 + n / 16777216 % 256 * 16777216 ≡ n = from_le_bytes-to_le_bytes_4 n (omega arith) in
-    let top : n / 16777216 % 256 ≡ 0 = omega arith in
-    omega arith
+three_bytes n h = grind (arith, common_steps, from_le_bytes-to_le_bytes_4 n (omega arith))
 
 pub size_read : (bytes : List ℕ) → length bytes < 2 ^ 24 → from_le_bytes w32 (size_bytes bytes ++ 0 ∷ []) ≡ length bytes
 size_read bytes h = three_bytes (length bytes) h
@@ -51,8 +48,7 @@ small_append [] ys a b = b
 small_append (x ∷ xs) ys a b = (a.0, small_append xs ys a.1 b)
 
 choice_true : {X : Type 0} (b : Bool) (x y : X) → b ≡ true → (if b then x else y) ≡ x
-choice_true true x y is = refl
-choice_true false x y is = absurd (cc)
+choice_true b x y is = grind (arith, common_steps)
 
 both : (a b : Bool) → a ≡ true → b ≡ true → (a && b) ≡ true
 both a b x y = ap (λ (z : Bool). z && b) x ∙ y

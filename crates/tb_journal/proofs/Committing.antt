@@ -1,5 +1,5 @@
 -- The journal's numbers after a commit.
-use Rattle.std.proofs.Common.{◌≡◌, ℕ, ◌+◌, ◌-◌, ◌≤◌, List, [], ◌∷◌, ◌++◌, length, sym, ◌∙◌, ap, arith, length-append}
+use Rattle.std.proofs.Common.{rules, ◌≡◌, ℕ, ◌+◌, ◌-◌, ◌≤◌, List, [], ◌∷◌, ◌++◌, length, sym, ◌∙◌, ap, arith, length-append}
 use Rattle.tb_journal.specs.Device.{Disk}
 use Rattle.tb_journal.specs.Contents.{at_rest, recorded, blocks_length, records_end}
 use Rattle.tb_journal.specs.Steps.{IsAtRest}
@@ -22,12 +22,4 @@ next_end olds batch end bytes ends long = omega (arith, ends, long, length-at_re
 pub next_ready : {D : Type 0} (disk : D → Disk) (old : Kept D) (new : D) (bytes many : ℕ) (waiting : List (List ℕ))
     → IsReady disk old → IsAtRest (disk new) → recorded (disk new).seen ≡ recorded (disk old.device).seen ++ old.waiting → bytes ≡ length (at_rest old.waiting) → many ≡ length old.waiting
     → IsReady disk (record { device = new; end = old.end + (bytes - 1); count = old.count + many; waiting = waiting })
-next_ready disk old new bytes many waiting ready rests reads long counts =
-    let olds = recorded (disk old.device).seen in
-    let same : olds ++ old.waiting ≡ recorded (disk new).seen = sym reads in
-    let both : old.count + many ≡ length (olds ++ old.waiting) = omega (arith, ready.counts, counts, length-append olds old.waiting) in
-    record {
-      at_rest = rests;
-      ends = next_end olds old.waiting old.end bytes ready.ends long ∙ ap records_end same;
-      counts = both ∙ ap length same;
-    }
+next_ready disk old new bytes many waiting ready rests reads long counts = search (rules, length-append, next_end)

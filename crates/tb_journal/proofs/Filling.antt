@@ -1,5 +1,6 @@
 -- What a window has after it was filled.
-use Rattle.std.proofs.Common.{◌≡◌, inl, inr, ⊎_elim, ℕ, ◌+◌, ◌≤◌, List, ◌++◌, length, take, drop, sym, ◌∙◌, ap, arith, length-drop, length-take}
+use Rattle.std.proofs.Common.{rules, ◌≡◌, inl, inr, ⊎_elim, ℕ, ◌+◌, ◌≤◌, List, ◌++◌, length, take, drop, sym, ◌∙◌, ap, arith, length-drop, length-take}
+use Rattle.std.proofs.lemmas.Grind.{common_steps}
 use Rattle.std.proofs.lemmas.List.{take_all, take-take, length-take-le}
 use Rattle.std.proofs.lemmas.Bool.{cases_lt}
 use Rattle.tb_journal.specs.Device.{ReadsAt}
@@ -25,11 +26,7 @@ module _ (n at k count : ℕ) (file old buffer : List ℕ) (front : take k buffe
   ahead = take (k + count) buffer
 
   both : ahead ≡ take (k + count) (drop at file)
-  both =
-      take_parts k count buffer
-      ∙ ap (λ (l : List ℕ). l ++ take count (drop k buffer)) (front ∙ here)
-      ∙ ap (λ (l : List ℕ). take k (drop at file) ++ l) (read.bytes ∙ ap (take count) (drop_parts at k file))
-      ∙ sym (take_parts k count (drop at file))
+  both = search (rules, take_parts k count buffer, here, drop_parts at k file, take_parts k count (drop at file))
 
   many : length ahead ≡ k + count
   many = length-take-le (k + count) buffer within

@@ -1,5 +1,6 @@
 -- The first bytes are written over a blank file.
-use Rattle.std.proofs.Common.{◌≡◌, ◌⊎◌, inl, inr, ℕ, ◌≤◌, ◌==◌, ◌&&◌, ◌||◌, Bool, true, false, List, [], ◌∷◌, ◌++◌, length, take, drop, refl, sym, ◌∙◌, ap, subst, arith, nat_eq, length-drop, if◌then◌else◌, Result, Ok, Err, OnOk}
+use Rattle.std.proofs.Common.{rules, ◌≡◌, ◌⊎◌, inl, inr, ℕ, ◌≤◌, ◌==◌, ◌&&◌, ◌||◌, Bool, true, false, List, [], ◌∷◌, ◌++◌, length, take, drop, refl, sym, ◌∙◌, ap, subst, arith, nat_eq, length-drop, if◌then◌else◌, Result, Ok, Err, OnOk}
+use Rattle.std.proofs.lemmas.Grind.{common_steps}
 use Rattle.std.proofs.lemmas.List.{append-nil, drop_all}
 use Rattle.std.specs.List.{starts_with}
 use Rattle.tb_journal.specs.declared.faults.Fault.{Fault}
@@ -13,8 +14,7 @@ use Rattle.tb_journal.proofs.Steps.{short_front}
 use Rattle.tb_journal.proofs.Publishing.{rests}
 
 both_right : (a b : Bool) → (a && b) ≡ true → b ≡ true
-both_right true b is = is
-both_right false b is = absurd (cc)
+both_right a b is = grind (arith, common_steps)
 
 no_longer : (bytes first : List ℕ) → is_torn_from bytes first ≡ true → length bytes ≤ length first
 no_longer [] first is = omega arith
@@ -25,8 +25,7 @@ pub blank_short : (file : List ℕ) → is_blank file ≡ true → length file �
 blank_short file is = no_longer file (journal_of []) is
 
 by_magic : (b : Bool) (others : List ℕ) → length others ≤ 1 → ((if b then walk 0 8 others else NotAJournal) ≡ NotAJournal) ⊎ ((if b then walk 0 8 others else NotAJournal) ≡ Records [])
-by_magic true others h = inr (walk-ends others 8 (short_front others h))
-by_magic false others h = inl refl
+by_magic b others h = grind (arith, common_steps, walk-ends, short_front)
 
 -- so short a file has no record
 pub unborn : (file : List ℕ) → length file ≤ 9 → IsUnborn file
@@ -48,8 +47,7 @@ begun before after result blank write = record {
     done : (r : Result (Unit {0}) Fault) → OnOk r ((after.seen ≡ overwritten before.seen 0 (journal_of [])) × IsOnDisk after) → OnOk r (IsAtRest after × (recorded after.seen ≡ []))
     done (Err f) so = tt
     done (Ok x) so =
-        let is : after.seen ≡ journal_of [] = so.0 ∙ whole before.seen (blank_short before.seen blank) in
-        rests after [] (ap contents is) (is ∙ ap (λ (f : List ℕ). take 8 f ++ 0 ∷ []) (sym is)) so.1
+        grind (arith, common_steps, whole before.seen (blank_short before.seen blank), blank_short before.seen blank, rests)
 
 -- before anything is written
 pub still_blank : (disk : Disk) → IsOnDisk disk → is_blank disk.seen ≡ true → ((c : List ℕ) → disk.left_since disk.moment c → disk.may_leave c) → LeavesOnly disk disk IsUnborn

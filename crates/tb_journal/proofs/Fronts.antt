@@ -1,5 +1,6 @@
 -- What stands at the head of bytes is told by a prefix of them.
-use Rattle.std.proofs.Common.{◌≡◌, ⊎_elim, ℕ, suc, ◌+◌, ◌-◌, ◌<◌, ◌≤◌, ◌==◌, ◌&&◌, min, Bool, true, false, List, [], ◌∷◌, ◌++◌, length, take, drop, refl, sym, ◌∙◌, ap, subst, arith, nat_le, length-take, if◌then◌else◌}
+use Rattle.std.proofs.Common.{rules, ◌≡◌, ⊎_elim, ℕ, suc, ◌+◌, ◌-◌, ◌<◌, ◌≤◌, ◌==◌, ◌&&◌, min, Bool, true, false, List, [], ◌∷◌, ◌++◌, length, take, drop, refl, sym, ◌∙◌, ap, subst, arith, nat_le, length-take, if◌then◌else◌}
+use Rattle.std.proofs.lemmas.Grind.{common_steps}
 use Rattle.std.proofs.lemmas.List.{take_all, take-take}
 use Rattle.std.proofs.lemmas.Bool.{cases_lt}
 use Rattle.std.proofs.lemmas.Bool.Decides.{nat_tests}
@@ -16,27 +17,20 @@ within : (a b : ℕ) → a ≤ b → nat_le a b ≡ true
 within a b h = grind (arith, nat_tests)
 
 same_test : (n x y k : ℕ) → x ≡ min k y → n ≤ k → nat_le n x ≡ nat_le n y
-same_test n x y k is le =
-    ⊎_elim (λ less. over n x (omega (arith, is, less)) ∙ sym (over n y less)) (λ ge. within n x (omega (arith, is, le, ge)) ∙ sym (within n y ge)) (cases_lt y n)
+same_test n x y k is le = grind (arith, common_steps, ⊎_elim, cases_lt y n)
 
 behind_same : (size : List ℕ) (sum k : ℕ) (rest : List ℕ) → from_le_bytes w32 (size ++ 0 ∷ []) ≤ k → behind_gate size sum (take k rest) ≡ behind_gate size sum rest
-behind_same size sum k rest le =
-    let n = from_le_bytes w32 (size ++ 0 ∷ []) in
-    ap (λ (b : Bool). if b && (sum == checksum (size ++ take n (take k rest))) then Whole (take n (take k rest)) else Spoiled) (same_test n (length (take k rest)) (length rest) k (length-take k rest) le)
-    ∙ ap (λ (r : List ℕ). if nat_le n (length rest) && (sum == checksum (size ++ r)) then Whole r else Spoiled) (take-take n k rest le)
+behind_same size sum k rest le = search (rules, same_test, length-take, take-take)
 
 gate_same : (closed : Bool) (size : List ℕ) (sum k : ℕ) (rest : List ℕ) → (closed ≡ false → from_le_bytes w32 (size ++ 0 ∷ []) ≤ k)
     → (if closed then Ends else behind_gate size sum (take k rest)) ≡ (if closed then Ends else behind_gate size sum rest)
-gate_same true size sum k rest le = refl
-gate_same false size sum k rest le = behind_same size sum k rest (le refl)
+gate_same closed size sum k rest le = grind (arith, common_steps, behind_same)
 
 at_least : (closed : Bool) (n : ℕ) → 8 ≤ (if closed then 8 else 8 + n)
-at_least true n = omega arith
-at_least false n = omega arith
+at_least closed n = grind (arith, common_steps)
 
 behind_open : (closed : Bool) (n m : ℕ) → (if closed then 8 else 8 + n) ≤ m → closed ≡ false → n ≤ m - 8
-behind_open true n m le is = absurd (cc)
-behind_open false n m le is = omega (arith, le)
+behind_open closed n m le is = grind (arith, common_steps)
 
 short : (m : ℕ) (l : List ℕ) → length l ≤ m → front (take m l) ≡ front l
 short m l le = ap front (take_all m l le)
@@ -69,15 +63,7 @@ asked_told m (g ∷ a ∷ b ∷ c ∷ rest) le =
     ap (λ (j : ℕ). asked (take j (g ∷ a ∷ b ∷ c ∷ rest))) far
 
 asked_ahead : (at : ℕ) (file ahead : List ℕ) → HasAhead 8 at file ahead → asked ahead ≡ asked (drop at file)
-asked_ahead at file ahead has =
-    ⊎_elim (λ le. ap asked has.same ∙ asked_told (length ahead) (drop at file) (omega (arith, le))) (λ is. ap asked is) has.enough
+asked_ahead at file ahead has = grind (arith, common_steps, ⊎_elim, asked_told)
 
 pub finds_head : (at needed : ℕ) (file mid before ahead : List ℕ) → mid ≡ file → needed ≡ asked before → HasAhead 8 at file before → (IsAhead at mid before → HasAhead needed at mid ahead) → FindsHead at file ahead
-finds_head at needed file mid before ahead same is first second =
-    let has : HasAhead needed at file ahead = subst (λ (f : List ℕ). HasAhead needed at f ahead) same (second (subst (λ (f : List ℕ). IsAhead at f before) (sym same) first.same)) in
-    record {
-      same = has.same;
-      finds = ⊎_elim
-          (λ le. ap front has.same ∙ front_told (length ahead) (drop at file) (omega (arith, le, is, asked_ahead at file before first)))
-          (λ all. ap front all) has.enough;
-    }
+finds_head at needed file mid before ahead same is first second = search (rules, ⊎_elim, front_told, asked_ahead)

@@ -1,4 +1,5 @@
 -- How what reads handed out grows.
+use Rattle.std.proofs.lemmas.Grind.{common_steps}
 use Rattle.std.proofs.Common.{◌≡◌, ℕ, ◌+◌, ◌≤◌, Bool, true, false, List, ◌∷◌, ◌++◌, length, take, drop, refl, sym, ◌∙◌, ap, subst, arith, length-append, length-drop, Ok, Err, Result}
 use Rattle.std.proofs.lemmas.List.{take_all, take-append-le, drop-append-le, length-take-le}
 use Rattle.tb_journal.specs.declared.opening.OpenFault.{OpenFault}
@@ -127,5 +128,4 @@ module _ (gave : ℕ → List ℕ → Type 0) where
       )
 
   pub none_taken : (fault : OpenFault) (old new : Place) → IsTaking old → TakesOn (Err fault) old new → SomeHanded gave (TellsExtent (Err fault))
-  none_taken (open_faults.Refused why) old new (records, file, has) on = let (more, takes) = on records file has in (file ++ more, takes.handed, takes.reads)
-  none_taken (open_faults.Device fault) old new (records, file, has) on = (file, has.handed, tt)
+  none_taken fault old new taking on = grind (arith, common_steps)

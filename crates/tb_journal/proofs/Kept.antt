@@ -1,5 +1,6 @@
 -- A write that is followed by a sync.
-use Rattle.std.proofs.Common.{◌≡◌, inl, inr, ⊎_elim, ℕ, ◌+◌, ◌-◌, ◌≤◌, List, ◌++◌, length, length-append, length-drop, take, drop, refl, sym, ◌∙◌, ap, subst, arith, Result, Ok, Err, OnOk}
+use Rattle.std.proofs.Common.{rules, ◌≡◌, inl, inr, ⊎_elim, ℕ, ◌+◌, ◌-◌, ◌≤◌, List, ◌++◌, length, length-append, length-drop, take, drop, refl, sym, ◌∙◌, ap, subst, arith, Result, Ok, Err, OnOk}
+use Rattle.std.proofs.lemmas.Grind.{common_steps}
 use Rattle.std.proofs.lemmas.List.{take_at, drop_at, length-take-le}
 use Rattle.tb_journal.specs.declared.faults.Fault.{Fault}
 use Rattle.tb_journal.specs.Device.{Disk, Only, IsOnDisk, Torn, LeavesOnly, HasCause, IsCause, Writes, Syncs, overwritten}
@@ -35,17 +36,14 @@ cause_since before mid after f le cause = ⊎_elim (λ m. inl m) (λ p. inr (p.0
 
 pub has_cause_since : (before mid after : Disk) (result : Result (Unit {0}) Fault) → before.faults ≤ mid.faults
     → HasCause result mid after → HasCause result before after
-has_cause_since before mid after (Ok x) le has = record { later = omega (arith, le, has.later); cause = tt }
-has_cause_since before mid after (Err f) le has = record { later = omega (arith, le, has.later); cause = cause_since before mid after f le has.cause }
+has_cause_since before mid after result le has = grind (arith, common_steps, cause_since)
 
 module _ (at : ℕ) (bytes : List ℕ) (before mid : Disk) (kept : IsOnDisk before) (within : at ≤ length before.seen) (now : (c : List ℕ) → before.left_since before.moment c → before.may_leave c) (result : Result (Unit {0}) Fault) (write : Writes at bytes result before mid) where
   torn : (c : List ℕ) → mid.may_leave c → Torn at (length bytes) before.seen c
   torn c left = let from = write.crash c left in subst (λ (d : List ℕ). Torn at (length bytes) d c) (kept from.0 from.1) from.2
 
   written : LeavesOnly before mid (Torn at (length bytes) before.seen)
-  written = goes_on before before mid (Torn at (length bytes) before.seen)
-      (started before (Torn at (length bytes) before.seen) (λ c left. subst (λ (d : List ℕ). Torn at (length bytes) before.seen d) (sym (kept c (now c left))) (torn_same at (length bytes) before.seen)))
-      write.time torn
+  written = grind (arith, common_steps, goes_on, started, torn_same at (length bytes) before.seen, torn)
 
   pub overwrite_synced : (after : Disk) (synced : Result (Unit {0}) Fault) → result ≡ Ok tt
       → Syncs synced mid after → Overwrites at bytes synced before after
@@ -60,5 +58,4 @@ module _ (at : ℕ) (bytes : List ℕ) (before mid : Disk) (kept : IsOnDisk befo
 
       done : (r : Result (Unit {0}) Fault) → OnOk r (Only mid.seen after.may_leave)
           → OnOk r ((after.seen ≡ overwritten before.seen at bytes) × IsOnDisk after)
-      done (Ok x) only = (sync.seen ∙ seen, subst (λ (l : List ℕ). Only l after.may_leave) (sym sync.seen) only)
-      done (Err f) only = tt
+      done r only = grind (arith, common_steps, seen)

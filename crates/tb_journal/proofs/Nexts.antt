@@ -1,5 +1,6 @@
 -- The next step of a scan, by what stands behind the records that it has read.
-use Rattle.std.proofs.Common.{◌≡◌, inr, ℕ, ◌+◌, ◌-◌, ◌≤◌, ◌^◌, Bool, List, [], ◌∷◌, ◌++◌, length, take, drop, refl, sym, ◌∙◌, ap, subst, arith, length-append, length-drop, length-take, take-append-drop, Err}
+use Rattle.std.proofs.Common.{rules, ◌≡◌, inr, ℕ, ◌+◌, ◌-◌, ◌≤◌, ◌^◌, Bool, List, [], ◌∷◌, ◌++◌, length, take, drop, refl, sym, ◌∙◌, ap, subst, arith, length-append, length-drop, length-take, take-append-drop, Err}
+use Rattle.std.proofs.lemmas.Grind.{common_steps}
 use Rattle.std.proofs.lemmas.List.{append-nil, take_all, drop_all, drop-take}
 use Rattle.tb_journal.specs.declared.faults.Fault.TheVariants as faults
 use Rattle.tb_journal.specs.declared.opening.OpenFault.TheVariants as open_faults
@@ -16,19 +17,13 @@ use Rattle.tb_journal.proofs.Committing.{blocks_length-append}
 -- by what stands at the head
 
 front_ends : (f : Front) → heads.End ≡ head_is f → f ≡ Ends
-front_ends Ends is = refl
-front_ends Spoiled is = absurd (cc)
-front_ends (Whole r) is = absurd (cc)
+front_ends f is = grind (arith, common_steps)
 
 front_spoiled : (f : Front) → heads.Spoiled ≡ head_is f → f ≡ Spoiled
-front_spoiled Ends is = absurd (cc)
-front_spoiled Spoiled is = refl
-front_spoiled (Whole r) is = absurd (cc)
+front_spoiled f is = grind (arith, common_steps)
 
 front_whole : (f : Front) (len : ℕ) → heads.Whole len ≡ head_is f → (r : List ℕ) × (f ≡ Whole r) × (length r ≡ len)
-front_whole Ends len is = absurd (cc)
-front_whole Spoiled len is = absurd (cc)
-front_whole (Whole r) len is = (r, refl, cc)
+front_whole f len is = grind (arith, common_steps)
 
 -- behind the records that a file begins with
 

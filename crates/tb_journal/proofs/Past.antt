@@ -1,4 +1,5 @@
 -- One more call joins those that a file in memory has had.
+use Rattle.std.proofs.lemmas.Grind.{common_steps}
 use Rattle.std.proofs.Common.{◌≡◌, ◌⊎◌, inl, inr, ⊎_elim, ℕ, ◌+◌, ◌≤◌, ◌<◌, ◌-◌, ◌==◌, List, [], ◌∷◌, ◌++◌, length, take, refl, sym, ◌∙◌, subst, arith, reverse, length-append, Ok, Err, if◌then◌else◌, true}
 use Rattle.std.proofs.lemmas.List.{take_all, take-append-le, reverse-append}
 use Rattle.std.proofs.lemmas.Bool.{cases_lt}
@@ -41,10 +42,7 @@ more_elapses first calls call old new fuse left = record {
     by_moment : (t : ℕ) (c : List ℕ) (since : (disk_after first (calls ++ call ∷ []) new left).left_since t c)
         → (since.0 ≤ length calls) ⊎ (length calls + 1 ≤ since.0)
         → (disk_after first calls old fuse).left_since t c ⊎ LeftBy first (reverse (calls ++ call ∷ [])) c
-    by_moment t c since (inl le) = inl (since.0, since.1, le, earlier_same first calls call since.0 c le since.3)
-    by_moment t c since (inr ge) =
-        let whole : take since.0 (calls ++ call ∷ []) ≡ calls ++ call ∷ [] = take_all since.0 (calls ++ call ∷ []) (omega (arith, ge, length-append calls (call ∷ []))) in
-        inr (subst (λ (l : List Call). LeftBy first (reverse l) c) whole since.3)
+    by_moment t c since either = grind (arith, common_steps, earlier_same, take_all, length-append)
 
 -- what a crash leaves after it
 pub more_left : (first : List ℕ) (calls : List Call) (call : Call) (c : List ℕ)

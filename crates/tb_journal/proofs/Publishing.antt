@@ -1,4 +1,5 @@
 -- A batch is written behind the closed gate, which is then opened.
+use Rattle.std.proofs.lemmas.Grind.{common_steps}
 use Rattle.std.proofs.Common.{◌≡◌, inl, ℕ, ◌+◌, ◌≤◌, List, [], ◌∷◌, ◌++◌, length, take, drop, sym, ◌∙◌, ap, subst, arith, Result, Ok, Err, OnOk}
 use Rattle.std.specs.List.{AllByRecursion}
 use Rattle.tb_journal.specs.declared.faults.Fault.{Fault}
@@ -13,15 +14,7 @@ use Rattle.tb_journal.proofs.Steps.{length_file, behind_torn, written_behind, re
 pub rests : (disk : Disk) (records : List (List ℕ)) → contents disk.seen ≡ Records records
     → disk.seen ≡ take (records_end records) disk.seen ++ 0 ∷ [] → IsOnDisk disk
     → IsAtRest disk × (recorded disk.seen ≡ records)
-rests disk records reads closed kept =
-    let same : recorded disk.seen ≡ records = ap records_of reads in (
-      record {
-        reads = reads ∙ ap Records (sym same);
-        closed = closed ∙ ap (λ (r : List (List ℕ)). take (records_end r) disk.seen ++ 0 ∷ []) (sym same);
-        kept = kept;
-      },
-      same,
-    )
+rests disk records reads closed kept = grind (arith, common_steps)
 
 -- there is room for each write
 
@@ -65,8 +58,7 @@ module _ (before : Disk) (rest : IsAtRest before) (batch tail : List ℕ) (recor
     staged = written_behind before.seen olds rest.reads rest.closed tail mid.seen (done.0 ∙ ap (λ (e : ℕ). overwritten before.seen (e + 1) tail) ends)
 
     gate : (c : List ℕ) → Torn end 1 mid.seen c → IsBeforeOrAfter olds records c
-    gate c torn =
-        gate_torn before.seen olds rest.reads rest.closed tail records opens fits c (subst (λ (f : List ℕ). Torn (records_end olds) 1 f c) staged (subst (λ (e : ℕ). Torn e 1 mid.seen c) ends torn))
+    gate c torn = grind (arith, common_steps, gate_torn, opens, staged)
 
     pub gate_done : (after : Disk) (second : Result (Unit {0}) Fault)
         → Overwrites end (255 ∷ []) second mid after → Publishes records second before after
@@ -81,12 +73,4 @@ module _ (before : Disk) (rest : IsAtRest before) (batch tail : List ℕ) (recor
         finished : (r : Result (Unit {0}) Fault)
             → OnOk r ((after.seen ≡ overwritten mid.seen end (255 ∷ [])) × IsOnDisk after)
             → OnOk r (IsAtRest after × (recorded after.seen ≡ olds ++ records))
-        finished (Err f) so = tt
-        finished (Ok x) so =
-            let file = take (records_end olds) before.seen ++ (255 ∷ tail) in
-            let is_open : after.seen ≡ file =
-            opened before.seen olds rest.reads rest.closed tail records opens fits after.seen (so.0 ∙ ap (λ (f : List ℕ). overwritten f end (255 ∷ [])) staged ∙ ap (λ (e : ℕ). overwritten (take (records_end olds) before.seen ++ (0 ∷ tail)) e (255 ∷ [])) ends) in
-            rests after (olds ++ records)
-            (ap contents is_open ∙ reads_new before.seen olds rest.reads rest.closed tail records opens fits)
-            (is_open ∙ closed_new before.seen olds rest.reads rest.closed tail records opens fits ∙ ap (λ (f : List ℕ). take (records_end (olds ++ records)) f ++ 0 ∷ []) (sym is_open))
-            so.1
+        finished r so = grind (arith, common_steps, opened, opens, staged, reads_new, closed_new)

@@ -1,4 +1,5 @@
 -- A file is read, what stands behind its records cut off, and its gate closed.
+use Rattle.std.proofs.lemmas.Grind.{common_steps}
 use Rattle.std.proofs.Common.{◌≡◌, ℕ, ◌≤◌, List, [], ◌∷◌, ◌++◌, length, take, sym, ◌∙◌, ap, subst, arith, Result, Ok, Err, OnOk}
 use Rattle.std.proofs.lemmas.List.{length-take-le}
 use Rattle.tb_journal.specs.declared.faults.Fault.{Fault}
@@ -56,12 +57,4 @@ module _ (before : Disk) (reads : contents before.seen ≡ Records (recorded bef
     }
       where
         finished : (r : Result (Unit {0}) Fault) → OnOk r ((after.seen ≡ overwritten mid.seen end (0 ∷ [])) × IsOnDisk after) → OnOk r (IsAtRest after × (recorded after.seen ≡ olds))
-        finished (Err f) so = tt
-        finished (Ok x) so =
-            let front = take (records_end olds) before.seen in
-            let is_closed : after.seen ≡ front ++ 0 ∷ [] =
-            closes before.seen olds reads after.seen (so.0 ∙ ap (λ (f : List ℕ). overwritten f end (0 ∷ [])) is_cut ∙ ap (λ (e : ℕ). overwritten front e (0 ∷ [])) ends) in
-            rests after olds
-            (ap contents is_closed ∙ reads_closed before.seen olds reads)
-            (is_closed ∙ ap (λ (f : List ℕ). f ++ 0 ∷ []) (sym (ap (take (records_end olds)) is_closed ∙ front_closed before.seen olds reads (0 ∷ []))))
-            so.1
+        finished r so = grind (arith, common_steps, closes, is_cut, rests, reads_closed, front_closed)

@@ -1,5 +1,6 @@
 -- What a crash leaves in each step of a commit, a recovery and a creation.
-use Rattle.std.proofs.Common.{◌≡◌, ◌⊎◌, inl, inr, ℕ, zero, suc, ◌+◌, ◌-◌, ◌≤◌, ◌==◌, Bool, true, false, List, [], ◌∷◌, ◌++◌, length, take, drop, get_or, flat_map, refl, sym, ◌∙◌, ap, arith, length-append, length-drop, append_assoc, take-append-drop, if◌then◌else◌}
+use Rattle.std.proofs.Common.{rules, ◌≡◌, ◌⊎◌, inl, inr, ℕ, zero, suc, ◌+◌, ◌-◌, ◌≤◌, ◌==◌, Bool, true, false, List, [], ◌∷◌, ◌++◌, length, take, drop, get_or, flat_map, refl, sym, ◌∙◌, ap, arith, length-append, length-drop, append_assoc, take-append-drop, if◌then◌else◌}
+use Rattle.std.proofs.lemmas.Grind.{common_steps}
 use Rattle.std.proofs.lemmas.List.{append-nil, take_at, drop_at, take_all, drop_all, drop_more, take-take, length-take-le}
 use Rattle.std.specs.Int.{w32, from_le_bytes}
 use Rattle.std.specs.List.{AllByRecursion}
@@ -10,73 +11,30 @@ use Rattle.tb_journal.proofs.Blocks.{walk-at_rest, length-blocks}
 
 -- gates
 
-chosen_true : {X : Type 0} (b : Bool) (x y : X) → b ≡ true → (if b then x else y) ≡ x
-chosen_true true x y is = refl
-chosen_true false x y is = absurd (cc)
-
-chosen_false : {X : Type 0} (b : Bool) (x y : X) → b ≡ false → (if b then x else y) ≡ y
-chosen_false false x y is = refl
-chosen_false true x y is = absurd (cc)
-
 -- a closed gate ends the records, whatever stands behind it
 pub closed_gate : (gate : ℕ) (behind : List ℕ) → (gate == 0) ≡ true → front (gate ∷ behind) ≡ Ends
-closed_gate g [] h = refl
-closed_gate g (a ∷ []) h = chosen_true (g == 0) Ends Spoiled h
-closed_gate g (a ∷ b ∷ []) h = chosen_true (g == 0) Ends Spoiled h
-closed_gate g (a ∷ b ∷ c ∷ []) h = chosen_true (g == 0) Ends Spoiled h
-closed_gate g (a ∷ b ∷ c ∷ s ∷ []) h = chosen_true (g == 0) Ends Spoiled h
-closed_gate g (a ∷ b ∷ c ∷ s ∷ t ∷ []) h = chosen_true (g == 0) Ends Spoiled h
-closed_gate g (a ∷ b ∷ c ∷ s ∷ t ∷ u ∷ []) h = chosen_true (g == 0) Ends Spoiled h
-closed_gate g (a ∷ b ∷ c ∷ s ∷ t ∷ u ∷ v ∷ rest) h = chosen_true (g == 0) Ends _ h
+closed_gate gate behind h = grind (arith, common_steps)
 
 -- any other gate is as good as the one that is written
 any_gate : (gate : ℕ) (behind : List ℕ) → (gate == 0) ≡ false → front (gate ∷ behind) ≡ front (255 ∷ behind)
-any_gate g [] h = refl
-any_gate g (a ∷ []) h = chosen_false (g == 0) Ends Spoiled h
-any_gate g (a ∷ b ∷ []) h = chosen_false (g == 0) Ends Spoiled h
-any_gate g (a ∷ b ∷ c ∷ []) h = chosen_false (g == 0) Ends Spoiled h
-any_gate g (a ∷ b ∷ c ∷ s ∷ []) h = chosen_false (g == 0) Ends Spoiled h
-any_gate g (a ∷ b ∷ c ∷ s ∷ t ∷ []) h = chosen_false (g == 0) Ends Spoiled h
-any_gate g (a ∷ b ∷ c ∷ s ∷ t ∷ u ∷ []) h = chosen_false (g == 0) Ends Spoiled h
-any_gate g (a ∷ b ∷ c ∷ s ∷ t ∷ u ∷ v ∷ rest) h = chosen_false (g == 0) Ends _ h
+any_gate gate behind h = grind (arith, common_steps)
 
 walk-any_gate : (gate at : ℕ) (behind : List ℕ) → (gate == 0) ≡ false → walk 0 at (gate ∷ behind) ≡ walk 0 at (255 ∷ behind)
 walk-any_gate g at behind h = ap (λ (f : Front). joined f at (walk (skipped f) (at + 1) behind)) (any_gate g behind h)
 
 -- what ends the records ends them where it is cut short
 
-spoiled_never : (b : Bool) → (if b then Ends else Spoiled) ≡ Ends → b ≡ true
-spoiled_never true is = refl
-spoiled_never false is = absurd (cc)
-
-whole_never : (b : Bool) (r : List ℕ) → (if b then Whole r else Spoiled) ≡ Ends → ⊥
-whole_never true r is = cc
-whole_never false r is = cc
-
 behind_never : (b : Bool) (size : List ℕ) (sum : ℕ) (rest : List ℕ) → (if b then Ends else behind_gate size sum rest) ≡ Ends → b ≡ true
-behind_never true size sum rest is = refl
-behind_never false size sum rest is = absurd (whole_never _ _ is)
+behind_never b size sum rest is = grind (arith, common_steps)
 
 ends_at : (g a : ℕ) (rest : List ℕ) → front (g ∷ a ∷ rest) ≡ Ends → (g == 0) ≡ true
-ends_at g a [] is = spoiled_never (g == 0) is
-ends_at g a (b ∷ []) is = spoiled_never (g == 0) is
-ends_at g a (b ∷ c ∷ []) is = spoiled_never (g == 0) is
-ends_at g a (b ∷ c ∷ s ∷ []) is = spoiled_never (g == 0) is
-ends_at g a (b ∷ c ∷ s ∷ t ∷ []) is = spoiled_never (g == 0) is
-ends_at g a (b ∷ c ∷ s ∷ t ∷ u ∷ []) is = spoiled_never (g == 0) is
-ends_at g a (b ∷ c ∷ s ∷ t ∷ u ∷ v ∷ rest) is = behind_never (g == 0) (a ∷ b ∷ c ∷ []) (from_le_bytes w32 (s ∷ t ∷ u ∷ v ∷ [])) rest is
+ends_at g a rest is = grind (arith, common_steps)
 
 front_cut : (k : ℕ) (bytes : List ℕ) → front bytes ≡ Ends → front (take k bytes) ≡ Ends
-front_cut zero bytes is = refl
-front_cut (suc k) [] is = refl
-front_cut (suc zero) (g ∷ bytes) is = refl
-front_cut (suc (suc k)) (g ∷ []) is = refl
-front_cut (suc (suc k)) (g ∷ a ∷ rest) is = closed_gate g (a ∷ take k rest) (ends_at g a rest is)
+front_cut k bytes is = grind (arith, common_steps, ends_at)
 
 pub short_front : (bytes : List ℕ) → length bytes ≤ 1 → front bytes ≡ Ends
-short_front [] h = refl
-short_front (a ∷ []) h = refl
-short_front (a ∷ b ∷ bytes) h = absurd (omega arith)
+short_front bytes h = grind (arith, common_steps)
 
 -- a file of records, of which the blocks alone count
 
@@ -115,10 +73,7 @@ module _ (file : List ℕ) (records : List (List ℕ)) (reads : contents file �
       ap contents whole ∙ with_end (drop end c) (short_front (drop end c) (omega (arith, torn.no_longer, long, length-drop end c)))
 
   pub closes : (c : List ℕ) → c ≡ overwritten (take end file) end (0 ∷ []) → c ≡ take end file ++ 0 ∷ []
-  closes c is =
-      let long = length_front in
-      is ∙ ap (λ (l : List ℕ). l ++ (0 ∷ drop (end + 1) (take end file))) (take-take end end file (omega arith))
-      ∙ ap (λ (l : List ℕ). take end file ++ 0 ∷ l) (drop_all (end + 1) (take end file) (omega (arith, long)))
+  closes c is = search (rules, length_front, take-take, drop_all)
 
   pub reads_closed : contents (take end file ++ 0 ∷ []) ≡ Records records
   reads_closed = with_end (0 ∷ []) refl
@@ -145,12 +100,7 @@ module _ (file : List ℕ) (records : List (List ℕ)) (reads : contents file �
       ap contents whole ∙ with_end file records reads (0 ∷ drop (gate_at + 1) c) (closed_gate 0 (drop (gate_at + 1) c) refl)
 
   pub written_behind : (tail c : List ℕ) → c ≡ overwritten file (gate_at + 1) tail → c ≡ take gate_at file ++ (0 ∷ tail)
-  written_behind tail c is =
-      let long = length_file in
-      is ∙ ap (λ (l : List ℕ). l ++ (tail ++ drop (gate_at + 1 + length tail) file)) (take_all (gate_at + 1) file (omega (arith, long)) ∙ closed)
-      ∙ ap (λ (l : List ℕ). (take gate_at file ++ 0 ∷ []) ++ (tail ++ l)) (drop_all (gate_at + 1 + length tail) file (omega (arith, long)))
-      ∙ ap (λ (l : List ℕ). (take gate_at file ++ 0 ∷ []) ++ l) (append-nil tail)
-      ∙ append_assoc (take gate_at file) (0 ∷ []) tail
+  written_behind tail c is = search (rules, length_file, take_all, drop_all, append-nil, append_assoc)
 
   module _ (tail : List ℕ) (new : List (List ℕ)) (opens : 255 ∷ tail ≡ at_rest new) (fits : AllByRecursion Fits new) where
     front_staged : take gate_at (take gate_at file ++ (0 ∷ tail)) ≡ take gate_at file
@@ -158,17 +108,14 @@ module _ (file : List ℕ) (records : List (List ℕ)) (reads : contents file �
 
     back_staged : drop (gate_at + 1) (take gate_at file ++ (0 ∷ tail)) ≡ tail
     back_staged =
-        let long = length_front file records reads in
-        ap (drop (gate_at + 1)) (sym (append_assoc (take gate_at file) (0 ∷ []) tail))
-        ∙ drop_at (take gate_at file ++ 0 ∷ []) tail (gate_at + 1) (length-append (take gate_at file) (0 ∷ []) ∙ ap (λ (n : ℕ). n + 1) long)
+        search (rules, length_front file records reads, append_assoc (take gate_at file) (0 ∷ []) tail, drop_at, length-append (take gate_at file) (0 ∷ []))
 
     pub long_staged : length (take gate_at file ++ (0 ∷ tail)) ≡ gate_at + suc (length tail)
     long_staged = length-append (take gate_at file) (0 ∷ tail) ∙ ap (λ (n : ℕ). n + suc (length tail)) (length_front file records reads)
 
     pub reads_new : contents (take gate_at file ++ (255 ∷ tail)) ≡ Records (records ++ new)
     reads_new =
-        ap (λ (l : List ℕ). contents (take gate_at file ++ l)) opens ∙ (is_file file records reads).goes_on (at_rest new)
-        ∙ ap (with_records records) (walk-at_rest new gate_at fits) ∙ with_records-Records records new
+        grind (arith, common_steps, is_file file records reads, walk-at_rest new gate_at fits, with_records-Records records new)
 
     -- the blocks stand whole in each outcome of the write of the gate
     pub gate_torn : (c : List ℕ) → Torn gate_at 1 (take gate_at file ++ (0 ∷ tail)) c → (contents c ≡ Records records) ⊎ (contents c ≡ Records (records ++ new))
@@ -182,15 +129,11 @@ module _ (file : List ℕ) (records : List (List ℕ)) (reads : contents file �
       where
         by_gate : (c : List ℕ) (gate : ℕ) → c ≡ take gate_at file ++ (gate ∷ tail) → (b : Bool) → (gate == 0) ≡ b → (contents c ≡ Records records) ⊎ (contents c ≡ Records (records ++ new))
         by_gate c gate whole true is = inl (ap contents whole ∙ with_end file records reads (gate ∷ tail) (closed_gate gate tail is))
-        by_gate c gate whole false is = inr (
-            ap contents whole ∙ (is_file file records reads).goes_on (gate ∷ tail) ∙ ap (with_records records) (walk-any_gate gate gate_at tail is)
-            ∙ sym ((is_file file records reads).goes_on (255 ∷ tail)) ∙ reads_new
-            )
+        by_gate c gate whole false is =
+            grind (arith, common_steps, is_file file records reads, walk-any_gate gate gate_at tail is, reads_new)
 
     pub opened : (c : List ℕ) → c ≡ overwritten (take gate_at file ++ (0 ∷ tail)) gate_at (255 ∷ []) → c ≡ take gate_at file ++ (255 ∷ tail)
-    opened c is =
-        is ∙ ap (λ (l : List ℕ). l ++ (255 ∷ drop (gate_at + 1) (take gate_at file ++ (0 ∷ tail)))) front_staged
-        ∙ ap (λ (l : List ℕ). take gate_at file ++ (255 ∷ l)) back_staged
+    opened c is = grind (arith, common_steps, front_staged, back_staged)
 
     blocks_length-append : (xs ys : List (List ℕ)) → blocks_length (xs ++ ys) ≡ blocks_length xs + blocks_length ys
     blocks_length-append [] ys = sym (let e : 0 + blocks_length ys ≡ blocks_length ys = omega arith in e)

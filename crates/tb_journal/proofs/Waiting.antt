@@ -1,5 +1,5 @@
 -- Records that wait, as blocks.
-use Rattle.std.proofs.Common.{◌≡◌, ℕ, suc, ◌+◌, ◌<◌, ◌≤◌, ◌^◌, List, [], ◌∷◌, ◌++◌, length, get_or, flat_map, sym, ◌∙◌, ap, subst, arith, length-append, append_assoc}
+use Rattle.std.proofs.Common.{rules, ◌≡◌, ℕ, suc, ◌+◌, ◌<◌, ◌≤◌, ◌^◌, List, [], ◌∷◌, ◌++◌, length, get_or, flat_map, sym, ◌∙◌, ap, subst, arith, length-append, append_assoc}
 use Rattle.std.proofs.lemmas.Grind.{flat_map-append}
 use Rattle.std.proofs.lemmas.List.{append-nil}
 use Rattle.std.specs.List.{AllByRecursion}
@@ -46,10 +46,7 @@ module _ (old new content : List ℕ) (many : ℕ) (is : IsBatch old many) (fits
   all_news = fit_all olds (content ∷ []) is.fits (fits, tt)
 
   spelled : new ≡ at_rest news
-  spelled =
-      adds (flat_map block olds) is.spells ∙ sym (append_assoc (flat_map block olds) (block content) (0 ∷ []))
-      ∙ ap (λ (l : List ℕ). (flat_map block olds ++ l) ++ 0 ∷ []) (sym (append-nil (block content)))
-      ∙ ap (λ (l : List ℕ). l ++ 0 ∷ []) (sym (flat_map-append block olds (content ∷ [])))
+  spelled = search (rules, append_assoc, append-nil, flat_map-append)
 
   pub one_more : waiting_in new ≡ news
   one_more = ap waiting_in spelled ∙ reads_waiting news all_news

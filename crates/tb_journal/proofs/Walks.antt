@@ -1,5 +1,6 @@
 -- How what a file stands for follows from its blocks.
-use Rattle.std.proofs.Common.{◌≡◌, ℕ, zero, suc, ◌+◌, ◌≤◌, ◌==◌, ◌&&◌, Bool, true, false, List, [], ◌∷◌, ◌++◌, length, take, drop, refl, sym, ◌∙◌, ap, subst, arith, nat_le, nat_eq, length-append, if◌then◌else◌}
+use Rattle.std.proofs.Common.{rules, ◌≡◌, ℕ, zero, suc, ◌+◌, ◌≤◌, ◌==◌, ◌&&◌, Bool, true, false, List, [], ◌∷◌, ◌++◌, length, take, drop, refl, sym, ◌∙◌, ap, subst, arith, nat_le, nat_eq, length-append, if◌then◌else◌}
+use Rattle.std.proofs.lemmas.Grind.{common_steps}
 use Rattle.std.proofs.lemmas.List.{append-nil, append_assoc, take_at, drop_at, length-take-le, take-append-drop, take-take}
 use Rattle.std.proofs.lemmas.Bool.Decides.{nat_tests, Decides-eqb}
 use Rattle.std.proofs.lemmas.Slice.Eq.{slice_eq-Decides}
@@ -37,21 +38,13 @@ walk-skip (suc k) at [] = refl
 walk-skip (suc k) at (b ∷ bytes) = let e : at + 1 + k ≡ at + suc k = omega arith in walk-skip k (at + 1) bytes ∙ ap (λ (a : ℕ). walk 0 a (drop k bytes)) e
 
 pub walk-whole : (bytes record_bytes : List ℕ) (at : ℕ) → front bytes ≡ Whole record_bytes → walk 0 at bytes ≡ with_record record_bytes (walk 0 (at + (8 + length record_bytes)) (drop (8 + length record_bytes) bytes))
-walk-whole [] r at is = absurd (cc)
-walk-whole (gate ∷ behind) r at is =
-    let n = 7 + length r in
-    let place : at + 1 + n ≡ at + (8 + length r) = omega arith in
-    let far : suc n ≡ 8 + length r = omega arith in
-    ap (λ (f : Front). joined f at (walk (skipped f) (at + 1) behind)) is
-    ∙ ap (with_record r) (walk-skip n (at + 1) behind ∙ ap (λ (a : ℕ). walk 0 a (drop n behind)) place ∙ ap (λ (k : ℕ). walk 0 (at + (8 + length r)) (drop k (gate ∷ behind))) far)
+walk-whole bytes record_bytes at is = grind (arith, common_steps, walk-skip)
 
 pub walk-ends : (bytes : List ℕ) (at : ℕ) → front bytes ≡ Ends → walk 0 at bytes ≡ Records []
-walk-ends [] at is = refl
-walk-ends (gate ∷ behind) at is = ap (λ (f : Front). joined f at (walk (skipped f) (at + 1) behind)) is
+walk-ends bytes at is = grind (arith, common_steps)
 
 pub walk-spoiled : (bytes : List ℕ) (at : ℕ) → front bytes ≡ Spoiled → walk 0 at bytes ≡ Damaged at
-walk-spoiled [] at is = absurd (cc)
-walk-spoiled (gate ∷ behind) at is = ap (λ (f : Front). joined f at (walk (skipped f) (at + 1) behind)) is
+walk-spoiled bytes at is = grind (arith, common_steps)
 
 -- a whole block stays whole, whatever follows it
 
@@ -61,29 +54,22 @@ pub record IsWhole (bytes record_bytes : List ℕ) : Type 0 where
   pub stays : (others : List ℕ) → front (take (8 + length record_bytes) bytes ++ others) ≡ Whole record_bytes
 
 choice_true : {X : Type 0} (b : Bool) (x y : X) → b ≡ true → (if b then x else y) ≡ x
-choice_true true x y is = refl
-choice_true false x y is = absurd (cc)
+choice_true b x y is = grind (arith, common_steps)
 
 choice_false : {X : Type 0} (b : Bool) (x y : X) → b ≡ false → (if b then x else y) ≡ y
-choice_false false x y is = refl
-choice_false true x y is = absurd (cc)
+choice_false b x y is = grind (arith, common_steps)
 
 both_true : (a b : Bool) → (a && b) ≡ true → (a ≡ true) × (b ≡ true)
-both_true true true is = (refl, refl)
-both_true true false is = absurd (cc)
-both_true false b is = absurd (cc)
+both_true a b is = grind (arith, common_steps)
 
 whole_choice : (b : Bool) (r s : List ℕ) → (if b then Whole s else Spoiled) ≡ Whole r → (b ≡ true) × (s ≡ r)
-whole_choice true r s is = (refl, cc)
-whole_choice false r s is = absurd (cc)
+whole_choice b r s is = grind (arith, common_steps)
 
 never : (b : Bool) (r : List ℕ) → (if b then Ends else Spoiled) ≡ Whole r → ⊥
-never true r is = cc
-never false r is = cc
+never b r is = grind (arith, common_steps)
 
 open_choice : (b : Bool) (f : Front) (r : List ℕ) → (if b then Ends else f) ≡ Whole r → (b ≡ false) × (f ≡ Whole r)
-open_choice true f r is = absurd (cc)
-open_choice false f r is = (refl, is)
+open_choice b f r is = grind (arith, common_steps)
 
 pub record StaysBehind (size : List ℕ) (sum : ℕ) (rest record_bytes : List ℕ) : Type 0 where
   pub count : from_le_bytes w32 (size ++ 0 ∷ []) ≡ length record_bytes
@@ -93,23 +79,7 @@ pub record StaysBehind (size : List ℕ) (sum : ℕ) (rest record_bytes : List �
 
 stays_behind : (size : List ℕ) (sum : ℕ) (rest record_bytes : List ℕ) → behind_gate size sum rest ≡ Whole record_bytes → StaysBehind size sum rest record_bytes
 stays_behind size sum rest r is =
-    let n = from_le_bytes w32 (size ++ 0 ∷ []) in
-    let chosen = whole_choice (nat_le n (length rest) && (sum == checksum (size ++ take n rest))) r (take n rest) is in
-    let tests = both_true (nat_le n (length rest)) (sum == checksum (size ++ take n rest)) chosen.0 in
-    let fits : n ≤ length rest = grind (arith, nat_tests) in
-    let long : length (take n rest) ≡ n = length-take-le n rest fits in
-    let counts : n ≡ length r = sym long ∙ ap length chosen.1 in
-    record {
-      count = counts;
-      within = omega (arith, fits, counts);
-      is = ap (λ (k : ℕ). take k rest) (sym counts) ∙ chosen.1;
-      stays = λ others.
-          let whole : take (length r) rest ++ others ≡ r ++ others = ap (λ (k : ℕ). take k rest ++ others) (sym counts) ∙ ap (λ (l : List ℕ). l ++ others) chosen.1 in
-          let front_is : take n (r ++ others) ≡ r = take_at r others n (sym counts) in
-          let room : nat_le n (length (r ++ others)) ≡ true = room_for n (length (r ++ others)) (omega (arith, counts, length-append r others)) in
-          let same : (sum == checksum (size ++ take n (r ++ others))) ≡ true = ap (λ (l : List ℕ). sum == checksum (size ++ l)) (front_is ∙ sym chosen.1) ∙ tests.1 in
-          ap (behind_gate size sum) whole ∙ choice_true (nat_le n (length (r ++ others)) && (sum == checksum (size ++ take n (r ++ others)))) (Whole (take n (r ++ others))) Spoiled (both room same) ∙ ap Whole front_is;
-    }
+    search (rules, whole_choice, both_true, length-take-le, take_at, room_for, length-append, choice_true, both)
   where
     room_for : (a b : ℕ) → a ≤ b → nat_le a b ≡ true
     room_for a b le = grind (arith, nat_tests)
@@ -149,9 +119,7 @@ pub record IsSplit (file : List ℕ) (records : List (List ℕ)) : Type 0 where
   pub ends : front (drop (blocks_length records) file) ≡ Ends
 
 unjoined : (r : List ℕ) (others : Contents) (records : List (List ℕ)) → with_record r others ≡ Records records → (rest : List (List ℕ)) × (others ≡ Records rest) × (records ≡ r ∷ rest)
-unjoined r NotAJournal records is = absurd (cc)
-unjoined r (Damaged at) records is = absurd (cc)
-unjoined r (Records rest) records is = (rest, refl, cc)
+unjoined r others records is = grind (arith, common_steps)
 
 split_first : (file r : List ℕ) (records : List (List ℕ)) → front file ≡ Whole r → IsSplit (drop (8 + length r) file) records → IsSplit file (r ∷ records)
 split_first file r records is later =
@@ -176,10 +144,7 @@ split_at : (records : List (List ℕ)) (at : ℕ) (file : List ℕ) (f : Front) 
 split_at [] at file Ends is found = record { within = omega arith; goes_on = λ at others. (let e : at ≡ at + 0 = omega arith in ap (λ (a : ℕ). walk 0 a others) e); ends = is }
 split_at (r ∷ records) at file Ends is found = let e = walk-ends file at is in absurd (cc)
 split_at records at file Spoiled is found = let e = walk-spoiled file at is in absurd (cc)
-split_at [] at file (Whole r) is found =
-    let rest = unjoined r (walk 0 (at + (8 + length r)) (drop (8 + length r) file)) [] (sym (walk-whole file r at is) ∙ found) in
-    let e = rest.2 in
-    absurd (cc)
+split_at [] at file (Whole r) is found = search (rules, unjoined, walk-whole)
 split_at (s ∷ records) at file (Whole r) is found =
     let rest = unjoined r (walk 0 (at + (8 + length r)) (drop (8 + length r) file)) (s ∷ records) (sym (walk-whole file r at is) ∙ found) in
     let e = rest.2 in
@@ -196,8 +161,7 @@ pub record IsFile (file : List ℕ) (records : List (List ℕ)) : Type 0 where
   pub ends : front (drop (records_end records) file) ≡ Ends
 
 journal_choice : (b : Bool) (x : Contents) (records : List (List ℕ)) → (if b then x else NotAJournal) ≡ Records records → (b ≡ true) × (x ≡ Records records)
-journal_choice true x records is = (refl, is)
-journal_choice false x records is = absurd (cc)
+journal_choice b x records is = grind (arith, common_steps)
 
 pub is_file : (file : List ℕ) (records : List (List ℕ)) → contents file ≡ Records records → IsFile file records
 is_file file records is =
@@ -269,5 +233,4 @@ begins_shorter a b file begins =
 -- and a file begins with all of its records
 pub whole_begins : (records : List (List ℕ)) (file : List ℕ) → contents file ≡ Records records → contents (take (records_end records) file) ≡ Records records
 whole_begins records file is =
-    let front = take (records_end records) file in
-    ap contents (sym (append-nil front)) ∙ (is_file file records is).goes_on [] ∙ ended records (records_end records) [] refl
+    grind (arith, common_steps, append-nil (take (records_end records) file), is_file file records is, is, ended records (records_end records) [] refl)

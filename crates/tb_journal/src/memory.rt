@@ -91,10 +91,7 @@ fn after_torn(alloc: Global, file: Vec<u8>, call: &Call, torn: &[u8]) -> Result<
             file.truncate(len.saturating_add(torn.len()));
             Ok(file)
         }
-        Call::Sync { file: kept } => {
-            drop(file);
-            Vec::from_slice(alloc, kept)
-        }
+        Call::Sync { file: kept } => Vec::from_slice(alloc, kept),
     }
 }
 

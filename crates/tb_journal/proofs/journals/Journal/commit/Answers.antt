@@ -1,5 +1,5 @@
+use Rattle.std.proofs.lemmas.Grind.{common_steps}
 use Rattle.std.proofs.Common.{length, ap, subst, sym, arith}
-use Rattle.tb_journal.specs.Contents.{at_rest}
 use Rattle.tb_journal.specs.Ready.{Kept, IsReady}
 use Rattle.tb_journal.proofs.Committing.{fewer, next_ready}
 use Rattle.tb_journal.proofs.journals.Journal.commit.Goals as goal
@@ -8,12 +8,7 @@ pub overflow_add-self-in-Ok : goal.overflow_add-self-in-Ok
 overflow_add-self-in-Ok g c = omega (arith, c.self.invariant.0, c.self.invariant.1, fewer c.self.inside.batch, c.count-in-Ok.ensures)
 
 pub invariant_of-self : goal.invariant_of-self
-invariant_of-self g c =
-    let bytes = ap length c.bytes-in-Ok.ensures.spells in
-    let none = ap (λ batch. length (at_rest batch)) c.clear.ensures in (
-      omega (arith, c.self.invariant.0, bytes, none, fewer c.self.inside.batch),
-      omega (arith, c.self.invariant.1, bytes, c.count-in-Ok.ensures, fewer c.self.inside.batch),
-    )
+invariant_of-self g c = grind (arith, common_steps, fewer)
 
 pub returns-in-Ok-clause-ready : goal.returns-in-Ok-clause-ready
 returns-in-Ok-clause-ready g c t =

@@ -1,4 +1,5 @@
-use Rattle.std.proofs.Common.{◌≡◌, ◌+◌, ◌∙◌, ap, arith, drop, refl, rules, subst, sym, take}
+use Rattle.std.proofs.lemmas.Grind.{common_steps}
+use Rattle.std.proofs.Common.{◌+◌, ◌∙◌, ap, arith, drop, refl, rules, subst, sym, take}
 use Rattle.tb_journal.specs.Scans.{Place, HasRead}
 use Rattle.tb_journal.proofs.Nexts.{step_ends, step_stays, step_spoiled, step_whole, too_far}
 use Rattle.tb_journal.specs.Handed.{HasTaken}
@@ -6,9 +7,7 @@ use Rattle.tb_journal.proofs.Handing.{all_ahead, takes_end, takes_damage, takes_
 use Rattle.tb_journal.proofs.scans.Scan.next.Goals as goal
 
 pub returns-then-self-ge-FILE_BYTES_MAX-clause-cause : goal.returns-then-self-ge-FILE_BYTES_MAX-clause-cause
-returns-then-self-ge-FILE_BYTES_MAX-clause-cause g c t records read =
-    let end : c.self.inside.end ≡ c.args.self.now.end = ap (λ (p : Place). p.end) c.self.view_is in
-    too_far (g.D.Device.disk c.args.device.now) records c.args.self.now read (omega (arith, end, c.if-self-ge-FILE_BYTES_MAX.true))
+returns-then-self-ge-FILE_BYTES_MAX-clause-cause g c t records read = grind (arith, common_steps, too_far)
 
 pub returns-in-Ok-End-clause-reads : goal.returns-in-Ok-End-clause-reads
 returns-in-Ok-End-clause-reads g c t records read =
