@@ -1,5 +1,6 @@
 -- A file stands for one history, and its machine is the one that served.
-use Rattle.std.proofs.Common.{ℕ, ◌≡◌, Bool, true, false, cond, fold, List, [], ◌∷◌, ◌++◌, map, refl, sym, ap, ◌∙◌, subst}
+use Rattle.std.proofs.Common.{arith, ℕ, ◌≡◌, Bool, true, false, cond, fold, List, [], ◌∷◌, ◌++◌, map, refl, sym, ap, ◌∙◌, subst}
+use Rattle.std.proofs.lemmas.Grind.{common_steps}
 use Rattle.tb_records.specs.declared.limits.Profile.{Profile}
 use Rattle.tb_records.specs.declared.limits.Profile.TheVariants.{One, Two}
 use Rattle.tb_journal.specs.Contents.{records_of as records_in}
@@ -16,10 +17,7 @@ use Rattle.tb_keep.specs.Again.{OneHistory, OneLedger, GoesOnAfter}
 use Rattle.tb_keep.proofs.Pairs.{told_join}
 
 pub one_head : (p q : Profile) (m n : ℕ) → head_record p m ≡ head_record q n → (p ≡ q) × (m ≡ n)
-one_head One One m n is = (refl, cc (is))
-one_head One Two m n is = absurd (cc)
-one_head Two One m n is = absurd (cc)
-one_head Two Two m n is = (refl, cc (is))
+one_head p q m n is = grind (arith, common_steps)
 
 one_row : (es fs : List Entry) → AreRecorded es → AreRecorded fs → map dumped es ≡ map dumped fs → es ≡ fs
 one_row [] [] mine yours is = refl
@@ -44,8 +42,7 @@ fold_entered S (p ∷ ps) = by (is_entered S p) (fold_entered (after_pair S p) p
   where
     by : (b : Bool) → fold step (cond b (step S (entry_of S p)) S) (entries_from (after_pair S p) ps) ≡ state_from (after_pair S p) ps
         → fold step S (cond b (entry_of S p ∷ []) [] ++ entries_from (after_pair S p) ps) ≡ state_from (after_pair S p) ps
-    by true is = is
-    by false is = is
+    by b is = grind (arith, common_steps)
 
 pub one_ledger : OneLedger
 one_ledger h ps = fold_append step (start h.profile h.clients_max) h.entries (entries_from (state_of h) ps) ∙ fold_entered (state_of h) ps

@@ -1,5 +1,6 @@
 -- A crash at any moment of serving leaves the entries of some first pairs: by induction over rounds.
-use Rattle.std.proofs.Common.{ℕ, ◌≡◌, inl, inr, List, [], ◌∷◌, ◌++◌, Result, Ok, Err, refl, sym, ap, ◌∙◌, subst, append_assoc, append-nil}
+use Rattle.std.proofs.Common.{arith, ℕ, ◌≡◌, inl, inr, List, [], ◌∷◌, ◌++◌, Result, Ok, Err, refl, sym, ap, ◌∙◌, subst, append_assoc, append-nil}
+use Rattle.std.proofs.lemmas.Grind.{common_steps}
 use Rattle.tb_records.specs.Transport.{Output}
 use Rattle.tb_journal.specs.Device.{Disk, LeavesOnly}
 use Rattle.tb_journal.specs.Contents.{Records, contents, recorded}
@@ -50,13 +51,7 @@ behind_batch base grown S T ps qs file grows to front = record {
 module _ (tells : Type 0) {D : Type 0} (disk : D → Disk) (only : (d : D) → Only (disk d)) where
   -- where nothing is done
   rest_leaves : (d : D) (S : State) (all : List Pair) → IsAtRest (disk d) → LeavesOnly (disk d) (disk d) (Front (recorded (disk d).seen) S all)
-  rest_leaves d S all rest =
-      started (disk d) (Front (recorded (disk d).seen) S all)
-      (λ c left. none_of (recorded (disk d).seen) S all c (ap contents (rest.kept c (only d c left)) ∙ rest.reads))
-
-  rounds_rest : tells → (done : List (List Pair)) (first before : Standing D) → Rounds tells disk done first before → IsAtRest (disk first.device) → IsAtRest (disk before.device)
-  rounds_rest t [] first before kept rest = subst (λ (s : Standing D). IsAtRest (disk s.device)) (sym kept) rest
-  rounds_rest t (ps ∷ done) first before kept rest = rounds_rest t done kept.0 before kept.2 (kept.1.commits t).at_rest
+  rest_leaves d S all rest = grind (arith, common_steps, started, none_of)
 
   -- what ends the serving behind rounds
   ends_leave : tells → (result : Result ℕ KeepFault) (more : List Pair) (standing : Standing D) (after : Keeping D) (written : Output)

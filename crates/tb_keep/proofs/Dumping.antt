@@ -1,5 +1,6 @@
 -- What is read of a file and sent as a dump.
-use Rattle.std.proofs.Common.{ℕ, ◌≡◌, inr, true, false, List, [], ◌∷◌, ◌++◌, Result, Ok, Err, refl, sym, ap, ◌∙◌, subst, append_assoc, append-nil}
+use Rattle.std.proofs.Common.{rules, arith, ℕ, ◌≡◌, inr, true, false, List, [], ◌∷◌, ◌++◌, Result, Ok, Err, refl, sym, ap, ◌∙◌, subst, append_assoc, append-nil}
+use Rattle.std.proofs.lemmas.Grind.{common_steps}
 use Rattle.tb_records.specs.declared.faults.FrameFault.{FrameFault}
 use Rattle.tb_records.specs.DumpBytes.{head_bytes}
 use Rattle.tb_records.specs.Transport.{Output, Sent, CutOff, IsSent}
@@ -29,8 +30,7 @@ finds_rules which (Err (start.Entry fault)) file head scan at none = absurd none
 finds_rules which (Err start.NoMemory) file head scan at none = absurd none
 
 pub rules_found : (which : Which) (result : Result Rules StartFault) (file : List ℕ) (scan : Place) → FindsRules which result file scan → RulesAnswer result file
-rules_found which (Ok rules) file scan at = at.has.begins
-rules_found which (Err fault) file scan none = none
+rules_found which result file scan at = grind (arith, common_steps)
 
 -- records that are sent
 
@@ -49,9 +49,6 @@ send_one front bytes old mid new sent result more = sent_rest (joined front) byt
 -- so far these were sent
 abbrev pub Sending : Which → List (List ℕ) → List ℕ → Place → Output → Output → Type 0
 Sending which read file scan old new = (records : List (List ℕ)) × IsAt which (read ++ records) file scan × Sent (joined records) old new
-
-pub sending_none : (which : Which) (read : List (List ℕ)) (file : List ℕ) (scan : Place) (old : Output) → IsAt which read file scan → Sending which read file scan old old
-sending_none which read file scan old at = ([], subst (λ (r : List (List ℕ)). IsAt which r file scan) (sym (append-nil read)) at, sends_none old)
 
 module _ (which : Which) (read records : List (List ℕ)) (file : List ℕ) (scan : Place) (old mid new : Output) (sent : Sent (joined records) old mid) where
   pub sending_more : SendsNext which (Ok true) (read ++ records) file scan mid new → Sending which read file scan old new
@@ -104,6 +101,3 @@ module _ (rules : Rules) (file : List ℕ) (old mid new : Output) where
       (stops, inr (records, begins, sent_rest head (joined (behind_head records)) old mid new (dump_with rules records) refl sent (Ok tt) more))
   dumps_behind (Err (dump.Writer f)) sent (is, (records, begins, cut)) =
       (is, (records, begins, (sent_rest head (joined (behind_head records)) old mid new (dump_with rules records) refl sent (Err f) (is, cut)).1))
-
-  pub dumps_some_head : (fault : FrameFault) → BeginsWith [] file → IsSent (Err fault) head old new → Dumps (Err (dump.Writer fault)) rules file old new
-  dumps_some_head fault begins (is, cut) = (is, ([], begins, subst (λ (l : List ℕ). CutOff l old new) (sym (append-nil head)) cut))

@@ -1,5 +1,6 @@
 -- The records of a file as they are read and entered.
-use Rattle.std.proofs.Common.{ℕ, ◌≡◌, ◌⊎◌, inl, inr, true, false, List, [], ◌∷◌, ◌++◌, length, refl, sym, ap, ◌∙◌, subst, append_assoc, append-nil, Ok, Err, ◌<◌, ◌≤◌}
+use Rattle.std.proofs.Common.{rules, arith, ℕ, ◌≡◌, ◌⊎◌, inl, inr, true, false, List, [], ◌∷◌, ◌++◌, length, refl, sym, ap, ◌∙◌, subst, append_assoc, append-nil, Ok, Err, ◌<◌, ◌≤◌}
+use Rattle.std.proofs.lemmas.Grind.{common_steps}
 use Rattle.tb_records.specs.declared.limits.Profile.{Profile}
 use Rattle.tb_journal.specs.declared.reading.Extent.{Extent}
 use Rattle.tb_journal.specs.Device.{Disk, IsLookedAt}
@@ -24,12 +25,6 @@ use Rattle.tb_keep.proofs.Leading.{leads_none, leads_more, stops_file}
 
 abbrev pub Latest : Disk → Type 0
 Latest disk = (c : List ℕ) → disk.left_since disk.moment c → disk.may_leave c
-
-pub stays_none : (disk : Disk) → Latest disk → StaysKept disk disk
-stays_none disk now = record {
-  untouched = record { seen = refl; any_moment = started disk (IsAsBefore disk) (λ c left. inl (now c left)) };
-  kept = λ kept. kept;
-}
 
 pub stays_looked : (before after : Disk) → Latest before → IsLookedAt before after → StaysKept before after
 stays_looked before after now looks = record {
@@ -74,19 +69,11 @@ head_stops start.NoMemory profile clients_max file head begins why = absurd why
 
 pub enters_not : (which : Which) (fault : StartFault) (read : List (List ℕ)) (file bytes : List ℕ) (after : Place) (S T : State) → BeginsWith (read ++ bytes ∷ []) file → RestoresRecord (Err fault) S bytes T
     → EntersNext which (Err fault) read file after S T
-enters_not which (start.Journal f) read file bytes after S T begins stops = absurd stops.1
-enters_not which start.Head read file bytes after S T begins stops = (bytes, begins, stops.1)
-enters_not which start.OtherRules read file bytes after S T begins stops = (bytes, begins, stops.1)
-enters_not which (start.Record place f) read file bytes after S T begins stops = (bytes, begins, stops.1)
-enters_not which (start.Entry f) read file bytes after S T begins stops = (bytes, begins, stops.1)
-enters_not which start.NoMemory read file bytes after S T begins stops = (bytes, begins, stops.1)
+enters_not which fault read file bytes after S T begins stops = grind (arith, common_steps)
 
 -- so far these were entered
 abbrev pub Entered : Which → List (List ℕ) → List ℕ → Place → State → State → Type 0
 Entered which read file scan S T = (records : List (List ℕ)) × IsAt which (read ++ records) file scan × RecordsLead S records T
-
-pub entered_none : (which : Which) (read : List (List ℕ)) (file : List ℕ) (scan : Place) (S : State) → IsAt which read file scan → Entered which read file scan S S
-entered_none which read file scan S at = ([], subst (λ (r : List (List ℕ)). IsAt which r file scan) (sym (append-nil read)) at, leads_none S)
 
 module _ (which : Which) (read records : List (List ℕ)) (file : List ℕ) (scan : Place) (S T U : State) (leads : RecordsLead S records T) where
   pub entered_more : EntersNext which (Ok true) (read ++ records) file scan T U → Entered which read file scan S U
@@ -101,43 +88,20 @@ module _ (which : Which) (read records : List (List ℕ)) (file : List ℕ) (sca
 
   entered_not_more : (fault : StartFault) (bytes : List ℕ) → BeginsWith ((read ++ records) ++ bytes ∷ []) file → StopsAt fault T bytes
       → (others : List (List ℕ)) × (V : State) × BeginsWith (read ++ others) file × RestoresAll (Err fault) S others V
-  entered_not_more fault bytes begins stops =
-      (records ++ bytes ∷ [], T, subst (λ (r : List (List ℕ)). BeginsWith r file) (append_assoc read records (bytes ∷ [])) begins, (records, bytes, [], refl, leads, stops))
+  entered_not_more fault bytes begins stops = grind (arith, common_steps, append_assoc read records (bytes ∷ []))
 
   pub entered_not : (fault : StartFault) → EntersNext which (Err fault) (read ++ records) file scan T U → EntersAll (Err fault) read file scan S U
-  entered_not (start.Journal f) (stops, begins) = (stops, begins_shorter read records file begins)
-  entered_not start.Head (bytes, begins, stops) = entered_not_more start.Head bytes begins stops
-  entered_not start.OtherRules (bytes, begins, stops) = entered_not_more start.OtherRules bytes begins stops
-  entered_not (start.Record place f) (bytes, begins, stops) = entered_not_more (start.Record place f) bytes begins stops
-  entered_not (start.Entry f) (bytes, begins, stops) = entered_not_more (start.Entry f) bytes begins stops
-  entered_not start.NoMemory (bytes, begins, stops) = entered_not_more start.NoMemory bytes begins stops
+  entered_not fault next = grind (arith, common_steps, begins_shorter, entered_not_more)
 
 -- and where its records end
 
 pub extent_found : (file : List ℕ) (records : List (List ℕ)) (scan : Place) (extent : Extent) → contents file ≡ Records records → HasRead records file scan
     → extent.end ≡ scan.end → extent.count ≡ scan.count → extent_of (contents file) ≡ Ok extent
-extent_found file records scan extent reads has end count =
-    ap extent_of reads
-    ∙ ap (λ (n : ℕ). Ok (record { end = n; count = length records })) (sym (end ∙ has.end))
-    ∙ ap (λ (n : ℕ). Ok (record { end = extent.end; count = n })) (sym (count ∙ has.count))
+extent_found file records scan extent reads has end count = grind (arith, common_steps)
 
 -- a whole file
 
 module _ (profile : Profile) (clients_max : ℕ) (some_client : 0 < clients_max) (clients : clients_max ≤ 64) where
-  without_records : (S : State) → S ≡ start_state profile clients_max → IsRestored profile clients_max [] S
-  without_records S empty = record {
-    entries = [];
-    keepable = record { some_client = some_client; clients = clients; legal = tt; recorded_are = tt };
-    state = empty;
-    spelled = inr (refl, refl);
-  }
-
-  pub restored_without : (file : List ℕ) (extent : Extent) (S : State) → S ≡ start_state profile clients_max → contents file ≡ Records [] → extent_of (contents file) ≡ Ok extent
-      → IsRestoredFrom profile clients_max file S extent
-  restored_without file extent S empty reads is = record {
-    extent_is = is;
-    restored = subst (λ (r : List (List ℕ)). IsRestored profile clients_max r S) (sym (ap records_of reads)) (without_records S empty);
-  }
 
   of_history : (records : List (List ℕ)) (T : State) → RecordsLead (start_state profile clients_max) records T → IsRestored profile clients_max (head_record profile clients_max ∷ records) T
   of_history records T leads = record {
@@ -175,7 +139,3 @@ module _ (rules : Rules) (file : List ℕ) (scan : Place) (S T : State) (empty :
   behind_not (start.Record place f) (records, U, begins, stops) = behind_stops (start.Record place f) records U begins stops
   behind_not (start.Entry f) (records, U, begins, stops) = behind_stops (start.Entry f) records U begins stops
   behind_not start.NoMemory (records, U, begins, stops) = behind_stops start.NoMemory records U begins stops
-
--- where memory is missing
-pub no_memory : (profile : Profile) (clients_max : ℕ) (file : List ℕ) (read : List (List ℕ)) → BeginsWith read file → StopsReading start.NoMemory profile clients_max file
-no_memory profile clients_max file read begins = record { records = read; begins = begins; stops = tt }

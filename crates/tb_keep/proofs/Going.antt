@@ -62,10 +62,10 @@ module _ (tells : Type 0) {D : Type 0} (disk : D → Disk) where
   still_ready : (j k : Kept D) (waiting : List (List ℕ)) → k ≡ record j { waiting = waiting } → IsReady disk j → IsReady disk k
   still_ready j k waiting is ready = subst (λ (k : Kept D). IsReady disk k) (sym is) (record { at_rest = ready.at_rest; ends = ready.ends; counts = ready.counts })
 
+module _ {tells : Type 0} {D : Type 0} {disk : D → Disk} {k : ℕ} {before keeper : Keeping D} {first input : Input} {start written : Output} {held : List ℕ} (g : Going tells disk k before keeper first input start written held) where
   -- one more pair
-  pub going_on : (k : ℕ) (before keeper after : Keeping D) (first input last : Input) (start written : Output) (held grown : List ℕ)
-      → Going k before keeper first input start written held → Next (Ok tt) keeper after input last held grown → Going (k + 1) before after first last start written grown
-  going_on k before keeper after first input last start written held grown g n =
+  pub going_on : {after : Keeping D} {last : Input} {grown : List ℕ} → Next (Ok tt) keeper after input last held grown → Going tells disk (k + 1) before after first last start written grown
+  going_on {after} {last} {grown} n =
       let S = g.standing.state in
       record {
         rounds = g.rounds;
@@ -86,218 +86,135 @@ module _ (tells : Type 0) {D : Type 0} (disk : D → Disk) where
             ∙ ap (λ (U : State). told_from S g.more ++ told_from U (n.pair ∷ [])) g.state
             ∙ sym (told_join S g.more (n.pair ∷ []));
         output = g.output;
-        ready = λ t. still_ready keeper.journal after.journal (keeper.journal.waiting ++ records_from keeper.state (n.pair ∷ [])) n.turn.waits (g.ready t);
+        ready = λ t. still_ready tells disk keeper.journal after.journal (keeper.journal.waiting ++ records_from keeper.state (n.pair ∷ [])) n.turn.waits (g.ready t);
       }
 
-  commits_more : (k : ℕ) (before keeper after : Keeping D) (first input : Input) (start written : Output) (held : List ℕ)
-      (g : Going k before keeper first input start written held) → IsCommitted tells disk keeper after → tells
-      → Commits (records_from g.standing.state g.more) (disk g.standing.device) (disk after.journal.device)
-  commits_more k before keeper after first input start written held g c t =
+  -- nothing was written meanwhile
+  pub going_silent : {next : Output} → next ≡ written → Going tells disk k before keeper first input start next held
+  going_silent same = subst (λ (o : Output). Going tells disk k before keeper first input start o held) (sym same) g
+
+  -- pairs were served, by what ended serving
+  serves : {result : Result ℕ KeepFault} {after : Keeping D} {last : Input} {next : Output}
+      → Stops result (state_from g.standing.state g.more) (length (pairs_of g.rounds ++ g.more)) input last → EndsBy tells disk result g.more g.standing after next
+      → Served tells disk result before after first last start next
+  serves stops ended = record {
+    rounds = g.rounds;
+    more = g.more;
+    standing = g.standing;
+    input = input;
+    kept = g.kept;
+    served = g.served;
+    read = g.read;
+    stops = stops;
+    ended = ended;
+  }
+
+  pub served_too_long : k ≡ 2 ^ 64 - 1 → Served tells disk (Err (keep.Serving run.TooLong)) before keeper first input start written
+  served_too_long all = serves (g.long ∙ all, refl) (record { same = g.device; silent = g.output })
+
+  commits_more : {after : Keeping D} → IsCommitted tells disk keeper after → tells → Commits (records_from g.standing.state g.more) (disk g.standing.device) (disk after.journal.device)
+  commits_more {after} c t =
       subst (λ (d : D). Commits (records_from g.standing.state g.more) (disk d) (disk after.journal.device)) g.device
       (subst (λ records. Commits records (disk keeper.journal.device) (disk after.journal.device)) (g.waits t) (c.commits t))
 
   -- a round is told
-  pub going_told : (k : ℕ) (before keeper after : Keeping D) (first input : Input) (start written next : Output) (held left : List ℕ)
-      → Going k before keeper first input start written held → Tells tells disk (Ok tt) keeper after held left written next → Going k before after first input start next left
-  going_told k before keeper after first input start written next held left g t = record {
-    rounds = g.rounds ++ g.more ∷ [];
-    more = [];
-    standing = record { state = after.state; device = after.journal.device; output = next };
-    long = ap length (pairs_snoc g.rounds g.more) ∙ g.long;
-    kept = rounds_snoc g.rounds g.more (record { state = before.state; device = before.journal.device; output = start }) g.standing (record { state = after.state; device = after.journal.device; output = next }) g.kept (record {
-      served = g.served;
-      state = t.0.state ∙ g.state;
-      commits = commits_more k before keeper after first input start written held g t.0;
-      told = subst (λ (o : Output). Sent (told_from g.standing.state g.more) o next) g.output (subst (λ bytes. Sent bytes written next) g.holds t.1.0);
-      passed = t.1.1;
-    });
-    served = tt;
-    read = subst (λ ps. Reads ps first input) (sym (pairs_snoc g.rounds g.more)) g.read;
-    state = refl;
-    device = refl;
-    waits = λ _. t.0.none_waits;
-    holds = t.1.2;
-    output = refl;
-    ready = t.0.ready;
-  }
-
-  pub going_may : (k : ℕ) (before keeper after : Keeping D) (first input : Input) (start written next : Output) (held left : List ℕ)
-      → Going k before keeper first input start written held → MayTell tells disk (Ok tt) keeper after held left written next → Going k before after first input start next left
-  going_may k before keeper after first input start written next held left g (inl same) =
-      subst (λ (o : Output). Going k before after first input start o left) (sym same.3)
-      (subst (λ bytes. Going k before after first input start written bytes) (sym same.2)
-      (subst (λ (x : Keeping D). Going k before x first input start written held) (sym same.1) g))
-  going_may k before keeper after first input start written next held left g (inr told) = going_told k before keeper after first input start written next held left g told
-
-  -- what ends it
-
-  pub served_out : (k : ℕ) (before keeper again after : Keeping D) (first input last : Input) (start written next : Output) (held same left : List ℕ)
-      → Going k before keeper first input start written held → Ceases (Ok None) keeper again input last held same → Tells tells disk (Ok tt) again after same left written next
-      → Served tells disk (Ok k) before after first last start next
-  unfolding going_told
-  served_out k before keeper again after first input last start written next held same left g c t =
-      let told = going_told k before keeper after first input start written next held left g
-      (subst (λ (x : Keeping D). Tells tells disk (Ok tt) x after held left written next) c.same
-      (subst (λ bytes. Tells tells disk (Ok tt) again after bytes left written next) c.holds t)) in
+  going_told : {after : Keeping D} {next : Output} {left : List ℕ} → Tells tells disk (Ok tt) keeper after held left written next → Going tells disk k before after first input start next left
+  going_told {after} {next} {left} t =
+      let standing : Standing D = record { state = after.state; device = after.journal.device; output = next } in
       record {
-        rounds = told.rounds;
+        rounds = g.rounds ++ g.more ∷ [];
         more = [];
-        standing = told.standing;
-        input = input;
-        kept = told.kept;
+        standing = standing;
+        long = ap length (pairs_snoc g.rounds g.more) ∙ g.long;
+        kept = rounds_snoc tells disk g.rounds g.more (record { state = before.state; device = before.journal.device; output = start }) g.standing standing g.kept (record {
+          served = g.served;
+          state = t.0.state ∙ g.state;
+          commits = commits_more t.0;
+          told = subst (λ (o : Output). Sent (told_from g.standing.state g.more) o next) g.output (subst (λ bytes. Sent bytes written next) g.holds t.1.0);
+          passed = t.1.1;
+        });
         served = tt;
-        read = told.read;
-        stops = (sym told.long, c.read);
-        ended = (refl, refl, record { same = refl; silent = refl });
+        read = subst (λ ps. Reads ps first input) (sym (pairs_snoc g.rounds g.more)) g.read;
+        state = refl;
+        device = refl;
+        waits = λ _. t.0.none_waits;
+        holds = t.1.2;
+        output = refl;
+        ready = t.0.ready;
       }
 
+  pub going_may : {after : Keeping D} {next : Output} {left : List ℕ} → MayTell tells disk (Ok tt) keeper after held left written next → Going tells disk k before after first input start next left
+  going_may (inl (is, stays, none, silent)) = rw (stays, none, silent) g
+  going_may (inr told) = going_told told
+
   -- a fault in telling, with nothing more read, or the end
-  pub served_silent : (f : KeepFault) (k : ℕ) (before keeper after : Keeping D) (first input last : Input) (start written next : Output) (held left : List ℕ)
-      → (g : Going k before keeper first input start written held) → Pauses (state_from g.standing.state g.more) input last → Tells tells disk (Err f) keeper after held left written next
+  served_silent : (f : KeepFault) (left : List ℕ) {after : Keeping D} {last : Input} {next : Output} → Pauses (state_from g.standing.state g.more) input last → Tells tells disk (Err f) keeper after held left written next
       → Served tells disk (Err f) before after first last start next
-  served_silent f k before keeper after first input last start written next held left g pauses t = record {
-    rounds = g.rounds;
-    more = g.more;
-    standing = g.standing;
-    input = input;
-    kept = g.kept;
-    served = g.served;
-    read = g.read;
-    stops = stops f t;
-    ended = ended f t;
-  }
-    where
-      stops : (f : KeepFault) → Tells tells disk (Err f) keeper after held left written next → Stops (Err f) (state_from g.standing.state g.more) (length (pairs_of g.rounds ++ g.more)) input last
-      stops (keep.Journal fault) t = inr pauses
-      stops (keep.Serving (run.Frame fault)) t = inr pauses
-      stops (keep.Serving run.NoMemory) t = absurd t.1
-      stops (keep.Serving run.TimeExhausted) t = absurd t.1
-      stops (keep.Serving run.TooLong) t = absurd t.1
+  served_silent (keep.Journal fault) left {after} {last} {next} pauses t = serves (inr pauses) (inr (record {
+    any_moment = λ known.
+        subst (λ (d : D). LeavesOnly (disk d) (disk after.journal.device) (IsBeforeOrAfter (recorded (disk d).seen) (records_from g.standing.state g.more))) g.device
+        (subst (λ records. LeavesOnly (disk keeper.journal.device) (disk after.journal.device) (IsBeforeOrAfter (recorded (disk keeper.journal.device).seen) records)) (g.waits known) (t.0 known));
+    silent = t.1 ∙ g.output;
+  }))
+  served_silent (keep.Serving (run.Frame fault)) left {after} {last} {next} pauses t = serves (inr pauses) (inr (
+    t.1.0,
+    record {
+      commits = commits_more t.0;
+      cut = subst (λ (o : Output). CutOff (told_from g.standing.state g.more) o next) g.output (subst (λ bytes. CutOff bytes written next) g.holds t.1.1);
+    },
+  ))
+  served_silent (keep.Serving run.NoMemory) left pauses t = absurd t.1
+  served_silent (keep.Serving run.TimeExhausted) left pauses t = absurd t.1
+  served_silent (keep.Serving run.TooLong) left pauses t = absurd t.1
 
-      ended : (f : KeepFault) → Tells tells disk (Err f) keeper after held left written next → EndsBy tells disk (Err f) g.more g.standing after next
-      ended (keep.Journal fault) t = inr (record {
-        any_moment = λ known.
-            subst (λ (d : D). LeavesOnly (disk d) (disk after.journal.device) (IsBeforeOrAfter (recorded (disk d).seen) (records_from g.standing.state g.more))) g.device
-            (subst (λ records. LeavesOnly (disk keeper.journal.device) (disk after.journal.device) (IsBeforeOrAfter (recorded (disk keeper.journal.device).seen) records)) (g.waits known) (t.0 known));
-        silent = t.1 ∙ g.output;
-      })
-      ended (keep.Serving (run.Frame fault)) t = inr (
-        t.1.0,
-        record {
-          commits = commits_more k before keeper after first input start written held g t.0;
-          cut = subst (λ (o : Output). CutOff (told_from g.standing.state g.more) o next) g.output (subst (λ bytes. CutOff bytes written next) g.holds t.1.1);
-        },
-      )
-      ended (keep.Serving run.NoMemory) t = absurd t.1
-      ended (keep.Serving run.TimeExhausted) t = absurd t.1
-      ended (keep.Serving run.TooLong) t = absurd t.1
+  pub served_before : (f : KeepFault) (left : List ℕ) {after : Keeping D} {next : Output} → MayTell tells disk (Err f) keeper after held left written next → Served tells disk (Err f) before after first input start next
+  served_before f left (inl same) = absurd (subst is_ok (sym same.0) tt)
+  served_before f left (inr told) = served_silent f left (inl refl) told
 
-  pub served_before : (f : KeepFault) (k : ℕ) (before keeper after : Keeping D) (first input : Input) (start written next : Output) (held left : List ℕ)
-      → Going k before keeper first input start written held → MayTell tells disk (Err f) keeper after held left written next
-      → Served tells disk (Err f) before after first input start next
-  served_before f k before keeper after first input start written next held left g (inl same) = absurd (subst is_ok (sym same.0) tt)
-  served_before f k before keeper after first input start written next held left g (inr told) = served_silent f k before keeper after first input input start written next held left g (inl refl) told
+  -- a fault in serving a pair, behind which nothing is told
+  served_into : (f : KeepFault) {after : Keeping D} {last : Input} {left : List ℕ} → IsRefusal f → Next (Err f) keeper after input last held left → Served tells disk (Err f) before after first last start written
+  served_into (keep.Serving run.NoMemory) is n = serves (n.pair, n.read) (record { same = n.turn ∙ g.device; silent = g.output })
+  served_into (keep.Journal fault) is n = serves
+      (inl (n.pair, n.read, subst (λ (U : State). is_new_in U n.pair ≡ true) g.state n.turn.0))
+      (inl (record { same = n.turn.1 ∙ g.device; silent = g.output }))
+  served_into (keep.Serving (run.Frame fault)) is n = absurd is
+  served_into (keep.Serving run.TimeExhausted) is n = absurd is
+  served_into (keep.Serving run.TooLong) is n = absurd is
+
+-- what ends it, by the rounds that are told
+
+module _ {tells : Type 0} {D : Type 0} {disk : D → Disk} {k : ℕ} {before keeper : Keeping D} {first input : Input} {start written : Output} {held : List ℕ} (g : Going tells disk k before keeper first input start written held) where
+  pub served_out : {again after : Keeping D} {last : Input} {next : Output} {same : List ℕ} (left : List ℕ)
+      → Ceases (Ok None) keeper again input last held same → Tells tells disk (Ok tt) again after same left written next → Served tells disk (Ok k) before after first last start next
+  unfolding going_told
+  served_out {again} {after} {last} {next} {same} left c t =
+      let told = going_told g {after = after} {next = next} {left = left} (rw (c.same, c.holds) at t) in
+      serves told (sym told.long, c.read) (refl, refl, record { same = refl; silent = refl })
 
   -- a fault at the end of the input
-  pub served_end : (f : KeepFault) (k : ℕ) (before keeper again after : Keeping D) (first input last : Input) (start written next : Output) (held same left : List ℕ)
-      → Going k before keeper first input start written held → Ceases (Ok None) keeper again input last held same → Tells tells disk (Err f) again after same left written next
-      → Served tells disk (Err f) before after first last start next
-  served_end f k before keeper again after first input last start written next held same left g c t =
-      served_silent f k before keeper after first input last start written next held left g (inr (inl c.read))
+  pub served_end : (f : KeepFault) {again after : Keeping D} {last : Input} {next : Output} {same : List ℕ} (left : List ℕ)
+      → Ceases (Ok None) keeper again input last held same → Tells tells disk (Err f) again after same left written next → Served tells disk (Err f) before after first last start next
+  served_end f {again} {after} {last} {next} {same} left c t =
+      served_silent g f left (inr (inl c.read))
       (subst (λ (x : Keeping D). Tells tells disk (Err f) x after held left written next) c.same
       (subst (λ bytes. Tells tells disk (Err f) again after bytes left written next) c.holds t))
 
-  -- a fault in serving a pair, behind which nothing is told
-  served_into : (f : KeepFault) (k : ℕ) (before keeper after : Keeping D) (first input last : Input) (start written : Output) (held grown : List ℕ)
-      → Going k before keeper first input start written held → IsRefusal f → Next (Err f) keeper after input last held grown
-      → Served tells disk (Err f) before after first last start written
-  served_into f k before keeper after first input last start written held grown g is n = record {
-    rounds = g.rounds;
-    more = g.more;
-    standing = g.standing;
-    input = input;
-    kept = g.kept;
-    served = g.served;
-    read = g.read;
-    stops = stops f is n;
-    ended = ended f is n;
-  }
-    where
-      stops : (f : KeepFault) → IsRefusal f → Next (Err f) keeper after input last held grown → Stops (Err f) (state_from g.standing.state g.more) (length (pairs_of g.rounds ++ g.more)) input last
-      stops (keep.Serving (run.Frame fault)) is n = absurd is
-      stops (keep.Serving run.NoMemory) is n = (n.pair, n.read)
-      stops (keep.Serving run.TimeExhausted) is n = absurd is
-      stops (keep.Serving run.TooLong) is n = absurd is
-      stops (keep.Journal fault) is n = inl (n.pair, n.read, subst (λ (U : State). is_new_in U n.pair ≡ true) g.state n.turn.0)
-
-      ended : (f : KeepFault) → IsRefusal f → Next (Err f) keeper after input last held grown → EndsBy tells disk (Err f) g.more g.standing after written
-      ended (keep.Serving (run.Frame fault)) is n = absurd is
-      ended (keep.Serving run.NoMemory) is n = record { same = n.turn ∙ g.device; silent = g.output }
-      ended (keep.Serving run.TimeExhausted) is n = absurd is
-      ended (keep.Serving run.TooLong) is n = absurd is
-      ended (keep.Journal fault) is n = inl (record { same = n.turn.1 ∙ g.device; silent = g.output })
-
   -- the replies held were told before what ends serving
-  served_stopped : (stop : KeepFault) (k : ℕ) (before keeper after : Keeping D) (first input last : Input) (start written next : Output) (held left : List ℕ)
-      → Going k before keeper first input start written held → IsStop stop keeper.state input last → Tells tells disk (Ok tt) keeper after held left written next
-      → Served tells disk (Err stop) before after first last start next
+  served_stopped : (stop : KeepFault) {after : Keeping D} {last : Input} {next : Output} (left : List ℕ)
+      → IsStop stop keeper.state input last → Tells tells disk (Ok tt) keeper after held left written next → Served tells disk (Err stop) before after first last start next
   unfolding going_told
-  served_stopped stop k before keeper after first input last start written next held left g is t =
-      let told = going_told k before keeper after first input start written next held left g t in
-      record {
-        rounds = told.rounds;
-        more = [];
-        standing = told.standing;
-        input = input;
-        kept = told.kept;
-        served = tt;
-        read = told.read;
-        stops = stops stop is;
-        ended = ended stop is;
-      }
-    where
-      stops : (f : KeepFault) → IsStop f keeper.state input last → Stops (Err f) after.state (length (pairs_of (g.rounds ++ g.more ∷ []) ++ [])) input last
-      stops (keep.Serving (run.Frame fault)) is = inl is
-      stops (keep.Serving run.TimeExhausted) is = subst (λ (U : State). IsStop (keep.Serving run.TimeExhausted) U input last) (sym t.0.state) is
-      stops (keep.Serving run.NoMemory) is = absurd is
-      stops (keep.Serving run.TooLong) is = absurd is
-      stops (keep.Journal fault) is = absurd is
-
-      ended : (f : KeepFault) → IsStop f keeper.state input last → EndsBy tells disk (Err f) [] (record { state = after.state; device = after.journal.device; output = next }) after next
-      ended (keep.Serving (run.Frame fault)) is = inl (refl, record { same = refl; silent = refl })
-      ended (keep.Serving run.TimeExhausted) is = (refl, record { same = refl; silent = refl })
-      ended (keep.Serving run.NoMemory) is = absurd is
-      ended (keep.Serving run.TooLong) is = absurd is
-      ended (keep.Journal fault) is = absurd is
+  served_stopped (keep.Serving (run.Frame fault)) {after} {last} {next} left is t =
+      serves (going_told g {after = after} {next = next} {left = left} t) (inl is) (inl (refl, record { same = refl; silent = refl }))
+  served_stopped (keep.Serving run.TimeExhausted) {after} {last} {next} left is t =
+      serves (going_told g {after = after} {next = next} {left = left} t)
+      (subst (λ (U : State). IsStop (keep.Serving run.TimeExhausted) U input last) (sym t.0.state) is) (refl, record { same = refl; silent = refl })
+  served_stopped (keep.Serving run.NoMemory) left is t = absurd is
+  served_stopped (keep.Serving run.TooLong) left is t = absurd is
+  served_stopped (keep.Journal fault) left is t = absurd is
 
   -- a fault in reading or serving a pair
-  pub served_ends : (f : KeepFault) (k : ℕ) (before keeper after : Keeping D) (first input last : Input) (start written next : Output) (held left : List ℕ)
-      → Going k before keeper first input start written held → EndsNext tells disk f keeper after input last held left written next
-      → Served tells disk (Err f) before after first last start next
-  served_ends f k before keeper after first input last start written next held left g (inl (is, n, silent)) =
-      subst (λ (o : Output). Served tells disk (Err f) before after first last start o) (sym silent) (served_into f k before keeper after first input last start written held left g is n)
-  served_ends f k before keeper after first input last start written next held left g (inr (stop, is, inl (same, t))) =
-      subst (λ (e : KeepFault). Served tells disk (Err e) before after first last start next) (sym same)
-      (served_stopped stop k before keeper after first input last start written next held left g is t)
-  served_ends f k before keeper after first input last start written next held left g (inr (stop, is, inr t)) =
-      served_silent f k before keeper after first input last start written next held left g
-      (inr (inr (stop, subst (λ (U : State). IsStop stop U input last) g.state is))) t
-
-  -- nothing was written meanwhile
-  pub going_silent : (k : ℕ) (before keeper : Keeping D) (first input : Input) (start written next : Output) (held : List ℕ)
-      → next ≡ written → Going k before keeper first input start written held → Going k before keeper first input start next held
-  going_silent k before keeper first input start written next held same g = subst (λ (o : Output). Going k before keeper first input start o held) (sym same) g
-
-  pub served_too_long : (k : ℕ) (before keeper : Keeping D) (first input : Input) (start written : Output) (held : List ℕ)
-      → k ≡ 2 ^ 64 - 1 → Going k before keeper first input start written held → Served tells disk (Err (keep.Serving run.TooLong)) before keeper first input start written
-  served_too_long k before keeper first input start written held all g = record {
-    rounds = g.rounds;
-    more = g.more;
-    standing = g.standing;
-    input = input;
-    kept = g.kept;
-    served = g.served;
-    read = g.read;
-    stops = (g.long ∙ all, refl);
-    ended = record { same = g.device; silent = g.output };
-  }
+  pub served_ends : (f : KeepFault) {after : Keeping D} {last : Input} {next : Output} (left : List ℕ)
+      → EndsNext tells disk f keeper after input last held left written next → Served tells disk (Err f) before after first last start next
+  served_ends f left (inl (is, n, silent)) = rw silent (served_into g f is n)
+  served_ends f left (inr (stop, is, inl (same, t))) = rw same (served_stopped stop left is t)
+  served_ends f {after} {last} left (inr (stop, is, inr t)) = served_silent g f left (inr (inr (stop, subst (λ (U : State). IsStop stop U input last) g.state is))) t

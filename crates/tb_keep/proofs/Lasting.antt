@@ -1,5 +1,6 @@
 -- The entries of pairs that are served make a longer history that a file can stand for.
-use Rattle.std.proofs.Common.{◌≡◌, Bool, true, false, cond, List, [], ◌∷◌, ◌++◌, map, refl, sym, ap, ◌∙◌, subst, IsTrue}
+use Rattle.std.proofs.Common.{arith, ◌≡◌, Bool, true, false, cond, List, [], ◌∷◌, ◌++◌, map, refl, sym, ap, ◌∙◌, subst, IsTrue}
+use Rattle.std.proofs.lemmas.Grind.{common_steps}
 use Rattle.std.proofs.lemmas.List.{map-append}
 use Rattle.tb_journal.specs.Device.{Disk}
 use Rattle.tb_journal.specs.Contents.{Records}
@@ -70,5 +71,4 @@ module _ (tells : Type 0) {D : Type 0} (disk : D → Disk) where
   pub rounds_are_served : RoundsAreServed tells disk
   rounds_are_served [] first before kept = tt
   rounds_are_served (ps ∷ done) first before kept =
-      served_join first.state ps (pairs_of done) kept.1.served
-      (subst (λ (S : State). AreServed S (pairs_of done)) kept.1.state (rounds_are_served done kept.0 before kept.2))
+      grind (arith, common_steps, served_join, rounds_are_served done kept.0 before kept.2)

@@ -1,5 +1,6 @@
 -- Entries that lead from one state to another: none, and one more.
-use Rattle.std.proofs.Common.{ℕ, ◌≡◌, ◌⊎◌, List, [], ◌∷◌, ◌++◌, map, fold, Err, refl, sym, ap, ◌∙◌, subst, IsTrue}
+use Rattle.std.proofs.Common.{arith, ℕ, ◌≡◌, ◌⊎◌, List, [], ◌∷◌, ◌++◌, map, fold, Err, refl, sym, ap, ◌∙◌, subst, IsTrue}
+use Rattle.std.proofs.lemmas.Grind.{common_steps}
 use Rattle.tb_records.specs.declared.limits.Profile.{Profile}
 use Rattle.tb_machine.specs.declared.entries.Entry.{Entry}
 use Rattle.tb_machine.specs.Histories.{State, start as start_state, step, fits, LegalFrom}
@@ -44,9 +45,4 @@ pub stops_file : (fault : StartFault) (profile : Profile) (clients_max : ℕ) (r
     → records ≡ head ∷ rest
     → (HeadAnswers (Err fault) head profile clients_max ⊎ ((T : State) × RestoresAll (Err fault) (start_state profile clients_max) rest T))
     → StopsFile fault profile clients_max records
-stops_file (start.Journal f) profile clients_max records head rest is why = (head, rest, is, why)
-stops_file start.Head profile clients_max records head rest is why = (head, rest, is, why)
-stops_file start.OtherRules profile clients_max records head rest is why = (head, rest, is, why)
-stops_file (start.Record place f) profile clients_max records head rest is why = (head, rest, is, why)
-stops_file (start.Entry f) profile clients_max records head rest is why = (head, rest, is, why)
-stops_file start.NoMemory profile clients_max records head rest is why = tt
+stops_file fault profile clients_max records head rest is why = grind (arith, common_steps)

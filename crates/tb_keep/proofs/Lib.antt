@@ -7,8 +7,6 @@ pub mod WholeFiles
 pub mod Opened
 pub mod Sources
 pub mod Entered
-pub mod Headed
-pub mod Created
 pub mod Dumping
 pub mod Crashes
 pub mod Again

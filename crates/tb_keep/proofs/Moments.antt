@@ -1,5 +1,6 @@
 -- At each moment, whatever was told stands in the file: by induction over rounds.
-use Rattle.std.proofs.Common.{◌≡◌, List, [], ◌∷◌, ◌++◌, inl, inr, refl, sym, ap, ◌∙◌, subst, append_assoc, append-nil}
+use Rattle.std.proofs.Common.{arith, ◌≡◌, List, [], ◌∷◌, ◌++◌, inl, inr, refl, sym, ap, ◌∙◌, subst, append_assoc, append-nil}
+use Rattle.std.proofs.lemmas.Grind.{common_steps}
 use Rattle.tb_records.specs.Transport.{Sent}
 use Rattle.tb_journal.specs.Device.{Disk}
 use Rattle.tb_journal.specs.Contents.{Records, contents, recorded}
@@ -19,9 +20,7 @@ module _ (tells : Type 0) {D : Type 0} (disk : D → Disk) where
   pub state_behind : (done : List (List Pair)) (first before : Standing D) → Rounds tells disk done first before → before.state ≡ state_from first.state (pairs_of done)
   state_behind [] first before kept = ap (λ (s : Standing D). s.state) kept
   state_behind (ps ∷ done) first before kept =
-      state_behind done kept.0 before kept.2
-      ∙ ap (λ (S : State). state_from S (pairs_of done)) kept.1.state
-      ∙ sym (state_join first.state ps (pairs_of done))
+      grind (arith, common_steps, state_behind done kept.0 before kept.2, state_join first.state ps (pairs_of done))
 
   -- the file has the entries of all pairs that were told
   records_behind : tells → (done : List (List Pair)) (first before : Standing D) → Rounds tells disk done first before
@@ -47,8 +46,7 @@ module _ (tells : Type 0) {D : Type 0} (disk : D → Disk) where
   told_with : (done : List (List Pair)) (ps : List Pair) (first before : Standing D) → Rounds tells disk done first before
       → told_from first.state (pairs_of done ++ ps) ≡ told_from first.state (pairs_of done) ++ told_from before.state ps
   told_with done ps first before kept =
-      told_join first.state (pairs_of done) ps
-      ∙ ap (λ (S : State). told_from first.state (pairs_of done) ++ told_from S ps) (sym (state_behind done first before kept))
+      grind (arith, common_steps, told_join first.state (pairs_of done) ps, state_behind done first before kept)
 
   pub while_committing : WhileCommitting tells disk
   while_committing done ps first before after file behind leaves left = by (leaves.each file left)

@@ -1,17 +1,12 @@
 -- The bytes that a scan reads, and its next step in them.
-use Rattle.std.proofs.Common.{ℕ, ◌≡◌, Bool, true, List, [], ◌∷◌, ◌++◌, refl, sym, ◌∙◌, subst, Ok, Err, Result, IfOk}
+use Rattle.std.proofs.Common.{arith, ℕ, ◌≡◌, Bool, true, List, [], ◌∷◌, ◌++◌, refl, sym, ◌∙◌, subst, Ok, Err, Result, IfOk}
+use Rattle.std.proofs.lemmas.Grind.{common_steps}
 use Rattle.tb_journal.specs.declared.opening.OpenFault.{OpenFault}
 use Rattle.tb_journal.specs.declared.opening.OpenFault.TheVariants as open_faults
 use Rattle.tb_journal.specs.Handed.{SomeHanded, HasTaken, Starts, TakesNext}
 use Rattle.tb_journal.specs.Scans.{Place, BeginsWith, HasRead, ReadsNext}
 use Rattle.tb_keep.specs.Restoration.{StopsJournal}
-use Rattle.tb_keep.specs.Sources.{Which, OnDisk, HandedOut, IsAllAhead, IsAt, OfSource, IsReading}
-
--- the next step, by the bytes that are meant
-pub record IsNext (which : Which) (result : Result Bool OpenFault) (read : List (List ℕ)) (file : List ℕ) (scan : Place) : Type 0 where
-  pub begins : BeginsWith read file
-  pub reads : ReadsNext result read file scan
-  pub all : IfOk result (λ more. IsAllAhead which file scan)
+use Rattle.tb_keep.specs.Sources.{Which, OnDisk, HandedOut, IsAllAhead, IsAt, OfSource, IsReading, IsNext}
 
 -- behind one record more
 pub is_at : (which : Which) (read : List (List ℕ)) (file : List ℕ) (scan : Place) → IsNext which (Ok true) read file scan → IsAt which (read ++ scan.last ∷ []) file scan
@@ -20,15 +15,13 @@ is_at which read file scan next = record { has = next.reads; all = next.all }
 -- why the reading stops
 
 pub stops_by_read : (fault : OpenFault) (records : List (List ℕ)) (file : List ℕ) (scan : Place) → ReadsNext (Err fault) records file scan → StopsJournal fault file
-stops_by_read (open_faults.Refused why) records file scan read = read
-stops_by_read (open_faults.Device fault) records file scan read = tt
+stops_by_read fault records file scan read = grind (arith, common_steps)
 
 module _ (tells : Type 0) (gave : ℕ → List ℕ → Type 0) where
   -- what holds of the bytes still holds
 
   pub seen_now : (which : Which) (seen now : List ℕ) (Holds : List ℕ → Type 0) → (tells → now ≡ seen) → OfSource tells gave which seen Holds → OfSource tells gave which now Holds
-  seen_now OnDisk seen now Holds same (file, (t, is), holds) = (file, (t, is ∙ sym (same t)), holds)
-  seen_now HandedOut seen now Holds same (file, handed, holds) = (file, handed, holds)
+  seen_now which seen now Holds same holds = grind (arith, common_steps)
 
   pub so_holds : (which : Which) (seen : List ℕ) (P Q : List ℕ → Type 0) → ((file : List ℕ) → P file → Q file) → OfSource tells gave which seen P → OfSource tells gave which seen Q
   so_holds which seen P Q so (file, source, holds) = (file, source, so file holds)
@@ -49,10 +42,9 @@ module _ (tells : Type 0) (gave : ℕ → List ℕ → Type 0) where
   -- the next step
 
   all_on_disk : (result : Result Bool OpenFault) (file : List ℕ) (scan : Place) → IfOk result (λ more. IsAllAhead OnDisk file scan)
-  all_on_disk (Ok more) file scan = tt
-  all_on_disk (Err fault) file scan = tt
+  all_on_disk result file scan = grind (arith, common_steps)
 
-  next_is : (which : Which) (seen : List ℕ) (result : Result Bool OpenFault) (read : List (List ℕ)) (old new : Place)
+  pub next_is : (which : Which) (seen : List ℕ) (result : Result Bool OpenFault) (read : List (List ℕ)) (old new : Place)
       → (tells → (records : List (List ℕ)) → HasRead records seen old → ReadsNext result records seen new)
       → ((records : List (List ℕ)) (file : List ℕ) → HasTaken gave records file old → (more : List ℕ) × TakesNext gave result records (file ++ more) new)
       → IsReading tells gave which seen read old → OfSource tells gave which seen (λ file. IsNext which result read file new)
@@ -62,10 +54,3 @@ module _ (tells : Type 0) (gave : ℕ → List ℕ → Type 0) where
   next_is HandedOut seen result read old new told handed (file, out, at) =
       let (more, takes) = handed read file (record { handed = out; read = at.has; rest = at.all }) in
       (file ++ more, takes.handed, record { begins = takes.begins; reads = takes.reads; all = takes.rest })
-
-  pub next_so : (which : Which) (seen : List ℕ) (result : Result Bool OpenFault) (read : List (List ℕ)) (old new : Place) (Holds : List ℕ → Type 0)
-      → (tells → (records : List (List ℕ)) → HasRead records seen old → ReadsNext result records seen new)
-      → ((records : List (List ℕ)) (file : List ℕ) → HasTaken gave records file old → (more : List ℕ) × TakesNext gave result records (file ++ more) new)
-      → ((file : List ℕ) → IsNext which result read file new → Holds file)
-      → IsReading tells gave which seen read old → OfSource tells gave which seen Holds
-  next_so which seen result read old new Holds told handed so has = so_holds which seen (λ file. IsNext which result read file new) Holds so (next_is which seen result read old new told handed has)

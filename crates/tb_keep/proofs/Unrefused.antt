@@ -1,5 +1,6 @@
 -- The records of a history that may be kept are not refused.
-use Rattle.std.proofs.Common.{ℕ, ◌≡◌, ◌⊎◌, ◌+◌, inl, inr, Bool, true, false, cond, not, ◌==◌, ◌&&◌, fold, List, [], ◌∷◌, ◌++◌, map, Some, None, Err, refl, sym, ap, ◌∙◌, subst}
+use Rattle.std.proofs.Common.{arith, ℕ, ◌≡◌, ◌⊎◌, ◌+◌, inl, inr, Bool, true, false, cond, not, ◌==◌, ◌&&◌, fold, List, [], ◌∷◌, ◌++◌, map, Some, None, Err, refl, sym, ap, ◌∙◌, subst}
+use Rattle.std.proofs.lemmas.Grind.{common_steps}
 use Rattle.std.specs.Prelude.{nat_le}
 use Rattle.tb_records.specs.declared.faults.FrameFault.{FrameFault}
 use Rattle.tb_records.specs.declared.faults.FrameFault.TheVariants as frame
@@ -27,34 +28,16 @@ use Rattle.tb_keep.proofs.WholeFiles.{whole_stops}
 
 -- an entry that may come next fails no test
 no_cause : (a b c d e : Bool) → ((((a && b) && c) && d) && e) ≡ true → cond (not a) (Some unfit.Commit) (cond (not (b && c)) (Some unfit.Time) (cond (not e) (Some unfit.NotNew) None)) ≡ None
-no_cause true true true true true is = refl
-no_cause true true true true false is = absurd (cc)
-no_cause true true true false e is = absurd (cc)
-no_cause true true false d e is = absurd (cc)
-no_cause true false c d e is = absurd (cc)
-no_cause false b c d e is = absurd (cc)
+no_cause a b c d e is = grind (arith, common_steps)
 
 fits_none : (S : State) (e : Entry) → fits S e ≡ true → cause_of S e ≡ None
 fits_none S e is = no_cause (e.commit == S.commit + 1) (nat_le (least_time S e.request) e.time) (nat_le e.time max_time) (is_lawful e.request) (is_new (class_of S.rows e.request)) is
 
 fails_not : (cause : Unfit) (S : State) (e : Entry) → cause_of S e ≡ None → Fails cause S e → ⊥
-fails_not unfit.Commit S e none is = let clash : None ≡ Some unfit.Commit = sym none ∙ is in absurd (cc)
-fails_not unfit.Time S e none is = let clash : None ≡ Some unfit.Time = sym none ∙ is in absurd (cc)
-fails_not unfit.NotNew S e none is = let clash : None ≡ Some unfit.NotNew = sym none ∙ is in absurd (cc)
-fails_not unfit.NoMemory S e none is = is
+fails_not cause S e none is = grind (arith, common_steps)
 
 no_record : (fault : FrameFault) (bytes : List ℕ) (e : Entry) → IsRecord bytes e → IsNoRecord fault bytes → ⊥
-no_record frame.NoMemory bytes e is none = none
-no_record frame.Short bytes e is none = none.1 e is
-no_record frame.ClientZero bytes e is none = none.1 e is
-no_record frame.UnknownOperation bytes e is none = none.1 e is
-no_record frame.Reserved bytes e is none = none.1 e is
-no_record frame.BadLength bytes e is none = none.1 e is
-no_record frame.TooMany bytes e is none = none.1 e is
-no_record frame.RegisterNumbers bytes e is none = none.1 e is
-no_record frame.RequestZero bytes e is none = none.1 e is
-no_record frame.Device bytes e is none = none.1 e is
-no_record frame.ReplyNumbers bytes e is none = none.1 e is
+no_record fault bytes e is none = grind (arith, common_steps)
 
 stops_not : (fault : StartFault) (S : State) (e : Entry) → IsRecord (dumped e) e → fits S e ≡ true → StopsAt fault S (dumped e) → fault ≡ start.NoMemory
 stops_not (start.Record place f) S e is next stops = absurd (no_record f (dumped e) e is stops.1)
@@ -71,16 +54,10 @@ stops_not (start.Journal f) S e is next stops = absurd stops
 along : (fault : StartFault) (S T : State) (front : List (List ℕ)) (bytes : List ℕ) (rest : List (List ℕ)) (es before : List Entry)
     → LegalFrom S es → AreRecorded es → map dumped es ≡ front ++ bytes ∷ rest → AreRecorded before → front ≡ map dumped before → T ≡ fold step S before → StopsAt fault T bytes
     → fault ≡ start.NoMemory
-along fault S T front bytes rest [] [] legal are is also spelled at stops =
-    let clash : [] ≡ bytes ∷ rest = is ∙ ap (λ (f : List (List ℕ)). f ++ bytes ∷ rest) spelled in
-    absurd (cc)
+along fault S T front bytes rest [] [] legal are is also spelled at stops = grind (arith, common_steps)
 along fault S T front bytes rest (x ∷ xs) [] legal are is also spelled at stops =
-    let all : dumped x ∷ map dumped xs ≡ bytes ∷ rest = is ∙ ap (λ (f : List (List ℕ)). f ++ bytes ∷ rest) spelled in
-    let head : dumped x ≡ bytes = cc (all) in
-    stops_not fault S x are.0 legal.0 (subst (λ (y : List ℕ). StopsAt fault S y) (sym head) (subst (λ (U : State). StopsAt fault U bytes) at stops))
-along fault S T front bytes rest [] (b ∷ before) legal are is also spelled at stops =
-    let clash : [] ≡ (dumped b ∷ map dumped before) ++ bytes ∷ rest = is ∙ ap (λ (f : List (List ℕ)). f ++ bytes ∷ rest) spelled in
-    absurd (cc)
+    grind (arith, common_steps, stops_not)
+along fault S T front bytes rest [] (b ∷ before) legal are is also spelled at stops = grind (arith, common_steps)
 along fault S T front bytes rest (x ∷ xs) (b ∷ before) legal are is also spelled at stops =
     let all : dumped x ∷ map dumped xs ≡ dumped b ∷ (map dumped before ++ bytes ∷ rest) = is ∙ ap (λ (f : List (List ℕ)). f ++ bytes ∷ rest) spelled in
     let head : dumped x ≡ dumped b = cc (all) in
@@ -93,14 +70,7 @@ restored_not fault S T es legal are (front, bytes, rest, is, leads, stops) =
     along fault S T front bytes rest es leads.entries legal are is leads.recorded_are leads.spelled leads.state stops
 
 head_not : (fault : StartFault) (h : History) → IsKeepable h → HeadAnswers (Err fault) (head_record h.profile h.clients_max) h.profile h.clients_max → fault ≡ start.NoMemory
-head_not start.Head h keepable none = absurd (none h.profile h.clients_max keepable.some_client keepable.clients refl)
-head_not start.OtherRules h keepable (p, n, is, differ) =
-    let same = one_head h.profile p h.clients_max n is in
-    absurd (differ (sym same.0, sym same.1))
-head_not (start.Journal f) h keepable none = absurd none
-head_not (start.Record place f) h keepable none = absurd none
-head_not (start.Entry f) h keepable none = absurd none
-head_not start.NoMemory h keepable none = refl
+head_not fault h keepable none = grind (arith, common_steps, one_head)
 
 stopped_not : (fault : StartFault) (h : History) (head : List ℕ) (rest : List (List ℕ)) → IsKeepable h → records_of h ≡ head ∷ rest
     → (HeadAnswers (Err fault) head h.profile h.clients_max ⊎ ((T : State) × RestoresAll (Err fault) (start_state h.profile h.clients_max) rest T)) → fault ≡ start.NoMemory
@@ -120,8 +90,7 @@ only_memory (start.Entry f) h keepable (head, rest, is, why) = stopped_not (star
 only_memory start.NoMemory h keepable stops = refl
 
 refused_not : (why : Refusal) (records : List (List ℕ)) → Records records ≡ refused_as why → ⊥
-refused_not refusals.NotAJournal records is = absurd (cc)
-refused_not (refusals.Damaged at) records is = absurd (cc)
+refused_not why records is = grind (arith, common_steps)
 
 from_outside : (fault : StartFault) → fault ≡ start.NoMemory → IsFromOutside fault
 from_outside fault is = subst IsFromOutside (sym is) tt

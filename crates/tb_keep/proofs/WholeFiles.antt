@@ -1,5 +1,6 @@
 -- Records that a file begins with, and all of its records.
-use Rattle.std.proofs.Common.{ℕ, ◌≡◌, ◌⊎◌, inl, inr, List, [], ◌∷◌, ◌++◌, take, drop, refl, sym, ap, ◌∙◌, subst, append_assoc, append-nil, length-take, arith, Err, Ok}
+use Rattle.std.proofs.Common.{rules, ℕ, ◌≡◌, ◌⊎◌, inl, inr, List, [], ◌∷◌, ◌++◌, take, drop, refl, sym, ap, ◌∙◌, subst, append_assoc, append-nil, length-take, arith, Err, Ok}
+use Rattle.std.proofs.lemmas.Grind.{common_steps}
 use Rattle.std.proofs.lemmas.List.{take_all, take-append-drop}
 use Rattle.tb_records.specs.declared.limits.Profile.{Profile}
 use Rattle.tb_records.specs.DumpBytes.{head_bytes}
@@ -22,9 +23,7 @@ use Rattle.tb_keep.proofs.Leading.{stops_file}
 -- a file that is read to its end has records
 
 is_records : (c : Contents) (extent : Extent) → extent_of c ≡ Ok extent → c ≡ Records (records_of c)
-is_records NotAJournal extent is = absurd (cc)
-is_records (Damaged at) extent is = absurd (cc)
-is_records (Records records) extent is = refl
+is_records c extent is = grind (arith, common_steps)
 
 pub extent_reads : (file : List ℕ) (extent : Extent) → extent_of (contents file) ≡ Ok extent → contents file ≡ Records (recorded file)
 extent_reads file extent is = is_records (contents file) extent is
@@ -39,9 +38,7 @@ front_of (r ∷ records) others all is = by (λ more e. front_of records others 
         → (c : Contents) → with_records records others ≡ c → with_record r c ≡ Records all → (rest : List (List ℕ)) × (all ≡ (r ∷ records) ++ rest)
     by later NotAJournal e is = absurd (cc)
     by later (Damaged at) e is = absurd (cc)
-    by later (Records more) e is =
-        let found = later more e in
-        (found.0, sym (ap records_of is) ∙ ap (λ (l : List (List ℕ)). r ∷ l) found.1)
+    by later (Records more) e is = grind (arith, common_steps)
 
 pub begins_rest : (records all : List (List ℕ)) (file : List ℕ) → BeginsWith records file → contents file ≡ Records all → (rest : List (List ℕ)) × (all ≡ records ++ rest)
 begins_rest records all file begins reads =
@@ -130,9 +127,7 @@ is_history rules file S extent has found = by found.restored.spelled
       state = found.restored.state;
     }
     by (inr none) =
-        let some = begins_rest (head_record rules.profile rules.clients_max ∷ []) (recorded file) file has reads in
-        let clash : [] ≡ head_record rules.profile rules.clients_max ∷ some.0 = sym none.0 ∙ some.1 in
-        absurd (cc)
+        grind (arith, common_steps, begins_rest (head_record rules.profile rules.clients_max ∷ []) (recorded file) file has reads, reads)
 
 pub is_no_history : (fault : StartFault) (rules : Rules) (file : List ℕ) → HasRules rules file → StopsReading fault rules.profile rules.clients_max file → IsNoHistory fault file
 is_no_history (start.Journal f) rules file has stops = stops
@@ -149,9 +144,4 @@ is_no_history start.NoMemory rules file has stops = (rules, has, stops)
 -- and where it is refused before its records are read no history is told of it
 
 pub no_rules : (fault : StartFault) (file : List ℕ) → RulesAnswer (Err fault) file → IsNoHistory fault file
-no_rules (start.Journal f) file is = is
-no_rules start.Head file is = is
-no_rules start.OtherRules file is = absurd is
-no_rules (start.Record place f) file is = absurd is
-no_rules (start.Entry f) file is = absurd is
-no_rules start.NoMemory file is = absurd is
+no_rules fault file is = grind (arith, common_steps)

@@ -1,7 +1,8 @@
 -- The bytes that a scan reads: for private functions alone.
-use Rattle.std.specs.Prelude.{◌≡◌, ℕ, List, drop}
+use Rattle.std.specs.Prelude.{◌≡◌, ℕ, Bool, List, drop, Result, IfOk}
+use Rattle.tb_journal.specs.declared.opening.OpenFault.{OpenFault}
 use Rattle.tb_journal.specs.Handed.{AreHanded}
-use Rattle.tb_journal.specs.Scans.{HasRead, Place}
+use Rattle.tb_journal.specs.Scans.{BeginsWith, HasRead, Place, ReadsNext}
 
 -- of which bytes a clause speaks: those on the disk of a device that tells what its calls do, or those that reads handed out
 pub data Which : Type 0 where
@@ -17,6 +18,12 @@ IsAllAhead HandedOut file scan = scan.ahead ≡ drop scan.end file
 pub record IsAt (which : Which) (read : List (List ℕ)) (file : List ℕ) (scan : Place) : Type 0 where
   pub has : HasRead read file scan
   pub all : IsAllAhead which file scan
+
+-- what the next step of a scan finds behind these records
+pub record IsNext (which : Which) (result : Result Bool OpenFault) (read : List (List ℕ)) (file : List ℕ) (scan : Place) : Type 0 where
+  pub begins : BeginsWith read file
+  pub reads : ReadsNext result read file scan
+  pub all : IfOk result (λ more. IsAllAhead which file scan)
 
 module _ (tells : Type 0) (gave : ℕ → List ℕ → Type 0) where
   abbrev pub IsSource : Which → List ℕ → List ℕ → Type 0

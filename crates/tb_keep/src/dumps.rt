@@ -11,7 +11,7 @@ ghost use Rattle.tb_keep.specs.Sending.{SendsNext, SendsAll, SendsBehind};
 
 use crate::faults::{DumpFault, StartFault};
 use crate::heads::{Rules, read_head};
-use crate::restoring::entered_behind;
+use crate::restoring::{entered_behind, read_record};
 use std::alloc::Global;
 use tb_journal::{Device, Extent, Scan};
 use tb_machine::Machine;
@@ -37,7 +37,7 @@ fn first_rules<D: Device>(scan: &mut Scan, device: &mut D) -> Result<Rules, Star
         → OfSource D.tells D.gave which (D.disk device.old).seen (λ file. FindsRules which result file scan.new) }
     ensures stays { D.tells → StaysKept (D.disk device.old) (D.disk device.new) }
 {
-    match scan.next(device) {
+    match read_record(scan, device) {
         Ok(true) => rules_in(scan.record()),
         Ok(false) => Err(StartFault::Head),
         Err(fault) => Err(StartFault::Journal(fault)),
@@ -52,12 +52,7 @@ pub fn read_rules<D: Device>(global: Global, device: &mut D) -> Result<Rules, St
     ensures untouched { D.tells → IsUntouched (D.disk device.old) (D.disk device.new) }
 {
     match Scan::start(global, device) {
-        Ok(scan) => {
-            let mut scan = scan;
-            let found = first_rules(&mut scan, device);
-            drop(scan);
-            found
-        }
+        Ok(mut scan) => first_rules(&mut scan, device),
         Err(fault) => Err(StartFault::Journal(fault)),
     }
 }
@@ -73,12 +68,7 @@ pub fn read_history<D: Device>(
     ensures untouched { D.tells → IsUntouched (D.disk device.old) (D.disk device.new) }
 {
     match Scan::start(global, device) {
-        Ok(scan) => {
-            let mut scan = scan;
-            let found = history_by(global, &mut scan, device);
-            drop(scan);
-            found
-        }
+        Ok(mut scan) => history_by(global, &mut scan, device),
         Err(fault) => Err(StartFault::Journal(fault)),
     }
 }
@@ -132,7 +122,7 @@ fn send_next<D: Device, W: Sink>(
     ensures stays { D.tells → StaysKept (D.disk device.old) (D.disk device.new) }
     ensures further { IfOk result (λ more. more ≡ true → GoesFurther scan.old scan.new) }
 {
-    match scan.next(device) {
+    match read_record(scan, device) {
         Ok(true) => match put_all(writer, scan.record()) {
             Ok(()) => Ok(true),
             Err(fault) => Err(DumpFault::Writer(fault)),
@@ -174,7 +164,7 @@ fn send_behind_first<D: Device, W: Sink>(
         (λ file. SendsBehind result file (W.output writer.old) (W.output writer.new)) }
     ensures stays { D.tells → StaysKept (D.disk device.old) (D.disk device.new) }
 {
-    match scan.next(device) {
+    match read_record(scan, device) {
         Ok(true) => send_records(scan, device, writer),
         Ok(false) => Ok(()),
         Err(fault) => Err(DumpFault::Journal(fault)),
@@ -220,12 +210,7 @@ pub fn write_dump<D: Device, W: Sink>(
     ensures untouched { D.tells → IsUntouched (D.disk device.old) (D.disk device.new) }
 {
     match Scan::start(global, device) {
-        Ok(scan) => {
-            let mut scan = scan;
-            let done = dump_by(&mut scan, device, rules, writer);
-            drop(scan);
-            done
-        }
+        Ok(mut scan) => dump_by(&mut scan, device, rules, writer),
         Err(fault) => Err(DumpFault::Journal(fault)),
     }
 }

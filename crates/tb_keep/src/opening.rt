@@ -123,10 +123,7 @@ pub fn create<D: Device>(global: Global, device: D, rules: Rules) -> Result<Keep
     };
     match create_headed(global, device, rules) {
         Ok(journal) => Ok(Keeper::new(global, journal, machine)),
-        Err(failed) => {
-            drop(machine);
-            Err(failed)
-        }
+        Err(failed) => Err(failed),
     }
 }
 
@@ -184,10 +181,7 @@ fn open_restored<D: Device>(
 {
     match open_headed(global, device, rules, extent) {
         Ok(journal) => Ok(Keeper::new(global, journal, machine)),
-        Err(failed) => {
-            drop(machine);
-            Err(failed)
-        }
+        Err(failed) => Err(failed),
     }
 }
 

@@ -9,13 +9,13 @@ ghost use Rattle.tb_machine.specs.Recording.{IsRecord};
 ghost use Rattle.tb_keep.specs.Keeping.{head_record};
 ghost use Rattle.tb_keep.specs.Restoration.{ReadsRecord, RestoresRecord, Restores};
 ghost use Rattle.tb_keep.specs.Opening.{IsUntouched};
-ghost use Rattle.tb_keep.specs.Sources.{Which, OfSource, IsReading};
+ghost use Rattle.tb_keep.specs.Sources.{Which, OfSource, IsReading, IsNext};
 ghost use Rattle.tb_keep.specs.Entering.{StaysKept, ReadsHead, EntersNext, EntersAll, FindsBehind};
 
 use crate::faults::StartFault;
 use crate::heads::{Rules, check_head};
 use std::alloc::Global;
-use tb_journal::{Device, Extent, Scan};
+use tb_journal::{Device, Extent, OpenFault, Scan};
 use tb_machine::{Entry, Machine, Unfit, read_entry, restore};
 use tb_records::FrameFault;
 
@@ -59,6 +59,17 @@ fn restore_record(
     }
 }
 
+/// Reads the next record, and answers whether there is one.
+pub(crate) fn read_record<D: Device>(scan: &mut Scan, device: &mut D) -> Result<bool, OpenFault>
+    ensures reads { (which : Which) (read : List (List ℕ))
+        → IsReading D.tells D.gave which (D.disk device.old).seen read scan.old
+        → OfSource D.tells D.gave which (D.disk device.old).seen (λ file. IsNext which result read file scan.new) }
+    ensures stays { D.tells → StaysKept (D.disk device.old) (D.disk device.new) }
+    ensures further { IfOk result (λ more. more ≡ true → GoesFurther scan.old scan.new) }
+{
+    scan.next(device)
+}
+
 /// Reads the head of a file of which nothing was read, and answers whether there is one.
 fn read_first<D: Device>(scan: &mut Scan, device: &mut D, rules: Rules) -> Result<bool, StartFault>
     ensures head { (which : Which) → IsReading D.tells D.gave which (D.disk device.old).seen [] scan.old
@@ -66,7 +77,7 @@ fn read_first<D: Device>(scan: &mut Scan, device: &mut D, rules: Rules) -> Resul
         (λ file. ReadsHead which result rules.profile rules.clients_max file scan.new) }
     ensures stays { D.tells → StaysKept (D.disk device.old) (D.disk device.new) }
 {
-    match scan.next(device) {
+    match read_record(scan, device) {
         Ok(true) => match check_head(scan.record(), rules) {
             Ok(()) => Ok(true),
             Err(fault) => Err(fault),
@@ -90,7 +101,7 @@ fn enter_next<D: Device>(
     ensures stays { D.tells → StaysKept (D.disk device.old) (D.disk device.new) }
     ensures further { IfOk result (λ more. more ≡ true → GoesFurther scan.old scan.new) }
 {
-    match scan.next(device) {
+    match read_record(scan, device) {
         Ok(true) => match restore_record(global, machine, scan.record()) {
             Ok(()) => Ok(true),
             Err(fault) => Err(fault),
@@ -143,10 +154,7 @@ pub(crate) fn entered_behind<D: Device>(
     };
     match enter_all(global, &mut machine, scan, device) {
         Ok(()) => Ok((machine, scan.extent())),
-        Err(fault) => {
-            drop(machine);
-            Err(fault)
-        }
+        Err(fault) => Err(fault),
     }
 }
 
@@ -205,12 +213,7 @@ pub fn restored<D: Device>(
     ensures untouched { D.tells → IsUntouched (D.disk device.old) (D.disk device.new) }
 {
     match Scan::start(global, device) {
-        Ok(scan) => {
-            let mut scan = scan;
-            let found = restored_by(global, rules, &mut scan, device);
-            drop(scan);
-            found
-        }
+        Ok(mut scan) => restored_by(global, rules, &mut scan, device),
         Err(fault) => Err(StartFault::Journal(fault)),
     }
 }

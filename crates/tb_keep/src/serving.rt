@@ -54,19 +54,16 @@ fn append_new<D: Device>(
     };
     match append_entry(&mut keeper.journal, &mut keeper.buffer, &entry) {
         Ok(()) => Ok(entry.request),
-        Err(fault) => {
-            drop(entry);
-            Err(fault)
-        }
+        Err(fault) => Err(fault),
     }
 }
 
 /// Serves a pair, and holds the reply to it. Memory takes a reply, or there is none left.
 fn hold_reply(
     machine: &mut Machine<Global>,
-    replies: &mut Replies,
     moment: u64,
     request: Request,
+    replies: &mut Replies,
 ) -> Result<(), KeepFault>
     ensures { HoldsReply result (moment, request) machine.old machine.new replies.old.bytes.items
         replies.new.bytes.items }
@@ -90,10 +87,10 @@ fn keep_pair<D: Device>(
 {
     match keeper.machine.class(&request) {
         Class::New => match append_new(keeper, moment, request) {
-            Ok(request) => hold_reply(&mut keeper.machine, replies, moment, request),
+            Ok(request) => hold_reply(&mut keeper.machine, moment, request, replies),
             Err(fault) => Err(fault),
         },
-        _ => hold_reply(&mut keeper.machine, replies, moment, request),
+        _ => hold_reply(&mut keeper.machine, moment, request, replies),
     }
 }
 

@@ -1,6 +1,5 @@
 use Rattle.tb_keep.proofs.Sources.{so_holds}
-use Rattle.tb_keep.proofs.Entered.{stays_none}
-use Rattle.tb_keep.proofs.Dumping.{dumps_behind, dumps_some_head}
+use Rattle.tb_keep.proofs.Dumping.{dumps_behind}
 use Rattle.tb_keep.proofs.dumps.dump_by.Goals as goal
 
 pub returns-in-Ok-clause-dumps : goal.returns-in-Ok-clause-dumps
@@ -10,11 +9,3 @@ returns-in-Ok-clause-dumps g c which has =
     dumps_behind c.args.rules file (g.W.Sink.output c.args.writer.now) (g.W.Sink.output c.send_head.new.sink) (g.W.Sink.output c.send_behind_first.new.writer)
     c.send_behind_first.result c.in-Ok.ensures.sent sent)
     (c.send_behind_first.ensures.sends which has)
-
-pub returns-in-Err-clause-dumps : goal.returns-in-Err-clause-dumps
-returns-in-Err-clause-dumps g c which =
-    let old = g.W.Sink.output c.args.writer.now in
-    so_holds g.D.Device.tells g.D.Device.gave which (g.D.Device.disk c.args.device.now).seen _ _ (λ file at. dumps_some_head c.args.rules file old old (g.W.Sink.output c.send_head.new.sink) c.in-Err.fault at.has.begins c.in-Err.ensures.sent)
-
-pub returns-in-Err-clause-stays : goal.returns-in-Err-clause-stays
-returns-in-Err-clause-stays g c t = stays_none (g.D.Device.disk c.args.device.now) (g.met.D.Device.only_now c.args.device.now)

@@ -8,7 +8,7 @@ returns-in-Ok-clause-found g c t =
     let old = (g.D.Device.disk c.args.device.now).seen in
     let now = (g.D.Device.disk c.start.new.device).seen in
     on_disk g.D.Device.tells g.D.Device.gave old now _ (c.start.ensures.seen t)
-    (c.history_by-found.ensures.found OnDisk (seen_now g.D.Device.tells g.D.Device.gave OnDisk old now _ (λ t. c.start.ensures.seen t) (read_on_disk g.D.Device.tells g.D.Device.gave t old [] c.in-Ok.scan (c.in-Ok.ensures.begun t).0)))
+    (c.history_by.ensures.found OnDisk (seen_now g.D.Device.tells g.D.Device.gave OnDisk old now _ (λ t. c.start.ensures.seen t) (read_on_disk g.D.Device.tells g.D.Device.gave t old [] c.in-Ok.scan (c.in-Ok.ensures.begun t).0)))
 
 pub returns-in-Ok-clause-handed : goal.returns-in-Ok-clause-handed
-returns-in-Ok-clause-handed g c = c.history_by-found.ensures.found HandedOut (read_handed g.D.Device.tells g.D.Device.gave (g.D.Device.disk c.start.new.device).seen c.in-Ok.scan c.in-Ok.ensures.handed)
+returns-in-Ok-clause-handed g c = c.history_by.ensures.found HandedOut (read_handed g.D.Device.tells g.D.Device.gave (g.D.Device.disk c.start.new.device).seen c.in-Ok.scan c.in-Ok.ensures.handed)

@@ -1,17 +1,8 @@
 use Rattle.std.proofs.Common.{◌++◌, arith, sym}
 use Rattle.tb_keep.proofs.Sources.{seen_now, so_holds}
-use Rattle.tb_keep.proofs.Entered.{stays_none, stays_then}
-use Rattle.tb_keep.proofs.Dumping.{sending_none, sending_more, sending_done, sending_not}
+use Rattle.tb_keep.proofs.Entered.{stays_then}
+use Rattle.tb_keep.proofs.Dumping.{sending_more, sending_done, sending_not}
 use Rattle.tb_keep.proofs.dumps.send_records.Goals as goal
-
-pub loop-fault-init : goal.loop-fault-init
-loop-fault-init g c = record {
-  stays = λ t. stays_none (g.D.Device.disk c.args.device.now) (g.met.D.Device.only_now c.args.device.now);
-  sending = λ which read. so_holds g.D.Device.tells g.D.Device.gave which (g.D.Device.disk c.args.device.now).seen _ _ (λ file at. sending_none which read file c.args.scan.now (g.W.Sink.output c.args.writer.now) at);
-}
-
-pub loop-fault-smaller : goal.loop-fault-smaller
-loop-fault-smaller g c = let further = c.in-Ok-true.ensures.further c.in-Ok-true.field-0-test in omega (arith, further.0, further.1)
 
 pub loop-fault-preserved : goal.loop-fault-preserved
 loop-fault-preserved g c = record {
@@ -34,11 +25,6 @@ returns-in-Ok-false-clause-sends g c which read has =
     seen_now g.D.Device.tells g.D.Device.gave which now old _ (λ t. sym (c.loop-fault.invariant.stays t).untouched.seen)
     (so_holds g.D.Device.tells g.D.Device.gave which now _ _ (λ file next. sending_done which read records file c.send_next.new.scan (g.W.Sink.output c.args.writer.now) (g.W.Sink.output c.loop-fault.writer) (g.W.Sink.output c.send_next.new.writer) sent next)
     ((rw c.in-Ok-false.field-0-test at c.in-Ok-false.ensures.sends) which (read ++ records) (seen_now g.D.Device.tells g.D.Device.gave which old now _ (λ t. (c.loop-fault.invariant.stays t).untouched.seen) (file, source, at))))
-
-pub returns-in-Ok-false-clause-stays : goal.returns-in-Ok-false-clause-stays
-returns-in-Ok-false-clause-stays g c t =
-    stays_then (g.D.Device.disk c.args.device.now) (g.D.Device.disk c.loop-fault.device) (g.D.Device.disk c.send_next.new.device) (g.met.D.Device.counts_now c.loop-fault.device)
-    (c.loop-fault.invariant.stays t) (c.send_next.ensures.stays t)
 
 pub returns-in-Err-clause-sends : goal.returns-in-Err-clause-sends
 returns-in-Err-clause-sends g c which read has =

@@ -1,13 +1,8 @@
 use Rattle.std.proofs.Common.{[], ◌∷◌}
 use Rattle.tb_keep.specs.Keeping.{head_record}
 use Rattle.tb_keep.proofs.Sources.{so_holds}
-use Rattle.tb_keep.proofs.Entered.{behind_begins, behind_not, no_memory, restored_behind}
+use Rattle.tb_keep.proofs.Entered.{behind_begins, behind_not, restored_behind}
 use Rattle.tb_keep.proofs.restoring.entered_behind.Goals as goal
-
-pub returns-in_default-clause-found : goal.returns-in_default-clause-found
-returns-in_default-clause-found g c which =
-    let rules = c.args.rules in
-    so_holds g.D.Device.tells g.D.Device.gave which (g.D.Device.disk c.args.device.now).seen _ _ (λ file at. (at.has.begins, no_memory rules.profile rules.clients_max file (head_record rules.profile rules.clients_max ∷ []) at.has.begins))
 
 pub returns-in-Ok-enter_all-clause-found : goal.returns-in-Ok-enter_all-clause-found
 returns-in-Ok-enter_all-clause-found g c which has =

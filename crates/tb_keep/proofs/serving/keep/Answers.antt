@@ -10,49 +10,28 @@ loop-k-init g c =
 pub returns-in_err-tell_before_waiting-clause-served : goal.returns-in_err-tell_before_waiting-clause-served
 returns-in_err-tell_before_waiting-clause-served g c =
     let p = err_from_is_err_and c.from_residual.result c.from_residual.ensures.1 in
-    rw (p.1, p.2) (served_before g.D.Device.tells g.D.Device.disk c.in_err-tell_before_waiting.field-0.0 c.loop-k.k c.args.keeper.now c.loop-k.keeper c.tell_before_waiting.new.keeper (g.R.Source.input c.args.reader.now) (g.R.Source.input c.loop-k.reader) (g.W.Sink.output c.args.writer.now) (g.W.Sink.output c.loop-k.writer) (g.W.Sink.output c.tell_before_waiting.new.writer) c.loop-k.replies.bytes.items c.tell_before_waiting.new.replies.bytes.items
-    c.loop-k.invariant c.in_err-tell_before_waiting.ensures)
+    rw (p.1, p.2) (served_before c.loop-k.invariant c.in_err-tell_before_waiting.field-0.0 _ c.in_err-tell_before_waiting.ensures)
 
 pub returns-in_err-keep_next-clause-served : goal.returns-in_err-keep_next-clause-served
 returns-in_err-keep_next-clause-served g c =
     let p = err_from_is_err_and c.from_residual-in_err-keep_next.result c.from_residual-in_err-keep_next.ensures.1 in
-    rw (p.1, p.2) (served_ends g.D.Device.tells g.D.Device.disk c.in_err-keep_next.field-0.0 c.loop-k.k c.args.keeper.now c.tell_before_waiting.new.keeper c.keep_next.new.keeper (g.R.Source.input c.args.reader.now) (g.R.Source.input c.loop-k.reader) (g.R.Source.input c.keep_next.new.reader) (g.W.Sink.output c.args.writer.now) (g.W.Sink.output c.tell_before_waiting.new.writer) (g.W.Sink.output c.keep_next.new.writer) c.tell_before_waiting.new.replies.bytes.items c.keep_next.new.replies.bytes.items
-    (going_may g.D.Device.tells g.D.Device.disk c.loop-k.k c.args.keeper.now c.loop-k.keeper c.tell_before_waiting.new.keeper (g.R.Source.input c.args.reader.now) (g.R.Source.input c.loop-k.reader) (g.W.Sink.output c.args.writer.now) (g.W.Sink.output c.loop-k.writer) (g.W.Sink.output c.tell_before_waiting.new.writer) c.loop-k.replies.bytes.items c.tell_before_waiting.new.replies.bytes.items
-    c.loop-k.invariant c.in_ok-tell_before_waiting.ensures)
-    c.in_err-keep_next.ensures)
+    rw (p.1, p.2) (served_ends (going_may c.loop-k.invariant c.in_ok-tell_before_waiting.ensures) c.in_err-keep_next.field-0.0 _ c.in_err-keep_next.ensures)
 
 pub returns-in_err-tell-clause-served : goal.returns-in_err-tell-clause-served
 returns-in_err-tell-clause-served g c =
     let p = err_from_is_err_and c.from_residual-in_err-tell.result c.from_residual-in_err-tell.ensures.1 in
-    rw (p.1, p.2) (served_end g.D.Device.tells g.D.Device.disk c.in_err-tell.field-0.0 c.loop-k.k c.args.keeper.now c.tell_before_waiting.new.keeper c.keep_next.new.keeper c.tell.new.keeper (g.R.Source.input c.args.reader.now) (g.R.Source.input c.loop-k.reader) (g.R.Source.input c.keep_next.new.reader) (g.W.Sink.output c.args.writer.now) (g.W.Sink.output c.keep_next.new.writer) (g.W.Sink.output c.tell.new.writer) c.tell_before_waiting.new.replies.bytes.items c.keep_next.new.replies.bytes.items c.tell.new.replies.bytes.items
-    (going_silent g.D.Device.tells g.D.Device.disk c.loop-k.k c.args.keeper.now c.tell_before_waiting.new.keeper (g.R.Source.input c.args.reader.now) (g.R.Source.input c.loop-k.reader) (g.W.Sink.output c.args.writer.now) (g.W.Sink.output c.tell_before_waiting.new.writer) (g.W.Sink.output c.keep_next.new.writer) c.tell_before_waiting.new.replies.bytes.items c.in_ok-keep_next.ensures.1
-    (going_may g.D.Device.tells g.D.Device.disk c.loop-k.k c.args.keeper.now c.loop-k.keeper c.tell_before_waiting.new.keeper (g.R.Source.input c.args.reader.now) (g.R.Source.input c.loop-k.reader) (g.W.Sink.output c.args.writer.now) (g.W.Sink.output c.loop-k.writer) (g.W.Sink.output c.tell_before_waiting.new.writer) c.loop-k.replies.bytes.items c.tell_before_waiting.new.replies.bytes.items
-    c.loop-k.invariant c.in_ok-tell_before_waiting.ensures))
-    (rw c.if-not-branch.true at c.in_ok-keep_next.ensures.0)
-    c.in_err-tell.ensures)
+    rw (p.1, p.2) (served_end (going_silent (going_may c.loop-k.invariant c.in_ok-tell_before_waiting.ensures) c.in_ok-keep_next.ensures.1)
+    c.in_err-tell.field-0.0 _ (rw c.if-not-branch.true at c.in_ok-keep_next.ensures.0) c.in_err-tell.ensures)
 
 pub returns-then-not-branch-clause-served : goal.returns-then-not-branch-clause-served
 returns-then-not-branch-clause-served g c =
-    served_out g.D.Device.tells g.D.Device.disk c.loop-k.k c.args.keeper.now c.tell_before_waiting.new.keeper c.keep_next.new.keeper c.tell.new.keeper (g.R.Source.input c.args.reader.now) (g.R.Source.input c.loop-k.reader) (g.R.Source.input c.keep_next.new.reader) (g.W.Sink.output c.args.writer.now) (g.W.Sink.output c.keep_next.new.writer) (g.W.Sink.output c.tell.new.writer) c.tell_before_waiting.new.replies.bytes.items c.keep_next.new.replies.bytes.items c.tell.new.replies.bytes.items
-    (going_silent g.D.Device.tells g.D.Device.disk c.loop-k.k c.args.keeper.now c.tell_before_waiting.new.keeper (g.R.Source.input c.args.reader.now) (g.R.Source.input c.loop-k.reader) (g.W.Sink.output c.args.writer.now) (g.W.Sink.output c.tell_before_waiting.new.writer) (g.W.Sink.output c.keep_next.new.writer) c.tell_before_waiting.new.replies.bytes.items c.in_ok-keep_next.ensures.1
-    (going_may g.D.Device.tells g.D.Device.disk c.loop-k.k c.args.keeper.now c.loop-k.keeper c.tell_before_waiting.new.keeper (g.R.Source.input c.args.reader.now) (g.R.Source.input c.loop-k.reader) (g.W.Sink.output c.args.writer.now) (g.W.Sink.output c.loop-k.writer) (g.W.Sink.output c.tell_before_waiting.new.writer) c.loop-k.replies.bytes.items c.tell_before_waiting.new.replies.bytes.items
-    c.loop-k.invariant c.in_ok-tell_before_waiting.ensures))
-    (rw c.if-not-branch.true at c.in_ok-keep_next.ensures.0)
-    c.in_ok-tell.ensures
+    served_out (going_silent (going_may c.loop-k.invariant c.in_ok-tell_before_waiting.ensures) c.in_ok-keep_next.ensures.1)
+    _ (rw c.if-not-branch.true at c.in_ok-keep_next.ensures.0) c.in_ok-tell.ensures
 
 pub loop-k-preserved : goal.loop-k-preserved
 loop-k-preserved g c =
-    going_on g.D.Device.tells g.D.Device.disk c.loop-k.k c.args.keeper.now c.tell_before_waiting.new.keeper c.keep_next.new.keeper (g.R.Source.input c.args.reader.now) (g.R.Source.input c.loop-k.reader) (g.R.Source.input c.keep_next.new.reader) (g.W.Sink.output c.args.writer.now) (g.W.Sink.output c.keep_next.new.writer) c.tell_before_waiting.new.replies.bytes.items c.keep_next.new.replies.bytes.items
-    (going_silent g.D.Device.tells g.D.Device.disk c.loop-k.k c.args.keeper.now c.tell_before_waiting.new.keeper (g.R.Source.input c.args.reader.now) (g.R.Source.input c.loop-k.reader) (g.W.Sink.output c.args.writer.now) (g.W.Sink.output c.tell_before_waiting.new.writer) (g.W.Sink.output c.keep_next.new.writer) c.tell_before_waiting.new.replies.bytes.items c.in_ok-keep_next.ensures.1
-    (going_may g.D.Device.tells g.D.Device.disk c.loop-k.k c.args.keeper.now c.loop-k.keeper c.tell_before_waiting.new.keeper (g.R.Source.input c.args.reader.now) (g.R.Source.input c.loop-k.reader) (g.W.Sink.output c.args.writer.now) (g.W.Sink.output c.loop-k.writer) (g.W.Sink.output c.tell_before_waiting.new.writer) c.loop-k.replies.bytes.items c.tell_before_waiting.new.replies.bytes.items
-    c.loop-k.invariant c.in_ok-tell_before_waiting.ensures))
+    going_on (going_silent (going_may c.loop-k.invariant c.in_ok-tell_before_waiting.ensures) c.in_ok-keep_next.ensures.1)
     (rw c.if-not-branch.false at c.in_ok-keep_next.ensures.0)
 
 pub returns-clause-served : goal.returns-clause-served
-returns-clause-served g c =
-    served_too_long g.D.Device.tells g.D.Device.disk c.loop-k.k c.args.keeper.now c.loop-k.keeper
-    (g.R.Source.input c.args.reader.now) (g.R.Source.input c.loop-k.reader)
-    (g.W.Sink.output c.args.writer.now) (g.W.Sink.output c.loop-k.writer)
-    c.loop-k.replies.bytes.items
-    (omega (arith, c.loop-k-test.false, c.loop-k.auto.k-end))
-    c.loop-k.invariant
+returns-clause-served g c = served_too_long c.loop-k.invariant (omega (arith, c.loop-k-test.false, c.loop-k.auto.k-end))

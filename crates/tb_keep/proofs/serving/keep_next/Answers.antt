@@ -29,8 +29,3 @@ returns-else-is_end_of_time g c =
     (reads_one pair first last (rw c.in-Ok-Some.field-0-is at c.in-Ok-Some.ensures.answer) c.in-Ok-Some.ensures.counted)
     c.in-Err-keep_pair.ensures
     (sym c.is_end_of_time.ensures ∙ c.if-is_end_of_time.false)
-
-pub returns-in-Err : goal.returns-in-Err
-returns-in-Err g c =
-    let read : IsRead (Err c.in-Err.fault) (g.R.Source.input c.args.reader.now) (g.R.Source.input c.read_timed_from.new.source) = record { answers = c.in-Err.ensures.answer; counted = c.in-Err.ensures.counted } in
-    inr (keep.Serving (run.Frame c.in-Err.fault), read, c.tell_and_stop-in-Err.ensures)
