@@ -1,61 +1,27 @@
 -- What is accepted of lawful pairs is a legal history, and the replies to a script are those of that history.
-use Rattle.std.proofs.Common.{◌≡◌, ◌≢◌, ℕ, ◌⊎◌, inl, inr, Bool, true, false, ◌&&◌, cond, List, [], ◌∷◌, ◌++◌, is_none, Option, Some, None, refl, sym, ap, ◌∙◌, subst, IsTrue, arith, leb-true, append_assoc, append-nil}
+use Rattle.std.proofs.Common.{◌≡◌, ℕ, ◌⊎◌, inl, inr, Bool, true, false, cond, List, [], ◌∷◌, ◌++◌, is_none, Option, Some, None, refl, sym, ap, ◌∙◌, subst, IsTrue, append_assoc, append-nil}
 use Rattle.tb_records.specs.declared.limits.Profile.{Profile}
 use Rattle.tb_records.specs.Messages.{Message, Answer}
 use Rattle.tb_sessions.specs.declared.rows.Row.{Row}
 use Rattle.tb_sessions.specs.declared.classes.Class.{Class}
-use Rattle.tb_sessions.specs.declared.classes.Class.TheVariants.{New, Repeat, NoSession, SessionTooLow, NewerSession, Older, Collision, NewerRequest}
+use Rattle.tb_sessions.specs.declared.classes.Class.TheVariants.{Repeat}
 use Rattle.tb_sessions.specs.Judged.{row_of, class_of}
-use Rattle.tb_ledger.specs.Verdicts.{max_time}
 use Rattle.tb_machine.specs.declared.entries.Entry.{Entry}
-use Rattle.tb_machine.specs.Histories.{State, time_of, is_new, is_lawful, IsLegal, after, answer_by, answer_to}
-use Rattle.tb_machine.specs.Scripts.{Pair, entry_of, has_time, is_entered, with_pair, accepted, replies_from}
-use Rattle.tb_machine.specs.Runs.{IsPair, Spell}
+use Rattle.tb_machine.specs.Histories.{State, is_lawful, IsLegal, after, answer_by, answer_to}
+use Rattle.tb_machine.specs.Scripts.{Pair, entry_of, is_entered, with_pair, accepted, replies_from}
+use Rattle.tb_machine.specs.Runs.{Spell}
+use Rattle.tb_records.specs.Inputs.{IsTimed}
 use Rattle.tb_machine.specs.ScriptLaws.{AreLawful, AcceptedIsLegal, IsGiven, IsRefused, AreOf, RepliesAreOfHistory, ServedAreLawful}
-use Rattle.tb_machine.proofs.Legal.{after_snoc, legal_snoc}
-use Rattle.tb_machine.proofs.Judging.{MayCome, comes}
+use Rattle.tb_machine.proofs.Legal.{after_snoc}
 use Rattle.tb_machine.proofs.LawProofs.{first_reply}
 use Rattle.tb_records.proofs.ByKey.{each-map}
 use Rattle.tb_machine.proofs.SoundSteps.{lawful_of}
-use Rattle.tb_machine.proofs.Turns.{answer_after, answer_refused}
-
--- a pair that is entered makes an entry that may come next
-both_true : (a b : Bool) → (a && b) ≡ true → (a ≡ true) × (b ≡ true)
-both_true true b e = (refl, e)
-both_true false b e = absurd cc
-
-new_class : (class : Class) → is_new class ≡ true → class ≡ New
-new_class New e = refl
-new_class Repeat e = absurd cc
-new_class NoSession e = absurd cc
-new_class SessionTooLow e = absurd cc
-new_class NewerSession e = absurd cc
-new_class Older e = absurd cc
-new_class Collision e = absurd cc
-new_class NewerRequest e = absurd cc
-
-pub entry_comes : (S : State) (p : Pair) → IsTrue (is_lawful p.1) → is_entered S p ≡ true → MayCome S (entry_of S p)
-entry_comes S p lawful entered =
-    let parts = both_true (is_new (class_of S.rows p.1)) (has_time S p) entered in
-    record {
-      commit = refl;
-      late_enough = omega arith;
-      in_range = leb-true (time_of S p.0 p.1) max_time parts.1;
-      lawful = lawful;
-      new = new_class (class_of S.rows p.1) parts.0;
-    }
+use Rattle.tb_machine.proofs.MarkLegal.{legal_with_at, accepted_is_legal_with}
+use Rattle.tb_machine.proofs.Turns.{answer_after, answer_refused, repeated_or_not}
 
 module _ (profile : Profile) (clients_max : ℕ) where
   pub legal_with : (h : List Entry) (p : Pair) → IsLegal profile clients_max h → IsTrue (is_lawful p.1) → IsLegal profile clients_max (with_pair profile clients_max h p)
-  legal_with h p legal lawful = parts (is_entered (after profile clients_max h) p) refl
-    where
-      parts : (b : Bool) → is_entered (after profile clients_max h) p ≡ b → IsLegal profile clients_max (cond b (h ++ entry_of (after profile clients_max h) p ∷ []) h)
-      parts true e = legal_snoc profile clients_max h (entry_of (after profile clients_max h) p) legal (comes (after profile clients_max h) (entry_of (after profile clients_max h) p) (entry_comes (after profile clients_max h) p lawful e))
-      parts false e = legal
-
-  legal_accepted : (h : List Entry) (ps : List Pair) → IsLegal profile clients_max h → AreLawful ps → IsLegal profile clients_max (accepted profile clients_max h ps)
-  legal_accepted h [] legal lawful = legal
-  legal_accepted h (p ∷ ps) legal lawful = legal_accepted (with_pair profile clients_max h p) ps (legal_with h p legal lawful.0) lawful.1
+  legal_with h p legal lawful = legal_with_at profile clients_max None h p legal (λ _. lawful)
 
   -- a history goes on
   Goes : List Entry → List Entry → Type 0
@@ -103,11 +69,15 @@ module _ (profile : Profile) (clients_max : ℕ) where
 
   answered_as_it_stands : (h : List Entry) (r : Message) → IsLegal profile clients_max h → IsTrue (is_lawful r)
       → IsGiven profile clients_max h r (answer_to (after profile clients_max h) r) ⊎ IsRefused r (answer_to (after profile clients_max h) r)
-  answered_as_it_stands h r legal lawful = by (class_of (after profile clients_max h).rows r) refl
+  answered_as_it_stands h r legal lawful = elim (repeated_or_not (class_of (after profile clients_max h).rows r)) [
+    | inl class ↦ inl (given class)
+    | inr other ↦ inr (record {
+      class = class_of (after profile clients_max h).rows r;
+      no_repeat = other.0;
+      answer = answer_refused (class_of (after profile clients_max h).rows r) (row_of (after profile clients_max h).rows r.client) r other.0;
+    })
+  ]
     where
-      S : State
-      S = after profile clients_max h
-
       given : class_of (after profile clients_max h).rows r ≡ Repeat → IsGiven profile clients_max h r (answer_to (after profile clients_max h) r)
       given class =
           let is = first_reply profile clients_max h r legal lawful class in
@@ -120,25 +90,6 @@ module _ (profile : Profile) (clients_max : ℕ) where
             reply = ap (λ (k : Class). answer_by k (row_of (after profile clients_max h).rows r.client) r) class
                 ∙ ap (λ (o : Option Row). answer_by Repeat o r) is.stored ∙ is.reply;
           }
-
-      refused : (class : Class) → class ≢ Repeat → class_of (after profile clients_max h).rows r ≡ class → IsRefused r (answer_to (after profile clients_max h) r)
-      refused class other e = record {
-        class = class;
-        no_repeat = other;
-        answer = ap (λ (k : Class). answer_by k (row_of (after profile clients_max h).rows r.client) r) e
-            ∙ answer_refused class (row_of (after profile clients_max h).rows r.client) r other;
-      }
-
-      by : (class : Class) → class_of (after profile clients_max h).rows r ≡ class
-          → IsGiven profile clients_max h r (answer_to (after profile clients_max h) r) ⊎ IsRefused r (answer_to (after profile clients_max h) r)
-      by Repeat e = inl (given e)
-      by New e = inr (refused New (λ same. cc) e)
-      by NoSession e = inr (refused NoSession (λ same. cc) e)
-      by SessionTooLow e = inr (refused SessionTooLow (λ same. cc) e)
-      by NewerSession e = inr (refused NewerSession (λ same. cc) e)
-      by Older e = inr (refused Older (λ same. cc) e)
-      by Collision e = inr (refused Collision (λ same. cc) e)
-      by NewerRequest e = inr (refused NewerRequest (λ same. cc) e)
 
   answered_one : (h : List Entry) (p : Pair) → IsLegal profile clients_max h → IsTrue (is_lawful p.1)
       → IsGiven profile clients_max (with_pair profile clients_max h p) p.1 (answer_to (after profile clients_max (with_pair profile clients_max h p)) p.1)
@@ -164,7 +115,7 @@ module _ (profile : Profile) (clients_max : ℕ) where
       )
 
 pub accepted_is_legal : AcceptedIsLegal
-accepted_is_legal profile clients_max ps lawful = legal_accepted profile clients_max [] ps tt lawful
+accepted_is_legal profile clients_max ps lawful = accepted_is_legal_with profile clients_max None ps lawful
 
 pub replies_are_of_history : RepliesAreOfHistory
 replies_are_of_history profile clients_max ps lawful = replies_of profile clients_max [] ps tt lawful
@@ -173,8 +124,8 @@ replies_are_of_history profile clients_max ps lawful = replies_of profile client
 spelled_lawful : (ps : List Pair) (before after : Option (List ℕ)) (bytes : List ℕ) → before ≡ Some bytes → Spell ps before after → AreLawful ps
 spelled_lawful ps None after bytes is spelled = absurd cc
 spelled_lawful ps (Some b) None bytes is spelled = absurd spelled
-spelled_lawful ps (Some b) (Some a) bytes is spelled = each-map IsPair (λ (p : Pair). IsTrue (is_lawful p.1)) ps (λ p pair. ap is_none pair.1.lawful) spelled.1
+spelled_lawful ps (Some b) (Some a) bytes is spelled = each-map IsTimed (λ (p : Pair). IsTrue (is_lawful p.1)) ps (λ p pair. ap is_none pair.1.lawful) spelled.1
 
 pub served_are_lawful : ServedAreLawful
 served_are_lawful profile clients_max result before after start written bytes ran told =
-    spelled_lawful ran.pairs before.left ran.middle.left bytes told ran.served.read.spelled
+    spelled_lawful ran.items before.left ran.middle.left bytes told ran.done.read.spelled

@@ -221,13 +221,11 @@ at_any_time B time fits = record { accounts = fits.accounts; transfers = fits.tr
 
 -- what is executed of a body that fits
 pub fit_executed : (B : Books) (body : Body) (time : ℕ) → BodyFits body → count body ≤ time → time ≤ max_time → RecordsFit B → RecordsFit (executed B body time)
-fit_executed B Register time body few in_range fits = at_any_time B time fits
 fit_executed B (CreateAccounts events) time body few in_range fits =
     kept_batch account_events IsAccount time RecordsFit (λ B a at kept is low. fit_account B a at kept is (omega arith)) (λ B a code kept. kept) B events (omega arith) (each_of_all IsAccount events body) (at_any_time B time fits)
 fit_executed B (CreateTransfers events) time body few in_range fits =
     kept_batch transfer_events IsTransfer time RecordsFit (λ B t at kept is low. fit_transfer B t at kept is (omega arith)) fit_refused B events (omega arith) (each_of_all IsTransfer events body) (at_any_time B time fits)
-fit_executed B (LookupAccounts ids) time body few in_range fits = at_any_time B time fits
-fit_executed B (LookupTransfers ids) time body few in_range fits = at_any_time B time fits
+fit_executed B asked time body few in_range fits = at_any_time B time fits
 
 -- what is found
 

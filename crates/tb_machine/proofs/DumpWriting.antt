@@ -1,27 +1,25 @@
 -- A whole dump: the pairs so far, and one more.
-use Rattle.std.proofs.Common.{◌≡◌, ℕ, ◌+◌, ◌-◌, ◌^◌, ◌≤◌, ◌⊎◌, Bool, true, false, cond, ◌&&◌, List, [], ◌∷◌, ◌++◌, length, Option, Some, None, Ok, Err, inl, inr, eq-eqb, ne_eqb, ltb, ltb-true, leb-true, refl, sym, ap, subst, ◌∙◌, arith, append_assoc, append-nil, length-append}
+use Rattle.std.proofs.Common.{◌≡◌, ℕ, ◌+◌, ◌<◌, ◌≤◌, ◌⊎◌, Bool, true, false, cond, ◌&&◌, List, [], ◌∷◌, ◌++◌, length, Option, Some, None, Ok, inl, inr, eq-eqb, ne_eqb, ltb, ltb-true, leb-true, refl, sym, ap, subst, ◌∙◌, arith, append_assoc, append-nil, length-append}
 use Rattle.std.proofs.lemmas.Bool.{lt-ltb, le-ltb, cases_lt}
 use Rattle.tb_records.specs.declared.limits.Profile.TheVariants.{One}
 use Rattle.tb_records.specs.DumpBytes.{head_bytes, mark_bytes, entry_bytes, IsClients}
+use Rattle.tb_records.specs.Inputs.{IsTimed}
 use Rattle.tb_records.specs.Transport.{Input, Output, Sent}
 use Rattle.tb_ledger.specs.Books.{profile_of}
 use Rattle.tb_ledger.specs.Verdicts.{max_time}
 use Rattle.tb_sessions.specs.declared.rows.Row.{Row}
 use Rattle.tb_sessions.specs.Judged.{row_of}
 use Rattle.tb_machine.specs.declared.entries.Entry.{Entry}
-use Rattle.tb_machine.specs.declared.serving.RunFault.{RunFault}
-use Rattle.tb_machine.specs.declared.serving.RunFault.TheVariants as fault
 use Rattle.tb_machine.specs.Histories.{State, start, step, to_two, row_at}
 use Rattle.tb_machine.specs.Scripts.{Pair, entry_of, has_time}
-use Rattle.tb_machine.specs.Runs.{IsPair, Reads, is_new_in, IsTimely}
+use Rattle.tb_machine.specs.Runs.{Reads, is_new_in, PairAnswered}
 use Rattle.tb_machine.specs.Serving.{EntersPair}
-use Rattle.tb_machine.specs.Dumps.{dumped, history_bytes, IsDumpedEntry, IsPlace, DumpSpells, after_with, place_in, after_at, with_pair_at, accepted_at, HasTimesAt}
-use Rattle.tb_machine.specs.DumpRuns.{marks_at, mark_before, changed_profile, added_bytes, DumpsPair, DumpStops, DumpsOn, history_of, HasDumped, DumpedTo, DumpRan}
+use Rattle.tb_machine.specs.Dumps.{dumped, history_bytes, IsDumpedEntry, IsPlace, DumpSpells, after_with, place_in, after_at}
+use Rattle.tb_machine.specs.DumpRuns.{marks_at, mark_before, changed_profile, added_bytes, DumpsPair, history_of, DumpsHistory}
 use Rattle.tb_machine.proofs.Rows.{some_one, each_snoc}
-use Rattle.tb_machine.proofs.Legal.{fold_snoc}
 use Rattle.tb_machine.proofs.Lawful.{executed_time}
-use Rattle.tb_machine.proofs.Running.{reads_none, reads_snoc, sends_none, sends_then}
-use Rattle.tb_machine.proofs.Marked.{profile_step, bytes_snoc, with_snoc, bytes_marked, with_marked}
+use Rattle.tb_machine.proofs.Running.{reads_none, reads_one, reads_snoc, sends_none, history_snoc, times_snoc, Working, Joined, Joins}
+use Rattle.tb_machine.proofs.Marked.{profile_step, bytes_snoc, spells_more, with_snoc, bytes_marked, with_marked}
 use Rattle.tb_machine.proofs.DumpReading.{entry_stored}
 
 -- one pair
@@ -60,13 +58,6 @@ module _ (at : Option ℕ) (S U T : State) (p : Pair) (due : Bool) (due_is : due
         stepped = stepped_by ∙ ap (λ (b : Bool). step (changed_profile b S) (entry_of S p)) due_is;
         bytes_are = λ i. mark_before (due_is i) ++ entry_bytes (commit_of i) (time_of_it i) (request_is i);
       }
-
--- a pair was read, and there was a fault in dumping it
-pub dumped_fault : (f : RunFault) (at : Option ℕ) (S T : State) (p : Pair) (before after : Input) (start written : Output) → Reads (p ∷ []) before after → IsPair p → DumpsPair (Err f) at S T p start written → DumpStops f at S T before after start written
-dumped_fault (fault.Frame f) at S T p before after start written read fits turn = inr (record { pair = p; read = read; fits = fits; turn = turn })
-dumped_fault fault.NoMemory at S T p before after start written read fits turn = record { pair = p; read = read; fits = fits; turn = turn }
-dumped_fault fault.TimeExhausted at S T p before after start written read fits turn = record { pair = p; read = read; fits = fits; turn = turn }
-dumped_fault fault.TooLong at S T p before after start written read fits turn = absurd turn
 
 -- where the mark stands
 
@@ -145,189 +136,127 @@ module _ (clients_max : ℕ) (at : Option ℕ) (h : List Entry) (e : Entry) wher
   ]
 
 module _ (clients_max : ℕ) (at : Option ℕ) where
-  -- one pair more
+  abbrev behind : List Entry → State
+  behind h = after_at One clients_max at h
 
-  entered_pair : (h : List Entry) (p : Pair) → is_new_in (after_at One clients_max at h) p ≡ true → has_time (after_at One clients_max at h) p ≡ true → with_pair_at One clients_max at h p ≡ h ++ entry_of (after_at One clients_max at h) p ∷ []
-  entered_pair h p new timely = ap (λ b. cond b (h ++ entry_of (after_at One clients_max at h) p ∷ []) h) (ap (λ b. b && has_time (after_at One clients_max at h) p) new ∙ timely)
+  abbrev added : List Entry → Entry → List ℕ
+  added h e = mark_before (marks_at at (length h)) ++ dumped e
 
-  known_pair : (h : List Entry) (p : Pair) → is_new_in (after_at One clients_max at h) p ≡ false → with_pair_at One clients_max at h p ≡ h
-  known_pair h p known = ap (λ b. cond b (h ++ entry_of (after_at One clients_max at h) p ∷ []) h) (ap (λ b. b && has_time (after_at One clients_max at h) p) known)
+  -- what holds of the state behind the history so far: profile 1 serves up to the mark
+  pub record Kept (h : List Entry) : Type 0 where
+    pub count : (behind h).commit ≡ length h
+    pub late : (behind h).commit ≤ (behind h).books.time
+    pub by_one : place_in at h ≡ None → profile_of (behind h).books ≡ One
 
-  history_snoc : (ps : List Pair) (p : Pair) → history_of clients_max at (ps ++ p ∷ []) ≡ with_pair_at One clients_max at (history_of clients_max at ps) p
-  history_snoc ps p = fold_snoc (with_pair_at One clients_max at) [] ps p
+  kept_snoc : (h : List Entry) (e : Entry) → Kept h → e.commit ≡ (behind h).commit + 1 → (behind h).books.time < e.time → Kept (h ++ e ∷ [])
+  kept_snoc h e kept next later =
+      let is = at_snoc clients_max at h e in
+      let commit = ap (λ (S : State). S.commit) is in
+      let time : (behind (h ++ e ∷ [])).books.time ≡ e.time = ap (λ (S : State). S.books.time) is ∙ executed_time (changed_profile (marks_at at (length h)) (behind h)).books e.request.body e.time in
+      record {
+        count = omega (arith, commit, next, kept.count, length-append h (e ∷ []));
+        late = omega (arith, commit, time, next, later, kept.late);
+        by_one = λ none. elim (place_cases at h e) [
+          | inl stays ↦
+              ap (λ (S : State). profile_of S.books) (is ∙ ap (λ b. step (changed_profile b (behind h)) e) stays.unmarked)
+              ∙ profile_step (behind h) e ∙ kept.by_one (sym stays.same ∙ none)
+          | inr comes ↦ absurd (let both : Some (length h) ≡ None = sym comes.here ∙ none in cc)
+        ];
+      }
 
-  times_at_snoc : (h : List Entry) (ps : List Pair) (p : Pair) → HasTimesAt One clients_max at h ps → IsTimely (after_at One clients_max at (accepted_at One clients_max at h ps)) p → HasTimesAt One clients_max at h (ps ++ p ∷ [])
-  times_at_snoc h [] p times timely = (timely, tt)
-  times_at_snoc h (q ∷ qs) p times timely = (times.0, times_at_snoc (with_pair_at One clients_max at h q) qs p times.1 timely)
+  -- a dump's loop: k pairs were dumped
 
-  -- the loop's invariant: k pairs were dumped
-  pub record Dumping (k : ℕ) (S : State) (before middle : Input) (first written : Output) : Type 0 where
-    pub pairs : List Pair
-    pub long : length pairs ≡ k
-    pub state : S ≡ after_at One clients_max at (history_of clients_max at pairs)
-    pub count : S.commit ≡ length (history_of clients_max at pairs)
-    pub late : S.commit ≤ S.books.time
-    pub by_one : place_in at (history_of clients_max at pairs) ≡ None → profile_of S.books ≡ One
-    pub has_dumped : HasDumped clients_max at pairs before middle first written
+  abbrev pub Stands : ℕ → List Pair → Type 0
+  Stands k ps = (length ps ≡ k) × Kept (history_of clients_max at ps)
+
+  abbrev pub Dumping : ℕ → State → Input → Input → Output → Output → Type 0
+  Dumping = Working Reads (DumpsHistory clients_max at) (λ ps. behind (history_of clients_max at ps)) Stands
 
   pub dumping_none : (S : State) (i : Input) (first written : Output) → IsClients clients_max → S ≡ start One clients_max → Sent (head_bytes One clients_max) first written → Dumping 0 S i i first written
   dumping_none S i first written few is sent = record {
-    pairs = [];
-    long = refl;
-    state = is ∙ nothing at;
-    count = ap (λ (V : State). V.commit) is;
-    late = omega (arith, ap (λ (V : State). V.commit) is);
-    by_one = λ none. ap (λ (V : State). profile_of V.books) is;
-    has_dumped = record {
+    items = [];
+    state_is = is ∙ sym begun;
+    stands = (refl, record { count = ap (λ (V : State). V.commit) begun; late = omega (arith, ap (λ (V : State). V.commit) begun); by_one = λ _. ap (λ (V : State). profile_of V.books) begun });
+    done = record {
       bytes = head_bytes One clients_max;
       read = reads_none i;
-      times = tt;
-      spelled = record { bytes_are = head_alone at; clients = few; entries = tt; marked = placed at [] };
+      gives = record {
+        times = tt;
+        spelled = record {
+          bytes_are = sym (ap (λ place. head_bytes One clients_max ++ history_bytes place []) (unplaced at) ∙ append-nil (head_bytes One clients_max));
+          clients = few;
+          entries = tt;
+          marked = placed at [];
+        };
+      };
       sent = sent;
     };
   }
     where
-      nothing : (at : Option ℕ) → start One clients_max ≡ after_at One clients_max at []
-      nothing None = refl
-      nothing (Some a) = sym (ap (λ place. after_with One clients_max place []) (ap (λ b. cond b (Some a) None) (le-ltb a 0 (omega arith))))
+      unplaced : (at : Option ℕ) → place_in at [] ≡ None
+      unplaced None = refl
+      unplaced (Some a) = ap (λ b. cond b (Some a) None) (le-ltb a 0 (omega arith))
 
-      head_alone : (at : Option ℕ) → head_bytes One clients_max ≡ head_bytes One clients_max ++ history_bytes (place_in at []) []
-      head_alone None = sym (append-nil (head_bytes One clients_max))
-      head_alone (Some a) = sym (ap (λ place. head_bytes One clients_max ++ history_bytes place []) (ap (λ b. cond b (Some a) None) (le-ltb a 0 (omega arith))) ∙ append-nil (head_bytes One clients_max))
+      begun : behind [] ≡ start One clients_max
+      begun = ap (λ place. after_with One clients_max place []) (unplaced at)
 
-  module _ (k : ℕ) (S T : State) (before middle after : Input) (first written next : Output) (d : Dumping k S before middle first written) (p : Pair) (read : Reads (p ∷ []) middle after) where
+  module _ (k : ℕ) (ps : List Pair) (T : State) (bytes : List ℕ) (before after : Input) (written next : Output) (p : Pair) (stands : Stands k ps) (gives : DumpsHistory clients_max at ps bytes)
+      (read : Reads (ps ++ p ∷ []) before after) where
     abbrev h : List Entry
-    h = history_of clients_max at d.pairs
+    h = history_of clients_max at ps
 
-    abbrev U : State
-    U = after_at One clients_max at h
+    abbrev Goal : Type 0
+    Goal = Joined Reads (DumpsHistory clients_max at) (λ qs. behind (history_of clients_max at qs)) Stands (k + 1) T bytes before after written next
+
+    more : length (ps ++ p ∷ []) ≡ k + 1
+    more = omega (arith, stands.0, length-append ps (p ∷ []))
 
     -- a pair that is not new
-    dumped_known : is_new_in S p ≡ false → T ≡ S → next ≡ written → Dumping (k + 1) T before after first next
-    dumped_known known stays silent =
-        let known_there : is_new_in U p ≡ false = ap (λ (V : State). is_new_in V p) (sym d.state) ∙ known in
-        let same : history_of clients_max at (d.pairs ++ p ∷ []) ≡ h = history_snoc d.pairs p ∙ known_pair h p known_there in
+    joins_known : is_new_in (behind h) p ≡ false → T ≡ behind h → next ≡ written → Goal
+    joins_known known stays silent =
+        let same : history_of clients_max at (ps ++ p ∷ []) ≡ h = history_snoc behind ps p ∙ ap (λ b. cond (b && has_time (behind h) p) (h ++ entry_of (behind h) p ∷ []) h) known in
         record {
-          pairs = d.pairs ++ p ∷ [];
-          long = omega (arith, d.long, length-append d.pairs (p ∷ []));
-          state = stays ∙ d.state ∙ ap (after_at One clients_max at) (sym same);
-          count = ap (λ (V : State). V.commit) stays ∙ d.count ∙ ap length (sym same);
-          late = subst (λ (V : State). V.commit ≤ V.books.time) (sym stays) d.late;
-          by_one = λ none. ap (λ (V : State). profile_of V.books) stays ∙ d.by_one (ap (place_in at) (sym same) ∙ none);
-          has_dumped = record {
-            bytes = d.has_dumped.bytes;
-            read = reads_snoc d.pairs p before middle after d.has_dumped.read read;
-            times = times_at_snoc [] d.pairs p d.has_dumped.times (λ new. absurd (let both : true ≡ false = sym new ∙ known_there in cc));
-            spelled = subst (λ (m : List Entry). DumpSpells d.has_dumped.bytes One clients_max m (place_in at m)) (sym same) d.has_dumped.spelled;
-            sent = subst (λ (o : Output). Sent d.has_dumped.bytes first o) (sym silent) d.has_dumped.sent;
+          items = ps ++ p ∷ [];
+          state_is = stays ∙ ap behind (sym same);
+          stands = (more, subst Kept (sym same) stands.1);
+          read = read;
+          added = [];
+          gives = record {
+            times = times_snoc behind [] ps p gives.times (λ new. absurd (let both : true ≡ false = sym new ∙ known in cc));
+            spelled = subst (λ (m : List Entry). DumpSpells (bytes ++ []) One clients_max m (place_in at m)) (sym same) (subst (λ l. DumpSpells l One clients_max h (place_in at h)) (sym (append-nil bytes)) gives.spelled);
           };
+          sent = subst (λ (o : Output). Sent [] written o) (sym silent) (sends_none written);
         }
 
     -- a new one
-    dumped_new : IsPair p → is_new_in S p ≡ true → has_time S p ≡ true → T ≡ step (changed_profile (marks_at at S.commit) S) (entry_of S p) → Sent (added_bytes at S p) written next → Dumping (k + 1) T before after first next
-    dumped_new fits new timely stepped sent =
-        let new_there : is_new_in U p ≡ true = ap (λ (V : State). is_new_in V p) (sym d.state) ∙ new in
-        let timely_there : has_time U p ≡ true = ap (λ (V : State). has_time V p) (sym d.state) ∙ timely in
-        let e : Entry = entry_of U p in
-        let same : history_of clients_max at (d.pairs ++ p ∷ []) ≡ h ++ e ∷ [] = history_snoc d.pairs p ∙ entered_pair h p new_there timely_there in
-        let count_there : U.commit ≡ length h = ap (λ (V : State). V.commit) (sym d.state) ∙ d.count in
-        let stepped_there : T ≡ step (changed_profile (marks_at at (length h)) U) e = stepped ∙ (λ i. step (changed_profile (marks_at at (d.count i)) (d.state i)) (entry_of (d.state i) p)) in
-        let added : added_bytes at S p ≡ mark_before (marks_at at (length h)) ++ dumped e = λ i. mark_before (marks_at at (d.count i)) ++ dumped (entry_of (d.state i) p) in
-        let time_is : T.books.time ≡ e.time = ap (λ (V : State). V.books.time) stepped_there ∙ executed_time (changed_profile (marks_at at (length h)) U).books p.1.body e.time in
-        let late_there : U.commit ≤ U.books.time = subst (λ (V : State). V.commit ≤ V.books.time) d.state d.late in
-        let in_range : e.time ≤ max_time = leb-true e.time max_time timely_there in
+    joins_new : IsTimed p → is_new_in (behind h) p ≡ true → has_time (behind h) p ≡ true → T ≡ step (changed_profile (marks_at at (behind h).commit) (behind h)) (entry_of (behind h) p)
+        → Sent (added_bytes at (behind h) p) written next → Goal
+    joins_new fits new timely stepped sent =
+        let e : Entry = entry_of (behind h) p in
+        let kept : Kept h = stands.1 in
+        let same : history_of clients_max at (ps ++ p ∷ []) ≡ h ++ e ∷ [] = history_snoc behind ps p ∙ ap (λ b. cond b (h ++ e ∷ []) h) (ap (λ b. b && has_time (behind h) p) new ∙ timely) in
+        let in_range : e.time ≤ max_time = leb-true e.time max_time timely in
         record {
-          pairs = d.pairs ++ p ∷ [];
-          long = omega (arith, d.long, length-append d.pairs (p ∷ []));
-          state = stepped_there ∙ sym (at_snoc clients_max at h e) ∙ ap (after_at One clients_max at) (sym same);
-          count = omega (arith, ap (λ (V : State). V.commit) stepped_there, count_there, ap length same, length-append h (e ∷ []));
-          late = omega (arith, ap (λ (V : State). V.commit) stepped_there, time_is, late_there);
-          by_one = λ none. by_profile stepped_there (ap (place_in at) (sym same) ∙ none);
-          has_dumped = record {
-            bytes = d.has_dumped.bytes ++ (mark_before (marks_at at (length h)) ++ dumped e);
-            read = reads_snoc d.pairs p before middle after d.has_dumped.read read;
-            times = times_at_snoc [] d.pairs p d.has_dumped.times (λ _. timely_there);
-            spelled = subst (λ (m : List Entry). DumpSpells (d.has_dumped.bytes ++ (mark_before (marks_at at (length h)) ++ dumped e)) One clients_max m (place_in at m)) (sym same) (record {
-              bytes_are = ap (λ l. l ++ (mark_before (marks_at at (length h)) ++ dumped e)) d.has_dumped.spelled.bytes_are
-                  ∙ append_assoc (head_bytes One clients_max) (history_bytes (place_in at h) h) (mark_before (marks_at at (length h)) ++ dumped e)
-                  ∙ ap (λ l. head_bytes One clients_max ++ l) (sym (bytes_at_snoc clients_max at h e));
-              clients = d.has_dumped.spelled.clients;
-              entries = each_snoc IsDumpedEntry h e d.has_dumped.spelled.entries (record { entry = omega arith; commit_fits = omega (arith, late_there, in_range); time_fits = omega (arith, in_range); request = fits.1 });
-              marked = placed at (h ++ e ∷ []);
-            });
-            sent = sends_then d.has_dumped.bytes (mark_before (marks_at at (length h)) ++ dumped e) first written next d.has_dumped.sent (subst (λ bytes. Sent bytes written next) added sent);
+          items = ps ++ p ∷ [];
+          state_is = stepped ∙ ap (λ n. step (changed_profile (marks_at at n) (behind h)) e) kept.count ∙ sym (at_snoc clients_max at h e) ∙ ap behind (sym same);
+          stands = (more, subst Kept (sym same) (kept_snoc h e kept refl (omega arith)));
+          read = read;
+          added = added h e;
+          gives = record {
+            times = times_snoc behind [] ps p gives.times (λ _. timely);
+            spelled = subst (λ (m : List Entry). DumpSpells (bytes ++ added h e) One clients_max m (place_in at m)) (sym same)
+                (spells_more One clients_max h (h ++ e ∷ []) (place_in at h) (place_in at (h ++ e ∷ [])) bytes (added h e) gives.spelled (bytes_at_snoc clients_max at h e)
+                (each_snoc IsDumpedEntry h e gives.spelled.entries (record { entry = omega arith; commit_fits = omega (arith, kept.late, in_range); time_fits = omega (arith, in_range); request = fits.1 }))
+                (placed at (h ++ e ∷ [])));
           };
+          sent = subst (λ n. Sent (mark_before (marks_at at n) ++ dumped e) written next) kept.count sent;
         }
-      where
-        by_profile : T ≡ step (changed_profile (marks_at at (length h)) U) (entry_of U p) → place_in at (h ++ entry_of U p ∷ []) ≡ None → profile_of T.books ≡ One
-        by_profile is none = elim (place_cases at h (entry_of U p)) [
-          | inl stays ↦
-              ap (λ (V : State). profile_of V.books) (is ∙ ap (λ b. step (changed_profile b U) (entry_of U p)) stays.unmarked)
-              ∙ profile_step U (entry_of U p)
-              ∙ ap (λ (V : State). profile_of V.books) (sym d.state)
-              ∙ d.by_one (sym stays.same ∙ none)
-          | inr comes ↦ absurd (let both : Some (length h) ≡ None = sym comes.here ∙ none in cc)
-        ]
 
-  pub dumping_on : (k : ℕ) (S T : State) (before middle after : Input) (first written next : Output) → Dumping k S before middle first written → DumpsOn (Ok true) at S T middle after written next → Dumping (k + 1) T before after first next
-  dumping_on k S T before middle after first written next d n =
+  pub dumping_joins : Joins Reads (DumpsHistory clients_max at) (λ ps. behind (history_of clients_max at ps)) Stands PairAnswered (DumpsPair at)
+  dumping_joins k ps T bytes before middle after written next stands read gives n =
+      let p = n.item in
+      let all = reads_snoc ps p before middle after read (reads_one p middle after n.read.1 n.read.2) in
       elim n.turn [
-        | inl known ↦ dumped_known k S T before middle after first written next d n.pair n.read known.0 known.1 known.2
-        | inr new ↦ dumped_new k S T before middle after first written next d n.pair n.read n.fits new.0 new.1 new.2 new.3
+        | inl known ↦ joins_known k ps T bytes before after written next p stands gives all known.0 known.1 known.2
+        | inr new ↦ joins_new k ps T bytes before after written next p stands gives all n.read.0 new.0 new.1 new.2 new.3
       ]
-
-  -- nothing more was written, however far it moved on
-  pub dumping_passed : (k : ℕ) (S : State) (before middle : Input) (first written passed : Output) → Dumping k S before middle first written → Sent [] written passed → Dumping k S before middle first passed
-  dumping_passed k S before middle first written passed d on = record {
-    pairs = d.pairs;
-    long = d.long;
-    state = d.state;
-    count = d.count;
-    late = d.late;
-    by_one = d.by_one;
-    has_dumped = record {
-      bytes = d.has_dumped.bytes;
-      read = d.has_dumped.read;
-      times = d.has_dumped.times;
-      spelled = d.has_dumped.spelled;
-      sent = subst (λ bytes. Sent bytes first passed) (append-nil d.has_dumped.bytes) (sends_then d.has_dumped.bytes [] first written passed d.has_dumped.sent on);
-    };
-  }
-
-  -- what ends a dump
-
-  -- at the end nothing more was written, and what was written was passed on
-  pub dump_ended : (k n : ℕ) (S T : State) (before middle after : Input) (first written next passed : Output) → Dumping k S before middle first written → n ≡ T.commit → DumpsOn (Ok false) at S T middle after written next → Sent [] next passed → DumpRan clients_max at (Ok n) before after first passed
-  dump_ended k n S T before middle after first written next passed d is ends on =
-      let all = dumping_passed k S before middle first written passed d (subst (λ (o : Output). Sent [] o passed) ends.1.silent on) in
-      inr (record {
-        pairs = all.pairs;
-        middle = middle;
-        made = passed;
-        has_dumped = all.has_dumped;
-        ended = (sym all.count ∙ sym (ap (λ (V : State). V.commit) ends.0) ∙ sym is, record { answer = ends.1.answer; counted = ends.1.counted; silent = refl });
-      })
-
-  stopped : (f : RunFault) (S T : State) (ps : List Pair) (middle after : Input) (written next : Output) → S ≡ after_at One clients_max at (history_of clients_max at ps) → DumpStops f at S T middle after written next → DumpedTo clients_max at (Err f) ps middle after written next
-  stopped (fault.Frame f) S T ps middle after written next is stops = (T, subst (λ (V : State). DumpStops (fault.Frame f) at V T middle after written next) is stops)
-  stopped fault.NoMemory S T ps middle after written next is stops = (T, subst (λ (V : State). DumpStops fault.NoMemory at V T middle after written next) is stops)
-  stopped fault.TimeExhausted S T ps middle after written next is stops = (T, subst (λ (V : State). DumpStops fault.TimeExhausted at V T middle after written next) is stops)
-  stopped fault.TooLong S T ps middle after written next is stops = absurd stops.turn
-
-  pub dump_stopped : (f : RunFault) (k : ℕ) (S T : State) (before middle after : Input) (first written next : Output) → Dumping k S before middle first written → DumpsOn (Err f) at S T middle after written next → DumpRan clients_max at (Err f) before after first next
-  dump_stopped f k S T before middle after first written next d stops = inr (record {
-    pairs = d.pairs;
-    middle = middle;
-    made = written;
-    has_dumped = d.has_dumped;
-    ended = stopped f S T d.pairs middle after written next d.state stops;
-  })
-
-  pub dump_too_long : (k : ℕ) (S : State) (before middle : Input) (first written : Output) → k ≡ 2 ^ 64 - 1 → Dumping k S before middle first written → DumpRan clients_max at (Err fault.TooLong) before middle first written
-  dump_too_long k S before middle first written last d = inr (record {
-    pairs = d.pairs;
-    middle = middle;
-    made = written;
-    has_dumped = d.has_dumped;
-    ended = (d.long ∙ last, refl, sends_none written);
-  })

@@ -6,7 +6,7 @@ use Rattle.tb_records.specs.Messages.{Message, Answer, is_register}
 use Rattle.tb_records.specs.Ordered.{Each}
 use Rattle.tb_sessions.specs.declared.rows.Row.{Row}
 use Rattle.tb_sessions.specs.declared.classes.Class.{Class}
-use Rattle.tb_sessions.specs.declared.classes.Class.TheVariants.{New, Repeat, NoSession, SessionTooLow, NewerSession, Older, Collision, NewerRequest}
+use Rattle.tb_sessions.specs.declared.classes.Class.TheVariants.{Repeat}
 use Rattle.tb_sessions.specs.Judged.{row_of, class_of}
 use Rattle.tb_machine.specs.declared.entries.Entry.{Entry}
 use Rattle.tb_machine.specs.Histories.{is_lawful, IsLegal, after, answer_by, answer_to}
@@ -25,13 +25,7 @@ use Rattle.tb_machine.proofs.LawProofs.{first_reply, each_mid}
 -- only a repeat is answered by a reply
 pub status_reply : (class : Class) (o : Option Row) (r : Message) → (answer_by class o r).status ≡ status.Reply → class ≡ Repeat
 status_reply Repeat o r is = refl
-status_reply New o r is = absurd cc
-status_reply NoSession o r is = absurd cc
-status_reply SessionTooLow o r is = absurd cc
-status_reply NewerSession o r is = absurd cc
-status_reply Older o r is = absurd cc
-status_reply Collision o r is = absurd cc
-status_reply NewerRequest o r is = absurd cc
+status_reply class o r is = absurd cc
 
 module _ (profile : Profile) (clients_max : ℕ) where
   -- an entry's commit number is its place

@@ -3,7 +3,7 @@ use Rattle.std.proofs.Common.{◌≡◌, ℕ, ◌+◌, ◌==◌, Bool, true, fal
 use Rattle.std.specs.List.{list_any}
 use Rattle.std.specs.Option.{option_map_or}
 use Rattle.tb_records.specs.declared.bodies.Body.{Body}
-use Rattle.tb_records.specs.declared.bodies.Body.TheVariants.{Register, CreateAccounts, CreateTransfers, LookupAccounts, LookupTransfers}
+use Rattle.tb_records.specs.declared.bodies.Body.TheVariants.{CreateAccounts, CreateTransfers}
 use Rattle.tb_records.specs.declared.limits.Profile.{Profile}
 use Rattle.tb_records.specs.declared.limits.Profile.TheVariants.{One, Two}
 use Rattle.tb_records.specs.declared.records.Account.{Account}
@@ -133,11 +133,9 @@ rise_blocks B (block ∷ chains) rise = rise_blocks (block_after transfer_events
 -- entries
 
 rise_executed : (B : Books) (body : Body) (time : ℕ) → IdsRise B → IdsRise (executed B body time)
-rise_executed B Register time rise = rise_at B time rise
 rise_executed B (CreateAccounts events) time rise = batch_kept account_events IdsRise rise_account (λ B a code rise. rise) B events time (rise_at B time rise)
 rise_executed B (CreateTransfers events) time rise = rise_blocks (at_time B time) (blocks transfer_events (timed time events)) (rise_at B time rise)
-rise_executed B (LookupAccounts ids) time rise = rise_at B time rise
-rise_executed B (LookupTransfers ids) time rise = rise_at B time rise
+rise_executed B body time rise = rise_at B time rise
 
 rise_from : (S : State) (h : List Entry) → IdsRise S.books → IdsRise (fold step S h).books
 rise_from S [] rise = rise

@@ -22,22 +22,13 @@ abbrev by_lines : (low newer older same other next : Bool) → Class
 by_lines low newer older same other next = first_class NewerRequest ((low, SessionTooLow) ∷ (newer, NewerSession) ∷ (older, Older) ∷ (same, Repeat) ∷ (other, Collision) ∷ (next, New) ∷ [])
 
 new_line : (low newer older same other next : Bool) → by_lines low newer older same other next ≡ New → (low ≡ false) × (newer ≡ false) × (next ≡ true)
-new_line true newer older same other next e = absurd cc
-new_line false true older same other next e = absurd cc
-new_line false false true same other next e = absurd cc
-new_line false false false true other next e = absurd cc
-new_line false false false false true next e = absurd cc
 new_line false false false false false true e = (refl, refl, refl)
-new_line false false false false false false e = absurd cc
+new_line low newer older same other next e = absurd cc
 
 repeat_line : (low newer older same other next : Bool) → by_lines low newer older same other next ≡ Repeat → (low ≡ false) × (newer ≡ false) × (same ≡ true)
-repeat_line true newer older same other next e = absurd cc
-repeat_line false true older same other next e = absurd cc
-repeat_line false false true same other next e = absurd cc
 repeat_line false false false true other next e = (refl, refl, refl)
-repeat_line false false false false true next e = absurd cc
 repeat_line false false false false false true e = absurd cc
-repeat_line false false false false false false e = absurd cc
+repeat_line low newer older same other next e = absurd cc
 
 -- the class of a request whose client has a row: it is a register or not, and the row's last request is a register or not
 abbrev by_row : (register first low newer older same other next : Bool) → Class
@@ -152,9 +143,9 @@ pub record MayCome (S : State) (e : Entry) : Type 0 where
 
 pub may_come : (S : State) (e : Entry) → IsTrue (fits S e) → MayCome S e
 may_come S e legal =
-    let a = both_of (eqb e.commit (S.commit + 1) && leb (least_time S e.request) e.time && leb e.time max_time && is_lawful e.request) (is_new (class_of S.rows e.request)) legal in
-    let b = both_of (eqb e.commit (S.commit + 1) && leb (least_time S e.request) e.time && leb e.time max_time) (is_lawful e.request) a.0 in
-    let d = both_of (eqb e.commit (S.commit + 1) && leb (least_time S e.request) e.time) (leb e.time max_time) b.0 in
+    let a = both_of _ (is_new (class_of S.rows e.request)) legal in
+    let b = both_of _ (is_lawful e.request) a.0 in
+    let d = both_of _ (leb e.time max_time) b.0 in
     let f = both_of (eqb e.commit (S.commit + 1)) (leb (least_time S e.request) e.time) d.0 in
     record {
       commit = eqb-true e.commit (S.commit + 1) f.0;

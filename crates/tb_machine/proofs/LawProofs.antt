@@ -1,10 +1,9 @@
 -- The laws of legal histories, with a mark or none, proved.
-use Rattle.std.proofs.Common.{◌≡◌, ◌≢◌, ℕ, ◌+◌, ◌<◌, ◌≤◌, ◌⊎◌, inl, inr, ⊎_elim, Bool, true, false, not, ◌&&◌, eqb, eq-eqb, eqb-true, List, [], ◌∷◌, ◌++◌, Option, Some, None, is_none, ltb, length-append, append_assoc, append-nil, refl, sym, ap, ◌∙◌, subst, IsTrue, arith}
+use Rattle.std.proofs.Common.{◌≡◌, ◌≢◌, ℕ, ◌+◌, ◌<◌, ◌≤◌, ◌⊎◌, inl, inr, ⊎_elim, Bool, true, false, List, [], ◌∷◌, ◌++◌, Option, Some, None, length-append, append_assoc, append-nil, refl, sym, ap, ◌∙◌, subst, IsTrue, arith}
 use Rattle.tb_records.specs.declared.bodies.Body.{Body}
-use Rattle.tb_records.specs.declared.bodies.Body.TheVariants.{Register, CreateAccounts, CreateTransfers, LookupAccounts, LookupTransfers}
+use Rattle.tb_records.specs.declared.bodies.Body.TheVariants.{Register}
 use Rattle.tb_records.specs.declared.limits.Profile.{Profile}
-use Rattle.tb_records.specs.Messages.{Message, is_register, first_fault, items_max, item_count}
-use Rattle.tb_records.specs.declared.faults.FrameFault.TheVariants.{ClientZero, RegisterNumbers, RequestZero, TooMany}
+use Rattle.tb_records.specs.Messages.{Message, is_register}
 use Rattle.tb_records.specs.Ordered.{Each}
 use Rattle.tb_records.proofs.OneBody.{one_body}
 use Rattle.tb_sessions.specs.declared.rows.Row.{Row}
@@ -17,6 +16,8 @@ use Rattle.tb_machine.specs.MarkedLaws.{next_in, IsStoredWith, OneKeyWith, First
 use Rattle.tb_records.proofs.ByKey.{each-map, each-both}
 use Rattle.tb_sessions.proofs.LaterRows.{each_admitted}
 use Rattle.tb_machine.proofs.Rows.{some_one, row_found, each_found}
+use Rattle.tb_machine.proofs.Lawful.{LawfulNumbers, lawful_numbers}
+use Rattle.tb_machine.proofs.SoundSteps.{lawful_of}
 use Rattle.tb_machine.proofs.Judging.{Follows, new_by, Repeats, repeat_by, out_by}
 use Rattle.tb_machine.proofs.ReachedBy.{StandsBy, ReachedBy, Behind, LeadsTo, leads_split, reached_after, session_register, session_numbered}
 use Rattle.tb_machine.proofs.MarkLeads.{whole_alike, legal_leads, begun, reached_with}
@@ -31,10 +32,7 @@ one_key profile clients_max h legal = one_key_with profile clients_max None h le
 
 register_is : (b : Body) → is_register b ≡ true → b ≡ Register
 register_is Register is = refl
-register_is (CreateAccounts events) is = absurd cc
-register_is (CreateTransfers events) is = absurd cc
-register_is (LookupAccounts ids) is = absurd cc
-register_is (LookupTransfers ids) is = absurd cc
+register_is body is = absurd cc
 
 -- the numbers of a lawful register, and that a lawful request with number 0 is one
 pub record IsRegister (r : Message) : Type 0 where
@@ -42,25 +40,19 @@ pub record IsRegister (r : Message) : Type 0 where
   pub session : r.session ≡ 0
   pub number : r.request ≡ 0
 
-lawful_lines : (client register session number many : Bool)
-    → is_none (first_fault ((client, ClientZero) ∷ (register && not (session && number), RegisterNumbers) ∷ (not register && number, RequestZero) ∷ (many, TooMany) ∷ [])) ≡ true
-    → (register ≡ true → (session ≡ true) × (number ≡ true)) × (number ≡ true → register ≡ true)
-lawful_lines true register session number many e = absurd cc
-lawful_lines false true true true many e = (λ _. (refl, refl), λ _. refl)
-lawful_lines false true true false many e = absurd cc
-lawful_lines false true false number many e = absurd cc
-lawful_lines false false session true many e = absurd cc
-lawful_lines false false session false many e = (λ is. absurd cc, λ is. absurd cc)
-
 module _ (r : Message) (lawful : IsTrue (is_lawful r)) where
-  lines : (is_register r.body ≡ true → (eqb r.session 0 ≡ true) × (eqb r.request 0 ≡ true)) × (eqb r.request 0 ≡ true → is_register r.body ≡ true)
-  lines = lawful_lines (eqb r.client 0) (is_register r.body) (eqb r.session 0) (eqb r.request 0) (ltb items_max (item_count r.body)) lawful
+  numbers : LawfulNumbers r
+  numbers = lawful_numbers r (lawful_of r lawful)
 
   register_of : is_register r.body ≡ true → IsRegister r
-  register_of is = let both = lines.0 is in record { body = register_is r.body is; session = eqb-true r.session 0 both.0; number = eqb-true r.request 0 both.1 }
+  register_of is = record { body = register_is r.body is; session = numbers.session is; number = numbers.register is }
 
   register_by_number : r.request ≡ 0 → IsRegister r
-  register_by_number number = register_of (lines.1 (eq-eqb r.request 0 number))
+  register_by_number number = by (is_register r.body) refl
+    where
+      by : (b : Bool) → is_register r.body ≡ b → IsRegister r
+      by true is = register_of is
+      by false is = absurd (numbers.numbered is number)
 
 message_is : (r s : Message) → r.client ≡ s.client → r.session ≡ s.session → r.request ≡ s.request → r.body ≡ s.body → r ≡ s
 message_is r s client session number body = λ i. record { client = client i; session = session i; request = number i; body = body i }
@@ -115,20 +107,7 @@ first_reply_with profile clients_max mark h r legal lawful class =
     is_stored profile clients_max mark h r lawful by.0 found.0 found.1 by.1 by.2 all.differ
 
 pub first_reply : FirstReply
-first_reply profile clients_max h r legal lawful class =
-    let is = first_reply_with profile clients_max None h r legal lawful class in
-    record {
-      row = is.row;
-      front = is.front;
-      entry = is.entry;
-      rest = is.rest;
-      stored = is.stored;
-      whole = is.whole;
-      numbered = is.numbered;
-      request = is.request;
-      reply = is.reply;
-      alone = is.alone;
-    }
+first_reply profile clients_max h r legal lawful class = first_reply_with profile clients_max None h r legal lawful class
 
 -- a session that was taken out
 

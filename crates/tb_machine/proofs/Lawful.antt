@@ -6,7 +6,7 @@ use Rattle.tb_records.specs.declared.bodies.Body.TheVariants.{Register, CreateAc
 use Rattle.tb_records.specs.declared.bodies.ReplyBody.{ReplyBody}
 use Rattle.tb_records.specs.declared.replies.Status.TheVariants as status
 use Rattle.tb_records.specs.declared.faults.FrameFault.TheVariants as fault
-use Rattle.tb_records.specs.Messages.{Message, operation, count, item_count, items_max, is_register, first_fault, answered, kind_of, kind_for, answer_count, IsLawful, IsRight}
+use Rattle.tb_records.specs.Messages.{Message, operation, item_count, items_max, is_register, first_fault, answered, kind_of, kind_for, answer_count, IsLawful, IsRight}
 use Rattle.tb_ledger.specs.Books.{Books, account_now, transfer_at}
 use Rattle.tb_ledger.specs.Batches.{account_events, transfer_events}
 use Rattle.tb_ledger.proofs.ResultLaws.{length-results}
@@ -24,14 +24,9 @@ pub record LawfulNumbers (r : Message) : Type 0 where
 lines : (client register session number many : Bool)
     → first_fault ((client, fault.ClientZero) ∷ (register && not (session && number), fault.RegisterNumbers) ∷ (not register && number, fault.RequestZero) ∷ (many, fault.TooMany) ∷ []) ≡ None
     → (client ≡ false) × (register ≡ true → (session ≡ true) × (number ≡ true)) × (register ≡ false → number ≡ false) × (many ≡ false)
-lines true register session number many e = absurd cc
-lines false true true true true e = absurd cc
 lines false true true true false e = (refl, λ _. (refl, refl), λ is. absurd cc, refl)
-lines false true true false many e = absurd cc
-lines false true false number many e = absurd cc
-lines false false session true many e = absurd cc
-lines false false session false true e = absurd cc
 lines false false session false false e = (refl, λ is. absurd cc, λ _. refl, refl)
+lines client register session number many e = absurd cc
 
 pub lawful_numbers : (r : Message) → IsLawful r → LawfulNumbers r
 lawful_numbers r lawful =
@@ -65,19 +60,13 @@ right_answer client session request commit body answer some began register numbe
 
     by : (body : Body) → (is_register body ≡ true → (request ≡ 0) × (session ≡ commit)) → (is_register body ≡ false → (request ≢ 0) × (session < commit)) → kind_of answer ≡ kind_for (operation body) → IsRight (answered client session request (operation body) status.Reply commit answer)
     by Register register numbered kind = let is = register refl in rw (some_client, eq-eqb request 0 is.0, some_session, eq-eqb session commit is.1, kind, not_many) refl
-    by (CreateAccounts events) register numbered kind = let is = numbered refl in rw (some_client, ne_eqb request 0 is.0, some_session, lt-ltb session commit is.1, kind, not_many) refl
-    by (CreateTransfers events) register numbered kind = let is = numbered refl in rw (some_client, ne_eqb request 0 is.0, some_session, lt-ltb session commit is.1, kind, not_many) refl
-    by (LookupAccounts ids) register numbered kind = let is = numbered refl in rw (some_client, ne_eqb request 0 is.0, some_session, lt-ltb session commit is.1, kind, not_many) refl
-    by (LookupTransfers ids) register numbered kind = let is = numbered refl in rw (some_client, ne_eqb request 0 is.0, some_session, lt-ltb session commit is.1, kind, not_many) refl
+    by body register numbered kind = let is = numbered refl in rw (some_client, ne_eqb request 0 is.0, some_session, lt-ltb session commit is.1, kind, not_many) refl
 
 -- what is found has the operation's kind, and no more items than were asked for
 
 pub found_kind : (B : Books) (body : Body) (time : ℕ) → kind_of (found B body time) ≡ kind_for (operation body)
 found_kind B Register time = refl
-found_kind B (CreateAccounts events) time = refl
-found_kind B (CreateTransfers events) time = refl
-found_kind B (LookupAccounts ids) time = refl
-found_kind B (LookupTransfers ids) time = refl
+found_kind B body time = refl
 
 length-filter_map : {X Y : Type 0} (h : X → Option Y) (xs : List X) → length (filter_map h xs) ≤ length xs
 length-filter_map h [] = omega arith
@@ -96,8 +85,6 @@ found_few B (LookupTransfers ids) time = length-filter_map (transfer_at (at_time
 
 -- an entry's time is the time of the books after it
 pub executed_time : (B : Books) (body : Body) (time : ℕ) → (executed B body time).time ≡ time
-executed_time B Register time = refl
 executed_time B (CreateAccounts events) time = time_after_accounts B events time
 executed_time B (CreateTransfers events) time = time_after_transfers B events time
-executed_time B (LookupAccounts ids) time = refl
-executed_time B (LookupTransfers ids) time = refl
+executed_time B body time = refl

@@ -20,20 +20,22 @@ pub record Alike (S T : State) : Type 0 where
 alike_same : (S T : State) → S ≡ T → Alike S T
 alike_same S T is = record { rows = ap (λ (S : State). S.rows) is; commit = ap (λ (S : State). S.commit) is }
 
-module _ (profile : Profile) (clients_max : ℕ) where
-  -- without a mark
-  none_leads : (p es : List Entry) → LegalFrom (after profile clients_max p) es → LeadsTo (next_in profile clients_max None) p es
-  none_leads p [] legal = tt
-  none_leads p (e ∷ es) legal =
-      let is : after profile clients_max (p ++ e ∷ []) ≡ step (after profile clients_max p) e = after_snoc profile clients_max p e in (
-        record {
-          may = may_come (after profile clients_max p) e legal.0;
-          rows = ap (λ (S : State). S.rows) is;
-          commit = ap (λ (S : State). S.commit) is;
-        },
-        none_leads (p ++ e ∷ []) es (subst (λ (S : State). LegalFrom S es) (sym is) legal.1),
-      )
+-- entries lead on where each step leads from such a prefix to such a prefix
+leads_by : (state : List Entry → State) (Covers : List Entry → Type 0)
+    → ((p : List Entry) (e : Entry) → Covers p → Covers (p ++ e ∷ []) × (state (p ++ e ∷ []) ≡ step (state p) e))
+    → (p es : List Entry) → Covers p → LegalFrom (state p) es → LeadsTo state p es
+leads_by state Covers on p [] covers legal = tt
+leads_by state Covers on p (e ∷ es) covers legal =
+    let (more, is) = on p e covers in (
+      record {
+        may = may_come (state p) e legal.0;
+        rows = ap (λ (S : State). S.rows) is;
+        commit = ap (λ (S : State). S.commit) is;
+      },
+      leads_by state Covers on (p ++ e ∷ []) es more (subst (λ (S : State). LegalFrom S es) (sym is) legal.1),
+    )
 
+module _ (profile : Profile) (clients_max : ℕ) where
   module _ (n : ℕ) where
     abbrev N : List Entry → State
     N = next_in profile clients_max (Some n)
@@ -85,17 +87,12 @@ module _ (profile : Profile) (clients_max : ℕ) where
 
     -- entries behind the mark
     behind_leads : (p es : List Entry) → n ≤ length p → LegalFrom (N p) es → LeadsTo N p es
-    behind_leads p [] within legal = tt
-    behind_leads p (e ∷ es) within legal =
-        let more : n ≤ length (p ++ e ∷ []) = omega (arith, within, length-append p (e ∷ [])) in
-        let is : N (p ++ e ∷ []) ≡ step (N p) e = late (p ++ e ∷ []) more ∙ with_snoc_in profile clients_max n p e within ∙ ap (λ (S : State). step S e) (sym (late p within)) in (
-          record {
-            may = may_come (N p) e legal.0;
-            rows = ap (λ (S : State). S.rows) is;
-            commit = ap (λ (S : State). S.commit) is;
-          },
-          behind_leads (p ++ e ∷ []) es more (subst (λ (S : State). LegalFrom S es) (sym is) legal.1),
-        )
+    behind_leads p es within legal = leads_by N (λ q. n ≤ length q) on p es within legal
+      where
+        on : (q : List Entry) (e : Entry) → n ≤ length q → (n ≤ length (q ++ e ∷ [])) × (N (q ++ e ∷ []) ≡ step (N q) e)
+        on q e within =
+            let more : n ≤ length (q ++ e ∷ []) = omega (arith, within, length-append q (e ∷ [])) in
+            (more, late (q ++ e ∷ []) more ∙ with_snoc_in profile clients_max n q e within ∙ ap (λ (S : State). step S e) (sym (late q within)))
 
     mark_leads : (h : List Entry) → IsLegal profile clients_max (take n h) → LegalFrom (marked_after profile clients_max (take n h)) (drop n h) → LeadsTo N [] h
     mark_leads h front behind =
@@ -114,7 +111,7 @@ module _ (profile : Profile) (clients_max : ℕ) where
     past h le = λ i. fold step (marked_after profile clients_max (take_all n h le i)) (drop_all n h le i)
 
   pub legal_leads : (mark : Option ℕ) (h : List Entry) → IsLegalWith profile clients_max mark h → LeadsTo (next_in profile clients_max mark) [] h
-  legal_leads None h legal = none_leads [] h legal
+  legal_leads None h legal = leads_by (after profile clients_max) (λ p. Unit {0}) (λ p e covers. (tt, after_snoc profile clients_max p e)) [] h tt legal
   legal_leads (Some n) h legal = mark_leads n h legal.0 legal.1
 
   -- at the end of a history

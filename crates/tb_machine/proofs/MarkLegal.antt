@@ -1,5 +1,5 @@
 -- Histories that are legal with a mark: one entry more, a machine that goes over, what is accepted and what a dump wrote.
-use Rattle.std.proofs.Common.{◌≡◌, ℕ, ◌+◌, ◌<◌, ◌≤◌, Bool, true, false, cond, ltb, List, [], ◌∷◌, ◌++◌, length, is_none, Option, Some, None, Result, Ok, Err, refl, sym, ap, ◌∙◌, subst, IsTrue, arith, length-append}
+use Rattle.std.proofs.Common.{◌≡◌, ℕ, ◌+◌, ◌<◌, ◌≤◌, Bool, true, false, cond, ltb, List, [], ◌∷◌, ◌++◌, length, is_none, leb-true, Option, Some, None, Result, Ok, Err, refl, sym, ap, ◌∙◌, subst, IsTrue, arith, length-append}
 use Rattle.std.proofs.lemmas.Bool.Decides.{nat_tests}
 use Rattle.tb_records.specs.declared.limits.Profile.{Profile}
 use Rattle.tb_records.specs.declared.limits.Profile.TheVariants.{One}
@@ -8,16 +8,17 @@ use Rattle.tb_machine.specs.declared.entries.Entry.{Entry}
 use Rattle.tb_machine.specs.declared.restoring.RestoreFault.{RestoreFault}
 use Rattle.tb_machine.specs.declared.restoring.Unfit.{Unfit}
 use Rattle.tb_machine.specs.declared.restoring.Unfit.TheVariants.{Commit, Time, NotNew, NoMemory}
-use Rattle.tb_machine.specs.Histories.{State, is_lawful, fits, after}
-use Rattle.tb_machine.specs.Scripts.{Pair, entry_of, is_entered}
+use Rattle.tb_ledger.specs.Verdicts.{max_time}
+use Rattle.tb_sessions.specs.Judged.{class_of}
+use Rattle.tb_machine.specs.Histories.{State, time_of, is_new, is_lawful, fits, after}
+use Rattle.tb_machine.specs.Scripts.{Pair, entry_of, has_time, is_entered, grown}
 use Rattle.tb_machine.specs.ScriptLaws.{AreLawful}
-use Rattle.tb_machine.specs.Dumps.{IsPlace, IsDumpedEntry, after_with, IsLegalWith, place_in, after_at, with_pair_at, accepted_at}
+use Rattle.tb_machine.specs.Dumps.{IsPlace, IsDumpedEntry, after_with, IsLegalWith, place_in, after_at, accepted_at}
 use Rattle.tb_machine.specs.MarkedLaws.{next_in, NextIsLegalWith, MovedIsLegalWith, AcceptedIsLegalWith, DumpedIsLegal}
 use Rattle.tb_machine.specs.Restoring.{cause_of, IsCause, IsBarred, GoesOn, Restores, RestoresHistory}
-use Rattle.tb_machine.proofs.Judging.{comes}
+use Rattle.tb_machine.proofs.Judging.{both_of, new_of, MayCome, comes}
 use Rattle.tb_machine.proofs.Legal.{legal_snoc}
-use Rattle.tb_machine.proofs.LawProofs.{each_mid}
-use Rattle.tb_machine.proofs.Accepted.{entry_comes}
+use Rattle.tb_machine.proofs.DumpLaws.{each_split}
 use Rattle.tb_machine.proofs.FirstCause.{passes, no_cause}
 use Rattle.tb_machine.proofs.Marked.{with_snoc, legal_snoc_in, legal_with_snoc, legal_marked, with_marked}
 use Rattle.tb_machine.proofs.MarkLeads.{next_whole, comes_next, reached_with, whole_alike}
@@ -27,6 +28,18 @@ next_is_legal profile clients_max mark h e place legal next = (legal_with_snoc p
 
 pub moved_is_legal : MovedIsLegalWith
 moved_is_legal profile clients_max h legal = (legal_marked profile clients_max h legal, with_marked profile clients_max h)
+
+-- a pair that is entered makes an entry that may come next
+entry_comes : (S : State) (p : Pair) → IsTrue (is_lawful p.1) → is_entered S p ≡ true → MayCome S (entry_of S p)
+entry_comes S p lawful entered =
+    let parts = both_of (is_new (class_of S.rows p.1)) (has_time S p) entered in
+    record {
+      commit = refl;
+      late_enough = omega arith;
+      in_range = leb-true (time_of S p.0 p.1) max_time parts.1;
+      lawful = lawful;
+      new = new_of (class_of S.rows p.1) parts.0;
+    }
 
 -- an entry that is accepted, with the mark before it where it stands there
 module _ (profile : Profile) (clients_max : ℕ) where
@@ -51,8 +64,8 @@ module _ (profile : Profile) (clients_max : ℕ) where
       by false is false more legal next = legal_snoc profile clients_max h e legal next
 
   module _ (at : Option ℕ) where
-    legal_with_at : (h : List Entry) (p : Pair) → IsLegalWith profile clients_max (place_in at h) h → (is_entered (after_at profile clients_max at h) p ≡ true → IsTrue (is_lawful p.1))
-        → IsLegalWith profile clients_max (place_in at (with_pair_at profile clients_max at h p)) (with_pair_at profile clients_max at h p)
+    pub legal_with_at : (h : List Entry) (p : Pair) → IsLegalWith profile clients_max (place_in at h) h → (is_entered (after_at profile clients_max at h) p ≡ true → IsTrue (is_lawful p.1))
+        → IsLegalWith profile clients_max (place_in at (grown (after_at profile clients_max at) h p)) (grown (after_at profile clients_max at) h p)
     legal_with_at h p legal lawful = parts (is_entered (after_at profile clients_max at h) p) refl
       where
         parts : (b : Bool) → is_entered (after_at profile clients_max at h) p ≡ b
@@ -63,29 +76,25 @@ module _ (profile : Profile) (clients_max : ℕ) where
     legal_pairs : (h : List Entry) (ps : List Pair) → IsLegalWith profile clients_max (place_in at h) h → AreLawful ps
         → IsLegalWith profile clients_max (place_in at (accepted_at profile clients_max at h ps)) (accepted_at profile clients_max at h ps)
     legal_pairs h [] legal lawful = legal
-    legal_pairs h (p ∷ ps) legal lawful = legal_pairs (with_pair_at profile clients_max at h p) ps (legal_with_at h p legal (λ _. lawful.0)) lawful.1
+    legal_pairs h (p ∷ ps) legal lawful = legal_pairs (grown (after_at profile clients_max at) h p) ps (legal_with_at h p legal (λ _. lawful.0)) lawful.1
 
     -- what holds of each entry that is accepted holds of those before
     each_before : (P : Entry → Type 0) (b : Bool) (h : List Entry) (e : Entry) → Each P (cond b (h ++ e ∷ []) h) → Each P h × (b ≡ true → P e)
-    each_before P true h e each = (front h each, λ _. each_mid P h e [] each)
-      where
-        front : (h : List Entry) → Each P (h ++ e ∷ []) → Each P h
-        front [] each = tt
-        front (x ∷ xs) each = (each.0, front xs each.1)
+    each_before P true h e each = let parts = each_split P h (e ∷ []) each in (parts.0, λ _. parts.1.0)
     each_before P false h e each = (each, λ is. absurd cc)
 
     each_accepted : (P : Entry → Type 0) (h : List Entry) (ps : List Pair) → Each P (accepted_at profile clients_max at h ps) → Each P h
     each_accepted P h [] each = each
     each_accepted P h (p ∷ ps) each =
-        (each_before P (is_entered (after_at profile clients_max at h) p) h (entry_of (after_at profile clients_max at h) p) (each_accepted P (with_pair_at profile clients_max at h p) ps each)).0
+        (each_before P (is_entered (after_at profile clients_max at h) p) h (entry_of (after_at profile clients_max at h) p) (each_accepted P (grown (after_at profile clients_max at) h p) ps each)).0
 
     legal_dumped : (h : List Entry) (ps : List Pair) → IsLegalWith profile clients_max (place_in at h) h → Each IsDumpedEntry (accepted_at profile clients_max at h ps)
         → IsLegalWith profile clients_max (place_in at (accepted_at profile clients_max at h ps)) (accepted_at profile clients_max at h ps)
     legal_dumped h [] legal each = legal
     legal_dumped h (p ∷ ps) legal each =
-        let here = each_accepted IsDumpedEntry (with_pair_at profile clients_max at h p) ps each in
+        let here = each_accepted IsDumpedEntry (grown (after_at profile clients_max at) h p) ps each in
         let last = (each_before IsDumpedEntry (is_entered (after_at profile clients_max at h) p) h (entry_of (after_at profile clients_max at h) p) here).1 in
-        legal_dumped (with_pair_at profile clients_max at h p) ps (legal_with_at h p legal (λ is. ap is_none (last is).request.lawful)) each
+        legal_dumped (grown (after_at profile clients_max at) h p) ps (legal_with_at h p legal (λ is. ap is_none (last is).request.lawful)) each
 
     nothing_legal : IsLegalWith profile clients_max (place_in at []) []
     nothing_legal = by at
@@ -102,7 +111,7 @@ pub accepted_is_legal_with : AcceptedIsLegalWith
 accepted_is_legal_with profile clients_max at ps lawful = legal_pairs profile clients_max at [] ps (nothing_legal profile clients_max at) lawful
 
 pub dumped_is_legal : DumpedIsLegal
-dumped_is_legal clients_max at ps before after start written has = legal_dumped One clients_max at [] ps (nothing_legal One clients_max at) has.spelled.entries
+dumped_is_legal clients_max at ps before after start written has = legal_dumped One clients_max at [] ps (nothing_legal One clients_max at) has.gives.spelled.entries
 
 -- an entry that fails a test goes on no legal history
 module _ (profile : Profile) (clients_max : ℕ) (mark : Option ℕ) (h : List Entry) (e : Entry) (place : IsPlace profile mark h) where

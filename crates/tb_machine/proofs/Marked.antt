@@ -3,25 +3,24 @@ use Rattle.std.proofs.Common.{◌≡◌, ℕ, ◌≤◌, List, [], ◌∷◌, �
 use Rattle.std.proofs.lemmas.Grind.{flat_map-append}
 use Rattle.std.proofs.lemmas.List.{take-append-le, drop-append-le, take_all, drop_all}
 use Rattle.tb_records.specs.declared.bodies.Body.{Body}
-use Rattle.tb_records.specs.declared.bodies.Body.TheVariants.{Register, CreateAccounts, CreateTransfers, LookupAccounts, LookupTransfers}
+use Rattle.tb_records.specs.declared.bodies.Body.TheVariants.{CreateAccounts, CreateTransfers}
 use Rattle.tb_records.specs.declared.limits.Profile.{Profile}
 use Rattle.tb_records.specs.declared.limits.Profile.TheVariants.{One, Two}
-use Rattle.tb_records.specs.DumpBytes.{mark_bytes}
+use Rattle.tb_records.specs.DumpBytes.{head_bytes, mark_bytes}
+use Rattle.tb_records.specs.Ordered.{Each}
 use Rattle.tb_ledger.specs.Books.{Books, profile_of}
 use Rattle.tb_ledger.proofs.Profiles.{profile_accounts, profile_transfers}
 use Rattle.tb_machine.specs.declared.entries.Entry.{Entry}
 use Rattle.tb_machine.specs.Histories.{State, start, executed, fits, reply_at, step, to_two, LegalFrom}
-use Rattle.tb_machine.specs.Dumps.{dumped, history_bytes, IsPlace, replies_along, marked_after, after_with, IsLegalWith, replies_with}
+use Rattle.tb_machine.specs.Dumps.{dumped, history_bytes, IsDumpedEntry, IsPlace, DumpSpells, replies_along, marked_after, after_with, IsLegalWith, replies_with}
 use Rattle.tb_machine.proofs.Legal.{fold_snoc, legal_join}
 
 -- the profile that a state goes by
 
 profile_executed : (B : Books) (body : Body) (time : ℕ) → profile_of (executed B body time) ≡ profile_of B
-profile_executed B Register time = refl
 profile_executed B (CreateAccounts events) time = profile_accounts B events time
 profile_executed B (CreateTransfers events) time = profile_transfers B events time
-profile_executed B (LookupAccounts ids) time = refl
-profile_executed B (LookupTransfers ids) time = refl
+profile_executed B body time = refl
 
 pub profile_step : (S : State) (e : Entry) → profile_of (step S e).books ≡ profile_of S.books
 profile_step S e = profile_executed S.books e.request.body e.time
@@ -58,6 +57,16 @@ bytes_snoc profile (Some n) h e place =
 pub place_snoc : (profile : Profile) (place : Option ℕ) (h : List Entry) (e : Entry) → IsPlace profile place h → IsPlace profile place (h ++ e ∷ [])
 place_snoc profile None h e place = tt
 place_snoc profile (Some n) h e place = (place.0, omega (arith, place.1, length-append h (e ∷ [])))
+
+-- a dump whose history spells so many bytes more
+pub spells_more : (profile : Profile) (clients_max : ℕ) (h m : List Entry) (place other : Option ℕ) (bytes more : List ℕ) → DumpSpells bytes profile clients_max h place
+    → history_bytes other m ≡ history_bytes place h ++ more → Each IsDumpedEntry m → IsPlace profile other m → DumpSpells (bytes ++ more) profile clients_max m other
+spells_more profile clients_max h m place other bytes more spells is entries marked = record {
+  bytes_are = ap (λ l. l ++ more) spells.bytes_are ∙ append_assoc (head_bytes profile clients_max) (history_bytes place h) more ∙ ap (λ l. head_bytes profile clients_max ++ l) (sym is);
+  clients = spells.clients;
+  entries = entries;
+  marked = marked;
+}
 
 module _ (profile : Profile) (clients_max : ℕ) where
   pub with_snoc_in : (n : ℕ) (h : List Entry) (e : Entry) → n ≤ length h → after_with profile clients_max (Some n) (h ++ e ∷ []) ≡ step (after_with profile clients_max (Some n) h) e

@@ -1,7 +1,7 @@
 -- The replies after a legal history of requests have frames, and their bytes are those of no other replies.
-use Rattle.std.proofs.Common.{◌≡◌, ◌≢◌, ℕ, ◌^◌, ◌<◌, ◌≤◌, Bool, true, false, cond, eqb, eq-eqb, ne_eqb, List, [], ◌∷◌, ◌++◌, length, flat_map, take, drop, fold, is_none, Option, Some, None, refl, sym, ap, ◌∙◌, subst, IsTrue, arith, length-append, take-append-drop}
+use Rattle.std.proofs.Common.{◌≡◌, ◌≢◌, ℕ, ◌^◌, ◌<◌, ◌≤◌, Bool, true, false, cond, eqb, eq-eqb, ne_eqb, List, [], ◌∷◌, ◌++◌, length, flat_map, take, drop, fold, is_none, Option, Some, None, inl, inr, refl, sym, ap, ◌∙◌, subst, IsTrue, arith, length-append, take-append-drop}
 use Rattle.tb_records.specs.declared.bodies.Body.{Body}
-use Rattle.tb_records.specs.declared.bodies.Body.TheVariants.{Register, CreateAccounts, CreateTransfers, LookupAccounts, LookupTransfers}
+use Rattle.tb_records.specs.declared.bodies.Body.TheVariants.{Register}
 use Rattle.tb_records.specs.declared.bodies.ReplyBody.TheVariants.{Empty}
 use Rattle.tb_records.specs.declared.limits.Profile.{Profile}
 use Rattle.tb_records.specs.declared.limits.Profile.TheVariants.{One, Two}
@@ -16,13 +16,13 @@ use Rattle.tb_ledger.specs.Sound.{Sound}
 use Rattle.tb_ledger.proofs.SoundLaws.{sound_empty, sound_failed}
 use Rattle.tb_sessions.specs.declared.rows.Row.{Row}
 use Rattle.tb_sessions.specs.declared.classes.Class.{Class}
-use Rattle.tb_sessions.specs.declared.classes.Class.TheVariants.{New, Repeat, NoSession, SessionTooLow, NewerSession, Older, Collision, NewerRequest}
+use Rattle.tb_sessions.specs.declared.classes.Class.TheVariants.{Repeat}
 use Rattle.tb_sessions.specs.Judged.{row_of, class_of}
 use Rattle.tb_sessions.proofs.LaterRows.{each_admitted}
 use Rattle.tb_machine.specs.declared.entries.Entry.{Entry}
 use Rattle.tb_machine.specs.Histories.{State, start, fits, row_at, reply_at, step, to_two, LegalFrom, IsLegal, after, status_of, refusal, answer_by, answer_to}
-use Rattle.tb_machine.specs.Dumps.{replies_along, marked_after, after_with, IsLegalWith, after_at, with_pair_at, accepted_at}
-use Rattle.tb_machine.specs.Scripts.{Pair, entry_of, is_entered, with_pair, accepted, replies_from, replies_to}
+use Rattle.tb_machine.specs.Dumps.{replies_along, marked_after, after_with, IsLegalWith, after_at, accepted_at}
+use Rattle.tb_machine.specs.Scripts.{Pair, entry_of, is_entered, grown, with_pair, replies_from, replies_to}
 use Rattle.tb_machine.specs.Sound.{IsSound}
 use Rattle.tb_machine.specs.ReplyLaws.{AreRequests, HoldRequests, RepliesFit, RepliesReadBack, AnswersFit, GivenFit, AcceptedAreRequests}
 use Rattle.tb_machine.proofs.Rows.{each_snoc, row_found}
@@ -30,7 +30,7 @@ use Rattle.tb_machine.proofs.Judging.{MayCome, may_come, repeat_by}
 use Rattle.tb_machine.proofs.Lawful.{LawfulNumbers, lawful_numbers}
 use Rattle.tb_machine.proofs.SoundBooks.{sound_executed}
 use Rattle.tb_machine.proofs.SoundSteps.{right_reply, sound_step}
-use Rattle.tb_machine.proofs.Turns.{answer_refused}
+use Rattle.tb_machine.proofs.Turns.{answer_refused, repeated_or_not}
 use Rattle.tb_machine.proofs.Accepted.{legal_with}
 use Rattle.tb_machine.proofs.DumpLaws.{each_split}
 use Rattle.tb_machine.proofs.CodesFit.{each_append}
@@ -135,7 +135,7 @@ given_fit profile clients_max (Some n) h legal are =
 
 -- a refusal
 
-refusal_right : (s : Status) (r : Message) → eqb (status_code s) 0 ≡ false → LawfulNumbers r → IsRight (refusal s r)
+pub refusal_right : (s : Status) (r : Message) → eqb (status_code s) 0 ≡ false → LawfulNumbers r → IsRight (refusal s r)
 refusal_right s r refused lawful = by r.body lawful.register lawful.session lawful.numbered
   where
     some_client : eqb r.client 0 ≡ false
@@ -144,10 +144,7 @@ refusal_right s r refused lawful = by r.body lawful.register lawful.session lawf
     by : (body : Body) → (is_register body ≡ true → r.request ≡ 0) → (is_register body ≡ true → r.session ≡ 0) → (is_register body ≡ false → r.request ≢ 0)
         → IsRight (answered r.client r.session r.request (operation body) s 0 Empty)
     by Register number session other = rw (some_client, refused, eq-eqb r.request 0 (number refl), eq-eqb r.session 0 (session refl)) refl
-    by (CreateAccounts events) number session other = rw (some_client, refused, ne_eqb r.request 0 (other refl)) refl
-    by (CreateTransfers events) number session other = rw (some_client, refused, ne_eqb r.request 0 (other refl)) refl
-    by (LookupAccounts ids) number session other = rw (some_client, refused, ne_eqb r.request 0 (other refl)) refl
-    by (LookupTransfers ids) number session other = rw (some_client, refused, ne_eqb r.request 0 (other refl)) refl
+    by body number session other = rw (some_client, refused, ne_eqb r.request 0 (other refl)) refl
 
 refusal_fits : (s : Status) (r : Message) → eqb (status_code s) 0 ≡ false → IsRequest r → IsReply (refusal s r)
 refusal_fits s r refused is = record {
@@ -168,23 +165,11 @@ module _ (S : State) (r : Message) (all : Fitting S) (is : IsRequest r) where
       subst IsReply (sym (ap (λ (k : Class). answer_by k (row_of S.rows r.client) r) class ∙ ap (λ (o : Option Row). answer_by Repeat o r) by.1))
       (row_found (λ (row : Row). IsReply row.reply) S.rows r.client by.0 all.replies by.1).0
 
-  not_given : (class : Class) → class_of S.rows r ≡ class → class ≢ Repeat → eqb (status_code (status_of class)) 0 ≡ false → IsReply (answer_to S r)
-  not_given class e other refused =
-      subst IsReply (sym (ap (λ (k : Class). answer_by k (row_of S.rows r.client) r) e ∙ answer_refused class (row_of S.rows r.client) r other))
-      (refusal_fits (status_of class) r refused is)
-
   answer_fits : IsReply (answer_to S r)
-  answer_fits = by (class_of S.rows r) refl
-    where
-      by : (class : Class) → class_of S.rows r ≡ class → IsReply (answer_to S r)
-      by Repeat e = repeated e
-      by New e = not_given New e (λ same. cc) refl
-      by NoSession e = not_given NoSession e (λ same. cc) refl
-      by SessionTooLow e = not_given SessionTooLow e (λ same. cc) refl
-      by NewerSession e = not_given NewerSession e (λ same. cc) refl
-      by Older e = not_given Older e (λ same. cc) refl
-      by Collision e = not_given Collision e (λ same. cc) refl
-      by NewerRequest e = not_given NewerRequest e (λ same. cc) refl
+  answer_fits = elim (repeated_or_not (class_of S.rows r)) [
+    | inl class ↦ repeated class
+    | inr other ↦ subst IsReply (sym (answer_refused (class_of S.rows r) (row_of S.rows r.client) r other.0)) (refusal_fits (status_of (class_of S.rows r)) r other.1 is)
+  ]
 
 pub answers_fit : AnswersFit
 answers_fit profile clients_max mark h r legal are is = answer_fits (after_with profile clients_max mark h) r (fitting_with profile clients_max mark h legal are) is
@@ -196,31 +181,24 @@ held_by true h e are is = each_snoc (λ (e : Entry). IsRequest e.request) h e ar
 held_by false h e are is = are
 
 module _ (profile : Profile) (clients_max : ℕ) where
-  held_with : (h : List Entry) (p : Pair) → HoldRequests h → IsRequest p.1 → HoldRequests (with_pair profile clients_max h p)
-  held_with h p are is = held_by (is_entered (after profile clients_max h) p) h (entry_of (after profile clients_max h) p) are is
-
-  held_accepted : (h : List Entry) (ps : List Pair) → HoldRequests h → AreRequests ps → HoldRequests (accepted profile clients_max h ps)
-  held_accepted h [] are requests = are
-  held_accepted h (p ∷ ps) are requests = held_accepted (with_pair profile clients_max h p) ps (held_with h p are requests.0) requests.1
-
   held_at : (at : Option ℕ) (h : List Entry) (ps : List Pair) → HoldRequests h → AreRequests ps → HoldRequests (accepted_at profile clients_max at h ps)
   held_at at h [] are requests = are
   held_at at h (p ∷ ps) are requests =
       let S = after_at profile clients_max at h in
-      held_at at (with_pair_at profile clients_max at h p) ps (held_by (is_entered S p) h (entry_of S p) are requests.0) requests.1
+      held_at at (grown (after_at profile clients_max at) h p) ps (held_by (is_entered S p) h (entry_of S p) are requests.0) requests.1
 
   from_fit : (h : List Entry) (ps : List Pair) → IsLegal profile clients_max h → HoldRequests h → AreRequests ps → Each IsReply (replies_from profile clients_max h ps)
   from_fit h [] legal are requests = tt
   from_fit h (p ∷ ps) legal are requests =
       let m = with_pair profile clients_max h p in
       let more = legal_with profile clients_max h p legal (ap is_none requests.0.lawful) in
-      let holds = held_with h p are requests.0 in (
+      let holds = held_by (is_entered (after profile clients_max h) p) h (entry_of (after profile clients_max h) p) are requests.0 in (
         answer_fits (after profile clients_max m) p.1 (fitting_plain profile clients_max m more holds) requests.0,
         from_fit m ps more holds requests.1,
       )
 
 pub accepted_are_requests : AcceptedAreRequests
-accepted_are_requests profile clients_max at ps requests = (held_accepted profile clients_max [] ps tt requests, held_at profile clients_max at [] ps tt requests)
+accepted_are_requests profile clients_max at ps requests = (held_at profile clients_max None [] ps tt requests, held_at profile clients_max at [] ps tt requests)
 
 pub replies_fit : RepliesFit
 replies_fit profile clients_max ps requests = from_fit profile clients_max [] ps tt tt requests

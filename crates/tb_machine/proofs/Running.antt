@@ -1,28 +1,20 @@
--- A whole run: the pairs so far, and one more.
-use Rattle.std.proofs.Common.{◌≡◌, ℕ, ◌+◌, Bool, true, false, cond, List, [], ◌∷◌, ◌++◌, length, flat_map, Option, Some, None, Ok, Err, inl, inr, ◌-◌, ◌^◌, refl, sym, ap, ◌∙◌, subst, arith, append_assoc, append-nil, length-append}
+-- A run, a dump and a replay: what was read and written so far, and one item more. The pairs of a run.
+use Rattle.std.proofs.Common.{◌≡◌, ℕ, ◌+◌, Bool, true, false, cond, List, [], ◌∷◌, ◌++◌, length, fold, flat_map, Option, Some, None, Result, Ok, Err, inl, inr, refl, sym, ap, ◌∙◌, subst, arith, append_assoc, append-nil, length-append}
 use Rattle.std.proofs.lemmas.Grind.{flat_map-append}
 use Rattle.std.specs.Io.KnownBytes.{Appends}
 use Rattle.tb_records.specs.declared.limits.Profile.{Profile}
 use Rattle.tb_records.specs.Ordered.{Each}
 use Rattle.tb_records.specs.ReplyFrames.{reply_bytes, IsReply}
-use Rattle.tb_records.specs.Inputs.{timed_bytes, TimedAnswers}
+use Rattle.tb_records.specs.Inputs.{timed_bytes, IsTimed, TimedAnswers}
 use Rattle.tb_records.specs.Transport.{Input, Output, Sent}
 use Rattle.tb_machine.specs.declared.entries.Entry.{Entry}
-use Rattle.tb_machine.specs.declared.serving.RunFault.{RunFault}
 use Rattle.tb_machine.specs.declared.serving.RunFault.TheVariants as fault
 use Rattle.tb_machine.specs.Histories.{State, start, step, after, answer_to}
-use Rattle.tb_machine.specs.Scripts.{Pair, entry_of, is_entered, after_pair, with_pair, accepted, replies_from, replies_to}
-use Rattle.tb_machine.specs.Runs.{IsPair, Spell, Reads, IsTimely, answer_bytes, AnswersPair, HasTimes, state_after, Served, EndsBy, Ran}
-use Rattle.tb_machine.specs.Serving.{RunsOn}
+use Rattle.tb_machine.specs.Scripts.{Pair, entry_of, is_entered, after_pair, grown, with_pair, accepted, replies_from, replies_to}
+use Rattle.tb_machine.specs.Worked.{Next, GoesOn, EndsBy, Done, Worked}
+use Rattle.tb_machine.specs.Runs.{Spell, Reads, IsTimely, answer_bytes, AnswersPair, PairAnswered, HasTimes, state_after, Replies, Ran}
 use Rattle.tb_machine.proofs.Rows.{each_snoc}
 use Rattle.tb_machine.proofs.Legal.{fold_snoc, after_snoc}
-
--- a pair that was read, and a fault in answering it
-pub served_fault : (f : RunFault) (S T : State) (p : Pair) (before after : Input) (start written : Output) → Reads (p ∷ []) before after → AnswersPair (Err f) S T p start written → RunsOn (Err f) S T before after start written
-served_fault (fault.Frame f) S T p before after start written read turn = inr (record { pair = p; read = read; turn = turn })
-served_fault fault.NoMemory S T p before after start written read turn = record { pair = p; read = read; turn = turn }
-served_fault fault.TimeExhausted S T p before after start written read turn = record { pair = p; read = read; turn = turn }
-served_fault fault.TooLong S T p before after start written read turn = record { pair = p; read = read; turn = turn }
 
 -- what is read and written
 
@@ -32,7 +24,7 @@ spell_snoc ps p (Some b) None after all one = absurd all
 spell_snoc ps p (Some b) (Some m) None all one = absurd one
 spell_snoc ps p (Some b) (Some m) (Some a) all one = (
   all.0 ∙ ap (λ l. flat_map timed_bytes ps ++ l) one.0 ∙ sym (append_assoc (flat_map timed_bytes ps) (flat_map timed_bytes (p ∷ [])) a) ∙ ap (λ l. l ++ a) (sym (flat_map-append timed_bytes ps (p ∷ []))),
-  each_snoc IsPair ps p all.1 one.1.0,
+  each_snoc IsTimed ps p all.1 one.1.0,
 )
 
 pub reads_snoc : (ps : List Pair) (p : Pair) (before middle after : Input) → Reads ps before middle → Reads (p ∷ []) middle after → Reads (ps ++ p ∷ []) before after
@@ -73,9 +65,105 @@ sends_then xs ys a b d first then_it = record {
   flowed = then_it.flowed ∙ first.flowed;
 }
 
-module _ (profile : Profile) (clients_max : ℕ) where
-  -- one pair more
+-- the items so far
 
+module _ {Items : Type 0} (Read : Items → Input → Input → Type 0) (Gives : Items → List ℕ → Type 0) (state : Items → State) (Stands : ℕ → Items → Type 0) where
+  -- a loop's invariant: items were taken, so many as `Stands` says, and the machine is in the state behind them
+  pub record Working (k : ℕ) (S : State) (before middle : Input) (start written : Output) : Type 0 where
+    pub items : Items
+    pub state_is : S ≡ state items
+    pub stands : Stands k items
+    pub done : Done Read Gives items before middle start written
+
+  -- items that are one more, and what the last one adds to the bytes
+  pub record Joined (k : ℕ) (T : State) (bytes : List ℕ) (before after : Input) (written next : Output) : Type 0 where
+    pub items : Items
+    pub state_is : T ≡ state items
+    pub stands : Stands k items
+    pub read : Read items before after
+    pub added : List ℕ
+    pub gives : Gives items (bytes ++ added)
+    pub sent : Sent added written next
+
+  -- the next item joins those before
+  abbrev pub Joins : {Item Fault : Type 0} → (Result (Option Item) Fault → Input → Input → Type 0) → (Result (Unit {0}) Fault → State → State → Item → Output → Output → Type 0) → Type 0
+  Joins Answered Takes =
+      (k : ℕ) (items : Items) (T : State) (bytes : List ℕ) (before middle after : Input) (written next : Output) → Stands k items → Read items before middle → Gives items bytes
+      → Next Answered Takes (Ok tt) (state items) T middle after written next → Joined (k + 1) T bytes before after written next
+
+module _ {Items : Type 0} {Read : Items → Input → Input → Type 0} {Gives : Items → List ℕ → Type 0} {state : Items → State} {Stands : ℕ → Items → Type 0}
+    {k : ℕ} {S : State} {before middle : Input} {start written : Output} (w : Working Read Gives state Stands k S before middle start written) where
+  -- nothing more was written, however far it moved on
+  pub working_passed : {next : Output} → Sent [] written next → Working Read Gives state Stands k S before middle start next
+  working_passed {next} on = record {
+    items = w.items;
+    state_is = w.state_is;
+    stands = w.stands;
+    done = record {
+      bytes = w.done.bytes;
+      read = w.done.read;
+      gives = w.done.gives;
+      sent = subst (λ bytes. Sent bytes start next) (append-nil w.done.bytes) (sends_then w.done.bytes [] start written next w.done.sent on);
+    };
+  }
+
+  module _ {Item Fault : Type 0} {Answered : Result (Option Item) Fault → Input → Input → Type 0} {Takes : Result (Unit {0}) Fault → State → State → Item → Output → Output → Type 0} where
+    pub working_on : {T : State} {after : Input} {next : Output} → Joins Read Gives state Stands Answered Takes → Next Answered Takes (Ok tt) S T middle after written next
+        → Working Read Gives state Stands (k + 1) T before after start next
+    working_on {T} {after} {next} joins taken =
+        let one = joins k w.items T w.done.bytes before middle after written next w.stands w.done.read w.done.gives (subst (λ (U : State). Next Answered Takes (Ok tt) U T middle after written next) w.state_is taken) in
+        record {
+          items = one.items;
+          state_is = one.state_is;
+          stands = one.stands;
+          done = record {
+            bytes = w.done.bytes ++ one.added;
+            read = one.read;
+            gives = one.gives;
+            sent = sends_then w.done.bytes one.added start written next w.done.sent one.sent;
+          };
+        }
+
+    module _ {count : Items → ℕ} {Halts : Fault → Items → Type 0} where
+      -- at the end nothing more was written, and what was written was passed on
+      pub worked_out : {n : ℕ} {T : State} {after : Input} {next passed : Output} → count w.items ≡ n → GoesOn Answered Takes (Ok false) S T middle after written next → Sent [] next passed
+          → Worked Read Gives (EndsBy Answered Takes count state Halts) (Ok n) before after start passed
+      unfolding working_passed
+      worked_out {passed = passed} counted ends on =
+          let all = working_passed (subst (λ (o : Output). Sent [] o passed) ends.1.silent on) in
+          record { items = all.items; middle = middle; made = passed; done = all.done; ended = (counted, record { read = ends.1.read; silent = refl }) }
+
+      -- where the machine's commit number tells how many they are
+      pub worked_commits : {n : ℕ} {T : State} {after : Input} {next passed : Output} → (state w.items).commit ≡ count w.items → n ≡ T.commit
+          → GoesOn Answered Takes (Ok false) S T middle after written next → Sent [] next passed → Worked Read Gives (EndsBy Answered Takes count state Halts) (Ok n) before after start passed
+      worked_commits counted is ends on = worked_out (sym counted ∙ ap (λ (U : State). U.commit) (sym w.state_is ∙ sym ends.0) ∙ sym is) ends on
+
+      -- a fault of the next item
+      pub worked_into : {f : Fault} {T : State} {after : Input} {next : Output} → GoesOn Answered Takes (Err f) S T middle after written next
+          → Worked Read Gives (EndsBy Answered Takes count state Halts) (Err f) before after start next
+      worked_into {f} {T} {after} {next} stops = record {
+        items = w.items;
+        middle = middle;
+        made = written;
+        done = w.done;
+        ended = inl (T, subst (λ (U : State). GoesOn Answered Takes (Err f) U T middle after written next) w.state_is stops);
+      }
+
+      -- a fault that comes of no item
+      pub worked_halted : {f : Fault} → Halts f w.items → Worked Read Gives (EndsBy Answered Takes count state Halts) (Err f) before middle start written
+      worked_halted halts = record { items = w.items; middle = middle; made = written; done = w.done; ended = inr (halts, refl, refl) }
+
+-- pairs that make a history
+
+module _ (state : List Entry → State) where
+  pub history_snoc : (ps : List Pair) (p : Pair) → fold (grown state) [] (ps ++ p ∷ []) ≡ grown state (fold (grown state) [] ps) p
+  history_snoc ps p = fold_snoc (grown state) [] ps p
+
+  pub times_snoc : (h : List Entry) (ps : List Pair) (p : Pair) → HasTimes state h ps → IsTimely (state (fold (grown state) h ps)) p → HasTimes state h (ps ++ p ∷ [])
+  times_snoc h [] p times timely = (timely, tt)
+  times_snoc h (q ∷ qs) p times timely = (times.0, times_snoc (grown state h q) qs p times.1 timely)
+
+module _ (profile : Profile) (clients_max : ℕ) where
   pub after_with_pair : (h : List Entry) (p : Pair) → after profile clients_max (with_pair profile clients_max h p) ≡ after_pair (after profile clients_max h) p
   after_with_pair h p = parts (is_entered (after profile clients_max h) p)
     where
@@ -83,97 +171,45 @@ module _ (profile : Profile) (clients_max : ℕ) where
       parts true = after_snoc profile clients_max h (entry_of (after profile clients_max h) p)
       parts false = refl
 
-  accepted_snoc : (h : List Entry) (ps : List Pair) (p : Pair) → accepted profile clients_max h (ps ++ p ∷ []) ≡ with_pair profile clients_max (accepted profile clients_max h ps) p
-  accepted_snoc h ps p = fold_snoc (with_pair profile clients_max) h ps p
-
   state_snoc : (ps : List Pair) (p : Pair) → state_after profile clients_max (ps ++ p ∷ []) ≡ after_pair (state_after profile clients_max ps) p
-  state_snoc ps p = ap (after profile clients_max) (accepted_snoc [] ps p) ∙ after_with_pair (accepted profile clients_max [] ps) p
+  state_snoc ps p = ap (after profile clients_max) (history_snoc (after profile clients_max) ps p) ∙ after_with_pair (accepted profile clients_max [] ps) p
 
   replies_snoc : (h : List Entry) (ps : List Pair) (p : Pair)
-      → replies_from profile clients_max h (ps ++ p ∷ []) ≡ replies_from profile clients_max h ps ++ answer_to (after profile clients_max (with_pair profile clients_max (accepted profile clients_max h ps) p)) p.1 ∷ []
-  replies_snoc h [] p = refl
+      → replies_from profile clients_max h (ps ++ p ∷ []) ≡ replies_from profile clients_max h ps ++ answer_to (after_pair (after profile clients_max (accepted profile clients_max h ps)) p) p.1 ∷ []
+  replies_snoc h [] p = ap (λ (S : State). answer_to S p.1 ∷ []) (after_with_pair h p)
   replies_snoc h (q ∷ qs) p = ap (λ l. answer_to (after profile clients_max (with_pair profile clients_max h q)) q.1 ∷ l) (replies_snoc (with_pair profile clients_max h q) qs p)
 
-  times_snoc : (h : List Entry) (ps : List Pair) (p : Pair) → HasTimes profile clients_max h ps → IsTimely (after profile clients_max (accepted profile clients_max h ps)) p → HasTimes profile clients_max h (ps ++ p ∷ [])
-  times_snoc h [] p times timely = (timely, tt)
-  times_snoc h (q ∷ qs) p times timely = (times.0, times_snoc (with_pair profile clients_max h q) qs p times.1 timely)
+  -- a run's loop: k pairs were served
+  abbrev pub Serving : ℕ → State → Input → Input → Output → Output → Type 0
+  Serving = Working Reads (Replies profile clients_max) (state_after profile clients_max) (λ k ps. length ps ≡ k)
 
-  bytes_snoc : (ps : List Pair) (p : Pair) → flat_map reply_bytes (replies_to profile clients_max (ps ++ p ∷ [])) ≡ flat_map reply_bytes (replies_to profile clients_max ps) ++ answer_bytes (state_after profile clients_max ps) p
-  bytes_snoc ps p =
-      ap (flat_map reply_bytes) (replies_snoc [] ps p)
-      ∙ flat_map-append reply_bytes (replies_to profile clients_max ps) (answer_to (after profile clients_max (with_pair profile clients_max (accepted profile clients_max [] ps) p)) p.1 ∷ [])
-      ∙ ap (λ l. flat_map reply_bytes (replies_to profile clients_max ps) ++ l)
-      (append-nil (reply_bytes (answer_to (after profile clients_max (with_pair profile clients_max (accepted profile clients_max [] ps) p)) p.1))
-      ∙ ap (λ (S : State). reply_bytes (answer_to S p.1)) (after_with_pair (accepted profile clients_max [] ps) p))
+  pub serving_none : (S : State) (i : Input) (o : Output) → S ≡ start profile clients_max → Serving 0 S i i o o
+  serving_none S i o is = record {
+    items = [];
+    state_is = is;
+    stands = refl;
+    done = record { bytes = []; read = reads_none i; gives = record { times = tt; bytes_are = refl; spelled = tt }; sent = sends_none o };
+  }
 
-  spelled_snoc : (ps : List Pair) (p : Pair) → Each IsReply (replies_to profile clients_max ps) → IsReply (answer_to (after_pair (state_after profile clients_max ps) p) p.1) → Each IsReply (replies_to profile clients_max (ps ++ p ∷ []))
-  spelled_snoc ps p all one =
-      let h = accepted profile clients_max [] ps in
-      subst (Each IsReply) (sym (replies_snoc [] ps p))
-      (each_snoc IsReply (replies_to profile clients_max ps) (answer_to (after profile clients_max (with_pair profile clients_max h p)) p.1) all
-      (subst (λ (U : State). IsReply (answer_to U p.1)) (sym (after_with_pair h p)) one))
-
-  -- the loop's invariant: k pairs were served
-  pub record Serving (k : ℕ) (S : State) (before middle : Input) (first written : Output) : Type 0 where
-    pub pairs : List Pair
-    pub long : length pairs ≡ k
-    pub state : S ≡ state_after profile clients_max pairs
-    pub served : Served profile clients_max pairs before middle first written
-
-  pub serving_on : (k : ℕ) (S T : State) (before middle after : Input) (first written next : Output) → Serving k S before middle first written → RunsOn (Ok true) S T middle after written next → Serving (k + 1) T before after first next
-  serving_on k S T before middle after first written next s n =
-      let turn = subst (λ (U : State). IsTimely U n.pair × (T ≡ after_pair U n.pair) × Sent (answer_bytes U n.pair) written next × IsReply (answer_to (after_pair U n.pair) n.pair.1)) s.state n.turn in
+  pub serving_joins : Joins Reads (Replies profile clients_max) (state_after profile clients_max) (λ k ps. length ps ≡ k) PairAnswered AnswersPair
+  serving_joins k ps T bytes before middle later written next long read gives n =
+      let p = n.item in
+      let reply = answer_to (after_pair (state_after profile clients_max ps) p) p.1 in
       record {
-        pairs = s.pairs ++ n.pair ∷ [];
-        long = omega (arith, s.long, length-append s.pairs (n.pair ∷ []));
-        state = turn.1 ∙ sym (state_snoc s.pairs n.pair);
-        served = record {
-          read = reads_snoc s.pairs n.pair before middle after s.served.read n.read;
-          times = times_snoc [] s.pairs n.pair s.served.times turn.0;
-          replied = subst (λ bytes. Sent bytes first next) (sym (bytes_snoc s.pairs n.pair))
-              (sends_then (flat_map reply_bytes (replies_to profile clients_max s.pairs)) (answer_bytes (state_after profile clients_max s.pairs) n.pair) first written next s.served.replied turn.2);
-          spelled = spelled_snoc s.pairs n.pair s.served.spelled turn.3;
+        items = ps ++ p ∷ [];
+        state_is = n.turn.1 ∙ sym (state_snoc ps p);
+        stands = omega (arith, long, length-append ps (p ∷ []));
+        read = reads_snoc ps p before middle later read (reads_one p middle later n.read.1 n.read.2);
+        added = answer_bytes (state_after profile clients_max ps) p;
+        gives = record {
+          times = times_snoc (after profile clients_max) [] ps p gives.times n.turn.0;
+          bytes_are = ap (λ l. l ++ reply_bytes reply) gives.bytes_are
+              ∙ sym (ap (flat_map reply_bytes) (replies_snoc [] ps p) ∙ flat_map-append reply_bytes (replies_to profile clients_max ps) (reply ∷ []) ∙ ap (λ l. flat_map reply_bytes (replies_to profile clients_max ps) ++ l) (append-nil (reply_bytes reply)));
+          spelled = subst (Each IsReply) (sym (replies_snoc [] ps p)) (each_snoc IsReply (replies_to profile clients_max ps) reply gives.spelled n.turn.3);
         };
+        sent = n.turn.2;
       }
 
-  -- nothing more was written, however far it moved on
-  pub serving_passed : (k : ℕ) (S : State) (before middle : Input) (first written passed : Output) → Serving k S before middle first written → Sent [] written passed → Serving k S before middle first passed
-  serving_passed k S before middle first written passed s on = record {
-    pairs = s.pairs;
-    long = s.long;
-    state = s.state;
-    served = record {
-      read = s.served.read;
-      times = s.served.times;
-      replied = subst (λ bytes. Sent bytes first passed) (append-nil (flat_map reply_bytes (replies_to profile clients_max s.pairs)))
-          (sends_then (flat_map reply_bytes (replies_to profile clients_max s.pairs)) [] first written passed s.served.replied on);
-      spelled = s.served.spelled;
-    };
-  }
-
-  -- what ends a run
-
-  -- at the end nothing more was written, and what was written was passed on
-  pub ran_out : (k : ℕ) (S T : State) (before middle after : Input) (first written next passed : Output) → Serving k S before middle first written → RunsOn (Ok false) S T middle after written next → Sent [] next passed → Ran profile clients_max (Ok k) before after first passed
-  ran_out k S T before middle after first written next passed s e on =
-      let all = serving_passed k S before middle first written passed s (subst (λ (o : Output). Sent [] o passed) e.silent on) in
-      record { pairs = all.pairs; middle = middle; replied = passed; served = all.served; ended = (all.long, record { answer = e.answer; counted = e.counted; silent = refl }) }
-
-  ends_by : (f : RunFault) (ps : List Pair) (T : State) (middle after : Input) (written next : Output) → RunsOn (Err f) (state_after profile clients_max ps) T middle after written next → EndsBy profile clients_max f ps middle after written next
-  ends_by (fault.Frame f) ps T middle after written next (inl unread) = inl unread
-  ends_by (fault.Frame f) ps T middle after written next (inr n) = inr (n.turn.2, record { pair = n.pair; read = n.read; timely = n.turn.0; cut = n.turn.3 })
-  ends_by fault.NoMemory ps T middle after written next n = inr (record { pair = n.pair; read = n.read; new = n.turn.0; time = n.turn.1; silent = n.turn.3 })
-  ends_by fault.TimeExhausted ps T middle after written next n = record { pair = n.pair; read = n.read; new = n.turn.0; time = n.turn.1; silent = n.turn.3 }
-  ends_by fault.TooLong ps T middle after written next n = absurd n.turn
-
-  pub ran_into : (f : RunFault) (k : ℕ) (S T : State) (before middle after : Input) (first written next : Output) → Serving k S before middle first written → RunsOn (Err f) S T middle after written next → Ran profile clients_max (Err f) before after first next
-  ran_into f k S T before middle after first written next s e = record {
-    pairs = s.pairs;
-    middle = middle;
-    replied = written;
-    served = s.served;
-    ended = ends_by f s.pairs T middle after written next (subst (λ (U : State). RunsOn (Err f) U T middle after written next) s.state e);
-  }
-
   pub ran_nowhere : (i : Input) (o : Output) → Ran profile clients_max (Err fault.NoMemory) i i o o
-  ran_nowhere i o = record { pairs = []; middle = i; replied = o; served = record { read = reads_none i; times = tt; replied = sends_none o; spelled = tt }; ended = inl (refl, refl, refl) }
+  unfolding serving_none
+  ran_nowhere i o = worked_halted (serving_none (start profile clients_max) i o refl) refl

@@ -1,7 +1,7 @@
 -- The books after a legal history are sound.
 use Rattle.std.proofs.Common.{ℕ, ◌≤◌, List, [], ◌∷◌, fold, take, drop, Option, Some, None, arith}
 use Rattle.tb_records.specs.declared.bodies.Body.{Body}
-use Rattle.tb_records.specs.declared.bodies.Body.TheVariants.{Register, CreateAccounts, CreateTransfers, LookupAccounts, LookupTransfers}
+use Rattle.tb_records.specs.declared.bodies.Body.TheVariants.{CreateAccounts, CreateTransfers}
 use Rattle.tb_records.specs.declared.limits.Profile.{Profile}
 use Rattle.tb_ledger.specs.Books.{Books}
 use Rattle.tb_ledger.specs.Sound.{Sound}
@@ -14,11 +14,9 @@ use Rattle.tb_machine.specs.MarkedLaws.{LimitsHoldWith, LedgersBalanceWith}
 use Rattle.tb_machine.proofs.Judging.{may_come}
 
 pub sound_executed : (B : Books) (body : Body) (time : ℕ) → B.time ≤ time → Sound B → Sound (executed B body time)
-sound_executed B Register time later sound = sound_later B time later sound
 sound_executed B (CreateAccounts events) time later sound = sound_accounts B events time later sound
 sound_executed B (CreateTransfers events) time later sound = sound_transfers B events time later sound
-sound_executed B (LookupAccounts ids) time later sound = sound_later B time later sound
-sound_executed B (LookupTransfers ids) time later sound = sound_later B time later sound
+sound_executed B body time later sound = sound_later B time later sound
 
 sound_from : (S : State) (h : List Entry) → LegalFrom S h → Sound S.books → Sound (fold step S h).books
 sound_from S [] legal sound = sound

@@ -9,6 +9,7 @@ use Rattle.tb_sessions.specs.Judged.{row_of}
 use Rattle.tb_sessions.specs.Admission.{admitted}
 use Rattle.tb_machine.specs.declared.entries.Entry.{Entry}
 use Rattle.tb_machine.specs.Histories.{State, fits, is_lawful, session_of, body_at, reply_at, executed}
+use Rattle.tb_machine.specs.Serving.{MayBeExecuted}
 use Rattle.tb_machine.specs.Sound.{IsNumbered, IsSound}
 use Rattle.tb_records.proofs.ByKey.{each-map}
 use Rattle.tb_sessions.proofs.LaterRows.{each_admitted}
@@ -61,6 +62,9 @@ module _ (S : State) (e : Entry) (sound : IsSound S) (comes : IsTrue (fits S e))
       lawful.client (λ none. omega (arith, numbers.began))
       numbers.register (λ is. (lawful.numbered is, numbers.numbered is))
       (found_kind S.books e.request.body e.time) (let few = found_few S.books e.request.body e.time in omega (arith, few, lawful.few))
+
+  pub may_be_executed : MayBeExecuted S.books e
+  may_be_executed = (lawful.few, may.late_enough, may.in_range, right_reply)
 
   -- rows before it have smaller commits
   pub commits_before : Each (λ (other : Row). other.commit < e.commit) S.rows

@@ -1,13 +1,13 @@
 -- One pair: what its entry leaves for its request, and the answers that the rows give.
-use Rattle.std.proofs.Common.{true≢false, ◌≡◌, ◌≢◌, ℕ, ◌+◌, Bool, true, false, cond, ◌&&◌, ◌==◌, List, [], ◌∷◌, is_some, Option, Some, None, Result, Ok, Err, OnOk, refl, sym, ap, ◌∙◌, subst, arith, eqb, ltb, eq-eqb}
+use Rattle.std.proofs.Common.{◌≡◌, ◌≢◌, ◌⊎◌, inl, inr, ℕ, ◌+◌, Bool, true, false, cond, ◌&&◌, ◌==◌, List, [], ◌∷◌, is_some, Option, Some, None, Result, Ok, Err, OnOk, refl, sym, ap, ◌∙◌, subst, arith, eqb, ltb, eq-eqb}
 use Rattle.std.proofs.lemmas.Bool.Decides.{nat_tests}
-use Rattle.tb_records.specs.Messages.{Message, Answer, is_register, IsLawful}
+use Rattle.tb_records.specs.Messages.{Message, Answer, is_register, status_code, IsLawful}
 use Rattle.tb_records.specs.Same.{same_body}
 use Rattle.tb_records.proofs.OneBody.{body_same}
 use Rattle.tb_records.specs.Ordered.{put, replaced}
 use Rattle.tb_sessions.specs.declared.rows.Row.{Row}
 use Rattle.tb_sessions.specs.declared.classes.Class.{Class}
-use Rattle.tb_sessions.specs.declared.classes.Class.TheVariants.{New, Repeat, NoSession, SessionTooLow, NewerSession, Older, Collision, NewerRequest}
+use Rattle.tb_sessions.specs.declared.classes.Class.TheVariants.{New, Repeat, SessionTooLow, NewerSession, Older, Collision, NewerRequest}
 use Rattle.tb_sessions.specs.Judged.{client_of, row_of, first_class, class_beside, class_by, class_of}
 use Rattle.tb_sessions.specs.Admission.{driven_out, without, admitted}
 use Rattle.tb_machine.specs.declared.entries.Entry.{Entry}
@@ -65,14 +65,13 @@ answer_after S e lawful = answer_stored (row_of (step S e).rows e.request.client
 
 -- a request that is neither new nor a repeat is refused
 pub answer_refused : (class : Class) (o : Option Row) (r : Message) → class ≢ Repeat → answer_by class o r ≡ refusal (status_of class) r
-answer_refused New o r other = refl
 answer_refused Repeat o r other = absurd (other refl)
-answer_refused NoSession o r other = refl
-answer_refused SessionTooLow o r other = refl
-answer_refused NewerSession o r other = refl
-answer_refused Older o r other = refl
-answer_refused Collision o r other = refl
-answer_refused NewerRequest o r other = refl
+answer_refused class o r other = refl
+
+-- a request is a repeat, or it is refused
+pub repeated_or_not : (class : Class) → (class ≡ Repeat) ⊎ ((class ≢ Repeat) × (eqb (status_code (status_of class)) 0 ≡ false))
+repeated_or_not Repeat = inl refl
+repeated_or_not class = inr (λ same. cc, refl)
 
 -- where a pair leads
 

@@ -8,8 +8,7 @@ use Rattle.tb_records.specs.Messages.{Answer}
 use Rattle.tb_records.specs.Ordered.{Each}
 use Rattle.tb_machine.specs.declared.entries.Entry.{Entry}
 use Rattle.tb_machine.specs.Histories.{State, start, reply_at, step, to_two, LegalFrom, IsLegal, after}
-use Rattle.tb_machine.specs.Scripts.{Pair, entry_of, is_entered}
-use Rattle.tb_machine.specs.Runs.{IsTimely}
+use Rattle.tb_machine.specs.Scripts.{Pair, grown}
 
 -- spelling
 
@@ -78,14 +77,6 @@ module _ (profile : Profile) (clients_max : ℕ) (at : Option ℕ) where
   abbrev pub after_at : List Entry → State
   after_at h = after_with profile clients_max (place_in at h) h
 
-  abbrev pub with_pair_at : List Entry → Pair → List Entry
-  with_pair_at h p = if is_entered (after_at h) p then h ++ entry_of (after_at h) p ∷ [] else h
-
   -- the history that a script makes
   abbrev pub accepted_at : List Entry → List Pair → List Entry
-  accepted_at h ps = fold with_pair_at h ps
-
-  -- each pair that is new in its turn has a time
-  abbrev pub HasTimesAt : List Entry → List Pair → Type 0
-  HasTimesAt h [] = Unit {0}
-  HasTimesAt h (p ∷ ps) = IsTimely (after_at h) p × HasTimesAt (with_pair_at h p) ps
+  accepted_at h ps = fold (grown after_at) h ps

@@ -23,18 +23,22 @@ OneKey = (profile : Profile) (clients_max : ℕ) (h : List Entry) → IsLegal pr
 
 -- a repeat gets its first reply
 
--- the request stands in the history, in one entry, which its client's row names; the row keeps the reply that was given there
-pub record IsStored (profile : Profile) (clients_max : ℕ) (h : List Entry) (r : Message) : Type 0 where
+-- the request stands in the history, in one entry, which its client's row names now; the row keeps the reply that was given
+-- there, in the state behind the entries before
+pub record IsStoredIn (state : List Entry → State) (now : State) (h : List Entry) (r : Message) : Type 0 where
   pub row : Row
   pub front : List Entry
   pub entry : Entry
   pub rest : List Entry
-  pub stored : row_of (after profile clients_max h).rows r.client ≡ Some row
+  pub stored : row_of now.rows r.client ≡ Some row
   pub whole : h ≡ front ++ entry ∷ rest
   pub numbered : row.commit ≡ length front + 1
   pub request : entry.request ≡ r
-  pub reply : row.reply ≡ reply_at (after profile clients_max front) entry
+  pub reply : row.reply ≡ reply_at (state front) entry
   pub alone : Each (λ (other : Entry). key_of other ≢ key_of entry) (front ++ rest)
+
+abbrev pub IsStored : Profile → ℕ → List Entry → Message → Type 0
+IsStored profile clients_max h r = IsStoredIn (after profile clients_max) (after profile clients_max h) h r
 
 abbrev pub FirstReply : Type 0
 FirstReply = (profile : Profile) (clients_max : ℕ) (h : List Entry) (r : Message) → IsLegal profile clients_max h → IsTrue (is_lawful r)

@@ -3,6 +3,7 @@ pub mod Histories
 pub mod Scripts
 pub mod Answering
 pub mod RunFaults
+pub mod Worked
 pub mod Runs
 pub mod Dumps
 pub mod DumpRuns

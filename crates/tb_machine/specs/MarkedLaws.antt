@@ -1,19 +1,17 @@
 -- The laws of legal histories with a mark among them, or with none.
-use Rattle.std.specs.Prelude.{ℕ, true, false, ◌≡◌, ◌≢◌, ◌+◌, ◌⊎◌, nat_le, IsTrue, List, [], ◌∷◌, ◌++◌, length, Option, Some, None, if◌then◌else◌}
+use Rattle.std.specs.Prelude.{ℕ, true, false, ◌≡◌, ◌+◌, ◌⊎◌, nat_le, IsTrue, List, [], ◌∷◌, ◌++◌, length, Option, Some, None, if◌then◌else◌}
 use Rattle.tb_records.specs.declared.records.Account.{Account}
 use Rattle.tb_records.specs.declared.limits.Profile.{Profile}
 use Rattle.tb_records.specs.declared.limits.Profile.TheVariants.{One}
 use Rattle.tb_records.specs.Messages.{Message, is_register}
-use Rattle.tb_records.specs.Ordered.{Each}
 use Rattle.tb_records.specs.Transport.{Input, Output}
 use Rattle.tb_ledger.specs.Books.{account_now}
 use Rattle.tb_ledger.specs.Limits.{KeepsLimits, Balances}
-use Rattle.tb_sessions.specs.declared.rows.Row.{Row}
 use Rattle.tb_sessions.specs.declared.classes.Class.TheVariants.{New, Repeat, NoSession, SessionTooLow}
 use Rattle.tb_sessions.specs.Judged.{row_of, class_of}
 use Rattle.tb_machine.specs.declared.entries.Entry.{Entry}
-use Rattle.tb_machine.specs.Histories.{State, is_lawful, reply_at, fits, step, to_two, IsLegal, after, key_of}
-use Rattle.tb_machine.specs.HistoryLaws.{KeysDiffer, HasSession}
+use Rattle.tb_machine.specs.Histories.{State, is_lawful, fits, step, to_two, IsLegal, after}
+use Rattle.tb_machine.specs.HistoryLaws.{KeysDiffer, IsStoredIn, HasSession}
 use Rattle.tb_machine.specs.Dumps.{IsPlace, after_with, IsLegalWith, place_in, accepted_at}
 use Rattle.tb_machine.specs.Scripts.{Pair}
 use Rattle.tb_machine.specs.ScriptLaws.{AreLawful}
@@ -29,18 +27,8 @@ module _ (profile : Profile) (clients_max : ℕ) (mark : Option ℕ) where
   abbrev pub next_in : List Entry → State
   next_in h = after_with profile clients_max (met mark h) h
 
-  -- the request stands in one entry, which its client's row names; the row keeps the reply that was given there
-  pub record IsStoredWith (h : List Entry) (r : Message) : Type 0 where
-    pub row : Row
-    pub front : List Entry
-    pub entry : Entry
-    pub rest : List Entry
-    pub stored : row_of (after_with profile clients_max mark h).rows r.client ≡ Some row
-    pub whole : h ≡ front ++ entry ∷ rest
-    pub numbered : row.commit ≡ length front + 1
-    pub request : entry.request ≡ r
-    pub reply : row.reply ≡ reply_at (next_in front) entry
-    pub alone : Each (λ (other : Entry). key_of other ≢ key_of entry) (front ++ rest)
+  abbrev pub IsStoredWith : List Entry → Message → Type 0
+  IsStoredWith h r = IsStoredIn next_in (after_with profile clients_max mark h) h r
 
 -- keys stand once
 abbrev pub OneKeyWith : Type 0

@@ -1,14 +1,16 @@
 -- What a replay makes of a dump: the entries that it read, the replies that it wrote, and what ended it.
-use Rattle.std.specs.Prelude.{ℕ, Bool, true, false, ◌≡◌, ◌⊎◌, IsTrue, List, [], ◌++◌, length, Option, Some, None, Result, Ok, Err}
+use Rattle.std.specs.Prelude.{ℕ, false, ◌≡◌, ◌⊎◌, IsTrue, List, [], ◌++◌, length, Option, None, Result, Ok, Err}
 use Rattle.std.specs.List.{flat_map}
 use Rattle.tb_records.specs.declared.dumps.DumpFault.{DumpFault}
 use Rattle.tb_records.specs.declared.dumps.DumpFault.TheVariants as fault
+use Rattle.tb_records.specs.declared.dumps.DumpHead.{DumpHead}
 use Rattle.tb_records.specs.declared.dumps.DumpItem.{DumpItem}
 use Rattle.tb_records.specs.declared.dumps.DumpItem.TheVariants as item
 use Rattle.tb_records.specs.declared.faults.FrameFault.TheVariants.{Device}
 use Rattle.tb_records.specs.declared.limits.Profile.{Profile}
 use Rattle.tb_records.specs.declared.limits.Profile.TheVariants.{One, Two}
 use Rattle.tb_records.specs.DumpBytes.{HeadAnswers, HeadCounts, ItemAnswers, ItemCounts}
+use Rattle.tb_records.specs.Messages.{Answer}
 use Rattle.tb_records.specs.Ordered.{Each}
 use Rattle.tb_records.specs.ReplyFrames.{reply_bytes, IsReply}
 use Rattle.tb_records.specs.Transport.{Input, Output, IsOfBytes, Sent, CutOff}
@@ -16,6 +18,7 @@ use Rattle.tb_ledger.specs.Books.{profile_of}
 use Rattle.tb_machine.specs.declared.entries.Entry.{Entry}
 use Rattle.tb_machine.specs.Histories.{State, fits, reply_at, step, to_two}
 use Rattle.tb_machine.specs.Dumps.{DumpSpells, after_with, IsLegalWith, replies_with}
+use Rattle.tb_machine.specs.Worked.{EndsBy, Worked}
 
 -- one entry or mark
 
@@ -42,69 +45,59 @@ ReplaysEntry (Err fault.NotLegal) S T e before after = (fits S e ≡ false) × (
 ReplaysEntry (Err fault.NoMemory) S T e before after = IsTrue (fits S e) × (after ≡ before)
 ReplaysEntry (Err f) S T e before after = ⊥
 
--- an entry was read, and replayed
-pub record TakesEntry (result : Result (Unit {0}) DumpFault) (S T : State) (before after : Input) (start written : Output) : Type 0 where
-  pub entry : Entry
-  pub read : ReadsNext (Ok (Some (item_of entry))) before after
-  pub turn : ReplaysEntry result S T entry start written
-
--- a mark was read, and nothing was written
-pub record TakesMark (before after : Input) (start written : Output) : Type 0 where
-  pub read : ReadsNext (Ok (Some item.Mark)) before after
-  pub silent : written ≡ start
-
--- a fault in reading: nothing was written
-pub record ReadsFault (f : DumpFault) (before after : Input) (start written : Output) : Type 0 where
-  pub read : ReadsNext (Err f) before after
-  pub silent : written ≡ start
-
--- a fault at what stands next; a mark is one where profile 2 serves already, from the head on or from a first mark
-abbrev pub ReplayStops : DumpFault → State → State → Input → Input → Output → Output → Type 0
-ReplayStops fault.Mark S T before after start written = ReadsFault fault.Mark before after start written ⊎ ((profile_of S.books ≡ Two) × TakesMark before after start written)
-ReplayStops (fault.Frame f) S T before after start written = ReadsFault (fault.Frame f) before after start written ⊎ TakesEntry (Err (fault.Frame f)) S T before after start written
-ReplayStops f S T before after start written = TakesEntry (Err f) S T before after start written
-
-abbrev pub ReplaysOn : Result Bool DumpFault → State → State → Input → Input → Output → Output → Type 0
-ReplaysOn (Ok true) S T before after start written =
-    TakesEntry (Ok tt) S T before after start written
-    ⊎ ((profile_of S.books ≡ One) × (T ≡ to_two S) × TakesMark before after start written)
-ReplaysOn (Ok false) S T before after start written = (T ≡ S) × ReadsNext (Ok None) before after × (written ≡ start)
-ReplaysOn (Err f) S T before after start written = ReplayStops f S T before after start written
+-- an item is taken: an entry is replayed, and a mark leads to profile 2 and writes nothing; it is a fault where profile 2
+-- serves already, from the head on or from a first mark
+abbrev pub ReplaysItem : Result (Unit {0}) DumpFault → State → State → DumpItem → Output → Output → Type 0
+ReplaysItem result S T (item.Entry commit time request) before after = ReplaysEntry result S T (record { commit = commit; time = time; request = request }) before after
+ReplaysItem (Ok done) S T item.Mark before after = (profile_of S.books ≡ One) × (T ≡ to_two S) × (after ≡ before)
+ReplaysItem (Err f) S T item.Mark before after = (f ≡ fault.Mark) × (profile_of S.books ≡ Two) × (after ≡ before)
 
 -- a whole dump
 
--- the bytes of a dump were read
-abbrev pub ReadsDump : Profile → ℕ → List Entry → Option ℕ → Option (List ℕ) → Option (List ℕ) → Type 0
-ReadsDump profile clients_max h place before after =
-    IsOfBytes (λ left rest. (bytes : List ℕ) × DumpSpells bytes profile clients_max h place × (left ≡ bytes ++ rest)) before after
-
--- a legal history was read, with its mark, if there is one; the replies were written, and nothing else; what was written
--- spells them
-pub record HasReplayed (profile : Profile) (clients_max : ℕ) (h : List Entry) (place : Option ℕ) (before after : Input) (start written : Output) : Type 0 where
-  pub read : ReadsDump profile clients_max h place before.left after.left
-  pub counted : after.failed ≡ before.failed
-  pub legal : IsLegalWith profile clients_max place h
-  pub replied : Sent (flat_map reply_bytes (replies_with profile clients_max place h)) start written
-  pub spelled : Each IsReply (replies_with profile clients_max place h)
-
--- what ended the replay behind the entries h: the end of the dump, a fault at what follows, or no memory for the machine;
--- the T of a fault is of no account
-abbrev pub ReplayedTo : Result ℕ DumpFault → State → List Entry → Input → Input → Output → Output → Type 0
-ReplayedTo (Ok k) S h before after start written = (length h ≡ k) × ReadsNext (Ok None) before after × Sent [] start written
-ReplayedTo (Err f) S h before after start written =
-    ((T : State) × ReplayStops f S T before after start written)
-    ⊎ ((f ≡ fault.NoMemory) × (h ≡ []) × (after ≡ before) × (written ≡ start))
-
--- behind the head, some entries were replayed, and then the dump ended, or a fault came
-pub record Replayed (result : Result ℕ DumpFault) (before after : Input) (start written : Output) : Type 0 where
+-- what a dump spells: a history, with a mark in its place, if there is one
+pub record Dump : Type 0 where
   pub profile : Profile
   pub clients_max : ℕ
   pub history : List Entry
   pub place : Option ℕ
-  pub middle : Input
-  pub made : Output
-  pub has_replayed : HasReplayed profile clients_max history place before middle start made
-  pub ended : ReplayedTo result (after_with profile clients_max place history) history middle after made written
+
+-- a head alone
+abbrev pub headed : DumpHead → Dump
+headed head = record { profile = head.profile; clients_max = head.clients_max; history = []; place = None }
+
+-- the state behind it
+abbrev pub state_behind : Dump → State
+state_behind d = after_with d.profile d.clients_max d.place d.history
+
+-- the replies to its entries
+abbrev pub replies_in : Dump → List Answer
+replies_in d = replies_with d.profile d.clients_max d.place d.history
+
+-- the bytes of a dump were read
+
+abbrev pub Spelling : Dump → List ℕ → Type 0
+Spelling d bytes = DumpSpells bytes d.profile d.clients_max d.history d.place
+
+abbrev pub SpellsDump : Dump → Option (List ℕ) → Option (List ℕ) → Type 0
+SpellsDump d before after = IsOfBytes (λ left rest. (bytes : List ℕ) × Spelling d bytes × (left ≡ bytes ++ rest)) before after
+
+pub record ReadsDump (d : Dump) (before after : Input) : Type 0 where
+  pub read : SpellsDump d before.left after.left
+  pub counted : after.failed ≡ before.failed
+
+-- the history is legal, and the bytes spell its replies
+pub record RepliesTo (d : Dump) (bytes : List ℕ) : Type 0 where
+  pub legal : IsLegalWith d.profile d.clients_max d.place d.history
+  pub bytes_are : bytes ≡ flat_map reply_bytes (replies_in d)
+  pub spelled : Each IsReply (replies_in d)
+
+-- the fault that comes of no entry: no memory for the machine
+abbrev pub ReplayHalts : DumpFault → Dump → Type 0
+ReplayHalts f d = (f ≡ fault.NoMemory) × (d.history ≡ [])
+
+-- behind the head, some entries were replayed, and then the dump ended, or a fault came
+abbrev pub Replayed : Result ℕ DumpFault → Input → Input → Output → Output → Type 0
+Replayed = Worked ReadsDump RepliesTo (EndsBy ReadsNext ReplaysItem (λ d. length d.history) state_behind ReplayHalts)
 
 -- no head was read
 pub record Headless (f : DumpFault) (before after : Input) (start written : Output) : Type 0 where

@@ -49,4 +49,4 @@ RepliesAreOfHistory = (profile : Profile) (clients_max : ℕ) (ps : List Pair) �
 -- the pairs that a run served are lawful, where its reader tells its bytes
 abbrev pub ServedAreLawful : Type 0
 ServedAreLawful = (profile : Profile) (clients_max : ℕ) (result : Result ℕ RunFault) (before after : Input) (start written : Output) (bytes : List ℕ)
-    → (ran : Ran profile clients_max result before after start written) → before.left ≡ Some bytes → AreLawful ran.pairs
+    → (ran : Ran profile clients_max result before after start written) → before.left ≡ Some bytes → AreLawful ran.items

@@ -26,10 +26,13 @@ is_entered S p = is_new (class_of S.rows p.1) && has_time S p
 abbrev pub after_pair : State → Pair → State
 after_pair S p = if is_entered S p then step S (entry_of S p) else S
 
+-- the history with the pair's entry, where the pair is entered in the state behind it
+abbrev pub grown : (List Entry → State) → List Entry → Pair → List Entry
+grown state h p = if is_entered (state h) p then h ++ entry_of (state h) p ∷ [] else h
+
 module _ (profile : Profile) (clients_max : ℕ) where
-  -- the history with the pair's entry, where the pair is entered
   abbrev pub with_pair : List Entry → Pair → List Entry
-  with_pair h p = if is_entered (after profile clients_max h) p then h ++ entry_of (after profile clients_max h) p ∷ [] else h
+  with_pair h p = grown (after profile clients_max) h p
 
   -- the history that a script makes
   abbrev pub accepted : List Entry → List Pair → List Entry

@@ -6,8 +6,10 @@ ghost use Rattle.tb_records.specs.DumpBytes.{head_bytes, entry_bytes, IsClients}
 ghost use Rattle.tb_records.specs.Transport.{Sent, CutOff, IsSent};
 ghost use Rattle.tb_ledger.specs.Books.{profile_of};
 ghost use Rattle.tb_sessions.specs.Judged.{class_of, row_of};
-ghost use Rattle.tb_machine.specs.DumpRuns.{mark_before, marks_at, changed_profile, DumpRan, DumpsOn, DumpsPair};
+ghost use Rattle.tb_machine.specs.DumpRuns.{mark_before, marks_at, changed_profile, DumpRan, DumpsPair};
+ghost use Rattle.tb_machine.specs.Runs.{PairAnswered};
 ghost use Rattle.tb_machine.specs.Serving.{IsPromptForPair};
+ghost use Rattle.tb_machine.specs.Worked.{GoesOn};
 
 use crate::machines::Machine;
 use crate::serving::{RunFault, enter, pass_on_before_waiting};
@@ -61,10 +63,8 @@ fn write_head<W: Sink>(writer: &mut W, clients_max: ClientsMax) -> Result<(), Ru
         profile: Profile::One,
         clients_max,
     };
-    match send_head(writer, head) {
-        Ok(()) => Ok(()),
-        Err(fault) => Err(RunFault::Frame(fault)),
-    }
+    send_head(writer, head)?;
+    Ok(())
 }
 
 /// Writes a mark where one is due.
@@ -89,30 +89,8 @@ fn write_entry<W: Sink>(
     send_entry(writer, commit, time, request)
 }
 
-/// Enters a new request that comes at a moment, and writes its entry. A mark that stands before it is written with it, so
-/// that none is where there is no entry.
-fn dump_new<W: Sink>(
-    machine: &mut Machine<Global>,
-    at: Option<u64>,
-    writer: &mut W,
-    moment: u64,
-    request: Request,
-) -> Result<(), RunFault>
-    requires new { class_of machine.old.rows request ≡ Class.New }
-    requires by_one { marks_at at machine.old.commit ≡ true → profile_of machine.old.books ≡ Profile.One }
-    ensures { DumpsPair result at machine.old machine.new (moment, request) (W.output writer.old)
-        (W.output writer.new) }
-{
-    let client = request.client();
-    let due = marks_at(at, machine.commit());
-    change_profile(machine, due);
-    enter(machine, moment, request)?;
-    let row = row_of(machine, client);
-    write_entry(writer, due, machine.commit(), machine.time(), &row.request)?;
-    Ok(())
-}
-
-/// Enters a request that comes at a moment and writes its entry, where it is new.
+/// Enters a request that comes at a moment and writes its entry, where it is new. A mark that stands before it is written
+/// with it, so that none is where there is no entry.
 fn dump_pair<W: Sink>(
     machine: &mut Machine<Global>,
     at: Option<u64>,
@@ -121,13 +99,19 @@ fn dump_pair<W: Sink>(
     request: Request,
 ) -> Result<(), RunFault>
     requires { marks_at at machine.old.commit ≡ true → profile_of machine.old.books ≡ Profile.One }
-    ensures { DumpsPair result at machine.old machine.new (moment, request) (W.output writer.old)
+    ensures { DumpsPair at result machine.old machine.new (moment, request) (W.output writer.old)
         (W.output writer.new) }
 {
-    match machine.class(&request) {
-        Class::New => dump_new(machine, at, writer, moment, request),
-        _ => Ok(()),
-    }
+    let Class::New = machine.class(&request) else {
+        return Ok(())
+    };
+    let client = request.client();
+    let due = marks_at(at, machine.commit());
+    change_profile(machine, due);
+    enter(machine, moment, request)?;
+    let row = row_of(machine, client);
+    write_entry(writer, due, machine.commit(), machine.time(), &row.request)?;
+    Ok(())
 }
 
 /// Dumps the next pair of a script: false where there is none. The reader is asked only where nothing is held back, or a
@@ -141,8 +125,8 @@ fn dump_next<R: Source, W: Sink>(
 ) -> Result<bool, RunFault>
     requires by_one { marks_at at machine.old.commit ≡ true → profile_of machine.old.books ≡ Profile.One }
     requires prompt { IsPromptForPair (R.input reader.old) (W.output writer.old) }
-    ensures { DumpsOn result at machine.old machine.new (R.input reader.old) (R.input reader.new)
-        (W.output writer.old) (W.output writer.new) }
+    ensures { GoesOn PairAnswered (DumpsPair at) result machine.old machine.new
+        (R.input reader.old) (R.input reader.new) (W.output writer.old) (W.output writer.new) }
 {
     let Some((moment, request)) = read_timed_from(alloc, reader)? else {
         return Ok(false)
@@ -153,9 +137,9 @@ fn dump_next<R: Source, W: Sink>(
 
 /// Serves a script by profile 1, and writes the history that it makes as a dump: a head, and the entry of each new request.
 /// Where `at` is given, a mark is written directly before the first entry whose commit number is above it, and from that
-/// request on profile 2 serves. Answers the number of entries written, of which none is held back any more. The head is written before the script is read. On a
-/// fault the entries of all earlier pairs are written, and the rest of the script is unread; where the writer failed, a
-/// prefix of what is next was written too.
+/// request on profile 2 serves. Answers the number of entries written, of which none is held back any more. The head is
+/// written before the script is read. On a fault the entries of all earlier pairs are written, and the rest of the script is
+/// unread; where the writer failed, a prefix of what is next was written too.
 pub fn dump<R: Source, W: Sink>(
     alloc: Global,
     clients_max: ClientsMax,

@@ -3,7 +3,7 @@ ghost use Rattle.std.specs.Prelude.{◌≡◌, ◌+◌, ◌≤◌, max, OnOk, On
 ghost use Rattle.tb_records.specs.Messages.{count, item_count, items_max, operation, IsRight};
 ghost use Rattle.tb_ledger.specs.Verdicts.{max_time};
 ghost use Rattle.tb_machine.specs.Histories.{executed, found, reply_with, row_with, session_of};
-ghost use Rattle.tb_machine.specs.Serving.{made, row_in, Tells};
+ghost use Rattle.tb_machine.specs.Serving.{made, row_in, MayBeExecuted, Tells};
 
 use crate::entries::Entry;
 use std::alloc::{AllocError, Allocator, Global};
@@ -93,10 +93,7 @@ pub(crate) fn row_for<A: Allocator + Clone>(
     ledger: &mut Ledger<A>,
     entry: Entry,
 ) -> Result<Row, Entry>
-    requires few { item_count entry.request.body ≤ items_max }
-    requires later { ledger.old.time + max (count entry.request.body) 1 ≤ entry.time }
-    requires in_range { entry.time ≤ max_time }
-    requires right { IsRight (reply_with entry (found ledger.old entry.request.body entry.time)) }
+    requires { MayBeExecuted ledger.old entry }
     ensures { MatchResult result
         (λ row.
         (ledger.new ≡ executed ledger.old entry.request.body entry.time)
@@ -135,10 +132,7 @@ pub(crate) fn serve_row<A: Allocator + Clone, W: Sink>(
     request: &mut Request,
     row: &mut Row,
 ) -> Result<Result<(), FrameFault>, AllocError>
-    requires few { item_count request.old.body ≤ items_max }
-    requires later { ledger.old.time + max (count request.old.body) 1 ≤ time }
-    requires in_range { time ≤ max_time }
-    requires right { IsRight (row_in ledger.old (made commit time request.old)).reply }
+    requires { MayBeExecuted ledger.old (made commit time request.old) }
     ensures books { OnOk result (ledger.new ≡ executed ledger.old request.old.body time) }
     ensures row { OnOk result (row.new ≡ row_in ledger.old (made commit time request.old)) }
     ensures told { Tells result (row_in ledger.old (made commit time request.old)).reply (W.output writer.old)

@@ -15,11 +15,12 @@
 //! - `laws`: laws of legal histories: functions that do nothing.
 //! - `worked_rows`: scripts and the replies that the definitions give to them.
 //!
-//! specs/Histories has `step`, legal histories and what an answer is; specs/Serving what the steps of `run` do with one
-//! pair; specs/ScriptLaws what joins `run` to the laws. `run` serves a request of a session by `Machine::serve_in_session`,
-//! at its client's row. Whoever else enters a request has its entry by `Machine::next_entry`; `replay` tests one by
-//! `Machine::fits`, `restore` by its causes; `dump`, `replay` and `restore` enter it by `Machine::enter`, `run` a register
-//! by `enter_and_tell`, which writes the reply before the row that keeps it goes to the others.
+//! specs/Histories has `step`, legal histories and what an answer is; specs/Worked what `run`, `dump` and `replay` share;
+//! specs/Serving what the steps of `run` do with one pair; specs/ScriptLaws what joins `run` to the laws. `run` serves a
+//! request of a session by `Machine::serve_in_session`, at its client's row. Whoever else enters a request has its entry by
+//! `Machine::next_entry`; `replay` tests one by `Machine::fits`, `restore` by its causes; `dump`, `replay` and `restore`
+//! enter it by `Machine::enter`, `run` a register by `enter_and_tell`, which writes the reply before the row that keeps it
+//! goes to the others.
 #![tactic(auto)]
 
 mod answering;

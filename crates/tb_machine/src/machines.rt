@@ -9,7 +9,7 @@ ghost use Rattle.tb_records.specs.ReplyFrames.{reply_bytes, IsReply};
 ghost use Rattle.tb_records.specs.Transport.{IsSent};
 ghost use Rattle.tb_machine.specs.Histories.{start, step, reply_at, to_two, fits, is_new, least_time};
 ghost use Rattle.tb_machine.specs.Scripts.{entry_of, has_time};
-ghost use Rattle.tb_machine.specs.Serving.{Steps};
+ghost use Rattle.tb_machine.specs.Serving.{served_as, ServesPair, IfNotNew};
 
 use crate::entries::Entry;
 use crate::executing::{row_for, serve_row};
@@ -21,6 +21,32 @@ use tb_records::{
     send_reply,
 };
 use tb_sessions::{Class, Row, Sessions};
+
+/// How a request was served that was to be executed beside its client's row.
+#[derive(Clone, Copy)]
+pub(crate) enum Served {
+    /// It was executed, and its reply was written.
+    Told,
+    /// It was executed, and the writer's fault left a prefix of its reply.
+    Untold(FrameFault),
+    /// There is no memory for it: nothing was changed.
+    NoMemory,
+    /// It is of this class and not New there, or there is no time for it: nothing was called or changed.
+    NotNew(Class),
+}
+
+impl Served {
+    /// What became of a request that was called for, by what became of its reply.
+    fn of(told: Result<Result<(), FrameFault>, AllocError>) -> Served
+        ensures { result ≡ served_as told }
+    {
+        match told {
+            Ok(Ok(())) => Served::Told,
+            Ok(Err(fault)) => Served::Untold(fault),
+            Err(AllocError) => Served::NoMemory,
+        }
+    }
+}
 
 /// A ledger and the sessions of its clients, after a history. Requests, replies and the rows of the sessions take their
 /// memory of the global allocator, the records of `A`.
@@ -247,21 +273,14 @@ impl<A: Allocator + Clone> Machine<A> {
         writer: &mut W,
         moment: u64,
         request: &mut Request,
-    ) -> Result<Result<Result<(), FrameFault>, AllocError>, Class>
-        ensures new { OnOk result (class_of self.old.rows request.old ≡ Class.New) }
-        ensures timely { OnOk result (has_time self.old (moment, request.old) ≡ true) }
-        ensures served { IfOk result
-            (λ served.
-            Steps served self.old self.new (entry_of self.old (moment, request.old))
-            (W.output writer.old) (W.output writer.new)) }
-        ensures told { IfErr result (λ class. class ≡ class_of self.old.rows request.old) }
-        ensures unchanged { OnErr result
-            ((self.new ≡ self.old) × (request.new ≡ request.old) × (writer.new ≡ writer.old)) }
-        ensures lawful { IsLawful request.old }
+    ) -> Served
+        ensures served { ServesPair result self.old self.new (moment, request.old)
+            (W.output writer.old) (W.output writer.new) }
+        ensures unchanged { IfNotNew result (request.new ≡ request.old) }
     {
         let events = request.body().event_count() as u64;
         let Some(time) = self.next_time(moment, events) else {
-            return Err(self.class(request));
+            return Served::NotNew(self.class(request));
         };
         let commit = self.commit + 1;
         let global = self.global;
@@ -276,12 +295,12 @@ impl<A: Allocator + Clone> Machine<A> {
             Ok(told) => {
                 let refused = told.is_err();
                 if refused {
-                    return Ok(told);
+                    return Served::NoMemory;
                 }
                 self.commit = commit;
-                Ok(told)
+                Served::of(told)
             }
-            Err(class) => Err(class),
+            Err(class) => Served::NotNew(class),
         }
     }
 

@@ -3,8 +3,9 @@ ghost use Rattle.std.specs.Prelude.{◌≡◌, [], false, IfOk, MatchResult};
 ghost use Rattle.tb_records.specs.Transport.{Sent};
 ghost use Rattle.tb_ledger.specs.Books.{profile_of};
 ghost use Rattle.tb_machine.specs.Histories.{to_two};
-ghost use Rattle.tb_machine.specs.Replays.{EntersNext, ReplayRan, ReplaysEntry, ReplaysOn};
+ghost use Rattle.tb_machine.specs.Replays.{EntersNext, ReadsNext, ReplayRan, ReplaysEntry, ReplaysItem};
 ghost use Rattle.tb_machine.specs.Serving.{IsPromptForItem};
+ghost use Rattle.tb_machine.specs.Worked.{GoesOn};
 
 use crate::entries::Entry;
 use crate::machines::Machine;
@@ -53,6 +54,33 @@ fn replay_mark(machine: &mut Machine<Global>) -> Result<(), DumpFault>
     }
 }
 
+/// Replays an entry, or goes over to profile 2 at a mark.
+fn replay_item<W: Sink>(
+    machine: &mut Machine<Global>,
+    writer: &mut W,
+    item: DumpItem,
+) -> Result<(), DumpFault>
+    ensures { ReplaysItem result machine.old machine.new item (W.output writer.old)
+        (W.output writer.new) }
+{
+    match item {
+        DumpItem::Entry {
+            commit,
+            time,
+            request,
+        } => replay_entry(
+            machine,
+            writer,
+            Entry {
+                commit,
+                time,
+                request,
+            },
+        ),
+        DumpItem::Mark => replay_mark(machine),
+    }
+}
+
 /// Replays what stands next in a dump: false where nothing does. The reader is asked only where nothing is held back, or
 /// a whole item is at hand.
 fn replay_next<R: Source, W: Sink>(
@@ -62,27 +90,13 @@ fn replay_next<R: Source, W: Sink>(
     writer: &mut W,
 ) -> Result<bool, DumpFault>
     requires { IsPromptForItem (R.input reader.old) (W.output writer.old) }
-    ensures { ReplaysOn result machine.old machine.new (R.input reader.old) (R.input reader.new)
-        (W.output writer.old) (W.output writer.new) }
+    ensures { GoesOn ReadsNext ReplaysItem result machine.old machine.new
+        (R.input reader.old) (R.input reader.new) (W.output writer.old) (W.output writer.new) }
 {
-    match read_item_from(alloc, reader)? {
-        Some(
-            DumpItem::Entry {
-                commit,
-                time,
-                request,
-            },
-        ) => {
-            let entry = Entry {
-                commit,
-                time,
-                request,
-            };
-            replay_entry(machine, writer, entry)?;
-        }
-        Some(DumpItem::Mark) => replay_mark(machine)?,
-        None => return Ok(false),
-    }
+    let Some(item) = read_item_from(alloc, reader)? else {
+        return Ok(false)
+    };
+    replay_item(machine, writer, item)?;
     Ok(true)
 }
 

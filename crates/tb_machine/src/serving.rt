@@ -7,12 +7,13 @@ ghost use Rattle.tb_records.specs.Transport.{Sent};
 ghost use Rattle.tb_sessions.specs.Judged.{class_of, row_of};
 ghost use Rattle.tb_machine.specs.Histories.{status_of, answer_to, fits};
 ghost use Rattle.tb_machine.specs.RunFaults.{run_fault_number, run_fault_name};
-ghost use Rattle.tb_machine.specs.Runs.{is_new_in, AnswersPair, Ran};
+ghost use Rattle.tb_machine.specs.Runs.{is_new_in, AnswersPair, PairAnswered, Ran};
 ghost use Rattle.tb_machine.specs.Scripts.{entry_of, has_time};
-ghost use Rattle.tb_machine.specs.Serving.{EntersPair, Delivers, IsPromptForPair, Outcome, RunsOn};
+ghost use Rattle.tb_machine.specs.Serving.{EntersPair, Delivers, IsPromptForPair};
+ghost use Rattle.tb_machine.specs.Worked.{GoesOn};
 
 use crate::entries::Entry;
-use crate::machines::Machine;
+use crate::machines::{Machine, Served};
 use bumpalo::Bump;
 use std::alloc::{AllocError, Allocator, Global};
 use std::fmt;
@@ -203,17 +204,6 @@ fn answer_as<A: Allocator + Clone, W: Sink>(
     }
 }
 
-/// What a request ends with that was served beside its client's row.
-fn outcome(served: Result<Result<(), FrameFault>, AllocError>) -> Result<(), RunFault>
-    ensures { Outcome served result }
-{
-    match served {
-        Ok(Ok(())) => Ok(()),
-        Ok(Err(fault)) => Err(RunFault::Frame(fault)),
-        Err(AllocError) => Err(RunFault::NoMemory),
-    }
-}
-
 /// Serves a request that comes at a moment: a new one is entered first, and the reply is written. Where a new one finds no
 /// time or no memory, nothing is written and the machine is as it was; where the writer failed, a new one has been entered
 /// all the same, and sent again it is a repeat that gets its reply.
@@ -228,8 +218,10 @@ pub fn serve_pair<A: Allocator + Clone, W: Sink>(
 {
     let mut request = request;
     match machine.serve_in_session(writer, moment, &mut request) {
-        Ok(served) => outcome(served),
-        Err(class) => answer_as(machine, writer, moment, request, class),
+        Served::Told => Ok(()),
+        Served::Untold(fault) => Err(RunFault::Frame(fault)),
+        Served::NoMemory => Err(RunFault::NoMemory),
+        Served::NotNew(class) => answer_as(machine, writer, moment, request, class),
     }
 }
 
@@ -242,8 +234,8 @@ fn serve_next<A: Allocator + Clone, R: Source, W: Sink>(
     writer: &mut W,
 ) -> Result<bool, RunFault>
     requires { IsPromptForPair (R.input reader.old) (W.output writer.old) }
-    ensures { RunsOn result machine.old machine.new (R.input reader.old) (R.input reader.new)
-        (W.output writer.old) (W.output writer.new) }
+    ensures { GoesOn PairAnswered AnswersPair result machine.old machine.new
+        (R.input reader.old) (R.input reader.new) (W.output writer.old) (W.output writer.new) }
 {
     let Some((moment, request)) = read_timed_from(alloc, reader)? else {
         return Ok(false)

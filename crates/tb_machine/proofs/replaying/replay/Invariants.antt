@@ -1,10 +1,8 @@
-use Rattle.std.proofs.Common.{ℕ}
-use Rattle.tb_records.specs.declared.limits.Profile.{Profile}
 use Rattle.tb_machine.proofs.DumpReading.{Replaying}
 use Rattle.tb_machine.proofs.replaying.replay.Given as goal
 
 abbrev pub invariant-loop : goal.invariant-loop
 invariant-loop g l =
-    (profile : Profile) × (clients_max : ℕ) × Replaying profile clients_max l.counter l.machine
+    Replaying l.counter l.machine
     (g.R.Source.input l.fn.reader) (g.R.Source.input l.reader)
     (g.W.Sink.output l.fn.writer) (g.W.Sink.output l.writer)

@@ -3,13 +3,13 @@ use Rattle.tb_sessions.specs.declared.rows.Row.{Row}
 use Rattle.tb_sessions.specs.Admission.{Table}
 use Rattle.tb_machine.specs.Histories.{State, fits}
 use Rattle.tb_machine.proofs.Judging.{may_come}
-use Rattle.tb_machine.proofs.SoundSteps.{right_reply, commits_before, sound_step}
+use Rattle.tb_machine.proofs.SoundSteps.{may_be_executed, commits_before, sound_step}
 use Rattle.tb_machine.proofs.machines.Machine.enter.Goals as goal
 
-pub row_for-requires-clause-right : goal.row_for-requires-clause-right
-row_for-requires-clause-right g c =
+pub row_for-requires : goal.row_for-requires
+row_for-requires g c =
     let S : State = record { clients_max = c.self.inside.sessions.clients_max; commit = c.self.inside.commit; books = c.self.inside.ledger; rows = c.self.inside.sessions.rows } in
-    right_reply S c.args.entry c.self.invariant (subst (λ (T : State). IsTrue (fits T c.args.entry)) (sym c.self.view_is) c.requires)
+    may_be_executed S c.args.entry c.self.invariant (subst (λ (T : State). IsTrue (fits T c.args.entry)) (sym c.self.view_is) c.requires)
 
 pub record-left-requires-clause-later : goal.record-left-requires-clause-later
 record-left-requires-clause-later g c =

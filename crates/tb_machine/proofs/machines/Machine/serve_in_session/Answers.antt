@@ -1,9 +1,9 @@
-use Rattle.std.proofs.Common.{rules, ◌≡◌, ◌+◌, ◌≤◌, max, OnOk, OnErr, sym, ap, ◌∙◌, subst, arith}
-use Rattle.tb_records.specs.Messages.{Message, Answer, count, item_count, items_max, IsRight}
-use Rattle.tb_machine.specs.Histories.{State, executed, time_of}
-use Rattle.tb_machine.specs.Serving.{made, row_in, Tells}
+use Rattle.std.proofs.Common.{rules, ◌≡◌, ◌+◌, OnOk, OnErr, sym, ap, subst, arith}
+use Rattle.tb_records.specs.Messages.{Message, count}
+use Rattle.tb_machine.specs.Histories.{State, is_new, executed, time_of}
+use Rattle.tb_machine.specs.Serving.{made, row_in, MayBeExecuted, Tells}
 use Rattle.tb_machine.specs.Sound.{IsSound}
-use Rattle.tb_machine.proofs.InSession.{of_ok, of_err, steps_ok, steps_err, same_state, few, later, right, renewed, rows_same, stepped, sound_after, reply_is}
+use Rattle.tb_machine.proofs.InSession.{of_ok, of_err, class_new, may_be, timely, same_state, renewed, rows_same, sound_after, serves}
 use Rattle.tb_machine.proofs.machines.Machine.serve_in_session.Goals as goal
 
 pub renew_with-served-requires-clause-callable : goal.renew_with-served-requires-clause-callable
@@ -12,10 +12,9 @@ renew_with-served-requires-clause-callable g c = λ row new x y xs ys.
     let r = c.args.request.now in
     let time = c.in-Some.time in
     let time_is : time ≡ time_of S c.args.moment r = omega (arith, c.in-Some.ensures.0, c.event_count-events.ensures, ap count c.body.ensures.value, ap (λ (T : State). T.books.time) c.self.view_is) in
-    let f : item_count x.now.body ≤ items_max = subst (λ (q : Message). item_count q.body ≤ items_max) (sym xs) (few S c.self.invariant c.args.moment time r c.body.ensures.lawful time_is c.in-Some.ensures.1 row new) in
-    let l : c.self.inside.ledger.time + max (count x.now.body) 1 ≤ time = subst (λ (q : Message). c.self.inside.ledger.time + max (count q.body) 1 ≤ time) (sym xs) (later S c.self.invariant c.args.moment time r c.body.ensures.lawful time_is c.in-Some.ensures.1 row new) in
-    let w : IsRight (row_in c.self.inside.ledger (made (c.self.inside.commit + 1) time x.now)).reply = subst (λ (q : Message). IsRight (row_in c.self.inside.ledger (made (c.self.inside.commit + 1) time q)).reply) (sym xs) (right S c.self.invariant c.args.moment time r c.body.ensures.lawful time_is c.in-Some.ensures.1 row new) in
-    search (rules, f, l, c.in-Some.ensures.1, w)
+    let all : MayBeExecuted c.self.inside.ledger (made (c.self.inside.commit + 1) time x.now) =
+    subst (λ (q : Message). MayBeExecuted c.self.inside.ledger (made (c.self.inside.commit + 1) time q)) (sym xs) (may_be S c.self.invariant c.args.moment time r c.body.ensures.lawful time_is c.in-Some.ensures.1 row new) in
+    search rules
 
 pub renew_with-served-requires-clause-renews : goal.renew_with-served-requires-clause-renews
 renew_with-served-requires-clause-renews g c = λ row answer f' r' left new serves.
@@ -70,7 +69,7 @@ returns-then-refused-clause-served g c =
     (of_err c.in-Ok.told c.is_err-refused.result c.is_err-refused.ensures.value c.if-refused.true books)
     (rows_same S c.self.invariant c.args.moment time r c.body.ensures.lawful time_is c.in-Some.ensures.1 sv.row sv.new sv.left c.renew_with-served.new.self.rows sv.put (of_err c.in-Ok.told c.is_err-refused.result c.is_err-refused.ensures.value c.if-refused.true kept)) in
     let unsent : OnErr c.in-Ok.told (c.writer-1.given.0 ≡ c.args.writer.now) = search rules in
-    steps_err _ _ _ _ _ c.in-Ok.told c.is_err-refused.result c.is_err-refused.ensures.value c.if-refused.true (same ∙ c.self.view_is) (ap g.W.Sink.output (of_err c.in-Ok.told c.is_err-refused.result c.is_err-refused.ensures.value c.if-refused.true unsent))
+    rw (← c.self.view_is) (ap is_new (class_new S c.self.invariant c.args.moment time r c.body.ensures.lawful time_is c.in-Some.ensures.1 sv.row sv.new), timely S c.self.invariant c.args.moment time r c.body.ensures.lawful time_is c.in-Some.ensures.1 sv.row sv.new, same, ap g.W.Sink.output (of_err c.in-Ok.told c.is_err-refused.result c.is_err-refused.ensures.value c.if-refused.true unsent))
 
 pub returns-else-refused-clause-served : goal.returns-else-refused-clause-served
 returns-else-refused-clause-served g c =
@@ -82,9 +81,6 @@ returns-else-refused-clause-served g c =
     let called = sv.served.called in
     let books : OnOk c.in-Ok.told (c.renew_with-served.new.serve.1.now ≡ executed c.self.inside.ledger r.body time) = search rules in
     let is : OnOk c.in-Ok.told (sv.left ≡ row_in c.self.inside.ledger (made (c.self.inside.commit + 1) time r)) = search rules in
-    let reply = (row_in c.self.inside.ledger (made (c.self.inside.commit + 1) time r)).reply in
-    let sent : Tells c.in-Ok.told reply (g.W.Sink.output c.args.writer.now) (g.W.Sink.output c.writer-1.given.0) = search rules in
-    rw (← c.self.view_is) (steps_ok _ _ _ _ _ c.in-Ok.told c.is_err-refused.result c.is_err-refused.ensures.value c.if-refused.false
-    (stepped S c.self.invariant c.args.moment time r c.body.ensures.lawful time_is c.in-Some.ensures.1 sv.row sv.new sv.left c.renew_with-served.new.self.clients_max c.renew_with-served.new.serve.1.now c.renew_with-served.new.self.rows c.renew_with-served.ensures.same_size
-    (of_ok c.in-Ok.told c.is_err-refused.result c.is_err-refused.ensures.value c.if-refused.false books) (of_ok c.in-Ok.told c.is_err-refused.result c.is_err-refused.ensures.value c.if-refused.false is) sv.put)
-    (subst (λ (a : Answer). Tells c.in-Ok.told a (g.W.Sink.output c.args.writer.now) (g.W.Sink.output c.writer-1.given.0)) (reply_is S c.self.invariant c.args.moment time r c.body.ensures.lawful time_is c.in-Some.ensures.1 sv.row sv.new) sent).told)
+    let tells : Tells c.in-Ok.told (row_in c.self.inside.ledger (made (c.self.inside.commit + 1) time r)).reply (g.W.Sink.output c.args.writer.now) (g.W.Sink.output c.writer-1.given.0) = search rules in
+    rw (c.of.ensures, ← c.self.view_is) (serves S c.self.invariant c.args.moment time r c.body.ensures.lawful time_is c.in-Some.ensures.1 sv.row sv.new sv.left c.renew_with-served.new.self.clients_max c.renew_with-served.new.serve.1.now c.renew_with-served.new.self.rows c.renew_with-served.ensures.same_size
+    (of_ok c.in-Ok.told c.is_err-refused.result c.is_err-refused.ensures.value c.if-refused.false books) (of_ok c.in-Ok.told c.is_err-refused.result c.is_err-refused.ensures.value c.if-refused.false is) sv.put c.in-Ok.told _ _ c.is_err-refused.result c.is_err-refused.ensures.value c.if-refused.false tells)
