@@ -4,7 +4,7 @@ use Rattle.tb_records.specs.declared.replies.Status.TheVariants as status
 use Rattle.tb_records.specs.Messages.{Message, Answer, IsLawful}
 use Rattle.tb_records.specs.ReplyFrames.{reply_bytes}
 use Rattle.tb_sessions.specs.declared.classes.Class.{Class}
-use Rattle.tb_sessions.specs.declared.classes.Class.TheVariants.{New, Repeat, NoSession, SessionTooLow, NewerSession, Older, Collision, NewerRequest}
+use Rattle.tb_sessions.specs.declared.classes.Class.TheVariants.{New}
 use Rattle.tb_sessions.specs.Judged.{row_of, class_of}
 use Rattle.tb_machine.specs.Histories.{State, is_new, step, answer_by, answer_to}
 use Rattle.tb_machine.specs.Scripts.{entry_of, after_pair}
@@ -15,13 +15,7 @@ use Rattle.tb_embed.specs.Calls.{IsAnsweredAgain}
 -- what is answered with status 0 is not new
 answered_known : (S : State) (r : Message) (c : Class) → c ≡ class_of S.rows r → (answer_by c (row_of S.rows r.client) r).status ≡ status.Reply → is_new c ≡ false
 answered_known S r New is said = absurd cc
-answered_known S r Repeat is said = refl
-answered_known S r NoSession is said = refl
-answered_known S r SessionTooLow is said = refl
-answered_known S r NewerSession is said = refl
-answered_known S r Older is said = refl
-answered_known S r Collision is said = refl
-answered_known S r NewerRequest is said = refl
+answered_known S r c is said = refl
 
 module _ (S : State) (moment again : ℕ) (r : Message) (lawful : IsLawful r) (timely : IsTimely S (moment, r)) where
   -- where a request is not new, nothing moves

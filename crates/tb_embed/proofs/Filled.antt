@@ -1,5 +1,5 @@
 -- What a room holds once a request was served into it.
-use Rattle.std.proofs.Common.{◌≡◌, ℕ, ◌≤◌, Bool, true, List, [], ◌∷◌, length, take, Some, Result, Ok, Err, sym, ap, ◌∙◌, subst, arith, min, length-take}
+use Rattle.std.proofs.Common.{◌≡◌, ℕ, ◌≤◌, Bool, true, List, ◌∷◌, length, take, Some, Result, Ok, Err, sym, ap, ◌∙◌, subst, arith, min, length-take}
 use Rattle.std.proofs.lemmas.List.{take_all}
 use Rattle.tb_records.specs.Transport.{Output}
 use Rattle.tb_machine.specs.declared.serving.RunFault.{RunFault}
@@ -14,15 +14,7 @@ abbrev room_output : ℕ → ℕ → List ℕ → ℕ → Bool → Bool → Outp
 room_output name at bytes stalls halted held = record { written = Some (name ∷ take at bytes); failed = 0; stalled = stalls; halted = halted; held = held }
 
 named_same : (named name : ℕ) (front bytes : List ℕ) → named ∷ front ≡ name ∷ bytes → (named ≡ name) × (front ≡ bytes)
-named_same named name front bytes e = (ap head_of e, ap tail_of e)
-  where
-    head_of : List ℕ → ℕ
-    head_of [] = 0
-    head_of (x ∷ xs) = x
-
-    tail_of : List ℕ → List ℕ
-    tail_of [] = []
-    tail_of (x ∷ xs) = xs
+named_same named name front bytes e = (cc, cc)
 
 -- a room before and after; the caller's bytes are the room's where its name is still that of the caller's reference
 module _ (lent name named empty at stalled stalls : ℕ) (was is kept held : Bool) (start room bytes : List ℕ) (S T : State) (p : Pair)

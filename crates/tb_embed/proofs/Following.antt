@@ -60,9 +60,7 @@ module _ (profile : Profile) (clients_max : ℕ) where
       by Unread moment bytes room U right rest = let more = rest h U (right.1 ∙ is) in record { pairs = more.pairs; lawful = more.lawful; asked = more.asked; stands = more.stands }
       by TimeExhausted moment bytes room U (r, spells, right) rest = let more = rest h U (right.2 ∙ is) in record { pairs = more.pairs; lawful = more.lawful; asked = more.asked; stands = more.stands }
       by NoMemory moment bytes room U (r, spells, right) rest = let more = rest h U (right.2 ∙ is) in record { pairs = more.pairs; lawful = more.lawful; asked = more.asked; stands = more.stands }
-      by Closed moment bytes room U (r, spells, right) rest = absurd right
-      by Usage moment bytes room U (r, spells, right) rest = absurd right
-      by Absent moment bytes room U (r, spells, right) rest = absurd right
+      by other moment bytes room U (r, spells, right) rest = absurd right
 
 pub calls_make_history : CallsMakeHistory
 calls_make_history profile clients_max cs T follow =
@@ -106,38 +104,23 @@ one_status S T U moment bytes room other a b mine yours same a_memory b_memory =
     by Closed b (r, spells, right) yours c d = absurd right
     by Usage b (r, spells, right) yours c d = absurd right
     by Absent b (r, spells, right) yours c d = absurd right
-    by (Done n) NoMemory mine yours c d = absurd (d refl)
-    by (Done n) Unread mine yours c d = absurd (d refl)
-    by (Done n) Closed mine (r, spells, right) c d = absurd right
-    by (Done n) Usage mine (r, spells, right) c d = absurd right
-    by (Done n) Absent mine (r, spells, right) c d = absurd right
+    by a NoMemory mine yours c d = absurd (d refl)
+    by a Unread mine yours c d = absurd (d refl)
+    by a Closed mine (r, spells, right) c d = absurd right
+    by a Usage mine (r, spells, right) c d = absurd right
+    by a Absent mine (r, spells, right) c d = absurd right
     by (Done n) (Done k) mine yours c d = refl
     by (Done n) (TooSmall k) (r, first, x) (s, second, y) c d = absurd (too_small r s n k room other same first second x.2 x.3.bytes_are y.2 y.3)
     by (Done n) Malformed (r, first, x) (bad, _) c d = absurd (whole_frame bytes r first bad)
     by (Done n) TimeExhausted (r, first, x) (s, second, y) c d = absurd (late r s first second x.0 y.0 y.1)
-    by (TooSmall n) NoMemory mine yours c d = absurd (d refl)
-    by (TooSmall n) Unread mine yours c d = absurd (d refl)
-    by (TooSmall n) Closed mine (r, spells, right) c d = absurd right
-    by (TooSmall n) Usage mine (r, spells, right) c d = absurd right
-    by (TooSmall n) Absent mine (r, spells, right) c d = absurd right
     by (TooSmall n) (Done k) (r, first, x) (s, second, y) c d = absurd (too_small s r k n other room (sym same) second first y.2 y.3.bytes_are x.2 x.3)
     by (TooSmall n) (TooSmall k) mine yours c d = refl
     by (TooSmall n) Malformed (r, first, x) (bad, _) c d = absurd (whole_frame bytes r first bad)
     by (TooSmall n) TimeExhausted (r, first, x) (s, second, y) c d = absurd (late r s first second x.0 y.0 y.1)
-    by Malformed NoMemory mine yours c d = absurd (d refl)
-    by Malformed Unread mine yours c d = absurd (d refl)
-    by Malformed Closed mine (r, spells, right) c d = absurd right
-    by Malformed Usage mine (r, spells, right) c d = absurd right
-    by Malformed Absent mine (r, spells, right) c d = absurd right
     by Malformed (Done k) (bad, _) (s, second, y) c d = absurd (whole_frame bytes s second bad)
     by Malformed (TooSmall k) (bad, _) (s, second, y) c d = absurd (whole_frame bytes s second bad)
     by Malformed Malformed mine yours c d = refl
     by Malformed TimeExhausted (bad, _) (s, second, y) c d = absurd (whole_frame bytes s second bad)
-    by TimeExhausted NoMemory mine yours c d = absurd (d refl)
-    by TimeExhausted Unread mine yours c d = absurd (d refl)
-    by TimeExhausted Closed mine (r, spells, right) c d = absurd right
-    by TimeExhausted Usage mine (r, spells, right) c d = absurd right
-    by TimeExhausted Absent mine (r, spells, right) c d = absurd right
     by TimeExhausted (Done k) (r, first, x) (s, second, y) c d = absurd (late s r second first y.0 x.0 x.1)
     by TimeExhausted (TooSmall k) (r, first, x) (s, second, y) c d = absurd (late s r second first y.0 x.0 x.1)
     by TimeExhausted Malformed (r, first, x) (bad, _) c d = absurd (whole_frame bytes r first bad)

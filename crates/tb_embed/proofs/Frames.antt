@@ -6,7 +6,7 @@ use Rattle.tb_records.specs.Frames.{Spells, request_bytes, request_fault}
 use Rattle.tb_records.proofs.Spellings.{spelled_sound, found_only}
 use Rattle.tb_machine.specs.Histories.{State}
 use Rattle.tb_embed.specs.declared.outcomes.Outcome.{Outcome}
-use Rattle.tb_embed.specs.declared.outcomes.Outcome.TheVariants.{Done, Closed, Usage, NoMemory, Unread, Malformed, TimeExhausted, Absent, TooSmall}
+use Rattle.tb_embed.specs.declared.outcomes.Outcome.TheVariants.{Done, NoMemory, TimeExhausted, TooSmall}
 use Rattle.tb_embed.specs.Calls.{IsMalformed, AnswersCall, AnswersFrame}
 
 spelled_fault : (bytes : List ℕ) (r : Message) → Spells bytes r → request_fault bytes ≡ None
@@ -21,14 +21,10 @@ whole_frame bytes r spells (inr (n, s, short, other)) =
 -- what a request is answered, its frame is
 pub frame_answered : (outcome : Outcome) (S T : State) (moment : ℕ) (bytes room : List ℕ) (r : Message) → Spells bytes r → AnswersCall outcome S T (moment, r) room → AnswersFrame outcome S T moment bytes room
 frame_answered (Done n) S T moment bytes room r spells right = (r, spells, right)
-frame_answered Closed S T moment bytes room r spells right = absurd right
-frame_answered Usage S T moment bytes room r spells right = absurd right
 frame_answered NoMemory S T moment bytes room r spells right = (r, spells, right)
-frame_answered Unread S T moment bytes room r spells right = absurd right
-frame_answered Malformed S T moment bytes room r spells right = absurd right
 frame_answered TimeExhausted S T moment bytes room r spells right = (r, spells, right)
-frame_answered Absent S T moment bytes room r spells right = absurd right
 frame_answered (TooSmall n) S T moment bytes room r spells right = (r, spells, right)
+frame_answered outcome S T moment bytes room r spells right = absurd right
 
 pub spells_all : (bytes : List ℕ) (n : ℕ) (r : Message) → n ≡ length bytes → Spells (take n bytes) r → Spells bytes r
 spells_all bytes n r e spells = subst (λ (l : List ℕ). Spells l r) (take_all n bytes (omega (arith, e))) spells

@@ -1,13 +1,11 @@
 -- How long the frame of a reply is, and of the one that a request gets, and that its numbers fit.
-use Rattle.std.proofs.Common.{true≢false, ◌≡◌, ◌≢◌, ℕ, ◌+◌, ◌*◌, ◌^◌, ◌<◌, ◌&&◌, Bool, true, false, cond, not, List, [], ◌∷◌, length, Option, Some, None, refl, sym, ap, ◌∙◌, subst, arith, eqb, ltb, length-append}
+use Rattle.std.proofs.Common.{true≢false, ◌≡◌, ◌≢◌, ℕ, ◌+◌, ◌*◌, ◌^◌, ◌<◌, Bool, true, false, cond, List, length, Option, Some, None, refl, sym, ap, ◌∙◌, subst, arith, eqb, length-append}
 use Rattle.tb_records.specs.declared.bodies.ReplyBody.{ReplyBody}
 use Rattle.tb_records.specs.declared.bodies.ReplyBody.TheVariants.{Empty, Results, Accounts, Transfers}
 use Rattle.tb_records.specs.declared.replies.Status.{Status}
 use Rattle.tb_records.specs.declared.replies.Status.TheVariants as status
-use Rattle.tb_records.specs.declared.bodies.Body.{Body}
 use Rattle.tb_records.specs.declared.bodies.Body.TheVariants as body
-use Rattle.tb_records.specs.declared.faults.FrameFault.TheVariants as fault
-use Rattle.tb_records.specs.Messages.{Message, Answer, IsLawful, IsRight, status_code, is_register, item_count, items_max, first_fault, asked}
+use Rattle.tb_records.specs.Messages.{Message, Answer, IsLawful, status_code, is_register}
 use Rattle.tb_records.specs.RecordBytes.{account_bytes, transfer_bytes, result_bytes}
 use Rattle.tb_records.specs.ReplyFrames.{header_of_reply, reply_body_bytes, reply_bytes, IsReply}
 use Rattle.tb_records.specs.Sizes.{length-account, length-transfer, length-result}
@@ -15,11 +13,13 @@ use Rattle.tb_records.proofs.ItemBytes.{length_items}
 use Rattle.tb_records.proofs.ReplyPlaces.{length-reply_header}
 use Rattle.tb_sessions.specs.declared.rows.Row.{Row}
 use Rattle.tb_sessions.specs.declared.classes.Class.{Class}
-use Rattle.tb_sessions.specs.declared.classes.Class.TheVariants.{New, Repeat, NoSession, SessionTooLow, NewerSession, Older, Collision, NewerRequest}
+use Rattle.tb_sessions.specs.declared.classes.Class.TheVariants.{New, Repeat, NoSession}
 use Rattle.tb_sessions.specs.Judged.{row_of, class_by, class_of}
 use Rattle.tb_machine.specs.Histories.{State, is_new, step, status_of, refusal, answer_by, answer_to}
 use Rattle.tb_machine.specs.Scripts.{Pair, entry_of, after_pair}
 use Rattle.tb_machine.specs.Runs.{is_new_in, IsTimely, answer_bytes}
+use Rattle.tb_machine.proofs.Lawful.{lawful_numbers}
+use Rattle.tb_machine.proofs.RepliesFit.{refusal_right}
 use Rattle.tb_machine.proofs.Turns.{row_after, answer_after, after_new, after_known}
 use Rattle.std.specs.Option.{option_map}
 use Rattle.tb_embed.specs.Filling.{length_by, FitsBy}
@@ -53,13 +53,7 @@ refusal_is s r = frame_is (refusal s r) Empty refl
 known_length : (c : Class) (o : Option Row) (r : Message) → is_new c ≡ false → length_by c o ≡ length (reply_bytes (answer_by c o r))
 known_length New o r known = absurd (true≢false known)
 known_length Repeat (Some row) r known = refl
-known_length Repeat None r known = refusal_is (status_of Repeat) r
-known_length NoSession o r known = refusal_is (status_of NoSession) r
-known_length SessionTooLow o r known = refusal_is (status_of SessionTooLow) r
-known_length NewerSession o r known = refusal_is (status_of NewerSession) r
-known_length Older o r known = refusal_is (status_of Older) r
-known_length Collision o r known = refusal_is (status_of Collision) r
-known_length NewerRequest o r known = refusal_is (status_of NewerRequest) r
+known_length c o r known = refusal_is (status_of c) r
 
 module _ (S : State) (p : Pair) (lawful : IsLawful p.1) (timely : IsTimely S p) where
   abbrev Right : State → Class → Type 0
@@ -76,13 +70,7 @@ module _ (S : State) (p : Pair) (lawful : IsLawful p.1) (timely : IsTimely S p) 
 
   by_class : (c : Class) → c ≡ class_of S.rows p.1 → Right (after_pair S p) c
   by_class New e = new_length (ap is_new (sym e))
-  by_class Repeat e = subst (Right (after_pair S p)) (sym e) (old_length (ap is_new (sym e)))
-  by_class NoSession e = subst (Right (after_pair S p)) (sym e) (old_length (ap is_new (sym e)))
-  by_class SessionTooLow e = subst (Right (after_pair S p)) (sym e) (old_length (ap is_new (sym e)))
-  by_class NewerSession e = subst (Right (after_pair S p)) (sym e) (old_length (ap is_new (sym e)))
-  by_class Older e = subst (Right (after_pair S p)) (sym e) (old_length (ap is_new (sym e)))
-  by_class Collision e = subst (Right (after_pair S p)) (sym e) (old_length (ap is_new (sym e)))
-  by_class NewerRequest e = subst (Right (after_pair S p)) (sym e) (old_length (ap is_new (sym e)))
+  by_class c e = subst (Right (after_pair S p)) (sym e) (old_length (ap is_new (sym e)))
 
   -- the reply to a request that was served is as long as its class and its client's row tell
   pub answered_length : (T : State) (c : Class) (client : ℕ) → c ≡ class_of S.rows p.1 → client ≡ p.1.client → T ≡ after_pair S p → length_by c (row_of T.rows client) ≡ length (answer_bytes S p)
@@ -99,33 +87,9 @@ pub record HasFields (r : Message) : Type 0 where
 pub fields_of : (r : Message) (client session request : ℕ) → client ≡ r.client → session ≡ r.session → request ≡ r.request → client < 2 ^ 128 → session < 2 ^ 64 → request < 2 ^ 32 → HasFields r
 fields_of r client session request e f g a b c = record { client = subst (λ (k : ℕ). k < 2 ^ 128) e a; session = subst (λ (k : ℕ). k < 2 ^ 64) f b; request = subst (λ (k : ℕ). k < 2 ^ 32) g c }
 
--- what a lawful request's numbers tell
-lawful_lines : (client register session number many : Bool)
-    → first_fault ((client, fault.ClientZero) ∷ (register && not (session && number), fault.RegisterNumbers) ∷ (not register && number, fault.RequestZero) ∷ (many, fault.TooMany) ∷ []) ≡ None
-    → (client ≡ false) × (register ≡ true → session ≡ true) × (register ≡ true → number ≡ true) × (register ≡ false → number ≡ false)
-lawful_lines true register session number many e = absurd cc
-lawful_lines false true true true many e = (refl, λ _. refl, λ _. refl, λ is. absurd cc)
-lawful_lines false true true false many e = absurd cc
-lawful_lines false true false number many e = absurd cc
-lawful_lines false false session true many e = absurd cc
-lawful_lines false false session false many e = (refl, λ is. absurd cc, λ is. absurd cc, λ _. refl)
-
 -- a refusal names the request's numbers, and is right, as its status is not that of a reply
-refusal_right : (s : Status) (r : Message) → eqb (status_code s) 0 ≡ false → IsLawful r → IsRight (refusal s r)
-refusal_right s r other lawful =
-    let line = lawful_lines (eqb r.client 0) (is_register r.body) (eqb r.session 0) (eqb r.request 0) (ltb items_max (item_count r.body)) lawful in
-    by r.body line.0 line.1 line.2 line.3
-  where
-    by : (b : Body) → eqb r.client 0 ≡ false → (is_register b ≡ true → eqb r.session 0 ≡ true) → (is_register b ≡ true → eqb r.request 0 ≡ true) → (is_register b ≡ false → eqb r.request 0 ≡ false)
-        → IsRight (refusal s (asked r.client r.session r.request b))
-    by body.Register client session number numbered = rw (other, client, session refl, number refl) refl
-    by (body.CreateAccounts events) client session number numbered = rw (other, client, numbered refl) refl
-    by (body.CreateTransfers events) client session number numbered = rw (other, client, numbered refl) refl
-    by (body.LookupAccounts ids) client session number numbered = rw (other, client, numbered refl) refl
-    by (body.LookupTransfers ids) client session number numbered = rw (other, client, numbered refl) refl
-
 refusal_fits : (s : Status) (r : Message) → eqb (status_code s) 0 ≡ false → IsLawful r → HasFields r → IsReply (refusal s r)
-refusal_fits s r other lawful fields = record { client = fields.client; session = fields.session; request = fields.request; commit = omega arith; body = tt; right = refusal_right s r other lawful }
+refusal_fits s r other lawful fields = record { client = fields.client; session = fields.session; request = fields.request; commit = omega arith; body = tt; right = refusal_right s r other (lawful_numbers r lawful) }
 
 -- a client without a row has no repeat
 no_repeat : (r : Message) → Repeat ≡ class_by None r → ⊥
@@ -139,12 +103,7 @@ known_fits : (c : Class) (o : Option Row) (r : Message) → is_new c ≡ false �
 known_fits New o r known is lawful fields fits = absurd (true≢false known)
 known_fits Repeat (Some row) r known is lawful fields fits = fits
 known_fits Repeat None r known is lawful fields fits = absurd (no_repeat r is)
-known_fits NoSession o r known is lawful fields fits = refusal_fits status.NoSession r refl lawful fields
-known_fits SessionTooLow o r known is lawful fields fits = refusal_fits status.SessionTooLow r refl lawful fields
-known_fits NewerSession o r known is lawful fields fits = refusal_fits status.NewerSession r refl lawful fields
-known_fits Older o r known is lawful fields fits = refusal_fits status.Older r refl lawful fields
-known_fits Collision o r known is lawful fields fits = refusal_fits status.Collision r refl lawful fields
-known_fits NewerRequest o r known is lawful fields fits = refusal_fits status.NewerRequest r refl lawful fields
+known_fits c o r known is lawful fields fits = refusal_fits (status_of c) r refl lawful fields
 
 module _ (S : State) (p : Pair) (lawful : IsLawful p.1) (timely : IsTimely S p) (fields : HasFields p.1) where
   new_fits : is_new_in S p ≡ true → FitsBy New (row_of (after_pair S p).rows p.1.client) → IsReply (answer_to (after_pair S p) p.1)
@@ -164,13 +123,7 @@ module _ (S : State) (p : Pair) (lawful : IsLawful p.1) (timely : IsTimely S p) 
 
   fits_by_class : (c : Class) → c ≡ class_of S.rows p.1 → FitsBy c (row_of (after_pair S p).rows p.1.client) → IsReply (answer_to (after_pair S p) p.1)
   fits_by_class New is fits = new_fits (ap is_new (sym is)) fits
-  fits_by_class Repeat is fits = old_fits Repeat is refl fits
-  fits_by_class NoSession is fits = old_fits NoSession is refl fits
-  fits_by_class SessionTooLow is fits = old_fits SessionTooLow is refl fits
-  fits_by_class NewerSession is fits = old_fits NewerSession is refl fits
-  fits_by_class Older is fits = old_fits Older is refl fits
-  fits_by_class Collision is fits = old_fits Collision is refl fits
-  fits_by_class NewerRequest is fits = old_fits NewerRequest is refl fits
+  fits_by_class c is fits = old_fits c is refl fits
 
   -- the numbers of the reply to a request that was served fit, as its class and its client's row tell
   pub answered_fits : (T : State) (c : Class) (client : ℕ) → c ≡ class_of S.rows p.1 → client ≡ p.1.client → T ≡ after_pair S p → FitsBy c (row_of T.rows client) → IsReply (answer_to (after_pair S p) p.1)
@@ -187,9 +140,4 @@ stored_fits c (Some row) a is fits = by c
     by : (c : Class) → FitsBy c (Some row)
     by New = subst IsReply same fits
     by Repeat = subst IsReply same fits
-    by NoSession = tt
-    by SessionTooLow = tt
-    by NewerSession = tt
-    by Older = tt
-    by Collision = tt
-    by NewerRequest = tt
+    by c = tt
