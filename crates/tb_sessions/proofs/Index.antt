@@ -19,7 +19,7 @@ use Rattle.tb_sessions.specs.declared.rows.Row.{Row}
 use Rattle.tb_sessions.specs.Judged.{client_of}
 use Rattle.tb_sessions.specs.Admission.{oldest, driven_out}
 use Rattle.tb_sessions.specs.Indexed.{kept_row, client_at, IsLinked, IsIndexed, IsFirstBehind, FindsOldest}
-use Rattle.tb_sessions.proofs.LookUps.{decide, at_itself, removed_here, removed_other, set_here, set_other, put_here, put_other, first_least, each_found}
+use Rattle.tb_sessions.proofs.LookUps.{GoneAt, PutAt, decide, at_itself, removed, written, inserted, first_least, each_found}
 
 pub inside : {X : Type 0} {x y : X} → Some x ≡ Some y → x ≡ y
 inside e = cc
@@ -27,127 +27,118 @@ inside e = cc
 pub nothing : {X : Type 0} {o : Option X} {x : X} → o ≡ None → o ≡ Some x → ⊥
 nothing e f = cc
 
+none_where : {X : Type 0} (o : Option X) → ((x : X) → o ≡ Some x → ⊥) → o ≡ None
+none_where None never = refl
+none_where (Some x) never = absurd (never x refl)
+
+-- what is still found was found before, at another number
+before : {X : Type 0} {k : ℕ} {f f' : ℕ → Option X} → GoneAt k f f' → (q : ℕ) (x : X) → f' q ≡ Some x → (q ≢ k) × (f q ≡ Some x)
+before {k = k} {f' = f'} gone q x is = elim (decide q k) [
+  | inl same ↦ absurd (nothing (ap f' same ∙ gone.here) is)
+  | inr n ↦ (n, sym (gone.others q n) ∙ is)
+]
+
+-- what is found is what was put, or was found before at another number
+put_or_before : {X : Type 0} {k : ℕ} {v : X} {f f' : ℕ → Option X} → PutAt k v f f' → (q : ℕ) (x : X) → f' q ≡ Some x → ((q ≡ k) × (x ≡ v)) ⊎ ((q ≢ k) × (f q ≡ Some x))
+put_or_before {k = k} {f' = f'} put q x is = elim (decide q k) [
+  | inl same ↦ inl (same, inside (sym is ∙ ap f' same ∙ put.here))
+  | inr n ↦ inr (n, sym (put.others q n) ∙ is)
+]
+
 -- a client's row leaves, and the commit that the client stands at
-linked_out : {R R' : ℕ → Option Row} {B B' : ℕ → Option ℕ} (k d : ℕ) → IsLinked R B → B d ≡ Some k
-    → R' k ≡ None → ((q : ℕ) → q ≢ k → R' q ≡ R q) → B' d ≡ None → ((c : ℕ) → c ≢ d → B' c ≡ B c) → IsLinked R' B'
-linked_out {R} {R'} {B} {B'} k d l stood gone others commit_gone other_commits = record {
-  noted = λ q x is. let was = row_before q x is in let noted = l.noted q x was.1 in (noted.0, noted.1, other_commits noted.0 (λ same. was.0 (inside (sym noted.2 ∙ ap B same ∙ stood))) ∙ noted.2);
-  kept = λ c j is. let was = client_before c j is in let kept = l.kept c j was.1 in (kept.0, others j (λ same. was.0 (l.once c d j was.1 (stood ∙ ap Some (sym same)))) ∙ kept.1, kept.2);
+linked_out : {R R' : ℕ → Option Row} {B B' : ℕ → Option ℕ} (k d : ℕ) → IsLinked R B → B d ≡ Some k → GoneAt k R R' → GoneAt d B B' → IsLinked R' B'
+linked_out {R} {R'} {B} {B'} k d l stood row client = record {
+  noted = λ q x is. let was = row_before q x is in let noted = l.noted q x was.1 in (noted.0, noted.1, client.others noted.0 (λ same. was.0 (inside (sym noted.2 ∙ ap B same ∙ stood))) ∙ noted.2);
+  kept = λ c j is. let was = client_before c j is in let kept = l.kept c j was.1 in (kept.0, row.others j (λ same. was.0 (l.once c d j was.1 (stood ∙ ap Some (sym same)))) ∙ kept.1, kept.2);
   once = λ c e j is too. l.once c e j (client_before c j is).1 (client_before e j too).1;
   apart = λ q j x is at. l.apart q j x (row_before q x is).1 (client_before x.commit j at).1;
   differ = λ q j x y is too same. l.differ q j x y (row_before q x is).1 (row_before j y too).1 same;
 }
   where
     row_before : (q : ℕ) (x : Row) → R' q ≡ Some x → (q ≢ k) × (R q ≡ Some x)
-    row_before q x is = elim (decide q k) [
-      | inl same ↦ absurd (nothing (ap R' same ∙ gone) is)
-      | inr n ↦ (n, sym (others q n) ∙ is)
-    ]
+    row_before = before row
 
     client_before : (c j : ℕ) → B' c ≡ Some j → (c ≢ d) × (B c ≡ Some j)
-    client_before c j is = elim (decide c d) [
-      | inl same ↦ absurd (nothing (ap B' same ∙ commit_gone) is)
-      | inr n ↦ (n, sym (other_commits c n) ∙ is)
-    ]
-
--- of the rows after a change: the one that was put in, or one from before
-put_or_before : {R R' : ℕ → Option Row} (k : ℕ) (r : Row) → R' k ≡ Some r → ((q : ℕ) → q ≢ k → R' q ≡ R q) → (q : ℕ) (x : Row) → R' q ≡ Some x → ((q ≡ k) × (x ≡ r)) ⊎ (R q ≡ Some x)
-put_or_before {R} {R'} k r here others q x is = elim (decide q k) [
-  | inl same ↦ inl (same, inside (sym is ∙ ap R' same ∙ here))
-  | inr n ↦ inr (sym (others q n) ∙ is)
-]
+    client_before = before client
 
 -- no two rows have one commit, where the row that was put in has a new one
-still_differ : {R R' : ℕ → Option Row} (k : ℕ) (r : Row) → ((q j : ℕ) (x y : Row) → R q ≡ Some x → R j ≡ Some y → x.commit ≡ y.commit → q ≡ j)
-    → ((q : ℕ) (x : Row) → R q ≡ Some x → x.commit ≢ r.commit) → ((q : ℕ) (x : Row) → R' q ≡ Some x → ((q ≡ k) × (x ≡ r)) ⊎ (R q ≡ Some x))
-    → (q j : ℕ) (x y : Row) → R' q ≡ Some x → R' j ≡ Some y → x.commit ≡ y.commit → q ≡ j
-still_differ k r differ unlike before q j x y is too same = elim (before q x is) [
-  | inl a ↦ elim (before j y too) [
+still_differ : {R R' : ℕ → Option Row} (k : ℕ) (r : Row) → PutAt k r R R' → ((q j : ℕ) (x y : Row) → R q ≡ Some x → R j ≡ Some y → x.commit ≡ y.commit → q ≡ j)
+    → ((q : ℕ) (x : Row) → R q ≡ Some x → x.commit ≢ r.commit) → (q j : ℕ) (x y : Row) → R' q ≡ Some x → R' j ≡ Some y → x.commit ≡ y.commit → q ≡ j
+still_differ k r put differ unlike q j x y is too same = elim (put_or_before put q x is) [
+  | inl a ↦ elim (put_or_before put j y too) [
     | inl b ↦ a.0 ∙ sym b.0
-    | inr b ↦ absurd (unlike j y b (sym same ∙ ap (λ (w : Row). w.commit) a.1))
+    | inr b ↦ absurd (unlike j y b.1 (sym same ∙ ap (λ (w : Row). w.commit) a.1))
   ]
-  | inr a ↦ elim (before j y too) [
-    | inl b ↦ absurd (unlike q x a (same ∙ ap (λ (w : Row). w.commit) b.1))
-    | inr b ↦ differ q j x y a b same
+  | inr a ↦ elim (put_or_before put j y too) [
+    | inl b ↦ absurd (unlike q x a.1 (same ∙ ap (λ (w : Row). w.commit) b.1))
+    | inr b ↦ differ q j x y a.1 b.1 same
   ]
 ]
 
 -- a row comes, and its client at the row's commit
 linked_in : {R R' : ℕ → Option Row} {B B' : ℕ → Option ℕ} (k : ℕ) (r : Row) → IsLinked R B → R k ≡ None → B r.commit ≡ None → ((q : ℕ) (x : Row) → R q ≡ Some x → x.commit ≢ r.commit)
-    → R' k ≡ Some r → ((q : ℕ) → q ≢ k → R' q ≡ R q) → B' r.commit ≡ Some k → ((c : ℕ) → c ≢ r.commit → B' c ≡ B c) → IsLinked R' B'
-linked_in {R} {R'} {B} {B'} k r l absent fresh unlike here others commit_here other_commits = record {
-  noted = λ q x is. elim (row_before q x is) [
-    | inl a ↦ let same = ap (λ (w : Row). w.commit) a.1 in (r.commit, omega (arith, same), commit_here ∙ ap Some (sym a.0))
-    | inr a ↦ let noted = l.noted q x a in (noted.0, noted.1, other_commits noted.0 (λ same. nothing (ap B same ∙ fresh) noted.2) ∙ noted.2)
+    → PutAt k r R R' → PutAt r.commit k B B' → IsLinked R' B'
+linked_in {R} {R'} {B} {B'} k r l absent fresh unlike row client = record {
+  noted = λ q x is. elim (put_or_before row q x is) [
+    | inl a ↦ let same = ap (λ (w : Row). w.commit) a.1 in (r.commit, omega (arith, same), client.here ∙ ap Some (sym a.0))
+    | inr a ↦ let noted = l.noted q x a.1 in (noted.0, noted.1, client.others noted.0 (λ same. nothing (ap B same ∙ fresh) noted.2) ∙ noted.2)
   ];
-  kept = λ c j is. elim (client_before c j is) [
-    | inl a ↦ let same = a.0 in (r, ap R' a.1 ∙ here, omega (arith, same))
-    | inr a ↦ let kept = l.kept c j a.1 in (kept.0, others j (λ same. nothing (ap R same ∙ absent) kept.1) ∙ kept.1, kept.2)
+  kept = λ c j is. elim (put_or_before client c j is) [
+    | inl a ↦ let same = a.0 in (r, ap R' a.1 ∙ row.here, omega (arith, same))
+    | inr a ↦ let kept = l.kept c j a.1 in (kept.0, row.others j (λ same. nothing (ap R same ∙ absent) kept.1) ∙ kept.1, kept.2)
   ];
-  once = λ c e j is too. elim (client_before c j is) [
-    | inl a ↦ elim (client_before e j too) [
+  once = λ c e j is too. elim (put_or_before client c j is) [
+    | inl a ↦ elim (put_or_before client e j too) [
       | inl b ↦ a.0 ∙ sym b.0
       | inr b ↦ absurd (nothing (ap R a.1 ∙ absent) (l.kept e j b.1).1)
     ]
-    | inr a ↦ elim (client_before e j too) [
+    | inr a ↦ elim (put_or_before client e j too) [
       | inl b ↦ absurd (nothing (ap R b.1 ∙ absent) (l.kept c j a.1).1)
       | inr b ↦ l.once c e j a.1 b.1
     ]
   ];
-  apart = λ q j x is at. elim (row_before q x is) [
-    | inl a ↦ elim (client_before x.commit j at) [
+  apart = λ q j x is at. elim (put_or_before row q x is) [
+    | inl a ↦ elim (put_or_before client x.commit j at) [
       | inl b ↦ b.1 ∙ sym a.0
       | inr b ↦ absurd (b.0 (ap (λ (w : Row). w.commit) a.1))
     ]
-    | inr a ↦ elim (client_before x.commit j at) [
-      | inl b ↦ absurd (unlike q x a b.0)
-      | inr b ↦ l.apart q j x a b.1
+    | inr a ↦ elim (put_or_before client x.commit j at) [
+      | inl b ↦ absurd (unlike q x a.1 b.0)
+      | inr b ↦ l.apart q j x a.1 b.1
     ]
   ];
-  differ = still_differ k r l.differ unlike row_before;
+  differ = still_differ k r row l.differ unlike;
 }
-  where
-    row_before : (q : ℕ) (x : Row) → R' q ≡ Some x → ((q ≡ k) × (x ≡ r)) ⊎ (R q ≡ Some x)
-    row_before = put_or_before k r here others
-
-    client_before : (c j : ℕ) → B' c ≡ Some j → ((c ≡ r.commit) × (j ≡ k)) ⊎ ((c ≢ r.commit) × (B c ≡ Some j))
-    client_before c j is = elim (decide c r.commit) [
-      | inl same ↦ inl (same, inside (sym is ∙ ap B' same ∙ commit_here))
-      | inr n ↦ inr (n, sym (other_commits c n) ∙ is)
-    ]
 
 -- a later row comes in place of a client's, and the client stands where it stood
 linked_renewed : {R R' : ℕ → Option Row} {B : ℕ → Option ℕ} (k : ℕ) (r old : Row) → IsLinked R B → R k ≡ Some old → old.commit ≤ r.commit → B r.commit ≡ None → ((q : ℕ) (x : Row) → R q ≡ Some x → x.commit ≢ r.commit)
-    → R' k ≡ Some r → ((q : ℕ) → q ≢ k → R' q ≡ R q) → IsLinked R' B
-linked_renewed {R} {R'} {B} k r old l found later fresh unlike here others = record {
-  noted = λ q x is. elim (row_before q x is) [
+    → PutAt k r R R' → IsLinked R' B
+linked_renewed {R} {R'} {B} k r old l found later fresh unlike row = record {
+  noted = λ q x is. elim (put_or_before row q x is) [
     | inl a ↦ let noted = l.noted k old found in let same = ap (λ (w : Row). w.commit) a.1 in let low = noted.1 in (noted.0, omega (arith, low, later, same), noted.2 ∙ ap Some (sym a.0))
-    | inr a ↦ l.noted q x a
+    | inr a ↦ l.noted q x a.1
   ];
   kept = λ c j is. let kept = l.kept c j is in elim (decide j k) [
-    | inl same ↦ let was = ap (λ (w : Row). w.commit) (inside (sym kept.1 ∙ ap R same ∙ found)) in let low = kept.2 in (r, ap R' same ∙ here, omega (arith, was, low, later))
-    | inr n ↦ (kept.0, others j n ∙ kept.1, kept.2)
+    | inl same ↦ let was = ap (λ (w : Row). w.commit) (inside (sym kept.1 ∙ ap R same ∙ found)) in let low = kept.2 in (r, ap R' same ∙ row.here, omega (arith, was, low, later))
+    | inr n ↦ (kept.0, row.others j n ∙ kept.1, kept.2)
   ];
   once = l.once;
-  apart = λ q j x is at. elim (row_before q x is) [
+  apart = λ q j x is at. elim (put_or_before row q x is) [
     | inl a ↦ absurd (nothing (ap (λ (w : Row). B w.commit) a.1 ∙ fresh) at)
-    | inr a ↦ l.apart q j x a at
+    | inr a ↦ l.apart q j x a.1 at
   ];
-  differ = still_differ k r l.differ unlike row_before;
+  differ = still_differ k r row l.differ unlike;
 }
-  where
-    row_before : (q : ℕ) (x : Row) → R' q ≡ Some x → ((q ≡ k) × (x ≡ r)) ⊎ (R q ≡ Some x)
-    row_before = put_or_before k r here others
 
 -- a client goes from the commit where it stands to its row's
-linked_moved : {R : ℕ → Option Row} {B B' : ℕ → Option ℕ} (k d : ℕ) (r : Row) → IsLinked R B → B d ≡ Some k → R k ≡ Some r
-    → B' r.commit ≡ Some k → B' d ≡ None → ((c : ℕ) → c ≢ d → c ≢ r.commit → B' c ≡ B c) → IsLinked R B'
-linked_moved {R} {B} {B'} k d r l stood here commit_here commit_gone other_commits = record {
+linked_moved : {R : ℕ → Option Row} {B M B' : ℕ → Option ℕ} (k d : ℕ) (r : Row) → IsLinked R B → B d ≡ Some k → R k ≡ Some r → GoneAt d B M → PutAt r.commit k M B' → IsLinked R B'
+linked_moved {R} {B} {M} {B'} k d r l stood here gone put = record {
   noted = λ q x is. elim (decide q k) [
-    | inl same ↦ let at = ap (λ (w : Row). w.commit) (inside (sym is ∙ ap R same ∙ here)) in (r.commit, omega (arith, at), commit_here ∙ ap Some (sym same))
+    | inl same ↦ let at = ap (λ (w : Row). w.commit) (inside (sym is ∙ ap R same ∙ here)) in (r.commit, omega (arith, at), put.here ∙ ap Some (sym same))
     | inr n ↦
         let noted = l.noted q x is in
-        (noted.0, noted.1, other_commits noted.0 (λ same. n (inside (sym noted.2 ∙ ap B same ∙ stood))) (λ same. n (l.apart k q r here (sym (ap B same) ∙ noted.2))) ∙ noted.2)
+        let still = put.others noted.0 (λ same. n (l.apart k q r here (sym (ap B same) ∙ noted.2))) ∙ gone.others noted.0 (λ same. n (inside (sym noted.2 ∙ ap B same ∙ stood))) in
+        (noted.0, noted.1, still ∙ noted.2)
   ];
   kept = λ c j is. elim (client_before c j is) [
     | inl a ↦ let same = a.0 in (r, ap R a.1 ∙ here, omega (arith, same))
@@ -171,12 +162,9 @@ linked_moved {R} {B} {B'} k d r l stood here commit_here commit_gone other_commi
 }
   where
     client_before : (c j : ℕ) → B' c ≡ Some j → ((c ≡ r.commit) × (j ≡ k)) ⊎ ((c ≢ d) × (B c ≡ Some j))
-    client_before c j is = elim (decide c r.commit) [
-      | inl same ↦ inl (same, inside (sym is ∙ ap B' same ∙ commit_here))
-      | inr n ↦ elim (decide c d) [
-        | inl same ↦ absurd (nothing (ap B' same ∙ commit_gone) is)
-        | inr m ↦ inr (m, sym (other_commits c m n) ∙ is)
-      ]
+    client_before c j is = elim (put_or_before put c j is) [
+      | inl a ↦ inl a
+      | inr a ↦ inr (before gone c j a.1)
     ]
 
 -- the first of the clients stands at its commit
@@ -193,15 +181,11 @@ module _ {n : ℕ} {rows : Map ℕ Row} {clients : Map ℕ ℕ} (i : IsIndexed n
   earlier commit later q x is = each-find (λ (other : Row). other.commit < commit) (λ row. client_of row == q) x (values_of (entries rows)) later (sym (found-row client_of q (entries rows) i.own) ∙ is)
 
   pub fresh : (commit : ℕ) → Each (λ (other : Row). other.commit < commit) (values_of (entries rows)) → client_at clients commit ≡ None
-  fresh commit later = by (client_at clients commit) refl
-    where
-      by : (o : Option ℕ) → client_at clients commit ≡ o → o ≡ None
-      by None is = refl
-      by (Some j) is =
-          let kept = i.linked.kept commit j is in
-          let less = earlier commit later j kept.0 kept.1 in
-          let low = kept.2 in
-          absurd (omega (arith, less, low))
+  fresh commit later = none_where (client_at clients commit) (λ j is.
+    let kept = i.linked.kept commit j is in
+    let less = earlier commit later j kept.0 kept.1 in
+    let low = kept.2 in
+    omega (arith, less, low))
 
   pub index_out : (r : Row) (k d : ℕ) {rows' : Map ℕ Row} {clients' : Map ℕ ℕ} → kept_row rows k ≡ Some r → client_at clients d ≡ Some k
       → entries rows' ≡ remove_entry (is_at (nat_cmp k)) (entries rows) → entries clients' ≡ remove_entry (is_at (nat_cmp d)) (entries clients)
@@ -216,11 +200,7 @@ module _ {n : ℕ} {rows : Map ℕ Row} {clients : Map ℕ ℕ} (i : IsIndexed n
           own = subst (λ es. Each (λ e. client_of e.1 ≡ e.0) es) (sym is) (own-removed client_of k (entries rows) i.own);
           rows_rise = subst (λ es. IsStrictlySortedBy nat_cmp (keys_of es)) (sym is) (ordered-remove_entry nat_cmp (is_at (nat_cmp k)) (entries rows) i.rows_rise);
           commits_rise = subst (λ es. IsStrictlySortedBy nat_cmp (keys_of es)) (sym is_clients) (ordered-remove_entry nat_cmp (is_at (nat_cmp d)) (entries clients) i.commits_rise);
-          linked = linked_out k d i.linked stood
-              (ap (λ es. lookup (is_at (nat_cmp k)) es) is ∙ removed_here k (entries rows) i.rows_rise)
-              (λ q other. ap (λ es. lookup (is_at (nat_cmp q)) es) is ∙ removed_other k (entries rows) i.rows_rise q other)
-              (ap (λ es. lookup (is_at (nat_cmp d)) es) is_clients ∙ removed_here d (entries clients) i.commits_rise)
-              (λ c other. ap (λ es. lookup (is_at (nat_cmp c)) es) is_clients ∙ removed_other d (entries clients) i.commits_rise c other);
+          linked = linked_out k d i.linked stood (removed k (entries rows) is i.rows_rise) (removed d (entries clients) is_clients i.commits_rise);
           even = omega (arith, a, b, la, lb, i.even);
           some_capacity = i.some_capacity;
           not_over = omega (arith, a, la, i.not_over);
@@ -245,10 +225,7 @@ module _ {n : ℕ} {rows : Map ℕ Row} {clients : Map ℕ ℕ} (i : IsIndexed n
         commits_rise = subst (λ es. IsStrictlySortedBy nat_cmp (keys_of es)) (sym is_clients) (ordered-insert_entry nat_cmp_total r.commit r.client (entries clients) i.commits_rise);
         linked = linked_in r.client r i.linked absent no_client
             (λ q x found same. let less = earlier r.commit later q x found in omega (arith, less, same))
-            (ap (λ es. lookup (is_at (nat_cmp r.client)) es) is ∙ put_here r.client r (entries rows))
-            (λ q other. ap (λ es. lookup (is_at (nat_cmp q)) es) is ∙ put_other r.client r (entries rows) q other)
-            (ap (λ es. lookup (is_at (nat_cmp r.commit)) es) is_clients ∙ put_here r.commit r.client (entries clients))
-            (λ c other. ap (λ es. lookup (is_at (nat_cmp c)) es) is_clients ∙ put_other r.commit r.client (entries clients) c other);
+            (inserted r.client (entries rows) r is) (inserted r.commit (entries clients) r.client is_clients);
         even = omega (arith, a, b, la, lb, i.even);
         some_capacity = i.some_capacity;
         not_over = omega (arith, a, la, capacity);
@@ -269,8 +246,7 @@ module _ {n : ℕ} {rows : Map ℕ Row} {clients : Map ℕ ℕ} (i : IsIndexed n
         commits_rise = i.commits_rise;
         linked = linked_renewed r.client r old i.linked found (omega (arith, less)) (fresh r.commit later)
             (λ q x found same. let less = earlier r.commit later q x found in omega (arith, less, same))
-            (ap (λ es. lookup (is_at (nat_cmp r.client)) es) is ∙ set_here r.client (entries rows) r old found)
-            (λ q other. ap (λ es. lookup (is_at (nat_cmp q)) es) is ∙ set_other r.client (entries rows) r old found q other);
+            (written r.client (entries rows) r old is found);
         even = omega (arith, a, la, i.even);
         some_capacity = i.some_capacity;
         not_over = omega (arith, a, la, i.not_over);
@@ -280,11 +256,8 @@ module _ {n : ℕ} {rows : Map ℕ Row} {clients : Map ℕ ℕ} (i : IsIndexed n
 
   -- no client stands at the commit of a row that is not at the commit where its client stands
   moved_fresh : (k d : ℕ) (r : Row) → client_at clients d ≡ Some k → kept_row rows k ≡ Some r → r.commit ≢ d → client_at clients r.commit ≡ None
-  moved_fresh k d r stood here behind = by (client_at clients r.commit) refl
-    where
-      by : (o : Option ℕ) → client_at clients r.commit ≡ o → o ≡ None
-      by None is = refl
-      by (Some j) is = absurd (behind (i.linked.once r.commit d k (is ∙ ap Some (i.linked.apart k j r here is)) stood))
+  moved_fresh k d r stood here behind =
+      none_where (client_at clients r.commit) (λ j is. behind (i.linked.once r.commit d k (is ∙ ap Some (i.linked.apart k j r here is)) stood))
 
   -- the first client goes to its row's commit
   pub index_moved : (later : ℕ) → (f : IsFirstBehind rows clients later) (between : Map ℕ ℕ) {clients' : Map ℕ ℕ} → entries between ≡ remove_entry (is_at (nat_cmp f.commit)) (entries clients)
@@ -292,7 +265,8 @@ module _ {n : ℕ} {rows : Map ℕ Row} {clients : Map ℕ ℕ} (i : IsIndexed n
   index_moved later f between {clients'} is_between is between_spare spare =
       let stood = first_found (entries clients) f.commit f.client f.first in
       let behind = λ (same : f.row.commit ≡ f.commit). f.behind (sym f.is ∙ same) in
-      let absent : client_at between f.row.commit ≡ None = ap (λ es. lookup (is_at (nat_cmp f.row.commit)) es) is_between ∙ removed_other f.commit (entries clients) i.commits_rise f.row.commit behind ∙ moved_fresh f.client f.commit f.row stood f.here behind in
+      let gone = removed f.commit (entries clients) is_between i.commits_rise in
+      let absent : client_at between f.row.commit ≡ None = gone.others f.row.commit behind ∙ moved_fresh f.client f.commit f.row stood f.here behind in
       let now : entries clients' ≡ insert_entry nat_cmp (entries between) f.row.commit f.client = is ∙ ap (λ m. insert_entry nat_cmp (entries between) m f.client) (sym f.is) in
       let rise = subst (λ es. IsStrictlySortedBy nat_cmp (keys_of es)) (sym is_between) (ordered-remove_entry nat_cmp (is_at (nat_cmp f.commit)) (entries clients) i.commits_rise) in
       let a = length-remove_entry_found nat_cmp f.commit f.client (entries clients) stood in
@@ -303,10 +277,7 @@ module _ {n : ℕ} {rows : Map ℕ Row} {clients : Map ℕ ℕ} (i : IsIndexed n
         own = i.own;
         rows_rise = i.rows_rise;
         commits_rise = subst (λ es. IsStrictlySortedBy nat_cmp (keys_of es)) (sym now) (ordered-insert_entry nat_cmp_total f.row.commit f.client (entries between) rise);
-        linked = linked_moved f.client f.commit f.row i.linked stood f.here
-            (ap (λ es. lookup (is_at (nat_cmp f.row.commit)) es) now ∙ put_here f.row.commit f.client (entries between))
-            (ap (λ es. lookup (is_at (nat_cmp f.commit)) es) now ∙ put_other f.row.commit f.client (entries between) f.commit (λ same. behind (sym same)) ∙ ap (λ es. lookup (is_at (nat_cmp f.commit)) es) is_between ∙ removed_here f.commit (entries clients) i.commits_rise)
-            (λ c other beside. ap (λ es. lookup (is_at (nat_cmp c)) es) now ∙ put_other f.row.commit f.client (entries between) c beside ∙ ap (λ es. lookup (is_at (nat_cmp c)) es) is_between ∙ removed_other f.commit (entries clients) i.commits_rise c other);
+        linked = linked_moved f.client f.commit f.row i.linked stood f.here gone (inserted f.row.commit (entries between) f.client now);
         even = omega (arith, a, b, la, lb, i.even);
         some_capacity = i.some_capacity;
         not_over = i.not_over;
@@ -318,7 +289,7 @@ module _ {n : ℕ} {rows : Map ℕ Row} {clients : Map ℕ ℕ} (i : IsIndexed n
   moved_absent later f between is_between =
       let stood = first_found (entries clients) f.commit f.client f.first in
       let behind = λ (same : f.row.commit ≡ f.commit). f.behind (sym f.is ∙ same) in
-      ap (λ m. client_at between m) (sym f.is) ∙ ap (λ es. lookup (is_at (nat_cmp f.row.commit)) es) is_between ∙ removed_other f.commit (entries clients) i.commits_rise f.row.commit behind ∙ moved_fresh f.client f.commit f.row stood f.here behind
+      ap (λ m. client_at between m) (sym f.is) ∙ (removed f.commit (entries clients) is_between i.commits_rise).others f.row.commit behind ∙ moved_fresh f.client f.commit f.row stood f.here behind
 
 -- a test that each passes
 all_pass : {X : Type 0} (p : X → Bool) (xs : List X) → Each (λ x. p x ≡ true) xs → list_all p xs ≡ true

@@ -1,5 +1,5 @@
 -- What look-ups by number find after each change, and what holds of all that they find.
-use Rattle.std.proofs.Common.{◌≡◌, ◌≢◌, ℕ, ◌<◌, ◌≤◌, Bool, true, false, cond, eqb, ◌⊎◌, inl, inr, List, [], ◌∷◌, Some, None, refl, sym, ap, ◌∙◌, subst, arith}
+use Rattle.std.proofs.Common.{◌≡◌, ◌≢◌, ℕ, ◌<◌, ◌≤◌, Bool, true, false, cond, eqb, ◌⊎◌, inl, inr, List, [], ◌∷◌, Option, Some, None, refl, sym, ap, ◌∙◌, subst, arith}
 use Rattle.std.proofs.lemmas.Bool.Decides.{nat_tests}
 use Rattle.std.specs.declared.cmp.Ordering.{Ordering}
 use Rattle.std.specs.declared.cmp.Ordering.TheVariants.{Less, Equal, Greater}
@@ -11,7 +11,7 @@ use Rattle.std.specs.Map.{lookup, set_value, remove_entry, keys_of, values_of}
 use Rattle.std.specs.BTreeMap.{insert_entry, is_at}
 use Rattle.std.proofs.lemmas.Map.{lookup-set_value, lookup-remove_entry}
 use Rattle.std.proofs.lemmas.Map.Keys.{IsDistinct-from_sorted}
-use Rattle.avl_tree.proofs.Around.{lookup-none_below, IsBelow}
+use Rattle.avl_tree.proofs.Around.{lookup-none_below}
 use Rattle.tb_records.specs.Ordered.{Each}
 use Rattle.tb_records.proofs.Entries.{eq-number}
 
@@ -35,23 +35,17 @@ not_at q k n = eq-number k q ∙ by (eqb q k) refl
 one : (k x y : ℕ) → is_at (nat_cmp k) x ≡ true → is_at (nat_cmp k) y ≡ is_at (nat_cmp x) y
 one k x y p = (eq_by_cmp_equiv nat_cmp_total).congr k x y p
 
-module _ {X : Type 0} (k : ℕ) (es : List (ℕ × X)) where
-  pub removed_here : IsStrictlySortedBy nat_cmp (keys_of es) → lookup (is_at (nat_cmp k)) (remove_entry (is_at (nat_cmp k)) es) ≡ None
-  removed_here s =
-      let p = at_itself k in
-      lookup-remove_entry (eq_by_cmp_equiv nat_cmp_total) (is_at (nat_cmp k)) (one k) k es (IsDistinct-from_sorted nat_cmp (keys_of es) s) ∙ ap (λ b. cond b None (lookup (is_at (nat_cmp k)) es)) p
+-- what is found by number, once nothing stands at k, or v does
+pub record GoneAt {X : Type 0} (k : ℕ) (f f' : ℕ → Option X) : Type 0 where
+  pub here : f' k ≡ None
+  pub others : (q : ℕ) → q ≢ k → f' q ≡ f q
 
-  pub removed_other : IsStrictlySortedBy nat_cmp (keys_of es) → (q : ℕ) → q ≢ k → lookup (is_at (nat_cmp q)) (remove_entry (is_at (nat_cmp k)) es) ≡ lookup (is_at (nat_cmp q)) es
-  removed_other s q n =
-      lookup-remove_entry (eq_by_cmp_equiv nat_cmp_total) (is_at (nat_cmp k)) (one k) q es (IsDistinct-from_sorted nat_cmp (keys_of es) s) ∙ ap (λ b. cond b None (lookup (is_at (nat_cmp q)) es)) (not_at q k n)
+pub record PutAt {X : Type 0} (k : ℕ) (v : X) (f f' : ℕ → Option X) : Type 0 where
+  pub here : f' k ≡ Some v
+  pub others : (q : ℕ) → q ≢ k → f' q ≡ f q
 
-  pub set_here : (v w : X) → lookup (is_at (nat_cmp k)) es ≡ Some w → lookup (is_at (nat_cmp k)) (set_value (is_at (nat_cmp k)) es v) ≡ Some v
-  set_here v w found =
-      lookup-set_value (eq_by_cmp_equiv nat_cmp_total) (is_at (nat_cmp k)) (one k) k v es (rw found refl) ∙ ap (λ b. cond b (Some v) (lookup (is_at (nat_cmp k)) es)) (at_itself k)
-
-  pub set_other : (v w : X) → lookup (is_at (nat_cmp k)) es ≡ Some w → (q : ℕ) → q ≢ k → lookup (is_at (nat_cmp q)) (set_value (is_at (nat_cmp k)) es v) ≡ lookup (is_at (nat_cmp q)) es
-  set_other v w found q n =
-      lookup-set_value (eq_by_cmp_equiv nat_cmp_total) (is_at (nat_cmp k)) (one k) q v es (rw found refl) ∙ ap (λ b. cond b (Some v) (lookup (is_at (nat_cmp q)) es)) (not_at q k n)
+abbrev pub number_at : {X : Type 0} → List (ℕ × X) → ℕ → Option X
+number_at es k = lookup (is_at (nat_cmp k)) es
 
 module _ {K X : Type 0} {cmp : K → K → Ordering} (o : IsTotalOrder cmp) (k : K) (v : X) where
   inserted-here : (es : List (K × X)) → lookup (is_at (cmp k)) (insert_entry cmp es k v) ≡ Some v
@@ -72,11 +66,30 @@ module _ {K X : Type 0} {cmp : K → K → Ordering} (o : IsTotalOrder cmp) (k :
       by Equal p later = let m : is_eq (cmp q e.0) ≡ false = ap is_eq (sym (alike_right o k e.0 q p)) ∙ n in rw m refl
       by Greater p later = ap (λ found. cond (is_eq (cmp q e.0)) (Some e.1) found) later
 
-pub put_here : {X : Type 0} (k : ℕ) (v : X) (es : List (ℕ × X)) → lookup (is_at (nat_cmp k)) (insert_entry nat_cmp es k v) ≡ Some v
-put_here k v es = inserted-here nat_cmp_total k v es
+module _ {X : Type 0} (k : ℕ) (es : List (ℕ × X)) {es' : List (ℕ × X)} where
+  pub removed : es' ≡ remove_entry (is_at (nat_cmp k)) es → IsStrictlySortedBy nat_cmp (keys_of es) → GoneAt k (number_at es) (number_at es')
+  removed is s = rw is (record {
+    here = found k ∙ ap (λ b. cond b None (number_at es k)) (at_itself k);
+    others = λ q n. found q ∙ ap (λ b. cond b None (number_at es q)) (not_at q k n);
+  })
+    where
+      found : (q : ℕ) → number_at (remove_entry (is_at (nat_cmp k)) es) q ≡ cond (is_at (nat_cmp k) q) None (number_at es q)
+      found q = lookup-remove_entry (eq_by_cmp_equiv nat_cmp_total) (is_at (nat_cmp k)) (one k) q es (IsDistinct-from_sorted nat_cmp (keys_of es) s)
 
-pub put_other : {X : Type 0} (k : ℕ) (v : X) (es : List (ℕ × X)) (q : ℕ) → q ≢ k → lookup (is_at (nat_cmp q)) (insert_entry nat_cmp es k v) ≡ lookup (is_at (nat_cmp q)) es
-put_other k v es q n = inserted-other nat_cmp_total k v q (not_at k q (λ same. n (sym same))) es
+  pub written : (v w : X) → es' ≡ set_value (is_at (nat_cmp k)) es v → number_at es k ≡ Some w → PutAt k v (number_at es) (number_at es')
+  written v w is was = rw is (record {
+    here = found k ∙ ap (λ b. cond b (Some v) (number_at es k)) (at_itself k);
+    others = λ q n. found q ∙ ap (λ b. cond b (Some v) (number_at es q)) (not_at q k n);
+  })
+    where
+      found : (q : ℕ) → number_at (set_value (is_at (nat_cmp k)) es v) q ≡ cond (is_at (nat_cmp k) q) (Some v) (number_at es q)
+      found q = lookup-set_value (eq_by_cmp_equiv nat_cmp_total) (is_at (nat_cmp k)) (one k) q v es (rw was refl)
+
+  pub inserted : (v : X) → es' ≡ insert_entry nat_cmp es k v → PutAt k v (number_at es) (number_at es')
+  inserted v is = rw is (record {
+    here = inserted-here nat_cmp_total k v es;
+    others = λ q n. inserted-other nat_cmp_total k v q (not_at k q (λ same. n (sym same))) es;
+  })
 
 -- number y is above x
 pub less_is : (x y : ℕ) → nat_cmp x y ≡ Less → x < y
@@ -99,10 +112,6 @@ first_least e es d j s found = by (eqb e.0 d) refl (sym (ap (λ b. cond b (Some 
     by true same found = grind (arith, nat_tests)
     by false other found = let l = beyond e.0 d j es s.0 found in omega arith
 
-below_all : {X : Type 0} (k : ℕ) (es : List (ℕ × X)) → AllByRecursion (λ y. nat_cmp k y ≡ Less) (keys_of es) → IsBelow nat_cmp k es
-below_all k [] all = tt
-below_all k (e ∷ es) all = (all.0, below_all k es all.1)
-
 -- what holds of each value that is found holds of each value
 pub each_found : {X : Type 0} (P : X → Type 0) (es : List (ℕ × X)) → IsStrictlySortedBy nat_cmp (keys_of es) → ((k : ℕ) (x : X) → lookup (is_at (nat_cmp k)) es ≡ Some x → P x) → Each P (values_of es)
 unfolding IsStrictlySortedBy
@@ -110,7 +119,7 @@ each_found P [] s holds = tt
 each_found {X} P (e ∷ es) s holds = (
   holds e.0 e.1 (ap (λ b. cond b (Some e.1) (lookup (is_at (nat_cmp e.0)) es)) (at_itself e.0)),
   each_found P es s.1 (λ k x found. holds k x (elim (decide e.0 k) [
-    | inl same ↦ absurd (let none : lookup (is_at (nat_cmp k)) es ≡ None = subst (λ n. lookup (is_at (nat_cmp n)) es ≡ None) same (lookup-none_below nat_cmp e.0 es (below_all e.0 es s.0)) in cc)
+    | inl same ↦ absurd (let none : lookup (is_at (nat_cmp k)) es ≡ None = subst (λ n. lookup (is_at (nat_cmp n)) es ≡ None) same (lookup-none_below nat_cmp e.0 es s.0) in cc)
     | inr other ↦ ap (λ b. cond b (Some e.1) (lookup (is_at (nat_cmp k)) es)) (not_at e.0 k other) ∙ found
   ])),
 )
