@@ -29,11 +29,9 @@ impl Fault {
     {
         match self {
             Fault::Serving(RunFault::NoMemory) => 1,
-            Fault::Serving(RunFault::Frame(FrameFault::Device)) => 1,
-            Fault::Serving(RunFault::Frame(FrameFault::NoMemory)) => 1,
+            Fault::Serving(RunFault::Frame(FrameFault::Device | FrameFault::NoMemory)) => 1,
             Fault::Replaying(DumpFault::NoMemory) => 1,
-            Fault::Replaying(DumpFault::Frame(FrameFault::Device)) => 1,
-            Fault::Replaying(DumpFault::Frame(FrameFault::NoMemory)) => 1,
+            Fault::Replaying(DumpFault::Frame(FrameFault::Device | FrameFault::NoMemory)) => 1,
             _ => 2,
         }
     }
@@ -75,10 +73,7 @@ fn perform<R: Source, W: Sink>(
             Err(fault) => return Err(Fault::Replaying(fault)),
         },
     };
-    match served {
-        Ok(count) => Ok(count),
-        Err(fault) => Err(Fault::Serving(fault)),
-    }
+    served.map_err(Fault::Serving)
 }
 
 /// Does what the words ask for, and answers the exit status: 0 done, where nothing goes to `faults`, else that of the

@@ -33,10 +33,9 @@ pub fn serve<R: Read + Drop, W: Write + Drop, E: Sink>(
     output: W,
     faults: &mut E,
 ) -> u8 {
-    let Ok(input) = BufReader::with_capacity(alloc, BUFFER, input) else {
-        return refuse(Fault::Serving(RunFault::NoMemory), faults);
-    };
-    let Ok(output) = BufWriter::with_capacity(alloc, BUFFER, output) else {
+    let input = BufReader::with_capacity(alloc, BUFFER, input);
+    let output = BufWriter::with_capacity(alloc, BUFFER, output);
+    let (Ok(input), Ok(output)) = (input, output) else {
         return refuse(Fault::Serving(RunFault::NoMemory), faults);
     };
     let mut reader = Buffered::new(input);

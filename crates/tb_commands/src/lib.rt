@@ -17,4 +17,4 @@ mod lines;
 pub use arguments::{Form, number, read_clients_max, read_form, read_id, read_profile};
 pub use commands::{Fault, command, tell};
 pub use host::{fault_of, refuse, serve, words};
-pub use lines::{LINE, line_of, put_line};
+pub use lines::{LINE, line_by, line_of, put_line};

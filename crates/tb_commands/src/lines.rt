@@ -1,23 +1,32 @@
 //! The line that a fault is told by.
-ghost use Rattle.std.specs.Prelude.{◌≡◌, ◌≤◌, length};
+ghost use Rattle.std.specs.Prelude.{◌≡◌, ◌≤◌, ◌++◌, codes, length};
 ghost use Rattle.tb_commands.specs.Statuses.{line_named, TellsLine};
 
 use arrayvec::ArrayVec;
 use tb_records::{Sink, put_all};
 
-/// The bytes that a fault's line may have: `tbs: `, a name of at most 16 letters, and the line's end.
+/// The bytes that a fault's line may have: a program's name, a fault's name of at most 16 letters, and the line's end.
 pub const LINE: usize = 32;
 
-/// The line of a fault with a name, in a buffer of its own, so that it needs no memory.
+/// The line of a fault with a name, by a program, in a buffer of its own, so that it needs no memory.
+pub fn line_by(program: &str, name: &str) -> ArrayVec<u8, LINE>
+    requires program { length program.now ≤ 5 }
+    requires short { length name.now ≤ 26 }
+    ensures { result.items ≡ program.now ++ name.now ++ codes "\n" }
+{
+    let mut line = ArrayVec::new();
+    line.try_extend_from_slice(program.as_bytes()).unwrap();
+    line.try_extend_from_slice(name.as_bytes()).unwrap();
+    line.try_extend_from_slice(b"\n").unwrap();
+    line
+}
+
+/// The line of a fault with a name.
 pub fn line_of(name: &str) -> ArrayVec<u8, LINE>
     requires short { length name.now ≤ 26 }
     ensures { result.items ≡ line_named name.now }
 {
-    let mut line = ArrayVec::new();
-    line.try_extend_from_slice(b"tbs: ").unwrap();
-    line.try_extend_from_slice(name.as_bytes()).unwrap();
-    line.try_extend_from_slice(b"\n").unwrap();
-    line
+    line_by("tbs: ", name)
 }
 
 /// Writes a line as far as the writer takes it.
