@@ -18,16 +18,13 @@ fn prints(rt: &(impl Abort + AllocGlobal), text: &str, wanted: &str) {
     let reading = read_text(rt.alloc(), text.as_bytes()).expect(rt, "memory");
     holds(rt, reading.fault.is_none(), text);
     let printed = print_requests(rt.alloc(), reading.pairs.as_slice()).expect(rt, "memory");
-    drop(reading);
     holds(rt, printed.as_slice() == wanted.as_bytes(), text);
-    drop(printed);
 }
 
 /// Says that a text goes wrong at a place, or nowhere.
 fn stops_at(rt: &(impl Abort + AllocGlobal), text: &str, place: Option<usize>) {
     let reading = read_text(rt.alloc(), text.as_bytes()).expect(rt, "memory");
     holds(rt, reading.fault.map(|fault| fault.place) == place, text);
-    drop(reading);
 }
 
 /// Texts that are printed as they stand: each field of an account and of a transfer, and each operation.
@@ -75,15 +72,13 @@ const FLAGS: [(&str, &str); 6] = [
 
 /// Says that a statement of flags is printed so.
 fn prints_flags(rt: &(impl Abort + AllocGlobal), text: &str, printed: &str) {
-    let text = format!(in rt.alloc(); "at=1 client=2 session=3 request=4 {text}").expect(
-        rt, "memory",
+    let text = format!(in rt.alloc(); "at=1 client=2 session=3 request=4 {text}");
+    let wanted = format!(in rt.alloc(); "at=1 client=2 session=3 request=4 {printed}");
+    prints(
+        rt,
+        text.expect(rt, "memory").as_str(),
+        wanted.expect(rt, "memory").as_str(),
     );
-    let wanted = format!(in rt.alloc(); "at=1 client=2 session=3 request=4 {printed}").expect(
-        rt, "memory",
-    );
-    prints(rt, text.as_str(), wanted.as_str());
-    drop(wanted);
-    drop(text);
 }
 
 #[test]
@@ -110,7 +105,6 @@ fn has_flags(rt: &(impl Abort + AllocGlobal), text: &str, flags: u16) {
         [] => None,
     };
     holds(rt, reading.fault.is_none() && found == Some(flags), text);
-    drop(reading);
 }
 
 /// Flags by their names, and the number that they make.
@@ -170,114 +164,106 @@ fn places_of_faults(rt: HostRuntime) {
     }
 }
 
-/// A text, and what is said of where it goes wrong.
-struct Row {
-    text: &'static str,
-    message: &'static str,
-}
-
-/// Texts that go wrong.
-const ROWS: [Row; 21] = [
-    Row {
-        text: "client=7 request=1 create_acounts id=1;",
-        message: "line 1, column 29: unknown operation 'create_acounts'; did you mean create_accounts?\n  client=7 request=1 create_acounts id=1;\n                              ^\n  expected at, session, create_accounts, create_transfers, lookup_accounts or lookup_transfers",
-    },
-    Row {
-        text: "create_accounts id=1 code=10 ledger=700;",
-        message: "line 1, column 2: a client comes first: write client=N before create_accounts\n  create_accounts id=1 code=10 ledger=700;\n   ^\n  expected at, client, session or request",
-    },
-    Row {
-        text: "client=7 register;\nclient=7 create_accounts id=1;",
-        message: "line 2, column 10: a request's number comes first: write request=N before create_accounts\n  client=7 create_accounts id=1;\n           ^\n  expected at, session, request or register",
-    },
-    Row {
-        text: "client=7 session=1 register;",
-        message: "line 1, column 22: a register has no session and no request\n  client=7 session=1 register;\n                       ^\n  expected at or request",
-    },
-    Row {
-        text: "at=10 client=7 registe;",
-        message: "line 1, column 23: unknown operation 'registe'; did you mean register?\n  at=10 client=7 registe;\n                        ^\n  expected session, request or register",
-    },
-    Row {
-        text: "at=10 client=7 register",
-        message: "line 1, column 24: the text ends within a statement\n  at=10 client=7 register\n                         ^\n  expected ';'",
-    },
-    Row {
-        text: "client=0 register;",
-        message: "line 1, column 9: client is not 0\n  client=0 register;\n          ^\n  expected a number from 1 to 2^128 - 1",
-    },
-    Row {
-        text: "client 7 register;",
-        message: "line 1, column 8: found '7'\n  client 7 register;\n         ^\n  expected '='",
-    },
-    Row {
-        text: "Client=7 register;",
-        message: "line 1, column 1: unknown field 'Client'; did you mean client?\n  Client=7 register;\n  ^\n  expected at, client, session or request",
-    },
-    Row {
-        text: "client=7 request=1 create_accounts code=65536;",
-        message: "line 1, column 45: '65536' is too large for code\n  client=7 request=1 create_accounts code=65536;\n                                              ^\n  expected a number up to 65535",
-    },
-    Row {
-        text: "client=7 request=1 create_transfers id=1 amount=10.99;",
-        message: "line 1, column 51: '10.99' is no whole number\n  client=7 request=1 create_transfers id=1 amount=10.99;\n                                                    ^\n  expected amount_max or a number up to 2^128 - 1",
-    },
-    Row {
-        text: "client=7 request=1 create_transfers id=0x;",
-        message: "line 1, column 42: '0x' is no whole number\n  client=7 request=1 create_transfers id=0x;\n                                           ^\n  expected a number up to 2^128 - 1",
-    },
-    Row {
-        text: "client=7 request=1 create_transfers id=1 flags=pendin;",
-        message: "line 1, column 54: unknown flag 'pendin'; did you mean pending?\n  client=7 request=1 create_transfers id=1 flags=pendin;\n                                                       ^\n  expected linked, imported, pending, post_pending_transfer, void_pending_transfer, balancing_debit, balancing_credit, closing_debit, closing_credit or a number up to 65535",
-    },
-    Row {
-        text: "client=7 request=1 create_accounts id=1 flags=pending;",
-        message: "line 1, column 47: 'pending' cannot stand here\n  client=7 request=1 create_accounts id=1 flags=pending;\n                                                ^\n  expected linked, debits_must_not_exceed_credits, credits_must_not_exceed_debits, history, imported, closed or a number up to 65535",
-    },
-    Row {
-        text: "client=7 request=1 create_accounts id=1 flags=1,, id=2;",
-        message: "line 1, column 49: found ','\n  client=7 request=1 create_accounts id=1 flags=1,, id=2;\n                                                  ^\n  expected id, debits_pending, debits_posted, credits_pending, credits_posted, user_data_128, user_data_64, user_data_32, reserved, ledger, code, flags or timestamp",
-    },
-    Row {
-        text: "client=7 request=1 create_accounts id=1\nclient=7 request=2 lookup_accounts id=1;",
-        message: "line 2, column 2: ';' is missing before 'client'\n  client=7 request=2 lookup_accounts id=1;\n   ^\n  expected debits_pending, debits_posted, credits_pending, credits_posted, user_data_128, user_data_64, user_data_32, reserved, ledger, code, flags, timestamp, ',' or ';'",
-    },
-    Row {
-        text: "client=7 request=1 create_accounts id=1 id=2;",
-        message: "line 1, column 41: 'id' cannot stand here\n  client=7 request=1 create_accounts id=1 id=2;\n                                          ^\n  expected debits_pending, debits_posted, credits_pending, credits_posted, user_data_128, user_data_64, user_data_32, reserved, ledger, code, flags, timestamp, ',' or ';'",
-    },
-    Row {
-        text: "client=7 request=1 create_accounts amount=1;",
-        message: "line 1, column 36: 'amount' cannot stand here\n  client=7 request=1 create_accounts amount=1;\n                                     ^\n  expected id, debits_pending, debits_posted, credits_pending, credits_posted, user_data_128, user_data_64, user_data_32, reserved, ledger, code, flags, timestamp or ';'",
-    },
-    Row {
-        text: "client=7 request=1 create_accounts id=1 ledgr=700;",
-        message: "line 1, column 45: unknown field 'ledgr'; did you mean ledger?\n  client=7 request=1 create_accounts id=1 ledgr=700;\n                                              ^\n  expected debits_pending, debits_posted, credits_pending, credits_posted, user_data_128, user_data_64, user_data_32, reserved, ledger, code, flags, timestamp, ',' or ';'",
-    },
-    Row {
-        text: "client=7 request=1 lookup_accounts id=1, ;",
-        message: "line 1, column 42: found ';'\n  client=7 request=1 lookup_accounts id=1, ;\n                                           ^\n  expected id",
-    },
-    Row {
-        text: "client=7\u{b}register;",
-        message: "line 1, column 9: found the byte 11\n  client=7?register;\n          ^\n  expected at, session, request or register",
-    },
+/// Texts that go wrong, and what is said of where they do.
+const ROWS: [(&str, &str); 21] = [
+    (
+        "client=7 request=1 create_acounts id=1;",
+        "line 1, column 29: unknown operation 'create_acounts'; did you mean create_accounts?\n  client=7 request=1 create_acounts id=1;\n                              ^\n  expected at, session, create_accounts, create_transfers, lookup_accounts or lookup_transfers",
+    ),
+    (
+        "create_accounts id=1 code=10 ledger=700;",
+        "line 1, column 2: a client comes first: write client=N before create_accounts\n  create_accounts id=1 code=10 ledger=700;\n   ^\n  expected at, client, session or request",
+    ),
+    (
+        "client=7 register;\nclient=7 create_accounts id=1;",
+        "line 2, column 10: a request's number comes first: write request=N before create_accounts\n  client=7 create_accounts id=1;\n           ^\n  expected at, session, request or register",
+    ),
+    (
+        "client=7 session=1 register;",
+        "line 1, column 22: a register has no session and no request\n  client=7 session=1 register;\n                       ^\n  expected at or request",
+    ),
+    (
+        "at=10 client=7 registe;",
+        "line 1, column 23: unknown operation 'registe'; did you mean register?\n  at=10 client=7 registe;\n                        ^\n  expected session, request or register",
+    ),
+    (
+        "at=10 client=7 register",
+        "line 1, column 24: the text ends within a statement\n  at=10 client=7 register\n                         ^\n  expected ';'",
+    ),
+    (
+        "client=0 register;",
+        "line 1, column 9: client is not 0\n  client=0 register;\n          ^\n  expected a number from 1 to 2^128 - 1",
+    ),
+    (
+        "client 7 register;",
+        "line 1, column 8: found '7'\n  client 7 register;\n         ^\n  expected '='",
+    ),
+    (
+        "Client=7 register;",
+        "line 1, column 1: unknown field 'Client'; did you mean client?\n  Client=7 register;\n  ^\n  expected at, client, session or request",
+    ),
+    (
+        "client=7 request=1 create_accounts code=65536;",
+        "line 1, column 45: '65536' is too large for code\n  client=7 request=1 create_accounts code=65536;\n                                              ^\n  expected a number up to 65535",
+    ),
+    (
+        "client=7 request=1 create_transfers id=1 amount=10.99;",
+        "line 1, column 51: '10.99' is no whole number\n  client=7 request=1 create_transfers id=1 amount=10.99;\n                                                    ^\n  expected amount_max or a number up to 2^128 - 1",
+    ),
+    (
+        "client=7 request=1 create_transfers id=0x;",
+        "line 1, column 42: '0x' is no whole number\n  client=7 request=1 create_transfers id=0x;\n                                           ^\n  expected a number up to 2^128 - 1",
+    ),
+    (
+        "client=7 request=1 create_transfers id=1 flags=pendin;",
+        "line 1, column 54: unknown flag 'pendin'; did you mean pending?\n  client=7 request=1 create_transfers id=1 flags=pendin;\n                                                       ^\n  expected linked, imported, pending, post_pending_transfer, void_pending_transfer, balancing_debit, balancing_credit, closing_debit, closing_credit or a number up to 65535",
+    ),
+    (
+        "client=7 request=1 create_accounts id=1 flags=pending;",
+        "line 1, column 47: 'pending' cannot stand here\n  client=7 request=1 create_accounts id=1 flags=pending;\n                                                ^\n  expected linked, debits_must_not_exceed_credits, credits_must_not_exceed_debits, history, imported, closed or a number up to 65535",
+    ),
+    (
+        "client=7 request=1 create_accounts id=1 flags=1,, id=2;",
+        "line 1, column 49: found ','\n  client=7 request=1 create_accounts id=1 flags=1,, id=2;\n                                                  ^\n  expected id, debits_pending, debits_posted, credits_pending, credits_posted, user_data_128, user_data_64, user_data_32, reserved, ledger, code, flags or timestamp",
+    ),
+    (
+        "client=7 request=1 create_accounts id=1\nclient=7 request=2 lookup_accounts id=1;",
+        "line 2, column 2: ';' is missing before 'client'\n  client=7 request=2 lookup_accounts id=1;\n   ^\n  expected debits_pending, debits_posted, credits_pending, credits_posted, user_data_128, user_data_64, user_data_32, reserved, ledger, code, flags, timestamp, ',' or ';'",
+    ),
+    (
+        "client=7 request=1 create_accounts id=1 id=2;",
+        "line 1, column 41: 'id' cannot stand here\n  client=7 request=1 create_accounts id=1 id=2;\n                                          ^\n  expected debits_pending, debits_posted, credits_pending, credits_posted, user_data_128, user_data_64, user_data_32, reserved, ledger, code, flags, timestamp, ',' or ';'",
+    ),
+    (
+        "client=7 request=1 create_accounts amount=1;",
+        "line 1, column 36: 'amount' cannot stand here\n  client=7 request=1 create_accounts amount=1;\n                                     ^\n  expected id, debits_pending, debits_posted, credits_pending, credits_posted, user_data_128, user_data_64, user_data_32, reserved, ledger, code, flags, timestamp or ';'",
+    ),
+    (
+        "client=7 request=1 create_accounts id=1 ledgr=700;",
+        "line 1, column 45: unknown field 'ledgr'; did you mean ledger?\n  client=7 request=1 create_accounts id=1 ledgr=700;\n                                              ^\n  expected debits_pending, debits_posted, credits_pending, credits_posted, user_data_128, user_data_64, user_data_32, reserved, ledger, code, flags, timestamp, ',' or ';'",
+    ),
+    (
+        "client=7 request=1 lookup_accounts id=1, ;",
+        "line 1, column 42: found ';'\n  client=7 request=1 lookup_accounts id=1, ;\n                                           ^\n  expected id",
+    ),
+    (
+        "client=7\u{b}register;",
+        "line 1, column 9: found the byte 11\n  client=7?register;\n          ^\n  expected at, session, request or register",
+    ),
 ];
 
 /// Says what is said of a text that goes wrong, whose first byte is at a line and a column.
 fn tells(rt: &(impl Abort + AllocGlobal), text: &str, first: (usize, usize), wanted: &str) {
     let reading = read_text(rt.alloc(), text.as_bytes()).expect(rt, "memory");
     let fault = reading.fault.expect(rt, "a fault");
-    drop(reading);
     let message = explain_fault(rt.alloc(), text.as_bytes(), fault, first).expect(rt, "memory");
     holds(rt, message.as_slice() == wanted.as_bytes(), wanted);
-    drop(message);
 }
 
 #[test]
 fn messages(rt: HostRuntime) {
-    for row in &ROWS {
-        tells(&rt, row.text, (1, 1), row.message);
+    for (text, message) in ROWS {
+        tells(&rt, text, (1, 1), message);
     }
 }
 
@@ -315,7 +301,6 @@ fn words_behind(rt: &(impl Abort + AllocGlobal), text: &str) -> Option<String> {
         names.push_str(word.text()).expect(rt, "memory");
         names.push_str(" ").expect(rt, "memory");
     }
-    drop(awaited);
     Some(names)
 }
 
@@ -335,7 +320,6 @@ fn words_that_could_stand(rt: HostRuntime) {
     for (text, wanted) in BEHIND {
         let names = words_behind(&rt, text).expect(&rt, "a beginning");
         same(&rt, names.as_str(), wanted);
-        drop(names);
     }
     for text in ["clien", "client=0"] {
         holds(&rt, words_behind(&rt, text).is_none(), text);
