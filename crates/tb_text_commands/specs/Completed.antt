@@ -44,21 +44,15 @@ next_in session (Open current next) = if current == session then next else 1
 next_in session (Closed new) = 1
 next_in session Unknown = 1
 
+-- the client alone, as of a register
+abbrev pub left_out_of_register : Given → ℕ → LeftOut
+left_out_of_register g c = record nothing { client = unless_given g.client c }
+
 -- where the session is left out: it is the client's, and a client that has none is registered first
 abbrev pub without_session : Given → ℕ → Standing → LeftOut
-without_session g c (Open session next) = record {
-  register_moment = None;
-  registered = None;
-  moment = None;
-  client = unless_given g.client c;
-  session = Some session;
-  request = unless_given g.request next;
-}
-without_session g c (Closed session) = record {
-  register_moment = None;
+without_session g c (Open session next) = record (left_out_of_register g c) { session = Some session; request = unless_given g.request next }
+without_session g c (Closed session) = record (left_out_of_register g c) {
   registered = Some c;
-  moment = None;
-  client = unless_given g.client c;
   session = Some session;
   request = unless_given g.request 1;
 }
@@ -66,14 +60,7 @@ without_session g c Unknown = nothing
 
 abbrev pub by_session : Given → ℕ → Standing → Option ℕ → LeftOut
 by_session g c standing None = without_session g c standing
-by_session g c standing (Some session) = record {
-  register_moment = None;
-  registered = None;
-  moment = None;
-  client = unless_given g.client c;
-  session = None;
-  request = unless_given g.request (next_in session standing);
-}
+by_session g c standing (Some session) = record (left_out_of_register g c) { request = unless_given g.request (next_in session standing) }
 
 -- where client and request stand, a session that is left out is 0, as ever
 abbrev pub left_out_of_batch : Given → ℕ → Standing → LeftOut
@@ -81,26 +68,12 @@ left_out_of_batch g c standing =
     if is_some g.client && is_some g.request then nothing
     else by_session g c standing g.session
 
-abbrev pub left_out_of_register : Given → ℕ → LeftOut
-left_out_of_register g c = record {
-  register_moment = None;
-  registered = None;
-  moment = None;
-  client = unless_given g.client c;
-  session = None;
-  request = None;
-}
-
 -- The moment is the clock's, where there is a clock and the statement has none; a client that is registered first is
 -- registered at the statement's moment.
 abbrev pub at_moment : Option ℕ → Given → LeftOut → LeftOut
-at_moment clock g x = record {
+at_moment clock g x = record x {
   register_moment = option_and_then (λ c. option_or g.moment clock) x.registered;
-  registered = x.registered;
   moment = if is_some g.moment then None else clock;
-  client = x.client;
-  session = x.session;
-  request = x.request;
 }
 
 -- of a client that stands so, before what stands from the operation's word on

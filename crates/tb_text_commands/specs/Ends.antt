@@ -2,7 +2,7 @@
 use Rattle.std.specs.Prelude.{ℕ, Bool, true, false, ◌≡◌, ◌⊎◌, List, OnOk, Result, Ok, Err}
 use Rattle.tb_records.specs.Transport.{Input, Output, risen, Refuses}
 use Rattle.tb_text_commands.specs.declared.faults.Fault.{Fault}
-use Rattle.tb_text_commands.specs.declared.faults.Fault.TheVariants.{Usage, Device, NoMemory, TimeExhausted, TooLong, Frame, Dump, Arguments, Text, WasTold}
+use Rattle.tb_text_commands.specs.declared.faults.Fault.TheVariants.{Device, TimeExhausted, Text}
 use Rattle.tb_text_commands.specs.declared.arguments.Form.{Form}
 use Rattle.tb_text_commands.specs.Statuses.{fault_status, TellsOf}
 use Rattle.tb_text_commands.specs.Whole.{IsInputOf, WasWhole}
@@ -68,14 +68,7 @@ IsOfInput fault = Unit {0}
 abbrev pub is_passing : Fault → Bool
 is_passing (Text line) = true
 is_passing TimeExhausted = true
-is_passing TooLong = false
-is_passing Usage = false
-is_passing Device = false
-is_passing NoMemory = false
-is_passing (Frame fault) = false
-is_passing (Dump fault) = false
-is_passing (Arguments line) = false
-is_passing WasTold = false
+is_passing fault = false
 
 -- the exit status of an outcome
 abbrev pub outcome_status : Result (Unit {0}) Fault → ℕ

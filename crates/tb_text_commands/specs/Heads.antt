@@ -76,10 +76,10 @@ abbrev pub field_named : List ℕ → Option Field
 field_named text = header_field (word_named text)
 
 abbrev pub with_field : Given → Field → ℕ → Given
-with_field g field.At n = record { moment = Some n; client = g.client; session = g.session; request = g.request }
-with_field g field.Client n = record { moment = g.moment; client = Some n; session = g.session; request = g.request }
-with_field g field.Session n = record { moment = g.moment; client = g.client; session = Some n; request = g.request }
-with_field g field.Request n = record { moment = g.moment; client = g.client; session = g.session; request = Some n }
+with_field g field.At n = record g { moment = Some n }
+with_field g field.Client n = record g { client = Some n }
+with_field g field.Session n = record g { session = Some n }
+with_field g field.Request n = record g { request = Some n }
 with_field g f n = g
 
 -- a field whose number stands first, among those before it, and what stands behind it

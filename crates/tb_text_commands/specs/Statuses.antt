@@ -27,16 +27,11 @@ dump_fault_of fault = Dump fault
 -- statuses
 
 abbrev pub fault_status : Fault → ℕ
-fault_status Usage = 2
 fault_status Device = 1
 fault_status NoMemory = 1
-fault_status TimeExhausted = 2
-fault_status TooLong = 2
 fault_status (Frame fault) = frame_status fault
 fault_status (Dump fault) = dump_status fault
-fault_status (Arguments line) = 2
-fault_status (Text line) = 2
-fault_status WasTold = 2
+fault_status fault = 2
 
 -- lines
 

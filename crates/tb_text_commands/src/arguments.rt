@@ -3,6 +3,7 @@ ghost use Rattle.std.specs.Prelude.{◌≡◌, map, string_bytes};
 ghost use Rattle.tb_text_commands.specs.Forms.{form_alone, form_of, form_with, form_with_two};
 
 use std::alloc::{AllocError, Global};
+use std::format;
 use tb_commands::{read_clients_max, read_id, read_profile};
 use tb_records::{ClientsMax, Profile};
 
@@ -86,86 +87,34 @@ pub fn read_form(words: &[String]) -> Option<Form>
     }
 }
 
-/// Texts, one behind another.
-fn joined(alloc: Global, parts: &[&str]) -> Result<String, AllocError> {
-    let mut text = String::new(alloc);
-    for part in parts {
-        text.push_str(part)?;
-    }
-    Ok(text)
-}
-
-/// What is wrong with a word alone.
-fn wrong_alone(alloc: Global, word: &str) -> Result<String, AllocError> {
-    if word == "run" {
-        joined(alloc, &["run: CLIENTS_MAX is missing, 1 to 64"])
-    } else {
-        joined(alloc, &[word, ": unknown; tbt --help shows the forms"])
-    }
-}
-
-/// What is wrong with a word and more, where no more may follow it.
-fn wrong_more(alloc: Global, word: &str, more: &str) -> Result<String, AllocError> {
-    joined(alloc, &[word, " ", more, ": too many words"])
-}
-
 /// What is wrong with the words behind `run`.
-fn wrong_run(alloc: Global, first: &str, rest: &[String]) -> Result<String, AllocError> {
+fn wrong_run(alloc: Global, clients_max: &str, rest: &[String]) -> Result<String, AllocError> {
     match rest {
-        [] => joined(alloc, &["run ", first, ": CLIENTS_MAX is 1 to 64"]),
-        [profile] => {
-            let wrong = if read_clients_max(first.as_bytes()).is_none() {
-                ": CLIENTS_MAX is 1 to 64"
-            } else {
-                ": PROFILE is 1 or 2"
-            };
-            joined(alloc, &["run ", first, " ", profile.as_str(), wrong])
-        }
-        _ => wrong_more(alloc, "run", first),
-    }
-}
-
-/// What is wrong with the words behind `audit`.
-fn wrong_audit(alloc: Global, option: &str, rest: &[String]) -> Result<String, AllocError> {
-    match rest {
-        [id] if option == "--account" => joined(
-            alloc,
-            &[
-                "audit --account ",
-                id.as_str(),
-                ": an account's id is 0 to 2^128 - 1, in decimal digits",
-            ],
+        [profile] if read_clients_max(clients_max.as_bytes()).is_some() => format!(in alloc;
+            "tbt: run {clients_max} {profile}: PROFILE is 1 or 2\n"
         ),
-        _ => joined(
-            alloc,
-            &["audit ", option, ": only --account and an id may follow"],
+        [profile] => format!(in alloc;
+            "tbt: run {clients_max} {profile}: CLIENTS_MAX is 1 to 64\n"
         ),
+        [] => format!(in alloc; "tbt: run {clients_max}: CLIENTS_MAX is 1 to 64\n"),
+        _ => format!(in alloc; "tbt: run {clients_max}: too many words\n"),
     }
 }
 
-/// What is wrong with two words or more.
-fn wrong_with(
-    alloc: Global,
-    word: &str,
-    second: &str,
-    rest: &[String],
-) -> Result<String, AllocError> {
-    if word == "run" {
-        wrong_run(alloc, second, rest)
-    } else if word == "audit" {
-        wrong_audit(alloc, second, rest)
-    } else if form_alone(word).is_some() {
-        wrong_more(alloc, word, second)
-    } else {
-        wrong_alone(alloc, word)
-    }
-}
-
-/// What is wrong with words that are none of the program's forms.
-pub fn wrong_words(alloc: Global, words: &[String]) -> Result<String, AllocError> {
-    match words {
-        [] => joined(alloc, &["no words"]),
-        [word] => wrong_alone(alloc, word.as_str()),
-        [word, second, rest @ ..] => wrong_with(alloc, word.as_str(), second.as_str(), rest),
+/// The line that says what is wrong with a word and those behind it, which are none of the program's forms.
+pub fn wrong_words(alloc: Global, word: &str, rest: &[String]) -> Result<String, AllocError> {
+    match (word, rest) {
+        ("run", []) => format!(in alloc; "tbt: run: CLIENTS_MAX is missing, 1 to 64\n"),
+        ("run", [clients_max, rest @ ..]) => wrong_run(alloc, clients_max.as_str(), rest),
+        ("audit", [option, id]) if option.as_str() == "--account" => format!(in alloc;
+            "tbt: audit --account {id}: an account's id is 0 to 2^128 - 1, in decimal digits\n"
+        ),
+        ("audit", [option, ..]) => format!(in alloc;
+            "tbt: audit {option}: only --account and an id may follow\n"
+        ),
+        (word, [more, ..]) if form_alone(word).is_some() => format!(in alloc;
+            "tbt: {word} {more}: too many words\n"
+        ),
+        (word, _) => format!(in alloc; "tbt: {word}: unknown; tbt --help shows the forms\n"),
     }
 }

@@ -3,7 +3,7 @@ ghost use Rattle.std.specs.Prelude.{IfErr};
 ghost use Rattle.tb_text_commands.specs.Ends.{Converts, IsOfInput, Written};
 ghost use Rattle.tb_text_commands.specs.Whole.{IsDump};
 
-use crate::dumps::{ItemWriter, convert_items, entry_of, tell_head};
+use crate::dumps::{ItemWriter, convert_items, tell_head};
 use crate::faults::Fault;
 use crate::lines::{balance_line, expired_line, judged_line, mark_line};
 use crate::results::{is_accepted, results_of};
@@ -11,7 +11,7 @@ use crate::scripts::put_line;
 use std::alloc::Global;
 use tb_machine::{Entry, Machine};
 use tb_records::{
-    Account, Body, DumpFault, DumpItem, NANOSECONDS_PER_SECOND, Profile, Sink, Source, Transfer,
+    Account, Body, DumpFault, NANOSECONDS_PER_SECOND, Profile, Sink, Source, Transfer,
 };
 
 /// A pending transfer with a timeout: its id, and when it expires, in nanoseconds.
@@ -54,10 +54,10 @@ fn watch(timeouts: &mut Vec<Timeout>, transfer: &Transfer) -> Result<(), Fault>
         let id = transfer.pending_id;
         timeouts.retain(|timeout| timeout.id != id);
     }
-    match timeout_of(transfer) {
-        Some(timeout) if timeouts.push(timeout).is_err() => Err(Fault::NoMemory),
-        _ => Ok(()),
+    if let Some(timeout) = timeout_of(transfer) {
+        timeouts.push(timeout)?;
     }
+    Ok(())
 }
 
 impl Replay {
@@ -97,29 +97,24 @@ impl Replay {
     fn tell_account<W: Sink>(&mut self, writer: &mut W, entry: &Entry) -> Result<(), Fault>
         ensures { Written result (W.output writer.old) (W.output writer.new) }
     {
-        let Some(id) = self.account else {
-            return Ok(())
-        };
-        let Some(account) = self.machine.account(id) else {
-            return Ok(())
-        };
-        if self.told == Some(account) {
-            return Ok(());
+        let found = self.account.and_then(|id| self.machine.account(id));
+        match found {
+            Some(account) if self.told != found => {
+                self.told = found;
+                put_line(writer, balance_line(self.alloc, entry, &account))
+            }
+            _ => Ok(()),
         }
-        self.told = Some(account);
-        put_line(writer, balance_line(self.alloc, entry, &account))
     }
+}
 
+impl ItemWriter for Replay {
     /// Enters an entry that may come next, and tells what it did.
-    fn enter<W: Sink>(&mut self, writer: &mut W, entry: &Entry) -> Result<(), Fault>
-        ensures { Written result (W.output writer.old) (W.output writer.new) }
-    {
+    fn put_entry<W: Sink>(&mut self, writer: &mut W, entry: &Entry) -> Result<(), Fault> {
         if !self.machine.fits(entry) {
             return Err(Fault::Dump(DumpFault::NotLegal));
         }
-        if self.machine.apply(entry).is_err() {
-            return Err(Fault::NoMemory);
-        }
+        self.machine.apply(entry)?;
         self.watch_entry(entry)?;
         self.tell_expired(writer, entry.time)?;
         put_line(writer, judged_line(self.alloc, &self.machine, entry))?;
@@ -127,27 +122,12 @@ impl Replay {
     }
 
     /// Goes over to profile 2, where that does not serve yet, and tells so.
-    fn mark<W: Sink>(&mut self, writer: &mut W) -> Result<(), Fault>
-        ensures { Written result (W.output writer.old) (W.output writer.new) }
-    {
+    fn put_mark<W: Sink>(&mut self, writer: &mut W) -> Result<(), Fault> {
         match self.machine.profile() {
             Profile::One => self.machine.move_to_two(),
             Profile::Two => return Err(Fault::Dump(DumpFault::Mark)),
         }
         put_line(writer, mark_line(self.alloc))
-    }
-}
-
-impl ItemWriter for Replay {
-    fn put_item<W: Sink>(&mut self, writer: &mut W, item: DumpItem) -> Result<(), Fault> {
-        match entry_of(item) {
-            Some(entry) => {
-                let told = self.enter(writer, &entry);
-                drop(entry);
-                told
-            }
-            None => self.mark(writer),
-        }
     }
 }
 
@@ -163,12 +143,9 @@ pub fn audit<R: Source, W: Sink>(
         (W.output writer.old) (W.output writer.new) }
 {
     let head = tell_head(alloc, reader, writer)?;
-    let Ok(machine) = Machine::new_in(alloc, alloc, head.profile, head.clients_max) else {
-        return Err(Fault::NoMemory);
-    };
     let replay = Replay {
         alloc,
-        machine,
+        machine: Machine::new_in(alloc, alloc, head.profile, head.clients_max)?,
         timeouts: Vec::new(alloc),
         account,
         told: None,

@@ -12,7 +12,9 @@ use crate::dumps::{dump, pairs};
 use crate::explaining::explain;
 use crate::faults::Fault;
 use crate::help::{USAGE, VERSION};
-use crate::running::run;
+use crate::intake::Intake;
+use crate::running::{Conversation, converse};
+use crate::script_standings::ScriptStandings;
 use crate::scripts::{Replies, Script, Statements, put};
 use std::alloc::Global;
 use std::time::Clock;
@@ -34,16 +36,23 @@ fn perform<C: Clock, R: Source, W: Sink, E: Sink>(
     ensures silent { talks ≡ false → faults.new ≡ faults.old }
 {
     match form {
-        Form::Script => convert(Script::new(alloc), reader, writer),
+        Form::Script => {
+            let (intake, told) = (Intake::new(alloc), ScriptStandings::new(alloc));
+            convert(Script { intake, told }, reader, writer)
+        }
         Form::Requests => convert(Statements { alloc }, reader, writer),
-        Form::Replies => convert(Replies::new(alloc), reader, writer),
+        Form::Replies => {
+            let intake = Intake::new(alloc);
+            convert(Replies { intake }, reader, writer)
+        }
         Form::Dump => dump(alloc, reader, writer),
         Form::Pairs => pairs(alloc, reader, writer),
         Form::Audit(account) => audit(alloc, account, reader, writer),
         Form::Explain => explain(alloc, reader, writer),
         Form::Run(clients_max, profile) => {
             let rules = (clients_max, profile);
-            run(alloc, clock, rules, talks, reader, writer, faults)
+            let mut conversation = Conversation::new(alloc, clock, rules, talks)?;
+            converse(&mut conversation, reader, writer, faults)
         }
         Form::Help => put(writer, USAGE.as_bytes()),
         Form::Version => put(writer, VERSION.as_bytes()),
@@ -55,8 +64,8 @@ fn perform<C: Clock, R: Source, W: Sink, E: Sink>(
 fn usage_fault(alloc: Global, words: &[String]) -> Fault {
     match words {
         [] => Fault::Usage,
-        words => match wrong_words(alloc, words) {
-            Ok(what) => Fault::in_arguments(alloc, what.as_str()),
+        [word, rest @ ..] => match wrong_words(alloc, word.as_str(), rest) {
+            Ok(line) => Fault::Arguments(line.into_bytes()),
             Err(_) => Fault::Usage,
         },
     }

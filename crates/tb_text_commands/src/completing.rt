@@ -1,7 +1,7 @@
 //! Statements that leave out their moment, their client, their session or their request's number, and what stands for
 //! these.
 ghost use Rattle.std.specs.Prelude.{◌≡◌, ◌++◌, Option, ℕ, IfOk, OnOk};
-ghost use Rattle.tb_text_commands.specs.Completed.{at_moment, by_session, completed, left_out, left_out_in, left_out_of_batch, left_out_of_register, next_in, nothing, standing_behind, number_line, unless_given, without_session, written};
+ghost use Rattle.tb_text_commands.specs.Completed.{at_moment, completed, left_out, left_out_in, left_out_of_batch, left_out_of_register, next_in, standing_behind, number_line, unless_given, written};
 ghost use Rattle.tb_text_commands.specs.declared.completing.Standing.{Standing};
 
 use crate::heads::{Given, begins_operation, first_word, head_of, is_batch, is_register};
@@ -82,67 +82,41 @@ fn next_in(session: u128, standing: Standing) -> u128
 }
 
 impl LeftOut {
-    /// Nothing is left out.
-    fn nothing() -> LeftOut
-        ensures { result ≡ nothing }
-    {
-        LeftOut::default()
-    }
-
     /// Before a register.
     fn of_register(given: Given, client: u128) -> LeftOut
         ensures { result ≡ left_out_of_register given client }
     {
         LeftOut {
             client: unless_given(given.client, client),
-            ..LeftOut::nothing()
+            ..LeftOut::default()
         }
     }
 
-    /// Before a batch or a lookup without a session.
-    fn without_session(given: Given, client: u128, standing: Standing) -> LeftOut
-        ensures { result ≡ without_session given client standing }
-    {
-        match standing {
-            Standing::Open(session, next) => LeftOut {
-                client: unless_given(given.client, client),
-                session: Some(session as u128),
-                request: unless_given(given.request, next as u128),
-                ..LeftOut::nothing()
-            },
-            Standing::Closed(session) => LeftOut {
-                registered: Some(client),
-                client: unless_given(given.client, client),
-                session: Some(session as u128),
-                request: unless_given(given.request, 1),
-                ..LeftOut::nothing()
-            },
-            Standing::Unknown => LeftOut::nothing(),
-        }
-    }
-
-    /// Before a batch or a lookup that leaves something out.
-    fn by_session(given: Given, client: u128, standing: Standing) -> LeftOut
-        ensures { result ≡ by_session given client standing given.session }
-    {
-        match given.session {
-            None => LeftOut::without_session(given, client, standing),
-            Some(session) => LeftOut {
-                client: unless_given(given.client, client),
-                request: unless_given(given.request, next_in(session, standing)),
-                ..LeftOut::nothing()
-            },
-        }
-    }
-
-    /// Before a batch or a lookup.
+    /// Before a batch or a lookup. A client that has no session is registered first.
     fn of_batch(given: Given, client: u128, standing: Standing) -> LeftOut
         ensures { result ≡ left_out_of_batch given client standing }
     {
         if given.client.is_some() && given.request.is_some() {
-            LeftOut::nothing()
-        } else {
-            LeftOut::by_session(given, client, standing)
+            return LeftOut::default();
+        }
+        let of_client = LeftOut::of_register(given, client);
+        match (given.session, standing) {
+            (Some(session), _) => LeftOut {
+                request: unless_given(given.request, next_in(session, standing)),
+                ..of_client
+            },
+            (None, Standing::Open(session, next)) => LeftOut {
+                session: Some(session as u128),
+                request: unless_given(given.request, next as u128),
+                ..of_client
+            },
+            (None, Standing::Closed(session)) => LeftOut {
+                registered: Some(client),
+                session: Some(session as u128),
+                request: unless_given(given.request, 1),
+                ..of_client
+            },
+            (None, Standing::Unknown) => LeftOut::default(),
         }
     }
 
@@ -178,7 +152,7 @@ impl LeftOut {
         } else if begins_operation(rest) {
             LeftOut::of_batch(given, client, standing).at_moment(clock, given)
         } else {
-            LeftOut::nothing()
+            LeftOut::default()
         }
     }
 
@@ -193,7 +167,7 @@ impl LeftOut {
             Some(client) => {
                 LeftOut::before(clock, given, rest, client, standings.standing(client))
             }
-            None => LeftOut::nothing(),
+            None => LeftOut::default(),
         }
     }
 }
@@ -244,40 +218,29 @@ pub fn completed<S: Standings>(
         ≡ completed clock (S.last standings.now) (S.standing standings.now) text.now) }
 {
     let mut whole = Vec::new(alloc);
-    put_left_out(
-        alloc,
-        &mut whole,
-        LeftOut::in_statement(clock, standings, text),
-    )?;
+    let left_out = LeftOut::in_statement(clock, standings, text);
+    put_left_out(alloc, &mut whole, left_out)?;
     whole.extend_from_slice(text)?;
     Ok(whole)
 }
 
-/// A statement that leaves out a session which is not known.
-#[derive(Clone, Copy)]
-pub struct Untold {
-    pub client: u128,
-    /// The number of bytes before the operation.
-    pub place: usize,
-    /// The number of bytes of the operation.
-    pub length: usize,
-}
-
-/// The client and the operation of a statement that leaves out a session which is not known.
-pub fn untold_in<S: Standings>(standings: &S, text: &[u8]) -> Option<Untold> {
+/// The client and the operation of a statement that leaves out a session which is not known, where a place is within that
+/// operation or at its end.
+pub fn untold_at<'a, S: Standings>(
+    standings: &S,
+    text: &'a [u8],
+    place: usize,
+) -> Option<(u128, &'a [u8])> {
     let (given, rest) = head_of(text);
     let operation = first_word(rest);
+    let within = place.checked_sub(text.len().saturating_sub(rest.len()))?;
     let is_whole = given.client.is_some() && given.request.is_some();
-    if is_whole || given.session.is_some() || !is_batch(operation) {
+    if within > operation.len() || is_whole || given.session.is_some() || !is_batch(operation) {
         return None;
     }
     let client = given.client.or(standings.last())?;
     match standings.standing(client) {
-        Standing::Unknown => Some(Untold {
-            client,
-            place: text.len().saturating_sub(rest.len()),
-            length: operation.len(),
-        }),
+        Standing::Unknown => Some((client, operation)),
         _ => None,
     }
 }

@@ -3,23 +3,18 @@ ghost use Rattle.std.specs.Prelude.{◌≡◌, List, Option, ℕ, Some, None, co
 ghost use Rattle.tb_text_commands.specs.Completed.{completed, IsRegister, NamesClient, NamesMoment, NamesRequest, StandsForItself};
 ghost use Rattle.tb_text_commands.specs.declared.completing.Standing.TheVariants.{Open, Closed, Unknown};
 
-/// Nothing is put before a statement in which client and request stand, but for the clock's moment: where there is no
-/// clock, as in `script`, or a moment stands too, what had a meaning keeps it.
+/// Nothing is put before a statement in which client and request stand, nor before a register in which a client stands, but
+/// for the clock's moment: where there is no clock, as in `script`, or a moment stands too, what had a meaning keeps it.
 #[tactic(auto, unfolding(crate::specs::Completed::left_out_in, crate::specs::Completed::written))]
 pub fn whole_statement_stays()
     ensures script { (text : List ℕ) → NamesClient text → NamesRequest text
         → StandsForItself None text }
     ensures run { (text : List ℕ) (clock : Option ℕ) → NamesMoment text → NamesClient text
         → NamesRequest text → StandsForItself clock text }
-{}
-
-/// Nothing is put before a register in which a client stands, but for the clock's moment.
-#[tactic(auto, unfolding(crate::specs::Completed::left_out_in, crate::specs::Completed::written))]
-pub fn whole_register_stays()
-    ensures script { (text : List ℕ) → NamesClient text → IsRegister text
+    ensures register { (text : List ℕ) → NamesClient text → IsRegister text
         → StandsForItself None text }
-    ensures run { (text : List ℕ) (clock : Option ℕ) → NamesMoment text → NamesClient text
-        → IsRegister text → StandsForItself clock text }
+    ensures register_run { (text : List ℕ) (clock : Option ℕ) → NamesMoment text
+        → NamesClient text → IsRegister text → StandsForItself clock text }
 {}
 
 /// A lookup alone, of client 7, which has session 3 and made two requests there.

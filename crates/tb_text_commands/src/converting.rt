@@ -8,6 +8,9 @@ ghost use Rattle.tb_text_commands.specs.Whole.{Parts, WasWhole};
 use crate::faults::Fault;
 use tb_records::{Sink, Source};
 
+/// The next part, or none, or the fault that ended the input.
+pub type Next<T> = Result<Option<T>, Fault>;
+
 /// What takes an input part by part, and writes what each part stands for.
 pub trait Converter {
     /// What a part is read as.
@@ -21,11 +24,7 @@ pub trait Converter {
 
     /// Takes the next part: None where there is none. What was written is passed on first, where the part may have to be
     /// waited for.
-    fn next<R: Source, W: Sink>(
-        &mut self,
-        reader: &mut R,
-        writer: &mut W,
-    ) -> Result<Option<Self::Piece>, Fault>
+    fn next<R: Source, W: Sink>(&mut self, reader: &mut R, writer: &mut W) -> Next<Self::Piece>
         ensures ended { Ended result (R.input reader.old) (R.input reader.new) (W.output writer.old)
             (W.output writer.new) }
         ensures taken { IfOk result (λ next.
@@ -50,19 +49,16 @@ pub fn convert_next<C: Converter, R: Source, W: Sink>(
         TakesIf C.Part more (C.remaining converter.old (R.input reader.old))
         (C.remaining converter.new (R.input reader.new))) }
 {
-    match converter.next(reader, writer) {
-        Ok(Some(piece)) => match converter.put(writer, piece) {
-            Ok(()) => Ok(true),
-            Err(fault) => Err(fault),
-        },
-        Ok(None) => Ok(false),
-        Err(fault) => Err(fault),
-    }
+    let Some(piece) = converter.next(reader, writer)? else {
+        return Ok(false);
+    };
+    converter.put(writer, piece)?;
+    Ok(true)
 }
 
 /// Takes all parts, writes what they stand for, and lets the converter go.
 pub fn convert<C: Converter + Drop, R: Source, W: Sink>(
-    converter: C,
+    mut converter: C,
     reader: &mut R,
     writer: &mut W,
 ) -> Result<(), Fault>
@@ -70,7 +66,6 @@ pub fn convert<C: Converter + Drop, R: Source, W: Sink>(
         (W.output writer.new) }
     ensures whole { OnOk result (WasWhole (Parts C.Part) (C.remaining converter (R.input reader.old))) }
 {
-    let mut converter = converter;
     for _ in 0..u64::MAX {
         if !convert_next(&mut converter, reader, writer)? {
             return Ok(());

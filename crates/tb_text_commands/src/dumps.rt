@@ -4,9 +4,9 @@ ghost use Rattle.tb_records.specs.DumpBytes.{HeadAnswers};
 ghost use Rattle.tb_text_commands.specs.Ends.{Converts, Ended, Written};
 ghost use Rattle.tb_text_commands.specs.Whole.{IsDump, IsItem, Parts};
 
-use crate::converting::{Converter, convert};
-use crate::faults::{Fault, dump_fault};
-use crate::lines::{head_line, item_line};
+use crate::converting::{Converter, Next, convert};
+use crate::faults::Fault;
+use crate::lines::{entry_line, head_line, mark_line};
 use crate::scripts::{put_line, put_pair};
 use std::alloc::Global;
 use tb_machine::Entry;
@@ -40,18 +40,19 @@ pub fn tell_head<R: Source, W: Sink>(
     ensures answer { IfOk result (λ head.
         HeadAnswers (Ok head) (R.input reader.old).left (R.input reader.new).left) }
 {
-    let head = match read_head_from(reader) {
-        Ok(head) => head,
-        Err(fault) => return Err(dump_fault(fault)),
-    };
+    let head = read_head_from(reader)?;
     put_line(writer, head_line(alloc, &head))?;
     Ok(head)
 }
 
 /// What writes for each item of a dump: an entry, or a mark.
 pub trait ItemWriter {
-    /// Writes what an item stands for.
-    fn put_item<W: Sink>(&mut self, writer: &mut W, item: DumpItem) -> Result<(), Fault>
+    /// Writes what an entry stands for.
+    fn put_entry<W: Sink>(&mut self, writer: &mut W, entry: &Entry) -> Result<(), Fault>
+        ensures { Written result (W.output writer.old) (W.output writer.new) };
+
+    /// Writes what a mark stands for.
+    fn put_mark<W: Sink>(&mut self, writer: &mut W) -> Result<(), Fault>
         ensures { Written result (W.output writer.old) (W.output writer.new) };
 }
 
@@ -69,22 +70,18 @@ impl<T: ItemWriter> Converter for DumpItems<T> {
 
     ghost remaining = { λ items input. input.left };
 
-    fn next<R: Source, W: Sink>(
-        &mut self,
-        reader: &mut R,
-        writer: &mut W,
-    ) -> Result<Option<DumpItem>, Fault> {
+    fn next<R: Source, W: Sink>(&mut self, reader: &mut R, writer: &mut W) -> Next<Self::Piece> {
         if !holds_item(reader.at_hand()) {
             writer.pass_on();
         }
-        match read_item_from(self.alloc, reader) {
-            Ok(item) => Ok(item),
-            Err(fault) => Err(dump_fault(fault)),
-        }
+        Ok(read_item_from(self.alloc, reader)?)
     }
 
     fn put<W: Sink>(&mut self, writer: &mut W, item: DumpItem) -> Result<(), Fault> {
-        self.item_writer.put_item(writer, item)
+        match entry_of(item) {
+            Some(entry) => self.item_writer.put_entry(writer, &entry),
+            None => self.item_writer.put_mark(writer),
+        }
     }
 }
 
@@ -108,10 +105,12 @@ struct ItemLines {
 }
 
 impl ItemWriter for ItemLines {
-    fn put_item<W: Sink>(&mut self, writer: &mut W, item: DumpItem) -> Result<(), Fault> {
-        let line = item_line(self.alloc, &item);
-        drop(item);
-        put_line(writer, line)
+    fn put_entry<W: Sink>(&mut self, writer: &mut W, entry: &Entry) -> Result<(), Fault> {
+        put_line(writer, entry_line(self.alloc, entry))
+    }
+
+    fn put_mark<W: Sink>(&mut self, writer: &mut W) -> Result<(), Fault> {
+        put_line(writer, mark_line(self.alloc))
     }
 }
 
@@ -129,15 +128,12 @@ pub fn dump<R: Source, W: Sink>(alloc: Global, reader: &mut R, writer: &mut W) -
 struct EntryPairs {}
 
 impl ItemWriter for EntryPairs {
-    fn put_item<W: Sink>(&mut self, writer: &mut W, item: DumpItem) -> Result<(), Fault> {
-        match entry_of(item) {
-            Some(entry) => {
-                let written = put_pair(writer, entry.time, &entry.request);
-                drop(entry);
-                written
-            }
-            None => Ok(()),
-        }
+    fn put_entry<W: Sink>(&mut self, writer: &mut W, entry: &Entry) -> Result<(), Fault> {
+        put_pair(writer, entry.time, &entry.request)
+    }
+
+    fn put_mark<W: Sink>(&mut self, _writer: &mut W) -> Result<(), Fault> {
+        Ok(())
     }
 }
 
@@ -146,8 +142,6 @@ pub fn pairs<R: Source, W: Sink>(alloc: Global, reader: &mut R, writer: &mut W) 
     ensures { Converts IsDump result (R.input reader.old) (R.input reader.new)
         (W.output writer.old) (W.output writer.new) }
 {
-    if let Err(fault) = read_head_from(reader) {
-        return Err(dump_fault(fault));
-    }
+    read_head_from(reader)?;
     convert_items(alloc, EntryPairs {}, reader, writer)
 }

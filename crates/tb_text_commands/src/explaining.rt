@@ -10,9 +10,7 @@ use std::format;
 use tb_machine::{Entry, Machine, status_of};
 use tb_records::dumps::{read_head_from, read_item_from};
 use tb_records::streams::read_timed_from;
-use tb_records::{
-    Counting, DumpFault, DumpHead, DumpItem, FrameFault, LAST_MOMENT, Profile, Sink, Source,
-};
+use tb_records::{Counting, DumpFault, DumpItem, FrameFault, LAST_MOMENT, Profile, Sink, Source};
 use tb_sessions::Class;
 
 /// The bytes of which it is said whether they look like text.
@@ -53,20 +51,11 @@ fn dump_words(fault: DumpFault) -> &'static str {
     }
 }
 
-/// Says that bytes look like text.
-fn looks_like_text(bytes: &[u8]) -> bool {
-    let sample = bytes.get(..SAMPLE).unwrap_or(bytes);
-    for byte in sample {
-        if !matches!(*byte, b'\t' | b'\n' | b'\r' | b' '..=b'~') {
-            return false;
-        }
-    }
-    !sample.is_empty()
-}
-
 /// What is added where bytes look like text.
 fn hint(bytes: &[u8]) -> &'static str {
-    if looks_like_text(bytes) {
+    let sample = bytes.get(..SAMPLE).unwrap_or(bytes);
+    let is_text = sample.iter().all(|byte| matches!(*byte, b'\t' | b'\n' | b'\r' | b' '..=b'~'));
+    if is_text && !sample.is_empty() {
         "It looks like text: tbt script makes a script of statements.\n"
     } else {
         ""
@@ -87,11 +76,6 @@ fn stops_at(alloc: Global, place: Place, words: &str, name: &str) -> Result<Stri
     format!(in alloc; "{unit} {number}, at byte {at}: {words} ({name})\n")
 }
 
-/// What is told of a script that is read to its end.
-fn whole_script(alloc: Global, pairs: u64, total: usize) -> Result<String, AllocError> {
-    format!(in alloc; "a script, {pairs} pairs in {total} bytes: tbs reads it to its end\n")
-}
-
 /// What is told of a pair that cannot be read, which begins with these bytes.
 fn wrong_pair(
     alloc: Global,
@@ -100,22 +84,13 @@ fn wrong_pair(
     fault: FrameFault,
 ) -> Result<String, AllocError> {
     let mut told = stops_at(alloc, place, frame_words(fault), fault.name())?;
-    match told.push_str(hint(bytes)) {
-        Ok(()) => Ok(told),
-        Err(AllocError) => Err(AllocError),
-    }
+    told.push_str(hint(bytes))?;
+    Ok(told)
 }
 
 /// The moment of the next pair of a script.
 fn next_moment(alloc: Global, reader: &mut Counting<&[u8]>) -> Result<Option<u64>, FrameFault> {
-    match read_timed_from(alloc, reader) {
-        Ok(Some((moment, request))) => {
-            drop(request);
-            Ok(Some(moment))
-        }
-        Ok(None) => Ok(None),
-        Err(fault) => Err(fault),
-    }
+    Ok(read_timed_from(alloc, reader)?.map(|(moment, _)| moment))
 }
 
 /// What is told of a script.
@@ -123,19 +98,24 @@ fn explain_script(alloc: Global, bytes: &[u8]) -> Result<String, AllocError> {
     let total = bytes.len();
     let mut rest = bytes;
     for number in 1..u64::MAX {
+        let at = total.saturating_sub(rest.len());
         let place = Place {
             unit: "pair",
             number,
-            at: total.saturating_sub(rest.len()),
+            at,
         };
         let mut reader = Counting::new(rest);
         match next_moment(alloc, &mut reader) {
-            Ok(Some(moment)) => {
-                if moment > LAST_MOMENT {
-                    return stops_at(alloc, place, LATE, "TimeExhausted");
-                }
+            Ok(Some(moment)) if moment > LAST_MOMENT => {
+                return stops_at(alloc, place, LATE, "TimeExhausted");
             }
-            Ok(None) => return whole_script(alloc, number - 1, total),
+            Ok(Some(_)) => {}
+            Ok(None) => {
+                let pairs = number - 1;
+                return format!(in alloc;
+                    "a script, {pairs} pairs in {total} bytes: tbs reads it to its end\n"
+                );
+            }
             Err(fault) => return wrong_pair(alloc, place, rest, fault),
         }
         rest = reader.into_inner();
@@ -162,27 +142,6 @@ fn why_not(alloc: Global, machine: &Machine<Global>, entry: &Entry) -> Result<St
     format!(in alloc; "its time is {time}, where {least} to 2^63 - 1 is allowed")
 }
 
-/// What is told of an entry that may not come next.
-fn unfit_entry(
-    alloc: Global,
-    machine: &Machine<Global>,
-    entry: &Entry,
-    place: Place,
-) -> Result<String, AllocError> {
-    let why = why_not(alloc, machine, entry)?;
-    let told = stops_at(alloc, place, why.as_str(), "NotLegal");
-    drop(why);
-    told
-}
-
-/// Something is told, where there was memory for it.
-fn told_of(told: Result<String, AllocError>) -> Result<Option<String>, AllocError> {
-    match told {
-        Ok(told) => Ok(Some(told)),
-        Err(AllocError) => Err(AllocError),
-    }
-}
-
 /// Enters an entry, or tells why it may not come next.
 fn follow_entry(
     alloc: Global,
@@ -190,36 +149,16 @@ fn follow_entry(
     entry: Entry,
     place: Place,
 ) -> Result<Option<String>, AllocError> {
-    if !machine.fits(&entry) {
-        let told = unfit_entry(alloc, machine, &entry, place);
-        drop(entry);
-        return told_of(told);
+    if machine.fits(&entry) {
+        machine.enter(entry).map_err(|_| AllocError)?;
+        return Ok(None);
     }
-    match machine.enter(entry) {
-        Ok(()) => Ok(None),
-        Err(entry) => {
-            drop(entry);
-            Err(AllocError)
-        }
-    }
+    let why = why_not(alloc, machine, &entry);
+    drop(entry);
+    Ok(Some(stops_at(alloc, place, why?.as_str(), "NotLegal")?))
 }
 
-/// Goes over to profile 2, or tells why that may not be.
-fn follow_mark(
-    alloc: Global,
-    machine: &mut Machine<Global>,
-    place: Place,
-) -> Result<Option<String>, AllocError> {
-    match machine.profile() {
-        Profile::One => {
-            machine.move_to_two();
-            Ok(None)
-        }
-        Profile::Two => told_of(stops_at(alloc, place, "a mark under profile 2", "Mark")),
-    }
-}
-
-/// Enters what stands next in a dump, or tells why it may not stand there.
+/// Enters what stands next in a dump, or tells why it may not stand there. A mark goes over to profile 2.
 fn follow(
     alloc: Global,
     machine: &mut Machine<Global>,
@@ -228,13 +167,14 @@ fn follow(
 ) -> Result<Option<String>, AllocError> {
     match entry_of(item) {
         Some(entry) => follow_entry(alloc, machine, entry, place),
-        None => follow_mark(alloc, machine, place),
+        None if machine.profile() == Profile::Two => {
+            Ok(Some(stops_at(alloc, place, "a mark under profile 2", "Mark")?))
+        }
+        None => {
+            machine.move_to_two();
+            Ok(None)
+        }
     }
-}
-
-/// What is told of a dump that is replayed to its end.
-fn whole_dump(alloc: Global, commit: u64, total: usize) -> Result<String, AllocError> {
-    format!(in alloc; "a dump, {commit} entries in {total} bytes: tbs replays it to its end\n")
 }
 
 /// What is told of the entries of a dump, which stand behind its head.
@@ -247,19 +187,25 @@ fn explain_entries(
     let total = bytes.len();
     let mut rest = entries;
     for number in 1..u64::MAX {
+        let at = total.saturating_sub(rest.len());
         let place = Place {
             unit: "entry",
             number,
-            at: total.saturating_sub(rest.len()),
+            at,
         };
         let mut reader = Counting::new(rest);
         match read_item_from(alloc, &mut reader) {
-            Ok(Some(item)) => match follow(alloc, machine, item, place) {
-                Ok(None) => {}
-                Ok(Some(told)) => return Ok(told),
-                Err(AllocError) => return Err(AllocError),
-            },
-            Ok(None) => return whole_dump(alloc, machine.commit(), total),
+            Ok(Some(item)) => {
+                if let Some(told) = follow(alloc, machine, item, place)? {
+                    return Ok(told);
+                }
+            }
+            Ok(None) => {
+                let commit = machine.commit();
+                return format!(in alloc;
+                    "a dump, {commit} entries in {total} bytes: tbs replays it to its end\n"
+                );
+            }
             Err(fault) => return stops_at(alloc, place, dump_words(fault), fault.name()),
         }
         rest = reader.into_inner();
@@ -267,36 +213,19 @@ fn explain_entries(
     format!(in alloc; "too many entries\n")
 }
 
-/// What is told of a dump behind its head.
-fn explain_behind(
-    alloc: Global,
-    head: DumpHead,
-    bytes: &[u8],
-    entries: &[u8],
-) -> Result<String, AllocError> {
-    match Machine::new_in(alloc, alloc, head.profile, head.clients_max) {
-        Ok(mut machine) => {
-            let told = explain_entries(alloc, &mut machine, bytes, entries);
-            drop(machine);
-            told
-        }
-        Err(AllocError) => Err(AllocError),
-    }
-}
-
 /// What is told of a dump.
 fn explain_dump(alloc: Global, bytes: &[u8]) -> Result<String, AllocError> {
     let mut reader = Counting::new(bytes);
-    let head = match read_head_from(&mut reader) {
-        Ok(head) => head,
-        Err(fault) => {
-            let words = dump_words(fault);
-            let name = fault.name();
-            return format!(in alloc; "the head, at byte 0: {words} ({name})\n");
+    match read_head_from(&mut reader) {
+        Ok(head) => {
+            let mut machine = Machine::new_in(alloc, alloc, head.profile, head.clients_max)?;
+            explain_entries(alloc, &mut machine, bytes, reader.into_inner())
         }
-    };
-    let entries = reader.into_inner();
-    explain_behind(alloc, head, bytes, entries)
+        Err(fault) => {
+            let (words, name) = (dump_words(fault), fault.name());
+            format!(in alloc; "the head, at byte 0: {words} ({name})\n")
+        }
+    }
 }
 
 /// Tells where and why `tbs` stops in a script, or where the input begins as one in a dump.
@@ -320,8 +249,5 @@ pub fn explain<R: Source, W: Sink>(
     } else {
         explain_script(alloc, bytes)
     };
-    match told {
-        Ok(told) => put(writer, told.as_str().as_bytes()),
-        Err(_) => Err(Fault::NoMemory),
-    }
+    put(writer, told?.as_str().as_bytes())
 }

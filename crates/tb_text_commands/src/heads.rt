@@ -1,6 +1,6 @@
 //! What stands before the operation of a statement.
 ghost use Rattle.std.specs.Prelude.{◌≡◌, ◌≤◌, length, MatchOption, None, Some, false};
-ghost use Rattle.tb_text_commands.specs.Heads.{begins_operation, behind_equals, behind_word, field_named, field_read, first_word, gap_length, head_of, is_batch, is_register, is_word_byte, next, none_given, number_from, number_of, operation_named, past_gap, with_digit, with_field, word_length};
+ghost use Rattle.tb_text_commands.specs.Heads.{begins_operation, behind_equals, behind_word, field_named, field_read, first_word, gap_length, head_of, is_batch, is_register, is_word_byte, next, number_from, number_of, operation_named, past_gap, with_digit, with_field, word_length};
 
 use tb_records::Operation;
 use tb_text::{Field, Word, digit, word_named};
@@ -36,10 +36,7 @@ fn gap_length(bytes: &[u8]) -> usize
 fn is_word_byte(byte: u8) -> bool
     ensures { result ≡ is_word_byte byte }
 {
-    (b'a' <= byte && byte <= b'z')
-        || (b'A' <= byte && byte <= b'Z')
-        || (b'0' <= byte && byte <= b'9')
-        || byte == b'_'
+    matches!(byte, b'a'..=b'z' | b'A'..=b'Z' | b'0'..=b'9' | b'_')
 }
 
 /// The number of bytes of the word that the bytes begin with.
@@ -92,11 +89,10 @@ fn with_digit(base: u128, n: u128, byte: u8) -> Option<u128>
     ensures { result ≡ with_digit base n byte }
 {
     let digit = digit(byte)?;
-    if digit < base {
-        n.checked_mul(base)?.checked_add(digit)
-    } else {
-        None
+    if digit >= base {
+        return None;
     }
+    n.checked_mul(base)?.checked_add(digit)
 }
 
 /// The number that digits spell.
@@ -132,36 +128,18 @@ fn field_named(word: &[u8]) -> Option<Field>
 }
 
 impl Given {
-    /// Nothing stands there.
-    fn none() -> Given
-        ensures { result ≡ none_given }
-    {
-        Given::default()
-    }
-
     /// With one number more.
-    fn with_field(self, field: Field, number: u128) -> Given
+    fn with_field(mut self, field: Field, number: u128) -> Given
         ensures { result ≡ with_field self field number }
     {
         match field {
-            Field::At => Given {
-                moment: Some(number),
-                ..self
-            },
-            Field::Client => Given {
-                client: Some(number),
-                ..self
-            },
-            Field::Session => Given {
-                session: Some(number),
-                ..self
-            },
-            Field::Request => Given {
-                request: Some(number),
-                ..self
-            },
-            _ => self,
+            Field::At => self.moment = Some(number),
+            Field::Client => self.client = Some(number),
+            Field::Session => self.session = Some(number),
+            Field::Request => self.request = Some(number),
+            _ => {}
         }
+        self
     }
 }
 
@@ -181,17 +159,14 @@ fn field_read(given: Given, bytes: &[u8]) -> Option<(Given, &[u8])>
 fn next(given: Given, bytes: &[u8]) -> (Given, &[u8])
     ensures { (result.0, result.1.now) ≡ next (given, bytes.now) }
 {
-    match field_read(given, bytes) {
-        Some(found) => found,
-        None => (given, bytes),
-    }
+    field_read(given, bytes).unwrap_or((given, bytes))
 }
 
 /// What stands before the operation of a statement, and what stands from its word on.
 pub fn head_of(text: &[u8]) -> (Given, &[u8])
     ensures { (result.0, result.1.now) ≡ head_of text.now }
 {
-    let (given, rest) = next(Given::none(), past_gap(text));
+    let (given, rest) = next(Given::default(), past_gap(text));
     let (given, rest) = next(given, rest);
     let (given, rest) = next(given, rest);
     next(given, rest)

@@ -1,5 +1,6 @@
 //! Bytes that were read and wait to be taken: statements, or replies, one by one.
-ghost use Rattle.std.specs.Prelude.{◌≡◌, [], IfOk, drop, false, take, true};
+ghost use Rattle.std.specs.Prelude.{◌≡◌, IfOk, drop, false, take, true};
+ghost use Rattle.tb_records.specs.Transport.{Input};
 ghost use Rattle.tb_text_commands.specs.Ends.{Ended};
 ghost use Rattle.tb_text_commands.specs.Taken.{HoldsAsBefore, Stays, rest_of, waiting};
 
@@ -14,6 +15,7 @@ const CHUNK: usize = 4096;
 /// Bytes that were read and not taken yet.
 #[derive(Drop)]
 pub struct Intake {
+    pub alloc: Global,
     bytes: Vec<u8>,
     /// The bytes before this place were taken.
     at: usize,
@@ -31,10 +33,10 @@ pub struct Intake {
 impl Intake {
     /// Nothing read yet.
     pub fn new(alloc: Global) -> Intake
-        ensures empty { rest_of result ≡ [] }
-        ensures goes_on { result.ended ≡ false }
+        ensures { (input : Input) → waiting result input ≡ input.left }
     {
         Intake {
+            alloc,
             bytes: Vec::new(alloc),
             at: 0,
             searched: 0,
@@ -57,11 +59,7 @@ impl Intake {
         ensures { result.now ≡ take length (rest_of self.now) }
     {
         let rest = self.rest();
-        if length < rest.len() {
-            &rest[..length]
-        } else {
-            rest
-        }
+        rest.get(..length).unwrap_or(rest)
     }
 
     /// The line and the column of a place in the rest, both from 1.
@@ -152,9 +150,7 @@ impl Intake {
             return Err(Fault::Device);
         };
         self.make_room();
-        if self.bytes.extend_from_slice(&buffer[..read]).is_err() {
-            return Err(Fault::NoMemory);
-        }
+        self.bytes.extend_from_slice(&buffer[..read])?;
         self.ended = read == 0;
         Ok(read > 0)
     }

@@ -1,30 +1,20 @@
 //! Replies and entries as lines of JSON.
-use crate::lists::{Ids, Judged, List, Records, Results};
+use crate::lists::{EventResults, Ids, Judged, List, Records};
 use crate::objects::{Object, Plain, Record, Shown};
 use crate::results::results_of;
-use serde::Serialize;
+use serde::{Described, Serialize, Serializer};
 use std::alloc::{AllocError, Global};
 use tb_machine::{Entry, Machine};
-use tb_records::{
-    Account, Body, DumpHead, DumpItem, Operation, Profile, Reply, ReplyBody, Request, Status,
-    Transfer,
-};
+use tb_records::{Account, Body, DumpHead, Operation, Profile, Reply, ReplyBody, Status, Transfer};
 
 /// The events of a register, and the results of its reply.
 const NO_IDS: &[u128] = &[];
 
 /// The line of an object.
 fn line<T: Serialize>(alloc: Global, object: &T) -> Result<Vec<u8>, AllocError> {
-    match serde_json::to_vec(alloc, object) {
-        Ok(mut line) => {
-            line.push(b'\n')?;
-            Ok(line)
-        }
-        Err(fault) => {
-            drop(fault);
-            Err(AllocError)
-        }
-    }
+    let mut line = serde_json::to_vec(alloc, object).map_err(|_| AllocError)?;
+    line.push(b'\n')?;
+    Ok(line)
 }
 
 /// The name of a status.
@@ -49,12 +39,27 @@ fn operation_name(operation: u8) -> &'static str {
     }
 }
 
-/// The line of a reply with these results.
-fn line_with<T: Serialize>(
-    alloc: Global,
-    reply: &Reply,
-    results: &T,
-) -> Result<Vec<u8>, AllocError> {
+/// The results of a reply.
+#[derive(Drop)]
+struct Results<'a>(&'a Reply);
+
+impl Described for Results<'_> {}
+
+impl Serialize for Results<'_> {
+    fn serialize<S: Serializer>(&self, out: &mut S) -> Result<(), S::Error> {
+        match self.0.body() {
+            ReplyBody::Empty => List(NO_IDS, Ids).serialize(out),
+            ReplyBody::Results(results) => {
+                List(results.as_slice(), EventResults(self.0.operation())).serialize(out)
+            }
+            ReplyBody::Accounts(found) => List(found.as_slice(), Records).serialize(out),
+            ReplyBody::Transfers(found) => List(found.as_slice(), Records).serialize(out),
+        }
+    }
+}
+
+/// The line of a reply.
+pub fn reply_line(alloc: Global, reply: &Reply) -> Result<Vec<u8>, AllocError> {
     let fields = [
         ("client", Shown::Digits(reply.client())),
         ("session", Shown::Digits(u128::from(reply.session()))),
@@ -66,34 +71,39 @@ fn line_with<T: Serialize>(
     let object = Object {
         fields: &fields,
         name: "results",
-        last: results,
+        last: &Results(reply),
     };
     line(alloc, &object)
 }
 
-/// The line of a reply.
-pub fn reply_line(alloc: Global, reply: &Reply) -> Result<Vec<u8>, AllocError> {
-    let operation = reply.operation();
-    match reply.body() {
-        ReplyBody::Empty => line_with(alloc, reply, &List(NO_IDS, Ids)),
-        ReplyBody::Results(results) => {
-            line_with(alloc, reply, &List(results.as_slice(), Results(operation)))
+/// The events of a request, or its ids.
+#[derive(Drop)]
+struct Events<'a>(&'a Body);
+
+impl Described for Events<'_> {}
+
+impl Serialize for Events<'_> {
+    fn serialize<S: Serializer>(&self, out: &mut S) -> Result<(), S::Error> {
+        match self.0 {
+            Body::Register => List(NO_IDS, Ids).serialize(out),
+            Body::CreateAccounts(events) => List(events.as_slice(), Records).serialize(out),
+            Body::CreateTransfers(events) => List(events.as_slice(), Records).serialize(out),
+            Body::LookupAccounts(ids) => List(ids.as_slice(), Ids).serialize(out),
+            Body::LookupTransfers(ids) => List(ids.as_slice(), Ids).serialize(out),
         }
-        ReplyBody::Accounts(found) => line_with(alloc, reply, &List(found.as_slice(), Records)),
-        ReplyBody::Transfers(found) => line_with(alloc, reply, &List(found.as_slice(), Records)),
     }
 }
 
 /// The line of an entry with these events.
 fn entry_with<T: Serialize>(
     alloc: Global,
-    (commit, time): (u64, u64),
-    request: &Request,
+    entry: &Entry,
     events: &T,
 ) -> Result<Vec<u8>, AllocError> {
+    let request = &entry.request;
     let fields = [
-        ("commit", Shown::Digits(u128::from(commit))),
-        ("time", Shown::Digits(u128::from(time))),
+        ("commit", Shown::Digits(u128::from(entry.commit))),
+        ("time", Shown::Digits(u128::from(entry.time))),
         ("client", Shown::Digits(request.client())),
         ("session", Shown::Digits(u128::from(request.session()))),
         ("request", Shown::Number(request.request())),
@@ -111,32 +121,8 @@ fn entry_with<T: Serialize>(
 }
 
 /// The line of an entry.
-fn entry_line(
-    alloc: Global,
-    numbers: (u64, u64),
-    request: &Request,
-) -> Result<Vec<u8>, AllocError> {
-    match request.body() {
-        Body::Register => entry_with(alloc, numbers, request, &List(NO_IDS, Ids)),
-        Body::CreateAccounts(events) => {
-            entry_with(alloc, numbers, request, &List(events.as_slice(), Records))
-        }
-        Body::CreateTransfers(events) => {
-            entry_with(alloc, numbers, request, &List(events.as_slice(), Records))
-        }
-        Body::LookupAccounts(ids) => entry_with(
-            alloc,
-            numbers,
-            request,
-            &List(ids.as_slice(), Ids),
-        ),
-        Body::LookupTransfers(ids) => entry_with(
-            alloc,
-            numbers,
-            request,
-            &List(ids.as_slice(), Ids),
-        ),
-    }
+pub fn entry_line(alloc: Global, entry: &Entry) -> Result<Vec<u8>, AllocError> {
+    entry_with(alloc, entry, &Events(entry.request.body()))
 }
 
 /// The line of a dump's head.
@@ -157,18 +143,6 @@ pub fn mark_line(alloc: Global) -> Result<Vec<u8>, AllocError> {
     line(alloc, &Plain(&[("profile", Shown::Number(2))]))
 }
 
-/// The line of a mark or an entry of a dump.
-pub fn item_line(alloc: Global, item: &DumpItem) -> Result<Vec<u8>, AllocError> {
-    match item {
-        DumpItem::Mark => mark_line(alloc),
-        DumpItem::Entry {
-            commit,
-            time,
-            request,
-        } => entry_line(alloc, (*commit, *time), request),
-    }
-}
-
 /// The line of the machine's last entry, with what became of each of its events.
 fn judged_with<R: Record>(
     alloc: Global,
@@ -176,14 +150,12 @@ fn judged_with<R: Record>(
     entry: &Entry,
     events: &[R],
 ) -> Result<Vec<u8>, AllocError> {
-    let request = &entry.request;
     let judged = Judged {
         machine,
-        operation: request.operation(),
-        results: results_of(machine, request.client()),
+        operation: entry.request.operation(),
+        results: results_of(machine, entry.request.client()),
     };
-    let numbers = (entry.commit, entry.time);
-    entry_with(alloc, numbers, request, &List(events, judged))
+    entry_with(alloc, entry, &List(events, judged))
 }
 
 /// The line of the machine's last entry, with what became of each event of a batch: records that were accepted are shown
@@ -196,7 +168,7 @@ pub fn judged_line(
     match entry.request.body() {
         Body::CreateAccounts(events) => judged_with(alloc, machine, entry, events.as_slice()),
         Body::CreateTransfers(events) => judged_with(alloc, machine, entry, events.as_slice()),
-        _ => entry_line(alloc, (entry.commit, entry.time), &entry.request),
+        _ => entry_line(alloc, entry),
     }
 }
 

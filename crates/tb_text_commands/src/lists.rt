@@ -50,9 +50,9 @@ impl Shows<u128> for Ids {
 
 /// Shows results of the events of an operation, by its number.
 #[derive(Clone, Copy)]
-pub struct Results(pub u8);
+pub struct EventResults(pub u8);
 
-impl Shows<EventResult> for Results {
+impl Shows<EventResult> for EventResults {
     fn put<S: Serializer>(
         &self,
         out: &mut S,

@@ -26,39 +26,24 @@ pub enum Shown {
 /// A plain field: its name, and what it shows.
 pub type Field = (&'static str, Shown);
 
-/// Writes a name, where it is meant to be there.
-fn put_name<S: Serializer>(out: &mut S, is_there: bool, name: &str) -> Result<(), S::Error> {
-    if is_there { out.str(name) } else { Ok(()) }
-}
-
-/// Ends a list of flags with the bits that are no flag, where there are some.
-fn end_flags<S: Serializer>(out: &mut S, rest: u16) -> Result<(), S::Error> {
+/// Writes the names of flags that are set, of all that have a bit and a name, and bits that are no flag as one number.
+fn put_flags<S: Serializer>(
+    out: &mut S,
+    flags: u16,
+    all: &[(u16, &'static str)],
+) -> Result<(), S::Error> {
+    let mut rest = flags;
+    out.begin_seq(None)?;
+    for (bit, name) in all {
+        if rest & *bit != 0 {
+            out.str(*name)?;
+        }
+        rest &= !*bit;
+    }
     if rest != 0 {
         out.collect_str(&rest)?;
     }
     out.end_seq()
-}
-
-/// Writes the flags of an account.
-fn put_account_flags<S: Serializer>(out: &mut S, flags: u16) -> Result<(), S::Error> {
-    let mut rest = flags;
-    out.begin_seq(None)?;
-    for flag in &AccountFlag::ALL {
-        put_name(out, flag.is_in(rest), flag.name())?;
-        rest &= !flag.bit();
-    }
-    end_flags(out, rest)
-}
-
-/// Writes the flags of a transfer.
-fn put_transfer_flags<S: Serializer>(out: &mut S, flags: u16) -> Result<(), S::Error> {
-    let mut rest = flags;
-    out.begin_seq(None)?;
-    for flag in &TransferFlag::ALL {
-        put_name(out, flag.is_in(rest), flag.name())?;
-        rest &= !flag.bit();
-    }
-    end_flags(out, rest)
 }
 
 /// Writes what a field shows.
@@ -67,8 +52,20 @@ fn put_shown<S: Serializer>(out: &mut S, shown: Shown) -> Result<(), S::Error> {
         Shown::Digits(number) => out.collect_str(&number),
         Shown::Number(number) => out.u64(u64::from(number)),
         Shown::Name(text) => out.str(text),
-        Shown::AccountFlags(flags) => put_account_flags(out, flags),
-        Shown::TransferFlags(flags) => put_transfer_flags(out, flags),
+        Shown::AccountFlags(flags) => {
+            put_flags(
+                out,
+                flags,
+                &AccountFlag::ALL.map(|flag| (flag.bit(), flag.name())),
+            )
+        }
+        Shown::TransferFlags(flags) => {
+            put_flags(
+                out,
+                flags,
+                &TransferFlag::ALL.map(|flag| (flag.bit(), flag.name())),
+            )
+        }
     }
 }
 
@@ -179,8 +176,5 @@ pub fn result_shown(operation: u8, code: u32) -> Shown {
     } else {
         CreateTransferResult::from_code(code).map(|verdict| verdict.name())
     };
-    match name {
-        Some(name) => Shown::Name(name),
-        None => Shown::Digits(u128::from(code)),
-    }
+    name.map_or(Shown::Digits(u128::from(code)), |name| Shown::Name(name))
 }

@@ -15,22 +15,20 @@ pub fn results_of(machine: &Machine<Global>, client: u128) -> &[EventResult] {
     }
 }
 
+/// The result of an event that was not accepted.
+fn result_at(results: &[EventResult], index: usize) -> Option<&EventResult> {
+    results.iter().find(|judged| judged.index as usize == index)
+}
+
 /// Says that an event of a batch was accepted.
 pub fn is_accepted(results: &[EventResult], index: usize) -> bool {
-    for result in results {
-        if result.index as usize == index {
-            return false;
-        }
-    }
-    true
+    result_at(results, index).is_none()
 }
 
 /// What became of an event of an operation: `created` where no result says that it was not accepted.
 pub fn outcome_of(operation: u8, results: &[EventResult], index: usize) -> Shown {
-    for result in results {
-        if result.index as usize == index {
-            return result_shown(operation, result.result);
-        }
+    match result_at(results, index) {
+        Some(judged) => result_shown(operation, judged.result),
+        None => Shown::Name("created"),
     }
-    Shown::Name("created")
 }

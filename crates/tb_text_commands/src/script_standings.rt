@@ -28,10 +28,10 @@ impl Standings for ScriptStandings {
     }
 
     fn standing(&self, client: u128) -> Standing {
-        match self.clients.get(&client) {
-            Some(standing) => *standing,
-            None => Standing::Unknown,
-        }
+        self.clients
+            .get(&client)
+            .copied()
+            .unwrap_or(Standing::Unknown)
     }
 
     /// A text has no clock.
@@ -58,10 +58,8 @@ impl ScriptStandings {
             session => Standing::behind(session, request.request()),
         };
         self.last = Some(request.client());
-        match self.clients.insert(request.client(), standing) {
-            Ok(_) => Ok(()),
-            Err(_) => Err(Fault::NoMemory),
-        }
+        self.clients.insert(request.client(), standing)?;
+        Ok(())
     }
 
     /// Notes requests.

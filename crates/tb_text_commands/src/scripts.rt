@@ -1,12 +1,10 @@
 //! The forms between statements, scripts and replies.
-ghost use Rattle.std.specs.Prelude.{◌≡◌};
-ghost use Rattle.tb_records.specs.Transport.{Input};
 ghost use Rattle.tb_text_commands.specs.Ends.{Written};
 ghost use Rattle.tb_text_commands.specs.Taken.{waiting};
 ghost use Rattle.tb_text_commands.specs.Whole.{IsPair, IsReplyFrame, IsStatement};
 
-use crate::converting::Converter;
-use crate::faults::{Fault, frame_fault};
+use crate::converting::{Converter, Next};
+use crate::faults::Fault;
 use crate::intake::Intake;
 use crate::lines::reply_line;
 use crate::script_standings::ScriptStandings;
@@ -22,20 +20,14 @@ use tb_text::print_request;
 pub fn put<W: Sink>(writer: &mut W, bytes: &[u8]) -> Result<(), Fault>
     ensures { Written result (W.output writer.old) (W.output writer.new) }
 {
-    match put_all(writer, bytes) {
-        Ok(()) => Ok(()),
-        Err(_) => Err(Fault::Device),
-    }
+    Ok(put_all(writer, bytes)?)
 }
 
 /// Writes a line, where there was memory for it.
 pub fn put_line<W: Sink>(writer: &mut W, line: Result<Vec<u8>, AllocError>) -> Result<(), Fault>
     ensures { Written result (W.output writer.old) (W.output writer.new) }
 {
-    match line {
-        Ok(line) => put(writer, line.as_slice()),
-        Err(_) => Err(Fault::NoMemory),
-    }
+    put(writer, line?.as_slice())
 }
 
 /// Writes a pair of a script.
@@ -43,10 +35,7 @@ pub fn put_pair<W: Sink>(writer: &mut W, moment: u64, request: &Request) -> Resu
     ensures { Written result (W.output writer.old) (W.output writer.new) }
 {
     put(writer, &moment.to_le_bytes())?;
-    match send_request(writer, request) {
-        Ok(()) => Ok(()),
-        Err(_) => Err(Fault::Device),
-    }
+    Ok(send_request(writer, request)?)
 }
 
 /// Writes pairs of a script.
@@ -59,38 +48,12 @@ fn put_pairs<W: Sink>(writer: &mut W, pairs: &[(u64, Request)]) -> Result<(), Fa
     Ok(())
 }
 
-/// Notes what requests tell, and writes their pairs.
-fn put_told<W: Sink>(
-    told: &mut ScriptStandings,
-    writer: &mut W,
-    pairs: &[(u64, Request)],
-) -> Result<(), Fault>
-    ensures { Written result (W.output writer.old) (W.output writer.new) }
-{
-    told.note(pairs)?;
-    put_pairs(writer, pairs)
-}
-
 /// The script of statements, with what they leave out where the statements before tell it; where they go wrong, that of the
 /// statements before.
 #[derive(Drop)]
 pub struct Script {
-    alloc: Global,
-    intake: Intake,
-    told: ScriptStandings,
-}
-
-impl Script {
-    /// Nothing read yet.
-    pub fn new(alloc: Global) -> Script
-        ensures { (input : Input) → waiting result.intake input ≡ input.left }
-    {
-        Script {
-            alloc,
-            intake: Intake::new(alloc),
-            told: ScriptStandings::new(alloc),
-        }
-    }
+    pub intake: Intake,
+    pub told: ScriptStandings,
 }
 
 impl Converter for Script {
@@ -100,38 +63,21 @@ impl Converter for Script {
 
     ghost remaining = { λ script input. waiting script.intake input };
 
-    fn next<R: Source, W: Sink>(
-        &mut self,
-        reader: &mut R,
-        writer: &mut W,
-    ) -> Result<Option<Items<(u64, Request)>>, Fault> {
-        next_statement(
-            self.alloc,
-            &mut self.intake,
-            &self.told,
-            reader,
-            writer,
-            false,
-        )
+    fn next<R: Source, W: Sink>(&mut self, reader: &mut R, writer: &mut W) -> Next<Self::Piece> {
+        next_statement(&mut self.intake, &self.told, reader, writer, false)
     }
 
     fn put<W: Sink>(&mut self, writer: &mut W, pairs: Items<(u64, Request)>) -> Result<(), Fault> {
-        let written = put_told(&mut self.told, writer, pairs.as_slice());
-        drop(pairs);
-        written
+        self.told.note(pairs.as_slice())?;
+        put_pairs(writer, pairs.as_slice())
     }
 }
 
 /// The statement of a pair.
 fn statement_of(alloc: Global, moment: u64, request: &Request) -> Result<Vec<u8>, AllocError> {
     let mut text = Vec::new(alloc);
-    match print_request(alloc, &mut text, moment, request) {
-        Ok(()) => Ok(text),
-        Err(fault) => {
-            drop(text);
-            Err(fault)
-        }
-    }
+    print_request(alloc, &mut text, moment, request)?;
+    Ok(text)
 }
 
 /// The statements of a script.
@@ -147,45 +93,23 @@ impl Converter for Statements {
 
     ghost remaining = { λ statements input. input.left };
 
-    fn next<R: Source, W: Sink>(
-        &mut self,
-        reader: &mut R,
-        writer: &mut W,
-    ) -> Result<Option<(u64, Request)>, Fault> {
+    fn next<R: Source, W: Sink>(&mut self, reader: &mut R, writer: &mut W) -> Next<Self::Piece> {
         if !holds_pair(reader.at_hand()) {
             writer.pass_on();
         }
-        match read_timed_from(self.alloc, reader) {
-            Ok(pair) => Ok(pair),
-            Err(fault) => Err(frame_fault(fault)),
-        }
+        Ok(read_timed_from(self.alloc, reader)?)
     }
 
     fn put<W: Sink>(&mut self, writer: &mut W, pair: (u64, Request)) -> Result<(), Fault> {
         let (moment, request) = pair;
-        let text = statement_of(self.alloc, moment, &request);
-        drop(request);
-        put_line(writer, text)
+        put_line(writer, statement_of(self.alloc, moment, &request))
     }
 }
 
 /// A line for each reply.
 #[derive(Drop)]
 pub struct Replies {
-    alloc: Global,
-    intake: Intake,
-}
-
-impl Replies {
-    /// Nothing read yet.
-    pub fn new(alloc: Global) -> Replies
-        ensures { (input : Input) → waiting result.intake input ≡ input.left }
-    {
-        Replies {
-            alloc,
-            intake: Intake::new(alloc),
-        }
-    }
+    pub intake: Intake,
 }
 
 impl Converter for Replies {
@@ -195,13 +119,9 @@ impl Converter for Replies {
 
     ghost remaining = { λ replies input. waiting replies.intake input };
 
-    fn next<R: Source, W: Sink>(
-        &mut self,
-        reader: &mut R,
-        writer: &mut W,
-    ) -> Result<Option<Reply>, Fault> {
+    fn next<R: Source, W: Sink>(&mut self, reader: &mut R, writer: &mut W) -> Next<Self::Piece> {
         for _ in 0..u64::MAX {
-            match read_reply(self.alloc, self.intake.rest()) {
+            match read_reply(self.intake.alloc, self.intake.rest()) {
                 Ok((reply, length)) => {
                     self.intake.take(length);
                     return Ok(Some(reply));
@@ -222,8 +142,6 @@ impl Converter for Replies {
     }
 
     fn put<W: Sink>(&mut self, writer: &mut W, reply: Reply) -> Result<(), Fault> {
-        let line = reply_line(self.alloc, &reply);
-        drop(reply);
-        put_line(writer, line)
+        put_line(writer, reply_line(self.intake.alloc, &reply))
     }
 }
