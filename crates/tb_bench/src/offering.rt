@@ -3,7 +3,7 @@ ghost use Rattle.std.specs.Prelude.{◌≡◌};
 
 use crate::requests::{before_ports, transfer_of};
 use crate::taking::take_all;
-use crate::telling::{add, tell_count, tell_time, wanted};
+use crate::telling::{tell_count, tell_time, wanted};
 use anyhow::Error;
 use std::alloc::Global;
 use std::mem;
@@ -11,7 +11,7 @@ use std::rt::Clock;
 use std::sync::Wait;
 use std::thread::{self, Threads};
 use std::time::Instant;
-use tb_fixtures::{is_taken, whole};
+use tb_fixtures::is_taken;
 use tb_published::{Naming, Opening, Publisher, SeatCount, open};
 use tb_records::Request;
 use tb_service::{Finished, Moments, Open, Port, PortCount, service};
@@ -47,14 +47,10 @@ impl Client {
     /// The client of a number, which is not 0, with all its orders.
     fn new(alloc: Global, port: Port, number: u32, scale: Scale) -> Result<Client, Error> {
         let mut orders = Vec::new(alloc);
-        match put_orders(alloc, &mut orders, number, scale) {
-            Ok(()) => Ok(Client { port, orders }),
-            Err(fault) => {
-                drop(orders);
-                drop(port);
-                Err(fault)
-            }
+        for order in 0..scale.orders {
+            orders.push(make_order(alloc, number, scale, order)?)?;
         }
+        Ok(Client { port, orders })
     }
 
     /// Hands the orders over, in turn, until one comes back.
@@ -75,39 +71,14 @@ impl Client {
     }
 }
 
-/// Appends all orders of a client.
-fn put_orders(
-    alloc: Global,
-    orders: &mut Vec<Vec<Request>>,
-    client: u32,
-    scale: Scale,
-) -> Result<(), Error> {
-    for order in 0..scale.orders {
-        add(orders, make_order(alloc, client, scale, order)?)?;
-    }
-    Ok(())
-}
-
-/// Appends the requests of an order.
-fn put_requests(
-    alloc: Global,
-    requests: &mut Vec<Request>,
-    client: u32,
-    scale: Scale,
-    order: u32,
-) -> Result<(), Error> {
-    let first = order.saturating_mul(scale.each);
-    for k in first..first.saturating_add(scale.each) {
-        add(requests, transfer_of(alloc, client, scale.ports, k)?)?;
-    }
-    Ok(())
-}
-
 /// An order of a client, counted from 0.
 fn make_order(alloc: Global, client: u32, scale: Scale, order: u32) -> Result<Vec<Request>, Error> {
     let mut requests = Vec::with_capacity(alloc, scale.each as usize)?;
-    let put = put_requests(alloc, &mut requests, client, scale, order);
-    whole(requests, put)
+    let first = order.saturating_mul(scale.each);
+    for k in first..first.saturating_add(scale.each) {
+        requests.push(transfer_of(alloc, client, scale.ports, k)?)?;
+    }
+    Ok(requests)
 }
 
 /// Hands several requests over in one order, and says whether the server took it.
@@ -132,35 +103,13 @@ fn offer<R: Wait>(rt: &R, port: &mut Port, mut order: Vec<Request>) -> bool {
     }
 }
 
-/// Adds the client of a number with a port.
-fn add_client(
-    alloc: Global,
-    clients: &mut Vec<Client>,
-    port: Port,
-    number: u32,
-    scale: Scale,
-) -> Result<(), Error> {
-    add(clients, Client::new(alloc, port, number, scale)?)
-}
-
-/// Adds the clients of ports, with the numbers from 1 on.
-fn add_clients(
-    alloc: Global,
-    clients: &mut Vec<Client>,
-    ports: Vec<Port>,
-    scale: Scale,
-) -> Result<(), Error> {
-    for (number, port) in (1..=scale.ports).zip(ports) {
-        add_client(alloc, clients, port, number, scale)?;
-    }
-    Ok(())
-}
-
 /// The clients of ports, with the numbers from 1 on.
 fn make_clients(alloc: Global, ports: Vec<Port>, scale: Scale) -> Result<Vec<Client>, Error> {
     let mut clients = Vec::new(alloc);
-    let added = add_clients(alloc, &mut clients, ports, scale);
-    whole(clients, added)
+    for (number, port) in (1..=scale.ports).zip(ports) {
+        clients.push(Client::new(alloc, port, number, scale)?)?;
+    }
+    Ok(clients)
 }
 
 /// Each client hands its orders over in a thread of its own; then all ports are closed.
@@ -218,18 +167,6 @@ fn prepare<J: Naming, R: Wait>(
     take_all(rt, publisher, before_ports(alloc, ports)?)
 }
 
-/// Tells what was entered and refused, and the time.
-fn tell<R: Print + Eprint>(
-    rt: &R,
-    commits: usize,
-    refused: usize,
-    spent: Option<u128>,
-) -> Result<(), Error> {
-    tell_count(rt, "commits", commits)?;
-    tell_count(rt, "refused", refused)?;
-    tell_time(rt, "orders", wanted(spent, "the clock")?)
-}
-
 /// Measures what the ports of a publisher hand over.
 fn measure_ports<J: Naming + Send + Sync, R: Threads + Wait + Clock + Print + Eprint + Sync>(
     rt: &R,
@@ -245,7 +182,9 @@ fn measure_ports<J: Naming + Send + Sync, R: Threads + Wait + Clock + Print + Ep
     let (finished, spent) = serve(rt, alloc, publisher, ports, scale)?;
     let (commits, refused) = (finished.publisher.history().len(), finished.refused.len());
     drop(finished.close(rt));
-    tell(rt, commits, refused, spent)
+    tell_count(rt, "commits", commits)?;
+    tell_count(rt, "refused", refused)?;
+    tell_time(rt, "orders", wanted(spent, "the clock")?)
 }
 
 /// Opens a publisher with a seat for each port, and measures what the ports hand over.

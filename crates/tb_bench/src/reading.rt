@@ -3,8 +3,8 @@ ghost use Rattle.std.specs.Prelude.{◌≡◌};
 
 use crate::requests::{first_requests, round};
 use crate::taking::take_all;
-use crate::telling::{add, tell_time, wanted};
-use anyhow::{Error, anyhow};
+use crate::telling::{tell_time, wanted};
+use anyhow::Error;
 use std::alloc::Global;
 use std::rt::Clock;
 use std::sync::Wait;
@@ -58,7 +58,7 @@ struct Reader<J: Naming> {
 fn readers_of<J: Naming>(alloc: Global, seats: Vec<Seat<J>>) -> Result<Vec<Reader<J>>, Error> {
     let mut readers = Vec::with_capacity(alloc, seats.len())?;
     for seat in seats {
-        add(&mut readers, Reader { seat, times: None })?;
+        readers.push(Reader { seat, times: None })?;
     }
     Ok(readers)
 }
@@ -99,13 +99,11 @@ fn write_one<J: Naming, R: Wait>(
     publisher: &mut Publisher<J>,
     number: u32,
 ) -> bool {
-    match round(alloc, number, 1, 1) {
-        Ok(requests) => {
-            let _ = take_all(rt, publisher, requests);
-            true
-        }
-        Err(_) => false,
-    }
+    let Ok(requests) = round(alloc, number, 1, 1) else {
+        return false;
+    };
+    let _ = take_all(rt, publisher, requests);
+    true
 }
 
 /// Takes single transfers until it is stopped, and tells how many.
@@ -156,42 +154,8 @@ fn read_beside<J: Naming + Send + Sync, R: Threads + Wait + Clock + Sync>(
     )
 }
 
-/// Reads of the second of the first requests.
-fn read_second<J: Naming + Send + Sync, R: Threads + Wait + Clock + Sync>(
-    rt: &R,
-    alloc: Global,
-    publisher: &mut Publisher<J>,
-    readers: &mut [Reader<J>],
-    task: Reads,
-) -> Result<(u32, Option<Times>), Error> {
-    let asked = first_requests(alloc)?;
-    let read = match asked.get(1) {
-        Some(request) => Ok(read_beside(rt, alloc, publisher, readers, request, task)),
-        None => Err(anyhow!("a request")),
-    };
-    drop(asked);
-    read
-}
-
-/// Measures reads beside a writer, or, where it is calm, beside none.
+/// Measures reads beside a writer, or, where it is calm, beside none: of the second of the first requests.
 fn measure_reads<J: Naming + Send + Sync, R: Threads + Wait + Clock + Print + Eprint + Sync>(
-    rt: &R,
-    alloc: Global,
-    publisher: &mut Publisher<J>,
-    readers: &mut [Reader<J>],
-    task: Reads,
-) -> Result<(), Error> {
-    prepare(rt, alloc, publisher)?;
-    let (taken, times) = read_second(rt, alloc, publisher, readers, task)?;
-    let (asked, found) = wanted(times, "a seat failed")?;
-    println!(rt; "reads {} in each of {} threads", task.each, readers.len())?;
-    tell_time(rt, "status", asked)?;
-    tell_time(rt, "lookup", found)?;
-    tell_time(rt, "takes", u128::from(taken))
-}
-
-/// Measures reads of all seats, and lets them go.
-fn measure_seats<J: Naming + Send + Sync, R: Threads + Wait + Clock + Print + Eprint + Sync>(
     rt: &R,
     alloc: Global,
     publisher: &mut Publisher<J>,
@@ -199,9 +163,16 @@ fn measure_seats<J: Naming + Send + Sync, R: Threads + Wait + Clock + Print + Ep
     task: Reads,
 ) -> Result<(), Error> {
     let mut readers = readers_of(alloc, seats)?;
-    let measured = measure_reads(rt, alloc, publisher, readers.as_mut_slice(), task);
-    drop(readers);
-    measured
+    let readers = readers.as_mut_slice();
+    prepare(rt, alloc, publisher)?;
+    let asked = first_requests(alloc)?;
+    let request = wanted(asked.get(1), "a request")?;
+    let (taken, times) = read_beside(rt, alloc, publisher, readers, request, task);
+    let (asked, found) = wanted(times, "a seat failed")?;
+    println!(rt; "reads {} in each of {} threads", task.each, readers.len())?;
+    tell_time(rt, "status", asked)?;
+    tell_time(rt, "lookup", found)?;
+    tell_time(rt, "takes", u128::from(taken))
 }
 
 /// Opens a publisher with so many seats, and measures their reads, beside a busy writer unless it is calm.
@@ -215,7 +186,7 @@ pub fn measure<J: Naming + Send + Sync, R: Threads + Wait + Clock + Print + Epri
 {
     let seats = wanted(SeatCount::new(task.threads), "seats")?;
     let (mut publisher, seats) = open::<J, R>(alloc, rt, opening, seats)?;
-    let measured = measure_seats(rt, alloc, &mut publisher, seats, task);
+    let measured = measure_reads(rt, alloc, &mut publisher, seats, task);
     drop(publisher.close(rt));
     measured
 }

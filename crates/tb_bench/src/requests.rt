@@ -1,9 +1,8 @@
 //! The requests of a measure: a client creates accounts 1 to 1000, and transfers between them with rising ids.
-use crate::telling::add;
 use anyhow::Error;
 use std::alloc::Global;
 use tb_fixtures::{account, transfer, transfers};
-use tb_records::{Account, Body, Items, Request, Transfer};
+use tb_records::{Body, Items, Request, Transfer};
 
 /// The number of accounts.
 const ACCOUNTS: u32 = 1000;
@@ -20,32 +19,21 @@ pub fn first_requests(alloc: Global) -> Result<Vec<Request>, Error> {
     accounts_of(alloc, 7)
 }
 
-/// Appends a request.
-fn add_request(
-    all: &mut Vec<Request>,
-    client: u128,
-    session: u64,
-    number: u32,
-    body: Body,
-) -> Result<(), Error> {
-    add(all, Request::new(client, session, number, body)?)
-}
-
-/// The accounts.
-fn all_accounts(alloc: Global) -> Result<Vec<Account>, Error> {
-    let mut accounts = Vec::with_capacity(alloc, ACCOUNTS as usize)?;
-    for id in 1..=ACCOUNTS {
-        add(&mut accounts, account(u128::from(id)))?;
-    }
-    Ok(accounts)
+/// A client's register.
+fn register(client: u128) -> Result<Request, Error> {
+    Ok(Request::new(client, 0, 0, Body::Register)?)
 }
 
 /// A client's register, and its request that creates the accounts.
 fn accounts_of(alloc: Global, client: u128) -> Result<Vec<Request>, Error> {
+    let mut accounts = Vec::with_capacity(alloc, ACCOUNTS as usize)?;
+    for id in 1..=ACCOUNTS {
+        accounts.push(account(u128::from(id)))?;
+    }
+    let body = Body::CreateAccounts(Items::new(accounts));
     let mut all = Vec::new(alloc);
-    add_request(&mut all, client, 0, 0, Body::Register)?;
-    let accounts = Items::new(all_accounts(alloc)?);
-    add_request(&mut all, client, 1, 1, Body::CreateAccounts(accounts))?;
+    all.push(register(client)?)?;
+    all.push(Request::new(client, 1, 1, body)?)?;
     Ok(all)
 }
 
@@ -53,7 +41,7 @@ fn accounts_of(alloc: Global, client: u128) -> Result<Vec<Request>, Error> {
 pub fn round(alloc: Global, number: u32, requests: u32, each: u32) -> Result<Vec<Request>, Error> {
     let mut all = Vec::with_capacity(alloc, requests as usize)?;
     for k in number..number.saturating_add(requests) {
-        add(&mut all, batch(alloc, k, each)?)?;
+        all.push(batch(alloc, k, each)?)?;
     }
     Ok(all)
 }
@@ -63,7 +51,7 @@ fn batch(alloc: Global, number: u32, each: u32) -> Result<Request, Error> {
     let mut all = Vec::with_capacity(alloc, each as usize)?;
     let first = u64::from(number) * u64::from(each);
     for k in 0..each {
-        add(&mut all, nth_transfer(first.saturating_add(u64::from(k))))?;
+        all.push(nth_transfer(first.saturating_add(u64::from(k))))?;
     }
     Ok(Request::new(7, 1, number, Body::CreateTransfers(Items::new(all)))?)
 }
@@ -73,19 +61,15 @@ fn batch(alloc: Global, number: u32, each: u32) -> Result<Request, Error> {
 pub fn before_ports(alloc: Global, ports: u32) -> Result<Vec<Request>, Error> {
     let mut all = accounts_of(alloc, 100)?;
     for client in 1..=ports {
-        add_request(&mut all, u128::from(client), 0, 0, Body::Register)?;
+        all.push(register(u128::from(client))?)?;
     }
     Ok(all)
 }
 
 /// The kth request of a client of one of so many ports: a transfer. The ids of all ports rise by turns.
 pub fn transfer_of(alloc: Global, client: u32, ports: u32, k: u32) -> Result<Request, Error> {
-    let id = u64::from(k) * u64::from(ports) + u64::from(client);
+    let number = u64::from(client);
+    let id = u64::from(k) * u64::from(ports) + number;
     let body = transfers(alloc, &[nth_transfer(id)])?;
-    Ok(Request::new(
-        u128::from(client),
-        u64::from(client) + 2,
-        k.saturating_add(1),
-        body,
-    )?)
+    Ok(Request::new(u128::from(client), number + 2, k.saturating_add(1), body)?)
 }

@@ -2,7 +2,7 @@
 ghost use Rattle.std.specs.Prelude.{◌≡◌};
 
 use crate::requests::{first_requests, round};
-use crate::telling::{add, tell_count, tell_time, wanted};
+use crate::telling::{tell_count, tell_time, wanted};
 use anyhow::{Error, anyhow};
 use std::alloc::Global;
 use std::rt::Clock;
@@ -90,44 +90,27 @@ fn take_kind<J: Naming, R: Wait>(
     }
 }
 
-/// Appends the entries that requests make, one after another, of so many events each: the first has the next commit number and
-/// this time.
-fn put_entries(
-    entries: &mut Vec<Entry>,
-    commit: u64,
-    time: u64,
-    requests: Vec<Request>,
-    each: u32,
-) -> Result<(), Error> {
-    let mut commit = commit;
-    let mut time = time;
-    for request in requests {
+/// The entries that the requests of a round make by a machine, one after another, from a number on.
+fn next_entries(
+    alloc: Global,
+    machine: &Machine<Global>,
+    kind: Kind,
+    number: u32,
+) -> Result<Vec<Entry>, Error> {
+    let (_, each) = kind.sizes();
+    let mut time = wanted(machine.next_time(0, u64::from(each)), "a time")?;
+    let mut commit = machine.commit();
+    let mut entries = Vec::new(alloc);
+    for request in kind.round(alloc, number)? {
         commit = commit.saturating_add(1);
-        let entry = Entry {
+        entries.push(Entry {
             commit,
             time,
             request,
-        };
-        add(entries, entry)?;
+        })?;
         time = time.saturating_add(u64::from(each));
     }
-    Ok(())
-}
-
-/// Appends the entries that the requests of a round make by a machine, from a number on.
-fn put_next(
-    alloc: Global,
-    machine: &Machine<Global>,
-    entries: &mut Vec<Entry>,
-    kind: Kind,
-    number: u32,
-) -> Result<(), Error> {
-    let (_, each) = kind.sizes();
-    let Some(time) = machine.next_time(0, u64::from(each)) else {
-        return Err(anyhow!("a time"));
-    };
-    let requests = kind.round(alloc, number)?;
-    put_entries(entries, machine.commit(), time, requests, each)
+    Ok(entries)
 }
 
 /// Applies an entry that may come next.
@@ -139,46 +122,11 @@ fn apply_entry(machine: &mut Machine<Global>, entry: &Entry) -> Result<(), Error
     Ok(())
 }
 
-/// Applies entries that may come next.
-fn apply_all(machine: &mut Machine<Global>, entries: &[Entry]) -> Result<(), Error> {
-    for entry in entries {
-        apply_entry(machine, entry)?;
-    }
-    Ok(())
-}
-
-/// Applies entries that may come next, and tells the time.
-fn apply_round<R: Clock>(
-    rt: &R,
-    machine: &mut Machine<Global>,
-    entries: &[Entry],
-) -> Result<Duration, Error> {
-    let start = Instant::now(rt)?;
-    apply_all(machine, entries)?;
-    Ok(start.elapsed(rt)?)
-}
-
-/// Applies a request by the machine's next time.
-fn apply_request(machine: &mut Machine<Global>, request: Request) -> Result<(), Error> {
-    let events = request.body().event_count() as u64;
-    let Some(time) = machine.next_time(0, events) else {
-        drop(request);
-        return Err(anyhow!("a time"));
-    };
-    let entry = Entry {
-        commit: machine.commit() + 1,
-        time,
-        request,
-    };
-    let applied = apply_entry(machine, &entry);
-    drop(entry);
-    applied
-}
-
 /// Applies the first requests.
 fn prepare(alloc: Global, machine: &mut Machine<Global>) -> Result<(), Error> {
     for request in first_requests(alloc)? {
-        apply_request(machine, request)?;
+        let entry = wanted(machine.next_entry(request, 0), "a time")?;
+        apply_entry(machine, &entry)?;
     }
     Ok(())
 }
@@ -191,13 +139,12 @@ fn apply_next<R: Clock>(
     kind: Kind,
     number: u32,
 ) -> Result<Duration, Error> {
-    let mut entries = Vec::new(alloc);
-    let applied = match put_next(alloc, machine, &mut entries, kind, number) {
-        Ok(()) => apply_round(rt, machine, entries.as_slice()),
-        Err(fault) => Err(fault),
-    };
-    drop(entries);
-    applied
+    let entries = next_entries(alloc, machine, kind, number)?;
+    let start = Instant::now(rt)?;
+    for entry in entries.as_slice() {
+        apply_entry(machine, entry)?;
+    }
+    Ok(start.elapsed(rt)?)
 }
 
 /// Takes a round: the requests from a number on. Tells the time.
@@ -253,41 +200,15 @@ fn measure_rounds<J: Naming, R: Wait + Clock + Print + Eprint>(
     tell_time(rt, "apply", applied)
 }
 
-/// Applies so many batches to a machine.
-fn fill<R: Clock + Print>(
-    rt: &R,
-    alloc: Global,
-    machine: &mut Machine<Global>,
-    rounds: u32,
-) -> Result<(), Error> {
-    prepare(alloc, machine)?;
-    for k in 0..rounds {
-        apply_next(rt, alloc, machine, Kind::Batches, k.saturating_add(2))?;
-    }
-    tell_count(rt, "commits", machine.commit() as usize)
-}
-
 /// Applies so many batches to a machine alone, whose memory can then be measured.
 pub fn fill_machine<R: Clock + Print>(rt: &R, alloc: Global, rounds: u32) -> Result<(), Error> {
     let clients_max = wanted(ClientsMax::new(64), "clients_max")?;
     let mut machine = Machine::new_in(alloc, alloc, Profile::One, clients_max)?;
-    let filled = fill(rt, alloc, &mut machine, rounds);
-    drop(machine);
-    filled
-}
-
-/// Measures a publisher beside a machine with room for so many clients.
-fn measure_beside<J: Naming, R: Wait + Clock + Print + Eprint>(
-    rt: &R,
-    alloc: Global,
-    publisher: &mut Publisher<J>,
-    clients_max: ClientsMax,
-    rounds: Rounds,
-) -> Result<(), Error> {
-    let mut machine = Machine::new_in(alloc, alloc, Profile::One, clients_max)?;
-    let measured = measure_rounds(rt, alloc, publisher, &mut machine, rounds);
-    drop(machine);
-    measured
+    prepare(alloc, &mut machine)?;
+    for k in 0..rounds {
+        apply_next(rt, alloc, &mut machine, Kind::Batches, k.saturating_add(2))?;
+    }
+    tell_count(rt, "commits", machine.commit() as usize)
 }
 
 /// Opens a publisher and a machine, and measures them.
@@ -301,8 +222,9 @@ pub fn measure<J: Naming, R: Wait + Clock + Print + Eprint>(
 {
     let clients_max = wanted(ClientsMax::new(64), "clients_max")?;
     let seats = wanted(SeatCount::new(1), "seats")?;
+    let mut machine = Machine::new_in(alloc, alloc, Profile::One, clients_max)?;
     let (mut publisher, seats) = open::<J, R>(alloc, rt, opening, seats)?;
-    let measured = measure_beside(rt, alloc, &mut publisher, clients_max, rounds);
+    let measured = measure_rounds(rt, alloc, &mut publisher, &mut machine, rounds);
     drop(publisher.close(rt));
     drop(seats);
     measured

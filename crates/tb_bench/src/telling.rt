@@ -3,15 +3,7 @@ use anyhow::Error;
 
 /// What was found; else a fault that names what was wanted.
 pub fn wanted<T: Drop>(found: Option<T>, name: &'static str) -> Result<T, Error> {
-    match found {
-        Some(found) => Ok(found),
-        None => Err(Error::msg(name)),
-    }
-}
-
-/// Appends an item.
-pub fn add<T: Drop>(all: &mut Vec<T>, item: T) -> Result<(), Error> {
-    Ok(all.push(item)?)
+    found.ok_or(Error::msg(name))
 }
 
 /// Tells a count on standard output.
