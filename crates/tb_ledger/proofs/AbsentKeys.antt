@@ -1,14 +1,5 @@
 -- What a table knows of its keys.
-use Rattle.std.proofs.Common.{◌≡◌, ◌≢◌, ℕ, ◌<◌, map, Bool, cond, eqb, ◌==◌, ltb, ◌&&◌, ◌||◌, get_or, length, true, false, List, [], ◌∷◌, find, is_some, Option, Some, None, IfSome, IfNone, subst, sym, refl, arith}
-use Rattle.std.proofs.lemmas.Bool.Decides.{nat_tests}
-use Rattle.std.proofs.lemmas.Bool.{false≢true}
-use Rattle.std.specs.List.{list_any}
-use Rattle.std.specs.Fn.{Mut}
-use denote.Ref.{MutBor}
-use Rattle.tb_records.specs.Ordered.{put, replaced, Each}
-use Rattle.tb_records.proofs.ByKey.{each-map, each-all, each-both, each-put, none-found, none-fails}
-use Rattle.tb_ledger.specs.declared.tables.absent_ids.AbsentIds.{AbsentIds}
-use Rattle.tb_ledger.specs.Tables.{ChangedRow, ChangedRows, MayBeKey, unfound, without_id}
+use Rattle.tb_ledger.proofs.Common.{◌≡◌, ◌≢◌, ℕ, ◌<◌, map, Bool, cond, eqb, ◌==◌, ltb, ◌&&◌, ◌||◌, get_or, length, true, false, List, [], ◌∷◌, find, is_some, Option, Some, None, IfSome, IfNone, subst, sym, refl, arith, nat_tests, false≢true, list_any, Mut, MutBor, put, replaced, Each, each-map, each-all, each-both, each-put, none-found, none-fails, AbsentIds, ChangedRow, ChangedRows, MayBeKey, unfound, without_id}
 
 -- a list of eight
 pub eight : {X : Type 0} (d : X) (xs : List X) → length xs ≡ 8 → xs ≡ get_or xs 0 d ∷ get_or xs 1 d ∷ get_or xs 2 d ∷ get_or xs 3 d ∷ get_or xs 4 d ∷ get_or xs 5 d ∷ get_or xs 6 d ∷ get_or xs 7 d ∷ []

@@ -1,19 +1,6 @@
 -- What a verdict of 0 tells: each test of its tables fails.
-use Rattle.std.proofs.Common.{◌≡◌, ◌≢◌, ℕ, ◌+◌, ◌*◌, ◌≤◌, Bool, true, false, not, ◌&&◌, if◌then◌else◌, eqb, ltb, ◌==◌, List, [], ◌∷◌, Option, Some, None, option_map, bit_and, bit_or, refl, sym, ap, subst, ◌∙◌, arith, ltb-false}
-use Rattle.std.proofs.lemmas.Bool.Decides.{nat_tests}
-use Rattle.std.proofs.lemmas.Bool.{and_parts, and_from}
-use Rattle.std.proofs.lemmas.Nat.{and_or_apart, and_or_self}
-use Rattle.tb_records.specs.declared.records.Account.{Account}
-use Rattle.tb_records.specs.declared.records.Transfer.{Transfer}
-use Rattle.tb_records.specs.Ordered.{Each}
-use Rattle.tb_records.proofs.ByKey.{found_key}
-use Rattle.tb_ledger.specs.declared.tables.transfers.State.{State}
-use Rattle.tb_ledger.specs.declared.tables.transfers.State.TheVariants.{Open, Posted, Voided, Expired}
-use Rattle.tb_ledger.specs.Books.{Books, has, closed, debits_limited, credits_limited, pending, resolves, is_open, is_posted, is_voided, is_expired, state_of, stands_closed, account_at, account_now, as_it_stands, transfer_at, debits_pending, debits_posted, credits_pending, credits_posted}
-use Rattle.tb_ledger.specs.Verdicts.{Test, first_of, first_code, is_not, int_max, max_time, account_own_tests, account_exists_tests, account_new_tests, account_verdict, transfer_own_tests, transfer_exists_tests, failed_tests, transfer_verdict, filled, filled_amount, filled_from, given_or, differs, id_code, resolve_own_tests, named_tests, closed_tests, closed_at, named_code, resolve_code, single_own_tests, pair_tests, pair_code, amount_tests, single_code, balanced_amount, balanced_between}
-use Rattle.tb_ledger.specs.Kept.{blank}
+use Rattle.tb_ledger.proofs.Common.{◌≡◌, ◌≢◌, ℕ, ◌+◌, ◌*◌, ◌≤◌, Bool, true, false, not, ◌&&◌, if◌then◌else◌, eqb, ltb, ◌==◌, List, [], ◌∷◌, Option, Some, None, option_map, bit_and, bit_or, refl, sym, ap, subst, ◌∙◌, arith, ltb-false, nat_tests, and_parts, and_from, and_or_apart, and_or_self, Account, Transfer, Each, found_key, State, Open, Posted, Voided, Expired, Books, has, closed, debits_limited, credits_limited, pending, resolves, is_open, is_posted, is_voided, is_expired, state_of, stands_closed, account_at, account_now, as_it_stands, transfer_at, debits_pending, debits_posted, credits_pending, credits_posted, Test, first_of, first_code, is_not, int_max, max_time, account_own_tests, account_exists_tests, account_new_tests, account_verdict, transfer_own_tests, transfer_exists_tests, failed_tests, transfer_verdict, filled, filled_amount, filled_from, given_or, differs, id_code, resolve_own_tests, named_tests, closed_tests, closed_at, named_code, resolve_code, single_own_tests, pair_tests, pair_code, amount_tests, single_code, balanced_amount, balanced_between, blank, FoundPending}
 use Rattle.tb_ledger.proofs.FoundPairs.{FoundPair}
-use Rattle.tb_ledger.specs.Found.{FoundPending}
 
 -- no test's code is 0
 abbrev pub coded : List Test → Bool

@@ -1,8 +1,5 @@
 -- What recording an accepted event and refusing one both keep, a batch keeps.
-use Rattle.std.proofs.Common.{◌≡◌, ℕ, ◌+◌, Bool, true, false, if◌then◌else◌, eqb, List, [], ◌∷◌, Option, Some, None, refl, arith}
-use Rattle.std.proofs.lemmas.Bool.Decides.{nat_tests}
-use Rattle.tb_ledger.specs.Books.{Books}
-use Rattle.tb_ledger.specs.Batches.{Kind, Timed, Failure, timed, blocks, code_in_chain, failure_from, all_recorded, chain_outcome, block_after, blocks_after, batch_after}
+use Rattle.tb_ledger.proofs.Common.{◌≡◌, ℕ, ◌+◌, Bool, true, false, if◌then◌else◌, eqb, List, [], ◌∷◌, Option, Some, None, refl, arith, nat_tests, Books, Kind, Timed, Failure, timed, blocks, code_in_chain, failure_from, all_recorded, chain_outcome, block_after, blocks_after, batch_after}
 
 module _ {E : Type 0} (kind : Kind E) where
   -- an event whose code in its chain is 0 has the verdict 0

@@ -1,9 +1,5 @@
 -- Chains: what a loop through one knows of the events behind it, and what is left of them.
-use Rattle.std.proofs.Common.{◌≡◌, ℕ, suc, ◌+◌, ◌-◌, ◌<◌, ◌≤◌, ◌==◌, ◌&&◌, Bool, true, false, List, [], ◌∷◌, ◌++◌, length, replicate, take, drop, get_or, Option, Some, None, if◌then◌else◌, refl, sym, ap, subst, ◌∙◌, length-append, arith}
-use Rattle.std.proofs.lemmas.Bool.Decides.{nat_tests}
-use Rattle.std.proofs.lemmas.List.{at_drop_more, at_drop_all, length-replicate, length-drop}
-use Rattle.tb_ledger.specs.Books.{Books}
-use Rattle.tb_ledger.specs.Batches.{Kind, Timed, Failure, timed_from, timed, joined, blocks, block_length, code_in_chain, failure_from, all_recorded, undone_code, undone, chain_outcome, block_after, blocks_after, batch_after, results_from}
+use Rattle.tb_ledger.proofs.Common.{◌≡◌, ℕ, suc, ◌+◌, ◌-◌, ◌<◌, ◌≤◌, ◌==◌, ◌&&◌, Bool, true, false, List, [], ◌∷◌, ◌++◌, length, replicate, take, drop, get_or, Option, Some, None, if◌then◌else◌, refl, sym, ap, subst, ◌∙◌, length-append, arith, nat_tests, at_drop_more, at_drop_all, length-replicate, length-drop, Books, Kind, Timed, Failure, timed_from, timed, joined, blocks, block_length, code_in_chain, failure_from, all_recorded, undone_code, undone, chain_outcome, block_after, blocks_after, batch_after, results_from}
 use Rattle.tb_ledger.proofs.CodeLaws.{results-one}
 
 pub length-timed_from : {E : Type 0} (t : ℕ) (es : List E) → length (timed_from t es) ≡ length es

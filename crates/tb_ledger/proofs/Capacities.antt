@@ -1,14 +1,5 @@
 -- The capacity that events use, and what a refused event leaves.
-use Rattle.std.proofs.Common.{◌≡◌, ℕ, ◌+◌, ◌≤◌, Bool, true, false, if◌then◌else◌, refl, sym, subst, ◌∙◌, arith}
-use Rattle.tb_ledger.specs.declared.tables.rows.Rows.{Rows}
-use Rattle.tb_ledger.specs.declared.tables.work.Work.{Work}
-use Rattle.tb_ledger.specs.declared.tables.timeouts.Timeout.{Timeout}
-use Rattle.tb_ledger.specs.declared.tables.transfers.TransferRow.{TransferRow}
-use Rattle.tb_ledger.specs.Capacity.{Capacity, capacity_of, Uses}
-use Rattle.tb_ledger.specs.Kept.{IsKept, times_out, timeout_of, listed, unlisted}
-use Rattle.tb_ledger.specs.Steps.{Leaves, KeepsRecords}
-use Rattle.tb_ledger.specs.Tables.{Stored}
-use Rattle.tb_ledger.specs.Timeouts.{with_timeout, without_timeout}
+use Rattle.tb_ledger.proofs.Common.{◌≡◌, ℕ, ◌+◌, ◌-◌, ◌≤◌, Bool, true, false, if◌then◌else◌, refl, sym, subst, ◌∙◌, arith, Rows, Work, Timeout, TransferRow, Capacity, capacity_of, Uses, IsKept, times_out, timeout_of, listed, unlisted, Leaves, KeepsRecords, Stored, with_timeout, without_timeout}
 
 pub uses_none : (n : ℕ) (c : Capacity) → Uses n c c
 uses_none n c = record { accounts = omega arith; transfers = omega arith; timeouts = omega arith; failed = omega arith; keeps_failed = refl }
@@ -30,6 +21,13 @@ uses_both m n a b c first then_more = record {
   failed = omega (arith, first.failed, then_more.failed);
   keeps_failed = then_more.keeps_failed ∙ first.keeps_failed;
 }
+
+-- where there is capacity for n events, there is for k more after m of them
+pub has_left : (Has : ℕ → Capacity → Type 0) → ((m n : ℕ) (before after : Capacity) → Has (m + n) before → Uses m before after → Has n after)
+    → (m k n : ℕ) (before after : Capacity) → m + k ≤ n → Has n before → Uses m before after → Has k after
+has_left Has leaves_rest m k n before after within has uses =
+    let parts : n ≡ n - (m + k) + (m + k) = omega arith in
+    leaves_rest m k before after (leaves_rest (n - (m + k)) (m + k) before before (subst (λ j. Has j before) parts has) (uses_none (n - (m + k)) before)) uses
 
 -- timeouts with one more or one less
 pub listed_spare : (row : TransferRow) (ts : Stored Timeout) → ts.spare ≤ 1 + (listed row ts).spare
@@ -61,7 +59,7 @@ pub leaves_still : {A : Type 0} (work later : Work A) → IsKept work.rows → l
 leaves_still work later kept same = subst (λ later. Leaves work later) (sym same) (record {
   kept = kept;
   grows = record {
-    leads = λ noting. record { undo_accounts = refl; undo_transfers = refl; undo_timeouts = refl; can_unwind = λ can. can };
+    leads = λ noting. record { undone = refl; can_unwind = λ can. can };
     noting = refl;
     length = omega arith;
     capacity = refl;

@@ -1,11 +1,5 @@
 -- The list of results: what it is of codes put together, and how long it is.
-use Rattle.std.proofs.Common.{◌≡◌, ℕ, suc, zero, ◌+◌, ◌-◌, ◌<◌, ◌≤◌, ◌==◌, true, false, not, List, [], ◌∷◌, ◌++◌, map, filter, length, replicate, take, drop, if◌then◌else◌, refl, sym, ap, ◌∙◌, append_assoc, arith}
-use Rattle.std.specs.List.{enumerate_from}
-use Rattle.std.proofs.lemmas.Bool.Decides.{nat_tests}
-use Rattle.std.proofs.lemmas.List.{length-replicate, length-drop}
-use Rattle.std.proofs.Math.Seq.{take-length}
-use Rattle.tb_records.specs.declared.records.EventResult.{EventResult}
-use Rattle.tb_ledger.specs.Batches.{results_from}
+use Rattle.tb_ledger.proofs.Common.{◌≡◌, ℕ, suc, zero, ◌+◌, ◌-◌, ◌<◌, ◌≤◌, ◌==◌, true, false, not, List, [], ◌∷◌, ◌++◌, map, filter, length, replicate, take, drop, if◌then◌else◌, refl, sym, ap, ◌∙◌, append_assoc, arith, enumerate_from, nat_tests, length-replicate, length-drop, take-length, EventResult, results_from}
 
 abbrev entry : ℕ × ℕ → EventResult
 entry x = record { index = x.0; result = x.1 }

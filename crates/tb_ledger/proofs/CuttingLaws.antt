@@ -1,8 +1,5 @@
 -- A batch is cut into chains in one way.
-use Rattle.std.proofs.Common.{◌≡◌, Bool, true, false, cond, List, [], ◌∷◌, ◌++◌, refl, sym, ap, subst, ◌∙◌, append-nil}
-use Rattle.tb_records.specs.Ordered.{Each}
-use Rattle.tb_ledger.specs.Batches.{Kind, Timed, joined, blocks}
-use Rattle.tb_ledger.specs.Cuttings.{in_turn, IsBlock, ends_linked, AreEnded, IsCutting, CutsOneWay}
+use Rattle.tb_ledger.proofs.Common.{◌≡◌, Bool, true, false, cond, List, [], ◌∷◌, ◌++◌, refl, sym, ap, subst, ◌∙◌, append-nil, Each, Kind, Timed, joined, blocks, in_turn, IsBlock, ends_linked, AreEnded, IsCutting, CutsOneWay}
 
 module _ {E : Type 0} (kind : Kind E) where
   -- a block at the front, with more behind it

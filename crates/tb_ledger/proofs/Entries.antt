@@ -1,25 +1,5 @@
 -- What changes a tree's pairs changes the rows that they are.
-use Rattle.std.proofs.Common.{◌≡◌, ℕ, ◌+◌, ◌*◌, ◌<◌, ◌≤◌, Bool, true, false, cond, eqb, ltb, ◌==◌, List, [], ◌∷◌, length, map, find, is_some, Option, Some, None, IfSome, IfNone, ◌⊎◌, inl, inr, Result, Ok, Err, IfOk, IfErr, refl, sym, ap, subst, ◌∙◌, arith}
-use Rattle.std.proofs.lemmas.Bool.Decides.{nat_tests}
-use Rattle.std.specs.declared.cmp.Ordering.{Ordering}
-use Rattle.std.specs.declared.cmp.Ordering.TheVariants.{Less, Equal, Greater}
-use Rattle.std.specs.Ordering.{nat_cmp, ordering_then}
-use Rattle.std.specs.Map.{lookup, set_value, values_of}
-use Rattle.std.specs.BTreeMap.{is_at}
-use Rattle.std.specs.Fn.{Mut}
-use denote.Ref.{MutBor}
-use Rattle.avl_tree.specs.Changes.{Changed, ChangedTwo}
-use Rattle.tb_records.specs.Ordered.{replaced, taken_out, Each, Rising}
-use Rattle.tb_ledger.specs.Tables.{IsTable, KeepsKey, ChangedRow, KeepsKeys, ChangedRows}
-use Rattle.std.specs.List.{slice_get}
-use Rattle.avl_tree.specs.Map.{Map, entries, get}
-use Rattle.avl_tree.specs.Search.{Search, leaf, fork, entries_of, path_length}
-use Rattle.tb_records.proofs.ByKey.{each-map, each-both, each-back, found_key, rising-replaced}
-use Rattle.tb_records.proofs.Entries.{Agrees, Own, found-row, rows-replaced, own-replaced}
-use Rattle.tb_ledger.specs.Verdicts.{int_max}
-use Rattle.tb_ledger.specs.Timeouts.{timeout_key, timeout_at, timeouts_of, AreTimeouts}
-use Rattle.tb_ledger.specs.declared.tables.timeouts.Timeout.{Timeout}
-use Rattle.avl_tree.specs.Nodes.{with_first}
+use Rattle.tb_ledger.proofs.Common.{◌≡◌, ℕ, ◌+◌, ◌*◌, ◌<◌, ◌≤◌, Bool, true, false, cond, eqb, ltb, ◌==◌, List, [], ◌∷◌, length, map, find, is_some, Option, Some, None, IfSome, IfNone, ◌⊎◌, inl, inr, Result, Ok, Err, IfOk, IfErr, refl, sym, ap, subst, ◌∙◌, arith, nat_tests, Ordering, Less, Equal, Greater, nat_cmp, ordering_then, lookup, set_value, values_of, is_at, Mut, MutBor, Changed, ChangedTwo, replaced, taken_out, Each, Rising, IsTable, KeepsKey, ChangedRow, KeepsKeys, ChangedRows, slice_get, Map, entries, get, Search, leaf, fork, entries_of, path_length, each-map, each-both, each-back, found_key, rising-replaced, Agrees, Own, found-row, rows-replaced, own-replaced, int_max, timeout_key, timeout_at, timeouts_of, AreTimeouts, Timeout, with_first}
 
 set-absent : {V : Type 0} (test : ℕ → Bool) (v : V) (es : List (ℕ × V)) → lookup test es ≡ None → set_value test es v ≡ es
 set-absent test v [] none = refl

@@ -1,16 +1,5 @@
 -- The rows when time moves on: transfers that are due hold no more.
-use Rattle.std.proofs.Common.{◌≡◌, ◌≢◌, ℕ, ◌≤◌, Bool, true, false, ◌&&◌, ◌==◌, List, map, find, if◌then◌else◌, Option, Some, None, option_map, IsSome, refl, sym, ap, subst, ◌∙◌}
-use Rattle.tb_records.specs.declared.records.Transfer.{Transfer}
-use Rattle.tb_records.specs.Ordered.{replaced, changed, Each, Rising}
-use Rattle.tb_records.proofs.ByKey.{each-map, each-both, each-find, each-replaced_all, find-map, map-replaced, map-changed, rising-changed}
-use Rattle.tb_ledger.specs.declared.tables.transfers.State.{State}
-use Rattle.tb_ledger.specs.declared.tables.transfers.State.TheVariants.{Posted, Voided, Expired}
-use Rattle.tb_ledger.specs.declared.tables.accounts.AccountRow.{AccountRow}
-use Rattle.tb_ledger.specs.declared.tables.transfers.TransferRow.{TransferRow}
-use Rattle.tb_ledger.specs.declared.tables.timeouts.Timeout.{Timeout}
-use Rattle.tb_ledger.specs.Books.{Books, posts, pending, resolves, is_open, is_due, state_by, closing_debit, closing_credit, debit, credit}
-use Rattle.tb_ledger.specs.Sound.{IdsRise, ledger_at, Sound}
-use Rattle.tb_ledger.specs.Kept.{account_row_key, transfer_row_key, books_of, row_holds, lapses, IsIndex, HasSums, HasState, AreKept, IsLedger, on_debits, on_credits, released, settled, accounts_released}
+use Rattle.tb_ledger.proofs.Common.{◌≡◌, ◌≢◌, ℕ, ◌≤◌, Bool, true, false, ◌&&◌, ◌==◌, List, map, find, if◌then◌else◌, Option, Some, None, option_map, IsSome, refl, sym, ap, subst, ◌∙◌, Transfer, replaced, changed, Each, Rising, each-map, each-both, each-find, each-replaced_all, find-map, map-replaced, map-changed, rising-changed, State, Posted, Voided, Expired, AccountRow, TransferRow, Timeout, Books, posts, pending, resolves, is_open, is_due, state_by, closing_debit, closing_credit, debit, credit, IdsRise, ledger_at, Sound, account_row_key, transfer_row_key, books_of, row_holds, lapses, IsIndex, HasSums, HasState, AreKept, IsLedger, on_debits, on_credits, released, settled, accounts_released}
 use Rattle.tb_ledger.proofs.Parts.{both_hold}
 use Rattle.tb_ledger.proofs.Pairs.{sums_released}
 use Rattle.tb_ledger.proofs.Sides.{due_later}

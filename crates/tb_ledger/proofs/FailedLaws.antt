@@ -1,15 +1,5 @@
 -- The ids that failed for good.
-use Rattle.std.proofs.Common.{◌≡◌, ℕ, ◌==◌, ◌&&◌, Bool, true, false, not, List, [], ◌∷◌, find, is_some, Option, Some, None, Result, Ok, Err, IfErr, if◌then◌else◌, refl, sym, ap, ◌∙◌}
-use Rattle.std.specs.List.{list_any}
-use Rattle.std.specs.Option.{option_map_or}
-use Rattle.std.proofs.lemmas.Bool.{and_parts}
-use Rattle.tb_records.specs.declared.records.Transfer.{Transfer}
-use Rattle.tb_ledger.specs.Books.{Books, resolves, transfer_at}
-use Rattle.tb_records.specs.declared.transfer_results.CreateTransferResult.{CreateTransferResult}
-use Rattle.tb_records.specs.TransferResults.{transfer_result_code}
-use Rattle.tb_ledger.specs.Batches.{is_final}
-use Rattle.tb_ledger.specs.Found.{Judges}
-use Rattle.tb_ledger.specs.Verdicts.{Test, first_of, first_code, transfer_own_tests, transfer_exists_tests, filled, resolve_code, single_code, transfer_verdict}
+use Rattle.tb_ledger.proofs.Common.{◌≡◌, ℕ, ◌==◌, ◌&&◌, Bool, true, false, not, List, [], ◌∷◌, find, is_some, Option, Some, None, Result, Ok, Err, IfErr, if◌then◌else◌, refl, sym, ap, ◌∙◌, list_any, option_map_or, and_parts, Transfer, Books, resolves, transfer_at, CreateTransferResult, transfer_result_code, is_final, Judges, Test, first_of, first_code, transfer_own_tests, transfer_exists_tests, filled, resolve_code, single_code, transfer_verdict}
 use Rattle.tb_ledger.proofs.VerdictLaws.{any-found}
 
 -- no test fails a transfer for good

@@ -1,9 +1,5 @@
 -- What an accepted transfer that is no post or void found in the books.
-use Rattle.std.proofs.Common.{◌≡◌, ◌≢◌, ◌+◌, ◌≤◌, true, false, Some}
-use Rattle.tb_records.specs.declared.records.Account.{Account}
-use Rattle.tb_records.specs.declared.records.Transfer.{Transfer}
-use Rattle.tb_ledger.specs.Books.{Books, debits_limited, credits_limited, stands_closed, account_at, debits_pending, debits_posted, credits_pending, credits_posted, expires_at}
-use Rattle.tb_ledger.specs.Verdicts.{int_max, max_time}
+use Rattle.tb_ledger.proofs.Common.{◌≡◌, ◌≢◌, ◌+◌, ◌≤◌, true, false, Some, Account, Transfer, Books, debits_limited, credits_limited, stands_closed, account_at, debits_pending, debits_posted, credits_pending, credits_posted, expires_at, int_max, max_time}
 
 -- t is as it is recorded, balanced and stamped
 pub record FoundPair (B : Books) (t : Transfer) : Type 0 where

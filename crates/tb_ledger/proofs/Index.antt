@@ -1,16 +1,5 @@
 -- The index of expiries, where a transfer comes and where one holds no more.
-use Rattle.std.proofs.Common.{◌≡◌, ◌≢◌, ℕ, ◌+◌, ◌-◌, ◌<◌, ◌≤◌, Bool, true, false, cond, not, ◌&&◌, eqb, ltb, leb, ◌==◌, if◌then◌else◌, List, [], ◌∷◌, length, find, Some, None, refl, sym, ap, subst, ◌∙◌, arith}
-use Rattle.std.proofs.lemmas.Bool.Decides.{nat_tests}
-use Rattle.tb_records.specs.Ordered.{put, replaced, taken_out, Each, Rising}
-use Rattle.tb_records.proofs.ByKey.{each-map, each-both, each-find, each-put, each-replaced, each-all, none-found, find-put_here, find-put_other, find-replaced_other, taken_out-put, rising-put, rising-taken_out, each-taken_out}
-use Rattle.tb_ledger.specs.declared.tables.transfers.State.{State}
-use Rattle.tb_ledger.specs.declared.tables.transfers.TransferRow.{TransferRow}
-use Rattle.tb_ledger.specs.declared.tables.timeouts.Timeout.{Timeout}
-use Rattle.tb_ledger.specs.Books.{pending, is_open, expires_at}
-use Rattle.tb_ledger.specs.Verdicts.{int_max}
-use Rattle.tb_ledger.specs.Timeouts.{timeout_key, AreTimeouts, freed, with_timeout, without_timeout}
-use Rattle.tb_ledger.specs.Kept.{transfer_row_key, times_out, lapses, settled, timeout_of, listed, unlisted, IsListed, IsTimeout, IsIndex, CanList}
-use Rattle.tb_ledger.specs.Tables.{Stored}
+use Rattle.tb_ledger.proofs.Common.{◌≡◌, ◌≢◌, ℕ, ◌+◌, ◌-◌, ◌<◌, ◌≤◌, Bool, true, false, cond, not, ◌&&◌, eqb, ltb, leb, ◌==◌, if◌then◌else◌, List, [], ◌∷◌, length, find, Some, None, refl, sym, ap, subst, ◌∙◌, arith, nat_tests, put, replaced, taken_out, Each, Rising, each-map, each-both, each-find, each-put, each-replaced, each-all, none-found, find-put_here, find-put_other, find-replaced_other, taken_out-put, rising-put, rising-taken_out, each-taken_out, State, TransferRow, Timeout, pending, is_open, expires_at, int_max, timeout_key, AreTimeouts, freed, with_timeout, without_timeout, transfer_row_key, times_out, lapses, settled, timeout_of, listed, unlisted, IsListed, IsTimeout, IsIndex, CanList, Stored}
 
 -- records taken out and put back
 

@@ -1,14 +1,5 @@
 -- In each ledger what is debited is credited: both are one sum over the ledger's transfers.
-use Rattle.std.proofs.Common.{◌≡◌, ℕ, ◌+◌, ◌<◌, Bool, true, false, ◌&&◌, cond, if◌then◌else◌, eqb, ◌==◌, List, [], ◌∷◌, find, sum_by, Some, option_map, refl, sym, ap, ◌∙◌, arith}
-use Rattle.std.proofs.lemmas.Bool.Decides.{nat_tests}
-use Rattle.std.proofs.lemmas.List.Sums.{sum_by-cons}
-use Rattle.tb_records.specs.declared.records.Account.{Account}
-use Rattle.tb_records.specs.declared.records.Transfer.{Transfer}
-use Rattle.tb_records.specs.Ordered.{Each, Rising}
-use Rattle.tb_records.proofs.ByKey.{sum_by-through, each-map}
-use Rattle.tb_ledger.specs.Books.{Books, holds, moves, as_it_stands, debit, credit}
-use Rattle.tb_ledger.specs.Sound.{account_key, ledger_at, Sound}
-use Rattle.tb_ledger.specs.Limits.{Balances}
+use Rattle.tb_ledger.proofs.Common.{◌≡◌, ℕ, ◌+◌, ◌<◌, Bool, true, false, ◌&&◌, cond, if◌then◌else◌, eqb, ◌==◌, List, [], ◌∷◌, find, sum_by, Some, option_map, refl, sym, ap, ◌∙◌, arith, nat_tests, sum_by-cons, Account, Transfer, Each, Rising, sum_by-through, each-map, Books, holds, moves, as_it_stands, debit, credit, account_key, ledger_at, Sound, Balances}
 use Rattle.tb_ledger.proofs.Sums.{sum_by-none, sum_by-equal, sum_by-add}
 
 -- what an account of a ledger has of a transfer that names the account k, where q

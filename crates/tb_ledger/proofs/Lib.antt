@@ -1,3 +1,4 @@
+pub mod Common
 pub mod FoundPairs
 pub mod Accepted
 pub mod Sums

@@ -1,12 +1,5 @@
 -- What is found of many ids at once.
-use Rattle.std.proofs.Common.{◌≡◌, ℕ, ◌+◌, ◌++◌, ◌==◌, List, [], ◌∷◌, length, map, find, take, drop, Option, None, Bor, option_map, option_copied, refl, sym, ap, ◌∙◌, arith}
-use Rattle.std.specs.List.{filter_map}
-use Rattle.std.specs.Map.{lookup, values_of}
-use Rattle.std.specs.BTreeMap.{is_at}
-use Rattle.std.specs.Ordering.{nat_cmp}
-use Rattle.std.proofs.lemmas.List.{length-append, length-map, take-append-drop}
-use Rattle.tb_records.specs.Ordered.{Each}
-use Rattle.tb_records.proofs.Entries.{Own, found-row}
+use Rattle.tb_ledger.proofs.Common.{◌≡◌, ℕ, ◌+◌, ◌++◌, ◌==◌, List, [], ◌∷◌, length, map, find, take, drop, Option, None, Bor, option_map, option_copied, refl, sym, ap, ◌∙◌, arith, filter_map, lookup, values_of, is_at, nat_cmp, length-append, length-map, take-append-drop, Each, Own, found-row}
 
 pub found-rows : {V : Type 0} (key : V → ℕ) (ks : List ℕ) (es : List (ℕ × V)) → Each (Own key) es → map (λ k. lookup (is_at (nat_cmp k)) es) ks ≡ map (λ k. find (λ row. key row == k) (values_of es)) ks
 found-rows key [] es own = refl

@@ -1,19 +1,8 @@
 -- What counts in the sums, proved.
-use Rattle.std.proofs.Common.{◌≡◌, ◌≢◌, ℕ, ◌+◌, ◌<◌, Bool, true, false, not, ◌&&◌, ◌||◌, cond, if◌then◌else◌, eqb, leb, ◌==◌, List, [], ◌∷◌, find, sum_by, Some, refl, sym, ap, subst, ◌∙◌, arith}
-use Rattle.std.proofs.lemmas.Bool.Decides.{nat_tests}
-use Rattle.std.proofs.lemmas.Bool.{and_parts, and_from}
-use Rattle.std.proofs.lemmas.List.Sums.{sum_by-cons}
-use Rattle.tb_records.specs.declared.records.Transfer.{Transfer}
-use Rattle.tb_records.specs.Ordered.{put, Rising}
-use Rattle.tb_records.proofs.ByKey.{sum_by-same, sum_by-put, find-put_other, each-map, none-found, none-fails}
-use Rattle.tb_ledger.specs.Books.{Books, pending, posts, voids, resolves, resolver, expires_at, is_due, state_of, is_open, holds, moves, transfer_at, debit, credit, pending_on, posted_on}
-use Rattle.tb_ledger.specs.Verdicts.{recorded_transfer, filled}
-use Rattle.tb_ledger.specs.Sound.{transfer_key}
-use Rattle.tb_ledger.specs.Meanings.{IsHeld, HeldWhileOpen, SettlesSide, SettlesBoth}
+use Rattle.tb_ledger.proofs.Common.{◌≡◌, ◌≢◌, ℕ, ◌+◌, ◌<◌, Bool, true, false, not, ◌&&◌, ◌||◌, cond, if◌then◌else◌, eqb, leb, ◌==◌, List, [], ◌∷◌, find, sum_by, Some, refl, sym, ap, subst, ◌∙◌, arith, nat_tests, and_parts, and_from, sum_by-cons, Transfer, put, Rising, sum_by-same, sum_by-put, find-put_other, each-map, none-found, none-fails, Books, pending, posts, voids, resolves, resolver, expires_at, is_due, state_of, is_open, holds, moves, transfer_at, debit, credit, pending_on, posted_on, recorded_transfer, filled, transfer_key, IsHeld, HeldWhileOpen, SettlesSide, SettlesBoth, FoundPending}
 use Rattle.tb_ledger.proofs.Sides.{open_parts, open_from, not_true, share_none, share_whole, no_more}
 use Rattle.tb_ledger.proofs.SoundLaws.{filled_flags}
 use Rattle.tb_ledger.proofs.VerdictLaws.{recorded_pending, filled_pending_id}
-use Rattle.tb_ledger.specs.Found.{FoundPending}
 
 pub held_while_open : HeldWhileOpen
 held_while_open B p = (leads, back)

@@ -1,15 +1,5 @@
 -- The sums of all accounts after a change on the debit side of one and on the credit side of one.
-use Rattle.std.proofs.Common.{◌≡◌, ◌≢◌, ℕ, ◌<◌, ◌≤◌, Bool, true, false, not, ◌&&◌, eqb, ◌==◌, List, [], ◌∷◌, find, Some, refl, sym, subst, ◌∙◌, arith}
-use Rattle.std.proofs.lemmas.Bool.Decides.{nat_tests}
-use Rattle.tb_records.specs.declared.records.Transfer.{Transfer}
-use Rattle.tb_records.specs.Ordered.{put, replaced, changed, Each, Rising}
-use Rattle.tb_records.proofs.ByKey.{each-changed, each-both, rising-changed}
-use Rattle.tb_ledger.specs.declared.tables.transfers.State.{State}
-use Rattle.tb_ledger.specs.declared.tables.accounts.Side.{Side}
-use Rattle.tb_ledger.specs.declared.tables.accounts.AccountRow.{AccountRow}
-use Rattle.tb_ledger.specs.declared.tables.transfers.TransferRow.{TransferRow}
-use Rattle.tb_ledger.specs.Books.{pending, is_open, closing_debit, closing_credit, debit, credit}
-use Rattle.tb_ledger.specs.Kept.{account_row_key, transfer_row_key, row_holds, HasSide, HasBoth, HasSums, gained, released, released_and_gained, settled, CanTake, on_debits, on_credits, accounts_gained, accounts_released, accounts_released_and_gained, new_transfer_row}
+use Rattle.tb_ledger.proofs.Common.{◌≡◌, ◌≢◌, ℕ, ◌<◌, ◌≤◌, Bool, true, false, not, ◌&&◌, eqb, ◌==◌, List, [], ◌∷◌, find, Some, refl, sym, subst, ◌∙◌, arith, nat_tests, Transfer, put, replaced, changed, Each, Rising, each-changed, each-both, rising-changed, State, Side, AccountRow, TransferRow, pending, is_open, closing_debit, closing_credit, debit, credit, account_row_key, transfer_row_key, row_holds, HasSide, HasBoth, HasSums, gained, released, released_and_gained, settled, CanTake, on_debits, on_credits, accounts_gained, accounts_released, accounts_released_and_gained, new_transfer_row}
 use Rattle.tb_ledger.proofs.Parts.{released_here, released_other, held_enough, gained_here, gained_other}
 
 -- each record is what is found by its key

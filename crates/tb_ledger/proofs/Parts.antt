@@ -1,16 +1,5 @@
 -- What a transfer's row gives to the sums of a side, and what they are after a change.
-use Rattle.std.proofs.Common.{◌≡◌, ◌≢◌, ℕ, ◌+◌, ◌≤◌, Bool, true, false, not, ◌&&◌, ◌||◌, eqb, ◌==◌, List, [], ◌∷◌, find, sum_by, if◌then◌else◌, Some, refl, arith}
-use Rattle.std.proofs.lemmas.Bool.Decides.{nat_tests}
-use Rattle.tb_records.specs.declared.records.Transfer.{Transfer}
-use Rattle.std.proofs.lemmas.List.Sums.{sum_by-cons}
-use Rattle.tb_records.specs.Ordered.{put, replaced, Each}
-use Rattle.tb_records.proofs.ByKey.{sum_by-put, sum_by-replaced}
-use Rattle.tb_ledger.specs.declared.tables.transfers.State.{State}
-use Rattle.tb_ledger.specs.declared.tables.transfers.State.TheVariants.{Open}
-use Rattle.tb_ledger.specs.declared.tables.accounts.Side.{Side}
-use Rattle.tb_ledger.specs.declared.tables.transfers.TransferRow.{TransferRow}
-use Rattle.tb_ledger.specs.Books.{pending, voids, moves, is_open}
-use Rattle.tb_ledger.specs.Kept.{transfer_row_key, row_holds, bit, pending_share, posted_share, closing_share, HasSide, gained, released, settled, CanTake, new_side}
+use Rattle.tb_ledger.proofs.Common.{◌≡◌, ◌≢◌, ℕ, ◌+◌, ◌≤◌, Bool, true, false, not, ◌&&◌, ◌||◌, eqb, ◌==◌, List, [], ◌∷◌, find, sum_by, if◌then◌else◌, Some, refl, arith, nat_tests, Transfer, sum_by-cons, put, replaced, Each, sum_by-put, sum_by-replaced, State, Open, Side, TransferRow, pending, voids, moves, is_open, transfer_row_key, row_holds, bit, pending_share, posted_share, closing_share, HasSide, gained, released, settled, CanTake, new_side}
 
 pub both_hold : (a b : Bool) → a && b ≡ true → (a ≡ true) × (b ≡ true)
 both_hold true b e = (refl, e)

@@ -1,12 +1,5 @@
 -- What is read from the rows is read from the books.
-use Rattle.std.proofs.Common.{◌≡◌, ℕ, ◌==◌, Bool, List, find, Option, Some, None, option_map, refl, sym, ap, ◌∙◌}
-use Rattle.tb_records.specs.declared.records.Account.{Account}
-use Rattle.tb_records.proofs.ByKey.{find-map, each-find}
-use Rattle.tb_ledger.specs.declared.tables.accounts.AccountRow.{AccountRow}
-use Rattle.tb_ledger.specs.declared.tables.transfers.TransferRow.{TransferRow}
-use Rattle.tb_ledger.specs.declared.tables.timeouts.Timeout.{Timeout}
-use Rattle.tb_ledger.specs.Books.{Books, account_now, as_it_stands, transfer_at}
-use Rattle.tb_ledger.specs.Kept.{books_of, row_now, HasSums, IsLedger}
+use Rattle.tb_ledger.proofs.Common.{◌≡◌, ℕ, ◌==◌, Bool, List, find, Option, Some, None, option_map, refl, sym, ap, ◌∙◌, Account, find-map, each-find, AccountRow, TransferRow, Timeout, Books, account_now, as_it_stands, transfer_at, books_of, row_now, HasSums, IsLedger}
 use Rattle.tb_ledger.proofs.Standing.{row_stands}
 
 module _ (accounts : List AccountRow) (transfers : List TransferRow) (failed : List ℕ) (keeps_failed : Bool) (timeouts : List Timeout) (time : ℕ) (kept : IsLedger accounts transfers failed keeps_failed timeouts time) where

@@ -1,13 +1,5 @@
 -- A refusal that a function hands on.
-use Rattle.std.proofs.Common.{◌≡◌, ◌≢◌, ℕ, Result, Ok, Err, IfErr, sym, subst}
-use Rattle.std.specs.Result.{IsErrAnd}
-use Rattle.tb_ledger.specs.declared.tables.accounts.AccountRow.{AccountRow}
-use Rattle.tb_ledger.specs.declared.tables.work.Work.{Work}
-use Rattle.tb_ledger.specs.Books.{Books}
-use Rattle.tb_ledger.specs.Kept.{IsKept}
-use Rattle.tb_ledger.specs.Noted.{Noted}
-use Rattle.tb_ledger.specs.Steps.{Decides}
-use Rattle.tb_ledger.specs.Tables.{Stored}
+use Rattle.tb_ledger.proofs.Common.{◌≡◌, ◌≢◌, ℕ, Result, Ok, Err, IfErr, sym, subst, IsErrAnd, AccountRow, Work, Books, IsKept, Noted, Decides, Stored}
 use Rattle.tb_ledger.proofs.Capacities.{leaves_still}
 
 pub err_handed_on : {X R : Type 0} (P : R → Type 0) (r : Result X R) (refusal : R) → IsErrAnd r (λ y. y ≡ refusal) → P refusal → IfErr r P

@@ -1,8 +1,5 @@
 -- A batch, chain by chain, and how many codes and results it has.
-use Rattle.std.proofs.Common.{◌≡◌, ℕ, ◌+◌, ◌<◌, ◌≤◌, List, [], ◌∷◌, ◌++◌, length, take, drop, sym, ap, ◌∙◌, append_assoc, arith}
-use Rattle.tb_records.specs.declared.records.EventResult.{EventResult}
-use Rattle.tb_ledger.specs.Books.{Books}
-use Rattle.tb_ledger.specs.Batches.{Kind, batch_after, blocks, block_length, timed_from, results, results_from}
+use Rattle.tb_ledger.proofs.Common.{◌≡◌, ℕ, ◌+◌, ◌<◌, ◌≤◌, List, [], ◌∷◌, ◌++◌, length, take, drop, sym, ap, ◌∙◌, append_assoc, arith, EventResult, Books, Kind, batch_after, blocks, block_length, timed_from, results, results_from}
 use Rattle.tb_ledger.proofs.CodeLaws.{results-append, length-results_from}
 use Rattle.tb_ledger.proofs.BlockLaws.{length-batch, blocks-cut}
 

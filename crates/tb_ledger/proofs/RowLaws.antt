@@ -1,16 +1,5 @@
 -- Rows that are put back as they were, and their order.
-use Rattle.std.proofs.Common.{◌≡◌, ℕ, ◌==◌, Bool, true, if◌then◌else◌, List, [], find, Some, None, refl, sym, subst, ap, ◌∙◌, arith}
-use Rattle.tb_records.specs.Ordered.{put, Rising}
-use Rattle.tb_records.proofs.ByKey.{rising-put}
-use Rattle.tb_ledger.specs.declared.tables.accounts.AccountRow.{AccountRow}
-use Rattle.tb_ledger.specs.declared.tables.transfers.TransferRow.{TransferRow}
-use Rattle.tb_ledger.specs.declared.tables.timeouts.Timeout.{Timeout}
-use Rattle.tb_ledger.specs.declared.tables.rows.Rows.{Rows}
-use Rattle.tb_ledger.specs.Capacity.{capacity_of, Uses}
-use Rattle.tb_ledger.specs.Kept.{books_in, books_of, IsKept, IsLedger}
-use Rattle.tb_ledger.specs.Noted.{Noted}
-use Rattle.tb_ledger.specs.Steps.{IsUnwound}
-use Rattle.tb_ledger.specs.UndoLog.{LeadsBack}
+use Rattle.tb_ledger.proofs.Common.{◌≡◌, ℕ, ◌==◌, Bool, true, if◌then◌else◌, List, [], find, Some, None, refl, sym, subst, ap, ◌∙◌, arith, put, Rising, rising-put, AccountRow, TransferRow, Timeout, Rows, capacity_of, Uses, books_in, books_of, IsKept, IsLedger, Noted, chained, unwound, IsUndoneTo, LeadsBack}
 use Rattle.tb_ledger.proofs.SoundLaws.{sound_failed}
 
 -- rows that are as others were, but for spare rows that n events may have used
@@ -20,12 +9,13 @@ pub record AreBack {A : Type 0} (n : ℕ) (start later : Rows A) : Type 0 where
   pub uses : Uses n (capacity_of start) (capacity_of later)
 
 -- so are those after the changes of a log that leads back
-pub rows_back : {A : Type 0} (n : ℕ) (start rows later : Rows A) (log : Noted) → IsKept start → LeadsBack start rows [] log.changes → rows.failed ≡ start.failed → rows.time ≡ start.time → Uses n (capacity_of start) (capacity_of rows)
-    → IsUnwound log rows later → AreBack n start later
+pub rows_back : {A : Type 0} (n : ℕ) (start rows later : Rows A) (log : Noted) → IsKept start → LeadsBack (chained start) (chained rows) [] log.changes → rows.failed ≡ start.failed → rows.time ≡ start.time → Uses n (capacity_of start) (capacity_of rows)
+    → IsUndoneTo (unwound log.changes (chained rows)) rows later → AreBack n start later
 rows_back n start rows later log kept back failed time uses undone =
-    let accounts : later.accounts.items ≡ start.accounts.items = undone.accounts ∙ back.undo_accounts in
-    let transfers : later.transfers.items ≡ start.transfers.items = undone.transfers ∙ back.undo_transfers in
-    let timeouts : later.timeouts ≡ start.timeouts = undone.timeouts ∙ back.undo_timeouts in
+    let same = undone.undone ∙ back.undone in
+    let accounts : later.accounts.items ≡ start.accounts.items = ap (λ x. x.accounts) same in
+    let transfers : later.transfers.items ≡ start.transfers.items = ap (λ x. x.transfers) same in
+    let timeouts : later.timeouts ≡ start.timeouts = ap (λ x. x.timeouts) same in
     let failed_too : later.failed ≡ start.failed = undone.failed ∙ failed in
     let keeps : later.keeps_failed ≡ start.keeps_failed = undone.keeps_failed ∙ uses.keeps_failed in
     let same_time : later.time ≡ start.time = undone.time ∙ time in

@@ -1,18 +1,5 @@
 -- What the code of an accepted event makes of the rows.
-use Rattle.std.proofs.Common.{◌≡◌, ◌≢◌, ℕ, ◌+◌, ◌<◌, ◌≤◌, Bool, true, false, eqb, ◌==◌, List, [], ◌∷◌, map, find, if◌then◌else◌, Option, Some, None, option_map, refl, sym, ap, subst, ◌∙◌, arith}
-use Rattle.std.proofs.lemmas.Bool.Decides.{nat_tests}
-use Rattle.tb_records.specs.declared.records.Account.{Account}
-use Rattle.tb_records.specs.declared.records.Transfer.{Transfer}
-use Rattle.tb_records.specs.Ordered.{put, replaced, changed, Each, Rising}
-use Rattle.tb_records.proofs.ByKey.{found_key, changed_found, find-changed, find-map, each-back, each-map, each-put, each-find, map-put, map-changed, map-replaced, rising-put}
-use Rattle.tb_ledger.specs.declared.tables.accounts.AccountRow.{AccountRow}
-use Rattle.tb_ledger.specs.declared.tables.transfers.TransferRow.{TransferRow}
-use Rattle.tb_ledger.specs.declared.tables.timeouts.Timeout.{Timeout}
-use Rattle.tb_ledger.specs.declared.tables.transfers.State.TheVariants.{Posted, Voided}
-use Rattle.tb_ledger.specs.Books.{Books, posts, resolves, holds, is_open, account_at, transfer_at, closing_debit, closing_credit, debit, credit}
-use Rattle.tb_ledger.specs.Verdicts.{int_max}
-use Rattle.tb_ledger.specs.Sound.{account_key, transfer_key, ledger_at, IdsRise, Sound}
-use Rattle.tb_ledger.specs.Kept.{account_row_key, transfer_row_key, books_of, row_holds, times_out, listed, unlisted, IsListed, IsIndex, HasSide, HasSums, HasState, IsLedger, on_debits, on_credits, gained, released_and_gained, settled, state_given_by, accounts_gained, accounts_released_and_gained, new_row, new_transfer_row}
+use Rattle.tb_ledger.proofs.Common.{◌≡◌, ◌≢◌, ℕ, ◌+◌, ◌<◌, ◌≤◌, Bool, true, false, eqb, ◌==◌, List, [], ◌∷◌, map, find, IsSome, if◌then◌else◌, Option, Some, None, option_map, refl, sym, ap, subst, ◌∙◌, arith, nat_tests, Account, Transfer, put, replaced, changed, Each, Rising, found_key, changed_found, find-changed, find-map, each-back, each-map, each-put, each-find, map-put, map-changed, map-replaced, rising-put, AccountRow, TransferRow, Timeout, Posted, Voided, Books, posts, resolves, holds, is_open, account_at, transfer_at, closing_debit, closing_credit, debit, credit, account_key, transfer_key, ledger_at, IdsRise, Sound, account_row_key, transfer_row_key, books_in, books_of, IsKept, row_holds, times_out, listed, unlisted, IsListed, IsIndex, HasSide, HasSums, HasState, IsLedger, on_debits, on_credits, gained, released_and_gained, settled, state_given_by, accounts_gained, accounts_released_and_gained, new_row, new_transfer_row, Rows, Side, account_row_at, CanSettle, IsResolution, Stored}
 use Rattle.tb_ledger.proofs.Parts.{held_enough, no_sums}
 use Rattle.tb_ledger.proofs.Index.{index_added, index_closed}
 use Rattle.tb_ledger.proofs.Pairs.{sums_gained, sums_resolved}
@@ -20,8 +7,7 @@ use Rattle.tb_ledger.proofs.States.{states_added, states_resolved}
 use Rattle.tb_ledger.proofs.Standing.{holds_stand, takes_debit, takes_credit}
 use Rattle.tb_ledger.proofs.SoundLaws.{sound_moved, sound_resolved}
 use Rattle.tb_ledger.proofs.FoundPairs.{FoundPair}
-use Rattle.tb_ledger.specs.Found.{FoundPending}
-use Rattle.tb_ledger.specs.Tables.{Stored}
+use Rattle.tb_ledger.proofs.Expiries.{accounts_apart, debit_party, credit_party}
 
 -- what is found by an id is found by its key
 pub refound : {X : Type 0} (key : X → ℕ) (id : ℕ) (x : X) (xs : List X) → find (λ y. key y == id) xs ≡ Some x → find (λ y. key y == key x) xs ≡ Some x
@@ -74,43 +60,43 @@ no_row key g id xs none = none_mapped g (find (λ x. key (g x) == id) xs) (sym (
 unnamed : (side : Transfer → ℕ) (B : Books) (id : ℕ) → account_at B id ≡ None → (t : Transfer) → ledger_at B.accounts (side t) ≡ Some t.ledger → side t ≢ id
 unnamed side B id none t there same = let gone = subst (λ k. ledger_at B.accounts k ≡ Some t.ledger) same there in let nothing = ap (option_map (λ a. a.ledger)) none in cc
 
-module _ (accounts : List AccountRow) (transfers : List TransferRow) (failed : List ℕ) (keeps_failed : Bool) (timeouts : List Timeout) (time : ℕ) (ledger : IsLedger accounts transfers failed keeps_failed timeouts time) where
+module _ {A : Type 0} (rows : Rows A) (ledger : IsKept rows) where
   abbrev B : Books
-  B = books_of accounts transfers failed keeps_failed time
+  B = books_in rows
 
-  rising_accounts : Rising account_row_key accounts
-  rising_accounts = rising_rows accounts ledger.sound.rising
+  rising_accounts : Rising account_row_key rows.accounts.items
+  rising_accounts = rising_rows rows.accounts.items ledger.sound.rising
 
   -- an account added
-  module _ (a : Account) (later : List AccountRow) (is : later ≡ put account_row_key (new_row a) accounts) where
-    pub books_with_account : books_of later transfers failed keeps_failed time ≡ record B { accounts = put account_key a B.accounts }
-    books_with_account = rw (is, map-put account_key (λ a. a.created) (new_row a) accounts) refl
+  module _ (a : Account) (later : List AccountRow) (is : later ≡ put account_row_key (new_row a) rows.accounts.items) where
+    pub books_with_account : books_of later rows.transfers.items rows.failed.items rows.keeps_failed rows.time ≡ record B { accounts = put account_key a B.accounts }
+    books_with_account = rw (is, map-put account_key (λ a. a.created) (new_row a) rows.accounts.items) refl
 
-    pub ledger_with_account : account_at B a.id ≡ None → Sound (record B { accounts = put account_key a B.accounts }) → IsLedger later transfers failed keeps_failed timeouts time
+    pub ledger_with_account : account_at B a.id ≡ None → Sound (record B { accounts = put account_key a B.accounts }) → IsLedger later rows.transfers.items rows.failed.items rows.keeps_failed rows.timeouts.items rows.time
     ledger_with_account fresh sound = record {
-      kept = record { sums = subst (Each (HasSums transfers)) (sym is) (each-put account_row_key (HasSums transfers) (new_row a) accounts (new_sums a fresh) ledger.kept.sums); states = ledger.kept.states };
+      kept = record { sums = subst (Each (HasSums rows.transfers.items)) (sym is) (each-put account_row_key (HasSums rows.transfers.items) (new_row a) rows.accounts.items (new_sums a fresh) ledger.kept.sums); states = ledger.kept.states };
       index = ledger.index;
       unused = ledger.unused;
       sound = subst Sound (sym books_with_account) sound;
       rising = subst IdsRise (sym books_with_account) (record { accounts = sound.rising; transfers = ledger.rising.transfers; failed = ledger.rising.failed });
     }
       where
-        new_sums : (a : Account) → account_at B a.id ≡ None → HasSums transfers (new_row a)
+        new_sums : (a : Account) → account_at B a.id ≡ None → HasSums rows.transfers.items (new_row a)
         new_sums a fresh = record {
-          debits = no_sums debit closing_debit transfers a.id (each-back (λ t. debit t ≢ a.id) (λ t. t.recorded) transfers (each-map (λ t. ledger_at B.accounts (debit t) ≡ Some t.ledger) (λ t. debit t ≢ a.id) B.transfers (unnamed debit B a.id fresh) ledger.sound.debits.named));
-          credits = no_sums credit closing_credit transfers a.id (each-back (λ t. credit t ≢ a.id) (λ t. t.recorded) transfers (each-map (λ t. ledger_at B.accounts (credit t) ≡ Some t.ledger) (λ t. credit t ≢ a.id) B.transfers (unnamed credit B a.id fresh) ledger.sound.credits.named));
+          debits = no_sums debit closing_debit rows.transfers.items a.id (each-back (λ t. debit t ≢ a.id) (λ t. t.recorded) rows.transfers.items (each-map (λ t. ledger_at B.accounts (debit t) ≡ Some t.ledger) (λ t. debit t ≢ a.id) B.transfers (unnamed debit B a.id fresh) ledger.sound.debits.named));
+          credits = no_sums credit closing_credit rows.transfers.items a.id (each-back (λ t. credit t ≢ a.id) (λ t. t.recorded) rows.transfers.items (each-map (λ t. ledger_at B.accounts (credit t) ≡ Some t.ledger) (λ t. credit t ≢ a.id) B.transfers (unnamed credit B a.id fresh) ledger.sound.credits.named));
         }
 
   -- a transfer recorded that is no post or void
-  module _ (t : Transfer) (later : List AccountRow) (more : List TransferRow) (is : later ≡ accounts_gained t accounts) (added : more ≡ put transfer_row_key (new_transfer_row t) transfers) where
-    pub books_with_single : books_of later more failed keeps_failed time ≡ record B { transfers = put transfer_key t B.transfers }
-    books_with_single = rw (is, added, map-put transfer_key (λ t. t.recorded) (new_transfer_row t) transfers, map-changed account_row_key (λ a. a.created) t.credit_account_id (on_credits (gained closing_credit t)) (changed account_row_key t.debit_account_id (on_debits (gained closing_debit t)) accounts) (λ y. refl), map-changed account_row_key (λ a. a.created) t.debit_account_id (on_debits (gained closing_debit t)) accounts (λ y. refl)) refl
+  module _ (t : Transfer) (later : List AccountRow) (more : List TransferRow) (is : later ≡ accounts_gained t rows.accounts.items) (added : more ≡ put transfer_row_key (new_transfer_row t) rows.transfers.items) where
+    pub books_with_single : books_of later more rows.failed.items rows.keeps_failed rows.time ≡ record B { transfers = put transfer_key t B.transfers }
+    books_with_single = rw (is, added, map-put transfer_key (λ t. t.recorded) (new_transfer_row t) rows.transfers.items, map-changed account_row_key (λ a. a.created) t.credit_account_id (on_credits (gained closing_credit t)) (changed account_row_key t.debit_account_id (on_debits (gained closing_debit t)) rows.accounts.items) (λ y. refl), map-changed account_row_key (λ a. a.created) t.debit_account_id (on_debits (gained closing_debit t)) rows.accounts.items (λ y. refl)) refl
 
-    pub ledger_with_single : (after : List Timeout) → transfer_at B t.id ≡ None → resolves t ≡ false → time < t.timestamp + 1000000000 → FoundPair B t → IsIndex more after → IsLedger later more failed keeps_failed after time
+    pub ledger_with_single : (after : List Timeout) → transfer_at B t.id ≡ None → resolves t ≡ false → rows.time < t.timestamp + 1000000000 → FoundPair B t → IsIndex more after → IsLedger later more rows.failed.items rows.keeps_failed after rows.time
     ledger_with_single after fresh single stamped moves_t index = record {
       kept = rw (is, added) (record {
-        sums = sums_gained accounts transfers t rising_accounts (takes_debit accounts transfers failed keeps_failed time ledger.kept.states t moves_t ledger.kept.sums) (takes_credit accounts transfers failed keeps_failed time ledger.kept.states t moves_t ledger.kept.sums) ledger.kept.sums;
-        states = states_added transfers time t ledger.kept.states (no_row transfer_key (λ t. t.recorded) t.id transfers fresh) single stamped;
+        sums = sums_gained rows.accounts.items rows.transfers.items t rising_accounts (takes_debit rows.accounts.items rows.transfers.items rows.failed.items rows.keeps_failed rows.time ledger.kept.states t moves_t ledger.kept.sums) (takes_credit rows.accounts.items rows.transfers.items rows.failed.items rows.keeps_failed rows.time ledger.kept.states t moves_t ledger.kept.sums) ledger.kept.sums;
+        states = states_added rows.transfers.items rows.time t ledger.kept.states (no_row transfer_key (λ t. t.recorded) t.id rows.transfers.items fresh) single stamped;
       });
       index = index;
       unused = ledger.unused;
@@ -119,83 +105,92 @@ module _ (accounts : List AccountRow) (transfers : List TransferRow) (failed : L
     }
 
   -- a post or void recorded
-  module _ (p : TransferRow) (r : Transfer) (found : find (λ q. q.recorded.id == r.pending_id) transfers ≡ Some p) (resolves_p : FoundPending B r) (is_resolver : resolves r ≡ true) where
+  module _ (p : TransferRow) (r : Transfer) (it : IsResolution rows p r) where
+    abbrev left : List TransferRow
+    left = replaced transfer_row_key (settled (state_given_by r) p) rows.transfers.items
+
     names : r.pending_id ≡ p.recorded.id
-    names = sym (found_key transfer_row_key r.pending_id p transfers found)
+    names = sym (found_key transfer_row_key r.pending_id p rows.transfers.items it.found)
 
-    by_key : find (λ q. transfer_row_key q == transfer_row_key p) transfers ≡ Some p
-    by_key = refound transfer_row_key r.pending_id p transfers found
+    pub by_key : find (λ q. transfer_row_key q == transfer_row_key p) rows.transfers.items ≡ Some p
+    by_key = refound transfer_row_key r.pending_id p rows.transfers.items it.found
 
-    the_one : resolves_p.p ≡ p.recorded
-    the_one = let e : Some resolves_p.p ≡ Some p.recorded = sym resolves_p.named ∙ find-map (λ t. eqb t.id r.pending_id) (λ t. t.recorded) transfers ∙ ap (option_map (λ t. t.recorded)) found in cc
+    the_one : it.pending.p ≡ p.recorded
+    the_one = let e : Some it.pending.p ≡ Some p.recorded = sym it.pending.named ∙ find-map (λ t. eqb t.id r.pending_id) (λ t. t.recorded) rows.transfers.items ∙ ap (option_map (λ t. t.recorded)) it.found in cc
 
     it_holds : row_holds p ≡ true
     it_holds =
-        holds_stand accounts transfers failed keeps_failed time p (each-find (HasState transfers time) (λ q. q.recorded.id == r.pending_id) p transfers ledger.kept.states found)
-        ∙ ap (holds B) (sym the_one) ∙ resolves_p.held
+        holds_stand rows.accounts.items rows.transfers.items rows.failed.items rows.keeps_failed rows.time p (each-find (HasState rows.transfers.items rows.time) (λ q. q.recorded.id == r.pending_id) p rows.transfers.items ledger.kept.states it.found)
+        ∙ ap (holds B) (sym the_one) ∙ it.pending.held
 
     over : is_open (state_given_by r) ≡ false
-    over = by (posts r)
-      where
-        by : (b : Bool) → is_open (if b then Posted else Voided) ≡ false
-        by true = refl
-        by false = refl
+    over = elim (posts r) as (λ b. is_open (if b then Posted else Voided) ≡ false) [ true ↦ refl | false ↦ refl ]
 
+    -- its accounts are those of p
     pub same_debit : r.debit_account_id ≡ p.recorded.debit_account_id
-    same_debit = resolves_p.debit_same ∙ ap (λ t. t.debit_account_id) the_one
+    same_debit = it.pending.debit_same ∙ ap (λ t. t.debit_account_id) the_one
 
     pub same_credit : r.credit_account_id ≡ p.recorded.credit_account_id
-    same_credit = resolves_p.credit_same ∙ ap (λ t. t.credit_account_id) the_one
+    same_credit = it.pending.credit_same ∙ ap (λ t. t.credit_account_id) the_one
 
     pub apart : r.debit_account_id ≢ r.credit_account_id
-    apart same = each-find (λ t. debit t ≢ credit t) (λ t. t.id == r.pending_id) resolves_p.p B.transfers ledger.sound.apart resolves_p.named (sym resolves_p.debit_same ∙ same ∙ resolves_p.credit_same)
+    apart same = accounts_apart B ledger.sound rows.accounts.items rows.transfers.items r.pending_id p refl refl it.found (sym same_debit ∙ same ∙ same_credit)
 
-    pub at_most : r.amount ≤ p.recorded.amount
-    at_most = omega (arith, resolves_p.at_most, ap (λ t. t.amount) the_one)
+    pub debit_there : IsSome (account_row_at rows.accounts.items r.debit_account_id)
+    debit_there = rw same_debit (debit_party B ledger.sound rows.accounts.items rows.transfers.items r.pending_id p refl refl it.found)
+
+    pub credit_there : IsSome (account_row_at rows.accounts.items r.credit_account_id)
+    credit_there = rw same_credit (credit_party B ledger.sound rows.accounts.items rows.transfers.items r.pending_id p refl refl it.found)
+
+    at_most : r.amount ≤ p.recorded.amount
+    at_most = omega (arith, it.pending.at_most, ap (λ t. t.amount) the_one)
 
     -- the sides of both accounts have the amount, and fit
-    pub debit_enough : (a : AccountRow) → find (λ a. a.created.id == r.debit_account_id) accounts ≡ Some a → (p.recorded.amount ≤ a.debits.pending) × (a.debits.pending + a.debits.posted ≤ int_max)
-    debit_enough a there =
-        let has = (each-find (HasSums transfers) (λ a. a.created.id == r.debit_account_id) a accounts ledger.kept.sums there).debits in
-        let its = subst (λ k. HasSide debit closing_debit transfers k a.debits) (found_key account_row_key r.debit_account_id a accounts there ∙ same_debit) has in
-        (held_enough debit closing_debit transfers p (state_given_by r) by_key it_holds over a.debits its, has.fit)
+    side_can : (side : Transfer → ℕ) (closes : Transfer → Bool) (id : ℕ) (s : Side) → HasSide side closes rows.transfers.items id s → id ≡ side p.recorded → CanSettle p.recorded r s
+    side_can side closes id s has same = record {
+      enough = held_enough side closes rows.transfers.items p (state_given_by r) by_key it_holds over s (subst (λ k. HasSide side closes rows.transfers.items k s) same has);
+      fit = has.fit;
+      at_most = at_most;
+    }
 
-    pub credit_enough : (a : AccountRow) → find (λ a. a.created.id == r.credit_account_id) accounts ≡ Some a → (p.recorded.amount ≤ a.credits.pending) × (a.credits.pending + a.credits.posted ≤ int_max)
-    credit_enough a there =
-        let has = (each-find (HasSums transfers) (λ a. a.created.id == r.credit_account_id) a accounts ledger.kept.sums there).credits in
-        let its = subst (λ k. HasSide credit closing_credit transfers k a.credits) (found_key account_row_key r.credit_account_id a accounts there ∙ same_credit) has in
-        (held_enough credit closing_credit transfers p (state_given_by r) by_key it_holds over a.credits its, has.fit)
+    pub can_debit : (a : AccountRow) → account_row_at rows.accounts.items r.debit_account_id ≡ Some a → CanSettle p.recorded r a.debits
+    can_debit a there =
+        side_can debit closing_debit a.created.id a.debits (each-find (HasSums rows.transfers.items) (λ a. a.created.id == r.debit_account_id) a rows.accounts.items ledger.kept.sums there).debits
+        (found_key account_row_key r.debit_account_id a rows.accounts.items there ∙ same_debit)
 
-    pub fresh_still : transfer_at B r.id ≡ None → find (λ q. q.recorded.id == r.id) (replaced transfer_row_key (settled (state_given_by r) p) transfers) ≡ None
-    fresh_still fresh = no_row transfer_key (λ t. t.recorded) r.id (replaced transfer_row_key (settled (state_given_by r) p) transfers)
-        (ap (find (λ t. transfer_key t == r.id)) (map-replaced transfer_row_key (λ t. t.recorded) (settled (state_given_by r) p) p transfers by_key refl) ∙ fresh)
+    pub can_credit : (a : AccountRow) → account_row_at rows.accounts.items r.credit_account_id ≡ Some a → CanSettle p.recorded r a.credits
+    can_credit a there =
+        side_can credit closing_credit a.created.id a.credits (each-find (HasSums rows.transfers.items) (λ a. a.created.id == r.credit_account_id) a rows.accounts.items ledger.kept.sums there).credits
+        (found_key account_row_key r.credit_account_id a rows.accounts.items there ∙ same_credit)
 
-    -- its timeout leaves the index
-    pub listed_before : times_out p ≡ true → IsListed timeouts p
-    listed_before = each-find (λ t. times_out t ≡ true → IsListed timeouts t) (λ q. q.recorded.id == r.pending_id) p transfers ledger.index.all_listed found
+    pub fresh_still : find (λ q. q.recorded.id == r.id) left ≡ None
+    fresh_still = no_row transfer_key (λ t. t.recorded) r.id left
+        (ap (find (λ t. transfer_key t == r.id)) (map-replaced transfer_row_key (λ t. t.recorded) (settled (state_given_by r) p) p rows.transfers.items by_key refl) ∙ it.fresh)
+
+    -- its timeout leaves the index, and a post or void brings none
+    pub listed_before : times_out p ≡ true → IsListed rows.timeouts.items p
+    listed_before = each-find (λ t. times_out t ≡ true → IsListed rows.timeouts.items t) (λ q. q.recorded.id == r.pending_id) p rows.transfers.items ledger.index.all_listed it.found
 
     pub not_timed : times_out (new_transfer_row r) ≡ false
-    not_timed = let single = resolves_p.not_pending in rw single refl
+    not_timed = let single = it.pending.not_pending in rw single refl
 
-    -- a post or void brings none
-    pub index_with_resolver : (spare : ℕ) → transfer_at B r.id ≡ None
-        → IsIndex (put transfer_row_key (new_transfer_row r) (replaced transfer_row_key (settled (state_given_by r) p) transfers)) (listed (new_transfer_row r) (unlisted p (record { items = timeouts; spare = spare }))).items
-    index_with_resolver spare fresh =
-        index_added (replaced transfer_row_key (settled (state_given_by r) p) transfers) (unlisted p (record { items = timeouts; spare = spare })) (index_closed transfers (record { items = timeouts; spare = spare }) ledger.index p (state_given_by r) by_key over (rising_transfers transfers ledger.rising.transfers))
-        (new_transfer_row r) (fresh_still fresh) (λ is. absurd (let never = not_timed in cc)) (λ is. absurd (let never = not_timed in cc))
+    pub index_with_resolver : IsIndex (put transfer_row_key (new_transfer_row r) left) (listed (new_transfer_row r) (unlisted p rows.timeouts)).items
+    index_with_resolver =
+        index_added left (unlisted p rows.timeouts) (index_closed rows.transfers.items rows.timeouts ledger.index p (state_given_by r) by_key over (rising_transfers rows.transfers.items ledger.rising.transfers))
+        (new_transfer_row r) fresh_still (λ is. absurd (let never = not_timed in cc)) (λ is. absurd (let never = not_timed in cc))
 
-    module _ (later : List AccountRow) (more : List TransferRow) (is : later ≡ accounts_released_and_gained p.recorded r accounts) (added : more ≡ put transfer_row_key (new_transfer_row r) (replaced transfer_row_key (settled (state_given_by r) p) transfers)) where
-      pub books_with_resolver : books_of later more failed keeps_failed time ≡ record B { transfers = put transfer_key r B.transfers }
-      books_with_resolver = rw (is, added, map-put transfer_key (λ t. t.recorded) (new_transfer_row r) (replaced transfer_row_key (settled (state_given_by r) p) transfers), map-replaced transfer_row_key (λ t. t.recorded) (settled (state_given_by r) p) p transfers by_key refl, map-changed account_row_key (λ a. a.created) r.credit_account_id (on_credits (released_and_gained closing_credit p.recorded r)) (changed account_row_key r.debit_account_id (on_debits (released_and_gained closing_debit p.recorded r)) accounts) (λ y. refl), map-changed account_row_key (λ a. a.created) r.debit_account_id (on_debits (released_and_gained closing_debit p.recorded r)) accounts (λ y. refl)) refl
+    module _ (later : List AccountRow) (more : List TransferRow) (is : later ≡ accounts_released_and_gained p.recorded r rows.accounts.items) (added : more ≡ put transfer_row_key (new_transfer_row r) left) where
+      pub books_with_resolver : books_of later more rows.failed.items rows.keeps_failed rows.time ≡ record B { transfers = put transfer_key r B.transfers }
+      books_with_resolver = rw (is, added, map-put transfer_key (λ t. t.recorded) (new_transfer_row r) left, map-replaced transfer_row_key (λ t. t.recorded) (settled (state_given_by r) p) p rows.transfers.items by_key refl, map-changed account_row_key (λ a. a.created) r.credit_account_id (on_credits (released_and_gained closing_credit p.recorded r)) (changed account_row_key r.debit_account_id (on_debits (released_and_gained closing_debit p.recorded r)) rows.accounts.items) (λ y. refl), map-changed account_row_key (λ a. a.created) r.debit_account_id (on_debits (released_and_gained closing_debit p.recorded r)) rows.accounts.items (λ y. refl)) refl
 
-      pub ledger_with_resolver : (after : List Timeout) → IsIndex more after → transfer_at B r.id ≡ None → IsLedger later more failed keeps_failed after time
-      ledger_with_resolver after index fresh = record {
+      pub ledger_with_resolver : (after : List Timeout) → IsIndex more after → IsLedger later more rows.failed.items rows.keeps_failed after rows.time
+      ledger_with_resolver after index = record {
         kept = rw (is, added) (record {
-          sums = sums_resolved accounts transfers p r (state_given_by r) rising_accounts by_key it_holds over resolves_p.not_pending same_debit same_credit at_most ledger.kept.sums;
-          states = states_resolved transfers time p r ledger.kept.states by_key it_holds names is_resolver (rising_transfers transfers ledger.rising.transfers) resolves_p.not_pending;
+          sums = sums_resolved rows.accounts.items rows.transfers.items p r (state_given_by r) rising_accounts by_key it_holds over it.pending.not_pending same_debit same_credit at_most ledger.kept.sums;
+          states = states_resolved rows.transfers.items rows.time p r ledger.kept.states by_key it_holds names it.is_resolver (rising_transfers rows.transfers.items ledger.rising.transfers) it.pending.not_pending;
         });
         index = index;
         unused = ledger.unused;
-        sound = subst Sound (sym books_with_resolver) (sound_resolved B r ledger.sound is_resolver resolves_p);
-        rising = subst IdsRise (sym books_with_resolver) (rise_with B r fresh ledger.rising);
+        sound = subst Sound (sym books_with_resolver) (sound_resolved B r ledger.sound it.is_resolver it.pending);
+        rising = subst IdsRise (sym books_with_resolver) (rise_with B r it.fresh ledger.rising);
       }

@@ -1,16 +1,5 @@
 -- One side of the accounts: what each step of a ledger leaves of its sums.
-use Rattle.std.proofs.Common.{◌≡◌, ℕ, ◌+◌, ◌≤◌, Bool, true, false, not, ◌&&◌, if◌then◌else◌, eqb, leb, ◌==◌, List, find, sum_by, Option, Some, None, option_map, refl, sym, ap, subst, ◌∙◌, arith}
-use Rattle.std.proofs.lemmas.Bool.Decides.{nat_tests}
-use Rattle.std.proofs.lemmas.Bool.{and_parts, and_from}
-use Rattle.std.proofs.lemmas.List.Sums.{sum_by-le-sum_by}
-use Rattle.tb_records.specs.declared.records.Account.{Account}
-use Rattle.tb_records.specs.declared.records.Transfer.{Transfer}
-use Rattle.tb_records.specs.Ordered.{put, Each}
-use Rattle.tb_records.proofs.ByKey.{sum_by-put, find-put_other, find-put_none, found_key, each-put, each-map, each-find}
-use Rattle.tb_ledger.specs.declared.tables.transfers.State.TheVariants.{Posted, Voided}
-use Rattle.tb_ledger.specs.Books.{Books, pending, posts, voids, resolves, resolver, expires_at, is_due, state_by, state_of, is_open, holds, moves, account_at, transfer_at, pending_on, posted_on}
-use Rattle.tb_ledger.specs.Verdicts.{int_max}
-use Rattle.tb_ledger.specs.Sound.{account_key, transfer_key, ledger_at, SideKept}
+use Rattle.tb_ledger.proofs.Common.{◌≡◌, ℕ, ◌+◌, ◌≤◌, Bool, true, false, not, ◌&&◌, if◌then◌else◌, eqb, leb, ◌==◌, List, find, sum_by, Option, Some, None, option_map, refl, sym, ap, subst, ◌∙◌, arith, nat_tests, and_parts, and_from, sum_by-le-sum_by, Account, Transfer, put, Each, sum_by-put, find-put_other, find-put_none, found_key, each-put, each-map, each-find, Posted, Voided, Books, pending, posts, voids, resolves, resolver, expires_at, is_due, state_by, state_of, is_open, holds, moves, account_at, transfer_at, pending_on, posted_on, int_max, account_key, transfer_key, ledger_at, SideKept}
 use Rattle.tb_ledger.proofs.Sums.{sum_by-less, sum_by-none}
 
 -- open is: no resolver, and not due

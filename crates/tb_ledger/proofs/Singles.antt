@@ -1,14 +1,5 @@
 -- A transfer between two accounts that passes: what its record finds.
-use Rattle.std.proofs.Common.{◌≡◌, ℕ, ◌<◌, ◌≤◌, ◌==◌, true, false, List, find, None, option_map, ap, ◌∙◌}
-use Rattle.tb_records.specs.declared.records.Transfer.{Transfer}
-use Rattle.tb_ledger.specs.declared.tables.accounts.AccountRow.{AccountRow}
-use Rattle.tb_ledger.specs.declared.tables.rows.Rows.{Rows}
-use Rattle.tb_ledger.specs.Books.{account_now, resolves, transfer_at}
-use Rattle.tb_ledger.specs.Exchanges.{as_recorded, account_row_at, PassesIn}
-use Rattle.tb_ledger.specs.Kept.{books_in, row_now, times_out, new_transfer_row, CanList, IsKept}
-use Rattle.tb_ledger.specs.Noted.{Noted}
-use Rattle.tb_ledger.specs.Sound.{transfer_key}
-use Rattle.tb_ledger.specs.Verdicts.{first_of, id_code, pair_code, single_own_tests, transfer_verdict, recorded_transfer, balanced_between, int_max}
+use Rattle.tb_ledger.proofs.Common.{◌≡◌, ℕ, ◌<◌, ◌≤◌, ◌==◌, true, false, List, find, None, option_map, ap, ◌∙◌, Transfer, AccountRow, Rows, account_now, resolves, transfer_at, as_recorded, account_row_at, PassesIn, books_in, row_now, times_out, new_transfer_row, CanList, IsKept, Noted, transfer_key, first_of, id_code, pair_code, single_own_tests, transfer_verdict, recorded_transfer, balanced_between, int_max}
 use Rattle.tb_ledger.proofs.Accepted.{new_transfer}
 use Rattle.tb_ledger.proofs.FoundPairs.{FoundPair}
 use Rattle.tb_ledger.proofs.Index.{not_listed_yet}

@@ -1,23 +1,10 @@
 -- Sound books stay sound: at each event, at each entry, at each batch. Of sound books sums fit, limits hold, ledgers balance.
-use Rattle.std.proofs.Common.{◌≡◌, ◌≢◌, ℕ, ◌≤◌, Bool, true, false, if◌then◌else◌, ◌==◌, List, Option, Some, None, option_map, refl, sym, ap, subst, ◌∙◌, arith}
-use Rattle.std.specs.Option.{option_map_or}
-use Rattle.tb_records.specs.declared.records.Account.{Account}
-use Rattle.tb_records.specs.declared.records.Transfer.{Transfer}
-use Rattle.tb_records.specs.declared.limits.Profile.{Profile}
-use Rattle.tb_records.specs.declared.limits.Profile.TheVariants.{One, Two}
-use Rattle.tb_records.specs.Ordered.{put}
-use Rattle.tb_records.proofs.ByKey.{found_key, rising-put, each-put, each-find}
-use Rattle.tb_ledger.specs.Books.{Books, empty_books, debits_limited, credits_limited, resolves, stands_closed, account_at, account_now, as_it_stands, transfer_at, debit, credit}
-use Rattle.tb_ledger.specs.Verdicts.{account_verdict, recorded_account, transfer_verdict, recorded_transfer, filled, filled_from, balanced_between}
-use Rattle.tb_ledger.specs.Batches.{account_events, transfer_events, is_final, batch_after}
-use Rattle.tb_ledger.specs.Sound.{account_key, transfer_key, ledger_at, Sound}
-use Rattle.tb_ledger.specs.Limits.{KeepsLimits, Balances}
+use Rattle.tb_ledger.proofs.Common.{◌≡◌, ◌≢◌, ℕ, ◌≤◌, Bool, true, false, if◌then◌else◌, ◌==◌, List, Option, Some, None, option_map, refl, sym, ap, subst, ◌∙◌, arith, option_map_or, Account, Transfer, Profile, One, Two, put, found_key, rising-put, each-put, each-find, Books, empty_books, debits_limited, credits_limited, resolves, stands_closed, account_at, account_now, as_it_stands, transfer_at, debit, credit, account_verdict, recorded_account, transfer_verdict, recorded_transfer, filled, filled_from, balanced_between, account_events, transfer_events, is_final, batch_after, account_key, transfer_key, ledger_at, Sound, KeepsLimits, Balances, FoundPending}
 use Rattle.tb_ledger.proofs.Accepted.{flag_stays, new_account, found_pair, found_pending, found_stamped}
 use Rattle.tb_ledger.proofs.Sides.{kept_later, kept_account, kept_added, kept_resolved}
 use Rattle.tb_ledger.proofs.BatchLaws.{batch_kept}
 use Rattle.tb_ledger.proofs.LedgerSums.{ledgers_balance}
 use Rattle.tb_ledger.proofs.FoundPairs.{FoundPair}
-use Rattle.tb_ledger.specs.Found.{FoundPending}
 
 -- new books
 pub sound_empty : (profile : Profile) → Sound (empty_books profile)

@@ -1,14 +1,5 @@
 -- A row is the account, or the transfer, as it stands in the books.
-use Rattle.std.proofs.Common.{◌≡◌, ℕ, ◌+◌, Bool, true, false, ◌&&◌, ◌||◌, eqb, ◌==◌, List, [], ◌∷◌, map, find, sum_by, if◌then◌else◌, Some, option_map, refl, sym, ap, ◌∙◌, arith}
-use Rattle.std.specs.List.{list_any}
-use Rattle.std.proofs.lemmas.List.Sums.{sum_by-cons}
-use Rattle.tb_records.specs.declared.records.Transfer.{Transfer}
-use Rattle.tb_records.specs.Ordered.{Each}
-use Rattle.tb_records.proofs.ByKey.{sum_by-same, sum_by-through, find-map, found_key, each-map, each-find}
-use Rattle.tb_ledger.specs.declared.tables.accounts.AccountRow.{AccountRow}
-use Rattle.tb_ledger.specs.declared.tables.transfers.TransferRow.{TransferRow}
-use Rattle.tb_ledger.specs.Books.{Books, closed, pending, moves, is_open, holds, state_of, closing_debit, closing_credit, stands_closed, as_it_stands, account_at, account_now, debit, credit, pending_on, posted_on}
-use Rattle.tb_ledger.specs.Kept.{account_row_key, books_of, row_closed, row_now, row_holds, bit, pending_share, posted_share, closing_share, HasSums, HasState, CanTake}
+use Rattle.tb_ledger.proofs.Common.{◌≡◌, ℕ, ◌+◌, Bool, true, false, ◌&&◌, ◌||◌, eqb, ◌==◌, List, [], ◌∷◌, map, find, sum_by, if◌then◌else◌, Some, option_map, refl, sym, ap, ◌∙◌, arith, list_any, sum_by-cons, Transfer, Each, sum_by-same, sum_by-through, find-map, found_key, each-map, each-find, AccountRow, TransferRow, Books, closed, pending, moves, is_open, holds, state_of, closing_debit, closing_credit, stands_closed, as_it_stands, account_at, account_now, debit, credit, pending_on, posted_on, account_row_key, books_of, row_closed, row_now, row_holds, bit, pending_share, posted_share, closing_share, HasSums, HasState, CanTake}
 use Rattle.tb_ledger.proofs.FoundPairs.{FoundPair}
 
 -- a bit that counts how many there are says whether there is one

@@ -1,13 +1,5 @@
 -- The states of pending transfers, as rows carry them, after a transfer is recorded.
-use Rattle.std.proofs.Common.{◌≡◌, ◌≢◌, ℕ, ◌+◌, ◌*◌, ◌<◌, Bool, true, false, cond, not, ◌&&◌, eqb, leb, ◌==◌, List, [], ◌∷◌, map, find, Option, Some, None, is_some, IsSome, refl, sym, ap, subst, ◌∙◌, arith}
-use Rattle.std.proofs.lemmas.Bool.Decides.{nat_tests}
-use Rattle.tb_records.specs.declared.records.Transfer.{Transfer}
-use Rattle.tb_records.specs.Ordered.{put, replaced, Each, Rising}
-use Rattle.tb_records.proofs.ByKey.{each-map, each-put, each-replaced, each-through, each-find, none-found, find-put_other, find-put_here, find-put_none, map-put, map-replaced}
-use Rattle.tb_ledger.specs.declared.tables.transfers.TransferRow.{TransferRow}
-use Rattle.tb_ledger.specs.Books.{pending, resolves, is_open, is_due, state_by, state_of}
-use Rattle.tb_ledger.specs.Sound.{transfer_key}
-use Rattle.tb_ledger.specs.Kept.{transfer_row_key, row_holds, books_at, HasState, settled, new_transfer_row, state_given_by}
+use Rattle.tb_ledger.proofs.Common.{◌≡◌, ◌≢◌, ℕ, ◌+◌, ◌*◌, ◌<◌, Bool, true, false, cond, not, ◌&&◌, eqb, leb, ◌==◌, List, [], ◌∷◌, map, find, Option, Some, None, is_some, IsSome, refl, sym, ap, subst, ◌∙◌, arith, nat_tests, Transfer, put, replaced, Each, Rising, each-map, each-put, each-replaced, each-through, each-find, none-found, find-put_other, find-put_here, find-put_none, map-put, map-replaced, TransferRow, pending, resolves, is_open, is_due, state_by, state_of, transfer_key, transfer_row_key, row_holds, books_at, HasState, settled, new_transfer_row, state_given_by}
 use Rattle.tb_ledger.proofs.Parts.{both_hold}
 use Rattle.tb_ledger.proofs.Sides.{open_parts}
 

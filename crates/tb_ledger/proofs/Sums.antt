@@ -1,7 +1,5 @@
 -- Sums over records.
-use Rattle.std.proofs.Common.{◌≡◌, ℕ, ◌+◌, ◌≤◌, Bool, true, false, cond, List, [], ◌∷◌, find, sum_by, Some, refl, ap, arith}
-use Rattle.std.proofs.lemmas.List.Sums.{sum_by-cons, sum_by-le-sum_by}
-use Rattle.tb_records.specs.Ordered.{Each}
+use Rattle.tb_ledger.proofs.Common.{◌≡◌, ℕ, ◌+◌, ◌≤◌, Bool, true, false, cond, List, [], ◌∷◌, find, sum_by, Some, refl, ap, arith, sum_by-cons, sum_by-le-sum_by, Each}
 
 -- less by n at a record that is found, and nowhere more
 pub sum_by-less : {X : Type 0} (f g : X → ℕ) (n : ℕ) (q : X → Bool) (p : X) (xs : List X) → ((x : X) → f x ≤ g x) → f p + n ≤ g p → find q xs ≡ Some p → sum_by f xs + n ≤ sum_by g xs

@@ -1,32 +1,8 @@
 -- The verdicts, by the rows that are found.
-use Rattle.std.proofs.Common.{◌≡◌, ◌≢◌, ℕ, suc, zero, eqb, ◌==◌, ◌||◌, ◌&&◌, Bool, true, false, List, [], ◌∷◌, find, is_some, IsSome, Option, Some, None, option_map, if◌then◌else◌, refl, sym, ap, ap₂, subst, ◌∙◌, arith, Bor, not, bit_or}
-use Rattle.std.proofs.lemmas.Bool.Decides.{nat_tests}
-use Rattle.std.specs.List.{list_any}
-use Rattle.std.specs.Option.{option_map_or, option_copied}
-use Rattle.tb_records.specs.declared.records.Account.{Account}
-use Rattle.tb_records.specs.declared.records.Transfer.{Transfer}
-use Rattle.tb_records.specs.declared.account_results.CreateAccountResult.{CreateAccountResult}
-use Rattle.tb_records.specs.declared.transfer_results.CreateTransferResult.{CreateTransferResult}
-use Rattle.tb_records.specs.declared.transfer_results.CreateTransferResult.TheVariants.{PendingTransferNotFound}
-use Rattle.tb_records.specs.AccountResults.{account_result_code}
-use Rattle.tb_records.specs.TransferResults.{transfer_result_code}
-use Rattle.tb_ledger.specs.Books.{Books, has, closed, posts, resolves, pending, transfer_at, account_now, as_it_stands, state_of, debit, credit}
-use Rattle.tb_ledger.specs.Verdicts.{recorded_transfer, Test, closed_tests, closed_at, named_tests, named_code, resolve_own_tests, resolve_code, transfer_verdict, first_of, first_code, account_own_tests, account_exists_tests, account_new_tests, account_verdict, transfer_own_tests, transfer_exists_tests, failed_tests, filled, filled_from, single_own_tests, balanced_amount, balanced_between, single_code, pair_code, id_code, closed_tests}
-use Rattle.tb_ledger.specs.declared.tables.rows.Rows.{Rows}
-use Rattle.tb_ledger.specs.Kept.{books_in, IsKept, row_now, row_closed, HasSums, HasState}
-use Rattle.tb_records.proofs.ByKey.{find-map, each-find}
-use Rattle.tb_ledger.specs.declared.tables.accounts.AccountRow.{AccountRow}
+use Rattle.tb_ledger.proofs.Common.{◌≡◌, ◌≢◌, ℕ, suc, zero, eqb, ◌==◌, ◌||◌, ◌&&◌, Bool, true, false, List, [], ◌∷◌, find, is_some, Option, Some, None, option_map, if◌then◌else◌, refl, sym, ap, ap₂, subst, ◌∙◌, arith, Bor, not, bit_or, nat_tests, list_any, option_map_or, option_copied, Account, Transfer, CreateAccountResult, CreateTransferResult, PendingTransferNotFound, account_result_code, transfer_result_code, Books, has, closed, posts, resolves, pending, transfer_at, account_now, as_it_stands, state_of, recorded_transfer, Test, closed_tests, closed_at, named_tests, named_code, resolve_own_tests, resolve_code, transfer_verdict, first_of, first_code, account_own_tests, account_exists_tests, account_new_tests, account_verdict, transfer_own_tests, transfer_exists_tests, failed_tests, filled, filled_from, single_own_tests, balanced_amount, balanced_between, single_code, pair_code, id_code, Rows, books_in, IsKept, row_now, row_closed, HasSums, HasState, find-map, each-find, AccountRow, and_or_self, State, TransferRow, FoundPending, account_row_at, closed_code}
 use Rattle.tb_ledger.proofs.Standing.{row_stands}
-use Rattle.std.proofs.lemmas.Nat.{and_or_self}
-use Rattle.tb_ledger.specs.declared.tables.transfers.State.{State}
-use Rattle.tb_ledger.specs.declared.tables.transfers.TransferRow.{TransferRow}
 use Rattle.tb_ledger.proofs.Accepted.{fail, found_from, found_pair, found_pending, found_stamped}
-use Rattle.tb_records.specs.Ordered.{Each}
-use Rattle.tb_ledger.specs.Sound.{ledger_at}
 use Rattle.tb_ledger.proofs.FoundPairs.{FoundPair}
-use Rattle.tb_ledger.specs.Found.{FoundPending}
-use Rattle.tb_ledger.specs.Exchanges.{account_row_at}
-use Rattle.tb_ledger.specs.Settlings.{closed_code}
 
 -- an id is found among ids
 pub any-found : {X : Type 0} (p : X → Bool) (xs : List X) → list_any p xs ≡ is_some (find p xs)
@@ -121,30 +97,6 @@ closed_by_rows rows kept t p d c d_is c_is code is =
     let debit = closed_stands_at rows kept p.debit_account_id ∙ ap (λ o. option_map_or row_closed o false) d_is in
     let credit = closed_stands_at rows kept p.credit_account_id ∙ ap (λ o. option_map_or row_closed o false) c_is in
     is ∙ sym (ap (λ b. first_of (closed_tests t b (closed_at (books_in rows) p.credit_account_id))) debit ∙ ap (λ b. first_of (closed_tests t (row_closed d) b)) credit)
-
--- the account that a recorded transfer names is there
-some_from : {X Y : Type 0} (g : X → Y) (y : Y) (o : Option X) → option_map g o ≡ Some y → IsSome o
-some_from g y None is = absurd (cc)
-some_from g y (Some x) is = refl
-
-named_there : {A : Type 0} (rows : Rows A) (side : Transfer → ℕ) → Each (λ t. ledger_at (books_in rows).accounts (side t) ≡ Some t.ledger) (books_in rows).transfers
-    → (id : ℕ) (p : TransferRow) → find (λ row. row.recorded.id == id) rows.transfers.items ≡ Some p → IsSome (find (λ a. a.created.id == side p.recorded) rows.accounts.items)
-named_there rows side named id p found =
-    let recorded = transfer_stands rows id ∙ ap (option_map (λ t. t.recorded)) found in
-    let ledger = each-find (λ t. ledger_at (books_in rows).accounts (side t) ≡ Some t.ledger) (λ t. t.id == id) p.recorded (books_in rows).transfers named recorded in
-    let there = some_from (λ a. a.ledger) p.recorded.ledger (find (λ a. a.id == side p.recorded) (books_in rows).accounts) ledger in
-    let row = subst IsSome (find-map (λ a. a.id == side p.recorded) (λ a. a.created) rows.accounts.items) there in
-    unmapped (find (λ a. a.created.id == side p.recorded) rows.accounts.items) row
-  where
-    unmapped : (o : Option AccountRow) → IsSome (option_map (λ a. a.created) o) → IsSome o
-    unmapped None is = is
-    unmapped (Some a) is = refl
-
-pub debit_there : {A : Type 0} (rows : Rows A) → IsKept rows → (id : ℕ) (p : TransferRow) → find (λ row. row.recorded.id == id) rows.transfers.items ≡ Some p → IsSome (find (λ a. a.created.id == p.recorded.debit_account_id) rows.accounts.items)
-debit_there rows kept id p found = named_there rows debit kept.sound.debits.named id p found
-
-pub credit_there : {A : Type 0} (rows : Rows A) → IsKept rows → (id : ℕ) (p : TransferRow) → find (λ row. row.recorded.id == id) rows.transfers.items ≡ Some p → IsSome (find (λ a. a.created.id == p.recorded.credit_account_id) rows.accounts.items)
-credit_there rows kept id p found = named_there rows credit kept.sound.credits.named id p found
 
 -- tests behind the first
 abbrev later : List Test → List Test

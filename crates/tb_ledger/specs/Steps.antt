@@ -10,8 +10,8 @@ use Rattle.tb_ledger.specs.Books.{Books, resolves, transfer_at}
 use Rattle.tb_ledger.specs.Capacity.{Capacity, capacity_of, Uses}
 use Rattle.tb_ledger.specs.Found.{FoundPending, Judges}
 use Rattle.tb_ledger.specs.Kept.{books_in, IsKept, PrecedesTimeouts}
-use Rattle.tb_ledger.specs.Noted.{Noted, HasCapacityFor}
-use Rattle.tb_ledger.specs.UndoLog.{Grows, LeadsBack, unwound_accounts, unwound_transfers, unwound_timeouts}
+use Rattle.tb_ledger.specs.Noted.{HasCapacityFor}
+use Rattle.tb_ledger.specs.UndoLog.{Grows, LeadsBack, chained}
 
 -- ready for one event with the stamp
 pub record IsPrepared {A : Type 0} (HasCapacity : ℕ → Capacity → Type 0) (work : Work A) (stamp : ℕ) : Type 0 where
@@ -32,7 +32,7 @@ pub record IsPreparedFor {A : Type 0} (HasCapacity : ℕ → Capacity → Type 0
 -- after one event: rows that are kept, from which the log leads back; failed ids, the time and the results so far stay
 pub record Leaves {A : Type 0} (work later : Work A) : Type 0 where
   pub kept : IsKept later.rows
-  pub grows : Grows UNDOS_PER_EVENT (LeadsBack work.rows later.rows) work.undo_log later.undo_log
+  pub grows : Grows UNDOS_PER_EVENT (LeadsBack (chained work.rows) (chained later.rows)) work.undo_log later.undo_log
   pub failed : later.rows.failed ≡ work.rows.failed
   pub time : later.rows.time ≡ work.rows.time
   pub capacity : Uses 1 (capacity_of work.rows) (capacity_of later.rows)
@@ -82,14 +82,3 @@ pub record KeepsRecords {A : Type 0} (rows later : Rows A) : Type 0 where
   pub timeouts_capacity : rows.timeouts.spare ≤ later.timeouts.spare
   pub failed : later.failed ≡ rows.failed
   pub keeps_failed : later.keeps_failed ≡ rows.keeps_failed
-
--- the changes of a log are undone: each table is as before them, and no capacity is lost
-pub record IsUnwound {A : Type 0} (noted : Noted) (rows later : Rows A) : Type 0 where
-  pub accounts : later.accounts.items ≡ unwound_accounts noted.changes rows.accounts.items
-  pub transfers : later.transfers.items ≡ unwound_transfers noted.changes rows.transfers.items
-  pub timeouts : later.timeouts ≡ unwound_timeouts noted.changes rows.timeouts
-  pub accounts_capacity : rows.accounts.spare ≤ later.accounts.spare
-  pub transfers_capacity : rows.transfers.spare ≤ later.transfers.spare
-  pub failed : later.failed ≡ rows.failed
-  pub keeps_failed : later.keeps_failed ≡ rows.keeps_failed
-  pub time : later.time ≡ rows.time

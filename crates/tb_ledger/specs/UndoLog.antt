@@ -13,71 +13,51 @@ use Rattle.tb_ledger.specs.Verdicts.{max_time}
 use Rattle.tb_ledger.specs.Tables.{Stored}
 use Rattle.tb_ledger.specs.Noted.{Noted}
 
-abbrev pub undo_account : Undo → List AccountRow → List AccountRow
-undo_account (Account row) rows = replaced account_row_key row rows
-undo_account (Transfer row) rows = rows
-undo_account (AddedAccount id) rows = taken_out account_row_key id rows
-undo_account (AddedTransfer row) rows = rows
+-- what the events of a chain change: the rows of accounts and of transfers, the timeouts and their spare rows
+pub record Chained : Type 0 where
+  pub accounts : List AccountRow
+  pub transfers : List TransferRow
+  pub timeouts : Stored Timeout
 
-abbrev pub undo_transfer : Undo → List TransferRow → List TransferRow
-undo_transfer (Account row) rows = rows
-undo_transfer (Transfer row) rows = replaced transfer_row_key row rows
-undo_transfer (AddedAccount id) rows = rows
-undo_transfer (AddedTransfer row) rows = taken_out transfer_row_key row.recorded.id rows
+abbrev pub chained : {A : Type 0} → Rows A → Chained
+chained rows = record { accounts = rows.accounts.items; transfers = rows.transfers.items; timeouts = rows.timeouts }
 
--- the accounts before the changes of a log
-abbrev pub unwound_accounts : List Undo → List AccountRow → List AccountRow
-unwound_accounts [] rows = rows
-unwound_accounts (u ∷ us) rows = undo_account u (unwound_accounts us rows)
+-- as it was before a change
+abbrev pub undone_by : Undo → Chained → Chained
+undone_by (Account row) x = record x { accounts = replaced account_row_key row x.accounts }
+undone_by (Transfer row) x = record x { transfers = replaced transfer_row_key row x.transfers; timeouts = listed row x.timeouts }
+undone_by (AddedAccount id) x = record x { accounts = taken_out account_row_key id x.accounts }
+undone_by (AddedTransfer row) x = record x { transfers = taken_out transfer_row_key row.recorded.id x.transfers; timeouts = unlisted row x.timeouts }
 
--- the transfers before the changes of a log
-abbrev pub unwound_transfers : List Undo → List TransferRow → List TransferRow
-unwound_transfers [] rows = rows
-unwound_transfers (u ∷ us) rows = undo_transfer u (unwound_transfers us rows)
-
--- of timeouts and their spare rows
-abbrev pub undo_timeouts : Undo → Stored Timeout → Stored Timeout
-undo_timeouts (Account row) ts = ts
-undo_timeouts (Transfer row) ts = listed row ts
-undo_timeouts (AddedAccount id) ts = ts
-undo_timeouts (AddedTransfer row) ts = unlisted row ts
-
--- the timeouts before the changes of a log
-abbrev pub unwound_timeouts : List Undo → Stored Timeout → Stored Timeout
-unwound_timeouts [] ts = ts
-unwound_timeouts (u ∷ us) ts = undo_timeouts u (unwound_timeouts us ts)
+-- before the changes of a log
+abbrev pub unwound : List Undo → Chained → Chained
+unwound [] x = x
+unwound (u ∷ us) x = undone_by u (unwound us x)
 
 -- a timeout that comes back has capacity
-abbrev pub CanUndo : Undo → Stored Timeout → Type 0
-CanUndo (Account row) ts = Unit {0}
-CanUndo (Transfer row) ts = times_out row ≡ true → CanList row ts
-CanUndo (AddedAccount id) ts = Unit {0}
-CanUndo (AddedTransfer row) ts = times_out row ≡ true → expires_at row.recorded ≤ max_time
+abbrev pub CanUndo : Undo → Chained → Type 0
+CanUndo (Account row) x = Unit {0}
+CanUndo (Transfer row) x = times_out row ≡ true → CanList row x.timeouts
+CanUndo (AddedAccount id) x = Unit {0}
+CanUndo (AddedTransfer row) x = times_out row ≡ true → expires_at row.recorded ≤ max_time
 
-abbrev pub CanUnwind : List Undo → Stored Timeout → Type 0
-CanUnwind [] ts = Unit {0}
-CanUnwind (u ∷ us) ts = CanUndo u (unwound_timeouts us ts) × CanUnwind us ts
+abbrev pub CanUnwind : List Undo → Chained → Type 0
+CanUnwind [] x = Unit {0}
+CanUnwind (u ∷ us) x = CanUndo u (unwound us x) × CanUnwind us x
 
--- from the accounts after some changes the longer list leads back to where the shorter one does
-pub record AccountsLeadBack (accounts later : List AccountRow) (changes more : List Undo) : Type 0 where
-  pub undo_accounts : unwound_accounts more later ≡ unwound_accounts changes accounts
-  pub undo_transfers : (transfers : List TransferRow) → unwound_transfers more transfers ≡ unwound_transfers changes transfers
-  pub undo_timeouts : (ts : Stored Timeout) → unwound_timeouts more ts ≡ unwound_timeouts changes ts
-  pub can_unwind : (ts : Stored Timeout) → CanUnwind changes ts → CanUnwind more ts
+-- from what some changes made of x the longer list leads back to where the shorter one does from x
+pub record LeadsBack (x later : Chained) (changes more : List Undo) : Type 0 where
+  pub undone : unwound more later ≡ unwound changes x
+  pub can_unwind : CanUnwind changes x → CanUnwind more later
 
--- the same of transfers, and their timeouts with them
-pub record TransfersLeadBack (transfers later : List TransferRow) (ts ts_later : Stored Timeout) (changes more : List Undo) : Type 0 where
-  pub undo_accounts : (accounts : List AccountRow) → unwound_accounts more accounts ≡ unwound_accounts changes accounts
-  pub undo_transfers : unwound_transfers more later ≡ unwound_transfers changes transfers
-  pub undo_timeouts : unwound_timeouts more ts_later ≡ unwound_timeouts changes ts
-  pub can_unwind : CanUnwind changes ts → CanUnwind more ts_later
-
--- the same of all rows
-pub record LeadsBack {A : Type 0} (rows later : Rows A) (changes more : List Undo) : Type 0 where
-  pub undo_accounts : unwound_accounts more later.accounts.items ≡ unwound_accounts changes rows.accounts.items
-  pub undo_transfers : unwound_transfers more later.transfers.items ≡ unwound_transfers changes rows.transfers.items
-  pub undo_timeouts : unwound_timeouts more later.timeouts ≡ unwound_timeouts changes rows.timeouts
-  pub can_unwind : CanUnwind changes rows.timeouts → CanUnwind more later.timeouts
+-- changes are undone: what a chain changes is as x says, no capacity is lost, and all else stays
+pub record IsUndoneTo {A : Type 0} (x : Chained) (rows later : Rows A) : Type 0 where
+  pub undone : chained later ≡ x
+  pub accounts_capacity : rows.accounts.spare ≤ later.accounts.spare
+  pub transfers_capacity : rows.transfers.spare ≤ later.transfers.spare
+  pub failed : later.failed ≡ rows.failed
+  pub keeps_failed : later.keeps_failed ≡ rows.keeps_failed
+  pub time : later.time ≡ rows.time
 
 -- no more than n changes were added, and where they are noted at all they lead back
 pub record Grows (n : ℕ) (back : List Undo → List Undo → Type 0) (undo_log grown : Noted) : Type 0 where
@@ -88,8 +68,8 @@ pub record Grows (n : ℕ) (back : List Undo → List Undo → Type 0) (undo_log
 
 -- accounts changed, with n records more at most that lead back
 abbrev pub IsNoted : ℕ → List AccountRow → List AccountRow → Noted → Noted → Type 0
-IsNoted n accounts later = Grows n (AccountsLeadBack accounts later)
+IsNoted n accounts later = Grows n (λ us vs. (x : Chained) → LeadsBack (record x { accounts = accounts }) (record x { accounts = later }) us vs)
 
 -- a transfer's row changed or added, and its timeout with it, with n records more at most that lead back
 abbrev pub IsMarked : ℕ → List TransferRow → List TransferRow → Stored Timeout → Stored Timeout → Noted → Noted → Type 0
-IsMarked n transfers later ts ts_later = Grows n (TransfersLeadBack transfers later ts ts_later)
+IsMarked n transfers later ts ts_later = Grows n (λ us vs. (accounts : List AccountRow) → LeadsBack (record { accounts = accounts; transfers = transfers; timeouts = ts }) (record { accounts = accounts; transfers = later; timeouts = ts_later }) us vs)

@@ -1,14 +1,12 @@
 //! An account is judged, and added where it is accepted.
 ghost use Rattle.std.specs.Prelude.{◌≡◌, ◌<◌, ◌==◌, length, ◌-◌, find, None};
 ghost use Rattle.tb_ledger.specs.Batches.{account_events};
-ghost use Rattle.tb_ledger.specs.Books.{account_at};
 ghost use Rattle.tb_records.specs.AccountResults.{account_result_code};
 ghost use Rattle.tb_ledger.specs.Capacity.{HasAccounts};
-ghost use Rattle.tb_ledger.specs.Kept.{books_in, account_row_key, blank, new_row};
+ghost use Rattle.tb_ledger.specs.Kept.{account_row_key, blank, new_row};
 ghost use Rattle.tb_ledger.specs.UndoLog.{IsNoted};
-ghost use Rattle.tb_ledger.specs.Steps.{IsPrepared, Leaves, Takes};
+ghost use Rattle.tb_ledger.specs.Steps.{IsPrepared, Takes};
 ghost use Rattle.tb_records.specs.Ordered.{put};
-ghost use Rattle.tb_ledger.specs.Sound.{Sound, account_key};
 
 use crate::tables::accounts::AccountRow;
 use crate::tables::map::Table;
@@ -30,24 +28,8 @@ pub(crate) fn take_account<A: Allocator + Clone>(
     judge_account(&work.rows, a)?;
     let mut recorded = *a;
     recorded.timestamp = time;
-    record_account(work, &recorded);
+    add_account_row(&mut work.rows.accounts, &mut work.undo_log, &recorded);
     Ok(())
-}
-
-/// Adds an account as it is recorded.
-fn record_account<A: Allocator + Clone>(work: &mut Work<A>, a: &Account)
-    requires ready { IsPrepared HasAccounts work.old a.now.timestamp }
-    requires fresh { account_at (books_in work.old.rows) a.now.id ≡ None }
-    requires plain { a.now ≡ blank a.now }
-    requires sound { Sound
-        (record (books_in work.old.rows)
-        { accounts = put account_key a.now (books_in work.old.rows).accounts }) }
-    ensures books { books_in work.new.rows
-        ≡ record (books_in work.old.rows)
-        { accounts = put account_key a.now (books_in work.old.rows).accounts } }
-    ensures leaves { Leaves work.old work.new }
-{
-    add_account_row(&mut work.rows.accounts, &mut work.undo_log, a);
 }
 
 /// Adds the row of an account: no transfer names it yet.

@@ -1,7 +1,6 @@
 //! The undo log of a chain's changes, by which a chain that breaks is undone.
 ghost use Rattle.std.specs.Prelude.{◌≡◌, ◌*◌, ◌+◌, ◌<◌, ◌≤◌, ◌++◌, false, [], ◌∷◌, length, OnOk, IfSome, IfNone};
-ghost use Rattle.tb_ledger.specs.UndoLog.{CanUnwind};
-ghost use Rattle.tb_ledger.specs.Steps.{IsUnwound};
+ghost use Rattle.tb_ledger.specs.UndoLog.{chained, undone_by, unwound, CanUndo, CanUnwind, IsUndoneTo};
 ghost use Rattle.tb_ledger.specs.Noted.{with_noted, NotesPair};
 
 use crate::tables::accounts::AccountRow;
@@ -169,24 +168,32 @@ impl<A: Allocator + Clone> UndoLog<A> {
     }
 }
 
+/// Undoes a change. No memory is taken.
+fn undo_one<A: Allocator + Clone>(rows: &mut Rows<A>, undo: Undo)
+    requires { CanUndo undo (chained rows.old) }
+    ensures { IsUndoneTo (undone_by undo (chained rows.old)) rows.old rows.new }
+{
+    match undo {
+        Undo::Account(row) => rows.accounts.replace(row),
+        Undo::Transfer(row) => {
+            rows.transfers.replace(row);
+            list(&mut rows.timeouts, &row);
+        }
+        Undo::AddedAccount(id) => rows.accounts.remove(id),
+        Undo::AddedTransfer(row) => {
+            rows.transfers.remove(row.key());
+            unlist(&mut rows.timeouts, &row);
+        }
+    }
+}
+
 /// Undoes the changes of the undo log, the last first. No memory is taken.
 pub fn unwind<A: Allocator + Clone>(rows: &mut Rows<A>, undo_log: &mut UndoLog<A>)
-    requires { CanUnwind undo_log.old.changes rows.old.timeouts }
-    ensures unwound { IsUnwound undo_log.old rows.old rows.new }
+    requires { CanUnwind undo_log.old.changes (chained rows.old) }
+    ensures unwound { IsUndoneTo (unwound undo_log.old.changes (chained rows.old)) rows.old rows.new }
     ensures capacity { undo_log.new.capacity ≡ undo_log.old.capacity }
 {
     while let Some(undo) = undo_log.pop() {
-        match undo {
-            Undo::Account(row) => rows.accounts.replace(row),
-            Undo::Transfer(row) => {
-                rows.transfers.replace(row);
-                list(&mut rows.timeouts, &row);
-            }
-            Undo::AddedAccount(id) => rows.accounts.remove(id),
-            Undo::AddedTransfer(row) => {
-                rows.transfers.remove(row.key());
-                unlist(&mut rows.timeouts, &row);
-            }
-        }
+        undo_one(rows, undo);
     }
 }

@@ -1,11 +1,6 @@
-use Rattle.std.proofs.Common.{◌≡◌, ◌<◌, ◌+◌, ◌++◌, length, subst, sym, ap, ◌∙◌, arith}
-use Rattle.std.proofs.lemmas.Bool.Decides.{nat_tests}
-use Rattle.tb_ledger.specs.Batches.{blocks, block_after, blocks_after, timed_from, results_from}
-use Rattle.tb_ledger.specs.Capacity.{capacity_of}
-use Rattle.tb_ledger.specs.Steps.{IsPreparedFor}
-use Rattle.tb_ledger.specs.Kept.{books_in}
+use Rattle.tb_ledger.proofs.Common.{◌≡◌, ◌<◌, ◌+◌, ◌++◌, length, sym, ap, ◌∙◌, arith, nat_tests, blocks, block_after, blocks_after, timed_from, results_from, capacity_of, IsPreparedFor, books_in}
 use Rattle.tb_ledger.proofs.BlockLaws.{length-codes, length-timed_from}
-use Rattle.tb_ledger.proofs.Capacities.{uses_none}
+use Rattle.tb_ledger.proofs.Capacities.{has_left, uses_none}
 use Rattle.tb_ledger.proofs.ResultLaws.{blocks-round, results-round}
 use Rattle.tb_ledger.proofs.batches.run_batch.Goals as goal
 
@@ -37,7 +32,7 @@ loop-rest-preserved g c =
       kept = r.leaves.kept;
       time = r.leaves.time ∙ v.time;
       log = r.leaves.log ∙ v.log;
-      capacity = g.met.E.Event.leaves_rest (length block) (length later) (capacity_of c.loop-rest.work.rows) (capacity_of c.run_block.new.work.rows) (subst (λ k. g.E.Event.HasCapacity k (capacity_of c.loop-rest.work.rows)) parts v.capacity) r.leaves.capacity;
+      capacity = has_left g.E.Event.HasCapacity g.met.E.Event.leaves_rest (length block) (length later) (length rest) (capacity_of c.loop-rest.work.rows) (capacity_of c.run_block.new.work.rows) (omega (arith, parts)) v.capacity r.leaves.capacity;
       results_len = omega (arith, r.leaves.results_len, v.results_len);
       results_capacity = r.leaves.results_capacity ∙ v.results_capacity;
     }
@@ -54,7 +49,7 @@ run_block-requires-clause-ready g c =
     let parts : length rest ≡ length later + length block = omega (arith, cut.front_len, cut.back_len) in
     let its : IsPreparedFor g.E.Event.HasCapacity (length block) c.loop-rest.work c.loop-rest.stamp = record {
       kept = v.kept;
-      capacity = g.met.E.Event.leaves_rest (length later) (length block) (capacity_of rows) (capacity_of rows) (subst (λ k. g.E.Event.HasCapacity k (capacity_of rows)) parts v.capacity) (uses_none (length later) (capacity_of rows));
+      capacity = has_left g.E.Event.HasCapacity g.met.E.Event.leaves_rest 0 (length block) (length rest) (capacity_of rows) (capacity_of rows) (omega (arith, parts)) v.capacity (uses_none 0 (capacity_of rows));
       stamped = omega (arith, ready.stamped, v.time, v.stamp);
       in_range = omega (arith, ready.in_range, parts, v.left, v.stamp);
       log = omega (arith, ready.log, parts, v.left, v.log);

@@ -1,7 +1,4 @@
-use Rattle.std.proofs.Common.{◌≡◌, ◌+◌, ◌≤◌, ◌++◌, length}
-use Rattle.tb_ledger.specs.Batches.{blocks, blocks_after, timed_from, results_from}
-use Rattle.tb_ledger.specs.Capacity.{capacity_of}
-use Rattle.tb_ledger.specs.Kept.{books_in, IsKept}
+use Rattle.tb_ledger.proofs.Common.{◌≡◌, ◌+◌, ◌≤◌, ◌++◌, length, blocks, blocks_after, timed_from, results_from, capacity_of, books_in, IsKept}
 use Rattle.tb_ledger.proofs.batches.run_batch.Given as goal
 
 abbrev pub invariant-loop-rest : goal.invariant-loop-rest

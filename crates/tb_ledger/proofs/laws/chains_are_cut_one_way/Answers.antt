@@ -1,4 +1,4 @@
-use Rattle.tb_ledger.specs.Batches.{account_events, transfer_events}
+use Rattle.tb_ledger.proofs.Common.{account_events, transfer_events}
 use Rattle.tb_ledger.proofs.CuttingLaws.{cuts_one_way}
 use Rattle.tb_ledger.proofs.laws.chains_are_cut_one_way.Goals as goal
 

@@ -1,5 +1,4 @@
-use Rattle.std.proofs.Common.{◌≡◌, ◌+◌, length, ap, subst, arith}
-use Rattle.tb_ledger.specs.Capacity.{capacity_of}
+use Rattle.tb_ledger.proofs.Common.{◌≡◌, ◌+◌, length, ap, subst, arith, capacity_of}
 use Rattle.tb_ledger.proofs.Capacities.{uses_kept}
 use Rattle.tb_ledger.proofs.ledgers.enter_within.Goals as goal
 

@@ -1,6 +1,4 @@
-use Rattle.std.proofs.Common.{◌≡◌, ◌+◌, ◌≤◌, ◌++◌, length, drop, vec_len, vec_capacity}
-use Rattle.std.specs.List.{filter_map}
-use Rattle.tb_ledger.specs.Lookups.{found_in}
+use Rattle.tb_ledger.proofs.Common.{◌≡◌, ◌+◌, ◌≤◌, ◌++◌, length, drop, vec_len, vec_capacity, filter_map, found_in}
 use Rattle.tb_ledger.proofs.lookups.fill.Given as goal
 
 abbrev pub invariant-loop-id : goal.invariant-loop-id

@@ -1,7 +1,4 @@
-use Rattle.std.proofs.Common.{◌≡◌, ◌++◌, ◌==◌, find, append_assoc, sym, ap, ◌∙◌, arith}
-use Rattle.std.specs.List.{filter_map}
-use Rattle.std.proofs.lemmas.List.Elements.{filter_map-append}
-use Rattle.tb_ledger.specs.Lookups.{found_in}
+use Rattle.tb_ledger.proofs.Common.{◌≡◌, ◌++◌, ◌==◌, find, append_assoc, sym, ap, ◌∙◌, arith, filter_map, filter_map-append, found_in}
 use Rattle.tb_ledger.proofs.Many.{found-many, cut, cut-length, same-length}
 use Rattle.tb_ledger.proofs.lookups.fill_eights.Goals as goal
 

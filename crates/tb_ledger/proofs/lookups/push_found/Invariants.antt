@@ -1,5 +1,4 @@
-use Rattle.std.proofs.Common.{◌≡◌, ◌+◌, ◌≤◌, ◌++◌, length, drop, option_copied, option_map, vec_len, vec_capacity}
-use Rattle.std.specs.List.{filter_map}
+use Rattle.tb_ledger.proofs.Common.{◌≡◌, ◌+◌, ◌≤◌, ◌++◌, length, drop, option_copied, option_map, vec_len, vec_capacity, filter_map}
 use Rattle.tb_ledger.proofs.lookups.push_found.Given as goal
 
 abbrev pub invariant-loop-row : goal.invariant-loop-row

@@ -1,5 +1,4 @@
-use Rattle.std.proofs.Common.{◌≡◌, ◌+◌, ◌≤◌, ◌-◌, length, drop}
-use Rattle.tb_ledger.specs.Batches.{block_length}
+use Rattle.tb_ledger.proofs.Common.{◌≡◌, ◌+◌, ◌≤◌, ◌-◌, length, drop, block_length}
 use Rattle.tb_ledger.proofs.batches.chains.block_length.Given as goal
 
 abbrev pub invariant-loop-n : goal.invariant-loop-n

@@ -1,9 +1,4 @@
-use Rattle.std.proofs.Common.{◌≡◌, ◌+◌, ◌*◌, ◌-◌, ◌<◌, ◌≤◌, true, [], length, drop}
-use Rattle.tb_ledger.specs.declared.tables.undo_log.TheConstants.{UNDOS_PER_EVENT}
-use Rattle.tb_ledger.specs.Batches.{failure_from, all_recorded, timed_from}
-use Rattle.tb_ledger.specs.Capacity.{capacity_of, Uses}
-use Rattle.tb_ledger.specs.Kept.{books_in, IsKept}
-use Rattle.tb_ledger.specs.UndoLog.{LeadsBack}
+use Rattle.tb_ledger.proofs.Common.{◌≡◌, ◌+◌, ◌*◌, ◌-◌, ◌<◌, ◌≤◌, true, [], length, drop, UNDOS_PER_EVENT, failure_from, all_recorded, timed_from, capacity_of, Uses, books_in, IsKept, chained, LeadsBack}
 use Rattle.tb_ledger.proofs.batches.chains.run_block.Given as goal
 
 abbrev pub invariant-loop-i : goal.invariant-loop-i
@@ -11,7 +6,7 @@ invariant-loop-i g l = let kind = g.E.Event.kind in let start = l.initial.work.r
   failure : failure_from kind l.i (books_in l.work.rows) (timed_from l.stamp (drop l.i l.block)) ≡ failure_from kind 0 (books_in start) (timed_from l.time l.block);
   all : all_recorded kind (books_in l.work.rows) (timed_from l.stamp (drop l.i l.block)) ≡ all_recorded kind (books_in start) (timed_from l.time l.block);
   noting : 1 < length l.block → l.work.undo_log.noting ≡ true;
-  back : l.i < length l.block → LeadsBack start l.work.rows [] l.work.undo_log.changes;
+  back : l.i < length l.block → LeadsBack (chained start) (chained l.work.rows) [] l.work.undo_log.changes;
   failed : l.work.rows.failed ≡ start.failed;
   time : l.work.rows.time ≡ start.time;
   kept : IsKept l.work.rows;

@@ -1,5 +1,4 @@
-use Rattle.std.proofs.Common.{◌+◌, ◌-◌, ◌++◌, ◌∷◌, replicate, length, take, drop, ap, ◌∙◌}
-use Rattle.tb_ledger.specs.Batches.{undone, timed_from, results_from}
+use Rattle.tb_ledger.proofs.Common.{◌+◌, ◌-◌, ◌++◌, ◌∷◌, replicate, length, take, drop, ap, ◌∙◌, undone, timed_from, results_from}
 use Rattle.tb_ledger.proofs.CodeLaws.{broken-results, rest-whole}
 use Rattle.tb_ledger.proofs.batches.results.break_off.Goals as goal
 

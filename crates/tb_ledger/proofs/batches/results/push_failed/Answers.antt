@@ -1,4 +1,4 @@
-use Rattle.std.proofs.Common.{◌++◌, sym, ap, ◌∙◌, arith}
+use Rattle.tb_ledger.proofs.Common.{◌++◌, sym, ap, ◌∙◌, arith}
 use Rattle.tb_ledger.proofs.CodeLaws.{pushed, failed-step}
 use Rattle.tb_ledger.proofs.batches.results.push_failed.Goals as goal
 

@@ -1,5 +1,4 @@
-use Rattle.std.proofs.Common.{◌≡◌, ◌+◌, ◌-◌, ◌++◌, replicate, length}
-use Rattle.tb_ledger.specs.Batches.{results_from}
+use Rattle.tb_ledger.proofs.Common.{◌≡◌, ◌+◌, ◌-◌, ◌++◌, replicate, length, results_from}
 use Rattle.tb_ledger.proofs.batches.results.push_failed.Given as goal
 
 abbrev pub invariant-loop-i : goal.invariant-loop-i

@@ -1,4 +1,4 @@
-use Rattle.std.proofs.Common.{◌++◌, sym, ap, ◌∙◌, arith}
+use Rattle.tb_ledger.proofs.Common.{◌++◌, sym, ap, ◌∙◌, arith}
 use Rattle.tb_ledger.proofs.CodeLaws.{pushed}
 use Rattle.tb_ledger.proofs.BlockLaws.{undone-step}
 use Rattle.tb_ledger.proofs.batches.results.push_undone.Goals as goal

@@ -1,5 +1,4 @@
-use Rattle.std.proofs.Common.{◌≡◌, ◌+◌, ◌++◌, drop, length}
-use Rattle.tb_ledger.specs.Batches.{results_from, undone, timed_from}
+use Rattle.tb_ledger.proofs.Common.{◌≡◌, ◌+◌, ◌++◌, drop, length, results_from, undone, timed_from}
 use Rattle.tb_ledger.proofs.batches.results.push_undone.Given as goal
 
 abbrev pub invariant-loop-i : goal.invariant-loop-i

@@ -1,18 +1,15 @@
-use Rattle.std.proofs.Common.{refl, ap, ◌∙◌}
-use Rattle.tb_records.specs.Ordered.{put}
+use Rattle.tb_ledger.proofs.Common.{◌≡◌, taken_out, taken_out-put, account_row_key, new_row}
 use Rattle.tb_ledger.specs.declared.tables.undo_log.Undo.TheVariants.{AddedAccount}
-use Rattle.tb_ledger.specs.Kept.{account_row_key, new_row}
-use Rattle.tb_ledger.proofs.UndoLogs.{grown_by, undone_add, other_transfers, undone_timeouts, can_undone}
+use Rattle.tb_ledger.proofs.UndoLogs.{grown_by, leads_by}
 use Rattle.tb_ledger.proofs.changes.account.add_account_row.Goals as goal
 
 pub returns-clause-noted : goal.returns-clause-noted
 returns-clause-noted g c =
-    let us = c.args.undo_log.now.changes in
-    let more = c.note.new.self.changes in
-    let added = AddedAccount c.args.a.now.id in
-    grown_by added c.args.undo_log.now c.note.new.self c.note.ensures (λ pushed. record {
-      undo_accounts = undone_add us more (new_row c.args.a.now) c.args.accounts.now.items c.insert_reserved.new.self.items pushed (ap (λ v. v.items) c.insert_reserved.ensures.table ∙ ap (λ row. put account_row_key row c.args.accounts.now.items) c.new.ensures) c.requires.fresh;
-      undo_transfers = other_transfers us more added (λ rows. refl) pushed;
-      undo_timeouts = λ ts. undone_timeouts us more added ts ts pushed refl;
-      can_unwind = λ ts. can_undone us more added ts ts pushed refl tt;
-    })
+    let a = c.args.a.now in
+    let old = c.args.accounts.now.items in
+    let later = c.insert_reserved.new.self.items in
+    let back : taken_out account_row_key a.id later ≡ old = rw (c.insert_reserved.ensures.table, c.new.ensures) (taken_out-put account_row_key (new_row a) old c.requires.fresh) in
+    let undo_log = c.args.undo_log.now in
+    let grown = c.note.new.self in
+    grown_by (AddedAccount a.id) undo_log grown c.note.ensures (λ pushed x.
+        leads_by undo_log.changes grown.changes (AddedAccount a.id) (record x { accounts = old }) (record x { accounts = later }) pushed (λ i. record x { accounts = back i }) tt)

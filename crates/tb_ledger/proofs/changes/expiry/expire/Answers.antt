@@ -1,4 +1,4 @@
-use Rattle.std.proofs.Common.{if◌then◌else◌, Some, None, ap}
+use Rattle.tb_ledger.proofs.Common.{if◌then◌else◌, Some, None, ap}
 use Rattle.tb_ledger.proofs.Expiries.{ledger_then, ledger_same}
 use Rattle.tb_ledger.proofs.changes.expiry.expire.Goals as goal
 

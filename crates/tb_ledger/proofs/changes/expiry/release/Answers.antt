@@ -1,6 +1,4 @@
-use Rattle.std.proofs.Common.{◌≡◌, refl, rules}
-use Rattle.tb_ledger.specs.Books.{closing_debit, closing_credit}
-use Rattle.tb_ledger.specs.Kept.{on_debits, on_credits, released, accounts_released}
+use Rattle.tb_ledger.proofs.Common.{◌≡◌, refl, rules, closing_debit, closing_credit, on_debits, on_credits, released, accounts_released}
 use Rattle.tb_ledger.proofs.Settled.{both_written, stored}
 use Rattle.tb_ledger.proofs.changes.expiry.release.Goals as goal
 

@@ -1,6 +1,4 @@
-use Rattle.std.proofs.Common.{◌≡◌, ◌≤◌, map, length}
-use Rattle.tb_records.specs.Ordered.{Each, Rising}
-use Rattle.tb_ledger.specs.Kept.{account_row_key, HasSums, IsIndex}
+use Rattle.tb_ledger.proofs.Common.{◌≡◌, ◌≤◌, map, length, Each, Rising, account_row_key, HasSums, IsIndex}
 use Rattle.tb_ledger.proofs.Expiries.{WillBe}
 use Rattle.tb_ledger.proofs.changes.expiry.release_due.Given as goal
 

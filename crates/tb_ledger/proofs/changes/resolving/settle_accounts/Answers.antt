@@ -1,4 +1,4 @@
-use Rattle.std.proofs.Common.{rules}
+use Rattle.tb_ledger.proofs.Common.{rules}
 use Rattle.tb_ledger.proofs.Passing.{settled_in}
 use Rattle.tb_ledger.proofs.changes.resolving.settle_accounts.Goals as goal
 

@@ -1,9 +1,4 @@
-use Rattle.std.proofs.Common.{◌≡◌, ◌==◌, ◌^◌, ◌<◌, ◌||◌, find, refl, sym, subst, ap, ◌∙◌}
-use Rattle.tb_records.specs.TransferResults.{transfer_result_code}
-use Rattle.tb_ledger.specs.Found.{Judges}
-use Rattle.tb_ledger.specs.Books.{has, posts, transfer_at}
-use Rattle.tb_ledger.specs.Kept.{books_in}
-use Rattle.tb_ledger.specs.Verdicts.{filled, recorded_transfer}
+use Rattle.tb_ledger.proofs.Common.{◌≡◌, ◌==◌, ◌^◌, ◌<◌, ◌||◌, find, refl, sym, subst, ap, ◌∙◌, transfer_result_code, Judges, has, posts, transfer_at, books_in, filled, recorded_transfer}
 use Rattle.tb_ledger.proofs.Accepted.{id_free, found_stamped}
 use Rattle.tb_ledger.proofs.Refusals.{decides_none}
 use Rattle.tb_ledger.proofs.SoundLaws.{filled_flags}

@@ -1,4 +1,4 @@
-use Rattle.std.proofs.Common.{rules}
+use Rattle.tb_ledger.proofs.Common.{rules}
 use Rattle.tb_ledger.proofs.Passing.{passed_in}
 use Rattle.tb_ledger.proofs.changes.single.exchange.Goals as goal
 

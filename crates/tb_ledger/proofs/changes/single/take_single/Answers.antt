@@ -1,18 +1,10 @@
-use Rattle.std.proofs.Common.{◌≡◌, refl, sym, ap, ◌∙◌, arith}
-use Rattle.tb_records.specs.Ordered.{put}
-use Rattle.tb_records.specs.TransferResults.{transfer_result_code}
-use Rattle.tb_ledger.specs.Exchanges.{as_recorded}
-use Rattle.tb_ledger.specs.Noted.{with_noted}
-use Rattle.tb_ledger.specs.declared.tables.undo_log.Undo.TheVariants.{Account}
-use Rattle.tb_ledger.specs.Kept.{books_in, transfer_row_key, listed, new_transfer_row, IsIndex}
-use Rattle.tb_ledger.specs.Sound.{transfer_key}
-use Rattle.tb_ledger.specs.Verdicts.{first_of, single_own_tests}
+use Rattle.tb_ledger.proofs.Common.{◌≡◌, refl, sym, ap, ◌∙◌, arith, put, transfer_result_code, as_recorded, closing_debit, closing_credit, chained, books_in, gained, on_debits, on_credits, transfer_row_key, listed, new_transfer_row, IsIndex, transfer_key, first_of, single_own_tests}
 use Rattle.tb_ledger.proofs.Accepted.{accounts_apart}
 use Rattle.tb_ledger.proofs.Capacities.{listed_spare}
 use Rattle.tb_ledger.proofs.Index.{index_added}
-use Rattle.tb_ledger.proofs.Passing.{noted_passed}
+use Rattle.tb_ledger.proofs.Passing.{noted_two}
 use Rattle.tb_ledger.proofs.Refusals.{decides_none, left_alone}
-use Rattle.tb_ledger.proofs.UndoLogs.{grows_both}
+use Rattle.tb_ledger.proofs.UndoLogs.{grows_both, leads_both}
 use Rattle.tb_ledger.proofs.Settled.{books_with_single, ledger_with_single}
 use Rattle.tb_ledger.proofs.Singles.{finds_pair}
 use Rattle.tb_ledger.proofs.VerdictLaws.{single_verdict, verdict_by_rows, own_refused}
@@ -49,23 +41,18 @@ returns g c =
     let listed_is = c.add_row.ensures.timeouts ∙ ap (λ row. listed row rows.timeouts) c.row_of-row.ensures.row in
     let index : IsIndex c.add_row.new.transfers.items c.add_row.new.timeouts.items = rw (listed_is, added) (index_added rows.transfers.items rows.timeouts c.requires.ready.kept.index (new_transfer_row recorded) its.fresh (λ _. c.row_of-row.ensures.fits) its.can_list) in
     let apart = accounts_apart t c.in_ok-single_own.ensures in
-    let noted = noted_passed recorded ex.debit ex.credit rows.accounts.items c.exchange.new.accounts.items c.args.work.now.undo_log (with_noted (Account ex.debit) c.args.work.now.undo_log) c.exchange.new.undo_log refl (ex.notes (omega (arith, c.requires.ready.log))) apart ex.debit_there ex.credit_there ex.written in
+    let noted = noted_two t.debit_account_id t.credit_account_id (on_debits (gained closing_debit recorded)) (on_credits (gained closing_credit recorded)) ex.debit ex.credit rows.accounts.items c.exchange.new.accounts.items c.args.work.now.undo_log c.exchange.new.undo_log (λ y. refl) (λ y. refl) (ex.notes (omega (arith, c.requires.ready.log))) apart ex.debit_there ex.credit_there ex.written in
     record {
       judged = its.verdict;
       done =
-          books_with_single rows.accounts.items rows.transfers.items rows.failed.items rows.keeps_failed rows.timeouts.items rows.time c.requires.ready.kept recorded c.exchange.new.accounts.items c.add_row.new.transfers.items ex.written added
+          books_with_single rows c.requires.ready.kept recorded c.exchange.new.accounts.items c.add_row.new.transfers.items ex.written added
           ∙ ap (λ r. record B { transfers = put transfer_key r B.transfers }) (sym its.recorded);
       refused = tt;
       leaves = record {
-        kept = ledger_with_single rows.accounts.items rows.transfers.items rows.failed.items rows.keeps_failed rows.timeouts.items rows.time c.requires.ready.kept recorded c.exchange.new.accounts.items c.add_row.new.transfers.items ex.written added c.add_row.new.timeouts.items its.new c.requires.single c.requires.ready.stamped its.pair index;
+        kept = ledger_with_single rows c.requires.ready.kept recorded c.exchange.new.accounts.items c.add_row.new.transfers.items ex.written added c.add_row.new.timeouts.items its.new c.requires.single c.requires.ready.stamped its.pair index;
         failed = refl;
         time = refl;
-        grows = grows_both 2 1 4 c.args.work.now.undo_log c.exchange.new.undo_log c.add_row.new.undo_log noted c.add_row.ensures.marked (omega arith) (λ us vs ws first second. record {
-          undo_accounts = second.undo_accounts c.exchange.new.accounts.items ∙ first.undo_accounts;
-          undo_transfers = second.undo_transfers ∙ first.undo_transfers rows.transfers.items;
-          undo_timeouts = second.undo_timeouts ∙ first.undo_timeouts rows.timeouts;
-          can_unwind = λ can. second.can_unwind (first.can_unwind rows.timeouts can);
-        });
+        grows = grows_both 2 1 4 c.args.work.now.undo_log c.exchange.new.undo_log c.add_row.new.undo_log noted c.add_row.ensures.marked (omega arith) (λ us vs ws first second. leads_both _ _ _ us vs ws (first (chained rows)) (second c.exchange.new.accounts.items));
         capacity = record {
           accounts = omega (arith, c.exchange.ensures.capacity);
           transfers = omega (arith, ap (λ v. v.spare) c.add_row.ensures.transfers);

@@ -1,6 +1,4 @@
-use Rattle.std.proofs.Common.{◌≡◌, ◌==◌, true, find, None, sym, subst, ap, ◌∙◌, rules, arith}
-use Rattle.std.proofs.lemmas.Grind.{common_steps}
-use Rattle.tb_ledger.specs.Kept.{IsLedger}
+use Rattle.tb_ledger.proofs.Common.{◌≡◌, ◌==◌, true, find, None, sym, subst, ap, ◌∙◌, rules, arith, common_steps, IsLedger}
 use Rattle.tb_ledger.proofs.FailedLaws.{absent}
 use Rattle.tb_ledger.proofs.RowLaws.{ledger_with_failed}
 use Rattle.tb_ledger.proofs.changes.transfer.note_failed.Goals as goal

@@ -1,8 +1,4 @@
-use Rattle.std.proofs.Common.{if◌then◌else◌, refl, sym, ◌∙◌}
-use Rattle.tb_records.specs.TransferResults.{transfer_result_code}
-use Rattle.tb_ledger.specs.Books.{resolves}
-use Rattle.tb_ledger.specs.Kept.{books_in}
-use Rattle.tb_ledger.specs.Verdicts.{id_code, resolve_code, single_code}
+use Rattle.tb_ledger.proofs.Common.{if◌then◌else◌, refl, sym, ◌∙◌, transfer_result_code, resolves, books_in, id_code, resolve_code, single_code}
 use Rattle.tb_ledger.proofs.Refusals.{decides_none}
 use Rattle.tb_ledger.proofs.VerdictLaws.{pair_first}
 use Rattle.tb_ledger.proofs.changes.transfer.take_transfer.Goals as goal

@@ -1,7 +1,4 @@
-use Rattle.std.proofs.Common.{◌++◌, refl, ap, ◌∙◌}
-use Rattle.tb_ledger.specs.Books.{account_now}
-use Rattle.tb_ledger.specs.Kept.{row_now}
-use Rattle.tb_ledger.specs.Lookups.{found_in}
+use Rattle.tb_ledger.proofs.Common.{◌++◌, refl, ap, ◌∙◌, account_now, row_now, found_in}
 use Rattle.tb_ledger.proofs.Many.{shown-same}
 use Rattle.tb_ledger.proofs.ReadLaws.{account_of}
 use Rattle.tb_ledger.proofs.ledgers.Ledger.fill_accounts.Goals as goal

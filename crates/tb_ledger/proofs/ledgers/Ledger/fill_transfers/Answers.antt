@@ -1,6 +1,4 @@
-use Rattle.std.proofs.Common.{◌++◌, refl, ap, ◌∙◌}
-use Rattle.tb_ledger.specs.Books.{transfer_at}
-use Rattle.tb_ledger.specs.Lookups.{found_in}
+use Rattle.tb_ledger.proofs.Common.{◌++◌, refl, ap, ◌∙◌, transfer_at, found_in}
 use Rattle.tb_ledger.proofs.Many.{shown-same}
 use Rattle.tb_ledger.proofs.ReadLaws.{transfer_read}
 use Rattle.tb_ledger.proofs.ledgers.Ledger.fill_transfers.Goals as goal

@@ -1,4 +1,4 @@
-use Rattle.std.proofs.Common.{option_copied, sym, ap, ◌∙◌}
+use Rattle.tb_ledger.proofs.Common.{option_copied, sym, ap, ◌∙◌}
 use Rattle.tb_ledger.proofs.ReadLaws.{account_read, account_unread}
 use Rattle.tb_ledger.proofs.ledgers.Ledger.probe_account.Goals as goal
 

@@ -1,5 +1,4 @@
-use Rattle.std.proofs.Common.{subst}
-use Rattle.tb_ledger.specs.Sound.{IdsRise}
+use Rattle.tb_ledger.proofs.Common.{subst, IdsRise}
 use Rattle.tb_ledger.proofs.ledgers.Ledger.time.Goals as goal
 
 pub returns-clause-ids_rise : goal.returns-clause-ids_rise

@@ -1,4 +1,4 @@
-use Rattle.std.proofs.Common.{Some, None, ap, ◌∙◌}
+use Rattle.tb_ledger.proofs.Common.{Some, None, ap, ◌∙◌}
 use Rattle.tb_ledger.proofs.ReadLaws.{transfer_read}
 use Rattle.tb_ledger.proofs.ledgers.Ledger.transfer.Goals as goal
 

@@ -1,5 +1,4 @@
-use Rattle.std.proofs.Common.{◌∷◌, [], ◌∙◌, sym, map, option_copied}
-use Rattle.tb_ledger.specs.Tables.{unfound}
+use Rattle.tb_ledger.proofs.Common.{◌∷◌, [], ◌∙◌, sym, map, option_copied, unfound}
 use Rattle.tb_ledger.proofs.AbsentKeys.{eight, eight-read}
 use Rattle.tb_ledger.proofs.tables.absent_ids.unfound.Goals as goal
 

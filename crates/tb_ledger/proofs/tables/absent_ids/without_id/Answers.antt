@@ -1,5 +1,4 @@
-use Rattle.std.proofs.Common.{sym, ap}
-use Rattle.tb_ledger.specs.Tables.{without_id}
+use Rattle.tb_ledger.proofs.Common.{sym, ap, without_id}
 use Rattle.tb_ledger.proofs.AbsentKeys.{eight}
 use Rattle.tb_ledger.proofs.tables.absent_ids.without_id.Goals as goal
 

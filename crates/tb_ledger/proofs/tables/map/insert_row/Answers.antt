@@ -1,10 +1,4 @@
-use Rattle.std.proofs.Common.{sym, ap, subst, refl, ◌∙◌}
-use Rattle.std.specs.Map.{values_of}
-use Rattle.std.specs.Ordering.{nat_cmp}
-use Rattle.tb_records.specs.Ordered.{Each, Rising}
-use Rattle.tb_records.proofs.ByKey.{rising-put}
-use Rattle.tb_records.proofs.Entries.{Own, own-agrees, own-inserted, rows-inserted, unseen}
-use Rattle.avl_tree.specs.Map.{entries}
+use Rattle.tb_ledger.proofs.Common.{sym, ap, subst, refl, ◌∙◌, values_of, nat_cmp, Each, Rising, rising-put, Own, own-agrees, own-inserted, rows-inserted, unseen, entries}
 use Rattle.tb_ledger.proofs.tables.map.insert_row.Goals as goal
 
 pub insert_reserved-requires-clause-absent : goal.insert_reserved-requires-clause-absent

@@ -1,9 +1,4 @@
-use Rattle.std.proofs.Common.{◌≤◌, sym, subst, ◌∙◌}
-use Rattle.std.specs.Ordering.{nat_cmp}
-use Rattle.std.proofs.lemmas.Map.Entries.{length-values_of}
-use Rattle.avl_tree.specs.Map.{entries}
-use Rattle.avl_tree.specs.Search.{least}
-use Rattle.tb_records.proofs.Entries.{found-row}
+use Rattle.tb_ledger.proofs.Common.{◌≤◌, sym, subst, ◌∙◌, nat_cmp, length-values_of, entries, least, found-row}
 use Rattle.tb_ledger.proofs.Entries.{no_visits}
 use Rattle.tb_ledger.proofs.tables.map.probe_row.Goals as goal
 

@@ -1,10 +1,4 @@
-use Rattle.std.proofs.Common.{sym, ap, subst, ◌∙◌}
-use Rattle.std.specs.Map.{values_of}
-use Rattle.std.specs.Ordering.{nat_cmp}
-use Rattle.tb_records.specs.Ordered.{Each, Rising}
-use Rattle.tb_records.proofs.ByKey.{rising-taken_out}
-use Rattle.tb_records.proofs.Entries.{Own, own-agrees, own-removed, rows-removed}
-use Rattle.avl_tree.specs.Map.{entries}
+use Rattle.tb_ledger.proofs.Common.{sym, ap, subst, ◌∙◌, values_of, nat_cmp, Each, Rising, rising-taken_out, Own, own-agrees, own-removed, rows-removed, entries}
 use Rattle.tb_ledger.proofs.tables.map.remove_row.Goals as goal
 
 pub returns-clause-table : goal.returns-clause-table

@@ -1,9 +1,4 @@
-use Rattle.std.proofs.Common.{refl, sym, ap, subst, ◌∙◌}
-use Rattle.std.specs.Map.{values_of}
-use Rattle.tb_records.specs.Ordered.{Each, Rising}
-use Rattle.tb_records.proofs.ByKey.{rising-replaced}
-use Rattle.tb_records.proofs.Entries.{Own, own-replaced, rows-replaced}
-use Rattle.avl_tree.specs.Map.{entries}
+use Rattle.tb_ledger.proofs.Common.{refl, sym, ap, subst, ◌∙◌, values_of, Each, Rising, rising-replaced, Own, own-replaced, rows-replaced, entries}
 use Rattle.tb_ledger.proofs.Entries.{set-either}
 use Rattle.tb_ledger.proofs.tables.map.replace_row.Goals as goal
 

@@ -1,6 +1,4 @@
-use Rattle.std.proofs.Common.{◌∙◌}
-use Rattle.avl_tree.specs.Map.{entries}
-use Rattle.tb_records.proofs.Entries.{found-row}
+use Rattle.tb_ledger.proofs.Common.{◌∙◌, entries, found-row}
 use Rattle.tb_ledger.proofs.tables.map.row_of.Goals as goal
 
 pub returns : goal.returns

@@ -1,5 +1,4 @@
-use Rattle.std.proofs.Common.{◌∙◌}
-use Rattle.avl_tree.specs.Map.{entries}
+use Rattle.tb_ledger.proofs.Common.{◌∙◌, entries}
 use Rattle.tb_ledger.proofs.Many.{found-rows}
 use Rattle.tb_ledger.proofs.tables.map.rows_of.Goals as goal
 

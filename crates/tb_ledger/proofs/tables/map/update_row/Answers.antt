@@ -1,7 +1,4 @@
-use Rattle.std.proofs.Common.{◌≡◌, sym, ap, ◌∙◌}
-use Rattle.std.specs.Map.{values_of}
-use Rattle.avl_tree.specs.Map.{entries}
-use Rattle.tb_records.proofs.Entries.{found-row}
+use Rattle.tb_ledger.proofs.Common.{◌≡◌, sym, ap, ◌∙◌, values_of, entries, found-row}
 use Rattle.tb_ledger.proofs.Entries.{some-leads, none-leads, changed-row, row-either}
 use Rattle.tb_ledger.proofs.tables.map.update_row.Goals as goal
 

@@ -1,8 +1,4 @@
-use Rattle.std.proofs.Common.{◌≡◌, false, eqb, ap, ◌∙◌, arith}
-use Rattle.std.proofs.lemmas.Bool.Decides.{nat_tests}
-use Rattle.std.specs.Map.{values_of}
-use Rattle.avl_tree.specs.Map.{entries}
-use Rattle.tb_records.proofs.Entries.{eq-number}
+use Rattle.tb_ledger.proofs.Common.{◌≡◌, false, eqb, ap, ◌∙◌, arith, nat_tests, values_of, entries, eq-number}
 use Rattle.tb_ledger.proofs.Entries.{some-leads, none-leads, missing-rows, changed-rows, changed-either}
 use Rattle.tb_ledger.proofs.tables.map.update_rows.Goals as goal
 

@@ -1,5 +1,4 @@
-use Rattle.std.proofs.Common.{sym, arith}
-use Rattle.avl_tree.specs.Map.{entries}
+use Rattle.tb_ledger.proofs.Common.{sym, arith, entries}
 use Rattle.tb_ledger.proofs.Entries.{first-found, first-later}
 use Rattle.tb_ledger.proofs.tables.timeouts.first_due.Goals as goal
 

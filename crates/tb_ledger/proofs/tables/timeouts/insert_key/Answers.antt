@@ -1,10 +1,4 @@
-use Rattle.std.proofs.Common.{◌≤◌, refl, sym, ap, subst, ◌∙◌, arith}
-use Rattle.std.specs.Ordering.{nat_cmp, ordering_then}
-use Rattle.tb_records.proofs.ByKey.{rising-put, each-put}
-use Rattle.tb_records.proofs.Entries.{rows-inserted, unseen}
-use Rattle.avl_tree.specs.Map.{entries}
-use Rattle.tb_ledger.specs.Timeouts.{timeout_key, timeout_at, timeouts_of, AreTimeouts}
-use Rattle.tb_ledger.specs.Verdicts.{int_max}
+use Rattle.tb_ledger.proofs.Common.{◌≤◌, refl, sym, ap, subst, ◌∙◌, arith, nat_cmp, ordering_then, rising-put, each-put, rows-inserted, unseen, entries, timeout_key, timeout_at, timeouts_of, AreTimeouts, int_max}
 use Rattle.tb_ledger.proofs.Entries.{timeouts-agree}
 use Rattle.tb_ledger.proofs.tables.timeouts.insert_key.Goals as goal
 

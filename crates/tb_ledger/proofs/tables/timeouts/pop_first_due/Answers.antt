@@ -1,8 +1,4 @@
-use Rattle.std.proofs.Common.{◌≤◌, ◌+◌, refl, is_some, if◌then◌else◌, sym, ap, subst, ◌∙◌}
-use Rattle.tb_records.proofs.ByKey.{rising-taken_out, each-taken_out}
-use Rattle.avl_tree.specs.Map.{entries}
-use Rattle.tb_ledger.specs.Timeouts.{timeout_key, timeouts_of, AreTimeouts}
-use Rattle.tb_ledger.specs.Verdicts.{int_max}
+use Rattle.tb_ledger.proofs.Common.{◌≤◌, ◌+◌, refl, is_some, if◌then◌else◌, sym, ap, subst, ◌∙◌, rising-taken_out, each-taken_out, entries, timeout_key, timeouts_of, AreTimeouts, int_max}
 use Rattle.tb_ledger.proofs.Entries.{popped-found, popped-rest, popped-some}
 use Rattle.tb_ledger.proofs.tables.timeouts.pop_first_due.Goals as goal
 

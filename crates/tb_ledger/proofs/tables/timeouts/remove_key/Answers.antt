@@ -1,10 +1,4 @@
-use Rattle.std.proofs.Common.{◌≤◌, ◌+◌, is_some, if◌then◌else◌, sym, ap, subst, ◌∙◌, arith}
-use Rattle.std.specs.Ordering.{nat_cmp, ordering_then}
-use Rattle.tb_records.proofs.ByKey.{rising-taken_out, each-taken_out}
-use Rattle.tb_records.proofs.Entries.{rows-removed, seen}
-use Rattle.avl_tree.specs.Map.{entries}
-use Rattle.tb_ledger.specs.Timeouts.{timeout_key, timeout_at, timeouts_of, AreTimeouts}
-use Rattle.tb_ledger.specs.Verdicts.{int_max}
+use Rattle.tb_ledger.proofs.Common.{◌≤◌, ◌+◌, is_some, if◌then◌else◌, sym, ap, subst, ◌∙◌, arith, nat_cmp, ordering_then, rising-taken_out, each-taken_out, rows-removed, seen, entries, timeout_key, timeout_at, timeouts_of, AreTimeouts, int_max}
 use Rattle.tb_ledger.proofs.Entries.{timeouts-agree}
 use Rattle.tb_ledger.proofs.tables.timeouts.remove_key.Goals as goal
 

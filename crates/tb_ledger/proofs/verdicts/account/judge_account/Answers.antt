@@ -1,7 +1,4 @@
-use Rattle.std.proofs.Common.{sym, subst, ap, ◌∙◌, option_map}
-use Rattle.tb_records.specs.AccountResults.{account_result_code}
-use Rattle.tb_ledger.specs.Found.{Judges}
-use Rattle.tb_ledger.specs.Kept.{books_in, row_now}
+use Rattle.tb_ledger.proofs.Common.{sym, subst, ap, ◌∙◌, option_map, account_result_code, Judges, books_in, row_now}
 use Rattle.tb_ledger.proofs.VerdictLaws.{account_stands, account_there_judged, account_new_code}
 use Rattle.tb_ledger.proofs.verdicts.account.judge_account.Goals as goal
 

@@ -1,9 +1,4 @@
-use Rattle.std.proofs.Common.{◌≡◌, ◌≢◌, refl, subst, sym, ap, ◌∙◌, option_map, arith}
-use Rattle.tb_records.specs.TransferResults.{transfer_result_code}
-use Rattle.tb_ledger.specs.Kept.{books_in}
-use Rattle.tb_ledger.specs.Found.{FoundPending}
-use Rattle.tb_ledger.specs.Settlings.{closed_code}
-use Rattle.tb_ledger.specs.Verdicts.{filled_from, first_of, named_tests, resolve_code}
+use Rattle.tb_ledger.proofs.Common.{◌≡◌, ◌≢◌, refl, subst, sym, ap, ◌∙◌, option_map, arith, transfer_result_code, books_in, FoundPending, closed_code, filled_from, first_of, named_tests, resolve_code}
 use Rattle.tb_ledger.proofs.Accepted.{filled_found}
 use Rattle.tb_ledger.proofs.Refusals.{err_handed_on}
 use Rattle.tb_ledger.proofs.VerdictLaws.{transfer_stands, resolve_missing, resolve_found, named_row, pending_fits, pair_first, pair_second}

@@ -1,4 +1,4 @@
-use Rattle.std.proofs.Common.{◌==◌, is_some, sym, ap, ◌∙◌}
+use Rattle.tb_ledger.proofs.Common.{◌==◌, is_some, sym, ap, ◌∙◌}
 use Rattle.tb_ledger.proofs.VerdictLaws.{any-found, some-copied}
 use Rattle.tb_ledger.proofs.verdicts.transfer.failed_before.Goals as goal
 

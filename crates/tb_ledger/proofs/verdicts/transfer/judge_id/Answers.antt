@@ -1,8 +1,4 @@
-use Rattle.std.proofs.Common.{Some, sym, subst, ap, ◌∙◌, option_map}
-use Rattle.tb_records.specs.TransferResults.{transfer_result_code}
-use Rattle.tb_ledger.specs.Found.{Judges}
-use Rattle.tb_ledger.specs.Kept.{books_in}
-use Rattle.tb_ledger.specs.Verdicts.{filled, first_of, transfer_exists_tests}
+use Rattle.tb_ledger.proofs.Common.{Some, sym, subst, ap, ◌∙◌, option_map, transfer_result_code, Judges, books_in, filled, first_of, transfer_exists_tests}
 use Rattle.tb_ledger.proofs.VerdictLaws.{transfer_stands, id_there_judged, id_free}
 use Rattle.tb_ledger.proofs.verdicts.transfer.judge_id.Goals as goal
 

@@ -1,7 +1,4 @@
-use Rattle.std.proofs.Common.{sym, ap, ◌∙◌, option_map}
-use Rattle.tb_ledger.specs.Kept.{books_in}
-use Rattle.tb_ledger.specs.Verdicts.{filled_from, first_of, transfer_exists_tests}
-use Rattle.std.specs.Prelude.{Some}
+use Rattle.tb_ledger.proofs.Common.{sym, ap, ◌∙◌, option_map, books_in, filled_from, first_of, transfer_exists_tests, Some}
 use Rattle.tb_ledger.proofs.VerdictLaws.{transfer_stands, filled_missing}
 use Rattle.tb_ledger.proofs.Accepted.{filled_found}
 use Rattle.tb_ledger.proofs.verdicts.transfer.repeated.Goals as goal

@@ -1,4 +1,4 @@
-use Rattle.tb_ledger.specs.Kept.{books_in}
+use Rattle.tb_ledger.proofs.Common.{books_in}
 use Rattle.tb_ledger.proofs.FailedLaws.{refusal_is_new}
 use Rattle.tb_ledger.proofs.batches.events.TransferEvent.take.Goals as goal
 

@@ -1,4 +1,4 @@
-use Rattle.std.proofs.Common.{arith}
+use Rattle.tb_ledger.proofs.Common.{arith}
 use Rattle.tb_ledger.proofs.AbsentKeys.{unlike-new, unlike-blanked}
 use Rattle.tb_ledger.proofs.tables.absent_ids.AbsentIds.admit.Goals as goal
 

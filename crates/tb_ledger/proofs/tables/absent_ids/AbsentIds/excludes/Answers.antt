@@ -1,4 +1,4 @@
-use Rattle.std.proofs.Common.{sym, ◌∙◌}
+use Rattle.tb_ledger.proofs.Common.{sym, ◌∙◌}
 use Rattle.tb_ledger.proofs.AbsentKeys.{unlike-among}
 use Rattle.tb_ledger.proofs.tables.absent_ids.AbsentIds.excludes.Goals as goal
 

@@ -1,5 +1,4 @@
-use Rattle.std.proofs.Common.{◌∙◌, ap, find, ◌==◌}
-use Rattle.tb_ledger.specs.Tables.{rows_in, MayBeKey}
+use Rattle.tb_ledger.proofs.Common.{◌∙◌, ap, find, ◌==◌, rows_in, MayBeKey}
 use Rattle.tb_ledger.proofs.AbsentKeys.{none-unlike}
 use Rattle.tb_ledger.proofs.tables.map.Table.get.Goals as goal
 

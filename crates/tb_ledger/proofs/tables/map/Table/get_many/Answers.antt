@@ -1,4 +1,4 @@
-use Rattle.std.proofs.Common.{◌≡◌, [], rules}
+use Rattle.tb_ledger.proofs.Common.{◌≡◌, [], rules}
 use Rattle.tb_ledger.proofs.Many.{nones}
 use Rattle.tb_ledger.proofs.tables.map.Table.get_many.Goals as goal
 

@@ -1,7 +1,4 @@
-use Rattle.std.proofs.Common.{sym, subst}
-use Rattle.std.specs.Map.{values_of}
-use Rattle.avl_tree.specs.Map.{entries}
-use Rattle.tb_ledger.specs.Tables.{rows_in, MayBeKey}
+use Rattle.tb_ledger.proofs.Common.{sym, subst, values_of, entries, rows_in, MayBeKey}
 use Rattle.tb_ledger.proofs.AbsentKeys.{OfKeys, known-put}
 use Rattle.tb_ledger.proofs.tables.map.Table.insert_reserved.Goals as goal
 use Rattle.tb_ledger.proofs.tables.map.Table.insert_reserved.Goals.{in-Some, in-None}

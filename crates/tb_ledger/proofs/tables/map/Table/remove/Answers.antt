@@ -1,8 +1,4 @@
-use Rattle.std.proofs.Common.{sym, subst}
-use Rattle.std.specs.Map.{values_of}
-use Rattle.avl_tree.specs.Map.{entries}
-use Rattle.tb_ledger.specs.Tables.{rows_in, MayBeKey}
-use Rattle.tb_records.proofs.ByKey.{each-taken_out}
+use Rattle.tb_ledger.proofs.Common.{sym, subst, values_of, entries, rows_in, MayBeKey, each-taken_out}
 use Rattle.tb_ledger.proofs.AbsentKeys.{OfKeys}
 use Rattle.tb_ledger.proofs.tables.map.Table.remove.Goals as goal
 use Rattle.tb_ledger.proofs.tables.map.Table.remove.Goals.{in-Some, in-None}

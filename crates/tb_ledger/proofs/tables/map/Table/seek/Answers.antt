@@ -1,5 +1,4 @@
-use Rattle.std.proofs.Common.{sym, ap, ◌∙◌, map, option_copied, find, ◌==◌}
-use Rattle.tb_ledger.specs.Tables.{rows_in}
+use Rattle.tb_ledger.proofs.Common.{sym, ap, ◌∙◌, map, option_copied, find, ◌==◌, rows_in}
 use Rattle.tb_ledger.proofs.AbsentKeys.{known-unfound, known-unsought}
 use Rattle.tb_ledger.proofs.tables.map.Table.seek.Goals as goal
 

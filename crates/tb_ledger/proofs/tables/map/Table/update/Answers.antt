@@ -1,7 +1,4 @@
-use Rattle.std.proofs.Common.{◌≡◌, ◌==◌, find, None, IfNone, refl, sym, ap, subst, ◌∙◌}
-use Rattle.std.specs.Map.{values_of}
-use Rattle.avl_tree.specs.Map.{entries}
-use Rattle.tb_ledger.specs.Tables.{rows_in, MayBeKey}
+use Rattle.tb_ledger.proofs.Common.{◌≡◌, ◌==◌, find, None, IfNone, refl, sym, ap, subst, ◌∙◌, values_of, entries, rows_in, MayBeKey}
 use Rattle.tb_ledger.proofs.AbsentKeys.{OfKeys, known-changed_one}
 use Rattle.tb_ledger.proofs.tables.map.Table.update.Goals as goal
 use Rattle.tb_ledger.proofs.tables.map.Table.update.Goals.{in-Some, in-None}

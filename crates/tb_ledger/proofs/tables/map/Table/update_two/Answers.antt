@@ -1,7 +1,4 @@
-use Rattle.std.proofs.Common.{◌≡◌, ◌⊎◌, inl, ◌==◌, find, None, IfNone, refl, sym, ap, subst, ◌∙◌}
-use Rattle.std.specs.Map.{values_of}
-use Rattle.avl_tree.specs.Map.{entries}
-use Rattle.tb_ledger.specs.Tables.{rows_in, MayBeKey}
+use Rattle.tb_ledger.proofs.Common.{◌≡◌, ◌⊎◌, inl, ◌==◌, find, None, IfNone, refl, sym, ap, subst, ◌∙◌, values_of, entries, rows_in, MayBeKey}
 use Rattle.tb_ledger.proofs.AbsentKeys.{OfKeys, known-changed}
 use Rattle.tb_ledger.proofs.tables.map.Table.update_two.Goals as goal
 use Rattle.tb_ledger.proofs.tables.map.Table.update_two.Goals.{in-Some, in-None}
