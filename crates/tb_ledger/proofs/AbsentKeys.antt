@@ -1,5 +1,5 @@
 -- What a table knows of its keys.
-use Rattle.tb_ledger.proofs.Common.{◌≡◌, ◌≢◌, ℕ, ◌<◌, map, Bool, cond, eqb, ◌==◌, ltb, ◌&&◌, ◌||◌, get_or, length, true, false, List, [], ◌∷◌, find, is_some, Option, Some, None, IfSome, IfNone, subst, sym, refl, arith, nat_tests, false≢true, list_any, Mut, MutBor, put, replaced, Each, each-map, each-all, each-both, each-put, none-found, none-fails, AbsentIds, ChangedRow, ChangedRows, MayBeKey, unfound, without_id}
+use Rattle.tb_ledger.proofs.Common.{◌≡◌, ◌≢◌, ℕ, ◌<◌, map, Bool, cond, eqb, ◌==◌, ltb, ◌&&◌, ◌||◌, get_or, length, true, false, List, [], ◌∷◌, find, is_some, Option, Some, None, IfSome, IfNone, subst, sym, refl, ◌∙◌, arith, nat_tests, false≢true, list_any, Mut, MutBor, put, replaced, Each, each-map, each-all, each-both, each-put, none-found, none-fails, AbsentIds, ChangedRow, ChangedRows, MayBeKey, unfound, without_id}
 
 -- a list of eight
 pub eight : {X : Type 0} (d : X) (xs : List X) → length xs ≡ 8 → xs ≡ get_or xs 0 d ∷ get_or xs 1 d ∷ get_or xs 2 d ∷ get_or xs 3 d ∷ get_or xs 4 d ∷ get_or xs 5 d ∷ get_or xs 6 d ∷ get_or xs 7 d ∷ []
@@ -16,16 +16,9 @@ eight z (a ∷ b ∷ c ∷ d ∷ e ∷ f ∷ g ∷ h ∷ i ∷ xs) is = absurd (
 
 -- and one whose elements were read
 pub eight-read : {X : Type 0} (xs : List X) (r0 r1 r2 r3 r4 r5 r6 r7 : X) → length xs ≡ 8 → r0 ≡ get_or xs 0 r0 → r1 ≡ get_or xs 1 r1 → r2 ≡ get_or xs 2 r2 → r3 ≡ get_or xs 3 r3 → r4 ≡ get_or xs 4 r4 → r5 ≡ get_or xs 5 r5 → r6 ≡ get_or xs 6 r6 → r7 ≡ get_or xs 7 r7 → xs ≡ r0 ∷ r1 ∷ r2 ∷ r3 ∷ r4 ∷ r5 ∷ r6 ∷ r7 ∷ []
-eight-read [] r0 r1 r2 r3 r4 r5 r6 r7 is i0 i1 i2 i3 i4 i5 i6 i7 = absurd (omega (arith, is))
-eight-read (a ∷ []) r0 r1 r2 r3 r4 r5 r6 r7 is i0 i1 i2 i3 i4 i5 i6 i7 = absurd (omega (arith, is))
-eight-read (a ∷ b ∷ []) r0 r1 r2 r3 r4 r5 r6 r7 is i0 i1 i2 i3 i4 i5 i6 i7 = absurd (omega (arith, is))
-eight-read (a ∷ b ∷ c ∷ []) r0 r1 r2 r3 r4 r5 r6 r7 is i0 i1 i2 i3 i4 i5 i6 i7 = absurd (omega (arith, is))
-eight-read (a ∷ b ∷ c ∷ d ∷ []) r0 r1 r2 r3 r4 r5 r6 r7 is i0 i1 i2 i3 i4 i5 i6 i7 = absurd (omega (arith, is))
-eight-read (a ∷ b ∷ c ∷ d ∷ e ∷ []) r0 r1 r2 r3 r4 r5 r6 r7 is i0 i1 i2 i3 i4 i5 i6 i7 = absurd (omega (arith, is))
-eight-read (a ∷ b ∷ c ∷ d ∷ e ∷ f ∷ []) r0 r1 r2 r3 r4 r5 r6 r7 is i0 i1 i2 i3 i4 i5 i6 i7 = absurd (omega (arith, is))
-eight-read (a ∷ b ∷ c ∷ d ∷ e ∷ f ∷ g ∷ []) r0 r1 r2 r3 r4 r5 r6 r7 is i0 i1 i2 i3 i4 i5 i6 i7 = absurd (omega (arith, is))
-eight-read (a ∷ b ∷ c ∷ d ∷ e ∷ f ∷ g ∷ h ∷ []) r0 r1 r2 r3 r4 r5 r6 r7 is i0 i1 i2 i3 i4 i5 i6 i7 = λ j. sym i0 j ∷ sym i1 j ∷ sym i2 j ∷ sym i3 j ∷ sym i4 j ∷ sym i5 j ∷ sym i6 j ∷ sym i7 j ∷ []
-eight-read (a ∷ b ∷ c ∷ d ∷ e ∷ f ∷ g ∷ h ∷ i ∷ xs) r0 r1 r2 r3 r4 r5 r6 r7 is i0 i1 i2 i3 i4 i5 i6 i7 = absurd (omega (arith, is))
+eight-read xs r0 r1 r2 r3 r4 r5 r6 r7 is i0 i1 i2 i3 i4 i5 i6 i7 =
+    let e = eight r0 xs is in
+    e ∙ (λ j. sym (rw e at i0) j ∷ sym (rw e at i1) j ∷ sym (rw e at i2) j ∷ sym (rw e at i3) j ∷ sym (rw e at i4) j ∷ sym (rw e at i5) j ∷ sym (rw e at i6) j ∷ sym (rw e at i7) j ∷ [])
 
 -- an id among those that were not found is no key
 

@@ -42,11 +42,7 @@ flag_stays mask flags false apart = refl
 
 -- an account that is closed as it stands has the flag
 pub closed_flag : (B : Books) (a : Account) → closed (as_it_stands B a) ≡ false → stands_closed B a ≡ false
-closed_flag B a is = by (stands_closed B a) is
-  where
-    by : (b : Bool) → has 32 (if b then bit_or a.flags 32 else a.flags) ≡ false → b ≡ false
-    by true test = let set : has 32 (bit_or a.flags 32) ≡ true = ap (λ n. not (n == 0)) (and_or_self 32 a.flags) in absurd (cc)
-    by false test = refl
+closed_flag B a is = elim (stands_closed B a) as (λ b. has 32 (if b then bit_or a.flags 32 else a.flags) ≡ false → b ≡ false) [ true ↦ λ test. let set : has 32 (bit_or a.flags 32) ≡ true = ap (λ n. not (n == 0)) (and_or_self 32 a.flags) in absurd (cc) | false ↦ λ test. refl ] is
 
 -- an accepted account is new
 pub new_account : (B : Books) (a : Account) → account_verdict B a ≡ 0 → account_at B a.id ≡ None
@@ -100,11 +96,7 @@ is_true false is = absurd (cc)
 
 -- what is given is the same, or nothing is given
 given_same : (x y : ℕ) → differs x y ≡ false → given_or x y ≡ y
-given_same x y is = by (eqb x 0) is
-  where
-    by : (b : Bool) → (not b && is_not x y) ≡ false → (if b then y else x) ≡ y
-    by true is = refl
-    by false is = same_numbers x y is
+given_same x y is = elim (eqb x 0) as (λ b. (not b && is_not x y) ≡ false → (if b then y else x) ≡ y) [ true ↦ λ is. refl | false ↦ λ is. same_numbers x y is ] is
 
 pub filled_found : (B : Books) (t p : Transfer) → resolves t ≡ true → transfer_at B t.pending_id ≡ Some p → filled B t ≡ filled_from p t
 filled_found B t p is found = rw (is, found) refl

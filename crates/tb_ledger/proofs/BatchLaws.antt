@@ -4,11 +4,7 @@ use Rattle.tb_ledger.proofs.Common.{◌≡◌, ℕ, ◌+◌, Bool, true, false, 
 module _ {E : Type 0} (kind : Kind E) where
   -- an event whose code in its chain is 0 has the verdict 0
   verdict_of : (B : Books) (x : Timed E) (xs : List (Timed E)) → code_in_chain kind B x xs ≡ 0 → kind.verdict B x.0 x.1 ≡ 0
-  verdict_of B x [] is = by (kind.linked x.0) is
-    where
-      by : (b : Bool) → (if b then 2 else kind.verdict B x.0 x.1) ≡ 0 → kind.verdict B x.0 x.1 ≡ 0
-      by true two = absurd (omega arith)
-      by false zero_is = zero_is
+  verdict_of B x [] is = elim (kind.linked x.0) as (λ b. (if b then 2 else kind.verdict B x.0 x.1) ≡ 0 → kind.verdict B x.0 x.1 ≡ 0) [ true ↦ λ two. absurd (omega arith) | false ↦ λ zero_is. zero_is ] is
   verdict_of B x (y ∷ ys) is = is
 
   module _ (P : Books → Type 0)

@@ -31,18 +31,10 @@ has_left Has leaves_rest m k n before after within has uses =
 
 -- timeouts with one more or one less
 pub listed_spare : (row : TransferRow) (ts : Stored Timeout) → ts.spare ≤ 1 + (listed row ts).spare
-listed_spare row ts = by (times_out row)
-  where
-    by : (b : Bool) → ts.spare ≤ 1 + (if b then with_timeout (timeout_of row) ts else ts).spare
-    by true = omega arith
-    by false = omega arith
+listed_spare row ts = elim (times_out row) as (λ b. ts.spare ≤ 1 + (if b then with_timeout (timeout_of row) ts else ts).spare) [ true ↦ omega arith | false ↦ omega arith ]
 
 pub unlisted_spare : (row : TransferRow) (ts : Stored Timeout) → ts.spare ≤ (unlisted row ts).spare
-unlisted_spare row ts = by (times_out row)
-  where
-    by : (b : Bool) → ts.spare ≤ (if b then without_timeout (timeout_of row) ts else ts).spare
-    by true = omega arith
-    by false = omega arith
+unlisted_spare row ts = elim (times_out row) as (λ b. ts.spare ≤ (if b then without_timeout (timeout_of row) ts else ts).spare) [ true ↦ omega arith | false ↦ omega arith ]
 
 -- an expiry uses none
 pub uses_kept : {A : Type 0} (rows later : Rows A) → KeepsRecords rows later → Uses 0 (capacity_of rows) (capacity_of later)

@@ -1,5 +1,6 @@
 -- What changes a tree's pairs changes the rows that they are.
-use Rattle.tb_ledger.proofs.Common.{◌≡◌, ℕ, ◌+◌, ◌*◌, ◌<◌, ◌≤◌, Bool, true, false, cond, eqb, ltb, ◌==◌, List, [], ◌∷◌, length, map, find, is_some, Option, Some, None, IfSome, IfNone, ◌⊎◌, inl, inr, Result, Ok, Err, IfOk, IfErr, refl, sym, ap, subst, ◌∙◌, arith, nat_tests, Ordering, Less, Equal, Greater, nat_cmp, ordering_then, lookup, set_value, values_of, is_at, Mut, MutBor, Changed, ChangedTwo, replaced, taken_out, Each, Rising, IsTable, KeepsKey, ChangedRow, KeepsKeys, ChangedRows, slice_get, Map, entries, get, Search, leaf, fork, entries_of, path_length, each-map, each-both, each-back, found_key, rising-replaced, Agrees, Own, found-row, rows-replaced, own-replaced, int_max, timeout_key, timeout_at, timeouts_of, AreTimeouts, Timeout, with_first}
+use Rattle.tb_ledger.proofs.Common.{AbsentIds, pairs_in, rows_in, KnowsAbsent, MayBeKey, put, rising-put, rising-taken_out, each-taken_out, own-agrees, own-inserted, own-removed, rows-inserted, rows-removed, insert_entry, remove_entry, ◌≡◌, ℕ, ◌+◌, ◌*◌, ◌<◌, ◌≤◌, Bool, true, false, cond, eqb, ltb, ◌==◌, List, [], ◌∷◌, length, map, find, is_some, Option, Some, None, IfSome, IfNone, ◌⊎◌, inl, inr, Result, Ok, Err, IfOk, IfErr, refl, sym, ap, subst, ◌∙◌, arith, nat_tests, Ordering, Less, Equal, Greater, nat_cmp, ordering_then, lookup, set_value, values_of, is_at, Mut, MutBor, Changed, ChangedTwo, replaced, taken_out, Each, Rising, IsTable, KeepsKey, ChangedRow, KeepsKeys, ChangedRows, slice_get, Map, entries, get, Search, leaf, fork, entries_of, path_length, each-map, each-both, each-back, found_key, rising-replaced, Agrees, Own, found-row, rows-replaced, own-replaced, int_max, timeout_key, timeout_at, timeouts_of, AreTimeouts, Timeout, with_first}
+use Rattle.tb_ledger.proofs.AbsentKeys.{OfKeys, known-put, known-replaced}
 
 set-absent : {V : Type 0} (test : ℕ → Bool) (v : V) (es : List (ℕ × V)) → lookup test es ≡ None → set_value test es v ≡ es
 set-absent test v [] none = refl
@@ -14,90 +15,94 @@ pub set-either : {V : Type 0} (m later : Map ℕ V) (r : Result V V) (k : ℕ) (
 set-either m later (Ok w) k v ok err = ok
 set-either m later (Err w) k v ok err = ap (λ m. entries m) err.2 ∙ sym (set-absent (is_at (nat_cmp k)) v (entries m) err.1)
 
-pub some-leads : {X : Type 0} (o : Option X) (P Q : X → Type 0) → ((x : X) → P x → Q x) → IfSome o P → IfSome o Q
-some-leads None P Q leads is = tt
-some-leads (Some x) P Q leads is = leads x is
+-- pairs of a map that hold the rows of a table at their keys
+pub record Holds {V : Type 0} (key : V → ℕ) (known : AbsentIds) (es : List (ℕ × V)) (rows : List V) : Type 0 where
+  pub knows : KnowsAbsent key known es
+  pub is : values_of es ≡ rows
 
-pub none-leads : {X : Type 0} (o : Option X) (P Q : Type 0) → (P → Q) → IfNone o P → IfNone o Q
-none-leads None P Q leads is = leads is
-none-leads (Some x) P Q leads is = tt
+module _ {V : Type 0} (key : V → ℕ) (known : AbsentIds) where
+  pub holds : (m : Option (Map ℕ V)) (map : Map ℕ V) (rows : List V) → KnowsAbsent key known (pairs_in m) → m ≡ Some map → rows_in m ≡ rows → Holds key known (entries map) rows
+  holds m map rows knows some is = record { knows = subst (λ m. KnowsAbsent key known (pairs_in m)) some knows; is = sym (ap rows_in some) ∙ is }
 
-pub missing-rows : {V : Type 0} (key : V → ℕ) (a b : ℕ) (es : List (ℕ × V)) → Each (Own key) es → ((lookup (is_at (nat_cmp a)) es ≡ None) ⊎ (lookup (is_at (nat_cmp b)) es ≡ None)) → (find (λ x. key x == a) (values_of es) ≡ None) ⊎ (find (λ x. key x == b) (values_of es) ≡ None)
-missing-rows key a b es own (inl none) = inl (sym (found-row key a es own) ∙ none)
-missing-rows key a b es own (inr none) = inr (sym (found-row key b es own) ∙ none)
+  holds_from : (es : List (ℕ × V)) (rows : List V) → values_of es ≡ rows → Each (Own key) es → Rising key rows → OfKeys key (MayBeKey known) rows → Holds key known es rows
+  holds_from es rows is own rising may = record {
+    knows = record { table = record { own = own; rising = subst (Rising key) (sym is) rising }; may = subst (OfKeys key (MayBeKey known)) (sym is) may };
+    is = is;
+  }
 
--- a row changed where it stands
-module _ {F V R : Type 0} (key : V → ℕ) (c : Mut F (MutBor V × Unit {0}) (R × (MutBor V × Unit {0}))) (keeps : KeepsKey key c) (id : ℕ) (es : List (ℕ × V)) (table : IsTable key es) where
-  module _ (f : F) (r : R) (f' : F) (later : List (ℕ × V)) (ch : Changed c (is_at (nat_cmp id)) es f r f' later) where
-    found_it : find (λ x. key x == id) (values_of es) ≡ Some ch.value
-    found_it = sym (found-row key id es table.own) ∙ ch.found
+  module _ (es : List (ℕ × V)) (rows : List V) (has : Holds key known es rows) where
+    own : Each (Own key) es
+    own = has.knows.table.own
 
-    at_it : key ch.left ≡ id
-    at_it = keeps f ch.value r f' ch.left ch.called ∙ found_key key id ch.value (values_of es) found_it
+    pub found_in : (id : ℕ) → lookup (is_at (nat_cmp id)) es ≡ find (λ row. key row == id) rows
+    found_in id = found-row key id es own ∙ ap (find (λ row. key row == id)) has.is
 
-    written : values_of later ≡ replaced key ch.left (values_of es)
-    written = ap values_of ch.written ∙ rows-replaced key ch.left id es at_it table.own
+    pub found_all : (ids : List ℕ) → map (λ id. lookup (is_at (nat_cmp id)) es) ids ≡ map (λ id. find (λ row. key row == id) rows) ids
+    found_all [] = refl
+    found_all (id ∷ ids) = rw (found_in id, found_all ids) refl
 
-    pub changed-row : ChangedRow key c id (values_of es) f r f' (values_of later)
-    changed-row = record { row = ch.value; left = ch.left; found = found_it; called = ch.called; written = written }
+    -- another row at its key, a row less, a row more
+    pub holds_replaced : (row : V) (k : ℕ) (later : List (ℕ × V)) → key row ≡ k → later ≡ set_value (is_at (nat_cmp k)) es row → Holds key known later (replaced key row rows)
+    holds_replaced row k later at is = rw is (subst (λ rows. Holds key known (set_value (is_at (nat_cmp k)) es row) (replaced key row rows)) has.is
+        (holds_from (set_value (is_at (nat_cmp k)) es row) (replaced key row (values_of es)) (rows-replaced key row k es at own) (own-replaced key row k es at own)
+        (rising-replaced key row (values_of es) has.knows.table.rising) (known-replaced key (MayBeKey known) row (values_of es) has.knows.may)))
 
-    pub row-table : IsTable key later
-    row-table = record {
-      own = subst (Each (Own key)) (sym ch.written) (own-replaced key ch.left id es at_it table.own);
-      rising = subst (Rising key) (sym written) (rising-replaced key ch.left (values_of es) table.rising);
-    }
+    pub holds_removed : (id : ℕ) (later : List (ℕ × V)) → later ≡ remove_entry (is_at (nat_cmp id)) es → Holds key known later (taken_out key id rows)
+    holds_removed id later is = rw is (subst (λ rows. Holds key known (remove_entry (is_at (nat_cmp id)) es) (taken_out key id rows)) has.is
+        (holds_from (remove_entry (is_at (nat_cmp id)) es) (taken_out key id (values_of es)) (rows-removed nat_cmp (λ e. e.1) key id id es (own-agrees key id es own)) (own-removed key id es own)
+        (rising-taken_out key id (values_of es) has.knows.table.rising) (each-taken_out key (λ row. MayBeKey known (key row)) id (values_of es) has.knows.may)))
 
-  pub row-either : (m' : List (ℕ × V)) (o : Option R) (f f' : F) → IfSome o (λ r. Changed c (is_at (nat_cmp id)) es f r f' m') → IfNone o (m' ≡ es) → IsTable key m'
-  row-either m' (Some r) f f' some none = row-table f r f' m' some
-  row-either m' None f f' some none = subst (IsTable key) (sym none) table
+-- the ids that may be keys become more before a row is inserted
+pub holds_put : {V : Type 0} (key : V → ℕ) (known admitted : AbsentIds) (es : List (ℕ × V)) (rows : List V) → Holds key known es rows → (row : V) (k : ℕ) (later : List (ℕ × V)) → k ≡ key row → MayBeKey admitted (key row)
+    → ((n : ℕ) → MayBeKey known n → MayBeKey admitted n) → find (λ y. key y == key row) rows ≡ None → later ≡ insert_entry nat_cmp es k row → Holds key admitted later (put key row rows)
+holds_put key known admitted es rows has row k later at here others absent is =
+    let own = has.knows.table.own in
+    let none : find (λ y. key y == key row) (values_of es) ≡ None = ap (find (λ y. key y == key row)) has.is ∙ absent in
+    rw (is, at) (subst (λ rows. Holds key admitted (insert_entry nat_cmp es (key row) row) (put key row rows)) has.is
+    (holds_from key admitted (insert_entry nat_cmp es (key row) row) (put key row (values_of es)) (rows-inserted nat_cmp (λ e. e.1) key (key row) (key row) row es refl (own-agrees key (key row) es own) none)
+    (own-inserted key row (key row) es refl own) (rising-put key row (values_of es) none has.knows.table.rising)
+    (known-put key (MayBeKey known) (MayBeKey admitted) (key row) row (values_of es) refl here others has.knows.may)))
 
--- two rows changed where they stand
-module _ {F V R : Type 0} (key : V → ℕ) (c : Mut F (MutBor V × (MutBor V × Unit {0})) (R × (MutBor V × (MutBor V × Unit {0})))) (keeps : KeepsKeys key c) (a b : ℕ) (es : List (ℕ × V)) (table : IsTable key es) where
-  module _ (f : F) (r : R) (f' : F) (later : List (ℕ × V)) (ch : ChangedTwo c (is_at (nat_cmp a)) (is_at (nat_cmp b)) es f r f' later) where
-    found_a : find (λ x. key x == a) (values_of es) ≡ Some ch.value
-    found_a = sym (found-row key a es table.own) ∙ ch.found
+-- a row changed where it stands, or none
+module _ {F V R : Type 0} (key : V → ℕ) (c : Mut F (MutBor V × Unit {0}) (R × (MutBor V × Unit {0}))) (keeps : KeepsKey key c) (id : ℕ) (known : AbsentIds) (m m' : Map ℕ V) (rows : List V) (has : Holds key known (entries m) rows) (f f' : F) where
+  pub record Updates (o : Option R) : Type 0 where
+    pub knows : KnowsAbsent key known (entries m')
+    pub changed : IfSome o (λ r. ChangedRow key c id rows f r f' (values_of (entries m')))
+    pub absent : IfNone o ((find (λ y. key y == id) rows ≡ None) × (values_of (entries m') ≡ rows))
 
-    found_b : find (λ x. key x == b) (values_of es) ≡ Some ch.other
-    found_b = sym (found-row key b es table.own) ∙ ch.other_found
+  pub updates : (o : Option R) → IfSome o (λ r. Changed c (is_at (nat_cmp id)) (entries m) f r f' (entries m')) → IfNone o ((get nat_cmp m id ≡ None) × (f' ≡ f) × (m' ≡ m)) → Updates o
+  updates (Some r) ch none =
+      let found = sym (found_in key known (entries m) rows has id) ∙ ch.found in
+      let at = keeps f ch.value r f' ch.left ch.called ∙ found_key key id ch.value rows found in
+      let later = holds_replaced key known (entries m) rows has ch.left id (entries m') at ch.written in
+      record { knows = later.knows; changed = record { row = ch.value; left = ch.left; found = found; called = ch.called; written = later.is }; absent = tt }
+  updates None ch none =
+      record { knows = rw none.2 has.knows; changed = tt; absent = (sym (found_in key known (entries m) rows has id) ∙ none.0, rw none.2 has.is) }
 
-    at_a : key ch.left ≡ a
-    at_a = (keeps f ch.value ch.other r f' ch.left ch.other_left ch.called).0 ∙ found_key key a ch.value (values_of es) found_a
+-- two rows changed where they stand, or none
+module _ {F V R : Type 0} (key : V → ℕ) (c : Mut F (MutBor V × (MutBor V × Unit {0})) (R × (MutBor V × (MutBor V × Unit {0})))) (keeps : KeepsKeys key c) (a b : ℕ) (known : AbsentIds) (m m' : Map ℕ V) (rows : List V) (has : Holds key known (entries m) rows) (f f' : F) where
+  pub record UpdatesTwo (o : Option R) : Type 0 where
+    pub knows : KnowsAbsent key known (entries m')
+    pub changed : IfSome o (λ r. ChangedRows key c a b rows f r f' (values_of (entries m')))
+    pub absent : IfNone o (((find (λ y. key y == a) rows ≡ None) ⊎ (find (λ y. key y == b) rows ≡ None)) × (f' ≡ f) × (values_of (entries m') ≡ rows))
 
-    at_b : key ch.other_left ≡ b
-    at_b = (keeps f ch.value ch.other r f' ch.left ch.other_left ch.called).1 ∙ found_key key b ch.other (values_of es) found_b
+  absent_in : (get nat_cmp m a ≡ None) ⊎ (get nat_cmp m b ≡ None) → (find (λ y. key y == a) rows ≡ None) ⊎ (find (λ y. key y == b) rows ≡ None)
+  absent_in (inl none) = inl (sym (found_in key known (entries m) rows has a) ∙ none)
+  absent_in (inr none) = inr (sym (found_in key known (entries m) rows has b) ∙ none)
 
-    between : List (ℕ × V)
-    between = set_value (is_at (nat_cmp a)) es ch.left
-
-    own_between : Each (Own key) (set_value (is_at (nat_cmp a)) es ch.left)
-    own_between = own-replaced key ch.left a es at_a table.own
-
-    both_written : values_of later ≡ replaced key ch.other_left (replaced key ch.left (values_of es))
-    both_written =
-        ap values_of ch.written ∙ rows-replaced key ch.other_left b (set_value (is_at (nat_cmp a)) es ch.left) at_b own_between
-        ∙ ap (replaced key ch.other_left) (rows-replaced key ch.left a es at_a table.own)
-
-    pub changed-rows : ChangedRows key c a b (values_of es) f r f' (values_of later)
-    changed-rows = record {
-      row = ch.value;
-      left = ch.left;
-      other = ch.other;
-      other_left = ch.other_left;
-      found = found_a;
-      other_found = found_b;
-      called = ch.called;
-      written = both_written;
-    }
-
-    pub changed-table : IsTable key later
-    changed-table = record {
-      own = subst (Each (Own key)) (sym ch.written) (own-replaced key ch.other_left b (set_value (is_at (nat_cmp a)) es ch.left) at_b own_between);
-      rising = subst (Rising key) (sym both_written) (rising-replaced key ch.other_left (replaced key ch.left (values_of es)) (rising-replaced key ch.left (values_of es) table.rising));
-    }
-
-  pub changed-either : (m' : List (ℕ × V)) (o : Option R) (f f' : F) → IfSome o (λ r. ChangedTwo c (is_at (nat_cmp a)) (is_at (nat_cmp b)) es f r f' m') → IfNone o (m' ≡ es) → IsTable key m'
-  changed-either m' (Some r) f f' some none = changed-table f r f' m' some
-  changed-either m' None f f' some none = subst (IsTable key) (sym none) table
+  pub updates_two : (o : Option R) → IfSome o (λ r. ChangedTwo c (is_at (nat_cmp a)) (is_at (nat_cmp b)) (entries m) f r f' (entries m')) → IfNone o (((get nat_cmp m a ≡ None) ⊎ (get nat_cmp m b ≡ None)) × (f' ≡ f) × (m' ≡ m)) → UpdatesTwo o
+  updates_two (Some r) ch none =
+      let found = sym (found_in key known (entries m) rows has a) ∙ ch.found in
+      let other_found = sym (found_in key known (entries m) rows has b) ∙ ch.other_found in
+      let kept = keeps f ch.value ch.other r f' ch.left ch.other_left ch.called in
+      let between = holds_replaced key known (entries m) rows has ch.left a (set_value (is_at (nat_cmp a)) (entries m) ch.left) (kept.0 ∙ found_key key a ch.value rows found) refl in
+      let later = holds_replaced key known _ (replaced key ch.left rows) between ch.other_left b (entries m') (kept.1 ∙ found_key key b ch.other rows other_found) ch.written in
+      record {
+        knows = later.knows;
+        changed = record { row = ch.value; left = ch.left; other = ch.other; other_left = ch.other_left; found = found; other_found = other_found; called = ch.called; written = later.is };
+        absent = tt;
+      }
+  updates_two None ch none = record { knows = rw none.2 has.knows; changed = tt; absent = (absent_in none.0, none.1, rw none.2 has.is) }
 
 -- the first of a tree's timeouts
 

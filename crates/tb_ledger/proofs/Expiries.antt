@@ -1,5 +1,5 @@
 -- The rows when time moves on: transfers that are due hold no more.
-use Rattle.tb_ledger.proofs.Common.{◌≡◌, ◌≢◌, ℕ, ◌≤◌, Bool, true, false, ◌&&◌, ◌==◌, List, map, find, if◌then◌else◌, Option, Some, None, option_map, IsSome, refl, sym, ap, subst, ◌∙◌, Transfer, replaced, changed, Each, Rising, each-map, each-both, each-find, each-replaced_all, find-map, map-replaced, map-changed, rising-changed, State, Posted, Voided, Expired, AccountRow, TransferRow, Timeout, Books, posts, pending, resolves, is_open, is_due, state_by, closing_debit, closing_credit, debit, credit, IdsRise, ledger_at, Sound, account_row_key, transfer_row_key, books_of, row_holds, lapses, IsIndex, HasSums, HasState, AreKept, IsLedger, on_debits, on_credits, released, settled, accounts_released}
+use Rattle.tb_ledger.proofs.Common.{Rows, books_in, IsKept, KeepsRecords, ◌≡◌, ◌≢◌, ℕ, ◌≤◌, Bool, true, false, ◌&&◌, ◌==◌, List, map, find, if◌then◌else◌, Option, Some, None, option_map, IsSome, refl, sym, ap, subst, ◌∙◌, Transfer, replaced, changed, Each, Rising, each-map, each-both, each-find, each-replaced_all, find-map, map-replaced, map-changed, rising-changed, State, Posted, Voided, Expired, AccountRow, TransferRow, Timeout, Books, posts, pending, resolves, is_open, is_due, state_by, closing_debit, closing_credit, debit, credit, IdsRise, ledger_at, Sound, account_row_key, transfer_row_key, books_of, row_holds, lapses, IsIndex, HasSums, HasState, AreKept, IsLedger, on_debits, on_credits, released, settled, accounts_released}
 use Rattle.tb_ledger.proofs.Parts.{both_hold}
 use Rattle.tb_ledger.proofs.Pairs.{sums_released}
 use Rattle.tb_ledger.proofs.Sides.{due_later}
@@ -26,11 +26,7 @@ arrives None false true s later is = rw is refl
 arrives None false false s later is = rw is refl
 
 due_then : (early late : ℕ) (p : Transfer) → early ≤ late → is_due early p ≡ true → is_due late p ≡ true
-due_then early late p le due = by (is_due late p) refl
-  where
-    by : (b : Bool) → is_due late p ≡ b → b ≡ true
-    by true e = refl
-    by false e = absurd (let not_yet = due_later early late p le e in cc)
+due_then early late p le due = elim (is_due late p) as (λ b. is_due late p ≡ b → b ≡ true) [ true ↦ λ e. refl | false ↦ λ e. absurd (let not_yet = due_later early late p le e in cc) ] refl
 
 some_mapped : {X Y : Type 0} (g : X → Y) (o : Option X) → IsSome o → IsSome (option_map g o)
 some_mapped g None is = is
@@ -115,25 +111,18 @@ pub ahead_marked : (T : ℕ) (records : List Transfer) (p : TransferRow) (transf
 ahead_marked T records p transfers marked found lapsed is ahead =
     rw is (each-replaced_all transfer_row_key (WillBe T records) (settled Expired p) transfers (marked_will T records p lapsed (each-find (WillBe T records) (λ q. transfer_row_key q == transfer_row_key p) p transfers ahead found)) ahead)
 
--- the ledger at T
-module _ (accounts : List AccountRow) (transfers : List TransferRow) (failed : List ℕ) (keeps_failed : Bool) (timeouts : List Timeout) (time T : ℕ) (ledger : IsLedger accounts transfers failed keeps_failed timeouts time) (le : time ≤ T) where
-  pub books_then : (later : List AccountRow) (marked : List TransferRow) → map (λ a. a.created) later ≡ map (λ a. a.created) accounts → map (λ t. t.recorded) marked ≡ map (λ t. t.recorded) transfers
-      → books_of later marked failed keeps_failed T ≡ record (books_of accounts transfers failed keeps_failed time) { time = T }
-  books_then later marked same_accounts same_transfers = rw (same_accounts, same_transfers) refl
+-- the ledger at a later time, where pending transfers have ended
+pub books_then : {A : Type 0} (rows later : Rows A) → KeepsRecords rows later → books_in later ≡ record (books_in rows) { time = later.time }
+books_then rows later keeps = λ i. record { accounts = keeps.accounts i; transfers = keeps.transfers i; failed = (if keeps.keeps_failed i then Some ((keeps.failed i).items) else None); time = later.time }
 
-  pub ledger_then : (later : List AccountRow) (marked : List TransferRow) (left : List Timeout) → map (λ a. a.created) later ≡ map (λ a. a.created) accounts → map (λ t. t.recorded) marked ≡ map (λ t. t.recorded) transfers
-      → AreKept later marked T → IsIndex marked left → IsLedger later marked failed keeps_failed left T
-  ledger_then later marked left same_accounts same_transfers kept index = record {
-    kept = kept;
-    index = index;
-    unused = ledger.unused;
-    sound = subst Sound (sym (books_then later marked same_accounts same_transfers)) (sound_later (books_of accounts transfers failed keeps_failed time) T le ledger.sound);
-    rising = subst IdsRise (sym (books_then later marked same_accounts same_transfers)) (record { accounts = ledger.rising.accounts; transfers = ledger.rising.transfers; failed = ledger.rising.failed });
-  }
-
--- the failed ids stay
-pub ledger_same : (accounts : List AccountRow) (transfers : List TransferRow) (failed failed' : List ℕ) (keeps keeps' : Bool) (timeouts : List Timeout) (T : ℕ) → failed' ≡ failed → keeps' ≡ keeps → IsLedger accounts transfers failed keeps timeouts T → IsLedger accounts transfers failed' keeps' timeouts T
-ledger_same accounts transfers failed failed' keeps keeps' timeouts T same_failed same_keeps ledger = rw (same_failed, same_keeps) ledger
+pub ledger_then : {A : Type 0} (rows later : Rows A) → IsKept rows → rows.time ≤ later.time → KeepsRecords rows later → AreKept later.accounts.items later.transfers.items later.time → IsIndex later.transfers.items later.timeouts.items → IsKept later
+ledger_then rows later ledger le keeps kept index = record {
+  kept = kept;
+  index = index;
+  unused = rw (keeps.failed, keeps.keeps_failed) ledger.unused;
+  sound = subst Sound (sym (books_then rows later keeps)) (sound_later (books_in rows) later.time le ledger.sound);
+  rising = subst IdsRise (sym (books_then rows later keeps)) (record { accounts = ledger.rising.accounts; transfers = ledger.rising.transfers; failed = ledger.rising.failed });
+}
 
 pub none_of : {X : Type 0} (o : Option X) → ((x : X) → o ≢ Some x) → o ≡ None
 none_of None never = refl

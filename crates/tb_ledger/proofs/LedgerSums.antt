@@ -7,11 +7,7 @@ abbrev pub part : ℕ → ℕ → Bool → ℕ → Account → ℕ
 part ledger k q n a = if a.ledger == ledger then (if (k == a.id) && q then n else 0) else 0
 
 part_other : (ledger k : ℕ) (q : Bool) (n : ℕ) (a : Account) → eqb k a.id ≡ false → part ledger k q n a ≡ 0
-part_other ledger k q n a e = by (eqb a.ledger ledger)
-  where
-    by : (b : Bool) → (if b then (if (k == a.id) && q then n else 0) else 0) ≡ 0
-    by true = rw e refl
-    by false = refl
+part_other ledger k q n a e = elim (eqb a.ledger ledger) as (λ b. (if b then (if (k == a.id) && q then n else 0) else 0) ≡ 0) [ true ↦ rw e refl | false ↦ refl ]
 
 part_own : (ledger l k : ℕ) (q : Bool) (n : ℕ) (a : Account) → eqb k a.id ≡ true → a.ledger ≡ l → part ledger k q n a ≡ (if (l == ledger) && q then n else 0)
 part_own ledger l k q n a e same = ap (λ m. if m == ledger then (if (k == a.id) && q then n else 0) else 0) same ∙ by (eqb l ledger)

@@ -1,9 +1,5 @@
 -- What is found of many ids at once.
-use Rattle.tb_ledger.proofs.Common.{◌≡◌, ℕ, ◌+◌, ◌++◌, ◌==◌, List, [], ◌∷◌, length, map, find, take, drop, Option, None, Bor, option_map, option_copied, refl, sym, ap, ◌∙◌, arith, filter_map, lookup, values_of, is_at, nat_cmp, length-append, length-map, take-append-drop, Each, Own, found-row}
-
-pub found-rows : {V : Type 0} (key : V → ℕ) (ks : List ℕ) (es : List (ℕ × V)) → Each (Own key) es → map (λ k. lookup (is_at (nat_cmp k)) es) ks ≡ map (λ k. find (λ row. key row == k) (values_of es)) ks
-found-rows key [] es own = refl
-found-rows key (k ∷ ks) es own = rw (found-row key k es own, found-rows key ks es own) refl
+use Rattle.tb_ledger.proofs.Common.{◌≡◌, ℕ, ◌+◌, ◌++◌, ◌==◌, List, [], ◌∷◌, length, map, find, replicate, take, drop, Option, None, Bor, option_map, option_copied, refl, sym, ap, ◌∙◌, arith, filter_map, lookup, values_of, is_at, nat_cmp, length-append, length-map, take-append-drop, Each, Own, found-row}
 
 -- the shown values of rows found, and of what a search gives
 pub found-many : {T X : Type 0} (f : T → X) (g : ℕ → Option T) (rs : List (Option (Bor T))) (ids : List ℕ) → map option_copied rs ≡ map g ids → filter_map (λ r. option_map f (option_copied r)) rs ≡ filter_map (λ id. option_map f (g id)) ids
@@ -29,15 +25,7 @@ cut n xs front back is is' = rw (is, is') (take-append-drop n xs)
 pub cut-length : {X : Type 0} (n : ℕ) (xs front back : List X) → front ≡ take n xs → back ≡ drop n xs → length front + length back ≡ length xs
 cut-length n xs front back is is' = sym (length-append front back) ∙ ap length (cut n xs front back is is')
 
--- eight searches that find nothing
-pub nones : {V : Type 0} (key : V → ℕ) (rows : List V) (ks : List ℕ) → rows ≡ [] → length ks ≡ 8 → map {A = Option (Bor V)} option_copied (None ∷ None ∷ None ∷ None ∷ None ∷ None ∷ None ∷ None ∷ []) ≡ map (λ k. find (λ row. key row == k) rows) ks
-nones key rows [] none is = absurd (omega (arith, is))
-nones key rows (a ∷ []) none is = absurd (omega (arith, is))
-nones key rows (a ∷ b ∷ []) none is = absurd (omega (arith, is))
-nones key rows (a ∷ b ∷ c ∷ []) none is = absurd (omega (arith, is))
-nones key rows (a ∷ b ∷ c ∷ d ∷ []) none is = absurd (omega (arith, is))
-nones key rows (a ∷ b ∷ c ∷ d ∷ e ∷ []) none is = absurd (omega (arith, is))
-nones key rows (a ∷ b ∷ c ∷ d ∷ e ∷ f ∷ []) none is = absurd (omega (arith, is))
-nones key rows (a ∷ b ∷ c ∷ d ∷ e ∷ f ∷ g ∷ []) none is = absurd (omega (arith, is))
-nones key rows (a ∷ b ∷ c ∷ d ∷ e ∷ f ∷ g ∷ h ∷ []) none is = rw none refl
-nones key rows (a ∷ b ∷ c ∷ d ∷ e ∷ f ∷ g ∷ h ∷ i ∷ ks) none is = absurd (omega (arith, is))
+-- searches that find nothing
+pub none-many : {V : Type 0} (key : V → ℕ) (rows : List V) (ks : List ℕ) → rows ≡ [] → map (λ k. find (λ row. key row == k) rows) ks ≡ replicate (length ks) None
+none-many key rows [] none = refl
+none-many key rows (k ∷ ks) none = rw (none-many key rows ks none, none) refl

@@ -7,11 +7,7 @@ profile_put id None = refl
 profile_put id (Some ids) = refl
 
 profile_refused : (B : Books) (t : Transfer) (code : ℕ) → profile_of (transfer_events.refused B t code) ≡ profile_of B
-profile_refused B t code = by (is_final code)
-  where
-    by : (b : Bool) → profile_of (if b then record B { failed = option_map (put (λ id. id) t.id) B.failed } else B) ≡ profile_of B
-    by true = profile_put t.id B.failed
-    by false = refl
+profile_refused B t code = elim (is_final code) as (λ b. profile_of (if b then record B { failed = option_map (put (λ id. id) t.id) B.failed } else B) ≡ profile_of B) [ true ↦ profile_put t.id B.failed | false ↦ refl ]
 
 pub profile_accounts : (B : Books) (events : List Account) (T : ℕ) → profile_of (batch_after account_events B events T).books ≡ profile_of B
 profile_accounts B events T = batch_kept account_events (λ C. profile_of C ≡ profile_of B) (λ C e time kept accepted. kept) (λ C e code kept. kept) B events T refl

@@ -6,11 +6,7 @@ use Rattle.tb_ledger.proofs.Sums.{sum_by-less, sum_by-none}
 pub open_parts : (o : Option Transfer) (due : Bool) → is_open (state_by o due) ≡ true → (o ≡ None) × (due ≡ false)
 open_parts None true is = absurd (cc)
 open_parts None false is = (refl, refl)
-open_parts (Some r) due is = by (posts r) is
-  where
-    by : (b : Bool) → is_open (if b then Posted else Voided) ≡ true → (Some r ≡ None) × (due ≡ false)
-    by true test = absurd (cc)
-    by false test = absurd (cc)
+open_parts (Some r) due is = elim (posts r) as (λ b. is_open (if b then Posted else Voided) ≡ true → (Some r ≡ None) × (due ≡ false)) [ true ↦ λ test. absurd (cc) | false ↦ λ test. absurd (cc) ] is
 
 -- from its parts
 pub open_from : (o : Option Transfer) (due : Bool) → o ≡ None → due ≡ false → is_open (state_by o due) ≡ true

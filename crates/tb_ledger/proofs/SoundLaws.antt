@@ -1,34 +1,10 @@
 -- Sound books stay sound: at each event, at each entry, at each batch. Of sound books sums fit, limits hold, ledgers balance.
-use Rattle.tb_ledger.proofs.Common.{◌≡◌, ◌≢◌, ℕ, ◌≤◌, Bool, true, false, if◌then◌else◌, ◌==◌, List, Option, Some, None, option_map, refl, sym, ap, subst, ◌∙◌, arith, option_map_or, Account, Transfer, Profile, One, Two, put, found_key, rising-put, each-put, each-find, Books, empty_books, debits_limited, credits_limited, resolves, stands_closed, account_at, account_now, as_it_stands, transfer_at, debit, credit, account_verdict, recorded_account, transfer_verdict, recorded_transfer, filled, filled_from, balanced_between, account_events, transfer_events, is_final, batch_after, account_key, transfer_key, ledger_at, Sound, KeepsLimits, Balances, FoundPending}
+use Rattle.tb_ledger.proofs.Common.{◌≡◌, ◌≢◌, ℕ, ◌≤◌, Bool, true, false, if◌then◌else◌, ◌==◌, List, [], Option, Some, None, option_map, refl, sym, ap, subst, ◌∙◌, arith, option_map_or, Account, Transfer, Profile, One, Two, put, found_key, rising-put, each-put, each-find, Books, empty_books, debits_limited, credits_limited, resolves, stands_closed, account_at, account_now, as_it_stands, transfer_at, debit, credit, account_verdict, recorded_account, transfer_verdict, recorded_transfer, filled, filled_from, balanced_between, account_events, transfer_events, is_final, batch_after, account_key, transfer_key, ledger_at, Sound, KeepsLimits, Balances, FoundPending}
 use Rattle.tb_ledger.proofs.Accepted.{flag_stays, new_account, found_pair, found_pending, found_stamped}
 use Rattle.tb_ledger.proofs.Sides.{kept_later, kept_account, kept_added, kept_resolved}
 use Rattle.tb_ledger.proofs.BatchLaws.{batch_kept}
 use Rattle.tb_ledger.proofs.LedgerSums.{ledgers_balance}
 use Rattle.tb_ledger.proofs.FoundPairs.{FoundPair}
-
--- new books
-pub sound_empty : (profile : Profile) → Sound (empty_books profile)
-sound_empty One = record {
-  rising = tt;
-  apart = tt;
-  debits = record { named = tt; fit = λ id. omega arith; within = λ id a is limits. omega arith };
-  credits = record { named = tt; fit = λ id. omega arith; within = λ id a is limits. omega arith };
-}
-sound_empty Two = record {
-  rising = tt;
-  apart = tt;
-  debits = record { named = tt; fit = λ id. omega arith; within = λ id a is limits. omega arith };
-  credits = record { named = tt; fit = λ id. omega arith; within = λ id a is limits. omega arith };
-}
-
--- the time moves on, and what is due expires
-pub sound_later : (B : Books) (T : ℕ) → B.time ≤ T → Sound B → Sound (record B { time = T })
-sound_later B T le sound = record {
-  rising = sound.rising;
-  apart = sound.apart;
-  debits = kept_later debit credit debits_limited B T le sound.debits;
-  credits = kept_later credit debit credits_limited B T le sound.credits;
-}
 
 -- of failed ids nothing is said
 pub sound_failed : (B : Books) (failed : Option (List ℕ)) → Sound B → Sound (record B { failed = failed })
@@ -37,6 +13,28 @@ sound_failed B failed sound = record {
   apart = sound.apart;
   debits = record { named = sound.debits.named; fit = sound.debits.fit; within = sound.debits.within };
   credits = record { named = sound.credits.named; fit = sound.credits.fit; within = sound.credits.within };
+}
+
+-- new books
+sound_new : (failed : Option (List ℕ)) → Sound (record { accounts = []; transfers = []; failed = failed; time = 0 })
+sound_new failed = record {
+  rising = tt;
+  apart = tt;
+  debits = record { named = tt; fit = λ id. omega arith; within = λ id a is limits. omega arith };
+  credits = record { named = tt; fit = λ id. omega arith; within = λ id a is limits. omega arith };
+}
+
+pub sound_empty : (profile : Profile) → Sound (empty_books profile)
+sound_empty One = sound_new None
+sound_empty Two = sound_new (Some [])
+
+-- the time moves on, and what is due expires
+pub sound_later : (B : Books) (T : ℕ) → B.time ≤ T → Sound B → Sound (record B { time = T })
+sound_later B T le sound = record {
+  rising = sound.rising;
+  apart = sound.apart;
+  debits = kept_later debit credit debits_limited B T le sound.debits;
+  credits = kept_later credit debit credits_limited B T le sound.credits;
 }
 
 -- an accepted account
@@ -73,14 +71,17 @@ sound_resolved B f sound is r = record {
   credits = kept_resolved credit debit credits_limited B f r.p r.named r.held is r.not_pending r.credit_same r.ledger_same r.at_most sound.credits;
 }
 
--- filling leaves the flags
-pub filled_flags : (B : Books) (t : Transfer) → (filled B t).flags ≡ t.flags
-filled_flags B t = by (resolves t) (transfer_at B t.pending_id)
+-- filling leaves what it doesn't fill
+pub filled_keeps : {X : Type 0} (f : Transfer → X) (B : Books) (t : Transfer) → ((p : Transfer) → f (filled_from p t) ≡ f t) → f (filled B t) ≡ f t
+filled_keeps f B t same = by (resolves t) (transfer_at B t.pending_id)
   where
-    by : (b : Bool) (o : Option Transfer) → (if b then option_map_or (λ p. filled_from p t) o t else t).flags ≡ t.flags
+    by : (b : Bool) (o : Option Transfer) → f (if b then option_map_or (λ p. filled_from p t) o t else t) ≡ f t
     by true None = refl
-    by true (Some p) = refl
+    by true (Some p) = same p
     by false o = refl
+
+pub filled_flags : (B : Books) (t : Transfer) → (filled B t).flags ≡ t.flags
+filled_flags B t = filled_keeps (λ t. t.flags) B t (λ p. refl)
 
 -- an accepted transfer
 pub sound_transfer : (B : Books) (t : Transfer) (time : ℕ) → Sound B → transfer_verdict B t time ≡ 0 → Sound (record B { transfers = put transfer_key (recorded_transfer B t time) B.transfers })
@@ -94,11 +95,7 @@ sound_transfer B t time sound ok = by (resolves t) refl
 
 -- what a refused transfer leaves
 pub sound_refused : (B : Books) (t : Transfer) (code : ℕ) → Sound B → Sound (transfer_events.refused B t code)
-sound_refused B t code sound = by (is_final code)
-  where
-    by : (b : Bool) → Sound (if b then record B { failed = option_map (put (λ id. id) t.id) B.failed } else B)
-    by true = sound_failed B (option_map (put (λ id. id) t.id) B.failed) sound
-    by false = sound
+sound_refused B t code sound = elim (is_final code) as (λ b. Sound (if b then record B { failed = option_map (put (λ id. id) t.id) B.failed } else B)) [ true ↦ sound_failed B (option_map (put (λ id. id) t.id) B.failed) sound | false ↦ sound ]
 
 -- a batch of accounts, a batch of transfers
 pub sound_accounts : (B : Books) (events : List Account) (T : ℕ) → B.time ≤ T → Sound B → Sound (batch_after account_events B events T).books
@@ -115,11 +112,7 @@ pub time_after_transfers : (B : Books) (events : List Transfer) (T : ℕ) → (b
 time_after_transfers B events T = batch_kept transfer_events (λ B. B.time ≡ T) (λ B t time is ok. is) refused B events T refl
   where
     refused : (B : Books) (t : Transfer) (code : ℕ) → B.time ≡ T → (transfer_events.refused B t code).time ≡ T
-    refused B t code is = by (is_final code)
-      where
-        by : (b : Bool) → (if b then record B { failed = option_map (put (λ id. id) t.id) B.failed } else B).time ≡ T
-        by true = is
-        by false = is
+    refused B t code is = elim (is_final code) as (λ b. (if b then record B { failed = option_map (put (λ id. id) t.id) B.failed } else B).time ≡ T) [ true ↦ is | false ↦ is ]
 
 -- of sound books, an account as it stands keeps its limits
 pub sound_limits : (B : Books) (id : ℕ) (a : Account) → account_now B id ≡ Some a → Sound B → KeepsLimits a

@@ -31,11 +31,7 @@ module _ (accounts : List AccountRow) (transfers : List TransferRow) (failed : L
 
   -- a pending transfer's row holds where the books say so
   pub holds_stand : (t : TransferRow) → HasState transfers time t → row_holds t ≡ holds B t.recorded
-  holds_stand t has = by (pending t.recorded) has.state_is
-    where
-      by : (b : Bool) → (b ≡ true → t.state ≡ state_of B t.recorded) → (b && is_open t.state) ≡ (b && is_open (state_of B t.recorded))
-      by true is = ap is_open (is refl)
-      by false is = refl
+  holds_stand t has = elim (pending t.recorded) as (λ b. (b ≡ true → t.state ≡ state_of B t.recorded) → (b && is_open t.state) ≡ (b && is_open (state_of B t.recorded))) [ true ↦ λ is. ap is_open (is refl) | false ↦ λ is. refl ] has.state_is
 
   module _ (states : Each (HasState transfers time) transfers) where
     all_hold : Each (λ t. row_holds t ≡ holds B t.recorded) transfers

@@ -1,5 +1,6 @@
 -- The verdicts, by the rows that are found.
 use Rattle.tb_ledger.proofs.Common.{◌≡◌, ◌≢◌, ℕ, suc, zero, eqb, ◌==◌, ◌||◌, ◌&&◌, Bool, true, false, List, [], ◌∷◌, find, is_some, Option, Some, None, option_map, if◌then◌else◌, refl, sym, ap, ap₂, subst, ◌∙◌, arith, Bor, not, bit_or, nat_tests, list_any, option_map_or, option_copied, Account, Transfer, CreateAccountResult, CreateTransferResult, PendingTransferNotFound, account_result_code, transfer_result_code, Books, has, closed, posts, resolves, pending, transfer_at, account_now, as_it_stands, state_of, recorded_transfer, Test, closed_tests, closed_at, named_tests, named_code, resolve_own_tests, resolve_code, transfer_verdict, first_of, first_code, account_own_tests, account_exists_tests, account_new_tests, account_verdict, transfer_own_tests, transfer_exists_tests, failed_tests, filled, filled_from, single_own_tests, balanced_amount, balanced_between, single_code, pair_code, id_code, Rows, books_in, IsKept, row_now, row_closed, HasSums, HasState, find-map, each-find, AccountRow, and_or_self, State, TransferRow, FoundPending, account_row_at, closed_code}
+use Rattle.tb_ledger.proofs.SoundLaws.{filled_keeps}
 use Rattle.tb_ledger.proofs.Standing.{row_stands}
 use Rattle.tb_ledger.proofs.Accepted.{fail, found_from, found_pair, found_pending, found_stamped}
 use Rattle.tb_ledger.proofs.FoundPairs.{FoundPair}
@@ -27,13 +28,10 @@ account_refused a e is = let there : true ≡ false = (fail (account_exists_test
 transfer_refused : (f e : Transfer) → first_of (transfer_exists_tests (Some e) f) ≡ 0 → ⊥
 transfer_refused f e is = let there : true ≡ false = (fail (transfer_exists_tests (Some e) f) refl is).1.1.1.1.1.1.1.1.1.1.1.0 in absurd (cc)
 
-account_there_code : (B : Books) (a e : Account) → first_of (account_own_tests a) ≡ 0 → account_now B a.id ≡ Some e → first_of (account_exists_tests (Some e) a) ≡ account_verdict B a
-account_there_code B a e own found = rw found (sym (second_code _ _ (first_of (account_new_tests a)) own (account_refused a e)))
-
 -- an account whose id is there is refused
 pub account_there_judged : (B : Books) (a e : Account) (refusal : CreateAccountResult) → first_of (account_own_tests a) ≡ 0 → account_now B a.id ≡ Some e → account_result_code refusal ≡ first_of (account_exists_tests (Some e) a)
     → (account_verdict B a ≡ account_result_code refusal) × (account_result_code refusal ≢ 0)
-account_there_judged B a e refusal own found is = (sym (is ∙ account_there_code B a e own found), λ none. account_refused a e (sym is ∙ none))
+account_there_judged B a e refusal own found is = (rw found (second_code _ _ (first_of (account_new_tests a)) own (account_refused a e)) ∙ sym is, λ none. account_refused a e (sym is ∙ none))
 
 pub account_new_code : (B : Books) (a : Account) → first_of (account_own_tests a) ≡ 0 → account_now B a.id ≡ None → first_of (account_new_tests a) ≡ account_verdict B a
 account_new_code B a own found = rw (found, own) (sym (only (first_of (account_new_tests a))))
@@ -43,13 +41,9 @@ pub filled_missing : (B : Books) (t : Transfer) → resolves t ≡ true → tran
 filled_missing B t is found = rw (is, found) refl
 
 -- a transfer whose id is there
-id_there : (B : Books) (t e : Transfer) → first_of (transfer_own_tests t) ≡ 0 → transfer_at B t.id ≡ Some e
-    → first_of (transfer_exists_tests (Some e) (filled B t)) ≡ id_code B t
-id_there B t e own found = rw found (sym (second_code _ _ (first_of (failed_tests B.failed t)) own (transfer_refused (filled B t) e)))
-
 pub id_there_judged : (B : Books) (t e : Transfer) (refusal : CreateTransferResult) → first_of (transfer_own_tests t) ≡ 0 → transfer_at B t.id ≡ Some e → transfer_result_code refusal ≡ first_of (transfer_exists_tests (Some e) (filled B t))
     → (id_code B t ≡ transfer_result_code refusal) × (transfer_result_code refusal ≢ 0)
-id_there_judged B t e refusal own found is = (sym (is ∙ id_there B t e own found), λ none. transfer_refused (filled B t) e (sym is ∙ none))
+id_there_judged B t e refusal own found is = (rw found (second_code _ _ (first_of (failed_tests B.failed t)) own (transfer_refused (filled B t) e)) ∙ sym is, λ none. transfer_refused (filled B t) e (sym is ∙ none))
 
 -- a transfer whose id isn't there
 pub id_free : (B : Books) (t : Transfer) → first_of (transfer_own_tests t) ≡ 0 → transfer_at B t.id ≡ None
@@ -105,11 +99,7 @@ later (test ∷ tests) = tests
 
 -- the state counts only where the transfer is pending
 named_same : (t p : Transfer) (s s' : State) → (pending p ≡ true → s ≡ s') → first_of (named_tests t p s) ≡ first_of (named_tests t p s')
-named_same t p s s' same = by (pending p) same
-  where
-    by : (b : Bool) → (b ≡ true → s ≡ s') → (if not b then 26 else first_of (later (named_tests t p s))) ≡ (if not b then 26 else first_of (later (named_tests t p s')))
-    by true same = ap (λ s. first_of (later (named_tests t p s))) (same refl)
-    by false same = refl
+named_same t p s s' same = elim (pending p) as (λ b. (b ≡ true → s ≡ s') → (if not b then 26 else first_of (later (named_tests t p s))) ≡ (if not b then 26 else first_of (later (named_tests t p s')))) [ true ↦ λ same. ap (λ s. first_of (later (named_tests t p s))) (same refl) | false ↦ λ same. refl ] same
 
 -- a post or void and the row that it names
 pub named_row : {A : Type 0} (rows : Rows A) → IsKept rows → (id : ℕ) (p : TransferRow) → find (λ row. row.recorded.id == id) rows.transfers.items ≡ Some p → (t : Transfer) (named closed_code : ℕ)
@@ -144,40 +134,21 @@ pub resolve_found : (B : Books) (t p : Transfer) → first_of (resolve_own_tests
 resolve_found B t p own found = rw (own, found) (only (named_code B t (Some p)))
 
 -- a transfer whose id is free has the verdict of its kind
-verdict_of : (B : Books) (t : Transfer) (time : ℕ) → id_code B t ≡ 0 → transfer_verdict B t time ≡ (if resolves t then resolve_code B t else single_code B t time)
-verdict_of B t time free = ap (λ n. first_code (n ∷ (if resolves t then resolve_code B t else single_code B t time) ∷ [])) free ∙ only (if resolves t then resolve_code B t else single_code B t time)
-
 pub single_verdict : (B : Books) (t : Transfer) (time : ℕ) → id_code B t ≡ 0 → resolves t ≡ false → transfer_verdict B t time ≡ single_code B t time
-single_verdict B t time free single = verdict_of B t time free ∙ ap (λ b. if b then resolve_code B t else single_code B t time) single
+single_verdict B t time free single = ap₂ (λ n b. first_code (n ∷ (if b then resolve_code B t else single_code B t time) ∷ [])) free single ∙ only (single_code B t time)
 
 pub resolving_verdict : (B : Books) (t : Transfer) (time : ℕ) → id_code B t ≡ 0 → resolves t ≡ true → transfer_verdict B t time ≡ resolve_code B t
-resolving_verdict B t time free resolving = verdict_of B t time free ∙ ap (λ b. if b then resolve_code B t else single_code B t time) resolving
+resolving_verdict B t time free resolving = ap₂ (λ n b. first_code (n ∷ (if b then resolve_code B t else single_code B t time) ∷ [])) free resolving ∙ only (resolve_code B t)
 
--- filling leaves the id and the pending id
+-- filling leaves the id and the pending id, and whether it posts
 pub filled_id : (B : Books) (t : Transfer) → (filled B t).id ≡ t.id
-filled_id B t = by (resolves t) (transfer_at B t.pending_id)
-  where
-    by : (b : Bool) (o : Option Transfer) → (if b then option_map_or (λ p. filled_from p t) o t else t).id ≡ t.id
-    by true None = refl
-    by true (Some p) = refl
-    by false o = refl
+filled_id B t = filled_keeps (λ t. t.id) B t (λ p. refl)
 
 pub filled_pending_id : (B : Books) (t : Transfer) → (filled B t).pending_id ≡ t.pending_id
-filled_pending_id B t = by (resolves t) (transfer_at B t.pending_id)
-  where
-    by : (b : Bool) (o : Option Transfer) → (if b then option_map_or (λ p. filled_from p t) o t else t).pending_id ≡ t.pending_id
-    by true None = refl
-    by true (Some p) = refl
-    by false o = refl
+filled_pending_id B t = filled_keeps (λ t. t.pending_id) B t (λ p. refl)
 
--- and whether it posts
 pub filled_posts : (B : Books) (t : Transfer) → posts (filled B t) ≡ posts t
-filled_posts B t = by (resolves t) (transfer_at B t.pending_id)
-  where
-    by : (b : Bool) (o : Option Transfer) → posts (if b then option_map_or (λ p. filled_from p t) o t else t) ≡ posts t
-    by true None = refl
-    by true (Some p) = refl
-    by false o = refl
+filled_posts B t = filled_keeps posts B t (λ p. refl)
 
 pub same_closed_code : (B : Books) (r t p : Transfer) → posts r ≡ posts t → closed_code B r p ≡ closed_code B t p
 same_closed_code B r t p same = ap (λ b. first_of ((65, b && closed_at B p.debit_account_id) ∷ (66, b && closed_at B p.credit_account_id) ∷ [])) same

@@ -3,7 +3,7 @@ ghost use Rattle.std.specs.Prelude.{◌≡◌, ◌+◌, ◌<◌, ◌≤◌, ◌+
 ghost use Rattle.tb_ledger.specs.Batches.{account_events, batch_after, results, transfer_events};
 ghost use Rattle.tb_ledger.specs.Books.{account_now, empty_books, found_accounts, found_transfers, moved_to_two, profile_of, transfer_at};
 ghost use Rattle.tb_ledger.specs.Capacity.{HasTransfers, capacity_of};
-ghost use Rattle.tb_ledger.specs.Entering.{CanEnter, IsMadeFor};
+ghost use Rattle.tb_ledger.specs.Entering.{CanEnter};
 ghost use Rattle.tb_ledger.specs.Kept.{books_in, IsKept};
 ghost use Rattle.tb_ledger.specs.Sound.{IdsRise};
 ghost use Rattle.tb_ledger.specs.Tables.{IsShortSearch};
@@ -62,30 +62,8 @@ fn reserve_transfers<A: Allocator + Clone>(
     Ok(())
 }
 
-/// Enters a batch at the time `t`, with the capacity for its records, its changes and its results: expires to `t`, then takes the
-/// events.
-fn enter_within<E: Event, A: Allocator + Clone>(
-    work: &mut Work<A>,
-    global: Global,
-    t: u64,
-    events: &[E],
-) -> Vec<EventResult>
-    requires kept { IsKept work.old.rows }
-    requires capacity { E.HasCapacity (length events.now) (capacity_of work.old.rows) }
-    requires made { IsMadeFor (length events.now) work.old }
-    requires entry { CanEnter work.old.rows.time (length events.now) t }
-    ensures kept { IsKept work.new.rows }
-    ensures books { books_in work.new.rows
-        ≡ (batch_after E.kind (books_in work.old.rows) events.now t).books }
-    ensures results { result.items ≡ results (batch_after E.kind (books_in work.old.rows) events.now t).codes }
-{
-    let first = t + 1 - events.len() as u64;
-    expire(&mut work.rows, t);
-    run_batch(work, events, first);
-    work.results.hand_out(global)
-}
-
-/// Enters a batch at the time `t`, with the capacity for its records: memory for its results and its changes first.
+/// Enters a batch at the time `t`, with the capacity for its records: makes memory for its results and its changes first, expires
+/// to `t`, then takes the events.
 fn enter<E: Event, A: Allocator + Clone>(
     work: &mut Work<A>,
     alloc: &A,
@@ -105,7 +83,10 @@ fn enter<E: Event, A: Allocator + Clone>(
 {
     work.results.reserve(global, events.len())?;
     work.undo_log.reserve(alloc, events.len())?;
-    Ok(enter_within(work, global, t, events))
+    let first = t + 1 - events.len() as u64;
+    expire(&mut work.rows, t);
+    run_batch(work, events, first);
+    Ok(work.results.hand_out(global))
 }
 
 impl<A: Allocator + Clone> Ledger<A> {

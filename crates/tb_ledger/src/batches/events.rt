@@ -4,10 +4,11 @@ ghost use Rattle.tb_ledger.specs.Capacity.{Capacity, capacity_of, Uses};
 ghost use Rattle.tb_ledger.specs.Kept.{books_in, IsKept};
 ghost use Rattle.tb_ledger.specs.Steps.{IsPrepared, StaysButFailed, Takes};
 
-use crate::changes::account::take_account;
+use crate::changes::account::add_account_row;
 use crate::changes::transfer::{note_failed, take_transfer};
 use crate::tables::rows::Rows;
 use crate::tables::work::Work;
+use crate::verdicts::account::judge_account;
 use std::alloc::Allocator;
 use tb_records::{Account, CreateAccountResult, CreateTransferResult, Transfer};
 
@@ -120,7 +121,11 @@ impl Event for Account {
         work: &mut Work<A>,
         time: u64,
     ) -> Result<(), CreateAccountResult> {
-        take_account(work, self, time)
+        judge_account(&work.rows, self)?;
+        let mut recorded = *self;
+        recorded.timestamp = time;
+        add_account_row(&mut work.rows.accounts, &mut work.undo_log, &recorded);
+        Ok(())
     }
 
     fn refuse<A: Allocator + Clone>(&self, rows: &mut Rows<A>, refusal: CreateAccountResult) {

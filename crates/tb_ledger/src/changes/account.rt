@@ -1,39 +1,17 @@
-//! An account is judged, and added where it is accepted.
+//! An account is added.
 ghost use Rattle.std.specs.Prelude.{◌≡◌, ◌<◌, ◌==◌, length, ◌-◌, find, None};
-ghost use Rattle.tb_ledger.specs.Batches.{account_events};
-ghost use Rattle.tb_records.specs.AccountResults.{account_result_code};
-ghost use Rattle.tb_ledger.specs.Capacity.{HasAccounts};
 ghost use Rattle.tb_ledger.specs.Kept.{account_row_key, blank, new_row};
 ghost use Rattle.tb_ledger.specs.UndoLog.{IsNoted};
-ghost use Rattle.tb_ledger.specs.Steps.{IsPrepared, Takes};
 ghost use Rattle.tb_records.specs.Ordered.{put};
 
 use crate::tables::accounts::AccountRow;
 use crate::tables::map::Table;
 use crate::tables::undo_log::{Undo, UndoLog};
-use crate::tables::work::Work;
-use crate::verdicts::account::judge_account;
 use std::alloc::Allocator;
-use tb_records::{Account, CreateAccountResult};
-
-/// Judges an account, and records it with its timestamp where it passes.
-pub(crate) fn take_account<A: Allocator + Clone>(
-    work: &mut Work<A>,
-    a: &Account,
-    time: u64,
-) -> Result<(), CreateAccountResult>
-    requires ready { IsPrepared HasAccounts work.old time }
-    ensures { Takes account_events account_result_code work.old a.now time result work.new }
-{
-    judge_account(&work.rows, a)?;
-    let mut recorded = *a;
-    recorded.timestamp = time;
-    add_account_row(&mut work.rows.accounts, &mut work.undo_log, &recorded);
-    Ok(())
-}
+use tb_records::Account;
 
 /// Adds the row of an account: no transfer names it yet.
-fn add_account_row<A: Allocator + Clone>(
+pub(crate) fn add_account_row<A: Allocator + Clone>(
     accounts: &mut Table<AccountRow, A>,
     undo_log: &mut UndoLog<A>,
     a: &Account,

@@ -2,7 +2,7 @@
 ghost use Rattle.std.specs.Prelude.{◌≡◌, ◌≢◌, ◌≤◌, ◌==◌, find, Some, IsSome};
 ghost use Rattle.tb_records.specs.Ordered.{replaced};
 ghost use Rattle.tb_ledger.specs.Books.{closing_debit, closing_credit};
-ghost use Rattle.tb_ledger.specs.Kept.{books_in, IsKept, AreKept, IsIndex, IsTimeout, transfer_row_key, on_debits, on_credits, released, settled, accounts_released};
+ghost use Rattle.tb_ledger.specs.Kept.{books_in, IsKept, IsTimeout, transfer_row_key, on_debits, on_credits, released, settled, accounts_released};
 ghost use Rattle.tb_ledger.specs.Steps.{KeepsRecords};
 ghost use Rattle.tb_ledger.specs.declared.tables.transfers.State.TheVariants.{Expired};
 
@@ -74,21 +74,6 @@ fn mark_expired<A: Allocator + Clone>(
     }
 }
 
-/// Releases each transfer that is due at the time.
-fn release_due<A: Allocator + Clone>(rows: &mut Rows<A>, time: u64)
-    requires kept { IsKept rows.old }
-    requires later { rows.old.time ≤ time }
-    ensures kept { AreKept rows.new.accounts.items rows.new.transfers.items time }
-    ensures index { IsIndex rows.new.transfers.items rows.new.timeouts.items }
-    ensures records { KeepsRecords rows.old rows.new }
-    ensures time { rows.new.time ≡ rows.old.time }
-{
-    while let Some(due) = rows.timeouts.pop_due(time) {
-        let p = mark_expired(&mut rows.transfers, due);
-        release(&mut rows.accounts, &p.recorded());
-    }
-}
-
 /// Moves the ledger on to `time`: pending transfers whose timeout has passed hold no more. It takes as many steps as there are
 /// of these.
 pub fn expire<A: Allocator + Clone>(rows: &mut Rows<A>, time: u64)
@@ -99,6 +84,9 @@ pub fn expire<A: Allocator + Clone>(rows: &mut Rows<A>, time: u64)
     ensures records { KeepsRecords rows.old rows.new }
     ensures time { rows.new.time ≡ time }
 {
-    release_due(rows, time);
+    while let Some(due) = rows.timeouts.pop_due(time) {
+        let p = mark_expired(&mut rows.transfers, due);
+        release(&mut rows.accounts, &p.recorded());
+    }
     rows.time = time;
 }

@@ -88,14 +88,10 @@ fn settle_accounts<A: Allocator + Clone>(
     ensures settled { SettlesIn p.now r.now undo_log.old accounts.old.items result accounts.new.items undo_log.new }
     ensures capacity { accounts.new.spare ≡ accounts.old.spare }
 {
-    let settled = accounts.update_two(
-        r.debit_account_id,
-        r.credit_account_id,
-        &mut |debit: &mut AccountRow, credit: &mut AccountRow| settle_rows(
-            debit, credit, p, r, undo_log,
-        ),
-    );
-    match settled {
+    let mut settle = |debit: &mut AccountRow, credit: &mut AccountRow| {
+        settle_rows(debit, credit, p, r, undo_log)
+    };
+    match accounts.update_two(r.debit_account_id, r.credit_account_id, &mut settle) {
         Some(result) => result,
         None => unreachable!(),
     }

@@ -56,14 +56,10 @@ fn exchange<A: Allocator + Clone>(
     ensures exchanged { ExchangesIn t.now time undo_log.old accounts.old.items result accounts.new.items undo_log.new }
     ensures capacity { accounts.new.spare ≡ accounts.old.spare }
 {
-    let exchanged = accounts.update_two(
-        t.debit_account_id,
-        t.credit_account_id,
-        &mut |debit: &mut AccountRow, credit: &mut AccountRow| exchange_rows(
-            debit, credit, t, time, undo_log,
-        ),
-    );
-    match exchanged {
+    let mut exchange = |debit: &mut AccountRow, credit: &mut AccountRow| {
+        exchange_rows(debit, credit, t, time, undo_log)
+    };
+    match accounts.update_two(t.debit_account_id, t.credit_account_id, &mut exchange) {
         Some(result) => result,
         None => Err(missing(accounts, t)),
     }

@@ -4,7 +4,7 @@ ghost use Rattle.std.specs.Option.{option_copied};
 ghost use Rattle.std.specs.Map.{values_of};
 ghost use Rattle.tb_records.specs.Ordered.{put, replaced, taken_out, Rising};
 ghost use Rattle.avl_tree.specs.Map.{entries};
-ghost use Rattle.tb_ledger.specs.Tables.{IsTable, IsShortSearch, KeepsKey, ChangedRow, KeepsKeys, ChangedRows};
+ghost use Rattle.tb_ledger.specs.Tables.{IsShortSearch, KeepsKey, ChangedRow, KeepsKeys, ChangedRows};
 
 use crate::tables::absent_ids::{AbsentIds, unfound};
 use avl_tree::AvlMap;
@@ -48,118 +48,6 @@ impl<V: Keyed, A: Allocator + Clone> Model for Table<V, A> {
 /// So many rows no longer stand in a core's own memory, where a search for one of them hardly waits.
 const MANY_ROWS: usize = 4096;
 
-/// The row with the key.
-fn row_of<V: Keyed, A: Allocator + Clone>(rows: &AvlMap<u128, V, A>, id: u128) -> Option<&V>
-    requires { IsTable V.key (entries rows.now) }
-    ensures { option_copied result ≡ find (λ row. V.key row == id) (values_of (entries rows.now)) }
-{
-    rows.get(&id)
-}
-
-/// The rows with eight keys.
-fn rows_of<'a, V: Keyed, A: Allocator + Clone>(
-    rows: &'a AvlMap<u128, V, A>,
-    ids: &[u128; 8],
-) -> [Option<&'a V>; 8]
-    requires { IsTable V.key (entries rows.now) }
-    ensures { map option_copied result
-        ≡ map (λ id. find (λ row. V.key row == id) (values_of (entries rows.now))) ids.now }
-{
-    rows.get_many(ids)
-}
-
-/// The row with the key, and the number of nodes that the search met.
-fn probe_row<V: Keyed, A: Allocator + Clone>(
-    rows: &AvlMap<u128, V, A>,
-    id: u128,
-) -> (Option<&V>, u32)
-    requires { IsTable V.key (entries rows.now) }
-    ensures row { option_copied result.0 ≡ find (λ row. V.key row == id) (values_of (entries rows.now)) }
-    ensures visits { IsShortSearch (length (values_of (entries rows.now))) result.1 }
-{
-    rows.probe(&id)
-}
-
-/// Inserts a row whose key isn't there into a spare node.
-fn insert_row<V: Keyed, A: Allocator + Clone>(rows: &mut AvlMap<u128, V, A>, row: V)
-    requires table { IsTable V.key (entries rows.old) }
-    requires capacity { 0 < rows.old.spare }
-    requires absent { find (λ y. V.key y == V.key row) (values_of (entries rows.old)) ≡ None }
-    ensures table { IsTable V.key (entries rows.new) }
-    ensures rows { values_of (entries rows.new) ≡ put V.key row (values_of (entries rows.old)) }
-    ensures capacity { rows.new.spare + 1 ≡ rows.old.spare }
-{
-    rows.insert_reserved(row.key(), row);
-}
-
-/// Puts a row in place of the one that has its key, if there is one.
-fn replace_row<V: Keyed, A: Allocator + Clone>(rows: &mut AvlMap<u128, V, A>, row: V)
-    requires table { IsTable V.key (entries rows.old) }
-    ensures table { IsTable V.key (entries rows.new) }
-    ensures rows { values_of (entries rows.new) ≡ replaced V.key row (values_of (entries rows.old)) }
-    ensures capacity { rows.new.spare ≡ rows.old.spare }
-{
-    let _ = rows.set(row.key(), row);
-}
-
-/// Calls the closure at the row with the key, where it is there.
-fn update_row<V: Keyed, A: Allocator + Clone, R, F: FnMut(&mut V) -> R>(
-    rows: &mut AvlMap<u128, V, A>,
-    id: u128,
-    f: &mut F,
-) -> Option<R>
-    requires table { IsTable V.key (entries rows.old) }
-    requires callable { F.IsAlwaysCallable f.old }
-    requires keeps { KeepsKey V.key F.FnMut }
-    ensures table { IsTable V.key (entries rows.new) }
-    ensures changed { IfSome result
-        (λ r.
-        ChangedRow V.key F.FnMut id (values_of (entries rows.old)) f.old r f.new
-        (values_of (entries rows.new))) }
-    ensures absent { IfNone result
-        ((find (λ y. V.key y == id) (values_of (entries rows.old)) ≡ None)
-        × (values_of (entries rows.new) ≡ values_of (entries rows.old))) }
-    ensures capacity { rows.new.spare ≡ rows.old.spare }
-{
-    rows.update(&id, f)
-}
-
-/// Calls the closure at the rows of two keys, where both are there.
-fn update_rows<V: Keyed, A: Allocator + Clone, R, F: FnMut(&mut V, &mut V) -> R>(
-    rows: &mut AvlMap<u128, V, A>,
-    a: u128,
-    b: u128,
-    f: &mut F,
-) -> Option<R>
-    requires table { IsTable V.key (entries rows.old) }
-    requires differ { a ≢ b }
-    requires callable { F.IsAlwaysCallable f.old }
-    requires keeps { KeepsKeys V.key F.FnMut }
-    ensures table { IsTable V.key (entries rows.new) }
-    ensures changed { IfSome result
-        (λ r.
-        ChangedRows V.key F.FnMut a b (values_of (entries rows.old)) f.old r f.new
-        (values_of (entries rows.new))) }
-    ensures absent { IfNone result
-        (((find (λ y. V.key y == a) (values_of (entries rows.old)) ≡ None)
-        ⊎ (find (λ y. V.key y == b) (values_of (entries rows.old)) ≡ None))
-        × (f.new ≡ f.old)
-        × (values_of (entries rows.new) ≡ values_of (entries rows.old))) }
-    ensures capacity { rows.new.spare ≡ rows.old.spare }
-{
-    rows.update_two(&a, &b, f)
-}
-
-/// Takes the row with the key out, if there is one. Its node becomes spare.
-fn remove_row<V: Keyed, A: Allocator + Clone>(rows: &mut AvlMap<u128, V, A>, id: u128)
-    requires table { IsTable V.key (entries rows.old) }
-    ensures table { IsTable V.key (entries rows.new) }
-    ensures rows { values_of (entries rows.new) ≡ taken_out V.key id (values_of (entries rows.old)) }
-    ensures capacity { rows.old.spare ≤ rows.new.spare }
-{
-    let _ = rows.remove(&id);
-}
-
 impl<V: Keyed, A: Allocator + Clone> Table<V, A> {
     /// An empty table. No memory is taken.
     pub fn new() -> Self
@@ -179,7 +67,7 @@ impl<V: Keyed, A: Allocator + Clone> Table<V, A> {
             return None;
         }
         match &self.rows {
-            Some(rows) => row_of(rows, id),
+            Some(rows) => rows.get(&id),
             None => None,
         }
     }
@@ -190,7 +78,7 @@ impl<V: Keyed, A: Allocator + Clone> Table<V, A> {
             ≡ map (λ id. find (λ row. V.key row == id) self.now.items) ids.now }
     {
         match &self.rows {
-            Some(rows) => rows_of(rows, ids),
+            Some(rows) => rows.get_many(ids),
             None => [None; 8],
         }
     }
@@ -224,7 +112,7 @@ impl<V: Keyed, A: Allocator + Clone> Table<V, A> {
         ensures visits { IsShortSearch (length self.now.items) result.1 }
     {
         match &self.rows {
-            Some(rows) => probe_row(rows, id),
+            Some(rows) => rows.probe(&id),
             None => (None, 0),
         }
     }
@@ -255,10 +143,10 @@ impl<V: Keyed, A: Allocator + Clone> Table<V, A> {
         ensures rising { Rising V.key self.old.items }
     {
         self.absent_ids.admit(row.key());
-        match &mut self.rows {
-            Some(rows) => insert_row(rows, row),
-            None => {}
-        }
+        let Some(rows) = &mut self.rows else {
+            return;
+        };
+        rows.insert_reserved(row.key(), row);
     }
 
     /// Puts a row in place of the one that has its key. Where none has it, the table stays.
@@ -266,10 +154,10 @@ impl<V: Keyed, A: Allocator + Clone> Table<V, A> {
         ensures table { self.new ≡ record self.old { items = replaced V.key row self.old.items } }
         ensures rising { Rising V.key self.old.items }
     {
-        match &mut self.rows {
-            Some(rows) => replace_row(rows, row),
-            None => {}
-        }
+        let Some(rows) = &mut self.rows else {
+            return;
+        };
+        let _ = rows.set(row.key(), row);
     }
 
     /// Calls the closure at the row with the key, which it may change but for the key. Where none has it, nothing happens.
@@ -283,10 +171,10 @@ impl<V: Keyed, A: Allocator + Clone> Table<V, A> {
             × (self.new.items ≡ self.old.items)) }
         ensures capacity { self.new.spare ≡ self.old.spare }
     {
-        match &mut self.rows {
-            Some(rows) => update_row(rows, id, f),
-            None => None,
-        }
+        let Some(rows) = &mut self.rows else {
+            return None;
+        };
+        rows.update(&id, f)
     }
 
     /// Calls the closure at the rows of two keys, which it may change but for the keys. Where one has none, nothing happens.
@@ -308,10 +196,10 @@ impl<V: Keyed, A: Allocator + Clone> Table<V, A> {
             × (self.new.items ≡ self.old.items)) }
         ensures capacity { self.new.spare ≡ self.old.spare }
     {
-        match &mut self.rows {
-            Some(rows) => update_rows(rows, a, b, f),
-            None => None,
-        }
+        let Some(rows) = &mut self.rows else {
+            return None;
+        };
+        rows.update_two(&a, &b, f)
     }
 
     /// Takes the row with the key out. Where none has it, the table stays.
@@ -319,9 +207,9 @@ impl<V: Keyed, A: Allocator + Clone> Table<V, A> {
         ensures rows { self.new.items ≡ taken_out V.key id self.old.items }
         ensures capacity { self.old.spare ≤ self.new.spare }
     {
-        match &mut self.rows {
-            Some(rows) => remove_row(rows, id),
-            None => {}
-        }
+        let Some(rows) = &mut self.rows else {
+            return;
+        };
+        let _ = rows.remove(&id);
     }
 }

@@ -12,4 +12,4 @@ returns-clause-noted g c =
     let undo_log = c.args.undo_log.now in
     let grown = c.note.new.self in
     grown_by (AddedAccount a.id) undo_log grown c.note.ensures (λ pushed x.
-        leads_by undo_log.changes grown.changes (AddedAccount a.id) (record x { accounts = old }) (record x { accounts = later }) pushed (λ i. record x { accounts = back i }) tt)
+    leads_by undo_log.changes grown.changes (AddedAccount a.id) (record x { accounts = old }) (record x { accounts = later }) pushed (λ i. record x { accounts = back i }) tt)

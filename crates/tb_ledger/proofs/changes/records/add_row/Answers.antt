@@ -16,5 +16,5 @@ returns-clause-marked g c =
     let undo_log = c.args.undo_log.now in
     let grown = c.note_added.new.self in
     grown_by (AddedTransfer row) undo_log grown c.note_added.ensures (λ pushed accounts.
-        leads_by undo_log.changes grown.changes (AddedTransfer row) (record { accounts = accounts; transfers = old; timeouts = ts }) (record { accounts = accounts; transfers = later; timeouts = moved }) pushed
-        (λ i. record { accounts = accounts; transfers = back i; timeouts = untimed i }) (λ is. (c.requires.can_list is).in_range))
+    leads_by undo_log.changes grown.changes (AddedTransfer row) (record { accounts = accounts; transfers = old; timeouts = ts }) (record { accounts = accounts; transfers = later; timeouts = moved }) pushed
+    (λ i. record { accounts = accounts; transfers = back i; timeouts = untimed i }) (λ is. (c.requires.can_list is).in_range))

@@ -6,4 +6,4 @@ pub returns-clause-settled : goal.returns-clause-settled
 returns-clause-settled g c =
     let ch = c.in-Some.ensures.changed in
     let called = ch.called in
-    settled_in c.args.p.now c.args.r.now c.args.undo_log.now _ c.args.accounts.now.items c.update_two-settled.new.self.items ch.row ch.other ch.left ch.other_left c.in-Some.result c.requires.apart ch.found ch.other_found (c.requires.can_debit ch.row ch.found) (c.requires.can_credit ch.other ch.other_found) (search rules) ch.written
+    settled_in c.args.p.now c.args.r.now c.args.undo_log.now _ c.args.accounts.now.items c.update_two.new.self.items ch.row ch.other ch.left ch.other_left c.in-Some.result c.requires.apart ch.found ch.other_found (c.requires.can_debit ch.row ch.found) (c.requires.can_credit ch.other ch.other_found) (search rules) ch.written

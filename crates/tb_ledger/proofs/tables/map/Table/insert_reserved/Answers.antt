@@ -1,17 +1,33 @@
-use Rattle.tb_ledger.proofs.Common.{sym, subst, values_of, entries, rows_in, MayBeKey}
-use Rattle.tb_ledger.proofs.AbsentKeys.{OfKeys, known-put}
+use Rattle.tb_ledger.proofs.Common.{◌≡◌, ◌-◌, sym, ap, subst, ◌∙◌, arith, entries, nat_cmp, own-agrees, unseen, spare_in, MayBeKey}
+use Rattle.tb_ledger.proofs.Entries.{found_in}
+use Rattle.tb_ledger.proofs.Entries.{holds, holds_put}
 use Rattle.tb_ledger.proofs.tables.map.Table.insert_reserved.Goals as goal
-use Rattle.tb_ledger.proofs.tables.map.Table.insert_reserved.Goals.{in-Some, in-None}
 
-pub invariant_of-self : goal.invariant_of-self
-invariant_of-self g c =
+pub insert_reserved-requires-clause-absent : goal.insert_reserved-requires-clause-absent
+insert_reserved-requires-clause-absent g c =
     let key = g.V.Keyed.key in
-    let may = MayBeKey c.self.inside.absent_ids in
-    elim c.match-self.branch [
-      | in-Some w ↦
-          let known = subst (λ m. OfKeys key may (rows_in m)) w.in-Some.is c.self.invariant.may in
-          let rows = values_of (entries w.in-Some.rows) in
-          let later = MayBeKey c.admit.new.self in
-          rw w.self-inside-is (record { table = w.insert_row.ensures.table; may = subst (OfKeys key later) (sym w.insert_row.ensures.rows) (known-put key may later c.key.result c.args.row rows c.key.ensures c.admit.ensures.here c.admit.ensures.others known) })
-      | in-None w ↦ rw (w.self-inside-is, w.in-None.is) (record { table = record { own = tt; rising = tt }; may = tt })
-    ]
+    let known = c.self.inside.absent_ids in
+    let items = c.args.self.now.items in
+    let has = holds key known c.self.inside.rows c.in-Some.rows items c.self.invariant c.in-Some.is (ap (λ t. t.items) c.self.view_is) in
+    rw c.key-2.ensures (found_in key known (entries c.in-Some.rows) items has (key c.args.row) ∙ c.requires.absent)
+
+pub invariant_of-self-2 : goal.invariant_of-self-2
+invariant_of-self-2 g c =
+    let key = g.V.Keyed.key in
+    let known = c.self.inside.absent_ids in
+    let items = c.args.self.now.items in
+    let has = holds key known c.self.inside.rows c.in-Some.rows items c.self.invariant c.in-Some.is (ap (λ t. t.items) c.self.view_is) in
+    let here = subst (MayBeKey c.admit.new.self) c.key.ensures c.admit.ensures.here in
+    (holds_put key known c.admit.new.self (entries c.in-Some.rows) items has c.args.row c.key-2.result (entries c.insert_reserved.new.self) c.key-2.ensures here c.admit.ensures.others c.requires.absent c.insert_reserved.ensures.entries).knows
+
+pub returns-clause-table : goal.returns-clause-table
+returns-clause-table g c =
+    let key = g.V.Keyed.key in
+    let known = c.self.inside.absent_ids in
+    let items = c.args.self.now.items in
+    let has = holds key known c.self.inside.rows c.in-Some.rows items c.self.invariant c.in-Some.is (ap (λ t. t.items) c.self.view_is) in
+    let here = subst (MayBeKey c.admit.new.self) c.key.ensures c.admit.ensures.here in
+    let is = (holds_put key known c.admit.new.self (entries c.in-Some.rows) items has c.args.row c.key-2.result (entries c.insert_reserved.new.self) c.key-2.ensures here c.admit.ensures.others c.requires.absent c.insert_reserved.ensures.entries).is in
+    let spare = sym (ap spare_in c.in-Some.is) ∙ ap (λ t. t.spare) c.self.view_is in
+    let one_less : c.insert_reserved.new.self.spare ≡ c.args.self.now.spare - 1 = omega (arith, c.insert_reserved.ensures.spare, spare) in
+    λ i. record { items = is i; spare = one_less i }

@@ -1,16 +1,19 @@
-use Rattle.tb_ledger.proofs.Common.{sym, subst, values_of, entries, rows_in, MayBeKey, each-taken_out}
-use Rattle.tb_ledger.proofs.AbsentKeys.{OfKeys}
+use Rattle.tb_ledger.proofs.Common.{ap, entries}
+use Rattle.tb_ledger.proofs.Entries.{holds, holds_removed}
 use Rattle.tb_ledger.proofs.tables.map.Table.remove.Goals as goal
-use Rattle.tb_ledger.proofs.tables.map.Table.remove.Goals.{in-Some, in-None}
 
-pub invariant_of-self : goal.invariant_of-self
-invariant_of-self g c =
+pub invariant_of-self-2 : goal.invariant_of-self-2
+invariant_of-self-2 g c =
     let key = g.V.Keyed.key in
-    let may = MayBeKey c.self.inside.absent_ids in
-    elim c.match-self.branch [
-      | in-Some w ↦
-          let known = subst (λ m. OfKeys key may (rows_in m)) w.in-Some.is c.self.invariant.may in
-          let rows = values_of (entries w.in-Some.rows) in
-          rw w.self-inside-is (record { table = w.remove_row.ensures.table; may = subst (OfKeys key may) (sym w.remove_row.ensures.rows) (each-taken_out key (λ row. may (key row)) c.args.id rows known) })
-      | in-None w ↦ rw (w.self-inside-is, w.in-None.is) (record { table = record { own = tt; rising = tt }; may = tt })
-    ]
+    let known = c.self.inside.absent_ids in
+    let items = c.args.self.now.items in
+    let has = holds key known c.self.inside.rows c.in-Some.rows items c.self.invariant c.in-Some.is (ap (λ t. t.items) c.self.view_is) in
+    (holds_removed key known (entries c.in-Some.rows) items has c.args.id (entries c.remove.new.self) c.remove.ensures.entries).knows
+
+pub returns-clause-rows : goal.returns-clause-rows
+returns-clause-rows g c =
+    let key = g.V.Keyed.key in
+    let known = c.self.inside.absent_ids in
+    let items = c.args.self.now.items in
+    let has = holds key known c.self.inside.rows c.in-Some.rows items c.self.invariant c.in-Some.is (ap (λ t. t.items) c.self.view_is) in
+    (holds_removed key known (entries c.in-Some.rows) items has c.args.id (entries c.remove.new.self) c.remove.ensures.entries).is

@@ -3,7 +3,7 @@ use Rattle.tb_ledger.proofs.Accepted.{new_account, plain_account}
 use Rattle.tb_ledger.proofs.Refusals.{decides_none}
 use Rattle.tb_ledger.proofs.Settled.{no_row, books_with_account, ledger_with_account}
 use Rattle.tb_ledger.proofs.SoundLaws.{sound_account}
-use Rattle.tb_ledger.proofs.changes.account.take_account.Goals as goal
+use Rattle.tb_ledger.proofs.batches.events.AccountEvent.take.Goals as goal
 
 pub add_account_row-requires : goal.add_account_row-requires
 add_account_row-requires g c =
@@ -12,17 +12,17 @@ add_account_row-requires g c =
     record {
       capacity = omega (arith, c.requires.ready.capacity);
       log = omega (arith, c.requires.ready.log);
-      plain = ap stamped (plain_account B c.args.a.now c.in_ok-judge_account.ensures);
-      fresh = no_row account_key (λ a. a.created) c.args.a.now.id c.args.work.now.rows.accounts.items (new_account B c.args.a.now c.in_ok-judge_account.ensures);
+      plain = ap stamped (plain_account B c.args.self.now c.in_ok-judge_account.ensures);
+      fresh = no_row account_key (λ a. a.created) c.args.self.now.id c.args.work.now.rows.accounts.items (new_account B c.args.self.now c.in_ok-judge_account.ensures);
     }
 
-pub returns : goal.returns
-returns g c =
+pub returns-clause-takes : goal.returns-clause-takes
+returns-clause-takes g c =
     let rows = c.args.work.now.rows in
     let B = books_in rows in
     let kept = c.requires.ready.kept in
     let ok = c.in_ok-judge_account.ensures in
-    let a = recorded_account c.args.a.now c.args.time in
+    let a = recorded_account c.args.self.now c.args.time in
     let later = c.add_account_row.new.accounts.items in
     let added = ap (λ v. v.items) c.add_account_row.ensures.accounts in
     let noted = c.add_account_row.ensures.noted in
@@ -31,7 +31,7 @@ returns g c =
       done = books_with_account rows kept a later added;
       refused = tt;
       leaves = record {
-        kept = ledger_with_account rows kept a later added (new_account B c.args.a.now ok) (sound_account B c.args.a.now c.args.time kept.sound ok);
+        kept = ledger_with_account rows kept a later added (new_account B c.args.self.now ok) (sound_account B c.args.self.now c.args.time kept.sound ok);
         failed = refl;
         time = refl;
         grows = record {
@@ -51,5 +51,5 @@ returns g c =
       };
     }
 
-pub returns-in_err-judge_account : goal.returns-in_err-judge_account
-returns-in_err-judge_account g c = decides_none account_result_code _ _ c.args.work.now _ c.from_residual.result c.in_err-judge_account.field-0.0 c.requires.ready.kept c.from_residual.ensures.1 c.in_err-judge_account.ensures refl
+pub returns-in_err-judge_account-clause-takes : goal.returns-in_err-judge_account-clause-takes
+returns-in_err-judge_account-clause-takes g c = decides_none account_result_code _ _ c.args.work.now _ c.from_residual.result c.in_err-judge_account.field-0.0 c.requires.ready.kept c.from_residual.ensures.1 c.in_err-judge_account.ensures refl

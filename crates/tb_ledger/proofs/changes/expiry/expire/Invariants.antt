@@ -1,6 +1,6 @@
 use Rattle.tb_ledger.proofs.Common.{◌≡◌, ◌≤◌, map, length, Each, Rising, account_row_key, HasSums, IsIndex}
 use Rattle.tb_ledger.proofs.Expiries.{WillBe}
-use Rattle.tb_ledger.proofs.changes.expiry.release_due.Given as goal
+use Rattle.tb_ledger.proofs.changes.expiry.expire.Given as goal
 
 abbrev pub invariant-loop-due : goal.invariant-loop-due
 invariant-loop-due g l = record {
@@ -15,7 +15,6 @@ invariant-loop-due g l = record {
   timeouts_capacity : l.initial.rows.timeouts.spare ≤ l.rows.timeouts.spare;
   failed : l.rows.failed ≡ l.initial.rows.failed;
   keeps_failed : l.rows.keeps_failed ≡ l.initial.rows.keeps_failed;
-  time : l.rows.time ≡ l.initial.rows.time;
 }
 
 abbrev pub decreases-loop-due : goal.decreases-loop-due
