@@ -1,5 +1,5 @@
 -- Records in the order of a key: what a change leaves, and what is found after it.
-use Rattle.std.proofs.Common.{◌≡◌, ◌≢◌, ℕ, zero, suc, ◌+◌, ◌<◌, ◌≤◌, Bool, true, false, cond, if◌then◌else◌, eqb, ltb, ◌==◌, List, [], ◌∷◌, map, length, get_or, set, insert, remove, find, sum_by, Some, None, option_map, refl, sym, ap, subst, ◌∙◌, arith}
+use Rattle.std.proofs.Common.{◌≡◌, ◌≢◌, ℕ, ◌+◌, ◌<◌, Bool, true, false, if◌then◌else◌, eqb, ◌==◌, List, [], ◌∷◌, map, find, sum_by, Some, None, option_map, refl, sym, ap, subst, ◌∙◌, arith}
 use Rattle.std.proofs.lemmas.Bool.Decides.{nat_tests}
 use Rattle.std.proofs.lemmas.List.Sums.{sum_by-cons}
 use Rattle.tb_records.specs.Ordered.{put, replaced, taken_out, changed, Each, Rising}

@@ -1,17 +1,15 @@
 -- What is read of a dump, by where its reading ended.
-use Rattle.std.proofs.Common.{◌≡◌, ℕ, ◌^◌, ◌<◌, ◌≤◌, List, [], ◌∷◌, ◌++◌, length, take, drop, Option, Some, None, Ok, Err, inl, inr, refl, sym, ap, subst, ◌∙◌, arith, length-append, length-take, drop_at, append_assoc, append-nil, take_all}
+use Rattle.std.proofs.Common.{◌≡◌, ℕ, ◌^◌, ◌<◌, ◌≤◌, List, [], ◌∷◌, ◌++◌, length, take, drop, Option, Some, None, Ok, Err, inr, refl, sym, ap, subst, ◌∙◌, arith, length-append, length-take, drop_at, append_assoc, append-nil, take_all}
 use Rattle.std.proofs.lemmas.List.{drop_all}
-use Rattle.std.specs.Io.KnownBytes.{Consumes}
 use Rattle.tb_records.specs.declared.dumps.DumpFault.TheVariants.{Head, Frame}
 use Rattle.tb_records.specs.declared.faults.FrameFault.{FrameFault}
 use Rattle.tb_records.specs.declared.faults.FrameFault.TheVariants.{Short, Device}
 use Rattle.tb_records.specs.declared.limits.Profile.{Profile}
-use Rattle.tb_records.specs.declared.limits.Profile.TheVariants.{One, Two}
 use Rattle.tb_records.specs.DumpBytes.{signature, profile_number, head_bytes, numbers_bytes, IsClients, HasNoHead, HeadAnswers, ItemAnswers, ItemFaulted, Begins}
 use Rattle.tb_records.specs.DumpNumbers.{ReadsNumbers}
 use Rattle.tb_records.specs.Frames.{length_at}
 use Rattle.tb_records.specs.Inputs.{Answers, Faulted}
-use Rattle.tb_records.specs.Numbers.{le_bytes, le_at}
+use Rattle.tb_records.specs.Numbers.{le_bytes}
 use Rattle.tb_records.specs.Sizes.{length-le_bytes}
 use Rattle.tb_records.specs.Reading.{Filled}
 use Rattle.tb_records.proofs.FrameFaults.{cut_header}

@@ -1,9 +1,8 @@
 -- The pairs of a tree, as rows by a number that its keys stand for.
-use Rattle.std.proofs.Common.{◌≡◌, ℕ, Bool, true, false, cond, eqb, ltb, ◌==◌, List, [], ◌∷◌, map, find, is_some, Option, Some, None, refl, sym, ap, ◌∙◌, arith}
+use Rattle.std.proofs.Common.{◌≡◌, ℕ, cond, eqb, ◌==◌, List, [], ◌∷◌, map, find, is_some, Some, None, refl, sym, ap, ◌∙◌, arith}
 use Rattle.std.proofs.lemmas.Bool.Decides.{nat_tests}
 use Rattle.std.specs.declared.cmp.Ordering.{Ordering}
-use Rattle.std.specs.declared.cmp.Ordering.TheVariants.{Less, Equal, Greater}
-use Rattle.std.specs.Ordering.{match_ordering, nat_cmp, is_eq}
+use Rattle.std.specs.Ordering.{nat_cmp, is_eq}
 use Rattle.std.specs.Map.{lookup, set_value, remove_entry, values_of}
 use Rattle.std.specs.BTreeMap.{insert_entry, is_at}
 use Rattle.tb_records.specs.Ordered.{put, replaced, taken_out, Each}

@@ -1,9 +1,9 @@
 -- The first fault of a frame, by the fault of its header and its length.
-use Rattle.std.proofs.Common.{◌≡◌, ℕ, ◌+◌, ◌<◌, ◌≤◌, Bool, not, ◌&&◌, ◌==◌, List, [], ◌∷◌, ◌++◌, length, Some, None, ap, arith}
+use Rattle.std.proofs.Common.{◌≡◌, ℕ, ◌+◌, ◌<◌, ◌≤◌, Bool, not, ◌&&◌, ◌==◌, List, ◌∷◌, ◌++◌, length, Some, None, arith}
 use Rattle.std.proofs.lemmas.Bool.Decides.{nat_tests}
 use Rattle.tb_records.specs.declared.faults.FrameFault.{FrameFault}
 use Rattle.tb_records.specs.declared.faults.FrameFault.TheVariants.{Short, ClientZero, UnknownOperation, Reserved, RegisterNumbers, RequestZero, Device, NoMemory}
-use Rattle.tb_records.specs.Frames.{request_fault, header_fault, header_tests, length_tests, length_at}
+use Rattle.tb_records.specs.Frames.{request_fault, header_fault, length_tests, length_at}
 use Rattle.tb_records.specs.Messages.{first_fault, is_operation}
 use Rattle.tb_records.proofs.NumberBytes.{le_at-append}
 

@@ -1,17 +1,17 @@
 -- Headers: what their bytes say, and what bytes behind them leave alone.
-use Rattle.std.proofs.Common.{◌≡◌, ℕ, ◌^◌, ◌<◌, ◌≤◌, List, [], ◌∷◌, length, take, slice_index, None, ap, ◌∙◌, arith}
+use Rattle.std.proofs.Common.{◌≡◌, ℕ, ◌<◌, ◌≤◌, List, [], ◌∷◌, length, slice_index, None, ◌∙◌, arith}
 use Rattle.tb_records.specs.Numbers.{le_bytes, le_at}
-use Rattle.std.proofs.Common.{true, eq-eqb, Result, Ok, Err, MatchResult, OnOk, Some, ◌/◌, ◌*◌, ◌%◌, ◌==◌, not, inl, inr, if◌then◌else◌, sym, subst}
+use Rattle.std.proofs.Common.{Result, Ok, Err, MatchResult, OnOk, Some, ◌/◌, ◌*◌}
 use Rattle.std.proofs.Math.Nat.{div-add-mod', zero-div}
 use Rattle.std.proofs.lemmas.Bool.Decides.{nat_tests}
 use Rattle.tb_records.specs.declared.faults.FrameFault.{FrameFault}
 use Rattle.tb_records.specs.declared.headers.Header.{Header}
 use Rattle.tb_records.specs.Frames.{item_size, header_bytes, header_fault, header_tests, length_tests, client_at, session_at, request_at, operation_at, length_at}
-use Rattle.tb_records.specs.HeaderFields.{HeaderOf, HeaderSpelled, IsHeader, numbers_fault, numbers_tests}
+use Rattle.tb_records.specs.HeaderFields.{HeaderOf, HeaderSpelled, IsHeader, numbers_fault}
 use Rattle.tb_records.specs.Operations.{operation_code}
 use Rattle.tb_records.proofs.NumberBytes.{le_at-fits}
 use Rattle.tb_records.proofs.Rows.{row_bytes, row_read}
-use Rattle.tb_records.proofs.FirstFaults.{NoneHolds, none_each, all_none, both_zero, is_zero}
+use Rattle.tb_records.proofs.FirstFaults.{NoneHolds, none_each, both_zero}
 
 -- how many bytes the numbers of a header have
 abbrev pub header_widths : List ℕ

@@ -2,7 +2,7 @@
 use Rattle.std.proofs.Common.{◌≡◌, ℕ, set, zero, suc, ◌+◌, ◌*◌, ◌/◌, ◌%◌, ◌^◌, ◌-◌, ◌<◌, ◌≤◌, List, [], ◌∷◌, ◌++◌, length, take, drop, slice_index, refl, sym, ap, ◌∙◌, arith, add-zero}
 use Rattle.std.proofs.Math.Nat.{add-mul-mod_self_left, add-mul-div_left, div-div-eq-div-mul, div-one, mod-eq_of_lt, mod-lt, div-eq_of_lt, pow-succ'}
 use Rattle.std.proofs.Math.Seq.{take-add}
-use Rattle.std.proofs.lemmas.List.{length-append, length-drop, length-take, take_at, drop_at, get_or-drop, drop-append-le, append-nil}
+use Rattle.std.proofs.lemmas.List.{length-drop, length-take, drop_at, get_or-drop, drop-append-le, append-nil}
 use Rattle.std.proofs.lemmas.List.{drop_all, take_all, take_more_set}
 use Rattle.std.proofs.lemmas.Slice.{take-put_mid, between_to_end}
 use Rattle.std.specs.List.{between}
@@ -11,7 +11,6 @@ use Rattle.std.specs.Int.{byte_at, bytes_low_first}
 use Rattle.byteorder.specs.Endian.{little_from}
 use Rattle.byteorder.specs.Numbers.{little_from-bytes, little_from-cons, little_from-lt, little_from-append, little_number-reads_back, length-bytes_low_first}
 use Rattle.tb_records.specs.Numbers.{le_bytes, le_at}
-use Rattle.tb_records.specs.Sizes.{length-le_bytes}
 
 -- the bytes above the lowest are those of the number without it
 bytes_above : (j n x : ℕ) → bytes_low_first (suc j) n x ≡ bytes_low_first j n (x / 256)

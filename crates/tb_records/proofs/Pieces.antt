@@ -1,5 +1,5 @@
 -- Buffers that are filled or emptied piece by piece, and counts that rise.
-use Rattle.std.proofs.Common.{◌≡◌, ℕ, ◌*◌, [], ◌∷◌, get_or, flat_map, All, refl, subst, Option, true, false, ◌+◌, ◌-◌, ◌<◌, ◌≤◌, inl, inr, min, List, ◌++◌, length, take, drop, cond, not, ◌&&◌, ◌==◌, sym, ap, ◌∙◌, arith, length-take, length-append, length-drop}
+use Rattle.std.proofs.Common.{◌≡◌, ℕ, ◌*◌, [], ◌∷◌, get_or, flat_map, All, refl, subst, Option, true, false, ◌+◌, ◌-◌, ◌<◌, ◌≤◌, min, List, ◌++◌, length, take, drop, ◌==◌, sym, ap, ◌∙◌, arith, length-append}
 use Rattle.std.proofs.lemmas.List.{take-append-le, take-append-drop, take_min, drop_more}
 use Rattle.std.proofs.lemmas.Grind.{common_steps, flat_map-append}
 use Rattle.std.proofs.lemmas.List.Elements.{All-append, All-cons, All-nil}
@@ -14,8 +14,8 @@ use Rattle.std.proofs.lemmas.Bool.{ne_eqb}
 use Rattle.std.proofs.lemmas.Bool.Decides.{nat_tests}
 use Rattle.std.proofs.lemmas.Slice.{between_to_end}
 use Rattle.std.specs.List.{between}
-use borrow.Rule.Slice.PartMut.{put_mid, post_of}
-use Rattle.tb_records.specs.Transport.{Input, Output, risen, Fails, FaultCounts, is_stall, Takes, Errs, Refuses, CutOff}
+use borrow.Rule.Slice.PartMut.{put_mid}
+use Rattle.tb_records.specs.Transport.{Input, Output, Fails, Takes, Refuses, CutOff}
 use Rattle.tb_records.specs.Reading.{ReadFault, BodyFault}
 
 -- a beginning that was filled, and then a part of the rest

@@ -1,11 +1,10 @@
 -- The first fault of a reply's frame, by the fault of its header and its length.
-use Rattle.std.proofs.Common.{◌≡◌, ℕ, ◌+◌, ◌/◌, ◌<◌, ◌≤◌, Bool, not, ◌&&◌, ◌==◌, nat_lt, List, [], ◌∷◌, length, Some, None, Err, arith}
+use Rattle.std.proofs.Common.{◌≡◌, ℕ, ◌+◌, ◌<◌, ◌≤◌, List, length, Some, None, Err, arith}
 use Rattle.std.proofs.lemmas.Bool.Decides.{nat_tests}
 use Rattle.tb_records.specs.declared.faults.FrameFault.{FrameFault}
 use Rattle.tb_records.specs.declared.faults.FrameFault.TheVariants.{Short, NoMemory}
 use Rattle.tb_records.specs.Frames.{length_at}
-use Rattle.tb_records.specs.Messages.{first_fault, is_operation, has_register_numbers, has_reply_numbers, items_max}
-use Rattle.tb_records.specs.ReplyFrames.{reply_fault, reply_header_fault, reply_item_size, has_reply_length, FoundReply}
+use Rattle.tb_records.specs.ReplyFrames.{reply_fault, reply_header_fault, FoundReply}
 
 -- a header that is cut
 pub cut_reply_header : (b : List ℕ) → length b < 48 → reply_fault b ≡ Some Short

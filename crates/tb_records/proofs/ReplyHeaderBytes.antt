@@ -1,5 +1,5 @@
 -- The header of a reply that was read: its bytes are the spelling of its fields, and its numbers go together.
-use Rattle.std.proofs.Common.{◌≡◌, ℕ, ◌+◌, ◌-◌, ◌/◌, ◌^◌, ◌<◌, ◌≤◌, Bool, true, false, not, ◌&&◌, ◌==◌, nat_lt, List, [], ◌∷◌, ◌++◌, length, take, drop, slice_index, None, refl, sym, ap, ◌∙◌, subst, arith, if◌then◌else◌}
+use Rattle.std.proofs.Common.{◌≡◌, ℕ, ◌+◌, ◌-◌, ◌<◌, ◌≤◌, Bool, true, false, not, ◌&&◌, ◌==◌, nat_lt, List, [], ◌∷◌, ◌++◌, length, take, drop, slice_index, None, sym, ap, ◌∙◌, arith, if◌then◌else◌}
 use Rattle.std.proofs.Math.Seq.{take-add}
 use Rattle.std.proofs.lemmas.Bool.{eq-eqb}
 use Rattle.std.proofs.lemmas.Bool.Decides.{nat_tests}
@@ -8,10 +8,9 @@ use Rattle.tb_records.specs.declared.reply_reading.ReplyHeader.{ReplyHeader}
 use Rattle.tb_records.specs.declared.bodies.ReplyBody.{ReplyBody}
 use Rattle.tb_records.specs.declared.faults.FrameFault.{FrameFault}
 use Rattle.tb_records.specs.declared.faults.FrameFault.TheVariants.{ClientZero, UnknownOperation, BadLength, TooMany, RegisterNumbers, RequestZero, ReplyNumbers}
-use Rattle.tb_records.specs.Frames.{client_at, session_at, request_at, operation_at, length_at}
-use Rattle.tb_records.specs.Messages.{status_code, answer_count, first_fault, is_operation, has_register_numbers, has_reply_numbers, kind_of, kind_for, items_max, IsRight}
+use Rattle.tb_records.specs.Messages.{status_code, is_operation, has_register_numbers, has_reply_numbers, kind_of, kind_for, items_max, IsRight}
 use Rattle.tb_records.specs.Numbers.{le_bytes, le_at}
-use Rattle.tb_records.specs.ReplyFrames.{reply_header_bytes, reply_header_fault, reply_header_tests, reply_body_bytes, reply_item_size, has_reply_length, status_at, commit_at, SpellsReply}
+use Rattle.tb_records.specs.ReplyFrames.{reply_header_bytes, reply_header_fault, reply_header_tests, reply_body_bytes, has_reply_length, SpellsReply}
 use Rattle.tb_records.specs.ReplyHeaders.{IsReplyHeader, IsReplyBody}
 use Rattle.tb_records.specs.ReplyTests.{answer_of}
 use Rattle.tb_records.proofs.NumberBytes.{le_at-fits}

@@ -1,23 +1,20 @@
 -- What is spelled as a reply has no fault, and is read one way only.
-use Rattle.std.proofs.Common.{◌≡◌, ℕ, ◌+◌, ◌*◌, ◌/◌, ◌^◌, ◌<◌, ◌≤◌, Bool, true, false, not, ◌&&◌, ◌||◌, ◌==◌, nat_lt, List, [], ◌∷◌, ◌++◌, length, drop, None, Result, Ok, Err, inl, inr, refl, sym, ap, ◌∙◌, arith, append_assoc, length-append, if◌then◌else◌}
-use Rattle.std.proofs.lemmas.Bool.{ltb-false, eqb-true, eq-eqb}
+use Rattle.std.proofs.Common.{◌≡◌, ℕ, ◌+◌, ◌^◌, ◌<◌, false, ◌==◌, nat_lt, List, ◌++◌, length, drop, None, Result, Ok, Err, refl, sym, ap, ◌∙◌, arith, append_assoc, length-append, if◌then◌else◌}
 use Rattle.std.proofs.lemmas.Bool.Decides.{nat_tests}
 use Rattle.std.proofs.lemmas.List.{take-append-drop, length-take-le}
 use Rattle.tb_records.specs.declared.bodies.ReplyBody.{ReplyBody}
 use Rattle.tb_records.specs.declared.bodies.ReplyBody.TheVariants.{Empty, Results, Accounts, Transfers}
 use Rattle.tb_records.specs.declared.faults.FrameFault.{FrameFault}
-use Rattle.tb_records.specs.declared.faults.FrameFault.TheVariants.{ClientZero, UnknownOperation, Reserved, BadLength, TooMany, RegisterNumbers, RequestZero, NoMemory, ReplyNumbers}
+use Rattle.tb_records.specs.declared.faults.FrameFault.TheVariants.{NoMemory}
 use Rattle.tb_records.specs.declared.replies.Status.{Status}
-use Rattle.tb_records.specs.declared.replies.Status.TheVariants.{Reply, NoSession, SessionTooLow, NewerSession, Older, Collision, NewerRequest, NotYet}
-use Rattle.tb_records.specs.Frames.{client_at, session_at, request_at, operation_at, length_at}
-use Rattle.tb_records.specs.Messages.{Answer, status_code, answer_count, answer_fault, first_fault, is_operation, has_register_numbers, has_reply_numbers, kind_of, kind_for, items_max}
+use Rattle.tb_records.specs.Messages.{Answer, status_code, answer_count, answer_fault, kind_of, kind_for, items_max}
 use Rattle.tb_records.specs.RecordBytes.{account_bytes, transfer_bytes, result_bytes, IsAccount, IsTransfer, IsResult}
-use Rattle.tb_records.specs.ReplyFrames.{reply_header_bytes, header_of_reply, reply_body_bytes, reply_bytes, reply_fault, reply_header_fault, reply_header_tests, reply_item_size, has_reply_length, status_at, commit_at, ReplyBodyFits, FitsFrame, HasKind, IsReply, SpellsReply, FoundReply, OnlyThisReply}
+use Rattle.tb_records.specs.ReplyFrames.{reply_header_bytes, header_of_reply, reply_body_bytes, reply_bytes, reply_fault, reply_header_fault, ReplyBodyFits, FitsFrame, HasKind, IsReply, SpellsReply, FoundReply, OnlyThisReply}
 use Rattle.tb_records.specs.Sizes.{length-account, length-transfer, length-result}
 use Rattle.tb_records.proofs.NumberBytes.{split_at}
 use Rattle.tb_records.proofs.OneSpelling.{one_account, one_transfer, one_result, items_one}
 use Rattle.tb_records.proofs.ReplyFaults.{whole_reply}
-use Rattle.tb_records.proofs.ReplyHeaderBytes.{answer_tests_of, is_true}
+use Rattle.tb_records.proofs.ReplyHeaderBytes.{answer_tests_of}
 use Rattle.tb_records.proofs.ReplyPlaces.{reply_widths, header_row, reply_places, length-reply_header}
 use Rattle.tb_records.proofs.Rows.{Fit, Stand, one_row}
 use Rattle.tb_records.specs.Numbers.{le_bytes}

@@ -3,7 +3,7 @@ use Rattle.std.proofs.Common.{◌≡◌, ℕ, ◌+◌, ◌-◌, ◌<◌, ◌≤�
 use Rattle.std.proofs.Math.Seq.{take-add}
 use Rattle.std.specs.List.{between}
 use Rattle.tb_records.specs.declared.faults.FrameFault.{FrameFault}
-use Rattle.tb_records.specs.declared.faults.FrameFault.TheVariants.{Short, NoMemory}
+use Rattle.tb_records.specs.declared.faults.FrameFault.TheVariants.{Short}
 use Rattle.tb_records.specs.declared.headers.Header.{Header}
 use Rattle.tb_records.specs.Messages.{Message, operation}
 use Rattle.tb_records.specs.Frames.{header_bytes, body_bytes, request_fault, header_fault, Spells}

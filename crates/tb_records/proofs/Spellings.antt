@@ -1,19 +1,19 @@
 -- What is spelled is read: the fields of a spelling, and that a spelling has no fault and begins no other.
-use Rattle.std.proofs.Common.{◌≡◌, ℕ, ◌+◌, ◌*◌, ◌/◌, ◌%◌, ◌^◌, ◌<◌, ◌≤◌, Bool, true, false, not, ◌&&◌, if◌then◌else◌, ◌==◌, nat_lt, List, [], ◌∷◌, ◌++◌, length, take, drop, None, Result, Ok, Err, refl, sym, ap, ◌∙◌, arith, length-append, length-take, append_assoc, take-append-drop}
+use Rattle.std.proofs.Common.{◌≡◌, ℕ, ◌+◌, ◌/◌, ◌%◌, ◌^◌, ◌<◌, ◌≤◌, true, List, [], ◌∷◌, ◌++◌, length, take, drop, None, Result, Ok, Err, refl, sym, ap, ◌∙◌, arith, length-append, length-take, append_assoc, take-append-drop}
 use Rattle.std.proofs.Math.Nat.{mul-mod_left, mul-div_left}
 use Rattle.std.proofs.lemmas.Bool.{ltb-false}
 use Rattle.tb_records.specs.declared.bodies.Body.{Body}
 use Rattle.tb_records.specs.declared.bodies.Body.TheVariants.{Register, CreateAccounts, CreateTransfers, LookupAccounts, LookupTransfers}
 use Rattle.tb_records.specs.declared.faults.FrameFault.{FrameFault}
-use Rattle.tb_records.specs.declared.faults.FrameFault.TheVariants.{ClientZero, UnknownOperation, BadLength, TooMany, RegisterNumbers, RequestZero, NoMemory}
-use Rattle.tb_records.specs.Messages.{Message, operation, item_count, is_operation, number_fault, IsLawful, first_fault}
-use Rattle.tb_records.specs.Numbers.{le_bytes, le_at}
+use Rattle.tb_records.specs.declared.faults.FrameFault.TheVariants.{NoMemory}
+use Rattle.tb_records.specs.Messages.{Message, operation, item_count, is_operation, number_fault, IsLawful}
+use Rattle.tb_records.specs.Numbers.{le_bytes}
 use Rattle.tb_records.specs.RecordBytes.{account_bytes, transfer_bytes, IsAccount, IsTransfer}
 use Rattle.tb_records.specs.Sizes.{length-le_bytes, length-account, length-transfer, length-id}
-use Rattle.tb_records.specs.Frames.{header_bytes, body_bytes, request_bytes, request_fault, header_fault, header_tests, length_at, item_size, FitsFrame, IsRequest, Spells, BodyFits, IsId}
+use Rattle.tb_records.specs.Frames.{header_bytes, body_bytes, request_bytes, request_fault, header_fault, item_size, FitsFrame, IsRequest, Spells, BodyFits, IsId}
 use Rattle.tb_records.specs.HeaderFields.{numbers_tests}
 use Rattle.tb_records.specs.Inputs.{Found, OnlyThis}
-use Rattle.tb_records.proofs.NumberBytes.{le_at-append, le_at-last, le_bytes-one, split_at}
+use Rattle.tb_records.proofs.NumberBytes.{le_bytes-one, split_at}
 use Rattle.tb_records.proofs.OneSpelling.{one_account, one_transfer, items_one}
 use Rattle.tb_records.proofs.StreamAnswers.{length-body}
 use Rattle.tb_records.proofs.FrameFaults.{whole_frame}

@@ -1,5 +1,5 @@
 -- What a stream answers, by where its reading ended.
-use Rattle.std.proofs.Common.{◌≡◌, ℕ, ◌+◌, ◌*◌, ◌/◌, ◌<◌, ◌≤◌, List, [], ◌++◌, length, take, drop, Option, Some, None, Ok, Err, refl, sym, ap, subst, ◌∙◌, arith, length-append, length-take, length-drop, drop_at, append_assoc, take_all}
+use Rattle.std.proofs.Common.{◌≡◌, ℕ, ◌+◌, ◌*◌, ◌<◌, ◌≤◌, List, ◌++◌, length, take, drop, Option, Some, None, Ok, Err, refl, sym, ap, subst, ◌∙◌, arith, length-append, length-take, length-drop, drop_at, append_assoc, take_all}
 use Rattle.std.specs.Io.KnownBytes.{Consumes}
 use Rattle.tb_records.specs.declared.bodies.Body.{Body}
 use Rattle.tb_records.specs.declared.bodies.Body.TheVariants.{Register, CreateAccounts, CreateTransfers, LookupAccounts, LookupTransfers}
@@ -11,7 +11,7 @@ use Rattle.tb_records.specs.Frames.{header_bytes, body_bytes, request_fault, hea
 use Rattle.tb_records.specs.HeaderFields.{HeaderOf, HeaderSpelled, ReadsHeader, ReadsRequest, body_length}
 use Rattle.tb_records.specs.Inputs.{Faulted, TimedFaulted, Answers, TimedAnswers}
 use Rattle.tb_records.specs.Transport.{Input, FaultCounts}
-use Rattle.tb_records.specs.Reading.{Filled, Lost, BodyFault, ReadsMoment}
+use Rattle.tb_records.specs.Reading.{Filled, BodyFault, ReadsMoment}
 use Rattle.tb_records.specs.Numbers.{le_bytes}
 use Rattle.tb_records.specs.RecordBytes.{account_bytes, transfer_bytes}
 use Rattle.tb_records.specs.Sizes.{length-le_bytes, length-account, length-transfer, length-id}

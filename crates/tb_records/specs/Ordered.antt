@@ -1,5 +1,5 @@
 -- Records in the order of a key: finite maps as lists by rising key.
-use Rattle.std.specs.Prelude.{ℕ, ◌==◌, nat_lt, ◌<◌, ◌≤◌, length, slice_index_or, List, [], ◌∷◌, if◌then◌else◌}
+use Rattle.std.specs.Prelude.{ℕ, ◌==◌, nat_lt, ◌<◌, List, [], ◌∷◌, if◌then◌else◌}
 
 -- with a record more, in its place
 abbrev pub put : {X : Type 0} → (X → ℕ) → X → List X → List X

@@ -1,7 +1,7 @@
 use Rattle.std.proofs.Common.{◌∙◌, ◌≤◌, length, take, sym, subst, refl, arith, length-take}
 use Rattle.std.proofs.KnownBytes.{Consumes-trans, Consumes-kept}
 use Rattle.std.specs.Io.KnownBytes.{Consumes}
-use Rattle.tb_records.proofs.Pieces.{filled, fails_since, put_mid-long}
+use Rattle.tb_records.proofs.Pieces.{filled, put_mid-long}
 use Rattle.tb_records.proofs.devices.fill.Goals as goal
 
 pub loop-at-preserved : goal.loop-at-preserved

@@ -1,10 +1,9 @@
-use Rattle.std.proofs.Common.{rules, ◌≡◌, ◌∙◌, ◌++◌, [], take, flat_map, All, sym, ap, subst, refl, append_assoc}
-use Rattle.std.proofs.lemmas.List.{append-nil}
+use Rattle.std.proofs.Common.{◌≡◌, ◌∙◌, ◌++◌, take, flat_map, sym, ap, subst, append_assoc}
 use Rattle.std.proofs.lemmas.Result.{err_from_is_err_and}
-use Rattle.std.proofs.lemmas.List.Elements.{All-append, All-nil}
+use Rattle.std.proofs.lemmas.List.Elements.{All-append}
 use Rattle.std.proofs.KnownBytes.{Appends-trans}
 use Rattle.std.specs.Io.KnownBytes.{Appends}
-use Rattle.tb_records.proofs.Pieces.{cut_off_in, spellings_in, rejoined, none_left}
+use Rattle.tb_records.proofs.Pieces.{cut_off_in, spellings_in, rejoined}
 use Rattle.std.proofs.lemmas.Grind.{flat_map-append}
 use Rattle.tb_records.proofs.devices.put_blocks.Goals as goal
 

@@ -1,9 +1,7 @@
 use Rattle.std.proofs.Common.{ℕ, List, Bor, ap}
-use Rattle.std.proofs.lemmas.Result.{err_from_is_err_and}
 use Rattle.tb_records.specs.Transport.{Counted}
-use Rattle.tb_records.proofs.FrameFaults.{cut_header}
 use Rattle.tb_records.proofs.HeaderBytes.{is_header}
-use Rattle.tb_records.proofs.SliceAnswers.{bad_slice, cut_slice, whole_slice, slice_request}
+use Rattle.tb_records.proofs.SliceAnswers.{slice_request}
 use Rattle.tb_records.proofs.reading.read.Goals as goal
 
 pub request_behind-requires : goal.request_behind-requires

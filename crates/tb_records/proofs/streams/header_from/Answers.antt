@@ -1,7 +1,6 @@
 use Rattle.std.proofs.Common.{arith}
 use Rattle.std.proofs.lemmas.Result.{err_from_is_err_and}
-use Rattle.tb_records.proofs.FrameFaults.{is_of_header}
-use Rattle.tb_records.proofs.StreamAnswers.{short_header, faulty_header, header_counts, whole_buffer}
+use Rattle.tb_records.proofs.StreamAnswers.{faulty_header, whole_buffer}
 use Rattle.tb_records.proofs.streams.header_from.Goals as goal
 
 pub returns-in_err-request_header-clause-answer : goal.returns-in_err-request_header-clause-answer

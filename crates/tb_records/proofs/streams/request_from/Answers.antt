@@ -1,6 +1,4 @@
-use Rattle.std.proofs.lemmas.Result.{err_from_is_err_and}
 use Rattle.tb_records.proofs.HeaderBytes.{is_header}
-use Rattle.tb_records.proofs.StreamAnswers.{whole_request, faulty_body}
 use Rattle.tb_records.proofs.streams.request_from.Goals as goal
 
 pub request_behind-requires : goal.request_behind-requires
