@@ -13,55 +13,51 @@ use tb_records::{
 /// Nine accounts, of which the last is right.
 #[test]
 fn account_refusals(rt: HostRuntime) {
-    serve_on(
-        &rt,
-        rt.alloc(),
-        &PROFILES,
-        &[
-            Step::Account(account(0), AccountOutcome::IdMustNotBeZero),
-            Step::Account(account(u128::MAX), AccountOutcome::IdMustNotBeIntMax),
-            Step::Account(
-                account_with(
-                    AccountFlag::DebitsMustNotExceedCredits,
-                    account_with(AccountFlag::CreditsMustNotExceedDebits, account(3)),
-                ),
-                AccountOutcome::FlagsAreMutuallyExclusive,
+    let steps = [
+        Step::Account(account(0), AccountOutcome::IdMustNotBeZero),
+        Step::Account(account(u128::MAX), AccountOutcome::IdMustNotBeIntMax),
+        Step::Account(
+            account_with(
+                AccountFlag::DebitsMustNotExceedCredits,
+                account_with(AccountFlag::CreditsMustNotExceedDebits, account(3)),
             ),
-            Step::Account(
-                Account {
-                    ledger: 0,
-                    ..account(3)
-                },
-                AccountOutcome::LedgerMustNotBeZero,
-            ),
-            Step::Account(
-                Account {
-                    code: 0,
-                    ..account(3)
-                },
-                AccountOutcome::CodeMustNotBeZero,
-            ),
-            Step::Account(
-                account_with(AccountFlag::Imported, account(3)),
-                AccountOutcome::ReservedFlag,
-            ),
-            Step::Account(account(1), AccountOutcome::Exists),
-            Step::Account(
-                Account {
-                    ledger: 701,
-                    ..account(1)
-                },
-                AccountOutcome::ExistsWithDifferentLedger,
-            ),
-            Step::Account(account(3), AccountOutcome::Ok),
-            Step::Send(Operation::CreateAccounts),
-            Step::Id(3),
-            Step::Id(1),
-            Step::FoundAccount(found([0; 4], 21, account(3))),
-            Step::FoundAccount(found([0; 4], 11, account(1))),
-            Step::Send(Operation::LookupAccounts),
-        ],
-    );
+            AccountOutcome::FlagsAreMutuallyExclusive,
+        ),
+        Step::Account(
+            Account {
+                ledger: 0,
+                ..account(3)
+            },
+            AccountOutcome::LedgerMustNotBeZero,
+        ),
+        Step::Account(
+            Account {
+                code: 0,
+                ..account(3)
+            },
+            AccountOutcome::CodeMustNotBeZero,
+        ),
+        Step::Account(
+            account_with(AccountFlag::Imported, account(3)),
+            AccountOutcome::ReservedFlag,
+        ),
+        Step::Account(account(1), AccountOutcome::Exists),
+        Step::Account(
+            Account {
+                ledger: 701,
+                ..account(1)
+            },
+            AccountOutcome::ExistsWithDifferentLedger,
+        ),
+        Step::Account(account(3), AccountOutcome::Ok),
+        Step::Send(Operation::CreateAccounts),
+        Step::Id(3),
+        Step::Id(1),
+        Step::FoundAccount(found([0; 4], 21, account(3))),
+        Step::FoundAccount(found([0; 4], 11, account(1))),
+        Step::Send(Operation::LookupAccounts),
+    ];
+    serve_on(&rt, rt.alloc(), &PROFILES, &steps);
 }
 
 /// Puts accounts 1 to 8190 into one request, of 1,048,320 bytes.
@@ -103,27 +99,23 @@ fn most_events(rt: HostRuntime) {
 fn limits_of_accounts(rt: HostRuntime) {
     let debits = account_with(AccountFlag::DebitsMustNotExceedCredits, account(3));
     let credits = account_with(AccountFlag::CreditsMustNotExceedDebits, account(4));
-    serve_on(
-        &rt,
-        rt.alloc(),
-        &PROFILES,
-        &[
-            Step::Account(debits, AccountOutcome::Ok),
-            Step::Account(credits, AccountOutcome::Ok),
-            Step::Send(Operation::CreateAccounts),
-            Step::Single(transfer(80, 3, 1, 1), Outcome::ExceedsCredits),
-            Step::Single(transfer(81, 1, 4, 1), Outcome::ExceedsDebits),
-            Step::Single(transfer(82, 3, 1, 0), Outcome::Ok),
-            Step::Id(4),
-            Step::Id(3),
-            Step::FoundAccount(found([0; 4], 14, credits)),
-            Step::FoundAccount(found([0; 4], 13, debits)),
-            Step::Send(Operation::LookupAccounts),
-            Step::Id(80),
-            Step::Id(81),
-            Step::Id(82),
-            Step::FoundTransfer(at(17, transfer(82, 3, 1, 0))),
-            Step::Send(Operation::LookupTransfers),
-        ],
-    );
+    let steps = [
+        Step::Account(debits, AccountOutcome::Ok),
+        Step::Account(credits, AccountOutcome::Ok),
+        Step::Send(Operation::CreateAccounts),
+        Step::Single(transfer(80, 3, 1, 1), Outcome::ExceedsCredits),
+        Step::Single(transfer(81, 1, 4, 1), Outcome::ExceedsDebits),
+        Step::Single(transfer(82, 3, 1, 0), Outcome::Ok),
+        Step::Id(4),
+        Step::Id(3),
+        Step::FoundAccount(found([0; 4], 14, credits)),
+        Step::FoundAccount(found([0; 4], 13, debits)),
+        Step::Send(Operation::LookupAccounts),
+        Step::Id(80),
+        Step::Id(81),
+        Step::Id(82),
+        Step::FoundTransfer(at(17, transfer(82, 3, 1, 0))),
+        Step::Send(Operation::LookupTransfers),
+    ];
+    serve_on(&rt, rt.alloc(), &PROFILES, &steps);
 }

@@ -94,46 +94,38 @@ fn closing_and_reopening(rt: HostRuntime) {
 fn asked_again_while_closed(rt: HostRuntime) {
     let closed = account_with(AccountFlag::Closed, account(1));
     let other_flags = AccountOutcome::ExistsWithDifferentFlags;
-    serve_on(
-        &rt,
-        rt.alloc(),
-        &PROFILES,
-        &[
-            Step::Single(closing(40, 0), Outcome::Ok),
-            Step::Account(account(1), other_flags),
-            Step::Account(closed, AccountOutcome::Exists),
-            Step::Send(Operation::CreateAccounts),
-            Step::Single(void(45, 40, 0), Outcome::Ok),
-            Step::Account(account(1), AccountOutcome::Exists),
-            Step::Account(closed, other_flags),
-            Step::Send(Operation::CreateAccounts),
-        ],
-    );
+    let steps = [
+        Step::Single(closing(40, 0), Outcome::Ok),
+        Step::Account(account(1), other_flags),
+        Step::Account(closed, AccountOutcome::Exists),
+        Step::Send(Operation::CreateAccounts),
+        Step::Single(void(45, 40, 0), Outcome::Ok),
+        Step::Account(account(1), AccountOutcome::Exists),
+        Step::Account(closed, other_flags),
+        Step::Send(Operation::CreateAccounts),
+    ];
+    serve_on(&rt, rt.alloc(), &PROFILES, &steps);
 }
 
 /// A pending transfer holds its amount until the very moment it expires.
 #[test]
 fn expiry_at_the_moment(rt: HostRuntime) {
     let short = with_timeout(1, held(60, 40));
-    serve_on(
-        &rt,
-        rt.alloc(),
-        &PROFILES,
-        &[
-            Step::Moment(100),
-            Step::Single(short, Outcome::Ok),
-            Step::Moment(1_000_000_099),
-            Step::First([40, 0, 0, 0]),
-            Step::Moment(1_000_000_100),
-            Step::First([0, 0, 0, 0]),
-            Step::Moment(1_000_000_101),
-            Step::Single(post(61, 60, 0), Outcome::PendingTransferExpired),
-            Step::Id(60),
-            Step::Id(61),
-            Step::FoundTransfer(at(100, short)),
-            Step::Send(Operation::LookupTransfers),
-        ],
-    );
+    let steps = [
+        Step::Moment(100),
+        Step::Single(short, Outcome::Ok),
+        Step::Moment(1_000_000_099),
+        Step::First([40, 0, 0, 0]),
+        Step::Moment(1_000_000_100),
+        Step::First([0, 0, 0, 0]),
+        Step::Moment(1_000_000_101),
+        Step::Single(post(61, 60, 0), Outcome::PendingTransferExpired),
+        Step::Id(60),
+        Step::Id(61),
+        Step::FoundTransfer(at(100, short)),
+        Step::Send(Operation::LookupTransfers),
+    ];
+    serve_on(&rt, rt.alloc(), &PROFILES, &steps);
 }
 
 /// A closing transfer expires, and its account is open again; then timeouts that end after the last moment and before it.

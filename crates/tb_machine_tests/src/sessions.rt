@@ -11,16 +11,12 @@ use tb_records::{CreateTransferResult, Operation, Status};
 /// The history has one entry.
 #[test]
 fn register_repeated(rt: HostRuntime) {
-    serve_steps(
-        &rt,
-        rt.alloc(),
-        &PROFILES,
-        &[
-            Step::Register(7, 1),
-            Step::Register(7, 1),
-            Step::Look(7, 1, 1, Status::Reply, 2),
-        ],
-    );
+    let steps = [
+        Step::Register(7, 1),
+        Step::Register(7, 1),
+        Step::Look(7, 1, 1, Status::Reply, 2),
+    ];
+    serve_steps(&rt, rt.alloc(), &PROFILES, &steps);
 }
 
 #[test]
@@ -33,67 +29,53 @@ fn accounts_looked_up_in_order(rt: HostRuntime) {
 #[test]
 fn transfer_repeated_and_older(rt: HostRuntime) {
     let hundred = transfer(11, 1, 2, 100);
-    serve_both(
-        &rt,
-        rt.alloc(),
-        &PROFILES,
-        &third(),
-        &[
-            Step::Single(hundred, CreateTransferResult::Ok),
-            Step::Numbered(3, hundred, Status::Reply, 4),
-            Step::Again(2, Status::Older),
-            Step::Id(11),
-            Step::FoundTransfer(at(14, hundred)),
-            Step::Send(Operation::LookupTransfers),
-            Step::Id(1),
-            Step::Id(2),
-            Step::FoundAccount(found([0, 100, 0, 0], 11, account(1))),
-            Step::FoundAccount(found([0, 0, 0, 100], 12, account(2))),
-            Step::Send(Operation::LookupAccounts),
-        ],
-    );
+    let steps = [
+        Step::Single(hundred, CreateTransferResult::Ok),
+        Step::Numbered(3, hundred, Status::Reply, 4),
+        Step::Again(2, Status::Older),
+        Step::Id(11),
+        Step::FoundTransfer(at(14, hundred)),
+        Step::Send(Operation::LookupTransfers),
+        Step::Id(1),
+        Step::Id(2),
+        Step::FoundAccount(found([0, 100, 0, 0], 11, account(1))),
+        Step::FoundAccount(found([0, 0, 0, 100], 12, account(2))),
+        Step::Send(Operation::LookupAccounts),
+    ];
+    serve_both(&rt, rt.alloc(), &PROFILES, &third(), &steps);
 }
 
 /// The history has 4 entries.
 #[test]
 fn each_refusal_by_its_class(rt: HostRuntime) {
-    serve_both(
-        &rt,
-        rt.alloc(),
-        &PROFILES,
-        &third(),
-        &[
-            Step::Numbered(3, transfer(11, 1, 2, 100), Status::Reply, 4),
-            Step::Numbered(3, transfer(11, 1, 2, 101), Status::Collision, 0),
-            Step::Look(7, 1, 5, Status::NewerRequest, 0),
-            Step::Look(7, 2, 4, Status::NewerSession, 0),
-            Step::Look(7, 0, 4, Status::SessionTooLow, 0),
-            Step::Look(9, 1, 1, Status::NoSession, 0),
-            Step::Look(7, 1, 4, Status::Reply, 5),
-        ],
-    );
+    let steps = [
+        Step::Numbered(3, transfer(11, 1, 2, 100), Status::Reply, 4),
+        Step::Numbered(3, transfer(11, 1, 2, 101), Status::Collision, 0),
+        Step::Look(7, 1, 5, Status::NewerRequest, 0),
+        Step::Look(7, 2, 4, Status::NewerSession, 0),
+        Step::Look(7, 0, 4, Status::SessionTooLow, 0),
+        Step::Look(9, 1, 1, Status::NoSession, 0),
+        Step::Look(7, 1, 4, Status::Reply, 5),
+    ];
+    serve_both(&rt, rt.alloc(), &PROFILES, &third(), &steps);
 }
 
 /// Client 8's reply has the least commit number, though 7 has the least session; then 7's is 3 and 9's is 4. Client 7's old
 /// register makes a new session, and 9 goes.
 #[test]
 fn least_commit_is_evicted(rt: HostRuntime) {
-    serve_steps(
-        &rt,
-        rt.alloc(),
-        &PROFILES,
-        &[
-            Step::Register(7, 1),
-            Step::Register(8, 2),
-            Step::Look(7, 1, 1, Status::Reply, 3),
-            Step::Register(9, 4),
-            Step::Look(8, 2, 1, Status::NoSession, 0),
-            Step::Register(8, 5),
-            Step::Look(8, 2, 1, Status::SessionTooLow, 0),
-            Step::Register(7, 6),
-            Step::Look(9, 4, 1, Status::NoSession, 0),
-        ],
-    );
+    let steps = [
+        Step::Register(7, 1),
+        Step::Register(8, 2),
+        Step::Look(7, 1, 1, Status::Reply, 3),
+        Step::Register(9, 4),
+        Step::Look(8, 2, 1, Status::NoSession, 0),
+        Step::Register(8, 5),
+        Step::Look(8, 2, 1, Status::SessionTooLow, 0),
+        Step::Register(7, 6),
+        Step::Look(9, 4, 1, Status::NoSession, 0),
+    ];
+    serve_steps(&rt, rt.alloc(), &PROFILES, &steps);
 }
 
 /// A hundred clients register, and all but the last are then without a session.
