@@ -20,8 +20,7 @@ fn put<K: Ord + Copy + Default, V: Default + Drop, A: Allocator + Clone>(
     map.insert_reserved(key, value);
 }
 
-/// Puts the keys from 1 to `last` in, by rising order. The map is lent, here and below: where a step fails, who made it
-/// lets it go, once.
+/// Puts the keys from 1 to `last` in, by rising order.
 fn put_rising(rt: &impl Abort, map: &mut AvlMap<u32, u64, Global>, last: u32) -> Result<(), Fail> {
     map.reserve(last as usize)?;
     for key in 1..=last {
@@ -57,18 +56,13 @@ fn probe_thousand(rt: &impl Abort, map: &mut AvlMap<u32, u64, Global>) -> Result
 
 #[test]
 fn probes_stay_short(rt: HostRuntime) -> Result<(), Fail> {
-    let mut map = AvlMap::new_in(rt.alloc());
-    let done = probe_seven(&rt, &mut map);
-    drop(map);
-    done?;
-    let mut map = AvlMap::new_in(rt.alloc());
-    let done = probe_thousand(&rt, &mut map);
-    drop(map);
-    done
+    probe_seven(&rt, &mut AvlMap::new_in(rt.alloc()))?;
+    probe_thousand(&rt, &mut AvlMap::new_in(rt.alloc()))
 }
 
 /// Eight keys are looked up by one call, two of them absent and one twice.
-fn expect_eight(rt: &impl Abort, map: &AvlMap<u32, u64, Global>) {
+fn look_eight_up(rt: &impl Abort, map: &mut AvlMap<u32, u64, Global>) -> Result<(), Fail> {
+    put_rising(rt, map, 100)?;
     let wanted = [
         Some(500),
         Some(10),
@@ -81,20 +75,12 @@ fn expect_eight(rt: &impl Abort, map: &AvlMap<u32, u64, Global>) {
     ];
     let found = map.get_many(&[50, 1, 101, 100, 0, 7, 7, 64]);
     same(rt, &found.map(|value| value.copied()), &wanted, &"eight");
-}
-
-fn look_eight_up(rt: &impl Abort, map: &mut AvlMap<u32, u64, Global>) -> Result<(), Fail> {
-    put_rising(rt, map, 100)?;
-    expect_eight(rt, map);
     Ok(())
 }
 
 #[test]
 fn eight_are_looked_up_at_once(rt: HostRuntime) -> Result<(), Fail> {
-    let mut map = AvlMap::new_in(rt.alloc());
-    let done = look_eight_up(&rt, &mut map);
-    drop(map);
-    done
+    look_eight_up(&rt, &mut AvlMap::new_in(rt.alloc()))
 }
 
 /// The keys from `low` to `high`, below 10, as the digits of a number in the order in which they come.
@@ -109,7 +95,12 @@ fn digits<A: Allocator + Clone>(map: &AvlMap<u64, u128, A>, low: u64, high: u64)
 }
 
 /// The key has this value, or is absent.
-fn expect_value(rt: &impl Abort, map: &AvlMap<u64, u128, Global>, key: u64, value: Option<u128>) {
+fn expect_value<A: Allocator + Clone>(
+    rt: &impl Abort,
+    map: &AvlMap<u64, u128, A>,
+    key: u64,
+    value: Option<u128>,
+) {
     same(rt, &map.get(&key).copied(), &value, &key);
 }
 
@@ -176,21 +167,10 @@ fn remove_twice(rt: &impl Abort, map: &mut AvlMap<u64, u128, Global>) {
     }
 }
 
-/// Sets the value of a key, which gives this answer.
-fn expect_set(
-    rt: &impl Abort,
-    map: &mut AvlMap<u64, u128, Global>,
-    key: u64,
-    value: u128,
-    answer: Result<u128, u128>,
-) {
-    same(rt, &map.set(key, value), &answer, &key);
-}
-
 /// Keys 1 and 3 are left.
 fn expect_two(rt: &impl Abort, map: &mut AvlMap<u64, u128, Global>) {
-    expect_set(rt, map, 4, 40, Err(40));
-    expect_set(rt, map, 3, 33, Ok(30));
+    same(rt, &map.set(4, 40), &Err(40), &4);
+    same(rt, &map.set(3, 33), &Ok(30), &3);
     expect_value(rt, map, 3, Some(33));
     expect_value(rt, map, 2, None);
     expect_digits(rt, map, 0, 9, 13);
@@ -235,10 +215,7 @@ fn keep_spare_nodes(rt: &impl Abort, map: &mut AvlMap<u64, u128, Global>) -> Res
 
 #[test]
 fn spare_nodes_are_kept(rt: HostRuntime) -> Result<(), Fail> {
-    let mut map = AvlMap::new_in(rt.alloc());
-    let done = keep_spare_nodes(&rt, &mut map);
-    drop(map);
-    done
+    keep_spare_nodes(&rt, &mut AvlMap::new_in(rt.alloc()))
 }
 
 /// Doubles the value of the key where it stands, and answers what it was.
@@ -325,45 +302,25 @@ fn change_two(rt: &impl Abort, map: &mut AvlMap<u64, u128, Global>) -> Result<()
 
 #[test]
 fn two_values_change_at_once(rt: HostRuntime) -> Result<(), Fail> {
-    let mut map = AvlMap::new_in(rt.alloc());
-    let done = change_two(&rt, &mut map);
-    drop(map);
-    done
-}
-
-/// Doubles the value of a key, which was this one, or absent.
-fn expect_double(
-    rt: &impl Abort,
-    map: &mut AvlMap<u64, u128, Global>,
-    key: u64,
-    before: Option<u128>,
-) {
-    same(rt, &double(map, key), &before, &key);
+    change_two(&rt, &mut AvlMap::new_in(rt.alloc()))
 }
 
 /// Key 3 is doubled twice, and key 4 is absent.
-fn double_in_place(rt: &impl Abort, map: &mut AvlMap<u64, u128, Global>) {
+fn double_in_place(rt: &impl Abort, map: &mut AvlMap<u64, u128, Global>) -> Result<(), Fail> {
+    map.reserve(3)?;
+    put_all(rt, map, 1, 3);
     for (key, before) in [(3, Some(30)), (3, Some(60)), (4, None)] {
-        expect_double(rt, map, key, before);
+        same(rt, &double(map, key), &before, &key);
     }
     expect_value(rt, map, 3, Some(120));
     look_up_all(rt, map, 1, 2);
     expect_len(rt, map, 3);
-}
-
-fn change_in_place(rt: &impl Abort, map: &mut AvlMap<u64, u128, Global>) -> Result<(), Fail> {
-    map.reserve(3)?;
-    put_all(rt, map, 1, 3);
-    double_in_place(rt, map);
     Ok(())
 }
 
 #[test]
 fn values_change_in_place(rt: HostRuntime) -> Result<(), Fail> {
-    let mut map = AvlMap::new_in(rt.alloc());
-    let done = change_in_place(&rt, &mut map);
-    drop(map);
-    done
+    double_in_place(&rt, &mut AvlMap::new_in(rt.alloc()))
 }
 
 /// A number that looks like chance, different for each `n`.
@@ -444,12 +401,11 @@ fn compare(
 
 #[test]
 fn agrees_with_another_map(rt: HostRuntime) -> Result<(), Fail> {
-    let mut map = AvlMap::new_in(rt.alloc());
-    let mut other = BTreeMap::new(rt.alloc());
-    let done = compare(&rt, &mut map, &mut other);
-    drop(map);
-    drop(other);
-    done
+    compare(
+        &rt,
+        &mut AvlMap::new_in(rt.alloc()),
+        &mut BTreeMap::new(rt.alloc()),
+    )
 }
 
 type Pairs = AvlMap<(u64, u128), (), Global>;
@@ -474,16 +430,11 @@ fn remove_first(rt: &impl Abort, map: &mut Pairs) {
     expect_first(rt, map, (1, 9));
 }
 
-/// The first pair comes out, or none.
-fn expect_popped(rt: &impl Abort, map: &mut Pairs, first: Option<((u64, u128), ())>) {
-    same(rt, &map.pop_first(), &first, &"first");
-}
-
 /// The other two come out by order.
 fn pop_all(rt: &impl Abort, map: &mut Pairs) {
     let before = map.spare();
     for first in [Some(((1, 9), ())), Some(((2, 1), ())), None] {
-        expect_popped(rt, map, first);
+        same(rt, &map.pop_first(), &first, &"first");
     }
     expect_len(rt, map, 0);
     expect_won(rt, map, before, 2);
@@ -498,24 +449,12 @@ fn order_pairs(rt: &impl Abort, map: &mut Pairs) -> Result<(), Fail> {
 
 #[test]
 fn pairs_come_by_both_parts(rt: HostRuntime) -> Result<(), Fail> {
-    let mut map = AvlMap::new_in(rt.alloc());
-    let done = order_pairs(&rt, &mut map);
-    drop(map);
-    done
-}
-
-/// What comes out up to a bound.
-fn expect_popped_to(
-    rt: &impl Abort,
-    map: &mut Pairs,
-    bound: (u64, u128),
-    first: Option<((u64, u128), ())>,
-) {
-    same(rt, &map.pop_first_to(&bound), &first, &bound);
+    order_pairs(&rt, &mut AvlMap::new_in(rt.alloc()))
 }
 
 /// What comes out of the three pairs up to each bound, the number of pairs that are left, and the spare nodes that were won.
-fn pop_three(rt: &impl Abort, map: &mut Pairs) {
+fn pop_three(rt: &impl Abort, map: &mut Pairs) -> Result<(), Fail> {
+    put_pairs(rt, map)?;
     let before = map.spare();
     for (bound, first, left) in [
         ((1, 7), None, 3),
@@ -526,24 +465,16 @@ fn pop_three(rt: &impl Abort, map: &mut Pairs) {
         ((u64::MAX, 0), Some(((2, 1), ())), 0),
         ((u64::MAX, 0), None, 0),
     ] {
-        expect_popped_to(rt, map, bound, first);
+        same(rt, &map.pop_first_to(&bound), &first, &bound);
         expect_len(rt, map, left);
     }
     expect_won(rt, map, before, 3);
-}
-
-fn pop_to_bounds(rt: &impl Abort, map: &mut Pairs) -> Result<(), Fail> {
-    put_pairs(rt, map)?;
-    pop_three(rt, map);
     Ok(())
 }
 
 #[test]
 fn the_first_pair_comes_out_to_a_bound(rt: HostRuntime) -> Result<(), Fail> {
-    let mut map = AvlMap::new_in(rt.alloc());
-    let done = pop_to_bounds(&rt, &mut map);
-    drop(map);
-    done
+    pop_three(&rt, &mut AvlMap::new_in(rt.alloc()))
 }
 
 /// The key that a bound names comes out, if it is due, and none behind it.
@@ -570,10 +501,7 @@ fn pop_by_bounds(rt: &impl Abort, map: &mut AvlMap<u32, u64, Global>) -> Result<
 
 #[test]
 fn a_thousand_pairs_come_out_as_the_bound_rises(rt: HostRuntime) -> Result<(), Fail> {
-    let mut map = AvlMap::new_in(rt.alloc());
-    let done = pop_by_bounds(&rt, &mut map);
-    drop(map);
-    done
+    pop_by_bounds(&rt, &mut AvlMap::new_in(rt.alloc()))
 }
 
 #[test]
@@ -607,12 +535,7 @@ fn look_up_all<A: Allocator + Clone>(
     high: u64,
 ) {
     for key in low..=high {
-        same(
-            rt,
-            &map.get(&key).copied(),
-            &Some(u128::from(key) * 10),
-            &key,
-        );
+        expect_value(rt, map, key, Some(u128::from(key) * 10));
     }
 }
 
