@@ -127,11 +127,6 @@ fn put_wrong(line: &mut String, words: &[String]) -> Result<(), AllocError> {
 /// A line on words that are none of the program's forms: those that are wrong, and what is wrong with them.
 pub fn wrong_words(alloc: Global, words: &[String]) -> Result<String, AllocError> {
     let mut line = String::new(alloc);
-    match put_wrong(&mut line, words) {
-        Ok(()) => Ok(line),
-        Err(error) => {
-            drop(line);
-            Err(error)
-        }
-    }
+    put_wrong(&mut line, words)?;
+    Ok(line)
 }

@@ -136,16 +136,11 @@ impl Fault {
         ensures failing { 0 < result }
     {
         match self {
-            Fault::Device => 1,
-            Fault::Missing => 1,
-            Fault::Forbidden => 1,
-            Fault::Unopened => 1,
-            Fault::NoMemory => 1,
-            Fault::Usage => 2,
-            Fault::Request(_) => 2,
+            Fault::Device | Fault::Missing | Fault::Forbidden | Fault::Unopened | Fault::NoMemory =>
+                1,
+            Fault::Usage | Fault::Request(_) => 2,
             Fault::Locked => 4,
-            Fault::NotAJournal => 5,
-            Fault::NoHead => 5,
+            Fault::NotAJournal | Fault::NoHead => 5,
             Fault::Damaged(_) => 6,
             Fault::OtherRules => 7,
             Fault::Full => 8,

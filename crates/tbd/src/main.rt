@@ -60,9 +60,7 @@ fn tell_usage(rt: &HostRuntime, words: &[String]) -> io::Result<()> {
         [] => eprint!(rt; "{USAGE}"),
         words => {
             let what = wrong_words(rt.alloc(), words)?;
-            let told = eprintln!(rt; "tbd: Usage: {what}");
-            drop(what);
-            told
+            eprintln!(rt; "tbd: Usage: {what}")
         }
     }
 }
@@ -94,11 +92,7 @@ fn command(rt: &HostRuntime, words: &[String]) -> u8 {
 
 fn main(rt: HostRuntime) -> ExitCode {
     let status = match words(&rt) {
-        Ok(words) => {
-            let status = command(&rt, words.as_slice());
-            drop(words);
-            status
-        }
+        Ok(words) => command(&rt, words.as_slice()),
         Err(_) => {
             let _ = tell(&rt, Fault::Usage, &[]);
             Fault::Usage.status()

@@ -20,20 +20,8 @@ fn serve<D: Device + Drop, R: Source, W: Sink>(
     writer: &mut W,
 ) -> Result<u64, Fault> {
     match Keeper::start(alloc, device, rules) {
-        Ok(keeper) => {
-            let mut keeper = keeper;
-            let served = keep(alloc, &mut keeper, reader, writer);
-            drop(keeper);
-            match served {
-                Ok(told) => Ok(told),
-                Err(fault) => Err(kept_fault(fault)),
-            }
-        }
-        Err(failed) => {
-            let fault = failed.fault;
-            drop(failed);
-            Err(started_fault(fault))
-        }
+        Ok(mut keeper) => keep(alloc, &mut keeper, reader, writer).map_err(kept_fault),
+        Err(failed) => Err(started_fault(failed.fault)),
     }
 }
 
@@ -46,10 +34,8 @@ fn serve_file<R: Source>(
 ) -> Result<(), Fault> {
     let device = made(rt, path)?;
     let mut writer = Counting::new(rt.stdout());
-    match serve(rt.alloc(), device, rules, reader, &mut writer) {
-        Ok(_) => Ok(()),
-        Err(fault) => Err(fault),
-    }
+    serve(rt.alloc(), device, rules, reader, &mut writer)?;
+    Ok(())
 }
 
 /// Serves standard input to standard output over the file at a path, which is made where there is none. What is at hand is
@@ -57,7 +43,5 @@ fn serve_file<R: Source>(
 pub fn run(rt: &HostRuntime, path: &str, rules: Rules) -> Result<(), Fault> {
     let input = no_memory(BufReader::with_capacity(rt.alloc(), BUFFER, rt.stdin()))?;
     let mut reader = Buffered::new(input);
-    let served = serve_file(rt, path, rules, &mut reader);
-    drop(reader);
-    served
+    serve_file(rt, path, rules, &mut reader)
 }
