@@ -42,10 +42,7 @@ fn records_after(
     let journal = opened(rt, alloc, &left);
     let bytes = journal.device().bytes();
     expect(rt, bytes == ONE_RECORD.as_slice() || is_whole(bytes));
-    let count = journal.count();
-    drop(journal);
-    drop(left);
-    count
+    journal.count()
 }
 
 /// A crash at a moment leaves so many records at least, and so many at most, however the last write is torn.
@@ -81,7 +78,6 @@ fn a_crash_leaves_the_whole_batch_or_none_of_it(rt: HostRuntime) {
     // Behind the write of the gate, and behind its sync.
     expect_records(&rt, alloc, file, begin + 3, 1, 3);
     expect_records(&rt, alloc, file, begin + 4, 3, 3);
-    drop(journal);
 }
 
 #[test]
@@ -94,5 +90,4 @@ fn an_open_gate_counts_with_all_its_batch(rt: HostRuntime) {
         let count = records_after(&rt, alloc, journal.device(), gate, &[byte]);
         expect_at(&rt, byte as u64, (count == 1) == (byte == 0));
     }
-    drop(journal);
 }

@@ -21,7 +21,6 @@ fn expect_left(
     for (moment, torn, want) in rows {
         let left = left_after(rt, file, *moment, torn);
         expect_bytes(rt, &left, want);
-        drop(left);
     }
 }
 
@@ -36,7 +35,6 @@ fn a_write_is_torn(rt: HostRuntime) {
         (1, &[7, 8, 9, 10], &[97, 98, 99, 100, 7, 8, 9]),
     ];
     expect_left(&rt, &file, 1, &[97, 98, 99, 100, 88, 89, 90], rows);
-    drop(file);
 }
 
 #[test]
@@ -46,7 +44,6 @@ fn a_cut_leaves_a_length_between(rt: HostRuntime) {
     sure(&rt, file.cut(2));
     let rows: &[(usize, &[u8], &[u8])] = &[(1, &[], &[97, 98]), (1, &[0], &[97, 98, 99])];
     expect_left(&rt, &file, 1, &[97, 98], rows);
-    drop(file);
 }
 
 #[test]
@@ -58,7 +55,6 @@ fn nothing_is_torn_behind_a_sync(rt: HostRuntime) {
     let bytes: &[u8] = &[97, 66, 99, 100, 101, 102];
     let rows: &[(usize, &[u8], &[u8])] = &[(2, &[7, 7], &[97, 66, 99, 100, 101, 102])];
     expect_left(&rt, &file, 2, bytes, rows);
-    drop(file);
 }
 
 #[test]
@@ -68,5 +64,4 @@ fn one_call_fails(rt: HostRuntime) {
     sure(&rt, file.sync());
     expect(&rt, file.len() == Err(Fault::Failed));
     expect(&rt, file.len() == Ok(6));
-    drop(file);
 }

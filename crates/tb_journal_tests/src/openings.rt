@@ -24,7 +24,6 @@ const BAD_CHECKSUM: [u8; 17] = [
 fn what_stands_behind_the_records_is_cut_off(rt: HostRuntime) {
     let journal = opened(&rt, rt.alloc(), &MORE_BEHIND);
     expect_journal(&rt, &journal, &EMPTY_RECORD, 1, 0);
-    drop(journal);
 }
 
 /// A file of these bytes is refused so, and is as it was. It is given back.
@@ -50,14 +49,12 @@ fn another_file_is_left_alone(rt: HostRuntime) {
     let again = create(alloc, file).err().expect(&rt, "a fault");
     expect(&rt, again.fault == OpenFault::Device(Fault::NotEmpty));
     expect_bytes(&rt, again.device.bytes(), b"hello");
-    drop(again);
 }
 
 #[test]
 fn a_creation_that_was_cut_short_is_made_again(rt: HostRuntime) {
     let journal = created(&rt, rt.alloc(), &[84, 66, 0, 0]);
     expect_journal(&rt, &journal, b"TBJRNL01\0", 0, 0);
-    drop(journal);
 }
 
 #[test]

@@ -27,16 +27,13 @@ fn file_at<R: Abort + Files<File = File>>(rt: &R, path: &str) -> Real {
 /// Says whether a file that is not opened is locked; otherwise it is for what the system answers.
 fn is_locked<R: Abort + Files<File = File>>(rt: &R, path: &str) -> bool {
     let fault = Real::open(rt, path).err().expect(rt, "a fault");
-    let locked = matches!(fault, FileFault::Locked);
-    drop(fault);
-    locked
+    matches!(fault, FileFault::Locked)
 }
 
 /// A file has these bytes.
 fn expect_file<R: Abort + Files<File = File> + AllocGlobal>(rt: &R, path: &str, want: &[u8]) {
     let found = sure(rt, fs::read(rt, path));
     expect_bytes(rt, &found, want);
-    drop(found);
 }
 
 /// Makes a journal of one record. As long as it is held no other opens its file.
@@ -46,7 +43,6 @@ fn make<R: Abort + Files<File = File> + AllocGlobal>(rt: &R, path: &str) {
     sure(rt, journal.append(&[97, 98]));
     sure(rt, journal.commit());
     expect(rt, is_locked(rt, path));
-    drop(journal);
 }
 
 /// Opens the journal again, and commits two records more.
@@ -57,7 +53,6 @@ fn go_on<R: Abort + Files<File = File> + AllocGlobal>(rt: &R, path: &str) {
     sure(rt, journal.append(&[]));
     sure(rt, journal.append(b"second"));
     sure(rt, journal.commit());
-    drop(journal);
 }
 
 #[test]
@@ -77,16 +72,8 @@ fn opened<R: Abort + Files<File = File> + AllocGlobal>(
     path: &str,
 ) -> Result<usize, OpenFault> {
     match recover(rt.alloc(), file_at(rt, path)) {
-        Ok(journal) => {
-            let count = journal.count();
-            drop(journal);
-            Ok(count)
-        }
-        Err(failed) => {
-            let fault = failed.fault;
-            drop(failed);
-            Err(fault)
-        }
+        Ok(journal) => Ok(journal.count()),
+        Err(failed) => Err(failed.fault),
     }
 }
 

@@ -13,7 +13,6 @@ fn a_record_counts_when_it_is_committed(rt: HostRuntime) {
     expect_journal(&rt, &journal, &NO_RECORDS, 0, 1);
     sure(&rt, journal.commit());
     expect_journal(&rt, &journal, &ONE_RECORD, 1, 0);
-    drop(journal);
 }
 
 #[test]
@@ -24,7 +23,6 @@ fn a_batch_is_committed_by_four_calls(rt: HostRuntime) {
     expect_journal(&rt, &journal, &THREE_RECORDS, 3, 0);
     let moments = journal.device().moments();
     expect(&rt, moments.saturating_sub(before) == 4);
-    drop(journal);
 }
 
 #[test]
@@ -34,7 +32,6 @@ fn a_commit_of_nothing_calls_no_device(rt: HostRuntime) {
     sure(&rt, journal.commit());
     expect_journal(&rt, &journal, &ONE_RECORD, 1, 0);
     expect(&rt, journal.device().moments() == before);
-    drop(journal);
 }
 
 #[test]
@@ -44,6 +41,4 @@ fn a_record_of_2_to_the_24_bytes_is_too_long(rt: HostRuntime) {
     let mut journal = opened(&rt, alloc, &ONE_RECORD);
     expect(&rt, journal.append(&long) == Err(Fault::TooLong));
     expect(&rt, journal.waiting() == 0);
-    drop(journal);
-    drop(long);
 }

@@ -30,7 +30,6 @@ fn expect_scan(
     }
     expect(rt, scan.next(file) == behind);
     let extent = scan.extent();
-    drop(scan);
     expect(rt, extent.count == records.len());
     extent
 }
@@ -44,24 +43,18 @@ pub(crate) fn expect_records(
     behind: Result<bool, OpenFault>,
 ) -> Extent {
     let mut file = file_of(rt, alloc, bytes);
-    let extent = expect_scan(rt, alloc, &mut file, records, behind);
-    drop(file);
-    extent
+    expect_scan(rt, alloc, &mut file, records, behind)
 }
 
 /// The same of a journal of two records.
 fn expect_two(rt: &impl Abort, alloc: Global, first: &[u8], second: &[u8]) {
     let mut file = file_of_two(rt, alloc, first, second);
     let _extent = expect_scan(rt, alloc, &mut file, &[first, second], Ok(false));
-    drop(file);
 }
 
 /// What the reading of a file from end to end answers: the number of its records, or a fault.
 fn count_of(alloc: Global, file: &mut Memory) -> Result<usize, OpenFault> {
-    match read_journal(alloc, file) {
-        Ok(extent) => Ok(extent.count),
-        Err(fault) => Err(fault),
-    }
+    Ok(read_journal(alloc, file)?.count)
 }
 
 #[test]
@@ -81,7 +74,6 @@ fn a_record_is_larger_than_a_piece(rt: HostRuntime) {
     }
     expect_two(&rt, alloc, &long, b"ab");
     expect_two(&rt, alloc, b"ab", &long);
-    drop(long);
 }
 
 /// The second block begins at each of the last places of a piece, and behind it.
@@ -93,7 +85,6 @@ fn a_record_stands_in_two_pieces(rt: HostRuntime) {
         let (first, _) = long.split_at(PIECE - 16 - place);
         expect_two(&rt, alloc, first, b"second");
     }
-    drop(long);
 }
 
 #[test]
@@ -117,62 +108,39 @@ fn damage_is_told_behind_good_records(rt: HostRuntime) {
     let _extent = expect_records(&rt, alloc, &bytes, &[b"ab", &[]], damaged);
     let mut file = file_of(&rt, alloc, &bytes);
     let answer = count_of(alloc, &mut file);
-    drop(file);
     expect(&rt, answer == Err(OpenFault::Refused(DAMAGED)));
 }
 
-/// What is counted where the call of a number fails. A start takes a sync and a look; each piece more takes a look, as
-/// does the end.
-const COUNTS: &[(u64, Result<usize, OpenFault>)] = &[
-    (1, Err(OpenFault::Device(Fault::Failed))),
-    (2, Err(OpenFault::Device(Fault::Failed))),
-    (3, Err(OpenFault::Device(Fault::Failed))),
-    (4, Err(OpenFault::Device(Fault::Failed))),
-    (5, Ok(2)),
-];
+/// The calls of a count: a start takes a sync and a look; each piece more takes a look, as does the end.
+const CALLS: u64 = 4;
 
 #[test]
 fn each_call_fails_in_turn(rt: HostRuntime) {
     let alloc = rt.alloc();
     let long = sevens(&rt, alloc, 2 * PIECE);
     let mut file = file_of_two(&rt, alloc, b"ab", &long);
-    drop(long);
-    for (number, want) in COUNTS {
-        file.fail_at(*number);
-        expect_at(&rt, *number, count_of(alloc, &mut file) == *want);
+    let failed = Err(OpenFault::Device(Fault::Failed));
+    for number in 1..=CALLS + 1 {
+        file.fail_at(number);
+        let want = if number <= CALLS { failed } else { Ok(2) };
+        expect_at(&rt, number, count_of(alloc, &mut file) == want);
     }
-    drop(file);
 }
 
 /// The file of a journal of this record and another, where there is memory for it.
 fn some_file(alloc: Global, record: &[u8]) -> Option<Memory> {
     let file = Memory::new(alloc, Vec::new(alloc)).ok()?;
-    match create(alloc, file) {
-        Ok(journal) => {
-            let mut journal = journal;
-            match commit_both(&mut journal, record, b"ab") {
-                Ok(()) => Some(journal.into_device()),
-                Err(_) => {
-                    drop(journal);
-                    None
-                }
-            }
-        }
-        Err(failed) => {
-            drop(failed);
-            None
-        }
-    }
+    let mut journal = create(alloc, file).ok()?;
+    commit_both(&mut journal, record, b"ab").ok()?;
+    Some(journal.into_device())
 }
 
 /// Reads a file of a long record to its end, where there is memory for it.
 fn count_long(alloc: Global) -> Option<Result<usize, OpenFault>> {
     let long = vec![in alloc; 7u8; 2 * PIECE].ok()?;
     let given = some_file(alloc, &long);
-    drop(long);
     let mut file = given?;
     let answer = count_of(alloc, &mut file);
-    drop(file);
     Some(answer)
 }
 
