@@ -154,10 +154,18 @@ word_rows (suc (suc (suc (suc m)))) c near mid far last least a b d e =
     let two : suc (suc (suc (suc m))) - 2 ≡ suc (suc m) = omega arith in
     let one : suc (suc (suc (suc m))) - 3 ≡ suc m = omega arith in
     cc (
-      a, rw three at b, rw two at d, rw one at e,
-      zeros_split (suc (suc (suc m))) c, zeros_split (suc (suc m)) (c / 256), zeros_split (suc m) (c / 65536),
-      and_mask c 8, and_mask (c / 256) 8, and_mask (c / 65536) 8,
-      xor_assoc near mid (bit_xor far last), xor_assoc (bit_xor near mid) far last,
+      a,
+      rw three at b,
+      rw two at d,
+      rw one at e,
+      zeros_split (suc (suc (suc m))) c,
+      zeros_split (suc (suc m)) (c / 256),
+      zeros_split (suc m) (c / 65536),
+      and_mask c 8,
+      and_mask (c / 256) 8,
+      and_mask (c / 65536) 8,
+      xor_assoc near mid (bit_xor far last),
+      xor_assoc (bit_xor near mid) far last,
     )
 
 -- bytes of a number
@@ -197,8 +205,8 @@ four_on s (a ∷ b ∷ c ∷ d ∷ rest) long small =
     let one = byte_on (bit_xor s a) in
     let two = byte_on (bit_xor one b) in
     ap (remainder rest) (
-      sym (first_on 3 s a ((d * 256 + c) * 256 + b) (small 0) ∙ first_on 2 one b (d * 256 + c) (small 1) ∙ first_on 1 two c d (small 2))
-      ∙ ap (λ (x : ℕ). zeros_on 4 (bit_xor s x)) (sym (by_bytes a b c d))
+    sym (first_on 3 s a ((d * 256 + c) * 256 + b) (small 0) ∙ first_on 2 one b (d * 256 + c) (small 1) ∙ first_on 1 two c d (small 2))
+    ∙ ap (λ (x : ℕ). zeros_on 4 (bit_xor s x)) (sym (by_bytes a b c d))
     )
 
 pub rest_is : (k : ℕ) (xs : List ℕ) → take (length xs - k) (drop k xs) ≡ drop k xs

@@ -102,7 +102,6 @@ extent_found file records scan extent reads has end count = grind (arith, common
 -- a whole file
 
 module _ (profile : Profile) (clients_max : ℕ) (some_client : 0 < clients_max) (clients : clients_max ≤ 64) where
-
   of_history : (records : List (List ℕ)) (T : State) → RecordsLead (start_state profile clients_max) records T → IsRestored profile clients_max (head_record profile clients_max ∷ records) T
   of_history records T leads = record {
     entries = leads.entries;

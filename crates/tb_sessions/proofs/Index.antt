@@ -182,10 +182,10 @@ module _ {n : ℕ} {rows : Map ℕ Row} {clients : Map ℕ ℕ} (i : IsIndexed n
 
   pub fresh : (commit : ℕ) → Each (λ (other : Row). other.commit < commit) (values_of (entries rows)) → client_at clients commit ≡ None
   fresh commit later = none_where (client_at clients commit) (λ j is.
-    let kept = i.linked.kept commit j is in
-    let less = earlier commit later j kept.0 kept.1 in
-    let low = kept.2 in
-    omega (arith, less, low))
+      let kept = i.linked.kept commit j is in
+      let less = earlier commit later j kept.0 kept.1 in
+      let low = kept.2 in
+      omega (arith, less, low))
 
   pub index_out : (r : Row) (k d : ℕ) {rows' : Map ℕ Row} {clients' : Map ℕ ℕ} → kept_row rows k ≡ Some r → client_at clients d ≡ Some k
       → entries rows' ≡ remove_entry (is_at (nat_cmp k)) (entries rows) → entries clients' ≡ remove_entry (is_at (nat_cmp d)) (entries clients)
