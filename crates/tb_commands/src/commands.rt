@@ -21,6 +21,26 @@ pub enum Fault {
     Replaying(DumpFault),
 }
 
+impl From<RunFault> for Fault {
+    ghost use Rattle.tb_commands.specs.declared.commands.Fault.TheVariants.{Serving};
+
+    ghost from_gives = { λ of_run fault. fault ≡ Serving of_run };
+
+    fn from(fault: RunFault) -> Fault {
+        Fault::Serving(fault)
+    }
+}
+
+impl From<DumpFault> for Fault {
+    ghost use Rattle.tb_commands.specs.declared.commands.Fault.TheVariants.{Replaying};
+
+    ghost from_gives = { λ of_dump fault. fault ≡ Replaying of_dump };
+
+    fn from(fault: DumpFault) -> Fault {
+        Fault::Replaying(fault)
+    }
+}
+
 impl Fault {
     /// 1 where a device or memory failed, 2 where the input or the arguments are wrong.
     pub fn status(self) -> u8
@@ -65,15 +85,12 @@ fn perform<R: Source, W: Sink>(
     ensures { Performs form result (R.input reader.old) (R.input reader.new) (W.output writer.old)
         (W.output writer.new) }
 {
-    let served = match form {
-        Form::Run(clients_max, profile) => run(alloc, profile, clients_max, reader, writer),
-        Form::Dump(clients_max, at) => dump(alloc, clients_max, at, reader, writer),
-        Form::Replay => match replay(alloc, reader, writer) {
-            Ok(replies) => return Ok(replies),
-            Err(fault) => return Err(Fault::Replaying(fault)),
-        },
+    let count = match form {
+        Form::Run(clients_max, profile) => run(alloc, profile, clients_max, reader, writer)?,
+        Form::Dump(clients_max, at) => dump(alloc, clients_max, at, reader, writer)?,
+        Form::Replay => replay(alloc, reader, writer)?,
     };
-    served.map_err(Fault::Serving)
+    Ok(count)
 }
 
 /// Does what the words ask for, and answers the exit status: 0 done, where nothing goes to `faults`, else that of the
