@@ -173,8 +173,8 @@ fn is_top_to<K: Ord, V, A: Allocator>(tree: &Tree<K, V, A>, bound: &K) -> bool
 /// before. Above a side that is not, nothing changes.
 pub fn take_first_to<K: Ord, V, A: Allocator>(
     tree: &mut Tree<K, V, A>,
-    bound: &K,
     lower: &mut bool,
+    bound: &K,
 ) -> Option<Box<Node<K, V, A>, A>>
     requires balanced { IsAvl tree.old }
     requires height_fits { stored_height tree.old < 200 }
@@ -196,7 +196,7 @@ pub fn take_first_to<K: Ord, V, A: Allocator>(
     }
     let taken = match tree {
         Tree::Empty => return None,
-        Tree::Fork(_, node) => take_first_to(&mut node.left, bound, lower),
+        Tree::Fork(_, node) => take_first_to(&mut node.left, lower, bound),
     };
     if *lower {
         *lower = regrow(tree);

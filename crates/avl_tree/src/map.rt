@@ -220,24 +220,11 @@ impl<K: Ord + Copy, V, A: Allocator + Clone> AvlMap<K, V, A> {
     }
 
     /// Calls the closure at the value of the key, which it may change where it stands, and answers what the closure
-    /// answered. Where the key is absent there is no call, and nothing changes.
+    /// answered. It is called once at most, and at that value alone. Where the key is absent there is no call, and nothing
+    /// changes.
     pub fn update<R, F: FnMut(&mut V) -> R>(&mut self, key: &K, f: &mut F) -> Option<R>
-        requires { F.IsAlwaysCallable f.old }
-        ensures callable { F.IsAlwaysCallable f.new }
-        ensures changed { IfSome result
-            (λ r.
-            Changed F.FnMut (is_at (K.cmp key.now)) (entries self.old) f.old r f.new
-            (entries self.new)) }
-        ensures absent { IfNone result
-            ((get K.cmp self.old key.now ≡ None) × (f.new ≡ f.old) × (self.new ≡ self.old)) }
-        ensures spare { self.new.spare ≡ self.old.spare }
-    {
-        updates::update(&mut self.root, key, f)
-    }
-
-    /// As `update`, of a closure that may be called once, and at the value of the key.
-    pub fn change<R, F: FnMut(&mut V) -> R>(&mut self, key: &K, f: &mut F) -> Option<R>
         requires { TakesFound F.FnMut (is_at (K.cmp key.now)) (entries self.old) f.old }
+        ensures callable { F.IsAlwaysCallable f.old → F.IsAlwaysCallable f.new }
         ensures changed { IfSome result
             (λ r.
             Changed F.FnMut (is_at (K.cmp key.now)) (entries self.old) f.old r f.new
@@ -313,7 +300,7 @@ impl<K: Ord + Copy + Default, V: Default + Drop, A: Allocator + Clone> AvlMap<K,
         ensures spare { self.new.spare ≡ self.old.spare + (if is_some result then 1 else 0) }
     {
         let mut lower = false;
-        let node = edits::take_first_to(&mut self.root, bound, &mut lower)?;
+        let node = edits::take_first_to(&mut self.root, &mut lower, bound)?;
         Some(retire(node, &mut self.len, &mut self.spare))
     }
 

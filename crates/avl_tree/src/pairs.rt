@@ -164,27 +164,27 @@ fn apart<K: Ord, V, A: Allocator, R, F: FnMut(&mut V, &mut V) -> R>(
     apart_below(other, side(node, order), other_key, key, !in_order, f, out);
 }
 
-/// Goes on with both searches, a level further down in one of the trees.
+/// Goes on with both searches: `next` is the tree whose turn it is, `last` the one that is a level further down since.
 #[cycle(apart)]
 #[inline(never)]
 fn apart_below<K: Ord, V, A: Allocator, R, F: FnMut(&mut V, &mut V) -> R>(
-    tree: &mut Tree<K, V, A>,
-    other: &mut Tree<K, V, A>,
-    key: &K,
-    other_key: &K,
+    next: &mut Tree<K, V, A>,
+    last: &mut Tree<K, V, A>,
+    next_key: &K,
+    last_key: &K,
     in_order: bool,
     f: &mut F,
     out: &mut Option<R>,
 )
-    requires searched { IsSearchTree K.cmp tree.old }
-    requires other_searched { IsSearchTree K.cmp other.old }
+    requires searched { IsSearchTree K.cmp next.old }
+    requires last_searched { IsSearchTree K.cmp last.old }
     requires callable { F.IsAlwaysCallable f.old }
     requires empty { out.old ≡ None }
     ensures callable { F.IsAlwaysCallable f.new }
-    ensures changes { ChangesApart F.FnMut in_order (is_at (K.cmp key.now)) (is_at (K.cmp other_key.now)) tree.old
-        other.old f.old out.new f.new tree.new other.new }
+    ensures changes { ChangesApart F.FnMut in_order (is_at (K.cmp next_key.now)) (is_at (K.cmp last_key.now)) next.old
+        last.old f.old out.new f.new next.new last.new }
 {
-    apart(tree, other, key, other_key, in_order, f, out);
+    apart(next, last, next_key, last_key, in_order, f, out);
 }
 
 /// Looks for two keys, one on either side of a node.

@@ -172,7 +172,7 @@ impl Sessions {
             ((self.new ≡ self.old) × (request.new ≡ request.old) × (serve.new ≡ serve.old)) }
     {
         let client = request.client();
-        let served = self.rows.change(
+        let served = self.rows.update(
             &client,
             &mut |row: &mut Row| { serve_new(row, request, serve) },
         );

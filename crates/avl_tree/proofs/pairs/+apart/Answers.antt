@@ -26,4 +26,4 @@ apart-returns-clause-changes g t c =
     let p = rw c.deref.ensures at c.compare-order.ensures in
     let w = goes g.met.K.Ord.total c.args.key.now c.in-Fork.is _ p (sym c.is_eq.ensures ∙ c.if-is_eq.false) c.requires.searched in
     let x = rw (c.side.ensures.value, c.deref_mut-2.ensures.value) at c.apart_below.ensures.changes in
-    rw c.deref_mut-2.ensures.value (apart_side g.F.FnMut c.args.in_order c.args.f.now c.apart_below.new.f w c.args.other_key.now c.args.other.now c.apart_below.new.out c.apart_below.new.other c.apart_below.new.tree x)
+    rw c.deref_mut-2.ensures.value (apart_side g.F.FnMut c.args.in_order c.args.f.now c.apart_below.new.f w c.args.other_key.now c.args.other.now c.apart_below.new.out c.apart_below.new.last c.apart_below.new.next x)

@@ -7,4 +7,4 @@ decreases-apart g l = 2 * (stored_height l.tree.now + stored_height l.other.now)
 
 -- it hands both trees on as they are
 abbrev pub decreases-apart_below : goal.decreases-apart_below
-decreases-apart_below g l = 2 * (stored_height l.tree.now + stored_height l.other.now) + 1
+decreases-apart_below g l = 2 * (stored_height l.next.now + stored_height l.last.now) + 1

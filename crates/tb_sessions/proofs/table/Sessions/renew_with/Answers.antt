@@ -1,4 +1,4 @@
-use Rattle.std.proofs.Common.{rules, ◌≡◌, OnOk, OnErr, IfErr, Some, None, refl, sym, ap, ◌∙◌, subst}
+use Rattle.std.proofs.Common.{rules, ◌≡◌, IfOk, OnOk, OnErr, IfErr, Some, None, refl, sym, ap, ◌∙◌, subst}
 use Rattle.std.specs.Map.{values_of}
 use Rattle.avl_tree.specs.Map.{entries}
 use Rattle.tb_records.proofs.Entries.{found-row}
@@ -6,12 +6,12 @@ use Rattle.tb_sessions.specs.declared.rows.Row.{Row}
 use Rattle.tb_sessions.specs.declared.classes.Class.TheVariants.{New}
 use Rattle.tb_sessions.specs.Judged.{class_beside, class_by, client_of, row_of}
 use Rattle.tb_sessions.specs.Admission.{Table}
-use Rattle.tb_sessions.specs.Renewal.{TakesBoth, Renews}
+use Rattle.tb_sessions.specs.Renewal.{TakesBoth, Renews, Serves}
 use Rattle.tb_sessions.proofs.Renewing.{same_oldest, index_served, rows_served, entries_kept, of_err}
 use Rattle.tb_sessions.proofs.table.Sessions.renew_with.Goals as goal
 
-pub change-served-requires : goal.change-served-requires
-change-served-requires g c = λ v found y is.
+pub update-served-requires : goal.update-served-requires
+update-served-requires g c = λ v found y is.
     let at = rw c.client-client.ensures at found in
     let here : row_of c.args.self.now.rows c.args.request.now.client ≡ Some v = rw (← c.self.view_is) (sym (found-row client_of c.args.request.now.client (entries c.self.inside.rows) c.self.invariant.indexed.own) ∙ at) in
     let may : class_beside y.now c.args.request.now ≡ New → TakesBoth g.F.FnMut c.args.serve.now c.args.request.now y.now =
@@ -26,7 +26,7 @@ bring_up-requires g c =
     let written = rw c.client-client.ensures at ch.written in
     let renews = subst (λ (t : Table). Renews g.F.FnMut c.args.serve.now t.rows c.args.request.now) (sym c.self.view_is) c.requires.renews in
     let beside : OnOk c.in-Some-Ok.field-0 (class_beside ch.value c.args.request.now ≡ New) = search rules in
-    index_served g.F.FnMut c.serve-1.given.0 c.request-1.given.0 c.change-served.new.self ch.value ch.left found written c.self.invariant.indexed renews c.in-Some-Ok.answer c.in-Some-Ok.field-0 c.in-Some-Ok.field-0-is beside (search rules) c.change-served.ensures.spare
+    index_served g.F.FnMut c.serve-1.given.0 c.request-1.given.0 c.update-served.new.self ch.value ch.left found written c.self.invariant.indexed renews c.in-Some-Ok.answer c.in-Some-Ok.field-0 c.in-Some-Ok.field-0-is beside (search rules) c.update-served.ensures.spare
 
 pub invariant_of-self-in-Some-Err : goal.invariant_of-self-in-Some-Err
 invariant_of-self-in-Some-Err g c =
@@ -34,7 +34,7 @@ invariant_of-self-in-Some-Err g c =
     let called = ch.called in
     let kept : OnErr c.in-Some-Err.field-0 (ch.left ≡ ch.value) = search rules in
     let same = rw c.in-Some-Err.field-0-is at kept in
-    same_oldest c.change-served.new.self (entries_kept c.self.inside.rows c.change-served.new.self c.client-client.result ch.value ch.left ch.found ch.written same) c.change-served.ensures.spare c.self.invariant
+    same_oldest c.update-served.new.self (entries_kept c.self.inside.rows c.update-served.new.self c.client-client.result ch.value ch.left ch.found ch.written same) c.update-served.ensures.spare c.self.invariant
 
 pub returns-in-Some-Ok-clause-served : goal.returns-in-Some-Ok-clause-served
 returns-in-Some-Ok-clause-served g c =
@@ -44,7 +44,8 @@ returns-in-Some-Ok-clause-served g c =
     let written = rw c.client-client.ensures at ch.written in
     let renews = subst (λ (t : Table). Renews g.F.FnMut c.args.serve.now t.rows c.args.request.now) (sym c.self.view_is) c.requires.renews in
     let beside : OnOk c.in-Some-Ok.field-0 (class_beside ch.value c.args.request.now ≡ New) = search rules in
-    rw (← c.self.view_is) (rows_served g.F.FnMut _ _ c.change-served.new.self ch.value ch.left found written c.self.invariant.indexed renews c.in-Some-Ok.answer c.in-Some-Ok.field-0 c.in-Some-Ok.field-0-is beside (search rules))
+    let serves : IfOk c.in-Some-Ok.field-0 (λ a. Serves g.F.FnMut c.args.serve.now c.args.request.now ch.value a c.serve-1.given.0 c.request-1.given.0 ch.left) = search rules in
+    rw (← c.self.view_is) (rows_served g.F.FnMut c.serve-1.given.0 c.request-1.given.0 c.update-served.new.self ch.value ch.left found written c.self.invariant.indexed renews c.in-Some-Ok.answer c.in-Some-Ok.field-0 c.in-Some-Ok.field-0-is beside serves)
 
 pub returns-in-Some-Err-clause-told : goal.returns-in-Some-Err-clause-told
 returns-in-Some-Err-clause-told g c =
@@ -62,7 +63,7 @@ returns-in-Some-Err-clause-unchanged g c =
     let called = ch.called in
     let kept : OnErr c.in-Some-Err.field-0 (ch.left ≡ ch.value) = search rules in
     let same = rw c.in-Some-Err.field-0-is at kept in
-    let e = entries_kept c.self.inside.rows c.change-served.new.self c.client-client.result ch.value ch.left ch.found ch.written same in
+    let e = entries_kept c.self.inside.rows c.update-served.new.self c.client-client.result ch.value ch.left ch.found ch.written same in
     let both : (c.request-1.given.0 ≡ c.args.request.now) × (c.serve-1.given.0 ≡ c.args.serve.now) = of_err c.in-Some-Err.field-0 c.in-Some-Err.class c.in-Some-Err.field-0-is (search rules) in
     (rw e c.self.view_is, both.0, both.1)
 

@@ -1,6 +1,9 @@
-use Rattle.tb_ledger.proofs.Common.{ap}
+use Rattle.tb_ledger.proofs.Common.{ap, [], ◌∷◌}
 use Rattle.tb_ledger.proofs.Entries.{holds, updates}
 use Rattle.tb_ledger.proofs.tables.map.Table.update.Goals as goal
+
+pub update-requires : goal.update-requires
+update-requires g c = λ v found y is. (c.requires.callable.at ((y, tt) ∷ [])).0
 
 pub invariant_of-self-2 : goal.invariant_of-self-2
 invariant_of-self-2 g c =
