@@ -10,6 +10,16 @@ use tb_records::{
     Operation,
 };
 
+/// An account as it is given, in another ledger.
+fn in_ledger(ledger: u32, account: Account) -> Account {
+    Account { ledger, ..account }
+}
+
+/// An account as it is given, of another code.
+fn of_code(code: u16, account: Account) -> Account {
+    Account { code, ..account }
+}
+
 /// Nine accounts, of which the last is right.
 #[test]
 fn account_refusals(rt: HostRuntime) {
@@ -24,29 +34,17 @@ fn account_refusals(rt: HostRuntime) {
             AccountOutcome::FlagsAreMutuallyExclusive,
         ),
         Step::Account(
-            Account {
-                ledger: 0,
-                ..account(3)
-            },
+            in_ledger(0, account(3)),
             AccountOutcome::LedgerMustNotBeZero,
         ),
-        Step::Account(
-            Account {
-                code: 0,
-                ..account(3)
-            },
-            AccountOutcome::CodeMustNotBeZero,
-        ),
+        Step::Account(of_code(0, account(3)), AccountOutcome::CodeMustNotBeZero),
         Step::Account(
             account_with(AccountFlag::Imported, account(3)),
             AccountOutcome::ReservedFlag,
         ),
         Step::Account(account(1), AccountOutcome::Exists),
         Step::Account(
-            Account {
-                ledger: 701,
-                ..account(1)
-            },
+            in_ledger(701, account(1)),
             AccountOutcome::ExistsWithDifferentLedger,
         ),
         Step::Account(account(3), AccountOutcome::Ok),

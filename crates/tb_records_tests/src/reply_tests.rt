@@ -266,6 +266,36 @@ fn created_faults_in_order(rt: HostRuntime) {
     }
 }
 
+/// The operations of a register and of creating accounts, and one that is none.
+const OPENS: u8 = 2;
+
+const CREATES: u8 = 129;
+
+const UNKNOWN: u8 = 3;
+
+/// New replies that are refused, without a body and in session 1: the client, number and operation, the status, the commit, and the fault.
+const REFUSED: [((u128, u32, u8), Status, u64, FrameFault); 9] = [
+    ((0, 1, CREATES), Status::Reply, 2, FrameFault::ClientZero),
+    (
+        (7, 1, UNKNOWN),
+        Status::Reply,
+        2,
+        FrameFault::UnknownOperation,
+    ),
+    ((7, 1, OPENS), Status::Reply, 1, FrameFault::RegisterNumbers),
+    (
+        (7, 0, OPENS),
+        Status::NotYet,
+        0,
+        FrameFault::RegisterNumbers,
+    ),
+    ((7, 0, CREATES), Status::Reply, 2, FrameFault::RequestZero),
+    ((7, 0, OPENS), Status::Reply, 2, FrameFault::ReplyNumbers),
+    ((7, 1, CREATES), Status::Reply, 1, FrameFault::ReplyNumbers),
+    ((7, 1, CREATES), Status::Older, 2, FrameFault::ReplyNumbers),
+    ((7, 1, CREATES), Status::Reply, 2, FrameFault::BadLength),
+];
+
 /// The fault of a new reply in session 1 with no body.
 fn fault_of(
     client: u128,
@@ -288,55 +318,14 @@ fn fault_of(
 
 #[test]
 fn faults_of_new_replies(rt: HostRuntime) {
-    let register = Operation::Register.code();
-    let create = Operation::CreateAccounts.code();
-    let unknown = 3;
-    let cases = [
-        (0, 1, create, Status::Reply, 2, FrameFault::ClientZero),
-        (
-            7,
-            1,
-            unknown,
-            Status::Reply,
-            2,
-            FrameFault::UnknownOperation,
-        ),
-        (
-            7,
-            1,
-            register,
-            Status::Reply,
-            1,
-            FrameFault::RegisterNumbers,
-        ),
-        (
-            7,
-            0,
-            register,
-            Status::NotYet,
-            0,
-            FrameFault::RegisterNumbers,
-        ),
-        (7, 0, create, Status::Reply, 2, FrameFault::RequestZero),
-        (7, 0, register, Status::Reply, 2, FrameFault::ReplyNumbers),
-        (7, 1, create, Status::Reply, 1, FrameFault::ReplyNumbers),
-        (7, 1, create, Status::Older, 2, FrameFault::ReplyNumbers),
-        (7, 1, create, Status::Reply, 2, FrameFault::BadLength),
-    ];
-    for (client, request, operation, status, commit, fault) in cases {
+    for ((client, request, operation), status, commit, fault) in REFUSED {
         let found = fault_of(client, request, operation, status, commit);
         holds(&rt, found == Some(fault), &operation);
     }
-    holds(
-        &rt,
-        fault_of(7, 1, create, Status::Older, 0).is_none(),
-        &"none",
-    );
-    holds(
-        &rt,
-        fault_of(7, 0, register, Status::Reply, 1).is_none(),
-        &"none",
-    );
+    let refusal = fault_of(7, 1, CREATES, Status::Older, 0);
+    holds(&rt, refusal.is_none(), &"a refusal");
+    let registered = fault_of(7, 0, OPENS, Status::Reply, 1);
+    holds(&rt, registered.is_none(), &"the reply to a register");
 }
 
 #[test]

@@ -275,14 +275,19 @@ fn offer_over<J: Naming, R: Wait + Eprint>(
     Ok(true)
 }
 
+/// Two ports, and two seats.
+fn two_of_each() -> Result<(PortCount, SeatCount), Trouble> {
+    let ports = PortCount::new(2).ok_or(Trouble::SetUp)?;
+    let seats = SeatCount::new(2).ok_or(Trouble::SetUp)?;
+    Ok((ports, seats))
+}
+
 /// Serves the pairs of a script, and appends the history; false where the opening or the service is refused.
 pub fn offer_all<J: Naming, R: Wait + Eprint>(rt: &R, work: Work<'_>) -> Result<bool, Trouble>
     requires { work.opening ≡ J.opening }
 {
     let (alloc, clients_max, pairs) = (work.alloc, work.clients_max, work.pairs);
-    let (Some(count), Some(seats)) = (PortCount::new(2), SeatCount::new(2)) else {
-        return Err(Trouble::SetUp);
-    };
+    let (count, seats) = two_of_each()?;
     let moments = Listed::new(alloc, pairs)?;
     let requests = match copy_all(rt, alloc, pairs) {
         Ok(requests) => requests,
