@@ -5,7 +5,7 @@ ghost use Rattle.tb_commands.specs.Statuses.{line_named, TellsLine};
 use arrayvec::ArrayVec;
 use tb_records::{Sink, put_all};
 
-/// The bytes that a fault's line may have: a program's name, a fault's name of at most 16 letters, and the line's end.
+/// The bytes that a fault's line may have: a program's name with its colon, a fault's name of at most 26 letters, and the line's end.
 pub const LINE: usize = 32;
 
 /// The line of a fault with a name, by a program, in a buffer of its own, so that it needs no memory.
