@@ -15,12 +15,13 @@ const REGISTER: [u8; 48] = [
     0, 0, 0, 0, 0, 0, 0, 0, 0, 0, 0, 0, 0, 0, 0, 0, // length
 ];
 
-/// The reply: session 1, commit 1.
-const REGISTERED: [u8; 48] = [
-    7, 0, 0, 0, 0, 0, 0, 0, 0, 0, 0, 0, 0, 0, 0, 0, // client
-    1, 0, 0, 0, 0, 0, 0, 0, 0, 0, 0, 0, 2, 0, 0, 0, // session, request, operation, status
-    0, 0, 0, 0, 1, 0, 0, 0, 0, 0, 0, 0, 0, 0, 0, 0, // length, commit
-];
+/// The reply: beside what the request has, session 1 and commit 1.
+fn registered() -> [u8; 48] {
+    let mut reply = REGISTER;
+    reply[16] = 1;
+    reply[36] = 1;
+    reply
+}
 
 /// What a serving answered: the status, and the length that it told.
 #[derive(Clone, Copy, Debug, PartialEq, Eq)]
@@ -72,11 +73,9 @@ fn opened_and_closed(rt: HostRuntime) -> Result<(), Fail> {
     Ok(())
 }
 
-/// A room that is too small loses nothing: the request, sent again, gets its first reply. Malformed bytes are refused, and so
-/// is a new request that finds no time.
-fn expect_register(rt: &impl Abort, alloc: Global, server: &mut TbServer) {
+/// Malformed bytes are refused, and so is a new request that finds no time.
+fn expect_refused(rt: &impl Abort, alloc: Global, server: &mut TbServer) {
     let mut room = [9; 60];
-    let mut short = [0; 47];
     let mut longer = [0; 49];
     longer[..48].copy_from_slice(&REGISTER);
     assert_eq!(rt; tb_embed_open(alloc, server, 1, 2), 0);
@@ -97,6 +96,12 @@ fn expect_register(rt: &impl Abort, alloc: Global, server: &mut TbServer) {
         &mut room,
     );
     assert_eq!(rt; late.status, 5);
+}
+
+/// A room that is too small loses nothing: the request, sent again, gets its first reply.
+fn expect_register(rt: &impl Abort, alloc: Global, server: &mut TbServer) {
+    let mut room = [9; 60];
+    let mut short = [0; 47];
     let small = serve(alloc, server, 10, &REGISTER, &mut short);
     assert_eq!(rt;
         small,
@@ -113,13 +118,14 @@ fn expect_register(rt: &impl Abort, alloc: Global, server: &mut TbServer) {
             written: 48
         }
     );
-    assert!(rt; room.starts_with(&REGISTERED));
+    assert!(rt; room.starts_with(&registered()));
     assert_eq!(rt; room[48], 9);
 }
 
 #[test]
 fn first_register(rt: HostRuntime) -> Result<(), Fail> {
     let mut server = TbServer::closed(rt.alloc());
+    expect_refused(&rt, rt.alloc(), &mut server);
     expect_register(&rt, rt.alloc(), &mut server);
     tb_embed_close(rt.alloc(), &mut server);
     Ok(())

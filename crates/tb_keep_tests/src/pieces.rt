@@ -49,7 +49,7 @@ const LOOK_UPS: &[([Line; 3], usize)] = &[
 fn long_file(rt: &impl Abort, alloc: Global) -> Vec<u8> {
     let mut pairs = script(rt, alloc, 1);
     for (lines, length) in LOOK_UPS {
-        put_pair(rt, &mut pairs, lines);
+        put_pair(rt, &mut pairs, &[lines]);
         let end = pairs.len().saturating_add(*length);
         sure(rt, pairs.resize(end, 0));
     }

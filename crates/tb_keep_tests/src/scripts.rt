@@ -26,39 +26,35 @@ pub const TEN: [u8; 8] = [10, 0, 0, 0, 0, 0, 0, 0];
 
 /// The requests of the script, each with the moment 10: a register, accounts 1 and 2, 128 moved from 1 to 2 as transfer 11,
 /// the same request again, the request before it, and a look-up of account 2.
-pub const SCRIPT: [&[Line]; 6] = [
-    &[CLIENT, REGISTER, 0],
+const SCRIPT: [&[&[Line]]; 6] = [
+    &[&[CLIENT, REGISTER, 0]],
     &[
-        CLIENT,
-        0x01000000000000000100000081000000,
-        0x00010000000000000000000000000000,
-        1 << 120,
-        0,
-        0,
-        0,
-        0,
-        0,
-        0,
-        END,
-        2 << 120,
-        0,
-        0,
-        0,
-        0,
-        0,
-        0,
-        END,
+        &CREATE,
+        &[1 << 120],
+        &ZEROS,
+        &[END],
+        &[2 << 120],
+        &ZEROS,
+        &[END],
     ],
-    &TRANSFER,
-    &TRANSFER,
+    &[&TRANSFER],
+    &[&TRANSFER],
     &[
-        CLIENT,
-        0x01000000000000000100000083000000,
-        0x10000000000000000000000000000000,
-        1 << 120,
+        &[CLIENT, 0x01000000000000000100000083000000],
+        &[0x10000000000000000000000000000000, 1 << 120],
     ],
-    &LOOK_UP,
+    &[&LOOK_UP],
 ];
+
+/// Request 1, that creates two accounts, before its body.
+const CREATE: [Line; 3] = [
+    CLIENT,
+    0x01000000000000000100000081000000,
+    0x00010000000000000000000000000000,
+];
+
+/// An account's balances and user data, all zero.
+const ZEROS: [Line; 6] = [0; 6];
 
 /// Request 2: 128 moved from account 1 to account 2 as transfer 11.
 pub const TRANSFER: [Line; 11] = [
@@ -109,19 +105,26 @@ pub fn change(bytes: &mut [u8], at: usize, value: u8) {
     }
 }
 
-/// Appends a moment and the lines of a frame.
-pub fn put_pair(rt: &impl Abort, out: &mut Vec<u8>, lines: &[Line]) {
-    sure(rt, out.extend_from_slice(&TEN));
+/// Appends lines.
+fn put_lines(rt: &impl Abort, out: &mut Vec<u8>, lines: &[Line]) {
     for line in lines {
         sure(rt, out.extend_from_slice(&line.to_be_bytes()));
+    }
+}
+
+/// Appends a moment and the lines of a frame, which stand in parts.
+pub fn put_pair(rt: &impl Abort, out: &mut Vec<u8>, parts: &[&[Line]]) {
+    sure(rt, out.extend_from_slice(&TEN));
+    for lines in parts {
+        put_lines(rt, out, lines);
     }
 }
 
 /// The first so many pairs of the script, from one on.
 fn pairs(rt: &impl Abort, alloc: Global, first: usize, end: usize) -> Vec<u8> {
     let mut bytes = Vec::new(alloc);
-    for lines in SCRIPT.get(first..end).unwrap_or_default() {
-        put_pair(rt, &mut bytes, lines);
+    for parts in SCRIPT.get(first..end).unwrap_or_default() {
+        put_pair(rt, &mut bytes, parts);
     }
     bytes
 }

@@ -29,7 +29,7 @@ fn replies_are_those_of_run(rt: HostRuntime) {
 /// Opens a file, and sends the last request again.
 fn sent_again(rt: &impl Abort, alloc: Global, bytes: &[u8]) -> (Vec<u8>, Vec<u8>) {
     let mut last = Vec::new(alloc);
-    put_pair(rt, &mut last, &LOOK_UP);
+    put_pair(rt, &mut last, &[&LOOK_UP]);
     let file = file_of(rt, alloc, bytes);
     let mut again = sure(rt, Keeper::open(alloc, file, rules(rt)));
     let (well, told) = serve(alloc, &mut again, &last);
@@ -118,7 +118,7 @@ fn pairs_at_hand_share_a_commit(rt: HostRuntime) {
 /// The first two pairs of the script, and a third one.
 fn three(rt: &impl Abort, alloc: Global) -> Vec<u8> {
     let mut bytes = script(rt, alloc, 2);
-    put_pair(rt, &mut bytes, &TRANSFER);
+    put_pair(rt, &mut bytes, &[&TRANSFER]);
     bytes
 }
 

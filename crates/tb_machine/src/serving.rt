@@ -258,11 +258,11 @@ pub(crate) fn pass_on_before_waiting<R: Source, W: Sink>(reader: &R, writer: &mu
 /// Serves a script, with the records of the machine in memory of `alloc`.
 fn run_in<A: Allocator + Clone, R: Source, W: Sink>(
     global: Global,
-    alloc: A,
     profile: Profile,
     clients_max: ClientsMax,
     reader: &mut R,
     writer: &mut W,
+    alloc: A,
 ) -> Result<u64, RunFault>
     ensures ran { Ran profile clients_max result (R.input reader.old) (R.input reader.new)
         (W.output writer.old) (W.output writer.new) }
@@ -308,7 +308,7 @@ pub fn run<R: Source, W: Sink>(
     let second = Bump::new(&first);
     let third = Bump::new(&second);
     let pool = Bump::new(&third);
-    let served = run_in(alloc, &pool, profile, clients_max, reader, writer);
+    let served = run_in(alloc, profile, clients_max, reader, writer, &pool);
     drop(pool);
     drop(third);
     drop(second);

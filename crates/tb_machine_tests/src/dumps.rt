@@ -1,6 +1,6 @@
 //! Scripts that are dumped and dumps that are replayed, in memory: worked rows, by the bytes that the formats give.
 use crate::comparing::holds;
-use crate::frames::{REQUESTS, put_lines};
+use crate::frames::{ACCOUNTS, put_lines, put_parts};
 use crate::machines::clients_max;
 use crate::scripts::put_bytes;
 use std::alloc::Global;
@@ -50,7 +50,7 @@ fn put_register(rt: &impl Abort, out: &mut Vec<u8>, moment: u64, client: u8) {
 /// Appends accounts 1 and 2 at moment 10.
 fn put_accounts(rt: &impl Abort, out: &mut Vec<u8>) {
     put_bytes(rt, out, &10u64.to_le_bytes());
-    put_lines(rt, out, REQUESTS[1]);
+    put_parts(rt, out, &ACCOUNTS);
 }
 
 /// Appends a transfer of 1 to account 2 at moment 10, as client 7's request of a number below 256.

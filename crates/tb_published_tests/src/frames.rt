@@ -8,24 +8,17 @@ use tb_records::{Request, write_reply};
 pub(crate) type Header = [u128; 3];
 
 /// Accounts 2 and 1 of ledger 700 and code 10, with times 12 and 11, as nothing was transferred yet.
-const ACCOUNTS: [u128; 16] = [
-    0x02000000_00000000_00000000_00000000,
-    0,
-    0,
-    0,
-    0,
-    0,
-    0,
-    0xbc020000_0a000000_0c000000_00000000,
-    0x01000000_00000000_00000000_00000000,
-    0,
-    0,
-    0,
-    0,
-    0,
-    0,
-    0xbc020000_0a000000_0b000000_00000000,
+const ACCOUNTS: [&[u128]; 6] = [
+    &[0x02000000_00000000_00000000_00000000],
+    &ZEROS,
+    &[0xbc020000_0a000000_0c000000_00000000],
+    &[0x01000000_00000000_00000000_00000000],
+    &ZEROS,
+    &[0xbc020000_0a000000_0b000000_00000000],
 ];
+
+/// An account's balances and user data, all zero.
+const ZEROS: [u128; 6] = [0; 6];
 
 fn put_lines(rt: &impl Abort, bytes: &mut Vec<u8>, lines: &[u128]) {
     for line in lines {
@@ -39,7 +32,9 @@ pub(crate) fn frame(rt: &impl Abort, alloc: Global, header: Header, found: bool)
     let mut bytes = Vec::new(alloc);
     put_lines(rt, &mut bytes, &header);
     if found {
-        put_lines(rt, &mut bytes, &ACCOUNTS);
+        for lines in ACCOUNTS {
+            put_lines(rt, &mut bytes, lines);
+        }
     }
     bytes
 }

@@ -52,6 +52,23 @@ impl Item for Account {
 
     const SIZE: usize = 128;
 
+    fn write(&self, out: &mut [u8; 128]) {
+        let out: &mut [u8] = out;
+        put_u128(out, 0, self.id);
+        put_u128(out, 16, self.debits_pending);
+        put_u128(out, 32, self.debits_posted);
+        put_u128(out, 48, self.credits_pending);
+        put_u128(out, 64, self.credits_posted);
+        put_u128(out, 80, self.user_data_128);
+        put_u64(out, 96, self.user_data_64);
+        put_u32(out, 104, self.user_data_32);
+        put_u32(out, 108, self.reserved);
+        put_u32(out, 112, self.ledger);
+        put_u16(out, 116, self.code);
+        put_u16(out, 118, self.flags);
+        put_u64(out, 120, self.timestamp);
+    }
+
     fn read(bytes: &[u8]) -> Account {
         Account {
             id: u128_at(bytes, 0),
@@ -69,23 +86,6 @@ impl Item for Account {
             timestamp: u64_at(bytes, 120),
         }
     }
-
-    fn write(&self, out: &mut [u8; 128]) {
-        let out: &mut [u8] = out;
-        put_u128(out, 0, self.id);
-        put_u128(out, 16, self.debits_pending);
-        put_u128(out, 32, self.debits_posted);
-        put_u128(out, 48, self.credits_pending);
-        put_u128(out, 64, self.credits_posted);
-        put_u128(out, 80, self.user_data_128);
-        put_u64(out, 96, self.user_data_64);
-        put_u32(out, 104, self.user_data_32);
-        put_u32(out, 108, self.reserved);
-        put_u32(out, 112, self.ledger);
-        put_u16(out, 116, self.code);
-        put_u16(out, 118, self.flags);
-        put_u64(out, 120, self.timestamp);
-    }
 }
 
 impl Item for Transfer {
@@ -100,6 +100,23 @@ impl Item for Transfer {
     ghost length_spelling = { length-transfer };
 
     const SIZE: usize = 128;
+
+    fn write(&self, out: &mut [u8; 128]) {
+        let out: &mut [u8] = out;
+        put_u128(out, 0, self.id);
+        put_u128(out, 16, self.debit_account_id);
+        put_u128(out, 32, self.credit_account_id);
+        put_u128(out, 48, self.amount);
+        put_u128(out, 64, self.pending_id);
+        put_u128(out, 80, self.user_data_128);
+        put_u64(out, 96, self.user_data_64);
+        put_u32(out, 104, self.user_data_32);
+        put_u32(out, 108, self.timeout);
+        put_u32(out, 112, self.ledger);
+        put_u16(out, 116, self.code);
+        put_u16(out, 118, self.flags);
+        put_u64(out, 120, self.timestamp);
+    }
 
     fn read(bytes: &[u8]) -> Transfer {
         Transfer {
@@ -117,23 +134,6 @@ impl Item for Transfer {
             flags: u16_at(bytes, 118),
             timestamp: u64_at(bytes, 120),
         }
-    }
-
-    fn write(&self, out: &mut [u8; 128]) {
-        let out: &mut [u8] = out;
-        put_u128(out, 0, self.id);
-        put_u128(out, 16, self.debit_account_id);
-        put_u128(out, 32, self.credit_account_id);
-        put_u128(out, 48, self.amount);
-        put_u128(out, 64, self.pending_id);
-        put_u128(out, 80, self.user_data_128);
-        put_u64(out, 96, self.user_data_64);
-        put_u32(out, 104, self.user_data_32);
-        put_u32(out, 108, self.timeout);
-        put_u32(out, 112, self.ledger);
-        put_u16(out, 116, self.code);
-        put_u16(out, 118, self.flags);
-        put_u64(out, 120, self.timestamp);
     }
 }
 

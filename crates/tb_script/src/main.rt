@@ -8,14 +8,9 @@ use tb_records::Counting;
 
 fn main(rt: HostRuntime) -> ExitCode {
     let mut faults = Counting::new(rt.stderr());
+    let (alloc, input, output) = (rt.alloc(), rt.stdin(), rt.stdout());
     let status = match words(&rt) {
-        Ok(words) => serve(
-            rt.alloc(),
-            words.as_slice(),
-            rt.stdin(),
-            rt.stdout(),
-            &mut faults,
-        ),
+        Ok(words) => serve(alloc, words.as_slice(), input, output, &mut faults),
         Err(error) => refuse(fault_of(&error), &mut faults),
     };
     ExitCode::from(status)

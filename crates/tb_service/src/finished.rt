@@ -76,13 +76,13 @@ impl<J: Naming> Finished<J> {
     ghost use Rattle.tb_service.specs.Finished.{IsOffered};
 
     pub(crate) fn new(
+        alloc: Global,
         publisher: Publisher<J>,
         ended: Ended,
         refused: Vec<(u64, TakeFault)>,
         places: Vec<u32>,
         sender: Sender,
         pass: Pass<Order, View>,
-        alloc: Global,
     ) -> Finished<J>
         requires seated { IsSeatAt (sends_on sender) pass }
         requires serves { (view pass).serves ≡ true }

@@ -36,8 +36,7 @@ impl PortCount {
     /// The number.
     pub fn get(self) -> u32
         ensures value { result ≡ self }
-        ensures positive { 0 < self }
-        ensures at_most { self ≤ 32 }
+        ensures range { (0 < self) × (self ≤ 32) }
     {
         self.number
     }

@@ -137,13 +137,13 @@ impl<J: Naming, W: Wait + Drop, M: Moments + Drop, G: Gate + Drop> Server<J, W, 
             refused,
         } = clerk;
         Finished::new(
+            alloc,
             held.into_publisher(),
             ended,
             refused,
             places,
             sender,
             pass,
-            alloc,
         )
     }
 }

@@ -308,8 +308,8 @@ fn call_while_held<J: Naming + Send + Sync, R: Threads + Wait + Abort + Sync>(
 )
     requires { opening ≡ J.opening }
 {
-    let (publisher, mut seats) = opened::<J, R>(rt, alloc, opening);
     let watch = Watch::new();
+    let (publisher, mut seats) = opened::<J, R>(rt, alloc, opening);
     let gate = Waiting(&watch);
     let made = serve(alloc, publisher, rt, ports(rt, 1), rising(), gate);
     let (server, mut ports) = made.expect(rt, "a server");

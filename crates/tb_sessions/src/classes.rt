@@ -3,10 +3,6 @@
 /// How a request stands to its client's session.
 #[derive(Clone, Copy, Debug, PartialEq, Eq)]
 pub enum Class {
-    /// To be executed: a register of a client without a session, or the request that follows the session's last.
-    New,
-    /// The session's last request again: to be answered by the stored reply.
-    Repeat,
     /// The client has no session.
     NoSession,
     /// The session is below the client's.
@@ -15,8 +11,12 @@ pub enum Class {
     NewerSession,
     /// The session's last request has a greater number.
     Older,
+    /// The session's last request again: to be answered by the stored reply.
+    Repeat,
     /// The session's last request has this number, and another operation or body.
     Collision,
+    /// To be executed: a register of a client without a session, or the request that follows the session's last.
+    New,
     /// Requests before this one are missing.
     NewerRequest,
 }

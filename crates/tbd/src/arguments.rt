@@ -21,17 +21,6 @@ pub enum Form {
     Version,
 }
 
-/// What a word asks for.
-fn form_alone(word: &str) -> Option<Form>
-    ensures { result ≡ form_alone word.now }
-{
-    match word {
-        "--help" | "-h" => Some(Form::Help),
-        "--version" => Some(Form::Version),
-        _ => None,
-    }
-}
-
 /// What a word with a file asks for.
 fn form_over(word: &str) -> Option<Form>
     ensures { result ≡ form_over word.now }
@@ -39,6 +28,17 @@ fn form_over(word: &str) -> Option<Form>
     match word {
         "dump" => Some(Form::Dump),
         "check" => Some(Form::Check),
+        _ => None,
+    }
+}
+
+/// What a word asks for.
+fn form_alone(word: &str) -> Option<Form>
+    ensures { result ≡ form_alone word.now }
+{
+    match word {
+        "--help" | "-h" => Some(Form::Help),
+        "--version" => Some(Form::Version),
         _ => None,
     }
 }

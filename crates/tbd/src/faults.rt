@@ -133,7 +133,6 @@ impl Fault {
     /// The exit status.
     pub fn status(self) -> u8
         ensures value { result ≡ fault_status self }
-        ensures failing { 0 < result }
     {
         match self {
             Fault::Device | Fault::Missing | Fault::Forbidden | Fault::Unopened | Fault::NoMemory =>
