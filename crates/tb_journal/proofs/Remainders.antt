@@ -125,16 +125,16 @@ zeros_then : (k c : ℕ) → byte_on (zeros_on k c) ≡ zeros_on (suc k) c
 zeros_then zero c = refl
 zeros_then (suc k) c = zeros_then k (byte_on c)
 
-row_at : (j p : ℕ) → j < 16 → p < 256 → get_or (get_or REMAINDERS j []) p 0 ≡ zeros_on (suc j) p
-row_at zero p least small = let none : 0 + p ≡ p = omega arith in row_above zero p ∙ ap byte_on (get_or-range_with_len 0 256 p 0 small ∙ none)
-row_at (suc j) p least small =
+remainder_at : (j p : ℕ) → j < 16 → p < 256 → get_or (get_or REMAINDERS j []) p 0 ≡ zeros_on (suc j) p
+remainder_at zero p least small = let none : 0 + p ≡ p = omega arith in row_above zero p ∙ ap byte_on (get_or-range_with_len 0 256 p 0 small ∙ none)
+remainder_at (suc j) p least small =
     row_above (suc j) p ∙ ap (λ (row : List ℕ). byte_on (get_or row p 0)) (get_or-take 15 REMAINDERS j [] (omega (arith, least)))
-    ∙ ap byte_on (row_at j p (omega (arith, least)) small) ∙ zeros_then (suc j) p
+    ∙ ap byte_on (remainder_at j p (omega (arith, least)) small) ∙ zeros_then (suc j) p
 
 -- the entry of a byte behind which stand z - 1 bytes of zeros
 pub row_is : (p z : ℕ) → p < 256 → 1 ≤ z → z ≤ 16 → get_or (get_or REMAINDERS (z - 1) []) p 0 ≡ zeros_on z p
 row_is p zero small least most = absurd (omega (arith, least))
-row_is p (suc j) small least most = let place : suc j - 1 ≡ j = omega arith in rw place (row_at j p (omega (arith, most)) small)
+row_is p (suc j) small least most = let place : suc j - 1 ≡ j = omega arith in rw place (remainder_at j p (omega (arith, most)) small)
 
 -- what bytes of zeros make of the four bytes of a remainder
 

@@ -110,7 +110,7 @@ fn move_down(bytes: &mut Vec<u8>, from: usize, end: usize)
 // Makes room for so many bytes. What is there stays.
 fn grow(bytes: &mut Vec<u8>, n: usize) -> Result<(), AllocError>
     ensures front { take (vec_len bytes.old) bytes.new.items ≡ bytes.old.items }
-    ensures room { OnOk result (n ≤ vec_len bytes.new) }
+    ensures capacity { OnOk result (n ≤ vec_len bytes.new) }
 {
     if n <= bytes.len() {
         return Ok(());

@@ -55,8 +55,8 @@ pub record Decides {R A : Type 0} (code_of : R → ℕ) (code : ℕ) (books : Bo
   pub leaves : Leaves work later
 
 -- an event is taken at a time: its verdict decides, and where it passes it is recorded
-abbrev pub Takes : {E R A : Type 0} → Kind E → (R → ℕ) → Work A → E → ℕ → Result (Unit {0}) R → Work A → Type 0
-Takes kind code_of work event time = Decides code_of (kind.verdict (books_in work.rows) event time) (kind.recorded (books_in work.rows) event time) work
+abbrev pub TakesEvent : {E R A : Type 0} → Kind E → (R → ℕ) → Work A → E → ℕ → Result (Unit {0}) R → Work A → Type 0
+TakesEvent kind code_of work event time = Decides code_of (kind.verdict (books_in work.rows) event time) (kind.recorded (books_in work.rows) event time) work
 
 -- a refusal that is noted touches failed ids alone
 pub record StaysButFailed {A : Type 0} (rows later : Rows A) : Type 0 where

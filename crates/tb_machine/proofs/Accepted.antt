@@ -17,7 +17,7 @@ use Rattle.tb_machine.proofs.LawProofs.{first_reply}
 use Rattle.tb_records.proofs.ByKey.{each-map}
 use Rattle.tb_machine.proofs.SoundSteps.{lawful_of}
 use Rattle.tb_machine.proofs.MarkLegal.{legal_with_at, accepted_is_legal_with}
-use Rattle.tb_machine.proofs.Turns.{answer_after, answer_refused, repeated_or_not}
+use Rattle.tb_machine.proofs.PairAnswers.{answer_after, answer_refused, repeated_or_not}
 
 module _ (profile : Profile) (clients_max : ℕ) where
   pub legal_with : (h : List Entry) (p : Pair) → IsLegal profile clients_max h → IsTrue (is_lawful p.1) → IsLegal profile clients_max (with_pair profile clients_max h p)

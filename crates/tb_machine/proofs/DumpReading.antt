@@ -23,7 +23,7 @@ use Rattle.tb_machine.specs.Dumps.{dumped, IsDumpedEntry, IsPlace}
 use Rattle.tb_machine.specs.Replays.{ReadsNext, item_of, ReplaysEntry, ReplaysItem, Dump, Spelling, SpellsDump, ReadsDump, headed, state_behind, replies_in, RepliesTo, Replayed}
 use Rattle.tb_machine.proofs.Rows.{some_one, each_snoc}
 use Rattle.tb_machine.proofs.Judging.{may_come}
-use Rattle.tb_machine.proofs.Turns.{row_after}
+use Rattle.tb_machine.proofs.PairAnswers.{row_after}
 use Rattle.tb_machine.proofs.Running.{sends_none, Working, Joined, Joins, worked_halted}
 use Rattle.tb_machine.proofs.Marked.{profile_step, profile_start, bytes_snoc, spells_more, place_snoc, with_snoc, legal_with_snoc, replies_with_snoc, bytes_marked, with_marked, legal_marked, replies_marked}
 
@@ -106,15 +106,15 @@ module _ (k : ℕ) (d : Dump) (T : State) (bytes : List ℕ) (before middle afte
   S = state_behind d
 
   joins_entry : (e : Entry) → ReadsNext (Ok (Some (item_of e))) middle after → ReplaysEntry (Ok tt) S T e written next → Goal (k + 1) T bytes before after written next
-  joins_entry e one turn =
+  joins_entry e one act =
       let is = with_snoc d.profile d.clients_max d.place h e stands.marked in
       let replies = replies_with_snoc d.profile d.clients_max d.place h e stands.marked in
       let longer : length (h ++ e ∷ []) ≡ length h + 1 = length-append h (e ∷ []) in
       record {
         items = record d { history = h ++ e ∷ [] };
-        state_is = turn.1 ∙ sym is;
+        state_is = act.1 ∙ sym is;
         stands = record {
-          count = omega (arith, ap (λ (U : State). U.commit) is, (may_come S e turn.0).commit, stands.count, longer);
+          count = omega (arith, ap (λ (U : State). U.commit) is, (may_come S e act.0).commit, stands.count, longer);
           few = omega (arith, stands.few, longer);
           profile_is = ap (λ (U : State). profile_of U.books) is ∙ profile_step S e ∙ stands.profile_is;
           marked = place_snoc d.profile d.place h e stands.marked;
@@ -130,12 +130,12 @@ module _ (k : ℕ) (d : Dump) (T : State) (bytes : List ℕ) (before middle afte
         };
         added = reply_bytes (reply_at S e);
         gives = record {
-          legal = legal_with_snoc d.profile d.clients_max d.place h e stands.marked gives.legal turn.0;
+          legal = legal_with_snoc d.profile d.clients_max d.place h e stands.marked gives.legal act.0;
           bytes_are = ap (λ l. l ++ reply_bytes (reply_at S e)) gives.bytes_are
               ∙ sym (ap (flat_map reply_bytes) replies ∙ flat_map-append reply_bytes (replies_in d) (reply_at S e ∷ []) ∙ ap (λ l. flat_map reply_bytes (replies_in d) ++ l) (append-nil (reply_bytes (reply_at S e))));
-          spelled = subst (Each IsReply) (sym replies) (each_snoc IsReply (replies_in d) (reply_at S e) gives.spelled turn.3);
+          spelled = subst (Each IsReply) (sym replies) (each_snoc IsReply (replies_in d) (reply_at S e) gives.spelled act.3);
         };
-        sent = turn.2;
+        sent = act.2;
       }
 
 -- a mark behind entries with no mark among them
@@ -175,15 +175,15 @@ module _ (profile : Profile) (clients_max : ℕ) (h : List Entry) where
       }
 
 pub replaying_joins : Joins ReadsDump RepliesTo state_behind Stands ReadsNext ReplaysItem
-replaying_joins k d T bytes before middle after written next stands read gives n = by n.item n.read n.turn
+replaying_joins k d T bytes before middle after written next stands read gives n = by n.item n.read n.act
   where
     by : (x : DumpItem) → ReadsNext (Ok (Some x)) middle after → ReplaysItem (Ok tt) (state_behind d) T x written next → Goal (k + 1) T bytes before after written next
-    by (item.Entry commit time request) one turn = joins_entry k d T bytes before middle after written next stands read gives (record { commit = commit; time = time; request = request }) one turn
-    by item.Mark one turn =
-        let none = no_mark d.profile d.place (sym stands.profile_is ∙ turn.0) in
+    by (item.Entry commit time request) one act = joins_entry k d T bytes before middle after written next stands read gives (record { commit = commit; time = time; request = request }) one act
+    by item.Mark one act =
+        let none = no_mark d.profile d.place (sym stands.profile_is ∙ act.0) in
         let same : d ≡ plain d.profile d.clients_max d.history = ap (λ place. record d { place = place }) none.0 in
         joins_mark d.profile d.clients_max d.history k T bytes before middle after written next (subst (Stands k) same stands) (subst (λ (e : Dump). ReadsDump e before middle) same read)
-        (subst (λ (e : Dump). RepliesTo e bytes) same gives) none.1 one (turn.1 ∙ ap (λ (e : Dump). to_two (state_behind e)) same) turn.2
+        (subst (λ (e : Dump). RepliesTo e bytes) same gives) none.1 one (act.1 ∙ ap (λ (e : Dump). to_two (state_behind e)) same) act.2
 
 -- there is no memory for the machine
 pub replay_nowhere : (head : DumpHead) (before middle : Input) (o : Output) → HeadAnswers (Ok head) before.left middle.left → middle.failed ≡ before.failed → Replayed (Err fault.NoMemory) before middle o o

@@ -256,7 +256,7 @@ module _ (clients_max : ℕ) (at : Option ℕ) where
   dumping_joins k ps T bytes before middle after written next stands read gives n =
       let p = n.item in
       let all = reads_snoc ps p before middle after read (reads_one p middle after n.read.1 n.read.2) in
-      elim n.turn [
+      elim n.act [
         | inl known ↦ joins_known k ps T bytes before after written next p stands gives all known.0 known.1 known.2
         | inr new ↦ joins_new k ps T bytes before after written next p stands gives all n.read.0 new.0 new.1 new.2 new.3
       ]

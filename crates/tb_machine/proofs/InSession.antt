@@ -13,7 +13,7 @@ use Rattle.std.specs.declared.alloc.AllocError.{AllocError}
 use Rattle.tb_records.specs.declared.faults.FrameFault.{FrameFault}
 use Rattle.tb_records.specs.Transport.{Output}
 use Rattle.tb_machine.specs.declared.serving.RunFault.TheVariants as fault
-use Rattle.tb_machine.proofs.Turns.{entered_turn}
+use Rattle.tb_machine.proofs.PairAnswers.{entered_answer}
 use Rattle.tb_machine.specs.Histories.{State, time_of, fits, executed, reply_at, step}
 use Rattle.tb_machine.specs.Scripts.{Pair, entry_of, has_time}
 use Rattle.tb_machine.specs.Serving.{made, row_in, MayBeExecuted, Tells, served_as, ServesPair}
@@ -46,8 +46,8 @@ module _ {A E P : Type 0} where
 -- what the server answers where the step was made
 serves_told : (answer : Result (Result (Unit {0}) FrameFault) AllocError) (S T : State) (p : Pair) (before after : Output) → IsLawful p.1 → class_of S.rows p.1 ≡ New → has_time S p ≡ true → T ≡ step S (entry_of S p)
     → (refused : Bool) → refused ≡ is_err answer → refused ≡ false → Tells answer (reply_at S (entry_of S p)) before after → ServesPair (served_as answer) S T p before after
-serves_told (Ok (Ok done)) S T p before after lawful class time stepped refused is none tells = entered_turn (Ok tt) S T p before after lawful class time stepped tells.told.0 tells.told.1
-serves_told (Ok (Err f)) S T p before after lawful class time stepped refused is none tells = entered_turn (Err (fault.Frame f)) S T p before after lawful class time stepped (ap fault.Frame tells.told.0.0, tells.told.0.1) tt
+serves_told (Ok (Ok done)) S T p before after lawful class time stepped refused is none tells = entered_answer (Ok tt) S T p before after lawful class time stepped tells.told.0 tells.told.1
+serves_told (Ok (Err f)) S T p before after lawful class time stepped refused is none tells = entered_answer (Err (fault.Frame f)) S T p before after lawful class time stepped (ap fault.Frame tells.told.0.0, tells.told.0.1) tt
 serves_told (Err f) S T p before after lawful class time stepped refused is none tells = absurd (let both : false ≡ true = sym none ∙ is in cc)
 
 module _ (S : State) (sound : IsSound S) (moment time : ℕ) (r : Message) (lawful : IsLawful r) (time_is : time ≡ time_of S moment r) (in_range : time ≤ max_time) (row : Row) (new : IsNewBeside S.rows r row) where

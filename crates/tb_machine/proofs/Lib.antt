@@ -7,7 +7,7 @@ pub mod Held
 pub mod SoundBooks
 pub mod Lawful
 pub mod SoundSteps
-pub mod Turns
+pub mod PairAnswers
 pub mod Running
 pub mod Accepted
 pub mod Marked

@@ -30,7 +30,7 @@ use Rattle.tb_machine.proofs.Judging.{MayCome, may_come, repeat_by}
 use Rattle.tb_machine.proofs.Lawful.{LawfulNumbers, lawful_numbers}
 use Rattle.tb_machine.proofs.SoundBooks.{sound_executed}
 use Rattle.tb_machine.proofs.SoundSteps.{right_reply, sound_step}
-use Rattle.tb_machine.proofs.Turns.{answer_refused, repeated_or_not}
+use Rattle.tb_machine.proofs.PairAnswers.{answer_refused, repeated_or_not}
 use Rattle.tb_machine.proofs.Accepted.{legal_with}
 use Rattle.tb_machine.proofs.DumpLaws.{each_split}
 use Rattle.tb_machine.proofs.CodesFit.{each_append}

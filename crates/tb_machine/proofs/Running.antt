@@ -87,9 +87,9 @@ module _ {Items : Type 0} (Read : Items → Input → Input → Type 0) (Gives :
 
   -- the next item joins those before
   abbrev pub Joins : {Item Fault : Type 0} → (Result (Option Item) Fault → Input → Input → Type 0) → (Result (Unit {0}) Fault → State → State → Item → Output → Output → Type 0) → Type 0
-  Joins Answered Takes =
+  Joins Answered Acts =
       (k : ℕ) (items : Items) (T : State) (bytes : List ℕ) (before middle after : Input) (written next : Output) → Stands k items → Read items before middle → Gives items bytes
-      → Next Answered Takes (Ok tt) (state items) T middle after written next → Joined (k + 1) T bytes before after written next
+      → Next Answered Acts (Ok tt) (state items) T middle after written next → Joined (k + 1) T bytes before after written next
 
 module _ {Items : Type 0} {Read : Items → Input → Input → Type 0} {Gives : Items → List ℕ → Type 0} {state : Items → State} {Stands : ℕ → Items → Type 0}
     {k : ℕ} {S : State} {before middle : Input} {start written : Output} (w : Working Read Gives state Stands k S before middle start written) where
@@ -107,11 +107,11 @@ module _ {Items : Type 0} {Read : Items → Input → Input → Type 0} {Gives :
     };
   }
 
-  module _ {Item Fault : Type 0} {Answered : Result (Option Item) Fault → Input → Input → Type 0} {Takes : Result (Unit {0}) Fault → State → State → Item → Output → Output → Type 0} where
-    pub working_on : {T : State} {after : Input} {next : Output} → Joins Read Gives state Stands Answered Takes → Next Answered Takes (Ok tt) S T middle after written next
+  module _ {Item Fault : Type 0} {Answered : Result (Option Item) Fault → Input → Input → Type 0} {Acts : Result (Unit {0}) Fault → State → State → Item → Output → Output → Type 0} where
+    pub working_on : {T : State} {after : Input} {next : Output} → Joins Read Gives state Stands Answered Acts → Next Answered Acts (Ok tt) S T middle after written next
         → Working Read Gives state Stands (k + 1) T before after start next
     working_on {T} {after} {next} joins taken =
-        let one = joins k w.items T w.done.bytes before middle after written next w.stands w.done.read w.done.gives (subst (λ (U : State). Next Answered Takes (Ok tt) U T middle after written next) w.state_is taken) in
+        let one = joins k w.items T w.done.bytes before middle after written next w.stands w.done.read w.done.gives (subst (λ (U : State). Next Answered Acts (Ok tt) U T middle after written next) w.state_is taken) in
         record {
           items = one.items;
           state_is = one.state_is;
@@ -126,8 +126,8 @@ module _ {Items : Type 0} {Read : Items → Input → Input → Type 0} {Gives :
 
     module _ {count : Items → ℕ} {Halts : Fault → Items → Type 0} where
       -- at the end nothing more was written, and what was written was passed on
-      pub worked_out : {n : ℕ} {T : State} {after : Input} {next passed : Output} → count w.items ≡ n → GoesOn Answered Takes (Ok false) S T middle after written next → Sent [] next passed
-          → Worked Read Gives (EndsBy Answered Takes count state Halts) (Ok n) before after start passed
+      pub worked_out : {n : ℕ} {T : State} {after : Input} {next passed : Output} → count w.items ≡ n → GoesOn Answered Acts (Ok false) S T middle after written next → Sent [] next passed
+          → Worked Read Gives (EndsBy Answered Acts count state Halts) (Ok n) before after start passed
       unfolding working_passed
       worked_out {passed = passed} counted ends on =
           let all = working_passed (subst (λ (o : Output). Sent [] o passed) ends.1.silent on) in
@@ -135,22 +135,22 @@ module _ {Items : Type 0} {Read : Items → Input → Input → Type 0} {Gives :
 
       -- where the machine's commit number tells how many they are
       pub worked_commits : {n : ℕ} {T : State} {after : Input} {next passed : Output} → (state w.items).commit ≡ count w.items → n ≡ T.commit
-          → GoesOn Answered Takes (Ok false) S T middle after written next → Sent [] next passed → Worked Read Gives (EndsBy Answered Takes count state Halts) (Ok n) before after start passed
+          → GoesOn Answered Acts (Ok false) S T middle after written next → Sent [] next passed → Worked Read Gives (EndsBy Answered Acts count state Halts) (Ok n) before after start passed
       worked_commits counted is ends on = worked_out (sym counted ∙ ap (λ (U : State). U.commit) (sym w.state_is ∙ sym ends.0) ∙ sym is) ends on
 
       -- a fault of the next item
-      pub worked_into : {f : Fault} {T : State} {after : Input} {next : Output} → GoesOn Answered Takes (Err f) S T middle after written next
-          → Worked Read Gives (EndsBy Answered Takes count state Halts) (Err f) before after start next
+      pub worked_into : {f : Fault} {T : State} {after : Input} {next : Output} → GoesOn Answered Acts (Err f) S T middle after written next
+          → Worked Read Gives (EndsBy Answered Acts count state Halts) (Err f) before after start next
       worked_into {f} {T} {after} {next} stops = record {
         items = w.items;
         middle = middle;
         made = written;
         done = w.done;
-        ended = inl (T, subst (λ (U : State). GoesOn Answered Takes (Err f) U T middle after written next) w.state_is stops);
+        ended = inl (T, subst (λ (U : State). GoesOn Answered Acts (Err f) U T middle after written next) w.state_is stops);
       }
 
       -- a fault that comes of no item
-      pub worked_halted : {f : Fault} → Halts f w.items → Worked Read Gives (EndsBy Answered Takes count state Halts) (Err f) before middle start written
+      pub worked_halted : {f : Fault} → Halts f w.items → Worked Read Gives (EndsBy Answered Acts count state Halts) (Err f) before middle start written
       worked_halted halts = record { items = w.items; middle = middle; made = written; done = w.done; ended = inr (halts, refl, refl) }
 
 -- pairs that make a history
@@ -197,17 +197,17 @@ module _ (profile : Profile) (clients_max : ℕ) where
       let reply = answer_to (after_pair (state_after profile clients_max ps) p) p.1 in
       record {
         items = ps ++ p ∷ [];
-        state_is = n.turn.1 ∙ sym (state_snoc ps p);
+        state_is = n.act.1 ∙ sym (state_snoc ps p);
         stands = omega (arith, long, length-append ps (p ∷ []));
         read = reads_snoc ps p before middle later read (reads_one p middle later n.read.1 n.read.2);
         added = answer_bytes (state_after profile clients_max ps) p;
         gives = record {
-          times = times_snoc (after profile clients_max) [] ps p gives.times n.turn.0;
+          times = times_snoc (after profile clients_max) [] ps p gives.times n.act.0;
           bytes_are = ap (λ l. l ++ reply_bytes reply) gives.bytes_are
               ∙ sym (ap (flat_map reply_bytes) (replies_snoc [] ps p) ∙ flat_map-append reply_bytes (replies_to profile clients_max ps) (reply ∷ []) ∙ ap (λ l. flat_map reply_bytes (replies_to profile clients_max ps) ++ l) (append-nil (reply_bytes reply)));
-          spelled = subst (Each IsReply) (sym (replies_snoc [] ps p)) (each_snoc IsReply (replies_to profile clients_max ps) reply gives.spelled n.turn.3);
+          spelled = subst (Each IsReply) (sym (replies_snoc [] ps p)) (each_snoc IsReply (replies_to profile clients_max ps) reply gives.spelled n.act.3);
         };
-        sent = n.turn.2;
+        sent = n.act.2;
       }
 
   pub ran_nowhere : (i : Input) (o : Output) → Ran profile clients_max (Err fault.NoMemory) i i o o

@@ -6,12 +6,12 @@ use Rattle.tb_machine.specs.Histories.{State}
 -- by what the reader answers, and by the step that takes an item
 module _ {Item Fault : Type 0}
     (Answered : Result (Option Item) Fault → Input → Input → Type 0)
-    (Takes : Result (Unit {0}) Fault → State → State → Item → Output → Output → Type 0) where
+    (Acts : Result (Unit {0}) Fault → State → State → Item → Output → Output → Type 0) where
   -- the next item was read, and taken
   pub record Next (result : Result (Unit {0}) Fault) (S T : State) (before after : Input) (start written : Output) : Type 0 where
     pub item : Item
     pub read : Answered (Ok (Some item)) before after
-    pub turn : Takes result S T item start written
+    pub act : Acts result S T item start written
 
   -- there was no item to take, and nothing was written
   pub record Untaken (answer : Result (Option Item) Fault) (before after : Input) (start written : Output) : Type 0 where

@@ -4,7 +4,7 @@ ghost use Rattle.tb_records.specs.Messages.{IsLawful};
 ghost use Rattle.tb_machine.specs.Histories.{answer_to};
 
 use crate::machines::Machine;
-use crate::serving::{status_of, stored};
+use crate::serving::{status_of, stored_reply};
 use std::alloc::{AllocError, Global};
 use tb_records::{Reply, Request};
 use tb_sessions::Class;
@@ -21,7 +21,7 @@ pub fn answer_of(
 {
     let _lawful = request.body();
     match machine.class(request) {
-        Class::Repeat => stored(machine, request.client()).copy(alloc),
+        Class::Repeat => stored_reply(machine, request.client()).copy(alloc),
         class => Ok(Reply::refusal(request, status_of(class))),
     }
 }

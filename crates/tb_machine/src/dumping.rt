@@ -40,11 +40,11 @@ fn change_profile(machine: &mut Machine<Global>, due: bool)
 }
 
 /// The row of a client that has one.
-fn row_of(machine: &Machine<Global>, client: u128) -> &Row
+fn stored_row(machine: &Machine<Global>, client: u128) -> &Row
     requires { is_some (row_of machine.now.rows client) ≡ true }
     ensures { row_of machine.now.rows client ≡ Some result.now }
 {
-    let Some(row) = machine.row_of(client) else {
+    let Some(row) = machine.stored(client) else {
         unreachable!()
     };
     row
@@ -109,7 +109,7 @@ fn dump_pair<W: Sink>(
     let due = marks_at(at, machine.commit());
     change_profile(machine, due);
     enter(machine, moment, request)?;
-    let row = row_of(machine, client);
+    let row = stored_row(machine, client);
     write_entry(writer, due, machine.commit(), machine.time(), &row.request)?;
     Ok(())
 }

@@ -183,7 +183,7 @@ impl<A: Allocator + Clone> Machine<A> {
     }
 
     /// The row of a client: its last request that was executed, and the reply to it.
-    pub(crate) fn row_of(&self, client: u128) -> Option<&Row>
+    pub(crate) fn stored(&self, client: u128) -> Option<&Row>
         ensures { MatchOption result (row_of self.now.rows client ≡ None)
             (λ row. row_of self.now.rows client ≡ Some row.now) }
     {

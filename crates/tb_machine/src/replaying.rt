@@ -9,7 +9,7 @@ ghost use Rattle.tb_machine.specs.Worked.{GoesOn};
 
 use crate::entries::Entry;
 use crate::machines::Machine;
-use crate::serving::stored;
+use crate::serving::stored_reply;
 use std::alloc::Global;
 use tb_records::dumps::{holds_item, read_head_from, read_item_from};
 use tb_records::{DumpFault, DumpItem, Profile, Sink, Source, send_reply};
@@ -35,7 +35,7 @@ fn replay_entry<W: Sink>(
 {
     let client = entry.request.client();
     enter_next(machine, entry)?;
-    send_reply(writer, stored(machine, client))?;
+    send_reply(writer, stored_reply(machine, client))?;
     Ok(())
 }
 

@@ -127,7 +127,7 @@ pub(crate) fn enter<A: Allocator + Clone>(
 }
 
 /// The reply that a client's row keeps.
-pub(crate) fn stored<A: Allocator + Clone>(machine: &Machine<A>, client: u128) -> &Reply
+pub(crate) fn stored_reply<A: Allocator + Clone>(machine: &Machine<A>, client: u128) -> &Reply
     requires { is_some (row_of machine.now.rows client) ≡ true }
     ensures { option_map (λ (row : Row). row.reply) (row_of machine.now.rows client) ≡ Some result.now }
 {
@@ -181,7 +181,7 @@ fn answer_known<A: Allocator + Clone, W: Sink>(
         (W.output writer.new) }
 {
     match class {
-        Class::Repeat => send(writer, stored(machine, request.client())),
+        Class::Repeat => send(writer, stored_reply(machine, request.client())),
         _ => send(writer, &Reply::refusal(request, status_of(class))),
     }
 }

@@ -131,7 +131,7 @@ impl Front {
     /// Counts an entry that may come next, and gives the front with it; None where another entry had been counted.
     fn followed_by(&self, head: &Head, entry: &Entry) -> Option<Front>
         requires counted { head.now ≡ head_of self.now.opening.book }
-        requires room { length self.now.list + 1 < 2 ^ 64 }
+        requires capacity { length self.now.list + 1 < 2 ^ 64 }
         requires next { IsTrue (fits (state_of self.now) entry.now) }
         ensures { IfSome result (λ front. front ≡ with_entry self.now entry.now) }
     {
@@ -209,7 +209,7 @@ impl HistoryHead {
 
     /// Adds an entry that may come next, and says whether it did: it did not where another had been added.
     pub fn add(&mut self, entry: &Entry) -> bool
-        requires room { length self.old.list + 1 < 2 ^ 64 }
+        requires capacity { length self.old.list + 1 < 2 ^ 64 }
         requires next { IsTrue (fits (state_of self.old) entry.now) }
         ensures { MatchBool result (self.new ≡ with_entry self.old entry.now) (self.new ≡ self.old) }
     {

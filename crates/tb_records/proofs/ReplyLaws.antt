@@ -59,14 +59,14 @@ fits_frame r is =
     }
 
 -- the numbers of a reply's header
-abbrev row_of : Answer → List ℕ
-row_of r = header_row r.client r.session r.request r.operation (status_code r.status) (length (reply_body_bytes r.body)) r.commit
+abbrev header_numbers : Answer → List ℕ
+header_numbers r = header_row r.client r.session r.request r.operation (status_code r.status) (length (reply_body_bytes r.body)) r.commit
 
-row_fits : (r : Answer) → FitsFrame r → Fit reply_widths (row_of r)
+row_fits : (r : Answer) → FitsFrame r → Fit reply_widths (header_numbers r)
 row_fits r fits = let status = status_small r.status in grind arith
 
 -- they stand in it
-places : (r : Answer) (more : List ℕ) → FitsFrame r → Stand reply_widths (row_of r) 0 (header_of_reply r (length (reply_body_bytes r.body)) ++ more)
+places : (r : Answer) (more : List ℕ) → FitsFrame r → Stand reply_widths (header_numbers r) 0 (header_of_reply r (length (reply_body_bytes r.body)) ++ more)
 places r more fits = reply_places r.client r.session r.request r.operation (status_code r.status) (length (reply_body_bytes r.body)) r.commit more (row_fits r fits)
 
 -- the first fault of a header, where the body is of its kind, is that of the values
@@ -116,7 +116,7 @@ one_reading r s x y ir is e =
     let br = reply_body_bytes r.body in
     let bs = reply_body_bytes s.body in
     let all = sym (append_assoc (header_of_reply r (length br)) br x) ∙ e ∙ append_assoc (header_of_reply s (length bs)) bs y in
-    let heads = one_row reply_widths (row_of r) (row_of s) (br ++ x) (bs ++ y) refl refl (row_fits r (fits_frame r ir)) (row_fits s (fits_frame s is)) all in
+    let heads = one_row reply_widths (header_numbers r) (header_numbers s) (br ++ x) (bs ++ y) refl refl (row_fits r (fits_frame r ir)) (row_fits s (fits_frame s is)) all in
     let status : r.status ≡ s.status = one_status r.status s.status (cc heads.0) in
     let bodies = split_at br bs x y (cc heads.0) heads.1 in
     let kind : kind_of r.body ≡ kind_of s.body = kind_right r ir ∙ (cc heads.0) ∙ sym (kind_right s is) in

@@ -46,16 +46,16 @@ fits_frame : (r : Message) → IsRequest r → FitsFrame r
 fits_frame r is = record { client = is.client; session = is.session; request = is.request; body = short_body r.body (few r is.lawful) }
 
 -- the numbers of a request's header
-abbrev row_of : Message → List ℕ
-row_of r = r.client ∷ r.session ∷ r.request ∷ operation r.body ∷ 0 ∷ length (body_bytes r.body) ∷ 0 ∷ []
+abbrev header_numbers : Message → List ℕ
+header_numbers r = r.client ∷ r.session ∷ r.request ∷ operation r.body ∷ 0 ∷ length (body_bytes r.body) ∷ 0 ∷ []
 
-row_fits : (r : Message) → FitsFrame r → Fit header_widths (row_of r)
+row_fits : (r : Message) → FitsFrame r → Fit header_widths (header_numbers r)
 row_fits r fits = let code = code_small r.body in grind arith
 
 -- they stand in it
-places : (r : Message) (more : List ℕ) → FitsFrame r → Stand header_widths (row_of r) 0 (header_of r ++ more)
+places : (r : Message) (more : List ℕ) → FitsFrame r → Stand header_widths (header_numbers r) 0 (header_of r ++ more)
 unfolding header_bytes le_bytes
-places r more fits = row_stands header_widths (row_of r) 0 [] more refl (row_fits r fits)
+places r more fits = row_stands header_widths (header_numbers r) 0 [] more refl (row_fits r fits)
 
 length-header : (r : Message) → length (header_of r) ≡ 48
 unfolding header_bytes
@@ -110,7 +110,7 @@ spelled_once r s x y ir is e =
     let br = body_bytes r.body in
     let bs = body_bytes s.body in
     let all = sym (append_assoc (header_of r) br x) ∙ e ∙ append_assoc (header_of s) bs y in
-    let heads = one_row header_widths (row_of r) (row_of s) (br ++ x) (bs ++ y) refl refl (row_fits r (fits_frame r ir)) (row_fits s (fits_frame s is)) all in
+    let heads = one_row header_widths (header_numbers r) (header_numbers s) (br ++ x) (bs ++ y) refl refl (row_fits r (fits_frame r ir)) (row_fits s (fits_frame s is)) all in
     let bodies = split_at br bs x y (cc heads.0) heads.1 in
     let body : r.body ≡ s.body = body_one r.body s.body (cc heads.0) ir.items is.items bodies.0 in
     (grind arith, bodies.1)

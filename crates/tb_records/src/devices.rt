@@ -269,7 +269,7 @@ fn fill_all<S: Source>(source: &mut S, buf: &mut [u8]) -> Result<(), FrameFault>
 /// Adds the items that the bytes spell, one behind the other.
 pub(crate) fn push_items<T: Item>(bytes: &[u8], count: usize, items: &mut Vec<T>)
     requires long { length bytes.now ≡ T.SIZE * count }
-    requires room { vec_len items.old + count ≤ vec_capacity items.old }
+    requires capacity { vec_len items.old + count ≤ vec_capacity items.old }
     ensures spelled { flat_map T.spelling items.new.items ≡ flat_map T.spelling items.old.items ++ bytes.now }
     ensures fit { All T.Fits items.old.items → All T.Fits items.new.items }
     ensures long { vec_len items.new ≡ vec_len items.old + count }
@@ -294,7 +294,7 @@ fn fill_items<S: Source, T: Item>(
     requires some { 0 < at_once }
     requires buffer { at_once * T.SIZE ≤ length buf.old }
     requires empty { items.old.items ≡ [] }
-    requires room { count ≤ vec_capacity items.old }
+    requires capacity { count ≤ vec_capacity items.old }
     ensures bytes { MatchResult result
         (λ _.
         ReadsItems T.spelling T.Fits count items.new.items (S.input source.old).left
@@ -346,7 +346,7 @@ pub(crate) fn items_from<S: Source, T: Item>(
 
 /// Writes the bytes of items one behind another, from the first byte of the block on, and answers how many they are.
 fn spell_items<T: Item>(items: &[T], block: &mut [u8]) -> usize
-    requires room { length items.now * T.SIZE ≤ length block.old }
+    requires block { length items.now * T.SIZE ≤ length block.old }
     ensures long { length block.new ≡ length block.old }
     ensures within { result ≤ length block.new }
     ensures spelled { take result block.new ≡ flat_map T.spelling items.now }
@@ -371,7 +371,7 @@ fn put_blocks<W: Sink, T: Item>(
     items: &[T],
 ) -> Result<(), FrameFault>
     requires some { 0 < at_once }
-    requires room { at_once * T.SIZE ≤ length block.old }
+    requires block { at_once * T.SIZE ≤ length block.old }
     ensures sent { IsSent result (flat_map T.spelling items.now) (W.output sink.old) (W.output sink.new) }
     ensures fit { OnOk result (All T.Fits items.now) }
 {

@@ -16,7 +16,7 @@ use Rattle.tb_sessions.specs.declared.classes.Class.{Class}
 use Rattle.tb_sessions.specs.declared.classes.Class.TheVariants.{New}
 use Rattle.tb_sessions.specs.Judged.{client_of, class_beside}
 use Rattle.tb_sessions.specs.Indexed.{IsIndexed, IsLinked, FindsOldest, kept_row, client_at}
-use Rattle.tb_sessions.specs.Renewal.{Serving, IsNewBeside, IsLater, IsRenewal, Serves, Renews, Served}
+use Rattle.tb_sessions.specs.Renewal.{Serving, IsNewBeside, IsLater, IsRenewal, CalledBeside, Renews, Served}
 use Rattle.tb_sessions.proofs.Index.{index_renewed}
 
 module _ {n : ℕ} {rows : Map ℕ Row} {clients : Map ℕ ℕ} (rows' : Map ℕ Row) (same : entries rows' ≡ entries rows) (spare : rows'.spare ≡ rows.spare) where
@@ -74,7 +74,7 @@ module _ (rows rows' : Map ℕ Row) (k : ℕ) (row left : Row) (found : kept_row
 module _ {F A : Type 0} (c : Serving F A) {f : F} {r : Message} {n : ℕ} {rows : Map ℕ Row} {clients : Map ℕ ℕ} (f' : F) (r' : Message) (rows' : Map ℕ Row) (row left : Row)
     (found : kept_row rows r.client ≡ Some row) (is : entries rows' ≡ set_value (is_at (nat_cmp r.client)) (entries rows) left)
     (i : IsIndexed n rows clients) (renews : Renews c f (values_of (entries rows)) r)
-    (answer : A) (o : Result A Class) (ok : o ≡ Ok answer) (beside : OnOk o (class_beside row r ≡ New)) (serves : IfOk o (λ a. Serves c f r row a f' r' left)) where
+    (answer : A) (o : Result A Class) (ok : o ≡ Ok answer) (beside : OnOk o (class_beside row r ≡ New)) (serves : IfOk o (λ a. CalledBeside c f r row a f' r' left)) where
   new : IsNewBeside (values_of (entries rows)) r row
   new = record { here = sym (found-row client_of r.client (entries rows) i.own) ∙ found; new = rw ok at beside }
 

@@ -31,7 +31,7 @@ module _ {F A : Type 0} (c : Serving F A) where
   TakesBoth f r row = (x : MutBor Message) (y : MutBor Row) → x.now ≡ r → y.now ≡ row → c.pre f (x, (y, tt))
 
   -- such a call gave an answer, and left f', the request r' and the row left
-  pub record Serves (f : F) (r : Message) (row : Row) (answer : A) (f' : F) (r' : Message) (left : Row) : Type 0 where
+  pub record CalledBeside (f : F) (r : Message) (row : Row) (answer : A) (f' : F) (r' : Message) (left : Row) : Type 0 where
     pub request : MutBor Message
     pub shown : MutBor Row
     pub shows : (request.now ≡ r) × (shown.now ≡ row)
@@ -45,12 +45,12 @@ module _ {F A : Type 0} (c : Serving F A) where
 
   -- and leaves that row, or a later one of the client
   abbrev pub Renews : F → List Row → Message → Type 0
-  Renews f rows r = (row : Row) (answer : A) (f' : F) (r' : Message) (left : Row) → IsNewBeside rows r row → Serves f r row answer f' r' left → IsRenewal rows row left
+  Renews f rows r = (row : Row) (answer : A) (f' : F) (r' : Message) (left : Row) → IsNewBeside rows r row → CalledBeside f r row answer f' r' left → IsRenewal rows row left
 
   -- it was called there, and what it left stands among the rows
   pub record Served (f : F) (rows : List Row) (r : Message) (answer : A) (f' : F) (r' : Message) (rows' : List Row) : Type 0 where
     pub row : Row
     pub left : Row
     pub new : IsNewBeside rows r row
-    pub served : Serves f r row answer f' r' left
+    pub served : CalledBeside f r row answer f' r' left
     pub put : rows' ≡ replaced client_of left rows

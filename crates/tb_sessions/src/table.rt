@@ -4,7 +4,7 @@ ghost use Rattle.std.specs.Option.{option_map};
 ghost use Rattle.tb_records.specs.Ordered.{Each, put, replaced, taken_out};
 ghost use Rattle.tb_sessions.specs.Judged.{class_beside, class_by, class_of, client_of, row_of};
 ghost use Rattle.tb_sessions.specs.Admission.{admitted, driven_out, leaving, oldest};
-ghost use Rattle.tb_sessions.specs.Renewal.{MayServe, Renews, Served, Serves, TakesBoth};
+ghost use Rattle.tb_sessions.specs.Renewal.{MayServe, Renews, CalledBeside, Served, TakesBoth};
 
 use crate::classes::Class;
 use crate::eviction::bring_up;
@@ -58,7 +58,7 @@ fn serve_new<R, F: FnMut(&mut Request, &mut Row) -> R>(
         → TakesBoth F.FnMut serve.old request.old row.old }
     ensures new { OnOk result (class_beside row.old request.old ≡ Class.New) }
     ensures served { IfOk result
-        (λ answer. Serves F.FnMut serve.old request.old row.old answer serve.new request.new row.new) }
+        (λ answer. CalledBeside F.FnMut serve.old request.old row.old answer serve.new request.new row.new) }
     ensures told { IfErr result
         (λ class. (class ≡ class_beside row.old request.old) × (class ≢ Class.New)) }
     ensures same_row { OnErr result (row.new ≡ row.old) }

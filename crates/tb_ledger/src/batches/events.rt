@@ -2,7 +2,7 @@
 ghost use Rattle.std.specs.Prelude.{◌≡◌, ℕ, ◌+◌, ◌==◌, true, false, IfErr};
 ghost use Rattle.tb_ledger.specs.Capacity.{Capacity, capacity_of, Uses};
 ghost use Rattle.tb_ledger.specs.Kept.{books_in, IsKept};
-ghost use Rattle.tb_ledger.specs.Steps.{IsPrepared, StaysButFailed, Takes};
+ghost use Rattle.tb_ledger.specs.Steps.{IsPrepared, StaysButFailed, TakesEvent};
 
 use crate::changes::account::add_account_row;
 use crate::changes::transfer::{note_failed, take_transfer};
@@ -55,7 +55,7 @@ pub trait Event: Copy {
     /// Judges the event as of its timestamp, and records it where it passes. The undo log leads back to before it.
     fn take<A: Allocator + Clone>(&self, work: &mut Work<A>, time: u64) -> Result<(), Self::Refusal>
         requires ready { IsPrepared HasCapacity work.old time }
-        ensures takes { Takes kind code_of work.old self.now time result work.new }
+        ensures takes { TakesEvent kind code_of work.old self.now time result work.new }
         ensures fresh { IfErr result
             (λ refusal. IsNew (books_in work.old.rows).failed self.now (code_of refusal)) };
 

@@ -14,7 +14,7 @@ use std::alloc::Allocator;
 use tb_records::Transfer;
 
 /// The row of a transfer that is new: a pending one is open.
-pub(crate) fn row_of(recorded: Transfer) -> TransferRow
+pub(crate) fn new_transfer_row(recorded: Transfer) -> TransferRow
     requires plain { recorded.flags < 2 ^ 8 }
     ensures row { result ≡ new_transfer_row recorded }
     ensures fits { recorded.id ≤ int_max }

@@ -5,7 +5,7 @@ ghost use Rattle.tb_ledger.specs.Books.{resolves};
 ghost use Rattle.tb_ledger.specs.Exchanges.{account_row_at};
 ghost use Rattle.tb_ledger.specs.Kept.{books_in, transfer_row_key, times_out, unlisted, IsListed, settled, state_given_by};
 ghost use Rattle.tb_ledger.specs.Capacity.{HasTransfers};
-ghost use Rattle.tb_ledger.specs.Steps.{Decides, IsPrepared, IsResolution, Takes};
+ghost use Rattle.tb_ledger.specs.Steps.{Decides, IsPrepared, IsResolution, TakesEvent};
 ghost use Rattle.tb_ledger.specs.UndoLog.{IsMarked};
 ghost use Rattle.tb_ledger.specs.Settlings.{closed_code, CanSettle, Settles, SettlesIn};
 ghost use Rattle.tb_ledger.specs.Verdicts.{id_code};
@@ -13,7 +13,7 @@ ghost use Rattle.tb_records.specs.Ordered.{put, replaced};
 ghost use Rattle.tb_ledger.specs.Sound.{transfer_key};
 ghost use Rattle.tb_records.specs.TransferResults.{transfer_result_code};
 
-use crate::changes::records::{add_row, row_of};
+use crate::changes::records::{add_row, new_transfer_row};
 use crate::changes::sides::settle_side;
 use crate::tables::accounts::AccountRow;
 use crate::tables::index::unlist;
@@ -36,7 +36,7 @@ pub(crate) fn take_resolving<A: Allocator + Clone>(
     requires resolving { resolves t.now ≡ true }
     requires free { id_code (books_in work.old.rows) t.now ≡ 0 }
     requires plain { t.now.flags < 2 ^ 8 }
-    ensures { Takes transfer_events transfer_result_code work.old t.now time result work.new }
+    ensures { TakesEvent transfer_events transfer_result_code work.old t.now time result work.new }
 {
     let Resolution { pending, filled } = judge_resolving(&work.rows, t)?;
     let pending = *pending;
@@ -65,7 +65,7 @@ fn settle<A: Allocator + Clone>(
     settle_accounts(&mut rows.accounts, undo_log, &p.recorded(), r)?;
     let state = state_given(r);
     close_row(&mut rows.transfers, &mut rows.timeouts, undo_log, p, state);
-    let row = row_of(*r);
+    let row = new_transfer_row(*r);
     add_row(&mut rows.transfers, &mut rows.timeouts, undo_log, &row);
     Ok(())
 }

@@ -6,11 +6,11 @@ ghost use Rattle.tb_ledger.specs.Books.{resolves};
 ghost use Rattle.tb_records.specs.TransferResults.{transfer_result_code};
 ghost use Rattle.tb_ledger.specs.Capacity.{HasTransfers};
 ghost use Rattle.tb_ledger.specs.Kept.{books_in};
-ghost use Rattle.tb_ledger.specs.Steps.{IsPrepared, Takes};
+ghost use Rattle.tb_ledger.specs.Steps.{IsPrepared, TakesEvent};
 ghost use Rattle.tb_ledger.specs.Verdicts.{id_code};
 ghost use Rattle.tb_ledger.specs.Exchanges.{Exchanges, ExchangesIn, account_row_at};
 
-use crate::changes::records::{add_row, row_of};
+use crate::changes::records::{add_row, new_transfer_row};
 use crate::changes::sides::gain_side;
 use crate::tables::accounts::AccountRow;
 use crate::tables::map::Table;
@@ -30,7 +30,7 @@ pub(crate) fn take_single<A: Allocator + Clone>(
     requires single { resolves t.now ≡ false }
     requires free { id_code (books_in work.old.rows) t.now ≡ 0 }
     requires plain { t.now.flags < 2 ^ 8 }
-    ensures { Takes transfer_events transfer_result_code work.old t.now time result work.new }
+    ensures { TakesEvent transfer_events transfer_result_code work.old t.now time result work.new }
 {
     single_own(t)?;
     let rows = &mut work.rows;
@@ -39,7 +39,7 @@ pub(crate) fn take_single<A: Allocator + Clone>(
     let mut recorded = *t;
     recorded.amount = amount;
     recorded.timestamp = time;
-    let row = row_of(recorded);
+    let row = new_transfer_row(recorded);
     add_row(&mut rows.transfers, &mut rows.timeouts, undo_log, &row);
     Ok(())
 }

@@ -6,7 +6,7 @@ ghost use Rattle.tb_ledger.specs.Batches.{is_final, transfer_events};
 ghost use Rattle.tb_records.specs.TransferResults.{transfer_result_code};
 ghost use Rattle.tb_ledger.specs.Capacity.{HasTransfers, Uses, capacity_of};
 ghost use Rattle.tb_ledger.specs.Kept.{books_in, IsKept};
-ghost use Rattle.tb_ledger.specs.Steps.{IsPrepared, StaysButFailed, Takes};
+ghost use Rattle.tb_ledger.specs.Steps.{IsPrepared, StaysButFailed, TakesEvent};
 
 use crate::changes::resolving::take_resolving;
 use crate::changes::single::take_single;
@@ -23,7 +23,7 @@ pub(crate) fn take_transfer<A: Allocator + Clone>(
     time: u64,
 ) -> Result<(), CreateTransferResult>
     requires ready { IsPrepared HasTransfers work.old time }
-    ensures { Takes transfer_events transfer_result_code work.old t.now time result work.new }
+    ensures { TakesEvent transfer_events transfer_result_code work.old t.now time result work.new }
 {
     judge_id(&work.rows, t)?;
     if resolving(t) {

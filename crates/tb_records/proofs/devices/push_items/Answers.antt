@@ -12,7 +12,7 @@ loop-preserved g c =
     let next : g.T.Item.SIZE * (c.loop.counter + 1) ≡ g.T.Item.SIZE * c.loop.counter + g.T.Item.SIZE = omega arith in
     record {
       long = omega arith;
-      room = omega arith;
+      capacity = omega arith;
       left = omega (arith, next);
       spelled = simp items (row_more g.T.Item.spelling c.loop.items.items c.read.result _ _ _ _ cut c.read.ensures.spelled c.loop.invariant.spelled);
       fit = λ all. subst (λ xs. All g.T.Item.Fits xs) (sym items) (All-push g.T.Item.Fits c.loop.items.items c.read.result (c.loop.invariant.fit all) c.read.ensures.fits);

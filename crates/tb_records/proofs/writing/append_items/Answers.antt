@@ -10,14 +10,14 @@ loop-item-init g c =
     let xs = c.args.items.now in
     let all : length xs - 0 ≡ length xs = omega arith in
     record {
-      room = omega (arith, ap (λ n. g.T.Item.SIZE * n) all, length_items g.T.Item.spelling g.T.Item.SIZE g.met.T.Item.length_spelling xs, c.requires);
+      capacity = omega (arith, ap (λ n. g.T.Item.SIZE * n) all, length_items g.T.Item.spelling g.T.Item.SIZE g.met.T.Item.length_spelling xs, c.requires);
       appended = simp append-nil;
       fit = λ k d h. absurd (omega arith);
     }
 
 pub loop-item-preserved : goal.loop-item-preserved
 loop-item-preserved g c = record {
-  room = grind (arith, common_steps);
+  capacity = grind (arith, common_steps);
   appended = grind (arith, common_steps);
   fit = fit_more g.T.Item.Fits c.args.items.now c.loop-item.item-index c.item-item.result (omega arith) c.item-item.is c.write.ensures.fits c.loop-item.invariant.fit;
 }

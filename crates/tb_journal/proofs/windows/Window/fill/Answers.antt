@@ -20,7 +20,7 @@ returns-clause-ahead g c t same =
     c.in_ok-count.ensures.front ∙ kept_in_front k (vec_len c.move_down.new.bytes) c.grow.new.bytes.items moved old room c.in_ok-grow.ensures.front (c.move_down.ensures.front ∙ view) in
     subst (HasAhead c.args.n c.args.at file) (sym (between_from_start buffer (k + c.in_ok-count.count)))
     (filled c.args.n c.args.at k c.in_ok-count.count file old buffer front (omega (arith, c.in_ok-count.ensures.within, all))
-    (omega (arith, c.in_ok-grow.ensures.room, c.in_ok-count.ensures.len, all)) same (c.in_ok-count.ensures.read t))
+    (omega (arith, c.in_ok-grow.ensures.capacity, c.in_ok-count.ensures.len, all)) same (c.in_ok-count.ensures.read t))
 
 pub returns-clause-handed : goal.returns-clause-handed
 returns-clause-handed g c file same =

@@ -37,12 +37,12 @@ add_row-requires-clause-fresh g c =
     let p = c.args.p.now in
     let r = c.args.r.now in
     let closed = ap (λ v. v.items) c.close_row.ensures.transfers ∙ ap (λ s. replaced transfer_row_key (settled s p) rows.transfers.items) c.state_given-state.ensures in
-    rw c.row_of-row.ensures.row (ap (find (λ row. row.recorded.id == r.id)) closed ∙ fresh_still rows c.requires.ready.kept p r c.requires.resolution)
+    rw c.new_transfer_row-row.ensures.row (ap (find (λ row. row.recorded.id == r.id)) closed ∙ fresh_still rows c.requires.ready.kept p r c.requires.resolution)
 
 pub add_row-requires-clause-can_list : goal.add_row-requires-clause-can_list
 add_row-requires-clause-can_list g c is =
     let never = not_timed c.args.work.now.rows c.requires.ready.kept c.args.p.now c.args.r.now c.requires.resolution in
-    let dates = rw c.row_of-row.ensures.row at is in
+    let dates = rw c.new_transfer_row-row.ensures.row at is in
     absurd (cc)
 
 pub returns : goal.returns
@@ -60,8 +60,8 @@ returns g c =
     let credit = ap (account_row_at rows.accounts.items) (sym (same_credit rows kept p r its)) ∙ at.credit_there in
     let moved_on : later ≡ accounts_released_and_gained p.recorded r rows.accounts.items = at.leaves.0 ∙ ap (λ q. accounts_released_and_gained q r rows.accounts.items) c.recorded.ensures in
     let closed = ap (λ v. v.items) c.close_row.ensures.transfers ∙ ap (λ s. replaced transfer_row_key (settled s p) rows.transfers.items) c.state_given-state.ensures in
-    let added = ap (λ v. v.items) c.add_row.ensures.transfers ∙ ap (λ row. put transfer_row_key row c.close_row.new.transfers.items) c.row_of-row.ensures.row ∙ ap (put transfer_row_key (new_transfer_row r)) closed in
-    let moved = c.add_row.ensures.timeouts ∙ ap (λ row. listed row c.close_row.new.timeouts) c.row_of-row.ensures.row ∙ ap (listed (new_transfer_row r)) c.close_row.ensures.timeouts in
+    let added = ap (λ v. v.items) c.add_row.ensures.transfers ∙ ap (λ row. put transfer_row_key row c.close_row.new.transfers.items) c.new_transfer_row-row.ensures.row ∙ ap (put transfer_row_key (new_transfer_row r)) closed in
+    let moved = c.add_row.ensures.timeouts ∙ ap (λ row. listed row c.close_row.new.timeouts) c.new_transfer_row-row.ensures.row ∙ ap (listed (new_transfer_row r)) c.close_row.ensures.timeouts in
     let index : IsIndex more c.add_row.new.timeouts.items = rw (moved, added) (index_with_resolver rows kept p r its) in
     let noted = noted_two r.debit_account_id r.credit_account_id (on_debits (released_and_gained closing_debit p.recorded r)) (on_credits (released_and_gained closing_credit p.recorded r)) at.debit at.credit rows.accounts.items later work.undo_log c.settle_accounts.new.undo_log (λ y. refl) (λ y. refl) (at.leaves.1 (omega (arith, c.requires.ready.log))) (apart rows kept p r its) at.debit_there at.credit_there moved_on in
     let marked : IsMarked 2 rows.transfers.items more rows.timeouts c.add_row.new.timeouts c.settle_accounts.new.undo_log c.add_row.new.undo_log =
@@ -78,7 +78,7 @@ returns g c =
         capacity = record {
           accounts = omega (arith, c.settle_accounts.ensures.capacity);
           transfers = omega (arith, ap (λ v. v.spare) c.close_row.ensures.transfers, ap (λ v. v.spare) c.add_row.ensures.transfers);
-          timeouts = omega (arith, ap (λ v. v.spare) c.close_row.ensures.timeouts, unlisted_spare p rows.timeouts, ap (λ v. v.spare) c.add_row.ensures.timeouts, listed_spare c.row_of-row.result c.close_row.new.timeouts);
+          timeouts = omega (arith, ap (λ v. v.spare) c.close_row.ensures.timeouts, unlisted_spare p rows.timeouts, ap (λ v. v.spare) c.add_row.ensures.timeouts, listed_spare c.new_transfer_row-row.result c.close_row.new.timeouts);
           failed = omega arith;
           keeps_failed = refl;
         };

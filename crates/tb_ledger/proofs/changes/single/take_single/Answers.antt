@@ -21,13 +21,13 @@ returns-in_err-single_own g c =
 
 pub add_row-requires-clause-fresh : goal.add_row-requires-clause-fresh
 add_row-requires-clause-fresh g c =
-    let its = finds_pair c.args.work.now.rows c.args.t.now c.args.time c.in_ok-amount.amount c.args.work.now.undo_log c.exchange.new.undo_log c.exchange.new.accounts.items c.requires.ready.kept c.requires.ready.capacity.timeouts c.row_of-row.ensures.fits c.requires.free c.requires.single c.in_ok-single_own.ensures c.in_ok-amount.ensures.exchanged.0 c.in_ok-amount.ensures.exchanged.1 in
-    rw c.row_of-row.ensures.row its.fresh
+    let its = finds_pair c.args.work.now.rows c.args.t.now c.args.time c.in_ok-amount.amount c.args.work.now.undo_log c.exchange.new.undo_log c.exchange.new.accounts.items c.requires.ready.kept c.requires.ready.capacity.timeouts c.new_transfer_row-row.ensures.fits c.requires.free c.requires.single c.in_ok-single_own.ensures c.in_ok-amount.ensures.exchanged.0 c.in_ok-amount.ensures.exchanged.1 in
+    rw c.new_transfer_row-row.ensures.row its.fresh
 
 pub add_row-requires-clause-can_list : goal.add_row-requires-clause-can_list
 add_row-requires-clause-can_list g c =
-    let its = finds_pair c.args.work.now.rows c.args.t.now c.args.time c.in_ok-amount.amount c.args.work.now.undo_log c.exchange.new.undo_log c.exchange.new.accounts.items c.requires.ready.kept c.requires.ready.capacity.timeouts c.row_of-row.ensures.fits c.requires.free c.requires.single c.in_ok-single_own.ensures c.in_ok-amount.ensures.exchanged.0 c.in_ok-amount.ensures.exchanged.1 in
-    rw c.row_of-row.ensures.row its.can_list
+    let its = finds_pair c.args.work.now.rows c.args.t.now c.args.time c.in_ok-amount.amount c.args.work.now.undo_log c.exchange.new.undo_log c.exchange.new.accounts.items c.requires.ready.kept c.requires.ready.capacity.timeouts c.new_transfer_row-row.ensures.fits c.requires.free c.requires.single c.in_ok-single_own.ensures c.in_ok-amount.ensures.exchanged.0 c.in_ok-amount.ensures.exchanged.1 in
+    rw c.new_transfer_row-row.ensures.row its.can_list
 
 pub returns : goal.returns
 returns g c =
@@ -36,10 +36,10 @@ returns g c =
     let t = c.args.t.now in
     let ex = c.in_ok-amount.ensures.exchanged.1 in
     let recorded = as_recorded t c.in_ok-amount.amount c.args.time in
-    let its = finds_pair c.args.work.now.rows c.args.t.now c.args.time c.in_ok-amount.amount c.args.work.now.undo_log c.exchange.new.undo_log c.exchange.new.accounts.items c.requires.ready.kept c.requires.ready.capacity.timeouts c.row_of-row.ensures.fits c.requires.free c.requires.single c.in_ok-single_own.ensures c.in_ok-amount.ensures.exchanged.0 c.in_ok-amount.ensures.exchanged.1 in
-    let added : c.add_row.new.transfers.items ≡ put transfer_row_key (new_transfer_row recorded) rows.transfers.items = ap (λ v. v.items) c.add_row.ensures.transfers ∙ ap (λ row. put transfer_row_key row rows.transfers.items) c.row_of-row.ensures.row in
-    let listed_is = c.add_row.ensures.timeouts ∙ ap (λ row. listed row rows.timeouts) c.row_of-row.ensures.row in
-    let index : IsIndex c.add_row.new.transfers.items c.add_row.new.timeouts.items = rw (listed_is, added) (index_added rows.transfers.items rows.timeouts c.requires.ready.kept.index (new_transfer_row recorded) its.fresh (λ _. c.row_of-row.ensures.fits) its.can_list) in
+    let its = finds_pair c.args.work.now.rows c.args.t.now c.args.time c.in_ok-amount.amount c.args.work.now.undo_log c.exchange.new.undo_log c.exchange.new.accounts.items c.requires.ready.kept c.requires.ready.capacity.timeouts c.new_transfer_row-row.ensures.fits c.requires.free c.requires.single c.in_ok-single_own.ensures c.in_ok-amount.ensures.exchanged.0 c.in_ok-amount.ensures.exchanged.1 in
+    let added : c.add_row.new.transfers.items ≡ put transfer_row_key (new_transfer_row recorded) rows.transfers.items = ap (λ v. v.items) c.add_row.ensures.transfers ∙ ap (λ row. put transfer_row_key row rows.transfers.items) c.new_transfer_row-row.ensures.row in
+    let listed_is = c.add_row.ensures.timeouts ∙ ap (λ row. listed row rows.timeouts) c.new_transfer_row-row.ensures.row in
+    let index : IsIndex c.add_row.new.transfers.items c.add_row.new.timeouts.items = rw (listed_is, added) (index_added rows.transfers.items rows.timeouts c.requires.ready.kept.index (new_transfer_row recorded) its.fresh (λ _. c.new_transfer_row-row.ensures.fits) its.can_list) in
     let apart = accounts_apart t c.in_ok-single_own.ensures in
     let noted = noted_two t.debit_account_id t.credit_account_id (on_debits (gained closing_debit recorded)) (on_credits (gained closing_credit recorded)) ex.debit ex.credit rows.accounts.items c.exchange.new.accounts.items c.args.work.now.undo_log c.exchange.new.undo_log (λ y. refl) (λ y. refl) (ex.notes (omega (arith, c.requires.ready.log))) apart ex.debit_there ex.credit_there ex.written in
     record {
@@ -56,7 +56,7 @@ returns g c =
         capacity = record {
           accounts = omega (arith, c.exchange.ensures.capacity);
           transfers = omega (arith, ap (λ v. v.spare) c.add_row.ensures.transfers);
-          timeouts = omega (arith, ap (λ v. v.spare) c.add_row.ensures.timeouts, listed_spare c.row_of-row.result rows.timeouts);
+          timeouts = omega (arith, ap (λ v. v.spare) c.add_row.ensures.timeouts, listed_spare c.new_transfer_row-row.result rows.timeouts);
           failed = omega arith;
           keeps_failed = refl;
         };

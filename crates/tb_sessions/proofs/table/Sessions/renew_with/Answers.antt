@@ -6,7 +6,7 @@ use Rattle.tb_sessions.specs.declared.rows.Row.{Row}
 use Rattle.tb_sessions.specs.declared.classes.Class.TheVariants.{New}
 use Rattle.tb_sessions.specs.Judged.{class_beside, class_by, client_of, row_of}
 use Rattle.tb_sessions.specs.Admission.{Table}
-use Rattle.tb_sessions.specs.Renewal.{TakesBoth, Renews, Serves}
+use Rattle.tb_sessions.specs.Renewal.{TakesBoth, Renews, CalledBeside}
 use Rattle.tb_sessions.proofs.Renewing.{same_oldest, index_served, rows_served, entries_kept, of_err}
 use Rattle.tb_sessions.proofs.table.Sessions.renew_with.Goals as goal
 
@@ -44,7 +44,7 @@ returns-in-Some-Ok-clause-served g c =
     let written = rw c.client-client.ensures at ch.written in
     let renews = subst (λ (t : Table). Renews g.F.FnMut c.args.serve.now t.rows c.args.request.now) (sym c.self.view_is) c.requires.renews in
     let beside : OnOk c.in-Some-Ok.field-0 (class_beside ch.value c.args.request.now ≡ New) = search rules in
-    let serves : IfOk c.in-Some-Ok.field-0 (λ a. Serves g.F.FnMut c.args.serve.now c.args.request.now ch.value a c.serve-1.given.0 c.request-1.given.0 ch.left) = search rules in
+    let serves : IfOk c.in-Some-Ok.field-0 (λ a. CalledBeside g.F.FnMut c.args.serve.now c.args.request.now ch.value a c.serve-1.given.0 c.request-1.given.0 ch.left) = search rules in
     rw (← c.self.view_is) (rows_served g.F.FnMut c.serve-1.given.0 c.request-1.given.0 c.update-served.new.self ch.value ch.left found written c.self.invariant.indexed renews c.in-Some-Ok.answer c.in-Some-Ok.field-0 c.in-Some-Ok.field-0-is beside serves)
 
 pub returns-in-Some-Err-clause-told : goal.returns-in-Some-Err-clause-told

@@ -87,11 +87,11 @@ pub refused : (S : State) (r : Message) (class : Class) (a : Answer) → class �
 refused S r class a is other told = ap (λ (c : Class). answer_by c (row_of S.rows r.client) r) (sym is) ∙ answer_refused class (row_of S.rows r.client) r other ∙ sym told
 
 -- a new pair whose entry is entered, and whose reply is written
-pub entered_turn : (result : Result (Unit {0}) RunFault) (S T : State) (p : Pair) (before after : Output)
+pub entered_answer : (result : Result (Unit {0}) RunFault) (S T : State) (p : Pair) (before after : Output)
     → IsLawful p.1 → class_of S.rows p.1 ≡ New → has_time S p ≡ true → T ≡ step S (entry_of S p)
     → Delivers result (reply_bytes (reply_at S (entry_of S p))) before after → OnOk result (IsReply (reply_at S (entry_of S p)))
     → AnswersPair result S T p before after
-entered_turn result S T p before after lawful class time entered sent fits = by result sent fits
+entered_answer result S T p before after lawful class time entered sent fits = by result sent fits
   where
     new : is_new_in S p ≡ true
     new = ap is_new class
