@@ -3,11 +3,15 @@
 
     checks/cited.py [CRATE ..]          a row for each library, and the sum
     checks/cited.py --list [CRATE ..]   also the definitions of specs/ that no public contract reaches
+    checks/cited.py --heads [--write]   tells each file of specs/ whose head does not say who cites it, or writes these heads
 
 A public contract is one of a function that the crate exports: of a `pub fn` of an exported name or module, of a trait for an exported
 type, and of what a ghost line of such an impl says, but for its invariant, which no caller sees. What it reaches are the definitions of
 specs/ that it names, in its own crate or another, and those that these name, and so on. A line counts where it is no import, no comment
 and not blank.
+
+The second line of a file of specs/ says who cites it: the modules whose public contracts name one of its definitions; else the files of
+specs/ through which public contracts reach it; else the modules whose private contracts alone name one.
 
 It reads the sources alone: a name is found by the imports of its file. docs/ARCHITECTURE.md gives its numbers.
 """
@@ -102,52 +106,127 @@ def clause_lines(lines, at):
     return found
 
 
+def module_of(crate, path):
+    """A source file's module, as a path in its crate."""
+    name = os.path.relpath(path, f"{TOP}/crates/{crate}/src").removesuffix(".rt").replace("/", "::")
+    return {"lib": crate, "main": crate}.get(name, name.removesuffix("::mod"))
+
+
+def sources(crate):
+    """The lines of each source file, by its module."""
+    paths = sorted(f"{at}/{file}" for at, _, files in os.walk(f"{TOP}/crates/{crate}/src") for file in files if file.endswith(".rt"))
+    return {module_of(crate, path): read(path) for path in paths}
+
+
 def contracts(crate):
-    """The definitions that the crate's public contracts name."""
+    """The definitions that the public contracts of each module of the crate name."""
     names, modules = exported(crate)
-    found = set()
-    for at, _, files in os.walk(f"{TOP}/crates/{crate}/src"):
-        for file in files:
-            lines = read(f"{at}/{file}") if file.endswith(".rt") else []
-            known, is_public, of_trait = imports(lines), False, False
-            in_module = os.path.relpath(f"{at}/{file}", f"{TOP}/crates/{crate}/src").split("/")[0].removesuffix(".rt") in modules
-            for number, line in enumerate(lines):
-                impl = IMPL.match(line)
-                if line.startswith("impl"):
-                    is_public = bool(impl) and (impl[1] in names or in_module)
-                    of_trait = " for " in line
-                elif line and not line.startswith((" ", "}", "/", "{", "#", "ghost", ")", "where")):
-                    is_public = in_module or any(it in names for it in re.findall(r"(?:fn|struct|enum|trait) (\w+)", line)) and "pub" in line
-                    of_trait = "trait" in line
-                text = []
-                if is_public and re.match(r"\s+ghost (?!use|invariant)", line):
-                    text = [line]
-                    for more in lines[number + 1:]:
-                        if text[-1].rstrip().endswith("};"):
-                            break
-                        text.append(more)
-                elif is_public and (FUNCTION.match(line) or of_trait and TRAIT_FUNCTION.match(line)):
-                    text = clause_lines(lines, number)
-                for it in text:
-                    found |= {known[name] for name in NAME.findall(it) if name in known}
-    return found
+    by_module = {}
+    for module, lines in sources(crate).items():
+        found = by_module.setdefault(module, set())
+        known, is_public, of_trait = imports(lines), False, False
+        in_module = module.split("::")[0] in modules
+        for number, line in enumerate(lines):
+            impl = IMPL.match(line)
+            if line.startswith("impl"):
+                is_public = bool(impl) and (impl[1] in names or in_module)
+                of_trait = " for " in line
+            elif line and not line.startswith((" ", "}", "/", "{", "#", "ghost", ")", "where")):
+                is_public = in_module or any(it in names for it in re.findall(r"(?:fn|struct|enum|trait) (\w+)", line)) and "pub" in line
+                of_trait = "trait" in line
+            text = []
+            if is_public and re.match(r"\s+ghost (?!use|invariant)", line):
+                text = [line]
+                for more in lines[number + 1:]:
+                    if text[-1].rstrip().endswith("};"):
+                        break
+                    text.append(more)
+            elif is_public and (FUNCTION.match(line) or of_trait and TRAIT_FUNCTION.match(line)):
+                text = clause_lines(lines, number)
+            for it in text:
+                found |= {known[name] for name in NAME.findall(it) if name in known}
+    return by_module
 
 
-def main():
-    words = sys.argv[1:]
-    listed = "--list" in words
-    wanted = [it for it in words if it != "--list"] or crates()
-    every = {}
-    for crate in crates():
-        every |= definitions(crate)
-    reached, left = set(), set()
-    for crate in crates():
-        left |= contracts(crate)
+def reached_from(every, left):
+    """The definitions that these name, and those that they name, and so on."""
+    reached = set()
     while left:
         one = left.pop()
         if one in every and one not in reached:
             reached.add(one)
             left |= every[one][1]
+    return reached
+
+
+def told(crate, found):
+    """Modules by their crates, that of the file first, as a list in words."""
+    by_crate = {}
+    for owner, module in sorted(found, key=lambda it: (it[0] != crate, it)):
+        by_crate.setdefault(owner, []).append(module)
+    return "; ".join(("" if owner == crate else f"{owner}: ") + ", ".join(modules) for owner, modules in by_crate.items())
+
+
+def heads(every):
+    """What the second line of each file of specs/ says."""
+    public, private, through, left = {}, {}, {}, set()
+    for crate in crates():
+        for module, found in contracts(crate).items():
+            left |= found
+            for it in found:
+                public.setdefault(it[:2], set()).add((crate, module))
+        for module, lines in sources(crate).items():
+            for it in imports(lines).values():
+                private.setdefault(it[:2], set()).add((crate, module))
+    reached = reached_from(every, left)
+    for one in reached:
+        for it in every[one][1] & reached:
+            if it[:2] != one[:2]:
+                through.setdefault(it[:2], set()).add(one[:2])
+    files = sorted({it[:2] for it in every})
+    for file in files:
+        if file in public:
+            yield file, f"-- Cited by public contracts of: {told(file[0], public[file])}."
+        elif file in through:
+            yield file, f"-- Public contracts reach it through: {told(file[0], through[file])}."
+        elif file in private:
+            yield file, f"-- Cited by private contracts alone, of: {told(file[0], private[file])}."
+        else:
+            yield file, "-- No contract cites it: its rows show what the definitions answer."
+
+
+def check_heads(every, writes):
+    """Tells, or writes, the heads that are not as they should be, and answers how many they are."""
+    wrong = 0
+    for (crate, module), head in heads(every):
+        path = f"{TOP}/crates/{crate}/specs/{module}.antt"
+        lines = read(path)
+        at = next((n for n, line in enumerate(lines) if not line.startswith("--")), len(lines))
+        if head in lines[:at]:
+            continue
+        wrong += 1
+        print(f"{os.path.relpath(path, TOP)}: {head}")
+        if writes:
+            kept = [line for line in lines[:at] if not line.startswith(("-- Cited by", "-- Public contracts reach it", "-- No contract cites it"))]
+            with open(path, "w", encoding="utf-8") as file:
+                file.write("\n".join(kept + [head] + lines[at:]) + "\n")
+    print(f"{len(list(heads(every))) - wrong} passed, {wrong} failed")
+    return wrong
+
+
+def main():
+    words = sys.argv[1:]
+    if "--heads" in words:
+        every = {}
+        for crate in crates():
+            every |= definitions(crate)
+        sys.exit(check_heads(every, "--write" in words) > 0)
+    listed = "--list" in words
+    wanted = [it for it in words if it != "--list"] or crates()
+    every = {}
+    for crate in crates():
+        every |= definitions(crate)
+    reached = reached_from(every, set().union(*(found for crate in crates() for found in contracts(crate).values())))
     total = [0, 0]
     print("| crate | lines that public contracts reach | all lines of definitions |\n|---|---|---|")
     for crate in wanted:

@@ -1,4 +1,5 @@
 -- What a closure leaves that was called at two values of a tree, while the search for them goes on.
+-- Cited by private contracts alone, of: pairs.
 use Rattle.std.specs.Prelude.{◌≡◌, Bool, true, false, List, Option, None, Some, ◌⊎◌}
 use Rattle.std.specs.Fn.{Mut, CalledAtPairMut}
 use Rattle.std.specs.Map.{lookup, set_value}

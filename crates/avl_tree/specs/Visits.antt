@@ -1,4 +1,5 @@
 -- What a walk over a range of keys calls.
+-- Cited by public contracts of: map.
 use Rattle.std.specs.Prelude.{◌≡◌, ◌&&◌, List}
 use Rattle.std.specs.List.{filter, FoldsTo}
 use Rattle.std.specs.Fn.{Mut, Called}

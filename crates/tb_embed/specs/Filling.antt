@@ -1,4 +1,5 @@
 -- A room for the bytes of a reply: how far it is filled, and how long the reply is.
+-- Cited by private contracts alone, of: replies, serving.
 use Rattle.std.specs.Prelude.{ℕ, true, false, ◌≡◌, ◌≤◌, List, length, take, Option, Some, Result, Ok, Err}
 use Rattle.tb_records.specs.ReplyFrames.{reply_bytes, IsReply, SpellsReply}
 use Rattle.tb_sessions.specs.declared.rows.Row.{Row}

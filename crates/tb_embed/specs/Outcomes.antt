@@ -1,4 +1,5 @@
 -- The status of each outcome, and the length that is told with it.
+-- Cited by public contracts of: outcomes.
 use Rattle.std.specs.Prelude.{ℕ, ◌≡◌}
 use Rattle.tb_embed.specs.declared.outcomes.Outcome.{Outcome}
 use Rattle.tb_embed.specs.declared.outcomes.Outcome.TheVariants.{Done, Closed, Usage, NoMemory, Unread, Malformed, TimeExhausted, Absent, TooSmall}

@@ -1,4 +1,5 @@
 -- The records that wait, by their bytes.
+-- Cited by private contracts alone, of: batches.
 use Rattle.std.specs.Prelude.{◌≡◌, ℕ, List, length}
 use Rattle.std.specs.List.{AllByRecursion}
 use Rattle.tb_journal.specs.Contents.{Fits, at_rest, walk, records_of}

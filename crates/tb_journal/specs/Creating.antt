@@ -1,4 +1,5 @@
 -- How a journal is created, and what a crash may leave of it.
+-- Cited by public contracts of: creating; tb_keep: opening.
 use Rattle.std.specs.Prelude.{◌≡◌, ◌⊎◌, ◌==◌, ◌&&◌, ◌||◌, ℕ, ◌≤◌, Bool, true, false, List, [], ◌∷◌, ◌++◌, length, codes, refl, Result, IfOk, OnOk, IfErr}
 use Rattle.tb_journal.specs.declared.faults.Fault.{Fault}
 use Rattle.tb_journal.specs.declared.faults.Fault.TheVariants.{NotEmpty}

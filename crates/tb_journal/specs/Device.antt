@@ -1,4 +1,5 @@
 -- What the calls of a device do to its file, and what a crash may leave between two syncs.
+-- Cited by public contracts of: creating, devices, journals, opening, scans; tb_keep: opening, restoring.
 use Rattle.std.specs.Prelude.{◌<◌, ◌≡◌, ◌⊎◌, ℕ, ◌+◌, ◌≤◌, min, max, List, ◌++◌, length, take, drop, Result, IfErr, OnOk}
 use Rattle.tb_journal.specs.declared.faults.Fault.{Fault}
 use Rattle.tb_journal.specs.declared.faults.Fault.TheVariants.{Memory, Failed, Full}

@@ -1,4 +1,5 @@
 -- The numbers and the names of faults.
+-- Cited by public contracts of: faults.
 use Rattle.std.specs.Prelude.{ℕ, List, codes}
 use Rattle.tb_journal.specs.declared.faults.Fault.{Fault}
 use Rattle.tb_journal.specs.declared.faults.Fault.TheVariants.{Memory, Failed, Full, TooLong, NotEmpty}

@@ -1,5 +1,6 @@
 -- What reads handed out, whatever the device: so a clause speaks of the bytes that a call had before it, also over a file of
 -- which nothing is told.
+-- Cited by public contracts of: scans; tb_keep: dumps, opening, restoring.
 use Rattle.std.specs.Prelude.{◌≡◌, ◌≤◌, ℕ, Bool, List, [], ◌∷◌, ◌++◌, length, take, drop, codes, refl, Result, Ok, Err, IfOk}
 use Rattle.tb_journal.specs.declared.opening.OpenFault.{OpenFault}
 use Rattle.tb_journal.specs.declared.opening.OpenFault.TheVariants as open_faults

@@ -1,4 +1,4 @@
--- what public contracts cite
+-- what public contracts cite, or reach through what they cite
 pub mod Faults
 pub mod Device
 pub mod Checksum
@@ -11,7 +11,7 @@ pub mod Opening
 pub mod Scans
 pub mod Handed
 pub mod Creating
--- what private functions alone cite
 pub mod Reading
 pub mod Real
+-- what private contracts alone cite
 pub mod Batches

@@ -1,4 +1,5 @@
 -- What a crash may leave of a file in memory, by the calls that were made.
+-- Cited by public contracts of: memory.
 use Rattle.std.specs.Prelude.{◌≡◌, ℕ, ◌≤◌, ◌==◌, List, [], ◌∷◌, length, take, reverse, if◌then◌else◌}
 use Rattle.std.proofs.Common.{arith, subst, sym}
 use Rattle.std.proofs.lemmas.List.{take_all}

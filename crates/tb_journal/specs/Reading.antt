@@ -1,4 +1,5 @@
 -- What private functions find in the bytes of a journal.
+-- Cited by public contracts of: opening, scans.
 use Rattle.std.specs.Prelude.{◌≡◌, ◌⊎◌, ℕ, ◌+◌, ◌≤◌, ◌==◌, List, [], ◌∷◌, length, drop, Option, Some, None, Result, Ok, Err, IfOk, if◌then◌else◌, refl}
 use Rattle.std.specs.Int.{w32, from_le_bytes}
 use Rattle.tb_journal.specs.declared.faults.Fault.{Fault}

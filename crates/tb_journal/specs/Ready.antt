@@ -1,4 +1,5 @@
 -- A journal that may be written to.
+-- Cited by public contracts of: journals.
 use Rattle.std.specs.Prelude.{◌≡◌, ℕ, List, length}
 use Rattle.tb_journal.specs.Device.{Disk}
 use Rattle.tb_journal.specs.Contents.{recorded, records_end}

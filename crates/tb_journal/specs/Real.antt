@@ -1,4 +1,5 @@
 -- A file of which nothing is told.
+-- Cited by public contracts of: real.
 use Rattle.std.specs.Prelude.{[]}
 use Rattle.tb_journal.specs.Device.{Disk}
 

@@ -1,4 +1,5 @@
 -- What the journal's calls leave on a disk.
+-- Cited by public contracts of: journals.
 use Rattle.std.specs.Prelude.{◌≡◌, ◌⊎◌, ℕ, List, [], ◌∷◌, ◌++◌, length, take, Result, OnOk}
 use Rattle.tb_journal.specs.declared.faults.Fault.{Fault}
 use Rattle.tb_journal.specs.Device.{Disk, IsOnDisk, Torn, Cut, overwritten, LeavesOnly, HasCause}

@@ -1,4 +1,5 @@
 -- What one call on a file in memory adds to what a crash may leave.
+-- Public contracts reach it through: Memory.
 use Rattle.std.specs.Prelude.{◌≡◌, ℕ, List, length}
 use Rattle.tb_journal.specs.Device.{Torn, Cut}
 use Rattle.tb_journal.specs.declared.memory.Call.{Call}

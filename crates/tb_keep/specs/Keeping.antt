@@ -1,4 +1,5 @@
 -- What a kept file stands for, and what a keeper is that keeps it.
+-- Cited by public contracts of: heads, keepers, opening, serving, worked_rows.
 use Rattle.std.specs.Prelude.{ℕ, ◌≡◌, ◌<◌, ◌≤◌, List, [], ◌∷◌, ◌++◌, map, codes, refl}
 use Rattle.tb_records.specs.declared.limits.Profile.{Profile}
 use Rattle.tb_records.specs.declared.limits.Profile.TheVariants.{Two}

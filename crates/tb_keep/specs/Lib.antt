@@ -1,4 +1,4 @@
--- what public contracts cite
+-- what public contracts cite, or reach through what they cite
 pub mod Faults
 pub mod Keeping
 pub mod Restoration
@@ -7,7 +7,7 @@ pub mod Reading
 pub mod Rounds
 pub mod Moments
 pub mod Again
--- what private functions alone cite
+-- what private contracts alone cite
 pub mod Sources
 pub mod Entering
 pub mod Sending

@@ -1,4 +1,5 @@
 -- What is read of a kept file, without a write.
+-- Cited by public contracts of: dumps, laws, worked_rows.
 use Rattle.std.specs.Prelude.{ℕ, ◌≡◌, ◌⊎◌, ◌<◌, ◌≤◌, List, [], ◌∷◌, ◌++◌, Result, Ok, Err, None}
 use Rattle.tb_records.specs.declared.faults.FrameFault.TheVariants.{Device}
 use Rattle.tb_records.specs.declared.limits.Profile.{Profile}

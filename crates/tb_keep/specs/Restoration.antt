@@ -1,4 +1,5 @@
 -- What the restoring of a machine from the records of a file makes.
+-- Cited by public contracts of: laws, opening, restoring, worked_rows.
 use Rattle.std.specs.Prelude.{ℕ, ◌≡◌, ◌⊎◌, ◌+◌, ◌<◌, ◌≤◌, IsTrue, List, [], ◌∷◌, ◌++◌, map, fold, Some, Result, Ok, Err}
 use Rattle.tb_records.specs.declared.limits.Profile.{Profile}
 use Rattle.tb_journal.specs.declared.opening.OpenFault.{OpenFault}

@@ -1,4 +1,5 @@
 -- The bytes that a scan reads: for private functions alone.
+-- Cited by private contracts alone, of: dumps, restoring.
 use Rattle.std.specs.Prelude.{◌≡◌, ℕ, Bool, List, drop, Result, IfOk}
 use Rattle.tb_journal.specs.declared.opening.OpenFault.{OpenFault}
 use Rattle.tb_journal.specs.Handed.{AreHanded}

@@ -1,4 +1,5 @@
 -- What the tables can still take without asking for memory.
+-- Cited by private contracts alone, of: batches::events, changes::resolving, changes::single, changes::transfer, ledgers.
 use Rattle.std.specs.Prelude.{ℕ, ◌≡◌, ◌+◌, ◌≤◌, Bool, true}
 use Rattle.tb_ledger.specs.declared.tables.rows.Rows.{Rows}
 

@@ -1,4 +1,5 @@
 -- When a batch may be entered.
+-- Cited by private contracts alone, of: ledgers.
 use Rattle.std.specs.Prelude.{ℕ, ◌+◌, ◌≤◌, max}
 use Rattle.tb_ledger.specs.Verdicts.{max_time}
 

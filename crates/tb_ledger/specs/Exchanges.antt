@@ -1,4 +1,5 @@
 -- A transfer between two accounts, by their rows.
+-- Cited by private contracts alone, of: changes::resolving, changes::single.
 use Rattle.std.specs.Prelude.{ℕ, ◌≡◌, ◌==◌, List, find, Option, Some, Result, MatchResult}
 use Rattle.std.specs.Option.{option_map}
 use Rattle.tb_records.specs.declared.records.Transfer.{Transfer}

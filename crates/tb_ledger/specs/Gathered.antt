@@ -1,4 +1,5 @@
 -- The results of a batch so far.
+-- Cited by private contracts alone, of: tables::work.
 use Rattle.std.specs.Prelude.{ℕ, List}
 use Rattle.tb_records.specs.declared.records.EventResult.{EventResult}
 

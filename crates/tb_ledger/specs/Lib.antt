@@ -1,4 +1,4 @@
--- what the contracts of public functions cite
+-- what public contracts cite, or reach through what they cite
 pub mod Books
 pub mod Verdicts
 pub mod Batches
@@ -8,9 +8,9 @@ pub mod Cuttings
 pub mod Meanings
 pub mod Tables
 pub mod WorkedRows
--- what only the contracts of private functions cite
-pub mod KeptRows
 pub mod Kept
+-- what private contracts alone cite
+pub mod KeptRows
 pub mod Timeouts
 pub mod Found
 pub mod Exchanges

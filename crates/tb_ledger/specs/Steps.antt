@@ -1,4 +1,5 @@
 -- What events ask of a batch in progress, and what they leave.
+-- Cited by private contracts alone, of: batches, batches::chains, batches::events, changes::expiry, changes::resolving, changes::single, changes::transfer.
 use Rattle.std.specs.Prelude.{ℕ, ◌≡◌, ◌+◌, ◌*◌, ◌^◌, ◌<◌, ◌≤◌, ◌==◌, true, map, length, find, Some, None, Result, OnOk, OnErr}
 use Rattle.tb_records.specs.declared.records.Transfer.{Transfer}
 use Rattle.tb_ledger.specs.declared.tables.rows.Rows.{Rows}

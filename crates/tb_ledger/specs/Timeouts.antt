@@ -1,4 +1,5 @@
 -- The timeouts of pending transfers, in the order in which they expire.
+-- Cited by private contracts alone, of: tables::index, tables::timeouts.
 use Rattle.std.specs.Prelude.{ℕ, ◌≡◌, ◌+◌, ◌-◌, ◌*◌, ◌≤◌, ◌<◌, ◌==◌, List, map, find, Option, Some, None, if◌then◌else◌}
 use Rattle.std.specs.List.{slice_get}
 use Rattle.std.specs.Option.{is_some}

@@ -1,4 +1,5 @@
 -- A log of changes, the oldest first, and what undoing them gives.
+-- Cited by private contracts alone, of: changes::account, changes::records, changes::resolving, tables::undo_log.
 use Rattle.std.specs.Prelude.{ℕ, true, ◌≡◌, ◌+◌, ◌≤◌, List, [], ◌∷◌, length}
 use Rattle.tb_ledger.specs.declared.tables.accounts.AccountRow.{AccountRow}
 use Rattle.tb_ledger.specs.declared.tables.transfers.TransferRow.{TransferRow}

@@ -1,4 +1,5 @@
 -- Worked rows: what the definitions answer to requests of which the answers are known.
+-- Cited by public contracts of: worked_rows.
 use Rattle.std.specs.Prelude.{◌≡◌, ℕ, ◌+◌, max, List, [], ◌∷◌, map, ◌++◌, length, Option, Some, None}
 use Rattle.std.specs.Option.{option_map}
 use Rattle.tb_records.specs.declared.records.Account.{Account}

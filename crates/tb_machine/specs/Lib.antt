@@ -1,4 +1,4 @@
--- what public contracts cite
+-- what public contracts cite, or reach through what they cite
 pub mod Histories
 pub mod Scripts
 pub mod Answering
@@ -16,6 +16,6 @@ pub mod Settling
 pub mod ScriptLaws
 pub mod ReplyLaws
 pub mod WorkedRows
--- what private functions alone cite
+-- what private contracts alone cite
 pub mod Serving
 pub mod Sound

@@ -1,4 +1,5 @@
 -- What the steps of the server do with one pair: for private functions alone.
+-- Cited by private contracts alone, of: dumping, executing, machines, replaying, serving.
 use Rattle.std.specs.Prelude.{true, false, ◌≡◌, ◌+◌, ◌≤◌, max, ℕ, List, Result, Ok, Err, IfOk, OnOk, MatchResult}
 use Rattle.std.specs.declared.alloc.AllocError.{AllocError}
 use Rattle.tb_records.specs.declared.faults.FrameFault.{FrameFault}

@@ -1,4 +1,5 @@
 -- What becomes of a request that is entered by the state S of a history h, which are T and m then.
+-- Cited by private contracts alone, of: entering.
 use Rattle.std.specs.Prelude.{ℕ, true, false, ◌≡◌, ◌≢◌, List, [], ◌∷◌, ◌++◌, Result, Ok, Err}
 use Rattle.tb_records.specs.Messages.{Message, IsLawful}
 use Rattle.tb_sessions.specs.declared.classes.Class.TheVariants.{New, Repeat}

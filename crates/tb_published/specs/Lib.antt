@@ -1,9 +1,9 @@
--- what public contracts cite
+-- what public contracts cite, or reach through what they cite
 pub mod Openings
 pub mod Taking
 pub mod Faults
 pub mod SeenLaws
--- what private functions alone cite
+-- what private contracts alone cite
 pub mod Prefixes
 pub mod PostedEntries
 pub mod Ties

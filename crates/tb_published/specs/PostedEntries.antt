@@ -1,4 +1,5 @@
 -- Posted entries: each brings the copies an entry, and the front that a copy has with it.
+-- Cited by private contracts alone, of: copies, publisher, replica.
 use Rattle.std.specs.Prelude.{◌≡◌, ◌+◌, ◌==◌, List, [], ◌∷◌, ◌++◌, length, if◌then◌else◌, fold, Option, Some}
 use Rattle.std.specs.Option.{option_to_list}
 use Rattle.tb_machine.specs.declared.entries.Entry.{Entry}

@@ -1,4 +1,5 @@
 -- The rule that the copies and their readers keep.
+-- Cited by private contracts alone, of: copies, looking, rule, seat.
 use Rattle.std.specs.Prelude.{ℕ, ◌≡◌, List, Option, Some, IfSome, Result, MatchResult}
 use mathlib.Core.Option.{some}
 use lib.ListN.{get_elem?}

@@ -1,4 +1,5 @@
 -- What stands whole at the beginning of bytes that are at hand.
+-- Cited by public contracts of: dumps, streams.
 use Rattle.std.specs.Prelude.{ℕ, Bool, ◌+◌, ◌&&◌, ◌||◌, ◌==◌, nat_le, List, length, drop}
 use Rattle.tb_records.specs.Frames.{length_at}
 use Rattle.tb_records.specs.Numbers.{le_at}

@@ -1,4 +1,4 @@
--- what public contracts cite
+-- what public contracts cite, or reach through what they cite
 pub mod Numbers
 pub mod RecordBytes
 pub mod Flags
@@ -19,11 +19,11 @@ pub mod DumpFaults
 pub mod Transport
 pub mod AtHand
 pub mod Ordered
--- what private functions alone cite
-pub mod HeaderFields
 pub mod HeldBodies
-pub mod ReplyHeaders
 pub mod ReplyTests
+pub mod Sizes
+-- what private contracts alone cite
+pub mod HeaderFields
+pub mod ReplyHeaders
 pub mod Reading
 pub mod DumpNumbers
-pub mod Sizes

@@ -1,4 +1,5 @@
 -- What a clerk has.
+-- Cited by public contracts of: server.
 use Rattle.std.specs.Prelude.{ℕ, ◌≡◌, ◌+◌, ◌≤◌, vec_len, vec_capacity}
 use Rattle.tb_service.specs.declared.clerk.Clerk.{Clerk}
 use Rattle.tb_service.specs.History.{ServerState}

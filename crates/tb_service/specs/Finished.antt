@@ -1,4 +1,5 @@
 -- What clauses see of a run that has ended.
+-- Cited by public contracts of: finished.
 use Rattle.std.specs.Prelude.{ℕ, ◌≡◌, ◌-◌, ◌<◌, true, List, [], ◌++◌, map, slice_get, Some}
 use Rattle.tb_records.specs.Messages.{Message}
 use Rattle.tb_published.specs.declared.faults.TakeFault.{TakeFault}

@@ -1,4 +1,5 @@
 -- What a server makes of requests, one after another.
+-- Public contracts reach it through: Clerks, OfferedLaws, Servers, ToldLaws.
 use Rattle.std.specs.Prelude.{ℕ, Bool, true, false, ◌≡◌, ◌+◌, List, [], ◌∷◌, ◌++◌, Option, Some, None}
 use Rattle.tb_records.specs.Messages.{Message}
 use Rattle.tb_sessions.specs.declared.classes.Class.{Class}

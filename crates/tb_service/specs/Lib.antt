@@ -1,4 +1,4 @@
--- what public contracts cite
+-- what public contracts cite, or reach through what they cite
 pub mod Sent
 pub mod Places
 pub mod Names
@@ -10,6 +10,6 @@ pub mod Finished
 pub mod Servers
 pub mod OfferedLaws
 pub mod ToldLaws
--- what private functions alone cite
+-- what private contracts alone cite
 pub mod Rule
 pub mod Desks

@@ -1,4 +1,5 @@
 -- What clauses see of ports.
+-- Cited by public contracts of: ports, starting.
 use Rattle.std.specs.Prelude.{ℕ, ◌≡◌, ◌+◌, true, List, [], ◌∷◌, length}
 use Rattle.crossbeam_channel.specs.Claims.{Pass, view}
 use Rattle.tb_records.specs.Messages.{Message}

@@ -1,4 +1,5 @@
 -- The rule of the queue: the orders taken and then those queued are all that were sent, and each pass knows its part of them.
+-- Cited by private contracts alone, of: ports, rule, sending.
 use Rattle.std.specs.Prelude.{ℕ, Bool, true, false, ◌≡◌, ◌<◌, ◌≤◌, List, [], ◌++◌}
 use mathlib.Core.Option.{some}
 use lib.ListN.{get_elem?}

@@ -1,4 +1,5 @@
 -- The orders that ports sent, and what stands in them of one port.
+-- Public contracts reach it through: Places.
 use Rattle.std.specs.Prelude.{ℕ, Bool, true, false, ◌==◌, ◌&&◌, ◌||◌, List, [], ◌∷◌, ◌++◌, if◌then◌else◌}
 use Rattle.tb_records.specs.Messages.{Message}
 use Rattle.tb_service.specs.declared.orders.Order.{Order}

@@ -1,6 +1,6 @@
--- what public contracts cite
+-- what public contracts cite, or reach through what they cite
 pub mod Admission
 pub mod Judged
 pub mod Renewal
--- what private functions alone cite
+-- what private contracts alone cite
 pub mod Indexed

@@ -1,4 +1,5 @@
 -- Which fault of a storm is told.
+-- Cited by private contracts alone, of: outcomes, storms.
 use Rattle.std.specs.Prelude.{Option, Some, None, Result, Ok, Err}
 use Rattle.tb_service.specs.declared.ends.Ended.{Ended}
 use Rattle.tb_service.specs.declared.ends.Ended.TheVariants as way

@@ -1,4 +1,5 @@
 -- What could stand next in a text: by the texts of statements that go on so.
+-- Cited by public contracts of: awaited.
 use Rattle.std.specs.Prelude.{ℕ, Bool, true, false, ◌&&◌, ◌≡◌, ◌+◌, nat_lt, List, [], ◌∷◌, ◌++◌, Option, Some, None, IsSome, ◌↔◌}
 use Rattle.std.specs.List.{Contains, filter}
 use Rattle.tb_records.specs.declared.operations.Operation.{Operation}

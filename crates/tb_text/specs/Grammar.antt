@@ -2,6 +2,7 @@
 -- these. A phrase stands at the front of the tokens `ts`, and `rest` are the tokens behind it. `o` is the operation whose events are said, and
 -- there is none before one is named. `given` are the entries (a field and a number each) that stand before the phrase, and `es` or `all` those
 -- that stand behind it, the given ones among them.
+-- Cited by public contracts of: text_laws.
 use Rattle.std.specs.Prelude.{ℕ, Bool, true, false, not, ◌≡◌, ◌⊎◌, ◌&&◌, ◌||◌, ◌==◌, ◌+◌, ◌-◌, ◌*◌, ◌%◌, ◌^◌, nat_le, nat_lt, List, [], ◌∷◌, ◌++◌, map, Option, Some, None, if◌then◌else◌}
 use Rattle.std.specs.Option.{option_and_then}
 use Rattle.tb_records.specs.Messages.{Message, IsLawful, asked}

@@ -1,4 +1,5 @@
 -- Lines and columns, both from 1.
+-- Cited by public contracts of: messages, reading.
 use Rattle.std.specs.Prelude.{ℕ, Bool, not, ◌&&◌, ◌+◌, ◌==◌, nat_le, List, [], ◌∷◌, if◌then◌else◌}
 
 -- the line behind these bytes

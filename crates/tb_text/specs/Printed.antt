@@ -1,5 +1,6 @@
 -- The one text of requests: a statement a line, the fields in the order of the records, those that are 0 left out but for
 -- an event's id and the moment, flags by name, numbers decimal.
+-- Cited by public contracts of: printing, text_laws.
 use Rattle.std.specs.Prelude.{ℕ, Bool, not, ◌==◌, ◌*◌, ◌/◌, ◌%◌, ◌^◌, List, [], ◌∷◌, ◌++◌, length, map, filter, flat_map, if◌then◌else◌, codes}
 use Rattle.std.specs.Fmt.{decimal}
 use Rattle.tb_records.specs.Messages.{Message}

@@ -1,4 +1,5 @@
 -- Reading byte by byte: what has been read so far, and what a byte makes of it. None says that no statements go on so.
+-- Cited by public contracts of: lexemes.
 use Rattle.std.specs.Prelude.{ℕ, Bool, true, false, not, ◌&&◌, ◌==◌, ◌+◌, ◌-◌, ◌*◌, ◌%◌, ◌^◌, nat_le, nat_lt, nat_eq, List, [], ◌∷◌, ◌++◌, length, Option, Some, None, if◌then◌else◌}
 use Rattle.std.specs.Option.{option_and_then, is_none}
 use Rattle.std.specs.List.{list_any, find}

@@ -1,4 +1,5 @@
 -- What the reader answers: of one byte, and of a text.
+-- Cited by public contracts of: reading, text_laws.
 use Rattle.std.specs.Prelude.{ℕ, false, true, ◌≡◌, ◌+◌, ◌<◌, ◌≤◌, ◌⊎◌, List, [], ◌++◌, length, take, get_or, Option, Some, None, Result, Ok, Err}
 use Rattle.tb_records.specs.Messages.{Message}
 use Rattle.tb_text.specs.declared.places.Refusal.{Refusal}

@@ -1,4 +1,5 @@
 -- The words of statements: their texts, the fields and flags of each operation, and the greatest number of a field.
+-- Cited by public contracts of: words.
 use Rattle.std.specs.Option.{option_map_or}
 use Rattle.std.specs.Prelude.{ℕ, Bool, true, false, ◌==◌, ◌-◌, ◌^◌, List, [], ◌∷◌, Option, Some, None, codes}
 use Rattle.tb_records.specs.AccountFlags.{account_flag_bit, account_flag_name}

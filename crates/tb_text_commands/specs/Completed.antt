@@ -1,5 +1,6 @@
 -- A statement that leaves out its moment, its client, its session or its request's number, and the whole statement that
 -- it stands for.
+-- Cited by public contracts of: completing_laws.
 use Rattle.std.specs.Prelude.{ℕ, true, ◌≡◌, ◌&&◌, ◌==◌, ◌+◌, ◌^◌, nat_lt, option_map, List, [], ◌++◌, Option, Some, None, if◌then◌else◌, codes}
 use Rattle.std.specs.Option.{is_some, option_and_then, option_or}
 use Rattle.std.specs.Fmt.{decimal}

@@ -1,4 +1,5 @@
 -- How a form of the program ends: whether its reader or its writer failed.
+-- Cited by public contracts of: commands.
 use Rattle.std.specs.Prelude.{ℕ, Bool, true, false, ◌≡◌, ◌⊎◌, List, OnOk, Result, Ok, Err}
 use Rattle.tb_records.specs.Transport.{Input, Output, risen, Refuses}
 use Rattle.tb_text_commands.specs.declared.faults.Fault.{Fault}

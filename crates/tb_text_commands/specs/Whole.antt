@@ -1,5 +1,6 @@
 -- What a form of the program has read where it is done: a whole text of statements, a whole script, whole replies, or a whole
 -- dump. An end of the input within one of their parts leaves no such reading.
+-- Cited by public contracts of: whole_laws.
 use Rattle.std.specs.Prelude.{ℕ, ◌≡◌, ◌⊎◌, List, ◌++◌, flat_map, Option, Some, None}
 use Rattle.tb_records.specs.declared.limits.Profile.{Profile}
 use Rattle.tb_records.specs.DumpBytes.{head_bytes, mark_bytes, entry_bytes, IsClients, IsDumped}

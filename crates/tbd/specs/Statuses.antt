@@ -1,4 +1,5 @@
 -- The exit status of each fault, and the text that names it.
+-- Cited by private contracts alone, of: faults.
 use Rattle.std.specs.Prelude.{ℕ, ◌++◌, List, codes}
 use Rattle.std.specs.Fmt.{decimal}
 use Rattle.tb_records.specs.declared.faults.FrameFault.{FrameFault}
