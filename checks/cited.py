@@ -26,6 +26,7 @@ NAME = re.compile(r"[^\s(){}\[\],.;λ]+")
 FUNCTION = re.compile(r"^( *)pub (?:const |unsafe )*fn (\w+)")
 TRAIT_FUNCTION = re.compile(r"^( *)(?:const |unsafe )*fn (\w+)")
 IMPL = re.compile(r"^impl\b(?:<.*?>)? (?:.* for )?&?(?:mut )?(\w+)")
+HEADS = ("-- Cited by", "-- Public contracts reach it", "-- No contract cites it")
 TOOLS = ("tb_uses", "tb_bench", "tb_read", "tb_recorded", "tb_refusals", "tb_refusing", "tb_fixtures")
 
 
@@ -197,8 +198,8 @@ def heads(every):
 
 def check_heads(every, writes):
     """Tells, or writes, the heads that are not as they should be, and answers how many they are."""
-    wrong = 0
-    for (crate, module), head in heads(every):
+    wanted, wrong = dict(heads(every)), 0
+    for (crate, module), head in wanted.items():
         path = f"{TOP}/crates/{crate}/specs/{module}.antt"
         lines = read(path)
         at = next((n for n, line in enumerate(lines) if not line.startswith("--")), len(lines))
@@ -207,25 +208,22 @@ def check_heads(every, writes):
         wrong += 1
         print(f"{os.path.relpath(path, TOP)}: {head}")
         if writes:
-            kept = [line for line in lines[:at] if not line.startswith(("-- Cited by", "-- Public contracts reach it", "-- No contract cites it"))]
+            kept = [line for line in lines[:at] if not line.startswith(HEADS)]
             with open(path, "w", encoding="utf-8") as file:
                 file.write("\n".join(kept + [head] + lines[at:]) + "\n")
-    print(f"{len(list(heads(every))) - wrong} passed, {wrong} failed")
+    print(f"{len(wanted) - wrong} passed, {wrong} failed")
     return wrong
 
 
 def main():
     words = sys.argv[1:]
-    if "--heads" in words:
-        every = {}
-        for crate in crates():
-            every |= definitions(crate)
-        sys.exit(check_heads(every, "--write" in words) > 0)
-    listed = "--list" in words
-    wanted = [it for it in words if it != "--list"] or crates()
     every = {}
     for crate in crates():
         every |= definitions(crate)
+    if "--heads" in words:
+        sys.exit(check_heads(every, "--write" in words) > 0)
+    listed = "--list" in words
+    wanted = [it for it in words if it != "--list"] or crates()
     reached = reached_from(every, set().union(*(found for crate in crates() for found in contracts(crate).values())))
     total = [0, 0]
     print("| crate | lines that public contracts reach | all lines of definitions |\n|---|---|---|")
