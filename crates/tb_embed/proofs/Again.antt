@@ -9,7 +9,7 @@ use Rattle.tb_sessions.specs.Judged.{row_of, class_of}
 use Rattle.tb_machine.specs.Histories.{State, is_new, step, answer_by, answer_to}
 use Rattle.tb_machine.specs.Scripts.{entry_of, after_pair}
 use Rattle.tb_machine.specs.Runs.{is_new_in, IsTimely, answer_bytes}
-use Rattle.tb_machine.proofs.Turns.{answer_after, after_new, after_known}
+use Rattle.tb_machine.proofs.PairAnswers.{answer_after, after_new, after_known}
 use Rattle.tb_embed.specs.Calls.{IsAnsweredAgain}
 
 -- what is answered with status 0 is not new

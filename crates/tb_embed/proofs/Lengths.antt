@@ -20,7 +20,7 @@ use Rattle.tb_machine.specs.Scripts.{Pair, entry_of, after_pair}
 use Rattle.tb_machine.specs.Runs.{is_new_in, IsTimely, answer_bytes}
 use Rattle.tb_machine.proofs.Lawful.{lawful_numbers}
 use Rattle.tb_machine.proofs.RepliesFit.{refusal_right}
-use Rattle.tb_machine.proofs.Turns.{row_after, answer_after, after_new, after_known}
+use Rattle.tb_machine.proofs.PairAnswers.{row_after, answer_after, after_new, after_known}
 use Rattle.std.specs.Option.{option_map}
 use Rattle.tb_embed.specs.Filling.{length_by, FitsBy}
 
