@@ -376,7 +376,7 @@ def sample(tbd, folder):
     return data, gates + [at], check(tbd, ledger.file)["entries"]
 
 
-def tried(tbd, path, data):
+def look_at(tbd, path, data):
     with open(path, "wb") as file:
         file.write(data)
     told = check(tbd, path)
@@ -389,7 +389,7 @@ def cuts(tbd, folder, data, gates, entries):
     """The file cut at each of its last 1,000 bytes."""
     path, wrong = os.path.join(folder, "cut.tbk"), []
     for length in range(len(data) - 1000, len(data)):
-        told = tried(tbd, path, data[:length])
+        told = look_at(tbd, path, data[:length])
         # A gate at the end, or none, ends the records; any other cut leaves a block that is not whole.
         whole = length in gates or length - 1 in gates
         if not told["same"] or told["status"] != (0 if whole else 6) or whole and told["entries"] != sum(gate < length for gate in gates[:-1]) - 1 - (length - 1 in gates[:-1]):
@@ -402,7 +402,7 @@ def flips(tbd, folder, data, gates, entries, count, rng):
     path, wrong, damaged = os.path.join(folder, "flip.tbk"), [], 0
     for _ in range(count):
         at, bit = rng.randrange(len(data)), rng.randrange(8)
-        told = tried(tbd, path, data[:at] + bytes([data[at] ^ 1 << bit]) + data[at + 1 :])
+        told = look_at(tbd, path, data[:at] + bytes([data[at] ^ 1 << bit]) + data[at + 1 :])
         if at in gates:
             well = told["status"] == 0 and told["entries"] == entries
         else:

@@ -88,10 +88,14 @@ def closing(*numbers):
     return lambda: [os.close(it) for it in numbers]
 
 
+def shown(parts):
+    """What was got or wanted, long bytes by their number."""
+    return ", ".join(f"{len(it)} bytes" if isinstance(it, bytes) and len(it) > 80 else str(it) for it in parts)
+
+
 def case(name, got, wanted):
-    """Compares a status, an output and a line with those that are wanted."""
-    said = f"got {got[0]}, {len(got[1])} bytes, {got[2]}; wanted {wanted[0]}, {len(wanted[1])} bytes, {wanted[2]}"
-    tried.case(name, got == wanted, "" if got == wanted else said)
+    """Compares what was got, mostly a status, an output and a line, with what is wanted."""
+    tried.case(name, got == wanted, "" if got == wanted else f"got {shown(got)}; wanted {shown(wanted)}")
 
 
 def inputs():

@@ -15,7 +15,7 @@ from typing import Any, Dict, Optional, Type, Union
 
 import tb_client
 from tb_client.transports import Closing
-from tb_client.values import MOMENT_MAX, U64, U128, is_name, kind_of, whole
+from tb_client.values import MOMENT_MAX, U64, U128, kind_of, path_of, whole
 
 REPLY_MAX = 48 + 8190 * 128
 REFUSALS = {1: "Closed", 2: "Usage", 3: "NoMemory", 4: "Malformed", 5: "TimeExhausted", 6: "Absent", 7: "TooSmall"}
@@ -93,11 +93,7 @@ class Server(Closing):
     at a time."""
 
     def __init__(self, path: Union[str, os.PathLike[str]], clients_max: int = 64, profile: int = 1, room: int = 4096) -> None:
-        if not isinstance(path, (str, os.PathLike)):
-            raise tb_client.InvalidType("path", f"must be a path, not {kind_of(path)}")
-        name = os.fspath(path)
-        if not isinstance(name, str) or not is_name(name):
-            raise tb_client.InvalidValue("path", "is no path")
+        name = path_of("path", path)
         places, profile = whole("clients_max", clients_max, 64, 1), whole("profile", profile, 2, 1)
         self._room = ctypes.create_string_buffer(whole("room", room, REPLY_MAX, 1))
         self._lock = threading.Lock()
