@@ -132,6 +132,7 @@ pub fn kept_fault(fault: KeepFault) -> Fault
 impl Fault {
     /// The exit status.
     pub fn status(self) -> u8
+        ensures failing { 0 < result }
         ensures value { result ≡ fault_status self }
     {
         match self {
