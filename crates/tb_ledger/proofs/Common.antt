@@ -50,8 +50,8 @@ pub use Rattle.tb_ledger.specs.Noted.{Noted, with_noted}
 pub use Rattle.tb_ledger.specs.Settlings.{CanSettle, Settles, SettlesIn, closed_code}
 pub use Rattle.tb_ledger.specs.Sound.{IdsRise, SideKept, Sound, account_key, ledger_at, transfer_key}
 pub use Rattle.tb_ledger.specs.Steps.{Decides, IsPreparedFor, IsResolution, KeepsRecords, Leaves}
-pub use Rattle.tb_ledger.specs.Tables.{ChangedRow, ChangedRows, IsTable, KeepsKey, KeepsKeys, KnowsAbsent, MayBeKey, Stored, pairs_in, rows_in, spare_in, unfound, without_id}
-pub use Rattle.tb_ledger.specs.Timeouts.{AreTimeouts, TakesDue, freed, timeout_at, timeout_key, timeouts_of, with_timeout, without_timeout}
+pub use Rattle.tb_ledger.specs.Tables.{ChangedRow, ChangedRows, IsTable, KeepsKey, KeepsKeys, KnowsAbsent, MayBeKey, Stored, freed, pairs_in, rows_in, spare_in, unfound, without_id}
+pub use Rattle.tb_ledger.specs.Timeouts.{AreTimeouts, TakesDue, timeout_at, timeout_key, timeouts_of, with_timeout, without_timeout}
 pub use Rattle.tb_ledger.specs.UndoLog.{CanUndo, CanUnwind, Chained, Grows, IsMarked, IsNoted, IsUndoneTo, LeadsBack, chained, undone_by, unwound}
 pub use Rattle.tb_ledger.specs.Verdicts.{Test, account_exists_tests, account_new_tests, account_own_tests, account_verdict, amount_tests, balanced_amount, balanced_between, closed_at, closed_tests, differs, failed_tests, filled, filled_amount, filled_from, first_code, first_of, given_or, id_code, int_max, is_not, max_time, named_code, named_tests, pair_code, pair_tests, recorded_account, recorded_transfer, resolve_code, resolve_own_tests, single_code, single_own_tests, transfer_exists_tests, transfer_own_tests, transfer_verdict}
 pub use Rattle.tb_ledger.specs.declared.tables.absent_ids.AbsentIds.{AbsentIds}

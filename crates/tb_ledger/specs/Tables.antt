@@ -25,6 +25,10 @@ pub record Stored (V : Type 0) : Type 0 where
   pub items : List V
   pub spare : ℕ
 
+-- the rows that are spare again where something was taken out
+abbrev pub freed : {X : Type 0} → Option X → ℕ
+freed o = if is_some o then 1 else 0
+
 -- each row stands at its own key, and keys rise
 pub record IsTable {V : Type 0} (key : V → ℕ) (es : List (ℕ × V)) : Type 0 where
   pub own : Each (λ e. key e.1 ≡ e.0) es

@@ -1,13 +1,12 @@
 -- The timeouts of pending transfers, in the order in which they expire.
 -- Cited by private contracts alone, of: tables::index, tables::timeouts.
-use Rattle.std.specs.Prelude.{ℕ, ◌≡◌, ◌+◌, ◌-◌, ◌*◌, ◌≤◌, ◌<◌, ◌==◌, List, map, find, Option, Some, None, if◌then◌else◌}
+use Rattle.std.specs.Prelude.{ℕ, ◌≡◌, ◌+◌, ◌-◌, ◌*◌, ◌≤◌, ◌<◌, ◌==◌, List, map, find, Option, Some, None}
 use Rattle.std.specs.List.{slice_get}
-use Rattle.std.specs.Option.{is_some}
 use Rattle.tb_records.specs.Ordered.{put, taken_out, Each, Rising}
 use Rattle.avl_tree.specs.Map.{Map}
 use Rattle.tb_ledger.specs.declared.tables.timeouts.Timeout.{Timeout}
 use Rattle.tb_ledger.specs.Verdicts.{int_max}
-use Rattle.tb_ledger.specs.Tables.{pairs_in, Stored}
+use Rattle.tb_ledger.specs.Tables.{freed, pairs_in, Stored}
 
 -- timeouts stand by time, and by id where times are the same
 abbrev pub timeout_key : Timeout → ℕ
@@ -27,10 +26,6 @@ timeouts_in m = timeouts_of (pairs_in m)
 pub record AreTimeouts (ds : List Timeout) : Type 0 where
   pub rising : Rising timeout_key ds
   pub fit : Each (λ d. d.id ≤ int_max) ds
-
--- the rows that are spare again where something was taken out
-abbrev pub freed : {X : Type 0} → Option X → ℕ
-freed o = if is_some o then 1 else 0
 
 -- timeouts and their spare rows, with one timeout more
 abbrev pub with_timeout : Timeout → Stored Timeout → Stored Timeout

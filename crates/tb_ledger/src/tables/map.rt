@@ -4,7 +4,7 @@ ghost use Rattle.std.specs.Option.{option_copied};
 ghost use Rattle.std.specs.Map.{values_of};
 ghost use Rattle.tb_records.specs.Ordered.{put, replaced, taken_out, Rising};
 ghost use Rattle.avl_tree.specs.Map.{entries};
-ghost use Rattle.tb_ledger.specs.Tables.{IsShortSearch, KeepsKey, ChangedRow, KeepsKeys, ChangedRows};
+ghost use Rattle.tb_ledger.specs.Tables.{freed, IsShortSearch, KeepsKey, ChangedRow, KeepsKeys, ChangedRows};
 
 use crate::tables::absent_ids::{AbsentIds, unfound};
 use avl_tree::AvlMap;
@@ -205,7 +205,8 @@ impl<V: Keyed, A: Allocator + Clone> Table<V, A> {
     /// Takes the row with the key out. Where none has it, the table stays.
     pub fn remove(&mut self, id: u128)
         ensures rows { self.new.items ≡ taken_out V.key id self.old.items }
-        ensures capacity { self.old.spare ≤ self.new.spare }
+        ensures capacity { self.new.spare
+            ≡ self.old.spare + freed (find (λ y. V.key y == id) self.old.items) }
     {
         let Some(rows) = &mut self.rows else {
             return;

@@ -2,7 +2,8 @@
 ghost use Rattle.std.specs.Prelude.{◌≡◌, ◌+◌, ◌-◌, ◌<◌, ◌≤◌, ◌==◌, max, [], None, find, OnOk};
 ghost use Rattle.tb_records.specs.Ordered.{put, taken_out};
 ghost use Rattle.avl_tree.specs.Map.{entries};
-ghost use Rattle.tb_ledger.specs.Timeouts.{timeout_key, timeouts_of, AreTimeouts, freed, with_timeout, without_timeout, TakesDue, IsFirstDue};
+ghost use Rattle.tb_ledger.specs.Tables.{freed};
+ghost use Rattle.tb_ledger.specs.Timeouts.{timeout_key, timeouts_of, AreTimeouts, with_timeout, without_timeout, TakesDue, IsFirstDue};
 
 use avl_tree::AvlMap;
 use std::alloc::{AllocError, Allocator};
