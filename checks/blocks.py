@@ -1,5 +1,5 @@
 #!/usr/bin/env python3
-"""Runs the blocks of README.md, docs/*.md and crates/*/CALLING.md, as far as each can be run. First build both programs:
+"""Runs the blocks of README.md, docs/**/*.md and crates/*/CALLING.md, as far as each can be run. First build both programs:
 
     (cd crates/tbs && rt run -- run 2) < examples/first.script > /dev/null
     (cd crates/tbt && rt run -- script) < examples/first.text > /dev/null
@@ -9,7 +9,7 @@
 - console: stands in checks/terminal.txt, which checks/text.py types on a terminal.
 - json, directly after statements: the replies to them, as `tbs run` and `tbt replies` give them.
 - python: compiled. sh: read by `bash -n`. c: compiled as far as its syntax goes, where cc is there.
-- rust: stands word for word, but for its imports, in a crate that the gate proves (checks/pages.py); on docs/EMBEDDING.md in an example
+- rust: stands word for word, but for its imports, in a crate that the gate proves (checks/pages.py); on docs/use/EMBEDDING.md in an example
   of embed/rust, which checks/embed.py builds and runs.
 
 Prints a line for each block that fails or is passed over. Ends in 'N passed, 0 failed'.
@@ -99,7 +99,7 @@ def check(kind: str, block: str, before: str | None, name: str) -> bool:
     elif kind == "c":
         compile_c(block)
     elif kind == "rust":
-        if not (in_example(block) if name.startswith("docs/EMBEDDING.md:") else pages.stands(block)):
+        if not (in_example(block) if name.startswith("docs/use/EMBEDDING.md:") else pages.stands(block)):
             raise Wrong("stands in no caller")
     else:
         return False
@@ -108,7 +108,7 @@ def check(kind: str, block: str, before: str | None, name: str) -> bool:
 
 def blocks():
     """Each block: its place, its kind, its text, and the statements directly before it on the page."""
-    for page in [ROOT / "README.md", *sorted(ROOT.glob("docs/*.md")), *sorted(ROOT.glob("crates/*/CALLING.md"))]:
+    for page in [ROOT / "README.md", *sorted(ROOT.glob("docs/**/*.md")), *sorted(ROOT.glob("crates/*/CALLING.md"))]:
         text, before = page.read_text(), None
         for found in BLOCK.finditer(text):
             kind, block = found.groups()

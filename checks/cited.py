@@ -13,7 +13,7 @@ and not blank.
 The second line of a file of specs/ says who cites it: the modules whose public contracts name one of its definitions; else the files of
 specs/ through which public contracts reach it; else the modules whose private contracts alone name one.
 
-It reads the sources alone: a name is found by the imports of its file. docs/ARCHITECTURE.md gives its numbers.
+It reads the sources alone: a name is found by the imports of its file. docs/work/ARCHITECTURE.md gives its numbers.
 """
 import os
 import re

@@ -1,5 +1,5 @@
 #!/usr/bin/env python3
-"""Runs the tests and the example of clients/python on the built program, and what docs/CLIENTS.md shows. First build it:
+"""Runs the tests and the example of clients/python on the built program, and what docs/use/CLIENTS.md shows. First build it:
 
     (cd crates/tbs && rt run -- run 2) < examples/first.script > /dev/null
     checks/clients.py
@@ -73,7 +73,7 @@ def types():
 
 
 def page():
-    with open(f"{TOP}/docs/CLIENTS.md", encoding="utf-8") as it:
+    with open(f"{TOP}/docs/use/CLIENTS.md", encoding="utf-8") as it:
         return it.read()
 
 
@@ -142,7 +142,7 @@ def statuses():
 
 
 def told():
-    """The page's table of what a closed connection is told has the faults of docs/FORMATS.md, and the names that the listener has itself."""
+    """The page's table of what a closed connection is told has the faults of docs/use/FORMATS.md, and the names that the listener has itself."""
     rows = page().split("### What a closed connection is told")[1].split("\n### ")[0]
     shown = {name for names in re.findall(r"^\| ([A-Z][A-Za-z, ]+) \|", rows, re.M) for name in names.split(", ")} - {"Name"}
     with open(f"{CLIENT}/tb_client/frames.py", encoding="utf-8") as frames, open(f"{CLIENT}/tb_listen.py", encoding="utf-8") as listener:

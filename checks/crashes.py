@@ -58,7 +58,7 @@ def checksum(data):
 
 
 def records_of(data):
-    """The records of a file, or why it has none: docs/KEEP.md says how it is read."""
+    """The records of a file, or why it has none: docs/use/TBD.md says how it is read."""
     if not data.startswith(MAGIC):
         return "NotAJournal"
     at, records = len(MAGIC), []

@@ -5,9 +5,9 @@
     (cd crates/tbs && rt run -- run 2) < examples/first.script > /dev/null
     checks/damage.py [FRAMES [SEED]]
 
-FRAMES (20000 by default, 1000000 in the long form of docs/RELIABILITY.md) is how many damaged frames the readers are given, and how many
+FRAMES (20000 by default, 1000000 in the long form of docs/trust/TESTED.md) is how many damaged frames the readers are given, and how many
 the program is, in scripts and dumps. Bytes are flipped, cut off, put in and spliced; lengths, numbers, moments and commits go to their
-limits. A reader of the formats written here from docs/FORMATS.md and docs/RULES.md, apart from the crates, says what is right: the fault of
+limits. A reader of the formats written here from docs/use/FORMATS.md and docs/use/RULES.md, apart from the crates, says what is right: the fault of
 each frame; and of each script and dump the status, the line of the fault, and of each reply all but the results. The program has room for
 one body as large as a header can claim, and no more; a signal, a minute's silence or another answer is a failure. Needs Linux.
 """

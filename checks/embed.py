@@ -30,7 +30,7 @@ sys.path[:0] = [f"{TOP}/checks/embed", f"{EMBED}/python", f"{TOP}/clients/python
 import frames  # noqa: E402
 import names  # noqa: E402
 
-# What first.c, first.rs and first.py print, as docs/EMBEDDING.md shows it.
+# What first.c, first.rs and first.py print, as docs/use/EMBEDDING.md shows it.
 FIRST = """\
 register: entry 1, session 1
 create_accounts: entry 2, 0 failed
@@ -137,7 +137,7 @@ def first_requests(folder):
         ran = run(*words)
         holds = (ran.returncode, ran.stdout, ran.stderr) == (0, FIRST.encode(), b"")
         case(f"the first requests in {language}", holds, "" if holds else (ran.stdout + ran.stderr).decode(errors="replace"))
-    case("the page shows what the first requests print", f"```text\n{FIRST}```" in read(f"{TOP}/docs/EMBEDDING.md").decode())
+    case("the page shows what the first requests print", f"```text\n{FIRST}```" in read(f"{TOP}/docs/use/EMBEDDING.md").decode())
 
 
 def served(found, script, replies, what, *words):

@@ -3,7 +3,7 @@
 
     checks/keep.py [--tbd PROGRAM] [--kills N] [--flips N] [--seed N] [--builds]
 
-Clients retry as docs/CLIENTS.md says: each sends one request at a time, and the same bytes again until it has the reply. Calls of the
+Clients retry as docs/use/CLIENTS.md says: each sends one request at a time, and the same bytes again until it has the reply. Calls of the
 program fail or lie by checks/keep/shim.c, which wants gcc. With --builds two wrong bodies are built too, unproved, by `rt try` in a copy, and run
 under strace: one that replies before it commits and one that does not sync have to be caught. Ends in 'N passed, M failed'.
 """

@@ -5,9 +5,9 @@
 - The head of each crate's lib.rt or main.rt lists the modules of that crate, all of them and no other; where it lists those of a module,
   these too.
 - The first statements of README.md are those of examples/retry.text, which its first command reads.
-- Each name that a walk of docs/ARCHITECTURE.md gives as `module::function` or `Type::call` is there, in the crate that stands before it;
-  so is each file that docs/ARCHITECTURE.md names, with the names in brackets behind it, or before it as `name of` it.
-- Each name that docs/GLOSSARY.md gives a word in the code stands in the sources, the definitions or the Python client, and
+- Each name that a walk of docs/work/ARCHITECTURE.md gives as `module::function` or `Type::call` is there, in the crate that stands before it;
+  so is each file that docs/work/ARCHITECTURE.md names, with the names in brackets behind it, or before it as `name of` it.
+- Each name that docs/work/GLOSSARY.md gives a word in the code stands in the sources, the definitions or the Python client, and
   where it gives a crate with the name, there.
 
 Usage: checks/pages.py. Ends in 'N passed, 0 failed'. checks/blocks.py looks at the examples too.
@@ -91,7 +91,7 @@ def is_there(crate: str, name: str) -> bool:
 
 def walks():
     """Each name of a walk, where it is not in the crate that stands before it."""
-    page = ROOT / "docs" / "ARCHITECTURE.md"
+    page = ROOT / "docs/work/ARCHITECTURE.md"
     text = page.read_text()
     walked = text[text.index("\n## Walks\n"):]
     walked = walked[:walked.index("\n## ", 1)]
@@ -111,7 +111,7 @@ def file_named(name: str) -> pathlib.Path | None:
 
 def named_files():
     """Each file that the page of the architecture names."""
-    page = ROOT / "docs" / "ARCHITECTURE.md"
+    page = ROOT / "docs/work/ARCHITECTURE.md"
     text = " ".join(page.read_text().split())
     for name in FILE.findall(text):
         yield page.relative_to(ROOT), None if file_named(name) else f"{name} is not there"
@@ -146,7 +146,7 @@ def glossed():
     files = [*CRATES.glob("*/src/**/*.rt"), *CRATES.glob("*/specs/**/*.antt"), *ROOT.glob("clients/python/tb_client/*.py")]
     text = "\n".join(path.read_text() for path in files)
     there = set(re.findall(r"\w+", text)) | {path.name for path in CRATES.iterdir()}
-    page, named = ROOT / "docs" / "GLOSSARY.md", []
+    page, named = ROOT / "docs/work/GLOSSARY.md", []
     for row in page.read_text().splitlines():
         cells = row.split(" | ")
         if row.startswith("| ") and len(cells) == 3:

@@ -5,7 +5,7 @@ standard error, for input and output of every kind that a shell can give. First 
     (cd crates/tbs && rt run -- run 2) < examples/first.script > /dev/null
     checks/program.py
 
-Prints a line for each case, and 'N passed, M failed'. Frames and faults are those of docs/FORMATS.md. Needs Linux (/dev/full).
+Prints a line for each case, and 'N passed, M failed'. Frames and faults are those of docs/use/FORMATS.md. Needs Linux (/dev/full).
 """
 import os
 import resource

@@ -5,7 +5,7 @@
     checks/recorded.py [ANSWERS [SEED]]
 
 Run after run, of 4 to 16 clients and with seeds from SEED (1 by default) on, until ANSWERS (50000 by default, 1000000 and more in the long form of
-docs/RELIABILITY.md) were checked. Prints a line for each run, what the clients met, and 'N answers checked, M wrong'. The replies of
+docs/trust/TESTED.md) were checked. Prints a line for each run, what the clients met, and 'N answers checked, M wrong'. The replies of
 each status have to be among them, and lookups.
 """
 import os

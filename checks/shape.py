@@ -8,7 +8,7 @@
 `lines` are those of source, definitions and proofs together. `cited` are the lines of the definitions that public contracts cite: of the files of specs/ that Lib.antt does not list for private
 functions alone. `public >120` are the clauses over 120 columns of functions that are `pub`.
 
-It reads the sources alone. docs/ARCHITECTURE.md gives its numbers.
+It reads the sources alone. docs/work/ARCHITECTURE.md gives its numbers.
 """
 import argparse
 import os

@@ -4,7 +4,7 @@
     (cd crates/tbs && rt run -- run 2) < examples/first.script > /dev/null
     checks/storms.py [TIMES]
 
-TIMES (3 by default, 100 in the long form of docs/RELIABILITY.md) is how often each storm is run. Prints a line for each storm, and
+TIMES (3 by default, 100 in the long form of docs/trust/TESTED.md) is how often each storm is run. Prints a line for each storm, and
 'N passed, M failed'.
 """
 import os

@@ -5,7 +5,7 @@
     (cd crates/tbt && rt run -- script) < examples/first.text > /dev/null
     checks/text.py
 
-Prints a line for each case, and 'N passed, M failed'. The forms are those of docs/STATEMENTS.md.
+Prints a line for each case, and 'N passed, M failed'. The forms are those of docs/use/STATEMENTS.md.
 """
 import json
 import os

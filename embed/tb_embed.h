@@ -1,5 +1,5 @@
 /* The ledger server inside a C program: a request's frame and a moment go in, the reply's frame comes out. Frames are those of
- * docs/FORMATS.md; docs/EMBEDDING.md says what the calls promise and what they trust.
+ * docs/use/FORMATS.md; docs/use/EMBEDDING.md says what the calls promise and what they trust.
  *
  * First the names and the structs that frames are made of, then the five calls of the library, then functions that write and
  * read the frames of requests, and read those of replies. These are static inline, and need no library. */
@@ -71,7 +71,7 @@ enum tb_reply_status {
     TB_REPLY_STATUS_NOT_YET = 7          /* it is new and not yet shown: seats alone answer this */
 };
 
-/* What is wrong with a frame. docs/FORMATS.md says where each holds. 9 and 10 come of devices and memory, never of bytes. */
+/* What is wrong with a frame. docs/use/FORMATS.md says where each holds. 9 and 10 come of devices and memory, never of bytes. */
 enum tb_fault {
     TB_FAULT_NONE = 0,
     TB_FAULT_SHORT = 1, /* the header or the body is cut */
@@ -110,7 +110,7 @@ enum tb_transfer_flags {
     TB_TRANSFER_IMPORTED = 256
 };
 
-/* What became of an event of create_accounts. docs/RULES.md says where each holds, docs/CLIENTS.md what to do. */
+/* What became of an event of create_accounts. docs/use/RULES.md says where each holds, docs/use/CLIENTS.md what to do. */
 enum tb_create_account_result {
     TB_CREATE_ACCOUNT_OK = 0,
     TB_CREATE_ACCOUNT_LINKED_EVENT_FAILED = 1,
@@ -393,7 +393,7 @@ static inline int tb_are_zeros(const uint8_t *bytes, size_t length) {
     return 1;
 }
 
-/* What is wrong with the header of a request, by the tests of docs/FORMATS.md in their order. */
+/* What is wrong with the header of a request, by the tests of docs/use/FORMATS.md in their order. */
 static inline uint32_t tb_request_header_fault(const tb_request_header *header) {
     int is_register = header->operation == TB_OPERATION_REGISTER;
     size_t item_size = tb_request_item_size(header->operation);
@@ -471,7 +471,7 @@ static inline size_t tb_reply_item_size(uint8_t operation) {
                                                                                                    : TB_RESULT_SIZE;
 }
 
-/* What is wrong with the header of a reply, by the tests of docs/FORMATS.md in their order. */
+/* What is wrong with the header of a reply, by the tests of docs/use/FORMATS.md in their order. */
 static inline uint32_t tb_reply_header_fault(const tb_reply_header *header) {
     int is_register = header->operation == TB_OPERATION_REGISTER, is_refusal = header->status != TB_REPLY_STATUS_REPLY;
     size_t item_size = tb_reply_item_size(header->operation);
@@ -528,7 +528,7 @@ static inline int tb_reply_transfer(const tb_reply *reply, size_t place, tb_tran
     return tb_item(reply->body, reply->count, place, transfer, TB_RECORD_SIZE);
 }
 
-/* Names, as docs/RULES.md and docs/FORMATS.md have them; "unknown" of any other number. */
+/* Names, as docs/use/RULES.md and docs/use/FORMATS.md have them; "unknown" of any other number. */
 static inline const char *tb_status_name(uint32_t status) {
     switch (status) {
     case TB_DONE: return "done";

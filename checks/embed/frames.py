@@ -1,7 +1,7 @@
 #!/usr/bin/env python3
 """Tests what embed/tb_embed.h and embed/rust/tb_embed.rs make and read of frames, without the library: frames.c, as C and as C++, and
 frames.rs write the requests that the client in Python writes, refuse what a frame may not hold, and read requests and replies as the
-tests of docs/FORMATS.md say: right ones, each cut at each byte, each with changed bytes, and too long ones. The client in Python
+tests of docs/use/FORMATS.md say: right ones, each cut at each byte, each with changed bytes, and too long ones. The client in Python
 reads the same requests and replies, and takes just those that have no fault and nothing behind them.
 
     checks/embed/frames.py
@@ -85,7 +85,7 @@ REQUEST_NAMES = {129: "account", 130: "transfer", 131: "id", 132: "id"}
 
 
 def request_fault(data):
-    """The fault of a request, by the table of docs/FORMATS.md."""
+    """The fault of a request, by the table of docs/use/FORMATS.md."""
     if len(data) < 48:
         return "Short"
     client = int.from_bytes(data[:16], "little")
@@ -205,7 +205,7 @@ def request_cases(kinds):
 
 
 def reply_fault(data):
-    """The fault of a reply, by the table of docs/FORMATS.md."""
+    """The fault of a reply, by the table of docs/use/FORMATS.md."""
     if len(data) < 48:
         return "Short"
     client = int.from_bytes(data[:16], "little")

@@ -1,6 +1,6 @@
 #!/usr/bin/env python3
 """Compares the numbers, names and layouts of the definitions in specs/ with those of embed/tb_embed.h, embed/rust/tb_embed.rs, the
-client in Python and docs/FORMATS.md: each has just what the definitions have. Needs no library.
+client in Python and docs/use/FORMATS.md: each has just what the definitions have. Needs no library.
 
     checks/embed/names.py
 
@@ -155,7 +155,7 @@ def comparisons():
     yield from in_c(header)
     yield from in_rust(rust)
     yield from in_python()
-    yield from in_pages(read("docs/FORMATS.md"))
+    yield from in_pages(read("docs/use/FORMATS.md"))
 
 
 def statuses_of_outcomes():
@@ -242,7 +242,7 @@ def in_python():
 
 
 def in_pages(page):
-    """What docs/FORMATS.md says of operations, statuses, flags and faults."""
+    """What docs/use/FORMATS.md says of operations, statuses, flags and faults."""
     by_number = {name: {number: text for number, text in defined(file, number_word, text_word).values()} for file, number_word, text_word, _, _, name in KINDS}
     operations = {int(number): name for number, name in re.findall(r"^\| (\d+) (\w+) \|", page, re.M)}
     yield same("operations on the page of formats", by_number["Operation"], operations)

@@ -36,7 +36,7 @@ class Fault(Exception):
 
 
 class Ledger:
-    """Sessions as docs/RULES.md has them, accounts, and transfers that are refused where they exist or an account does not."""
+    """Sessions as docs/use/RULES.md has them, accounts, and transfers that are refused where they exist or an account does not."""
 
     def __init__(self, clients_max):
         self.clients_max = clients_max

@@ -107,7 +107,7 @@ class Doubt(unittest.TestCase):
         return [it.args[0] for it in sleep.call_args_list]
 
     def test_pauses_where_the_server_says_to_come_later(self):
-        """docs/CLIENTS.md: `pause` seconds (0.05), each time twice as many, up to a second, or to `pause` where that is longer."""
+        """docs/use/CLIENTS.md: `pause` seconds (0.05), each time twice as many, up to a second, or to `pause` where that is longer."""
         for error in (tb.Busy("busy"), tb.NoMemory("no memory")):
             self.assertEqual(self.paused(error), [0.05, 0.1, 0.2, 0.4])
             self.assertEqual(self.paused(error, attempts=1), [])

@@ -102,7 +102,7 @@ class Frames(unittest.TestCase):
             self.assertRaises(tb.BadReply, tb.Reply.from_bytes, wrong)
 
     def test_headers_that_are_cut(self):
-        """Short is the first fault of docs/FORMATS.md: fewer than 48 bytes are there."""
+        """Short is the first fault of docs/use/FORMATS.md: fewer than 48 bytes are there."""
         request, answer = tb.request_frame(7, 1, 1, 131, bytes(16)), tb.Reply(7, 1, 1, 129, 0, 2, bytes(8)).to_bytes()
         for count in range(48):
             self.assertEqual((tb.request_fault(request[:count]), tb.frames.reply_fault(answer[:count])), ("Short", "Short"), count)
@@ -135,7 +135,7 @@ class Frames(unittest.TestCase):
                 self.assertEqual(raised.exception.field, "Reply.body")
 
     def test_each_fault_of_a_reply(self):
-        """Nothing is read of a reply that has a fault of docs/FORMATS.md, and the error names it."""
+        """Nothing is read of a reply that has a fault of docs/use/FORMATS.md, and the error names it."""
         for name, wrong in wrong_replies().items():
             with self.assertRaises(tb.BadReply) as raised:
                 tb.Reply.from_bytes(wrong)
@@ -257,7 +257,7 @@ class Retries(unittest.TestCase):
         self.assertRaises(tb.BadReply, session.create_transfers, [transfer(1, 1, 2, 1)])
 
     def test_a_refusal_of_another_session(self):
-        """A refusal repeats the request's session (docs/FORMATS.md). One that does not is no answer, and the request stays in doubt."""
+        """A refusal repeats the request's session (docs/use/FORMATS.md). One that does not is no answer, and the request stays in doubt."""
         for status in tb.Status:
             for other in (0, 2, 2**64 - 1):
                 if status != tb.Status.Reply:
@@ -273,7 +273,7 @@ class Retries(unittest.TestCase):
                     self.assertEqual((session.retry(), session.number), ([], 1))
 
     def test_results_of_no_event(self):
-        """A create's body lists the events that were not accepted (docs/CLIENTS.md), by their index in the request."""
+        """A create's body lists the events that were not accepted (docs/use/CLIENTS.md), by their index in the request."""
         exists = 46
         for rows, said in (
             ([(2, exists)], "a result of event 2 came for 2 events"), ([(2**32 - 1, exists)], f"a result of event {2**32 - 1} came for 2 events"),
@@ -308,7 +308,7 @@ class Retries(unittest.TestCase):
 
 @has_program
 class Worked(unittest.TestCase):
-    """Rows with the values that docs/RULES.md gives them, on the program."""
+    """Rows with the values that docs/use/RULES.md gives them, on the program."""
 
     def program(self, clients_max=2, **options):
         transport = Program(PROGRAM, clients_max, **{"timeout": 30, **options})

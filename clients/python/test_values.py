@@ -1,7 +1,7 @@
 #!/usr/bin/env python3
 """What a field, an argument or a request may not hold is refused by name, and nothing is sent.
 
-The ranges are those of docs/FORMATS.md and docs/RULES.md, written here again.
+The ranges are those of docs/use/FORMATS.md and docs/use/RULES.md, written here again.
 """
 import dataclasses
 import decimal

@@ -1,7 +1,7 @@
-"""The ledger server inside a Python program, over ctypes and a shared object of the library (docs/EMBEDDING.md says how to make it).
+"""The ledger server inside a Python program, over ctypes and a shared object of the library (docs/use/EMBEDDING.md says how to make it).
 
     server = Server("./libtb_embed.so")
-    reply = server.serve(moment, request)           # frames, as bytes: docs/FORMATS.md
+    reply = server.serve(moment, request)           # frames, as bytes: docs/use/FORMATS.md
 
 With clients/python, whose package it needs beside it: `Session.register(Direct(server.serve))`. Errors of both stand below
 `tb_client.ClientError`.

@@ -1,5 +1,5 @@
 //! The ledger server inside a Rust program: a safe wrapper of the calls that `tb_embed.h` declares, and what their frames are made of
-//! (docs/FORMATS.md).
+//! (docs/use/FORMATS.md).
 //!
 //! A `Server` owns its handle and closes it. It may go to another thread, and serves one call at a time; several threads
 //! share one under a mutex. `Server::ask` takes a `Request` and answers its `Reply`; `Server::serve` does so with bytes.
@@ -104,7 +104,7 @@ numbered! {
 }
 
 numbered! {
-    /// What became of an event of create_accounts: docs/RULES.md says where each holds, docs/CLIENTS.md what to do.
+    /// What became of an event of create_accounts: docs/use/RULES.md says where each holds, docs/use/CLIENTS.md what to do.
     CreateAccountResult {
         Ok = 0 "ok",
         LinkedEventFailed = 1 "linked_event_failed",
@@ -282,7 +282,7 @@ flags! {
     }
 }
 
-/// What is wrong with a frame: docs/FORMATS.md says where each holds.
+/// What is wrong with a frame: docs/use/FORMATS.md says where each holds.
 #[derive(Clone, Copy, Debug, PartialEq, Eq, Hash)]
 pub enum Fault {
     /// The header or the body is cut.
@@ -602,7 +602,7 @@ impl RequestHeader {
         Operation::from_number(self.operation.into())
     }
 
-    /// What is wrong with it, by the tests of docs/FORMATS.md in their order. The zero bytes are those of `bytes`.
+    /// What is wrong with it, by the tests of docs/use/FORMATS.md in their order. The zero bytes are those of `bytes`.
     fn fault(&self, bytes: &[u8; HEADER_SIZE]) -> Option<Fault> {
         let operation = self.operation();
         let is_register = operation == Operation::Register;
@@ -695,7 +695,7 @@ fn reply_item_size(operation: Operation) -> usize {
 }
 
 impl ReplyHeader {
-    /// What is wrong with it, by the tests of docs/FORMATS.md in their order. The zero bytes are those of `bytes`.
+    /// What is wrong with it, by the tests of docs/use/FORMATS.md in their order. The zero bytes are those of `bytes`.
     fn fault(&self, bytes: &[u8; HEADER_SIZE]) -> Option<Fault> {
         let operation = Operation::from_number(self.operation.into());
         let status = Status::from_number(self.status.into());

@@ -9,7 +9,7 @@ reply or raises `ReplyLost`:
     Direct     a function that serves one frame, as that of embed/python/tb_embed.py
     Faulty     another transport, of which it loses the requests and replies that it is told to lose
 
-docs/CLIENTS.md says how to use it, docs/FORMATS.md has the frames, docs/RULES.md the result codes.
+docs/use/CLIENTS.md says how to use it, docs/use/FORMATS.md has the frames, docs/use/RULES.md the result codes.
 """
 from .errors import (
     REFUSALS,

@@ -1,4 +1,4 @@
-"""Frames of requests and replies (docs/FORMATS.md)."""
+"""Frames of requests and replies (docs/use/FORMATS.md)."""
 from __future__ import annotations
 
 import dataclasses
@@ -155,7 +155,7 @@ def _header_at(data: object, at: int) -> bytes:
 
 
 def request_fault(data: bytes, at: int = 0) -> Optional[str]:
-    """What is wrong with the header of a request at this place, by the tests of docs/FORMATS.md in their order. A server that reads
+    """What is wrong with the header of a request at this place, by the tests of docs/use/FORMATS.md in their order. A server that reads
     pairs ends at such a frame, for all."""
     header = _header_at(data, at)
     if len(header) < HEADER:
@@ -190,7 +190,7 @@ def _length_of(header: bytes) -> int:
 
 
 def reply_fault(data: bytes, at: int = 0) -> Optional[str]:
-    """What is wrong with the header of a reply at this place, by the tests of docs/FORMATS.md in their order."""
+    """What is wrong with the header of a reply at this place, by the tests of docs/use/FORMATS.md in their order."""
     header = _header_at(data, at)
     if len(header) < HEADER:
         return "Short"

@@ -1,4 +1,4 @@
-"""Accounts, transfers and results, and their bytes (docs/FORMATS.md)."""
+"""Accounts, transfers and results, and their bytes (docs/use/FORMATS.md)."""
 from __future__ import annotations
 
 import dataclasses
