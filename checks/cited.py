@@ -2,6 +2,7 @@
 """Counts the definitions that public contracts reach.
 
     checks/cited.py [CRATE ..]          a row for each library, and the sum
+    checks/cited.py --bounds            fails where the lines that public contracts reach are more than LINES_MAX
     checks/cited.py --list [CRATE ..]   also the definitions of specs/ that no public contract reaches
     checks/cited.py --heads [--write]   tells each file of specs/ whose head does not say who cites it, or writes these heads
 
@@ -27,6 +28,7 @@ FUNCTION = re.compile(r"^( *)pub (?:const |unsafe )*fn (\w+)")
 TRAIT_FUNCTION = re.compile(r"^( *)(?:const |unsafe )*fn (\w+)")
 IMPL = re.compile(r"^impl\b(?:<.*?>)? (?:.* for )?&?(?:mut )?(\w+)")
 HEADS = ("-- Cited by", "-- Public contracts reach it", "-- No contract cites it")
+LINES_MAX = 4500
 TOOLS = ("tb_uses", "tb_bench", "tb_read", "tb_recorded", "tb_refusals", "tb_refusing", "tb_fixtures")
 
 
@@ -225,6 +227,10 @@ def main():
     listed = "--list" in words
     wanted = [it for it in words if it != "--list"] or crates()
     reached = reached_from(every, set().union(*(found for crate in crates() for found in contracts(crate).values())))
+    if "--bounds" in words:
+        count = sum(every[it][0] for it in reached)
+        print(f"{count} lines that public contracts reach; bound {LINES_MAX}")
+        sys.exit(count > LINES_MAX)
     total = [0, 0]
     print("| crate | lines that public contracts reach | all lines of definitions |\n|---|---|---|")
     for crate in wanted:

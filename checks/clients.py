@@ -130,8 +130,9 @@ def readme():
 
 
 def statuses():
-    """The page's rows of exit statuses: the line of each, the status, and what it is of."""
-    part = page().split("## Exit statuses of the program")[1].split("\n## ")[0]
+    """The rows of exit statuses of docs/use/TBS.md: the line of each, the status, and what it is of."""
+    with open(f"{TOP}/docs/use/TBS.md", encoding="utf-8") as it:
+        part = it.read().split("## Exit statuses")[1].split("\n## ")[0]
     rows, twice = {}, []
     for status, names, of in re.findall(r"^\| (\d) \| ([A-Za-z, ]+) \| ([a-z, ]+) \|", part, re.M):
         for name in names.split(", "):
@@ -143,7 +144,7 @@ def statuses():
 
 def told():
     """The page's table of what a closed connection is told has the faults of docs/use/FORMATS.md, and the names that the listener has itself."""
-    rows = page().split("### What a closed connection is told")[1].split("\n### ")[0]
+    rows = page().split("### What a closed connection gets")[1].split("\n### ")[0]
     shown = {name for names in re.findall(r"^\| ([A-Z][A-Za-z, ]+) \|", rows, re.M) for name in names.split(", ")} - {"Name"}
     with open(f"{CLIENT}/tb_client/frames.py", encoding="utf-8") as frames, open(f"{CLIENT}/tb_listen.py", encoding="utf-8") as listener:
         tests = frames.read().split("def request_fault")[1].split("\ndef ")[0]

@@ -7,6 +7,7 @@
 - The first statements of README.md are those of examples/retry.text, which its first command reads.
 - Each name that a walk of docs/work/ARCHITECTURE.md gives as `module::function` or `Type::call` is there, in the crate that stands before it;
   so is each file that docs/work/ARCHITECTURE.md names, with the names in brackets behind it, or before it as `name of` it.
+- Each definition that docs/trust/BELIEVE.md lists is in the file that it names.
 - Each name that docs/work/GLOSSARY.md gives a word in the code stands in the sources, the definitions or the Python client, and
   where it gives a crate with the name, there.
 
@@ -132,6 +133,22 @@ def first_statements():
     yield "README.md", None if same else "the first statements are not those of examples/retry.text"
 
 
+def believed():
+    """Each definition that the reading list names, in its file."""
+    page, file = ROOT / "docs/trust/BELIEVE.md", None
+    text = page.read_text()
+    named = []
+    for row in re.findall(r"^\| (.*) \|$", text, re.M):
+        cells = row.split(" | ")
+        file = cells[0].strip("| ") if cells[0].endswith(".antt") else file
+        named += [(file, name) for name in re.findall(r"`(\w+)`", cells[1])] if len(cells) == 3 and file else []
+    named += [(file, name) for file, names in re.findall(r"(\w+/specs/\w+\.antt)\s\(([^)]*)\)", text) for name in re.findall(r"`(\w+)`", names)]
+    for file, name in named:
+        path = CRATES / file
+        found = path.exists() and re.search(rf"^ *(?:\w+ )*{name}\b", path.read_text(), re.M)
+        yield page.relative_to(ROOT), None if found else f"{name} is not in {file}"
+
+
 def homes(cell: str):
     """The crates and files of a row, such as 'tb_keep, specs/Steps' or 'tb_service, module `rule`'."""
     found = re.fullmatch(r"((?:\w+ and )?\w+), (?:specs/(\w+)|module `([\w:]+)`)", cell)
@@ -160,7 +177,7 @@ def glossed():
 
 
 def main() -> int:
-    for check in (examples, heads, first_statements, walks, named_files, glossed):
+    for check in (examples, heads, first_statements, walks, named_files, believed, glossed):
         for place, wrong in check():
             tried.case(place, wrong is None, wrong, quietly=True)
     return tried.status()

@@ -10,7 +10,7 @@ By default the lines of both places are the same. With --shape they are the same
 left out too, which are alike by what they are: lines of names and numbers that end in a comma, such as a variant, a field or a name's arm of a match. A
 run has to have four different lines at least. A pair is of a crate where one of its places is.
 
-It reads the sources alone.
+It reads the sources alone. Without --shape its status is 1 where two places share a run.
 """
 import collections
 import os
@@ -82,7 +82,8 @@ def main():
     for length, one, two in sorted(rows, key=lambda row: (-row[0], row)):
         print(f"{one} ~ {two}: {length} lines")
     print(f"{len(rows)} pairs of places share {SHARED} lines or more, {sum(row[0] for row in rows)} lines in all")
+    return 1 if rows and not by_shape else 0
 
 
 if __name__ == "__main__":
-    main()
+    sys.exit(main())

@@ -1,0 +1,65 @@
+#!/usr/bin/env python3
+"""Runs the checks that need no prover and no built program, side by side: what to run before a push.
+
+    checks/quick.py [SCRIPT ..]     all of them, or those that are named
+
+Each has two minutes. Prints a line for each, and what a failed one printed; ends in 'N passed, 0 failed'. flake8 is left out, with a
+word, where it is not installed.
+"""
+import concurrent.futures
+import pathlib
+import shutil
+import subprocess
+import sys
+import time
+
+import tried
+
+ROOT = pathlib.Path(__file__).resolve().parent.parent
+SECONDS_MAX = 120
+CHECKS = {
+    "pages": ["checks/pages.py"],
+    "words": ["checks/words.py"],
+    "figures": ["checks/figures.py"],
+    "pictures": ["checks/pictures.py"],
+    "blocks": ["checks/blocks.py"],
+    "shape": ["checks/shape.py", "--bounds"],
+    "heads": ["checks/cited.py", "--heads"],
+    "cited": ["checks/cited.py", "--bounds"],
+    "runs": ["checks/runs.py"],
+    "edits": ["checks/edits.py", "--texts"],
+    "names": ["checks/embed/names.py"],
+    "frames": ["checks/embed/frames.py"],
+}
+
+
+def run(words: list[str]) -> tuple[int, float, str]:
+    """The status of a check, the seconds that it took, and what it printed."""
+    began = time.monotonic()
+    try:
+        ran = subprocess.run(words, cwd=ROOT, capture_output=True, text=True, timeout=SECONDS_MAX)
+        status, said = ran.returncode, ran.stdout + ran.stderr
+    except subprocess.TimeoutExpired:
+        status, said = 1, f"no end after {SECONDS_MAX} seconds"
+    return status, time.monotonic() - began, said.strip()
+
+
+def main() -> int:
+    chosen = sys.argv[1:] or [*CHECKS, "flake8"]
+    unknown = [it for it in chosen if it not in CHECKS and it != "flake8"]
+    if unknown:
+        sys.exit(f"no such check: {' '.join(unknown)}; there are {' '.join(CHECKS)} flake8")
+    commands = {it: [sys.executable, "-B", *words] for it, words in CHECKS.items() if it in chosen}
+    if "flake8" in chosen and shutil.which("flake8"):
+        commands["flake8"] = ["flake8"]
+    elif "flake8" in chosen:
+        print("passed over: flake8 is not installed")
+    with concurrent.futures.ThreadPoolExecutor() as pool:
+        for name, (status, seconds, said) in zip(commands, pool.map(run, commands.values())):
+            last = said.splitlines()[-1] if said else ""
+            tried.case(name, status == 0, f"{last} ({seconds:.0f} s)" if status == 0 else said[-4000:])
+    return tried.status()
+
+
+if __name__ == "__main__":
+    sys.exit(main())
