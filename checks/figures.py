@@ -81,11 +81,11 @@ def version() -> str:
 
 
 def gate() -> str:
-    """The runs of the gate."""
+    """The last runs of the gate; runs.csv has those before."""
     lines = [
         f"| {row['date']} | {row['commit']} | {row['kit']} | {row['machine']} | {row['subject']} | {outcome(row)} | "
         f"{row['value']} | {row['cpu_minutes']} | {row['note']} |"
-        for row in of_kind("gate")
+        for row in of_kind("gate")[:6]
     ]
     return table("| Date | Commit | Kit | Machine | Command | Result | Minutes | CPU minutes | |", lines)
 
@@ -101,16 +101,21 @@ def crates() -> str:
     for row in of_kind("crate"):
         minutes[row["subject"]][row["machine"]] = row["value"]
     fast = sorted(minutes, key=lambda it: -float(minutes[it].get("fast", "0")))
-    lines = [f"| {it} | {minutes[it].get('slow', '')} | {minutes[it].get('fast', '')} |" for it in fast]
-    total = {at: sum(float(it.get(at, 0)) for it in minutes.values()) for at in ("slow", "fast")}
-    return table("| Crate | slow machine | fast machine |", [*lines, f"| all | {total['slow']:.1f} | {total['fast']:.1f} |"])
+    lines = [f"| {it} | {minutes[it].get('slow', '')} | {minutes[it].get('fast', '')} |" for it in fast[:12]]
+    for name, those in ((f"the other {len(fast) - 12}", fast[12:]), ("all", fast)):
+        total = [sum(float(minutes[it].get(machine, 0)) for it in those) for machine in ("slow", "fast")]
+        lines.append(f"| {name} | {total[0]:.1f} | {total[1]:.1f} |")
+    return table("| Crate | slow machine | fast machine |", lines)
 
 
 def edits() -> str:
-    lines = [f"| {it['subject']} | {it['value']} | {it['passed']} | {it['note']} |" for it in of_kind("edit")]
+    """The must-fail edits of each crate, and at what the last try refused those of the release."""
+    lines = [
+        f"| {it['subject']} | {it['value']} | {it['passed']} | {' | '.join(re.findall(r'[0-9]+', it['note']))} |" for it in of_kind("edit")
+    ]
     last, count = of_kind("edits")[0], sum(int(it["value"]) for it in of_kind("edit"))
     tried_last = f"Last tried: {when(last)}. {last['passed']} of {count} were refused ({last['note']}).\n\n"
-    return tried_last + table("| Crate | Edits | In the gate | Of the release |", lines)
+    return tried_last + table("| Crate | Edits | In the gate | Of the release: at a printed goal | inside an answer | at a limit |", lines)
 
 
 def ratio(subject: str, peer: str, size: str, kind: str = "bench") -> str:
@@ -137,30 +142,10 @@ def instructions() -> str:
     return table("| Load | tbs | plain.rs | lean.rs | over plain.rs | over lean.rs |", lines)
 
 
-def kept() -> str:
-    """CPU time of `tbd`, compared with `tbs run`."""
-    lines = [
-        f"| {text} | {ratio(f'tbd run, {load}', 'tbs run', '100000')} | {ratio(f'tbd start, {load}', 'tbs run', '100000')} |"
-        for load, text in LOADS.items() if ratio(f"tbd run, {load}", "tbs run", "100000") != "none"
-    ]
-    bounds = [ratio(it, "tbs run", "100000", "bound") for it in ("tbd run", "tbd start")]
-    return table("| Load | tbd over run | a start over run |", [*lines, f"| bound | {' | '.join(bounds)} |"])
-
-
 def takes() -> str:
     wanted = {it["subject"]: it["value"] for it in of_kind("bound")}
     lines = [f"| {it['subject']} | {it['value']} | {wanted.get(it['subject'], '')} |" for it in of_kind("bench") if it["peer"] == "apply"]
     return table("| | CPU time over that of an apply | bound |", lines)
-
-
-def reads() -> str:
-    times: dict[str, dict[str, str]] = collections.defaultdict(dict)
-    for row in of_kind("reads"):
-        what, threads, writer = row["subject"].split(", ")
-        times[f"{what}, {threads}"][f"{row['peer']}, {writer}"] = row["value"]
-    columns = ["seats, no writer", "RwLock, no writer", "seats, a writer", "RwLock, a writer"]
-    lines = [f"| {what} | {' | '.join(found[it] for it in columns)} |" for what, found in times.items()]
-    return table(f"| Nanoseconds a read | {' | '.join(columns)} |", lines)
 
 
 def ports() -> str:
@@ -196,7 +181,7 @@ def form() -> str:
     return table(f"| Figure | Wanted | {' | '.join(commits)} |", lines)
 
 
-WRITERS = {it.__name__: it for it in (state, gate, first_reply, crates, edits, run, instructions, kept, takes, reads, ports, checks, mutants, form)}
+WRITERS = {it.__name__: it for it in (state, gate, first_reply, crates, edits, run, instructions, takes, ports, checks, mutants, form)}
 
 
 def pages() -> list[pathlib.Path]:
