@@ -28,28 +28,44 @@ typedef struct tb_server {
     uint8_t is_open;
 } tb_server;
 
+/* generated: statuses, by checks/tables.py from tables/ledger.json */
+/* What a call of the library answers. */
 enum tb_status {
+    /* the call did what it is for */
     TB_DONE = 0,
-    TB_CLOSED = 1,         /* the handle is closed */
-    TB_USAGE = 2,          /* wrong arguments, or a handle to be opened is open */
-    TB_NO_MEMORY = 3,      /* nothing changed */
-    TB_MALFORMED = 4,      /* the bytes have a fault, or more bytes follow the frame; nothing changed */
-    TB_TIME_EXHAUSTED = 5, /* the request is new, and no time up to 2^63 - 1 is left for it; nothing changed */
-    TB_ABSENT = 6,         /* no record has this id, and the room has 128 bytes */
-    TB_TOO_SMALL = 7       /* the room is too small. tb_embed_serve has served the request, tells how many bytes the reply
-                              has, and gives it where the same request is sent next */
+    /* the handle is closed */
+    TB_CLOSED = 1,
+    /* wrong arguments, or a handle to be opened is open */
+    TB_USAGE = 2,
+    /* nothing changed */
+    TB_NO_MEMORY = 3,
+    /* the bytes have a fault, or more bytes follow the frame; nothing changed */
+    TB_MALFORMED = 4,
+    /* the request is new, and no time up to 2^63 - 1 is left for it; nothing changed */
+    TB_TIME_EXHAUSTED = 5,
+    /* no record has this id, and the room has 128 bytes */
+    TB_ABSENT = 6,
+    /* the room is too small. tb_embed_serve has served the request, tells how many bytes the reply has, and gives it
+       where the same request is sent next */
+    TB_TOO_SMALL = 7
 };
+/* end of statuses */
 
-/* Sizes and limits. A frame is a header, and up to 8190 items behind it. */
+/* generated: limits, by checks/tables.py from tables/ledger.json */
+/* Sizes in bytes, and limits. A frame is a header, and items behind it. */
 #define TB_HEADER_SIZE 48
 #define TB_RECORD_SIZE 128 /* an account, a transfer */
 #define TB_ID_SIZE 16
 #define TB_RESULT_SIZE 8
 #define TB_ITEMS_MAX 8190
 #define TB_REQUEST_MAX (TB_HEADER_SIZE + TB_ITEMS_MAX * TB_RECORD_SIZE)
+/* The room that every reply has enough of: a header, and as many records. */
+#define TB_REPLY_MAX (TB_HEADER_SIZE + TB_ITEMS_MAX * TB_RECORD_SIZE)
 #define TB_CLIENTS_MAX 64
-#define TB_TIME_MAX ((uint64_t)INT64_MAX) /* no entry has a later time, in nanoseconds */
+#define TB_TIME_MAX UINT64_C(9223372036854775807) /* no entry has a later time, in nanoseconds */
+/* end of limits */
 
+/* generated: enums, by checks/tables.py from tables/ledger.json */
 /* What a request asks for. */
 enum tb_operation {
     TB_OPERATION_REGISTER = 2,
@@ -61,30 +77,49 @@ enum tb_operation {
 
 /* What the server says of a request, in its reply. With any but the first it was not executed now, and there is no body. */
 enum tb_reply_status {
-    TB_REPLY_STATUS_REPLY = 0,           /* it is in the history, and this is its reply */
-    TB_REPLY_STATUS_NO_SESSION = 1,      /* its client has no session: it was never registered, or evicted */
-    TB_REPLY_STATUS_SESSION_TOO_LOW = 2, /* its session is below the client's */
-    TB_REPLY_STATUS_NEWER_SESSION = 3,   /* its session is above the client's */
-    TB_REPLY_STATUS_OLDER = 4,           /* its number is below the client's last */
-    TB_REPLY_STATUS_COLLISION = 5,       /* it has the last number, and another content */
-    TB_REPLY_STATUS_NEWER_REQUEST = 6,   /* it skips a number */
-    TB_REPLY_STATUS_NOT_YET = 7          /* it is new and not yet shown: seats alone answer this */
+    /* it is in the history, and this is its reply */
+    TB_REPLY_STATUS_REPLY = 0,
+    /* it is of a client without a session: it was never registered, or evicted */
+    TB_REPLY_STATUS_NO_SESSION = 1,
+    /* it has a session below the client's */
+    TB_REPLY_STATUS_SESSION_TOO_LOW = 2,
+    /* it has a session above the client's */
+    TB_REPLY_STATUS_NEWER_SESSION = 3,
+    /* it has a number below the client's last */
+    TB_REPLY_STATUS_OLDER = 4,
+    /* it has the last number and another content */
+    TB_REPLY_STATUS_COLLISION = 5,
+    /* it skips a number */
+    TB_REPLY_STATUS_NEWER_REQUEST = 6,
+    /* it is new and not yet shown (seats alone answer this) */
+    TB_REPLY_STATUS_NOT_YET = 7
 };
 
-/* What is wrong with a frame. docs/use/FORMATS.md says where each holds. 9 and 10 come of devices and memory, never of bytes. */
+/* What is wrong with a frame. docs/use/FORMATS.md says where each holds. */
 enum tb_fault {
     TB_FAULT_NONE = 0,
-    TB_FAULT_SHORT = 1, /* the header or the body is cut */
+    /* the header or the body is cut */
+    TB_FAULT_SHORT = 1,
+    /* the client is 0 */
     TB_FAULT_CLIENT_ZERO = 2,
+    /* no operation has this number */
     TB_FAULT_UNKNOWN_OPERATION = 3,
-    TB_FAULT_RESERVED = 4,   /* a zero byte is not 0, or the status is above 7 */
-    TB_FAULT_BAD_LENGTH = 5, /* the body has no whole items, or has some where there are none */
-    TB_FAULT_TOO_MANY = 6,   /* there are more than 8190 items */
+    /* a zero byte is not 0, or the status of a reply is above 7 */
+    TB_FAULT_RESERVED = 4,
+    /* the body has no whole items, or has some where there are none */
+    TB_FAULT_BAD_LENGTH = 5,
+    /* there are more than 8190 items */
+    TB_FAULT_TOO_MANY = 6,
+    /* a register has a session or a request */
     TB_FAULT_REGISTER_NUMBERS = 7,
+    /* another operation has request 0 */
     TB_FAULT_REQUEST_ZERO = 8,
+    /* a device failed: never of bytes */
     TB_FAULT_DEVICE = 9,
+    /* there was no memory: never of bytes */
     TB_FAULT_NO_MEMORY = 10,
-    TB_FAULT_REPLY_NUMBERS = 11 /* session, commit and status do not go together */
+    /* session, commit and status do not go together */
+    TB_FAULT_REPLY_NUMBERS = 11
 };
 
 /* The flags of accounts. Imported ones are answered reserved_flag. */
@@ -199,15 +234,14 @@ enum tb_create_transfer_result {
     TB_CREATE_TRANSFER_EXISTS_WITH_DIFFERENT_LEDGER = 67,
     TB_CREATE_TRANSFER_ID_ALREADY_FAILED = 68
 };
-
-/* The room that every reply has enough of: a header, and 8190 records. */
-#define TB_REPLY_MAX (48 + 8190 * 128)
+/* end of enums */
 
 /* The records, as they stand in frames: little-endian, 128 bits as two halves, the low one first. */
 typedef struct tb_u128 {
     uint64_t low, high;
 } tb_u128;
 
+/* generated: records, by checks/tables.py from tables/ledger.json */
 typedef struct tb_account {
     tb_u128 id, debits_pending, debits_posted, credits_pending, credits_posted, user_data_128;
     uint64_t user_data_64;
@@ -223,23 +257,23 @@ typedef struct tb_transfer {
     uint16_t code, flags;
     uint64_t timestamp;
 } tb_transfer;
+/* end of records */
 
 /* What became of one event of a create: its place in the request, and a result code. Events that were accepted are not told. */
 typedef struct tb_event_result {
     uint32_t index, result;
 } tb_event_result;
 
-/* The header of a request's frame. */
+/* generated: headers, by checks/tables.py from tables/ledger.json */
 typedef struct tb_request_header {
     tb_u128 client;
     uint64_t session;
-    uint32_t request; /* its number in the session */
+    uint32_t request;
     uint8_t operation, zeros[3];
-    uint32_t length; /* the bytes of the body behind the header */
+    uint32_t length;
     uint8_t more_zeros[12];
 } tb_request_header;
 
-/* The header of a reply's frame. The commit number stands at no multiple of 8, so it is in two halves: tb_commit joins them. */
 typedef struct tb_reply_header {
     tb_u128 client;
     uint64_t session;
@@ -247,26 +281,59 @@ typedef struct tb_reply_header {
     uint8_t operation, status, zeros[2];
     uint32_t length, commit_low, commit_high, more_zeros;
 } tb_reply_header;
+/* end of headers */
 
 TB_ASSERT(sizeof(void *) == 8 && sizeof(size_t) == 8, "64 bits");
 TB_ASSERT(sizeof(tb_server) == 16 && offsetof(tb_server, is_open) == 8, "the handle");
-TB_ASSERT(sizeof(tb_account) == 128 && offsetof(tb_account, user_data_64) == 96 && offsetof(tb_account, ledger) == 112
-              && offsetof(tb_account, code) == 116 && offsetof(tb_account, flags) == 118 && offsetof(tb_account, timestamp) == 120,
-          "an account");
-TB_ASSERT(sizeof(tb_transfer) == 128 && offsetof(tb_transfer, user_data_64) == 96 && offsetof(tb_transfer, timeout) == 108
-              && offsetof(tb_transfer, ledger) == 112 && offsetof(tb_transfer, flags) == 118 && offsetof(tb_transfer, timestamp) == 120,
-          "a transfer");
+/* generated: layouts, by checks/tables.py from tables/ledger.json */
+TB_ASSERT(sizeof(tb_account) == 128, "tb_account");
+TB_ASSERT(offsetof(tb_account, id) == 0, "tb_account");
+TB_ASSERT(offsetof(tb_account, debits_pending) == 16, "tb_account");
+TB_ASSERT(offsetof(tb_account, debits_posted) == 32, "tb_account");
+TB_ASSERT(offsetof(tb_account, credits_pending) == 48, "tb_account");
+TB_ASSERT(offsetof(tb_account, credits_posted) == 64, "tb_account");
+TB_ASSERT(offsetof(tb_account, user_data_128) == 80, "tb_account");
+TB_ASSERT(offsetof(tb_account, user_data_64) == 96, "tb_account");
+TB_ASSERT(offsetof(tb_account, user_data_32) == 104, "tb_account");
+TB_ASSERT(offsetof(tb_account, reserved) == 108, "tb_account");
+TB_ASSERT(offsetof(tb_account, ledger) == 112, "tb_account");
+TB_ASSERT(offsetof(tb_account, code) == 116, "tb_account");
+TB_ASSERT(offsetof(tb_account, flags) == 118, "tb_account");
+TB_ASSERT(offsetof(tb_account, timestamp) == 120, "tb_account");
+TB_ASSERT(sizeof(tb_transfer) == 128, "tb_transfer");
+TB_ASSERT(offsetof(tb_transfer, id) == 0, "tb_transfer");
+TB_ASSERT(offsetof(tb_transfer, debit_account_id) == 16, "tb_transfer");
+TB_ASSERT(offsetof(tb_transfer, credit_account_id) == 32, "tb_transfer");
+TB_ASSERT(offsetof(tb_transfer, amount) == 48, "tb_transfer");
+TB_ASSERT(offsetof(tb_transfer, pending_id) == 64, "tb_transfer");
+TB_ASSERT(offsetof(tb_transfer, user_data_128) == 80, "tb_transfer");
+TB_ASSERT(offsetof(tb_transfer, user_data_64) == 96, "tb_transfer");
+TB_ASSERT(offsetof(tb_transfer, user_data_32) == 104, "tb_transfer");
+TB_ASSERT(offsetof(tb_transfer, timeout) == 108, "tb_transfer");
+TB_ASSERT(offsetof(tb_transfer, ledger) == 112, "tb_transfer");
+TB_ASSERT(offsetof(tb_transfer, code) == 116, "tb_transfer");
+TB_ASSERT(offsetof(tb_transfer, flags) == 118, "tb_transfer");
+TB_ASSERT(offsetof(tb_transfer, timestamp) == 120, "tb_transfer");
+TB_ASSERT(sizeof(tb_event_result) == 8, "tb_event_result");
+TB_ASSERT(offsetof(tb_event_result, index) == 0, "tb_event_result");
+TB_ASSERT(offsetof(tb_event_result, result) == 4, "tb_event_result");
+TB_ASSERT(sizeof(tb_request_header) == 48, "tb_request_header");
+TB_ASSERT(offsetof(tb_request_header, client) == 0, "tb_request_header");
+TB_ASSERT(offsetof(tb_request_header, session) == 16, "tb_request_header");
+TB_ASSERT(offsetof(tb_request_header, request) == 24, "tb_request_header");
+TB_ASSERT(offsetof(tb_request_header, operation) == 28, "tb_request_header");
+TB_ASSERT(offsetof(tb_request_header, length) == 32, "tb_request_header");
+TB_ASSERT(sizeof(tb_reply_header) == 48, "tb_reply_header");
+TB_ASSERT(offsetof(tb_reply_header, client) == 0, "tb_reply_header");
+TB_ASSERT(offsetof(tb_reply_header, session) == 16, "tb_reply_header");
+TB_ASSERT(offsetof(tb_reply_header, request) == 24, "tb_reply_header");
+TB_ASSERT(offsetof(tb_reply_header, operation) == 28, "tb_reply_header");
+TB_ASSERT(offsetof(tb_reply_header, status) == 29, "tb_reply_header");
+TB_ASSERT(offsetof(tb_reply_header, length) == 32, "tb_reply_header");
+TB_ASSERT(offsetof(tb_reply_header, commit_low) == 36, "tb_reply_header");
+/* end of layouts */
+
 TB_ASSERT(sizeof(tb_u128) == TB_ID_SIZE && offsetof(tb_u128, high) == 8, "128 bits");
-TB_ASSERT(sizeof(tb_event_result) == TB_RESULT_SIZE && offsetof(tb_event_result, result) == 4, "a result");
-TB_ASSERT(sizeof(tb_request_header) == TB_HEADER_SIZE && offsetof(tb_request_header, session) == 16
-              && offsetof(tb_request_header, request) == 24 && offsetof(tb_request_header, operation) == 28
-              && offsetof(tb_request_header, length) == 32,
-          "the header of a request");
-TB_ASSERT(sizeof(tb_reply_header) == TB_HEADER_SIZE && offsetof(tb_reply_header, session) == 16
-              && offsetof(tb_reply_header, request) == 24 && offsetof(tb_reply_header, operation) == 28
-              && offsetof(tb_reply_header, status) == 29 && offsetof(tb_reply_header, length) == 32
-              && offsetof(tb_reply_header, commit_low) == 36 && offsetof(tb_reply_header, commit_high) == 40,
-          "the header of a reply");
 
 /* Opens a closed handle at the empty history. profile is 1 or 2; clients_max is 1 to 64. DONE, USAGE, NO_MEMORY. */
 uint32_t tb_embed_open(tb_server *server, uint32_t profile, uint32_t clients_max);
@@ -529,6 +596,7 @@ static inline int tb_reply_transfer(const tb_reply *reply, size_t place, tb_tran
 }
 
 /* Names, as docs/use/RULES.md and docs/use/FORMATS.md have them; "unknown" of any other number. */
+/* generated: names, by checks/tables.py from tables/ledger.json */
 static inline const char *tb_status_name(uint32_t status) {
     switch (status) {
     case TB_DONE: return "done";
@@ -679,6 +747,7 @@ static inline const char *tb_create_transfer_result_name(uint32_t number) {
     default: return "unknown";
     }
 }
+/* end of names */
 
 #ifdef __cplusplus
 }

@@ -227,7 +227,7 @@ def eval_rust(expression, constants):
 def in_python():
     import tb_client
     import tb_embed
-    from tb_client import frames, records, values
+    from tb_client import layout as sizes, values
 
     for file, number_word, text_word, _, _, name in KINDS:
         rows = defined(file, number_word, text_word)
@@ -236,7 +236,7 @@ def in_python():
     statuses = statuses_of_outcomes()
     yield same("REFUSALS in Python", {number: it for it, number in statuses.items() if number}, tb_embed.REFUSALS)
     wanted = limits()
-    found = {"HEADER_SIZE": frames.HEADER, "RECORD_SIZE": records.RECORD, "ID_SIZE": records.ID, "ITEMS_MAX": frames.ITEMS_MAX}
+    found = {"HEADER_SIZE": sizes.HEADER, "RECORD_SIZE": sizes.RECORD, "ID_SIZE": sizes.ID, "ITEMS_MAX": sizes.ITEMS_MAX}
     found |= {"REPLY_MAX": tb_embed.REPLY_MAX, "TIME_MAX": values.MOMENT_MAX}
     yield same("sizes and limits in Python", {name: wanted[name] for name in found}, found)
 

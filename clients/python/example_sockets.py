@@ -12,7 +12,7 @@ import subprocess
 import sys
 import tempfile
 import time
-from typing import List, Tuple, Union
+from typing import Any, List, Tuple, Union
 
 from tb_client import Account, Operation, Session, Socket, Transfer, id, require_ok
 
@@ -122,7 +122,8 @@ def run(command: List[str], place: List[str], folder: str) -> None:
     try:
         work_amid_kills(listening, clients, place, folder)
     finally:
-        for it in [*clients, listening.process]:  # where something failed they may still run
+        running: "List[subprocess.Popen[Any]]" = [*clients, listening.process]
+        for it in running:  # where something failed they may still run
             it.kill()
             it.wait()
 

@@ -39,7 +39,8 @@ import time
 from typing import Any, Awaitable, Callable, Deque, Iterator, List, Optional, Sequence, Set, Tuple, TypeVar
 
 from tb_client import Operation
-from tb_client.frames import HEADER, reply_fault, reply_length, request_fault
+from tb_client.frames import reply_fault, reply_length, request_fault
+from tb_client.layout import HEADER
 
 T = TypeVar("T")
 
@@ -658,8 +659,9 @@ async def _called(place: socket.socket) -> None:
 async def _begin(it: socket.socket, listener: Listener) -> None:
     """Lets a connection be served."""
     reader = asyncio.StreamReader(limit=READ_AHEAD)
+    loop: Any = asyncio.get_running_loop()  # mypy 1.0 knows no connect_accepted_socket
     try:
-        await asyncio.get_running_loop().connect_accepted_socket(lambda: asyncio.StreamReaderProtocol(reader, listener.take), it)
+        await loop.connect_accepted_socket(lambda: asyncio.StreamReaderProtocol(reader, listener.take), it)
     except OSError:
         it.close()
 

@@ -17,9 +17,21 @@ import tb_client
 from tb_client.transports import Closing
 from tb_client.values import MOMENT_MAX, U64, U128, kind_of, path_of, whole
 
-REPLY_MAX = 48 + 8190 * 128
-REFUSALS = {1: "Closed", 2: "Usage", 3: "NoMemory", 4: "Malformed", 5: "TimeExhausted", 6: "Absent", 7: "TooSmall"}
+# generated: statuses, by checks/tables.py from tables/ledger.json
+REPLY_MAX = 48 + 8190 * 128  # bytes
+RECORD = 128
+CLIENTS_MAX = 64
+REFUSALS = {
+    1: "Closed",
+    2: "Usage",
+    3: "NoMemory",
+    4: "Malformed",
+    5: "TimeExhausted",
+    6: "Absent",
+    7: "TooSmall",
+}
 ABSENT, TOO_SMALL = 6, 7
+# end of statuses
 
 
 class Refused(tb_client.ClientError):
@@ -92,9 +104,9 @@ class Server(Closing):
     """A server by profile 1 or 2, where 1 to 64 clients can have a session at one time. Threads may share it: it takes one call
     at a time."""
 
-    def __init__(self, path: Union[str, os.PathLike[str]], clients_max: int = 64, profile: int = 1, room: int = 4096) -> None:
+    def __init__(self, path: Union[str, os.PathLike[str]], clients_max: int = CLIENTS_MAX, profile: int = 1, room: int = 4096) -> None:
         name = path_of("path", path)
-        places, profile = whole("clients_max", clients_max, 64, 1), whole("profile", profile, 2, 1)
+        places, profile = whole("clients_max", clients_max, CLIENTS_MAX, 1), whole("profile", profile, 2, 1)
         self._room = ctypes.create_string_buffer(whole("room", room, REPLY_MAX, 1))
         self._lock = threading.Lock()
         self._library, self._handle, self._written = _library(name), _Handle(), ctypes.c_size_t()
@@ -132,9 +144,9 @@ class Server(Closing):
 
     def _record(self, call: Any, id: int) -> Optional[bytes]:
         id = whole("id", id, U128)
-        record = ctypes.create_string_buffer(128)
+        record = ctypes.create_string_buffer(RECORD)
         with self._lock:
-            status = call(self._handle, id & U64, id >> 64, record, 128)
+            status = call(self._handle, id & U64, id >> 64, record, RECORD)
         if status == ABSENT:
             return None
         self._check(status)

@@ -6,6 +6,7 @@
 use std::fmt;
 use std::ops::BitOr;
 
+// generated: limits, by checks/tables.py from tables/ledger.json
 /// The bytes of a header.
 pub const HEADER_SIZE: usize = 48;
 /// The bytes of an account or a transfer.
@@ -18,14 +19,15 @@ pub const RESULT_SIZE: usize = 8;
 pub const ITEMS_MAX: usize = 8190;
 /// The bytes of the longest request.
 pub const REQUEST_MAX: usize = HEADER_SIZE + ITEMS_MAX * RECORD_SIZE;
-/// The room that every reply has enough of: a header, and 8190 records.
-pub const REPLY_MAX: usize = 48 + 8190 * 128;
+/// The room that every reply has enough of: a header, and as many records.
+pub const REPLY_MAX: usize = HEADER_SIZE + ITEMS_MAX * RECORD_SIZE;
 /// How many clients can have a session at one time, at most.
 pub const CLIENTS_MAX: u32 = 64;
 /// No entry has a later time, in nanoseconds.
-pub const TIME_MAX: u64 = i64::MAX as u64;
+pub const TIME_MAX: u64 = 9223372036854775807;
 /// The largest amount: as the amount of a post it means all of the pending amount.
-pub const AMOUNT_MAX: u128 = u128::MAX;
+pub const AMOUNT_MAX: u128 = 340282366920938463463374607431768211455;
+// end of limits
 
 // Names
 
@@ -70,6 +72,7 @@ macro_rules! numbered {
     };
 }
 
+// generated: enums, by checks/tables.py from tables/ledger.json
 numbered! {
     /// What a request asks for.
     Operation {
@@ -86,19 +89,19 @@ numbered! {
     Status {
         /// It is in the history, and this is its reply.
         Reply = 0 "Reply",
-        /// Its client has no session: it was never registered, or evicted.
+        /// It is of a client without a session: it was never registered, or evicted.
         NoSession = 1 "NoSession",
-        /// Its session is below the client's.
+        /// It has a session below the client's.
         SessionTooLow = 2 "SessionTooLow",
-        /// Its session is above the client's.
+        /// It has a session above the client's.
         NewerSession = 3 "NewerSession",
-        /// Its number is below the client's last.
+        /// It has a number below the client's last.
         Older = 4 "Older",
-        /// It has the last number, and another content.
+        /// It has the last number and another content.
         Collision = 5 "Collision",
         /// It skips a number.
         NewerRequest = 6 "NewerRequest",
-        /// It is new and not yet shown: seats alone answer this.
+        /// It is new and not yet shown (seats alone answer this).
         NotYet = 7 "NotYet",
     }
 }
@@ -196,6 +199,7 @@ numbered! {
         IdAlreadyFailed = 68 "id_already_failed",
     }
 }
+// end of enums
 
 /// Flags of one kind of record: a type of its own, so that they are not mixed with those of the other.
 macro_rules! flags {
@@ -255,6 +259,7 @@ fn write_flags(f: &mut fmt::Formatter<'_>, flags: u16, names: &[(u16, &str)]) ->
     }
 }
 
+// generated: flags, by checks/tables.py from tables/ledger.json
 flags! {
     /// The flags of an account. An imported one is answered reserved_flag.
     AccountFlags {
@@ -281,15 +286,19 @@ flags! {
         IMPORTED = 256 "imported",
     }
 }
+// end of flags
 
+// generated: faults, by checks/tables.py from tables/ledger.json
 /// What is wrong with a frame: docs/use/FORMATS.md says where each holds.
 #[derive(Clone, Copy, Debug, PartialEq, Eq, Hash)]
 pub enum Fault {
     /// The header or the body is cut.
     Short = 1,
+    /// The client is 0.
     ClientZero = 2,
+    /// No operation has this number.
     UnknownOperation = 3,
-    /// A zero byte is not 0, or the status is above 7.
+    /// A zero byte is not 0, or the status of a reply is above 7.
     Reserved = 4,
     /// The body has no whole items, or has some where there are none.
     BadLength = 5,
@@ -306,6 +315,7 @@ pub enum Fault {
     /// Session, commit and status do not go together.
     ReplyNumbers = 11,
 }
+// end of faults
 
 impl fmt::Display for Fault {
     fn fmt(&self, f: &mut fmt::Formatter<'_>) -> fmt::Result {
@@ -364,6 +374,7 @@ macro_rules! record {
     };
 }
 
+// generated: records, by checks/tables.py from tables/ledger.json
 record! {
     /// An account. A new one has an id, a ledger and a code, and the rest as the default has it, but for user data and flags.
     Account, RECORD_SIZE {
@@ -425,6 +436,7 @@ record! {
         36 commit: u64,
     }
 }
+// end of records
 
 /// What became of one event of a create: its place in the request, and the result. Events that were accepted are not told.
 #[derive(Clone, Copy, Debug, PartialEq, Eq, Hash)]

@@ -41,15 +41,16 @@ from .errors import (
     ScriptFull,
     SessionTooLow,
 )
-from .frames import HEADER, ITEMS_MAX, NUMBER_MAX, Reply, Request, reply_length, request_fault, request_frame
+from .frames import Reply, Request, reply_length, request_fault, request_frame
 from .ids import id
+from .layout import AMOUNT_MAX as amount_max  # as the amount of a post: all of the pending amount
+from .layout import HEADER, ITEMS_MAX, NUMBER_MAX
 from .names import AccountFlags, CreateAccountResult, CreateTransferResult, Operation, Status, TransferFlags
 from .program import Program
 from .records import Account, EventResult, Transfer
 from .sessions import Saved, Session, require_ok
 from .sockets import Socket
 from .transports import Direct, Faulty, Transport
-from .values import U128 as amount_max  # as the amount of a post: all of the pending amount
 
 MAX = amount_max
 

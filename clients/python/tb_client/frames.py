@@ -2,43 +2,19 @@
 from __future__ import annotations
 
 import dataclasses
-import struct
 from typing import Any, Callable, Iterable, Iterator, List, Optional, Sequence, Tuple, TypeVar, Union, cast
 
 from .errors import BadReply, InvalidType, InvalidValue
+from .layout import HEADER, ID, ITEM_NAMES, ITEM_SIZES, ITEMS_MAX, RECORD, REPLY, REPLY_SIZES, REQUEST, RESULT, RESULT_FORMAT
 from .names import CreateAccountResult, CreateTransferResult, Operation, Status
-from .records import ID, RECORD, Account, EventResult, Transfer, u128, u128_at
+from .records import Account, EventResult, Transfer, u128, u128_at
 from .values import U8, U32, U64, U128, kind_of, listed, shown, viewed, whole
 
-ITEMS_MAX = 8190
-NUMBER_MAX = U32
 STATUS_MAX = max(Status)
-HEADER = 48
-REQUEST = struct.Struct("<QIB3xI12x")
-REPLY = struct.Struct("<QIBB2xIQ4x")
 
 Item = Union[Account, Transfer, int]
 Said = Union[List[EventResult], List[Account], List[Transfer], None]
 T = TypeVar("T")
-
-ITEM_SIZES = {
-    Operation.create_accounts: RECORD,
-    Operation.create_transfers: RECORD,
-    Operation.lookup_accounts: ID,
-    Operation.lookup_transfers: ID,
-}
-REPLY_SIZES = {
-    Operation.create_accounts: 8,
-    Operation.create_transfers: 8,
-    Operation.lookup_accounts: RECORD,
-    Operation.lookup_transfers: RECORD,
-}
-ITEM_NAMES = {
-    Operation.create_accounts: "accounts",
-    Operation.create_transfers: "transfers",
-    Operation.lookup_accounts: "ids",
-    Operation.lookup_transfers: "ids",
-}
 
 
 def operation_of(value: object) -> Operation:
@@ -195,7 +171,7 @@ def reply_fault(data: bytes, at: int = 0) -> Optional[str]:
     if len(header) < HEADER:
         return "Short"
     session, number, operation, status, length, commit = REPLY.unpack_from(header, 16)
-    is_register, is_refusal, size = operation == Operation.register, status != Status.Reply, REPLY_SIZES.get(operation, 8)
+    is_register, is_refusal, size = operation == Operation.register, status != Status.Reply, REPLY_SIZES.get(operation, RESULT)
     has_numbers = commit == 0 if is_refusal else 0 < session == commit if is_register else 0 < session < commit
     tests = (
         ("ClientZero", not any(header[:16])),
@@ -275,7 +251,7 @@ def said_by(operation: Operation, body: bytes) -> Said:
         return _items(body, RECORD, Transfer.from_bytes)
     names: Any = CreateAccountResult if operation == Operation.create_accounts else CreateTransferResult
     try:
-        return [EventResult(index, names(result)) for index, result in _items(body, 8, struct.Struct("<II").unpack)]
+        return [EventResult(index, names(result)) for index, result in _items(body, RESULT, RESULT_FORMAT.unpack)]
     except ValueError as unknown:
         raise BadReply(str(unknown)) from None
 

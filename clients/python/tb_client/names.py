@@ -7,14 +7,17 @@ from typing import Any, Callable, Type, TypeVar
 F = TypeVar("F", bound=enum.Flag)
 
 
+# generated: operation, by checks/tables.py from tables/ledger.json
 class Operation(enum.IntEnum):
     register = 2
     create_accounts = 129
     create_transfers = 130
     lookup_accounts = 131
     lookup_transfers = 132
+# end of operation
 
 
+# generated: status, by checks/tables.py from tables/ledger.json
 class Status(enum.IntEnum):
     Reply = 0
     NoSession = 1
@@ -24,6 +27,7 @@ class Status(enum.IntEnum):
     Collision = 5
     NewerRequest = 6
     NotYet = 7
+# end of status
 
 
 def _kept_apart(kind: Type[F]) -> Type[F]:
@@ -45,6 +49,7 @@ def _kept_apart(kind: Type[F]) -> Type[F]:
     return kind
 
 
+# generated: account_flags, by checks/tables.py from tables/ledger.json
 @_kept_apart
 class AccountFlags(enum.IntFlag):
     linked = 1
@@ -53,8 +58,10 @@ class AccountFlags(enum.IntFlag):
     history = 8
     imported = 16
     closed = 32
+# end of account_flags
 
 
+# generated: transfer_flags, by checks/tables.py from tables/ledger.json
 @_kept_apart
 class TransferFlags(enum.IntFlag):
     linked = 1
@@ -66,8 +73,10 @@ class TransferFlags(enum.IntFlag):
     closing_debit = 64
     closing_credit = 128
     imported = 256
+# end of transfer_flags
 
 
+# generated: account_result, by checks/tables.py from tables/ledger.json
 class CreateAccountResult(enum.IntEnum):
     ok = 0
     linked_event_failed = 1
@@ -91,8 +100,10 @@ class CreateAccountResult(enum.IntEnum):
     exists_with_different_ledger = 19
     exists_with_different_code = 20
     exists = 21
+# end of account_result
 
 
+# generated: transfer_result, by checks/tables.py from tables/ledger.json
 class CreateTransferResult(enum.IntEnum):
     ok = 0
     linked_event_failed = 1
@@ -154,3 +165,4 @@ class CreateTransferResult(enum.IntEnum):
     credit_account_already_closed = 66
     exists_with_different_ledger = 67
     id_already_failed = 68
+# end of transfer_result

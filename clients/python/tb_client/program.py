@@ -12,7 +12,8 @@ import time
 from typing import IO, Optional, Union, cast
 
 from .errors import CannotStart, Closed, NoMemory, ProgramEnded, ReplyLost, ScriptFull
-from .frames import HEADER, header_of, reply_length, test_reply
+from .frames import header_of, reply_length, test_reply
+from .layout import HEADER
 from .transports import Closing
 from .values import MOMENT_MAX, U64, path_of, seconds, truth, whole
 

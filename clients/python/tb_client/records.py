@@ -3,16 +3,12 @@ from __future__ import annotations
 
 import dataclasses
 import enum
-import struct
 from typing import Any, Type, TypeVar, Union
 
+from .layout import NARROW, RECORD
 from .names import AccountFlags, CreateAccountResult, CreateTransferResult, TransferFlags
 from .errors import InvalidType, InvalidValue
 from .values import U16, U32, U64, U128, kind_of, viewed, whole
-
-RECORD = 128
-ID = 16
-NARROW = struct.Struct("<QIIIHHQ")
 
 Flags = TypeVar("Flags", AccountFlags, TransferFlags)
 Record = TypeVar("Record", "Account", "Transfer")
@@ -60,9 +56,12 @@ def _read(kind: Type[Record], data: bytes, flags: Any) -> Record:
     return record
 
 
-_BOTH = {"id": U128, "user_data_128": U128, "user_data_64": U64, "user_data_32": U32, "ledger": U32, "code": U16, "timestamp": U64}
-_ACCOUNT = {**_BOTH, "debits_pending": U128, "debits_posted": U128, "credits_pending": U128, "credits_posted": U128, "reserved": U32}
-_TRANSFER = {**_BOTH, "debit_account_id": U128, "credit_account_id": U128, "amount": U128, "pending_id": U128, "timeout": U32}
+# generated: account, by checks/tables.py from tables/ledger.json
+_ACCOUNT = {
+    "id": U128, "debits_pending": U128, "debits_posted": U128, "credits_pending": U128,
+    "credits_posted": U128, "user_data_128": U128, "user_data_64": U64, "user_data_32": U32,
+    "reserved": U32, "ledger": U32, "code": U16, "timestamp": U64,
+}
 
 
 @dataclasses.dataclass(frozen=True)
@@ -79,20 +78,36 @@ class Account:
     ledger: int = 0
     code: int = 0
     flags: AccountFlags = AccountFlags(0)
-    timestamp: int = 0
+    timestamp: int = 0  # nanoseconds
 
     def __post_init__(self) -> None:
         _settle(self, _ACCOUNT, AccountFlags)
 
     def to_bytes(self) -> bytes:
-        _settle(self, _ACCOUNT, AccountFlags)  # again, since Python lets a frozen record be changed by force
-        sums = (self.id, self.debits_pending, self.debits_posted, self.credits_pending, self.credits_posted, self.user_data_128)
-        rest = (self.user_data_64, self.user_data_32, self.reserved, self.ledger, self.code, self.flags, self.timestamp)
-        return b"".join(map(u128, sums)) + NARROW.pack(*rest)
+        # again, since Python lets a frozen record be changed by force
+        _settle(self, _ACCOUNT, AccountFlags)
+        wide = (
+            self.id, self.debits_pending, self.debits_posted, self.credits_pending,
+            self.credits_posted, self.user_data_128,
+        )
+        narrow = (
+            self.user_data_64, self.user_data_32, self.reserved, self.ledger, self.code,
+            self.flags, self.timestamp,
+        )
+        return b"".join(map(u128, wide)) + NARROW.pack(*narrow)
 
     @classmethod
     def from_bytes(cls, data: bytes) -> Account:
         return _read(cls, data, AccountFlags)
+# end of account
+
+
+# generated: transfer, by checks/tables.py from tables/ledger.json
+_TRANSFER = {
+    "id": U128, "debit_account_id": U128, "credit_account_id": U128, "amount": U128,
+    "pending_id": U128, "user_data_128": U128, "user_data_64": U64, "user_data_32": U32,
+    "timeout": U32, "ledger": U32, "code": U16, "timestamp": U64,
+}
 
 
 @dataclasses.dataclass(frozen=True)
@@ -105,24 +120,32 @@ class Transfer:
     user_data_128: int = 0
     user_data_64: int = 0
     user_data_32: int = 0
-    timeout: int = 0
+    timeout: int = 0  # seconds
     ledger: int = 0
     code: int = 0
     flags: TransferFlags = TransferFlags(0)
-    timestamp: int = 0
+    timestamp: int = 0  # nanoseconds
 
     def __post_init__(self) -> None:
         _settle(self, _TRANSFER, TransferFlags)
 
     def to_bytes(self) -> bytes:
-        _settle(self, _TRANSFER, TransferFlags)  # again, since Python lets a frozen record be changed by force
-        wide = (self.id, self.debit_account_id, self.credit_account_id, self.amount, self.pending_id, self.user_data_128)
-        rest = (self.user_data_64, self.user_data_32, self.timeout, self.ledger, self.code, self.flags, self.timestamp)
-        return b"".join(map(u128, wide)) + NARROW.pack(*rest)
+        # again, since Python lets a frozen record be changed by force
+        _settle(self, _TRANSFER, TransferFlags)
+        wide = (
+            self.id, self.debit_account_id, self.credit_account_id, self.amount, self.pending_id,
+            self.user_data_128,
+        )
+        narrow = (
+            self.user_data_64, self.user_data_32, self.timeout, self.ledger, self.code, self.flags,
+            self.timestamp,
+        )
+        return b"".join(map(u128, wide)) + NARROW.pack(*narrow)
 
     @classmethod
     def from_bytes(cls, data: bytes) -> Transfer:
         return _read(cls, data, TransferFlags)
+# end of transfer
 
 
 @dataclasses.dataclass(frozen=True)

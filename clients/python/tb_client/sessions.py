@@ -8,8 +8,9 @@ from typing import Any, Callable, Iterable, Iterator, List, Mapping, Optional, T
 
 from .errors import REFUSALS, BadReply, Busy, ClockJumped, EventsFailed, Evicted, InDoubt, InvalidType, InvalidValue, NoMemory, NothingInDoubt, NotSent, NotYet, ReplyLost
 from .files import Path, read_saved, write_whole
-from .frames import NUMBER_MAX, Item, Reply, Request, Said, body_of, header_of, operation_of, request_frame, said_by, test_said
+from .frames import Item, Reply, Request, Said, body_of, header_of, operation_of, request_frame, said_by, test_said
 from .ids import id as new_id
+from .layout import NUMBER_MAX, SECOND
 from .names import Operation, Status
 from .records import Account, EventResult, Transfer
 from .transports import Closing, Transport, close_transport, transport_of
@@ -17,7 +18,6 @@ from .values import MOMENT_MAX, U32, U64, U128, callable_of, kind_of, listed, pa
 
 ATTEMPTS = 5
 JUMP_MAX = 60.0  # seconds
-SECOND = 10**9
 PAUSE = 0.05  # seconds, before a request is sent again where the server said to come later; doubled each time
 PAUSE_MAX = 1.0  # seconds, beyond which it is doubled no more
 

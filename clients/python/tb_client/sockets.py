@@ -10,7 +10,8 @@ import time
 from typing import Optional, Tuple, Union
 
 from .errors import Busy, CannotConnect, Closed, InvalidType, InvalidValue, ReplyLost
-from .frames import HEADER, header_of, reply_length, test_reply
+from .frames import header_of, reply_length, test_reply
+from .layout import HEADER
 from .transports import Closing
 from .values import kind_of, path_of, seconds, whole
 

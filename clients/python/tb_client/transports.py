@@ -64,7 +64,7 @@ class Faulty(Closing):
             count = self.count
         if count in self.requests:
             raise ReplyLost(f"request {count} was lost on purpose")
-        reply = self.inner.exchange(moment, frame)
+        reply: bytes = self.inner.exchange(moment, frame)
         if count in self.replies:
             raise ReplyLost(f"reply {count} was lost on purpose")
         return reply

@@ -7,9 +7,10 @@ import os
 from typing import Any, Iterable, Mapping, Optional
 
 from .errors import InvalidType, InvalidValue
+from .layout import TIME_MAX
 
 U8, U16, U32, U64, U128 = (2**bits - 1 for bits in (8, 16, 32, 64, 128))
-MOMENT_MAX = 2**63 - 1
+MOMENT_MAX = TIME_MAX
 
 
 def kind_of(value: object) -> str:

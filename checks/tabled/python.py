@@ -1,0 +1,166 @@
+"""The parts of the client in Python, and of the embedded server's module."""
+from . import table as t
+
+FORMATS = {"u8": "B", "u16": "H", "u32": "I", "u64": "Q"}
+NAMES = {"operation": "Operation", "status": "Status"}
+NAMES |= {"account_result": "CreateAccountResult", "transfer_result": "CreateTransferResult"}
+ITEMS = {"account": "accounts", "transfer": "transfers", "id": "ids"}
+
+
+def names(table):
+    kinds = t.kinds(table)
+    found = {}
+    for kind, name in NAMES.items():
+        lines = [f"class {name}(enum.IntEnum):"]
+        found[kind] = (
+            "\n".join(lines + [f"    {word} = {at}" for at, word, _ in kinds[kind]]) + "\n"
+        )
+    for kind, rows in t.flags(table).items():
+        lines = ["@_kept_apart", f"class {t.camel(kind)}Flags(enum.IntFlag):"]
+        found[f"{kind}_flags"] = (
+            "\n".join(lines + [f"    {word} = {bit}" for bit, word, _ in rows]) + "\n"
+        )
+    return found
+
+
+def layout(table):
+    """The whole of tb_client/layout.py."""
+    size, most = t.sizes(table), t.limits(table)
+    lines = [
+        '"""Sizes, limits and layouts of frames.',
+        "",
+        "checks/tables.py --write makes this file from tables/ledger.json.",
+        '"""',
+        "from __future__ import annotations",
+        "",
+        "import struct",
+        "from typing import Dict",
+        "",
+        "from .names import Operation",
+        "",
+        f"HEADER = {size['header']}  # bytes of the header of a request or reply",
+        f"RECORD = {size['record']}  # bytes of an account or a transfer",
+        f"ID = {size['id']}",
+        f"RESULT = {size['result']}",
+        f"ITEMS_MAX = {most['items_max']}  # accounts, transfers or ids in a request",
+        f"CLIENTS_MAX = {most['clients_max']}  # clients that can have a session at one time",
+        f"NUMBER_MAX = {most['number_max']}  # the last number of a request in its session",
+        f"TIME_MAX = {most['time_max']}  # nanoseconds",
+        f"AMOUNT_MAX = {most['amount_max']}",
+        f"SECOND = {most['nanoseconds_per_second']}  # nanoseconds",
+        "",
+        "# what stands behind the client's 16 bytes",
+        f'REQUEST = struct.Struct("{packed(table, "request_header", 16)}")',
+        f'REPLY = struct.Struct("{packed(table, "reply_header", 16)}")',
+        f'RESULT_FORMAT = struct.Struct("{packed(table, "result", 0)}")',
+        "# what stands behind the six numbers of 16 bytes that each record begins with",
+        f'NARROW = struct.Struct("{packed(table, "transfer", 96)}")',
+        "",
+        *item_tables(table),
+        "",
+    ]
+    return "\n".join(lines)
+
+
+def packed(table, name, start):
+    """The format of a layout's fields from a place on."""
+    found = "<"
+    for field in t.layout(table, name)["fields"]:
+        if field["at"] >= start:
+            found += FORMATS[field["type"]] if field["name"] else f"{t.zeros(field)}x"
+    return found
+
+
+def item_tables(table):
+    lines = []
+    for name, side in (("ITEM_SIZES", "request"), ("REPLY_SIZES", "reply")):
+        lines += [f"{name}: Dict[int, int] = {{"]
+        for row in table["operations"]:
+            if row[side]:
+                lines.append(f"    Operation.{row['name']}: {t.item_bytes(table, row[side])},")
+        lines += ["}"]
+    lines += ["ITEM_NAMES: Dict[int, str] = {"]
+    lines += [
+        f'    Operation.{row["name"]}: "{ITEMS[row["request"]]}",'
+        for row in table["operations"]
+        if row["request"]
+    ]
+    return [*lines, "}"]
+
+
+def records(table):
+    return {name: record(table, name) for name in ("account", "transfer")}
+
+
+def record(table, name):
+    """The class of a record: its fields with their ranges, and its bytes."""
+    kind, fields = t.camel(name), t.fields(table, name)
+    flags = f"{kind}Flags"
+    ranges = ", ".join(
+        f'"{it["name"]}": {it["type"].upper()}' for it in fields if it["name"] != "flags"
+    )
+    lines = [
+        *wrapped(f"_{name.upper()} = {{{ranges}}}"),
+        "",
+        "",
+        "@dataclasses.dataclass(frozen=True)",
+        f"class {kind}:",
+    ]
+    for field in fields:
+        is_flags = field["name"] == "flags"
+        default = "" if field["name"] == "id" else f" = {flags}(0)" if is_flags else " = 0"
+        unit = f"  # {field['unit']}" if "unit" in field else ""
+        lines.append(f"    {field['name']}: {flags if is_flags else 'int'}{default}{unit}")
+    wide = ", ".join(f"self.{it['name']}" for it in fields if it["type"] == "u128")
+    narrow = ", ".join(f"self.{it['name']}" for it in fields if it["type"] != "u128")
+    settle = f"_settle(self, _{name.upper()}, {flags})"
+    lines += [
+        "",
+        "    def __post_init__(self) -> None:",
+        f"        {settle}",
+        "",
+        "    def to_bytes(self) -> bytes:",
+        "        # again, since Python lets a frozen record be changed by force",
+        f"        {settle}",
+        *wrapped(f"        wide = ({wide})"),
+        *wrapped(f"        narrow = ({narrow})"),
+        '        return b"".join(map(u128, wide)) + NARROW.pack(*narrow)',
+        "",
+        "    @classmethod",
+        f"    def from_bytes(cls, data: bytes) -> {kind}:",
+        f"        return _read(cls, data, {flags})",
+        "",
+    ]
+    return "\n".join(lines)
+
+
+def wrapped(line, width=100):
+    """A line with a bracket, in several lines where it is too long."""
+    if len(line) <= width:
+        return [line]
+    at = min(place for place in (line.find("("), line.find("{")) if place >= 0)
+    indent = line[: len(line) - len(line.lstrip())]
+    lines, current = [line[: at + 1]], f"{indent}    "
+    for word in line[at + 1 : -1].split(", "):
+        if len(current) + len(word) + 2 > width:
+            lines.append(current.rstrip())
+            current = f"{indent}    "
+        current += f"{word}, "
+    return [*lines, current.rstrip(), indent + line[-1]]
+
+
+def embedded(table):
+    """The part of embed/python/tb_embed.py."""
+    refusals = {row["number"]: row["name"] for row in table["embed_statuses"] if row["number"]}
+    by_name = {name: number for number, name in refusals.items()}
+    size, most = t.sizes(table), t.limits(table)
+    lines = [f"REPLY_MAX = {size['header']} + {most['items_max']} * {size['record']}  # bytes"]
+    lines += [f"RECORD = {size['record']}", f"CLIENTS_MAX = {most['clients_max']}"]
+    lines += (
+        ["REFUSALS = {"] + [f'    {number}: "{name}",' for number, name in refusals.items()] + ["}"]
+    )
+    return {
+        "statuses": "\n".join(
+            [*lines, f"ABSENT, TOO_SMALL = {by_name['Absent']}, {by_name['TooSmall']}", ""]
+        )
+    }
