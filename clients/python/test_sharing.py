@@ -45,19 +45,19 @@ class Ids(unittest.TestCase):
         self.assertTrue(all(0 < it < tb.amount_max for it in ids))
 
     def test_they_rise_where_the_clock_stands_or_goes_back(self):
-        from tb_client.ids import _Ids
+        from tb_client.ids import Ids
 
         with unittest.mock.patch("time.time_ns", side_effect=[5 * 10**6, 5 * 10**6, 3 * 10**6, 0, 6 * 10**6]):
-            ids = _Ids()
+            ids = Ids()
             made = [ids.next() for _ in range(5)]
         self.assertEqual(made, sorted(set(made)))
         self.assertEqual([it >> 80 for it in made], [5, 5, 5, 5, 6])
 
     def test_past_the_end_of_the_random_part(self):
-        from tb_client.ids import _Ids
+        from tb_client.ids import Ids
 
         with unittest.mock.patch("time.time_ns", lambda: 5 * 10**6), unittest.mock.patch("os.urandom", lambda size: b"\xff" * size):
-            ids = _Ids()
+            ids = Ids()
             made = [ids.next() for _ in range(3)]
         self.assertEqual(made, [(6 << 80) - 1, 6 << 80, (6 << 80) + 1])
 

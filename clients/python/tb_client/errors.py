@@ -74,7 +74,12 @@ class CannotConnect(NotSent):
 
 
 class ReplyLost(ClientError):
-    """No reply came. The request may have been executed or not: send the same bytes again."""
+    """No reply came. The request may have been executed or not: send the same bytes again. `told` is the name that the server gave
+    before it closed the connection, where it gave one."""
+
+    def __init__(self, text: str = "", told: str = "") -> None:
+        super().__init__(text)
+        self.told = told
 
 
 class Busy(ReplyLost):

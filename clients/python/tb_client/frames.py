@@ -197,6 +197,23 @@ def test_reply(data: bytes, at: int = 0) -> None:
         raise BadReply(f"what came is no frame of a reply ({fault}){text}")
 
 
+def asker(header: bytes) -> bytes:
+    """What a reply repeats of its request: client, session, number and operation. The session of a register is new."""
+    return header[:16] + header[24:29] if header[28] == Operation.register else header[:29]
+
+
+def test_asked(frame: bytes, reply: bytes) -> None:
+    """Raises BadReply where the header of a reply, which has no fault, is not of this request."""
+    if asker(reply) == asker(frame):
+        return
+    session, number = REPLY.unpack_from(reply, 16)[:2]
+    asked_session, asked_number = REQUEST.unpack_from(frame, 16)[:2]
+    raise BadReply(
+        f"a reply to request {number} of session {session}, of client {u128_at(reply, 0)}, "
+        f"came for request {asked_number} of session {asked_session}"
+    )
+
+
 @dataclasses.dataclass(frozen=True)
 class Reply:
     client: int

@@ -4,20 +4,25 @@ from __future__ import annotations
 import os
 import threading
 import time
+from typing import Callable
 
 RANDOM_BITS = 80
+MILLISECOND = 1_000_000  # nanoseconds
 
 
-class _Ids:
-    def __init__(self) -> None:
+class Ids:
+    """Makes ids. `now` answers nanoseconds since 1970, and `draw` so many random bytes: those of the system where nothing is given."""
+
+    def __init__(self, now: Callable[[], int] = time.time_ns, draw: Callable[[int], bytes] = os.urandom) -> None:
+        self.now, self.draw = now, draw
         self.lock = threading.Lock()
         self.millisecond = self.random = 0
 
     def next(self) -> int:
         with self.lock:
-            now = time.time_ns() // 1_000_000
+            now = self.now() // MILLISECOND
             if now > self.millisecond:
-                self.millisecond, self.random = now, int.from_bytes(os.urandom(RANDOM_BITS // 8), "little")
+                self.millisecond, self.random = now, int.from_bytes(self.draw(RANDOM_BITS // 8), "little")
             else:
                 self.random += 1
             # The random part went past its end: the ids rise into the next millisecond.
@@ -26,13 +31,13 @@ class _Ids:
             return self.millisecond << RANDOM_BITS | self.random
 
 
-_ids = _Ids()
+_ids = Ids()
 
 
 def _begin_anew() -> None:
     """A forked child draws its own random part, or it would give out its parent's next ids."""
     global _ids
-    _ids = _Ids()
+    _ids = Ids()
 
 
 os.register_at_fork(after_in_child=_begin_anew)

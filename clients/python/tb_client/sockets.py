@@ -5,37 +5,48 @@ import contextlib
 import os
 import select
 import socket
+import ssl
 import threading
 import time
-from typing import Optional, Tuple, Union
+from typing import List, Optional, Tuple, Union, cast
 
 from .errors import Busy, CannotConnect, Closed, InvalidType, InvalidValue, ReplyLost
-from .frames import header_of, reply_length, test_reply
+from .frames import header_of, reply_length, test_asked, test_reply
 from .layout import HEADER
 from .transports import Closing
 from .values import kind_of, path_of, seconds, whole
 
+Place = Union[str, Tuple[str, int]]
 Address = Union[str, "os.PathLike[str]", Tuple[str, int]]
 
 FIRST_PAUSE = 0.02  # seconds, before the server is called again; doubled each time
 LAST_PAUSE = 0.5
 TOLD = b"tb_listen: "  # begins what a server says before it closes a connection: fewer bytes than a frame has
+LATER = ("Busy", "Starting")  # what a server says that takes the request later
 
 
 class Socket(Closing):
-    """A connection to a server at a Unix socket's path, or at a host and a port.
+    """A connection to a server at a Unix socket's path, or at a host and a port; or to one of several, in a list.
 
     The server gives the moments: the one that `exchange` is given is not sent. A connection that broke, that the server closed, or on
-    which no reply came in time, is closed, and the next exchange makes a new one; where that can't be made within `timeout` seconds
-    nothing is sent, and it is `CannotConnect`. Threads may share a Socket: an exchange is one thread's from its first byte to its last."""
+    which no reply came in time, is closed, and the next exchange makes a new one, to the next address where there are several; where
+    none can be made within `timeout` seconds nothing is sent, and it is `CannotConnect`. With `tls` connections to a host go over TLS,
+    by that context. Threads may share a Socket: an exchange is one thread's from its first byte to its last."""
 
-    def __init__(self, address: Address, timeout: float = 5.0) -> None:
-        self.address = _address_of(address)
+    def __init__(self, address: Union[Address, List[Address]], timeout: float = 5.0, tls: Optional[ssl.SSLContext] = None) -> None:
+        self._addresses = _addresses_of(address)
+        self._at = 0
         self.timeout = seconds("timeout", timeout, 0.001)
+        self._tls = _context_of(tls, self._addresses)
         self._socket: Optional[socket.socket] = None
         self._lock = threading.Lock()
         self._owner = os.getpid()
         self._closed = False
+
+    @property
+    def address(self) -> Place:
+        """Where the connection goes, or the next one."""
+        return self._addresses[self._at]
 
     def exchange(self, moment: int, frame: bytes) -> bytes:
         header_of(frame)  # the server would close the connection at a wrong one
@@ -49,29 +60,51 @@ class Socket(Closing):
             try:
                 self._wait(it, deadline)
                 self._send(it, frame)
-                return self._reply(it, deadline)
+                return self._reply(it, frame, deadline)
             except OSError as error:
-                self._hang_up()
+                self._lose()
                 late = isinstance(error, socket.timeout)
                 raise ReplyLost(f"no reply within {self.timeout:g} seconds" if late else f"the connection broke: {error}") from None
             except BaseException:
-                self._hang_up()
+                self._lose()
                 raise
 
     def _connected(self, deadline: float) -> socket.socket:
         """The connection, made anew where there is none, or where the server closed it since."""
         pause = FIRST_PAUSE
         if self._socket is not None and _is_left(self._socket):
-            self._hang_up()
+            self._lose()
         while self._socket is None:
+            fault = self._call_each(deadline)
+            if fault is None:
+                break
+            left = deadline - time.monotonic()
+            if left <= 0 or isinstance(fault, ssl.SSLCertVerificationError):
+                raise CannotConnect(f"{_shown(self.address)}: {fault.strerror or fault}{_hint(self.address)}") from None
+            time.sleep(min(pause, left))
+            pause = min(2 * pause, LAST_PAUSE)
+        return cast(socket.socket, self._socket)
+
+    def _call_each(self, deadline: float) -> Optional[OSError]:
+        """Calls the addresses in turn, from the present one on, until one answers. Answers the last fault where none does."""
+        fault: Optional[OSError] = None
+        for left in range(len(self._addresses), 0, -1):
             try:
-                self._socket = _call(self.address, max(deadline - time.monotonic(), 0.001))
+                share = (deadline - time.monotonic()) / left  # of the time, so that one that does not answer leaves some
+                self._socket = _call(self.address, max(share, 0.001), self._tls)
+                return None
             except OSError as error:
-                if time.monotonic() + pause > deadline:
-                    raise CannotConnect(f"{_shown(self.address)}: {error.strerror or error}{_hint(self.address)}") from None
-                time.sleep(pause)
-                pause = min(2 * pause, LAST_PAUSE)
-        return self._socket
+                fault = error
+                self._next()
+        return fault
+
+    def _next(self) -> None:
+        self._at = (self._at + 1) % len(self._addresses)
+
+    def _lose(self) -> None:
+        """Closes the connection. The next one goes to the next address."""
+        self._hang_up()
+        self._next()
 
     def _send(self, it: socket.socket, frame: bytes) -> None:
         """Sends the request. Where the server closed the connection, what it said before that is told."""
@@ -86,9 +119,10 @@ class Socket(Closing):
                 raise _closed(said) from None
             raise
 
-    def _reply(self, it: socket.socket, deadline: float) -> bytes:
+    def _reply(self, it: socket.socket, frame: bytes, deadline: float) -> bytes:
         header = self._read(it, HEADER, deadline)
         test_reply(header)
+        test_asked(frame, header)
         return header + self._read(it, reply_length(header) - HEADER, deadline)
 
     def _read(self, it: socket.socket, count: int, deadline: float) -> bytes:
@@ -132,24 +166,53 @@ def _is_left(it: socket.socket) -> bool:
     """Whether the server closed a connection, or told why it will: it says nothing else before it is asked."""
     ready = select.poll()
     ready.register(it, select.POLLIN)
-    return bool(ready.poll(0))
+    if not ready.poll(0):
+        return False
+    if not isinstance(it, ssl.SSLSocket):
+        return True
+    it.setblocking(False)
+    try:  # what came may be TLS's own, as a ticket for the next session
+        it.recv(1)
+    except ssl.SSLWantReadError:
+        return False
+    except OSError:
+        return True
+    return True
 
 
 def _closed(said: bytes) -> ReplyLost:
     """What to raise where the server closed the connection after these bytes: with the name that it told, where it told one."""
     why = bytes(said[len(TOLD) :]).decode("ascii", "replace").strip() if said.startswith(TOLD) else ""
-    kind = Busy if why == "Busy" else ReplyLost
-    return kind(f"the server closed the connection{why and ': ' + why}")
+    kind = Busy if why in LATER else ReplyLost
+    return kind(f"the server closed the connection{why and ': ' + why}", why)
 
 
-def _address_of(address: object) -> Union[str, Tuple[str, int]]:
+def _addresses_of(address: object) -> List[Place]:
+    if not isinstance(address, list):
+        return [_address_of("address", address)]
+    if not address:
+        raise InvalidValue("address", "has no address")
+    return [_address_of(f"address[{at}]", it) for at, it in enumerate(address)]
+
+
+def _address_of(field: str, address: object) -> Place:
     if isinstance(address, (str, os.PathLike)):
-        return path_of("address", address)
+        return path_of(field, address)
     if isinstance(address, tuple) and len(address) == 2 and isinstance(address[0], str):
         if not _is_host(address[0]):
-            raise InvalidValue("address", f"has no name of a host: {address[0]!r:.60}")
+            raise InvalidValue(field, f"has no name of a host: {address[0]!r:.60}")
         return address[0], whole("port", address[1], 65535, 1)
-    raise InvalidType("address", f"must be a path, or a host and a port, not {kind_of(address)}")
+    raise InvalidType(field, f"must be a path, or a host and a port, not {kind_of(address)}")
+
+
+def _context_of(tls: object, addresses: List[Place]) -> Optional[ssl.SSLContext]:
+    if tls is None:
+        return None
+    if not isinstance(tls, ssl.SSLContext):
+        raise InvalidType("tls", f"must be an ssl.SSLContext, not {kind_of(tls)}")
+    if any(isinstance(it, str) for it in addresses):
+        raise InvalidValue("tls", "is for a host and a port, not for a path")
+    return tls
 
 
 def _is_host(name: str) -> bool:
@@ -160,11 +223,12 @@ def _is_host(name: str) -> bool:
         return False
 
 
-def _call(address: Union[str, Tuple[str, int]], timeout: float) -> socket.socket:
+def _call(address: Place, timeout: float, tls: Optional[ssl.SSLContext] = None) -> socket.socket:
+    """A new connection, over TLS where there is a context."""
     if isinstance(address, tuple):
         it = socket.create_connection(address, timeout)
         it.setsockopt(socket.IPPROTO_TCP, socket.TCP_NODELAY, 1)
-        return it
+        return it if tls is None else _agreed(it, tls, address[0])
     it = socket.socket(socket.AF_UNIX, socket.SOCK_STREAM)
     try:
         it.settimeout(timeout)
@@ -175,14 +239,22 @@ def _call(address: Union[str, Tuple[str, int]], timeout: float) -> socket.socket
     return it
 
 
-def _hint(address: Union[str, Tuple[str, int]]) -> str:
+def _agreed(it: socket.socket, tls: ssl.SSLContext, host: str) -> socket.socket:
+    try:
+        return tls.wrap_socket(it, server_hostname=host)
+    except BaseException:
+        it.close()
+        raise
+
+
+def _hint(address: Place) -> str:
     """What may be meant by a path that looks like a host and a port."""
     host, colon, port = address.rpartition(":") if isinstance(address, str) else ("", "", "")
     is_like = bool(host) and "/" not in host and port.isascii() and port.isdigit()
     return f" (a path; a host and a port are ({host!r}, {port}))" if is_like else ""
 
 
-def _shown(address: Union[str, Tuple[str, int]]) -> str:
+def _shown(address: Place) -> str:
     if isinstance(address, str):
         return address
     host, port = address

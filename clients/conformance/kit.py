@@ -1,0 +1,160 @@
+#!/usr/bin/env python3
+"""Runs the scenarios of the conformance kit over a client, through its runner (PROTOCOL.md).
+
+    clients/conformance/kit.py -- python3 -B clients/python/conformance_runner.py
+    clients/conformance/kit.py --only 'reply-late*' -- COMMAND [WORD ..]
+    clients/conformance/kit.py --list
+
+Prints a line for each scenario that fails, what was passed over, and 'N passed, M failed, K passed over'. Status 0 where none
+failed, 1 where one did, 2 where the runner does not start or the words are wrong.
+"""
+import argparse
+import fnmatch
+import glob
+import json
+import os
+import queue
+import sys
+import tempfile
+import threading
+import time
+
+sys.dont_write_bytecode = True
+HERE = os.path.dirname(os.path.abspath(__file__))
+sys.path.insert(0, HERE)
+
+import certificates  # noqa: E402
+from driver import Run, Skipped  # noqa: E402
+from runner import Ended, Runner  # noqa: E402
+from server import Failed  # noqa: E402
+
+
+def scenarios():
+    """All scenarios in the order of their files, and the steps that many begin with."""
+    found = []
+    for path in sorted(glob.glob(f"{HERE}/scenarios/*.json")):
+        with open(path, encoding="utf-8") as it:
+            group = json.load(it)
+        name = os.path.splitext(os.path.basename(path))[0]
+        if name == "begins":
+            begins = group
+        else:
+            found += [{**row, "group": name} for row in group]
+    return found, begins
+
+
+class Kit:
+    """The scenarios over some runners at once, and what came of them."""
+
+    def __init__(self, given, begins, paths):
+        self.given, self.begins, self.paths = given, begins, paths
+        self.lock, self.work = threading.Lock(), queue.Queue()
+        self.passed = self.unrepresentable = 0
+        self.failed, self.skipped = [], {}
+
+    def worker(self):
+        with tempfile.TemporaryDirectory(prefix="kit") as folder:
+            runner = Runner(self.given.command, folder)
+            hello = self.begun(runner)
+            while True:
+                try:
+                    scenario = self.work.get_nowait()
+                except queue.Empty:
+                    break
+                if not self.one(scenario, runner, hello):
+                    runner.kill()
+                    hello = self.begun(runner)
+            if runner.process is not None and runner.end() != 0:
+                self.fail("end", "the runner does not end with status 0 at the end of its input")
+
+    def begun(self, runner):
+        return runner.start()["ok"]
+
+    def one(self, scenario, runner, hello):
+        """Runs a scenario. Whether the runner may go on."""
+        features = set(hello["features"]) - ({"tls"} if not self.paths else set())
+        over = self.given.over or ("unix" if "unix" in features else "tcp")
+        run = Run(scenario, self.begins, runner, features, over, self.paths)
+        try:
+            runner.call({"do": "reset"}, 15)
+            count = run.run()
+        except Skipped as feature:
+            with self.lock:
+                self.skipped.setdefault(str(feature), []).append(scenario["name"])
+            return True
+        except (Failed, Ended) as why:
+            self.fail(scenario["name"], f"{why}\n    {scenario['says']}", "" if isinstance(why, Ended) else runner.said())
+            return False
+        with self.lock:
+            self.passed, self.unrepresentable = self.passed + 1, self.unrepresentable + count
+            if self.given.verbose:
+                print(f"ok: {scenario['name']}", flush=True)
+        return True
+
+    def fail(self, name, why, said=""):
+        with self.lock:
+            self.failed.append(name)
+            print(f"FAILED: {name}: {why}" + (f"\n    its standard error: {said[-600:]}" if said else ""), flush=True)
+
+    def run(self, chosen):
+        for scenario in chosen:
+            self.work.put(scenario)
+        workers = [threading.Thread(target=self.worker) for _ in range(min(self.given.jobs, max(len(chosen), 1)))]
+        for it in workers:
+            it.start()
+        for it in workers:
+            it.join()
+
+
+def words():
+    parser = argparse.ArgumentParser(description=__doc__, formatter_class=argparse.RawDescriptionHelpFormatter)
+    parser.add_argument("--only", metavar="PATTERN", action="append", help="scenarios with such a name or group")
+    parser.add_argument("--list", action="store_true", help="print the scenarios, and what each says")
+    parser.add_argument("--jobs", metavar="N", type=int, default=4, help="runners at once (4)")
+    parser.add_argument("--over", choices=("unix", "tcp"), help="the kind of sockets; else unix where the client has them")
+    parser.add_argument("--verbose", action="store_true", help="print scenarios that pass too")
+    parser.add_argument("command", metavar="COMMAND", nargs="*", help="the runner and its words, behind --")
+    given = parser.parse_args()
+    if not given.list and not given.command:
+        parser.error("no COMMAND of a runner is given")
+    return parser, given
+
+
+def main():
+    parser, given = words()
+    found, begins = scenarios()
+    chosen = [it for it in found if not given.only or any(
+        fnmatch.fnmatch(it[key], pattern) for key in ("name", "group") for pattern in given.only)]
+    if not chosen:
+        parser.error("no scenario has such a name")
+    if given.list:
+        for it in chosen:
+            print(f"{it['group']}/{it['name']}: {it['says']}")
+        print(f"{len(chosen)} scenarios")
+        return 0
+    with tempfile.TemporaryDirectory(prefix="kit") as folder:
+        try:
+            hello = Runner(given.command, folder)
+            said = hello.start()["ok"]
+            hello.end()
+        except (OSError, Ended, KeyError, TypeError) as why:
+            parser.error(f"the runner does not start: {why}")
+        if said.get("protocol") != 1:
+            parser.error(f"the runner speaks protocol {said.get('protocol')}, not 1")
+        began, kit = time.monotonic(), Kit(given, begins, certificates.made(folder))
+        kit.run(chosen)
+    return report(kit, said, time.monotonic() - began)
+
+
+def report(kit, said, seconds):
+    for feature, names in sorted(kit.skipped.items()):
+        print(f"passed over, since the client has no {feature}: {len(names)} ({', '.join(sorted(names)[:4])}, ..)")
+    if kit.unrepresentable:
+        print(f"{kit.unrepresentable} values are refused by the types of {said.get('language')}")
+    skipped = sum(map(len, kit.skipped.values()))
+    print(f"{said.get('client')}: {kit.passed} passed, {len(kit.failed)} failed, {skipped} passed over, {seconds:.0f} s")
+    return 1 if kit.failed else 0
+
+
+if __name__ == "__main__":
+    sys.exit(main())

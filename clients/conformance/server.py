@@ -1,0 +1,282 @@
+"""The kit as the server: sockets, and what a scenario has them do."""
+import contextlib
+import os
+import select
+import socket
+import ssl
+import struct
+import time
+
+HEADER = 48
+PATIENCE = 5.0  # seconds that the client may take for what is waited for
+
+
+class Failed(Exception):
+    """What the client did is not what the scenario says."""
+
+
+class Server:
+    """One listening socket, at a Unix path or at a port of the loopback interface."""
+
+    def __init__(self, name, folder, over, context=None):
+        self.name, self.over, self.context = name, over, context
+        self.path = os.path.join(folder, f"{name}.sock")
+        self.port, self.socket = 0, None
+        self.listen()
+
+    def listen(self):
+        if self.over == "unix":
+            with contextlib.suppress(FileNotFoundError):
+                os.unlink(self.path)
+            self.socket = socket.socket(socket.AF_UNIX)
+            self.socket.bind(self.path)
+        else:
+            self.socket = socket.socket(socket.AF_INET)
+            self.socket.setsockopt(socket.SOL_SOCKET, socket.SO_REUSEADDR, 1)
+            self.socket.bind(("127.0.0.1", self.port))
+            self.port = self.socket.getsockname()[1]
+        self.socket.listen(16)
+
+    def unlisten(self):
+        if self.socket is not None:
+            self.socket.close()
+            self.socket = None
+
+    def accept(self, seconds):
+        """The next connection, or None where none comes in time."""
+        if self.socket is None or not readable(self.socket, seconds):
+            return None
+        return self.socket.accept()[0]
+
+    @property
+    def address(self):
+        if self.over == "unix":
+            return {"unix": self.path}
+        return {"host": "127.0.0.1", "port": self.port}
+
+
+def readable(it, seconds):
+    ready = select.poll()
+    ready.register(it, select.POLLIN)
+    return bool(ready.poll(max(seconds, 0) * 1000))
+
+
+class Connections:
+    """The connections of a scenario by name, and the actions over them."""
+
+    def __init__(self, servers, frames, kill):
+        self.servers, self.frames, self.kill = servers, frames, kill
+        self.open, self.last = {}, {}
+        self.at = time.monotonic()
+        self.ignored = ()  # servers whose further connections are no fault: who is refused calls again
+
+    def run(self, actions):
+        for action in actions:
+            (verb,) = [key for key in action if hasattr(self, f"do_{key}")]
+            getattr(self, f"do_{verb}")(action[verb], action)
+            self.at = time.monotonic()
+
+    def bytes_of(self, text):
+        """Bytes by the name of a frame, or as hex, or as text behind `text:`. A frame of many items has the first of them, and
+        their number: ids rise by one."""
+        frame = self.frames.get(text, text)
+        if isinstance(frame, dict):
+            first = int.from_bytes(bytes.fromhex(frame["first"][:32]), "little")
+            rest = bytes.fromhex(frame["first"][32:])
+            ids = ((first + at).to_bytes(16, "little") for at in range(frame["count"]))
+            return bytes.fromhex(frame["header"]) + b"".join(it + rest for it in ids)
+        if frame.startswith("text:"):
+            return frame[5:].encode("ascii")
+        return bytes.fromhex(frame)
+
+    def connection(self, action):
+        name = action.get("on", "c")
+        if name not in self.open:
+            raise Failed(f"no connection {name} is open")
+        return self.open[name]
+
+    # Connections
+
+    def do_accept(self, name, action):
+        server = self.servers[action.get("server", "a")]
+        it = server.accept(action.get("within", PATIENCE))
+        if it is None:
+            raise Failed(f"no connection came to server {server.name} within {PATIENCE:g} s")
+        early = action.get("not_before", 0) - (time.monotonic() - self.at)
+        if early > 0:
+            it.close()
+            raise Failed(f"a connection came {early:.3f} s too early")
+        it.settimeout(PATIENCE)
+        if server.context is not None:
+            it = self.agreed(it, server, action.get("handshake", "succeeds"))
+        if it is not None:
+            self.open[name] = it
+
+    def agreed(self, it, server, wanted):
+        """The connection under TLS, or None where that was to fail, and failed."""
+        try:
+            it = server.context.wrap_socket(it, server_side=True)
+        except (ssl.SSLError, OSError) as error:
+            it.close()
+            if wanted == "succeeds":
+                raise Failed(f"TLS was not agreed on: {error}") from None
+            return None
+        if wanted == "fails":
+            it.close()
+            raise Failed("TLS was agreed on")
+        return it
+
+    def do_close(self, name, _):
+        it = self.open.pop(name, None)
+        if it is not None:
+            it.close()
+
+    def do_reset(self, name, _):
+        """Breaks a connection, so that the client's system reports a reset."""
+        it = self.open.pop(name)
+        it.setsockopt(socket.SOL_SOCKET, socket.SO_LINGER, struct.pack("ii", 1, 0))
+        it.close()
+
+    def do_half(self, name, _):
+        self.open[name].shutdown(socket.SHUT_WR)
+
+    def do_ended(self, name, _):
+        """Waits until the client has closed its side, with nothing sent before."""
+        it = self.open.pop(name)
+        with contextlib.suppress(ConnectionError, ssl.SSLError):
+            try:
+                data = it.recv(1)
+            except socket.timeout:
+                raise Failed(f"the client leaves connection {name} open") from None
+            if data:
+                raise Failed(f"the client sends more on connection {name}: {data.hex()}..")
+        it.close()
+
+    def do_drain(self, name, action):
+        """Reads until the client closes its side: nothing, or the beginning of these bytes."""
+        wanted, data, it = self.bytes_of(action["of"]), b"", self.open.pop(name)
+        try:
+            while more := it.recv(1 << 16):
+                data += more
+        except socket.timeout:
+            raise Failed(f"the client leaves connection {name} open") from None
+        except (ConnectionError, ssl.SSLError):
+            pass
+        it.close()
+        if not wanted.startswith(data):
+            raise Failed(f"the client sends {shown(data)}, not {shown(wanted)}")
+
+    def do_hello(self, name, _):
+        """Reads the first bytes of TLS, and nothing else."""
+        data = self.open[name].recv(3)
+        if data[:2] != b"\x16\x03":
+            raise Failed(f"the client sends {shown(data)}, which is no TLS")
+
+    def do_unlisten(self, name, _):
+        self.servers[name].unlisten()
+
+    def do_listen(self, name, _):
+        self.servers[name].listen()
+
+    # Bytes
+
+    def do_read(self, text, action):
+        """Reads just these bytes. `any` has the places that may hold anything; `first` so many only."""
+        wanted = self.bytes_of(text)[: action.get("first")]
+        got = self.received(self.connection(action), len(wanted), action)
+        compared = bytearray(got)
+        for begin, end in action.get("any", ()):
+            compared[begin:end] = wanted[begin:end]
+        if bytes(compared) != wanted:
+            raise Failed(f"the client sends {shown(got)}, not {shown(wanted)}")
+        self.last[action.get("on", "c")] = got
+
+    def received(self, it, count, action):
+        data = b""
+        try:
+            while len(data) < count:
+                more = it.recv(min(count - len(data), 1 << 16))
+                if not more:
+                    raise Failed(f"the client closes the connection after {len(data)} of {count} bytes")
+                data += more
+        except socket.timeout:
+            raise Failed(f"the client sends {len(data)} of {count} bytes: {shown(data)}") from None
+        except ConnectionError as error:
+            raise Failed(f"the connection broke after {len(data)} of {count} bytes: {error}") from None
+        early = action.get("not_before", 0) - (time.monotonic() - self.at)
+        if early > 0:
+            raise Failed(f"bytes came {early:.3f} s too early")
+        return data
+
+    def do_send(self, text, action):
+        """Sends bytes: in pieces where `cuts` has places, after the client of the last request where `client` says so."""
+        data, it = self.bytes_of(text), self.connection(action)
+        if action.get("client"):
+            data = self.last[action.get("on", "c")][:16] + data[16:]
+        places = [0, *action.get("cuts", ()), len(data)]
+        with contextlib.suppress(ConnectionError):  # a client may have gone by then
+            for begin, end in zip(places, places[1:]):
+                it.sendall(data[begin:end])
+                if end < len(data):
+                    time.sleep(0.01)
+
+    def do_wait(self, seconds, _):
+        time.sleep(seconds)
+
+    def do_answer(self, count, action):
+        """Reads so many requests, and answers each by its own numbers, with an empty body. Numbers of a client have to rise by one."""
+        name, numbers = action.get("on", "c"), {}
+        for commit in range(100, 100 + count):
+            header = self.received(self.open[name], HEADER, action)
+            client, (session, number, operation, length) = header[:16], struct.unpack("<QIB3xI12x", header[16:])
+            self.received(self.open[name], length, action)
+            if number != numbers.get(client, number - 1) + 1:
+                raise Failed(f"request {number} of a client comes after {numbers[client]}")
+            numbers[client] = number
+            self.open[name].sendall(client + struct.pack("<QIBB2xIQ4x", session, number, operation, 0, 0, commit))
+
+    def do_kill(self, _, __):
+        self.kill()
+
+    # Ends
+
+    def nothing_left(self):
+        """Raises where the client sent what no action has read, or made a connection that none has taken."""
+        for name, it in self.open.items():
+            it.settimeout(0)
+            try:
+                more = it.recv(256)
+            except (BlockingIOError, ssl.SSLWantReadError):
+                more = b""
+            except (OSError, ssl.SSLError):
+                more = b""
+            finally:
+                with contextlib.suppress(OSError):
+                    it.settimeout(PATIENCE)
+            if more:
+                raise Failed(f"the client sends more on connection {name}: {shown(more)}")
+        for server in self.servers.values():
+            it = server.accept(0)
+            if it is not None:
+                it.close()
+                if server.name in self.ignored:
+                    continue
+                raise Failed(f"the client makes one more connection to server {server.name}")
+
+    def close(self):
+        for it in self.open.values():
+            with contextlib.suppress(OSError):
+                it.shutdown(socket.SHUT_RDWR)
+            it.close()
+        self.open.clear()
+        for server in self.servers.values():
+            server.unlisten()
+
+
+def shown(data):
+    """Bytes as a failure shows them: the header's fields apart, and no more than fits a line or two."""
+    text = data.hex()
+    if len(data) >= HEADER:
+        parts = (text[:32], text[32:48], text[48:56], text[56:64], text[64:72], text[72:96], text[96:])
+        text = " ".join(part for part in parts if part)
+    return text if len(text) < 400 else f"{text[:240]}..({len(data)} bytes)"
