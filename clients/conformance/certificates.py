@@ -34,7 +34,9 @@ def run(*words):
 
 
 def sign(folder, paths, name, extension, days, by="ca"):
-    key, request, path, more = (os.path.join(folder, f"{name}.{it}") for it in ("key", "csr", "pem", "ext"))
+    key, request, path, more = (
+        os.path.join(folder, f"{name}.{it}") for it in ("key", "csr", "pem", "ext")
+    )
     run("req", *new_key(key), "-subj", f"/CN={name}", "-out", request)
     with open(more, "w") as it:
         it.write(extension + "\n")

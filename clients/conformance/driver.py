@@ -1,4 +1,5 @@
-"""Runs a scenario: calls go to the runner, the kit plays the server meanwhile, and what comes back is compared."""
+"""Runs a scenario: calls go to the runner, the kit plays the server meanwhile, and what comes back
+is compared."""
 import contextlib
 import json
 import os
@@ -66,7 +67,6 @@ class Run:
         elif "file" in step:
             self.file(step)
         elif step.get("kill"):
-            self.runner.kill()
             self.runner.start()
         else:
             self.connections.run(step["server"])
@@ -104,17 +104,24 @@ class Run:
             self.runner.start()
             return
         self.test(step.get("wants", {"ok": None}), answer)
-        for name, holds in (("at_least", took >= step.get("at_least", 0)), ("at_most", took <= step.get("at_most", CALL))):
+        for name, holds in (
+            ("at_least", took >= step.get("at_least", 0)),
+            ("at_most", took <= step.get("at_most", CALL)),
+        ):
             if not holds:
-                raise Failed(f"the call took {took:.3f} s, {name.replace('_', ' ')} {step[name]:g} are wanted")
+                raise Failed(
+                    f"the call took {took:.3f} s, {name.replace('_', ' ')}"
+                    f" {step[name]:g} are wanted"
+                )
 
     def kill(self):
         """Kills the runner within a call."""
         self.was_killed = True
-        self.runner.kill()
+        self.runner.strike()
 
     def filled(self, value):
-        """A call with its places: paths in the scenario's folder, addresses of its servers, certificates."""
+        """A call with its places: paths in the scenario's folder, addresses of its servers,
+        certificates."""
         if isinstance(value, dict):
             if set(value) == {"address"}:
                 return self.connections.servers[value["address"]].address
@@ -136,7 +143,9 @@ class Run:
             self.unrepresentable += 1
         elif "either" in wants:
             if not any(self.is_wanted(it, answer) for it in wants["either"]):
-                raise Failed(f"the runner answers {short(answer)}, not one of {short(wants['either'])}")
+                raise Failed(
+                    f"the runner answers {short(answer)}, not one of {short(wants['either'])}"
+                )
         elif not self.is_wanted(wants, answer):
             raise Failed(f"the runner answers {short(answer)}, not {short(wants)}")
 
@@ -171,7 +180,9 @@ class Run:
             write(path, " " * step["spaces"])
         if "cut" in step:
             with open(path, "r+b") as it:
-                it.truncate(max(os.path.getsize(path) + step["cut"], 0) if step["cut"] < 0 else step["cut"])
+                it.truncate(
+                    max(os.path.getsize(path) + step["cut"], 0) if step["cut"] < 0 else step["cut"]
+                )
         if "replace" in step:
             text = read(path)
             found = re.sub(step["replace"][0], step["replace"][1], text, count=1)
@@ -211,7 +222,9 @@ def matches(wanted, got):
     if isinstance(wanted, dict) and isinstance(got, list):
         return set(wanted) == {"count", "first"} and rises(wanted, got)
     if isinstance(wanted, dict) and isinstance(got, dict):
-        return wanted.keys() == got.keys() and all(matches(it, got[key]) for key, it in wanted.items())
+        return wanted.keys() == got.keys() and all(
+            matches(it, got[key]) for key, it in wanted.items()
+        )
     if isinstance(wanted, list) and isinstance(got, list):
         return len(wanted) == len(got) and all(map(matches, wanted, got))
     return type(wanted) is type(got) and wanted == got
@@ -244,11 +257,18 @@ def is_error(wants, got):
 
 
 def are_ids(wants, got):
-    """Whether these are so many ids: all different, each of about now, and rising where they were made by one thread."""
-    if not isinstance(got, list) or len(got) != wants["count"] or not all(re.fullmatch(r"[1-9]\d*", it) for it in got):
+    """Whether these are so many ids: all different, each of about now, and rising where they were
+    made by one thread."""
+    if (
+        not isinstance(got, list)
+        or len(got) != wants["count"]
+        or not all(re.fullmatch(r"[1-9]\d*", it) for it in got)
+    ):
         return False
     numbers, now = [int(it) for it in got], time.time_ns() // 1_000_000
-    if len(set(numbers)) != len(numbers) or not all(abs((it >> 80) - now) < 60_000 for it in numbers):
+    if len(set(numbers)) != len(numbers) or not all(
+        abs((it >> 80) - now) < 60_000 for it in numbers
+    ):
         return False
     return not wants.get("rise") or numbers == sorted(numbers)
 

@@ -5,8 +5,9 @@
     clients/conformance/kit.py --only 'reply-late*' -- COMMAND [WORD ..]
     clients/conformance/kit.py --list
 
-Prints a line for each scenario that fails, what was passed over, and 'N passed, M failed, K passed over'. Status 0 where none
-failed, 1 where one did, 2 where the runner does not start or the words are wrong.
+Prints a line for each scenario that fails, what was passed over, and 'N passed, M failed, K passed
+over'. Status 0 where none failed, 1 where one did, 2 where the runner does not start or the words
+are wrong.
 """
 import argparse
 import fnmatch
@@ -53,6 +54,12 @@ class Kit:
         self.failed, self.skipped = [], {}
 
     def worker(self):
+        try:
+            self.work_off()
+        except Exception as why:  # no scenario is passed over for a fault of the kit
+            self.fail("kit", f"{type(why).__name__}: {why}")
+
+    def work_off(self):
         with tempfile.TemporaryDirectory(prefix="kit") as folder:
             runner = Runner(self.given.command, folder)
             hello = self.begun(runner)
@@ -61,8 +68,9 @@ class Kit:
                     scenario = self.work.get_nowait()
                 except queue.Empty:
                     break
+                if self.given.first and self.failed:
+                    break
                 if not self.one(scenario, runner, hello):
-                    runner.kill()
                     hello = self.begun(runner)
             if runner.process is not None and runner.end() != 0:
                 self.fail("end", "the runner does not end with status 0 at the end of its input")
@@ -83,7 +91,11 @@ class Kit:
                 self.skipped.setdefault(str(feature), []).append(scenario["name"])
             return True
         except (Failed, Ended) as why:
-            self.fail(scenario["name"], f"{why}\n    {scenario['says']}", "" if isinstance(why, Ended) else runner.said())
+            self.fail(
+                scenario["name"],
+                f"{why}\n    {scenario['says']}",
+                "" if isinstance(why, Ended) else runner.said(),
+            )
             return False
         with self.lock:
             self.passed, self.unrepresentable = self.passed + 1, self.unrepresentable + count
@@ -94,12 +106,19 @@ class Kit:
     def fail(self, name, why, said=""):
         with self.lock:
             self.failed.append(name)
-            print(f"FAILED: {name}: {why}" + (f"\n    its standard error: {said[-600:]}" if said else ""), flush=True)
+            print(
+                f"FAILED: {name}: {why}"
+                + (f"\n    its standard error: {said[-600:]}" if said else ""),
+                flush=True,
+            )
 
     def run(self, chosen):
         for scenario in chosen:
             self.work.put(scenario)
-        workers = [threading.Thread(target=self.worker) for _ in range(min(self.given.jobs, max(len(chosen), 1)))]
+        workers = [
+            threading.Thread(target=self.worker)
+            for _ in range(min(self.given.jobs, max(len(chosen), 1)))
+        ]
         for it in workers:
             it.start()
         for it in workers:
@@ -107,13 +126,26 @@ class Kit:
 
 
 def words():
-    parser = argparse.ArgumentParser(description=__doc__, formatter_class=argparse.RawDescriptionHelpFormatter)
-    parser.add_argument("--only", metavar="PATTERN", action="append", help="scenarios with such a name or group")
-    parser.add_argument("--list", action="store_true", help="print the scenarios, and what each says")
+    parser = argparse.ArgumentParser(
+        description=__doc__, formatter_class=argparse.RawDescriptionHelpFormatter
+    )
+    parser.add_argument(
+        "--only", metavar="PATTERN", action="append", help="scenarios with such a name or group"
+    )
+    parser.add_argument(
+        "--list", action="store_true", help="print the scenarios, and what each says"
+    )
     parser.add_argument("--jobs", metavar="N", type=int, default=4, help="runners at once (4)")
-    parser.add_argument("--over", choices=("unix", "tcp"), help="the kind of sockets; else unix where the client has them")
+    parser.add_argument(
+        "--over",
+        choices=("unix", "tcp"),
+        help="the kind of sockets; else unix where the client has them",
+    )
+    parser.add_argument("--first", action="store_true", help="stop where one has failed")
     parser.add_argument("--verbose", action="store_true", help="print scenarios that pass too")
-    parser.add_argument("command", metavar="COMMAND", nargs="*", help="the runner and its words, behind --")
+    parser.add_argument(
+        "command", metavar="COMMAND", nargs="*", help="the runner and its words, behind --"
+    )
     given = parser.parse_args()
     if not given.list and not given.command:
         parser.error("no COMMAND of a runner is given")
@@ -123,8 +155,14 @@ def words():
 def main():
     parser, given = words()
     found, begins = scenarios()
-    chosen = [it for it in found if not given.only or any(
-        fnmatch.fnmatch(it[key], pattern) for key in ("name", "group") for pattern in given.only)]
+    chosen = [
+        it
+        for it in found
+        if not given.only
+        or any(
+            fnmatch.fnmatch(it[key], pattern) for key in ("name", "group") for pattern in given.only
+        )
+    ]
     if not chosen:
         parser.error("no scenario has such a name")
     if given.list:
@@ -143,16 +181,25 @@ def main():
             parser.error(f"the runner speaks protocol {said.get('protocol')}, not 1")
         began, kit = time.monotonic(), Kit(given, begins, certificates.made(folder))
         kit.run(chosen)
-    return report(kit, said, time.monotonic() - began)
+    return report(kit, said, len(chosen), time.monotonic() - began)
 
 
-def report(kit, said, seconds):
+def report(kit, said, chosen, seconds):
     for feature, names in sorted(kit.skipped.items()):
-        print(f"passed over, since the client has no {feature}: {len(names)} ({', '.join(sorted(names)[:4])}, ..)")
+        print(
+            f"passed over, since the client has no {feature}: {len(names)}"
+            f" ({', '.join(sorted(names)[:4])}, ..)"
+        )
     if kit.unrepresentable:
         print(f"{kit.unrepresentable} values are refused by the types of {said.get('language')}")
     skipped = sum(map(len, kit.skipped.values()))
-    print(f"{said.get('client')}: {kit.passed} passed, {len(kit.failed)} failed, {skipped} passed over, {seconds:.0f} s")
+    if kit.passed + len(kit.failed) + skipped != chosen and not kit.given.first:
+        print(f"FAILED: {chosen} scenarios were to run")
+        kit.failed.append("kit")
+    print(
+        f"{said.get('client')}: {kit.passed} passed, {len(kit.failed)} failed,"
+        f" {skipped} passed over, {seconds:.0f} s"
+    )
     return 1 if kit.failed else 0
 
 

@@ -1,8 +1,10 @@
 #!/usr/bin/env python3
 """Makes the scenarios of the conformance kit, scenarios/*.json, with an encoder of its own.
 
-    clients/conformance/make_scenarios.py            compares what is there with what is made, status 1 where they differ
+    clients/conformance/make_scenarios.py            compares what is there with what is made
     clients/conformance/make_scenarios.py --write    makes them again
+
+Status 1 where a file differs, or two scenarios have one name.
 """
 import argparse
 import glob
@@ -33,7 +35,10 @@ def line(value):
 def text_of(group):
     """A file's text: a line for each step."""
     if isinstance(group, dict):
-        parts = [f"{line(name)}: [\n  " + ",\n  ".join(map(line, steps)) + "\n ]" for name, steps in group.items()]
+        parts = [
+            f"{line(name)}: [\n  " + ",\n  ".join(map(line, steps)) + "\n ]"
+            for name, steps in group.items()
+        ]
         return "{\n " + ",\n ".join(parts) + "\n}\n"
     return "[\n" + ",\n".join(map(scenario, group)) + "\n]\n"
 
@@ -42,7 +47,11 @@ def scenario(row):
     parts = []
     for key, value in row.items():
         if key in ("steps", "server") or key == "frames":
-            rows = [f"{line(name)}: {line(it)}" for name, it in value.items()] if key == "frames" else map(line, value)
+            rows = (
+                [f"{line(name)}: {line(it)}" for name, it in value.items()]
+                if key == "frames"
+                else map(line, value)
+            )
             opening, closing = "{}" if key == "frames" else "[]"
             parts.append(f"{line(key)}: {opening}\n   " + ",\n   ".join(rows) + f"\n  {closing}")
         else:
@@ -51,7 +60,9 @@ def scenario(row):
 
 
 def main():
-    parser = argparse.ArgumentParser(description=__doc__, formatter_class=argparse.RawDescriptionHelpFormatter)
+    parser = argparse.ArgumentParser(
+        description=__doc__, formatter_class=argparse.RawDescriptionHelpFormatter
+    )
     parser.add_argument("--write", action="store_true", help="make them again")
     given = parser.parse_args()
     made = {f"{HERE}/scenarios/{name}.json": text_of(group) for name, group in groups().items()}
@@ -69,7 +80,10 @@ def main():
                 with open(path, "w", encoding="utf-8") as it:
                     it.write(text)
     for path in wrong:
-        print(f"{'written' if given.write and path in made else 'FAILED: differs'}: {os.path.relpath(path, HERE)}")
+        print(
+            f"{'written' if given.write and path in made else 'FAILED: differs'}:"
+            f" {os.path.relpath(path, HERE)}"
+        )
     print(f"{len(names)} scenarios in {len(made) - 1} files")
     return 1 if wrong and not given.write else 0
 

@@ -1,4 +1,5 @@
 """The runner of a client, as a process."""
+import contextlib
 import json
 import os
 import select
@@ -22,9 +23,14 @@ class Runner:
         self.process, self.buffer = None, b""
 
     def start(self):
+        self.kill()
         with open(self.errors, "wb") as errors:
             self.process = subprocess.Popen(
-                self.words, stdin=subprocess.PIPE, stdout=subprocess.PIPE, stderr=errors, start_new_session=True
+                self.words,
+                stdin=subprocess.PIPE,
+                stdout=subprocess.PIPE,
+                stderr=errors,
+                start_new_session=True,
             )
         self.buffer = b""
         return self.call({"do": "hello"}, 30)
@@ -57,13 +63,16 @@ class Runner:
         self.send(line)
         return self.answer(seconds)
 
+    def strike(self):
+        """Kills it while another thread may wait for its answer: what is left of it goes by
+        `kill`."""
+        with contextlib.suppress(ProcessLookupError):
+            os.killpg(self.process.pid, signal.SIGKILL)
+
     def kill(self):
         """Ends it as a crash would."""
         if self.process is not None:
-            try:
-                os.killpg(self.process.pid, signal.SIGKILL)
-            except ProcessLookupError:
-                pass
+            self.strike()
             self.process.wait()
             self.process.stdin.close()
             self.process.stdout.close()

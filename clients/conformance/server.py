@@ -68,7 +68,8 @@ class Connections:
         self.servers, self.frames, self.kill = servers, frames, kill
         self.open, self.last = {}, {}
         self.at = time.monotonic()
-        self.ignored = ()  # servers whose further connections are no fault: who is refused calls again
+        # servers whose further connections are no fault: who is refused calls again
+        self.ignored = ()
 
     def run(self, actions):
         for action in actions:
@@ -77,8 +78,8 @@ class Connections:
             self.at = time.monotonic()
 
     def bytes_of(self, text):
-        """Bytes by the name of a frame, or as hex, or as text behind `text:`. A frame of many items has the first of them, and
-        their number: ids rise by one."""
+        """Bytes by the name of a frame, or as hex, or as text behind `text:`. A frame of many items
+        has the first of them, and their number: ids rise by one."""
         frame = self.frames.get(text, text)
         if isinstance(frame, dict):
             first = int.from_bytes(bytes.fromhex(frame["first"][:32]), "little")
@@ -181,7 +182,8 @@ class Connections:
     # Bytes
 
     def do_read(self, text, action):
-        """Reads just these bytes. `any` has the places that may hold anything; `first` so many only."""
+        """Reads just these bytes. `any` has the places that may hold anything; `first` so many
+        only."""
         wanted = self.bytes_of(text)[: action.get("first")]
         got = self.received(self.connection(action), len(wanted), action)
         compared = bytearray(got)
@@ -197,19 +199,24 @@ class Connections:
             while len(data) < count:
                 more = it.recv(min(count - len(data), 1 << 16))
                 if not more:
-                    raise Failed(f"the client closes the connection after {len(data)} of {count} bytes")
+                    raise Failed(
+                        f"the client closes the connection after {len(data)} of {count} bytes"
+                    )
                 data += more
         except socket.timeout:
             raise Failed(f"the client sends {len(data)} of {count} bytes: {shown(data)}") from None
         except ConnectionError as error:
-            raise Failed(f"the connection broke after {len(data)} of {count} bytes: {error}") from None
+            raise Failed(
+                f"the connection broke after {len(data)} of {count} bytes: {error}"
+            ) from None
         early = action.get("not_before", 0) - (time.monotonic() - self.at)
         if early > 0:
             raise Failed(f"bytes came {early:.3f} s too early")
         return data
 
     def do_send(self, text, action):
-        """Sends bytes: in pieces where `cuts` has places, after the client of the last request where `client` says so."""
+        """Sends bytes: in pieces where `cuts` has places, after the client of the last request
+        where `client` says so."""
         data, it = self.bytes_of(text), self.connection(action)
         if action.get("client"):
             data = self.last[action.get("on", "c")][:16] + data[16:]
@@ -224,16 +231,21 @@ class Connections:
         time.sleep(seconds)
 
     def do_answer(self, count, action):
-        """Reads so many requests, and answers each by its own numbers, with an empty body. Numbers of a client have to rise by one."""
+        """Reads so many requests, and answers each by its own numbers, with an empty body. Numbers
+        of a client have to rise by one."""
         name, numbers = action.get("on", "c"), {}
         for commit in range(100, 100 + count):
             header = self.received(self.open[name], HEADER, action)
-            client, (session, number, operation, length) = header[:16], struct.unpack("<QIB3xI12x", header[16:])
+            client, (session, number, operation, length) = header[:16], struct.unpack(
+                "<QIB3xI12x", header[16:]
+            )
             self.received(self.open[name], length, action)
             if number != numbers.get(client, number - 1) + 1:
                 raise Failed(f"request {number} of a client comes after {numbers[client]}")
             numbers[client] = number
-            self.open[name].sendall(client + struct.pack("<QIBB2xIQ4x", session, number, operation, 0, 0, commit))
+            self.open[name].sendall(
+                client + struct.pack("<QIBB2xIQ4x", session, number, operation, 0, 0, commit)
+            )
 
     def do_kill(self, _, __):
         self.kill()
@@ -241,7 +253,8 @@ class Connections:
     # Ends
 
     def nothing_left(self):
-        """Raises where the client sent what no action has read, or made a connection that none has taken."""
+        """Raises where the client sent what no action has read, or made a connection that none has
+        taken."""
         for name, it in self.open.items():
             it.settimeout(0)
             try:
@@ -274,9 +287,18 @@ class Connections:
 
 
 def shown(data):
-    """Bytes as a failure shows them: the header's fields apart, and no more than fits a line or two."""
+    """Bytes as a failure shows them: the header's fields apart, and no more than fits a line or
+    two."""
     text = data.hex()
     if len(data) >= HEADER:
-        parts = (text[:32], text[32:48], text[48:56], text[56:64], text[64:72], text[72:96], text[96:])
+        parts = (
+            text[:32],
+            text[32:48],
+            text[48:56],
+            text[56:64],
+            text[64:72],
+            text[72:96],
+            text[96:],
+        )
         text = " ".join(part for part in parts if part)
     return text if len(text) < 400 else f"{text[:240]}..({len(data)} bytes)"

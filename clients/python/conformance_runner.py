@@ -1,16 +1,17 @@
 #!/usr/bin/env python3
-"""The runner of this client for the conformance kit (clients/conformance/PROTOCOL.md): a JSON line in, a JSON line out.
+"""The runner of this client for the conformance kit: a JSON line in, a JSON line out.
 
     clients/conformance/kit.py -- python3 -B clients/python/conformance_runner.py
 """
 from __future__ import annotations
 
+import functools
 import json
 import platform
 import ssl
 import sys
 import threading
-from typing import Any, Callable, Dict, List, Optional
+from typing import Any, Callable, Dict, Iterator, List, Optional
 
 import tb_client as tb
 from tb_client.ids import MILLISECOND, Ids
@@ -266,17 +267,17 @@ class Runner:
 
     def do_ids(self, line: Dict[str, Any]) -> Any:
         if "times" in line:
-            times, drawn = iter(line["times"]), iter(line["random"])
-            ids = Ids(lambda: next(times) * MILLISECOND, lambda count: bytes.fromhex(next(drawn)))
+            times: Iterator[int] = iter(line["times"])
+            drawn: Iterator[str] = iter(line["random"])
+            ids = Ids(lambda: next(times) * MILLISECOND, lambda _: bytes.fromhex(next(drawn)))
             return [str(ids.next()) for _ in line["times"]]
-        each = self.together(
-            [lambda: [tb.id() for _ in range(line.get("count", 1) // line.get("threads", 1))]]
-            * line.get("threads", 1)
-        )
+        threads = line.get("threads", 1)
+        count = line.get("count", 1) // threads
+        each = self.together([lambda: [tb.id() for _ in range(count)]] * threads)
         return [str(it) for made in each for it in made]
 
     def do_parallel(self, line: Dict[str, Any]) -> Any:
-        return self.together([lambda it=it: self.answer(it) for it in line["calls"]])
+        return self.together([functools.partial(self.answer, it) for it in line["calls"]])
 
     @staticmethod
     def together(calls: List[Callable[[], Any]]) -> List[Any]:

@@ -1,7 +1,35 @@
-"""What goes wrong on the way: replies that are lost, late, twice or wrong, connections that break, and what a server tells."""
+"""What goes wrong on the way: replies that are lost, late, twice or wrong, connections that break,
+and what a server tells."""
 from .frames import (
-    ACCOUNTS, FIND_ACCOUNTS, LOST, NAMES, TRANSFERS, accept, account, account_bytes, ask, close, connect, empty, error, frame_of,
-    read, refusal, registered, registers, reply, results, retry, saved, scenario, send, served, told, transfer, u128)
+    ACCOUNTS,
+    FIND_ACCOUNTS,
+    LOST,
+    NAMES,
+    TRANSFERS,
+    accept,
+    account,
+    account_bytes,
+    ask,
+    close,
+    connect,
+    empty,
+    error,
+    frame_of,
+    read,
+    refusal,
+    registered,
+    registers,
+    reply,
+    results,
+    retry,
+    saved,
+    scenario,
+    send,
+    served,
+    told,
+    transfer,
+    u128,
+)
 
 ASKED = frame_of(1, TRANSFERS)
 DONE = empty(1, TRANSFERS)
@@ -10,8 +38,13 @@ SALE = [transfer(11)]
 
 
 def groups():
-    return {"lost": list(lost()), "bad-replies": list(bad_replies()), "told": list(what_is_told()),
-            "refusals": list(refusals()), "addresses": list(addresses())}
+    return {
+        "lost": list(lost()),
+        "bad-replies": list(bad_replies()),
+        "told": list(what_is_told()),
+        "refusals": list(refusals()),
+        "addresses": list(addresses()),
+    }
 
 
 def sale(server, wants=None, **more):
@@ -24,97 +57,302 @@ def again(name="d"):
 
 
 def lost():
-    yield scenario("reply-lost", "The reply is lost: the same bytes again.", sale([read(ASKED), {"close": "c"}, *again()]), saved(1))
-    yield scenario("reply-lost-twice", "Two replies are lost, and two sendings allowed: ReplyLost, and the request stays in doubt.", sale(
-        [read(ASKED), {"close": "c"}, accept("d"), read(ASKED, "d"), {"close": "d"}], LOST), saved(0, ASKED),
-        retry([accept("e"), *served(ASKED, DONE, "e")], OK), saved(1))
-    yield scenario("reply-lost-once-of-one", "With one sending allowed a lost reply is ReplyLost at once.", sale(
-        [read(ASKED), {"close": "c"}], LOST), saved(0, ASKED), retry(again(), OK), begin="registered-once")
-    yield scenario("retry-lost-for-long", "However often a reply is lost, the bytes stay the same.", sale(
-        [read(ASKED), {"close": "c"}], LOST), [retry([accept(it), read(ASKED, it), {"close": it}], LOST) for it in "defghi"],
-        retry([accept("z"), *served(ASKED, DONE, "z")], OK), saved(1), begin="registered-once")
+    yield scenario(
+        "reply-lost",
+        "The reply is lost: the same bytes again.",
+        sale([read(ASKED), {"close": "c"}, *again()]),
+        saved(1),
+    )
+    yield scenario(
+        "reply-lost-twice",
+        "Two replies are lost, and two sendings allowed: ReplyLost, and the request stays in "
+        "doubt.",
+        sale([read(ASKED), {"close": "c"}, accept("d"), read(ASKED, "d"), {"close": "d"}], LOST),
+        saved(0, ASKED),
+        retry([accept("e"), *served(ASKED, DONE, "e")], OK),
+        saved(1),
+    )
+    yield scenario(
+        "reply-lost-once-of-one",
+        "With one sending allowed a lost reply is ReplyLost at once.",
+        sale([read(ASKED), {"close": "c"}], LOST),
+        saved(0, ASKED),
+        retry(again(), OK),
+        begin="registered-once",
+    )
+    yield scenario(
+        "retry-lost-for-long",
+        "However often a reply is lost, the bytes stay the same.",
+        sale([read(ASKED), {"close": "c"}], LOST),
+        [retry([accept(it), read(ASKED, it), {"close": it}], LOST) for it in "defghi"],
+        retry([accept("z"), *served(ASKED, DONE, "z")], OK),
+        saved(1),
+        begin="registered-once",
+    )
     for place in (1, 16, 24, 28, 47):
-        yield scenario(f"reply-cut-at-{place}", "The connection breaks in the reply's header: the same bytes again.", sale(
-            [read(ASKED), send(DONE[:place]), {"close": "c"}, *again()]), saved(1))
+        yield scenario(
+            f"reply-cut-at-{place}",
+            "The connection breaks in the reply's header: the same bytes again.",
+            sale([read(ASKED), send(DONE[:place]), {"close": "c"}, *again()]),
+            saved(1),
+        )
     body = reply(1, TRANSFERS, results((0, 46)))
     for place in (48, 52, 55):
-        yield scenario(f"reply-cut-in-body-{place}", "The connection breaks in the reply's body: the same bytes again.", sale(
-            [read(ASKED), send(body[:place]), {"close": "c"}, accept("d"), *served(ASKED, body, "d")],
-            {"ok": {"results": [{"index": 0, "result": "exists"}]}}), saved(1))
-    yield scenario("reply-half-closed", "The server closes its side without a reply.", sale(
-        [read(ASKED), {"half": "c"}, {"ended": "c"}, *again()]), saved(1))
-    yield scenario("reply-reset", "The connection is reset in place of a reply.", sale([read(ASKED), {"reset": "c"}, *again()]),
-                   saved(1), over="tcp", needs=["tcp"])
-    yield scenario("reply-reset-in-header", "The connection is reset within the reply.", sale(
-        [read(ASKED), send(DONE[:20]), {"wait": 0.05}, {"reset": "c"}, *again()]), saved(1), over="tcp", needs=["tcp"])
-    yield scenario("request-cut", "The connection breaks after a part of the request: all of it again.", sale(
-        [read(ASKED, first=60), {"close": "c"}, *again()]), saved(1))
-    yield scenario("request-cut-in-header", "The connection breaks within the request's header.", sale(
-        [read(ASKED, first=20), {"close": "c"}, *again()]), saved(1))
+        yield scenario(
+            f"reply-cut-in-body-{place}",
+            "The connection breaks in the reply's body: the same bytes again.",
+            sale(
+                [
+                    read(ASKED),
+                    send(body[:place]),
+                    {"close": "c"},
+                    accept("d"),
+                    *served(ASKED, body, "d"),
+                ],
+                {"ok": {"results": [{"index": 0, "result": "exists"}]}},
+            ),
+            saved(1),
+        )
+    yield scenario(
+        "reply-half-closed",
+        "The server closes its side without a reply.",
+        sale([read(ASKED), {"half": "c"}, {"ended": "c"}, *again()]),
+        saved(1),
+    )
+    yield scenario(
+        "reply-reset",
+        "The connection is reset in place of a reply.",
+        sale([read(ASKED), {"reset": "c"}, *again()]),
+        saved(1),
+        over="tcp",
+        needs=["tcp"],
+    )
+    yield scenario(
+        "reply-reset-in-header",
+        "The connection is reset within the reply.",
+        sale([read(ASKED), send(DONE[:20]), {"wait": 0.05}, {"reset": "c"}, *again()]),
+        saved(1),
+        over="tcp",
+        needs=["tcp"],
+    )
+    yield scenario(
+        "request-cut",
+        "The connection breaks after a part of the request: all of it again.",
+        sale([read(ASKED, first=60), {"close": "c"}, *again()]),
+        saved(1),
+    )
+    yield scenario(
+        "request-cut-in-header",
+        "The connection breaks within the request's header.",
+        sale([read(ASKED, first=20), {"close": "c"}, *again()]),
+        saved(1),
+    )
     large = frame_of(1, ACCOUNTS, [account(1)])[48:]
     header = frame_of(1, ACCOUNTS, [account(1)] * 8190)[:48]
     many = {"header": header.hex(), "first": large.hex(), "count": 8190}
-    yield scenario("large-request-cut", "The connection breaks within a large request: all of it again.", ask(
-        ACCOUNTS, {"count": 8190, "first": account(1)}, [read("many", first=100_000), {"close": "c"}, accept("d"), read("many", "d"),
-                                                         send(empty(1, ACCOUNTS), "d")]), saved(1), frames={"many": many})
-    yield scenario("broken-before-request", "The connection was closed while nothing was asked: a new one, and nobody is told.",
-                   {"server": [{"close": "c"}]}, sale(again()), saved(1), begin="registered-once")
-    yield scenario("broken-before-request-reset", "The same by a reset.", {"server": [{"reset": "c"}, {"wait": 0.05}]}, sale(again()),
-                   saved(1), begin="registered-once", over="tcp", needs=["tcp"])
-    yield scenario("bytes-before-request", "Bytes that came while nothing was asked are no reply to what is asked next.", {
-        "server": [send(DONE), {"wait": 0.05}]}, sale([*again(), {"drain": "c", "of": ""}]), saved(1), begin="registered-once")
-    yield scenario("idle-told", "The server tells Idle and closes while nothing is asked: a new connection, and nobody is told.", {
-        "server": [send(told("Idle")), {"close": "c"}]}, sale(again()), saved(1), begin="registered-once")
+    yield scenario(
+        "large-request-cut",
+        "The connection breaks within a large request: all of it again.",
+        ask(
+            ACCOUNTS,
+            {"count": 8190, "first": account(1)},
+            [
+                read("many", first=100_000),
+                {"close": "c"},
+                accept("d"),
+                read("many", "d"),
+                send(empty(1, ACCOUNTS), "d"),
+            ],
+        ),
+        saved(1),
+        frames={"many": many},
+    )
+    yield scenario(
+        "broken-before-request",
+        "The connection was closed while nothing was asked: a new one, and nobody is told.",
+        {"server": [{"close": "c"}]},
+        sale(again()),
+        saved(1),
+        begin="registered-once",
+    )
+    yield scenario(
+        "broken-before-request-reset",
+        "The same by a reset.",
+        {"server": [{"reset": "c"}, {"wait": 0.05}]},
+        sale(again()),
+        saved(1),
+        begin="registered-once",
+        over="tcp",
+        needs=["tcp"],
+    )
+    yield scenario(
+        "bytes-before-request",
+        "Bytes that came while nothing was asked are no reply to what is asked next.",
+        {"server": [send(DONE), {"wait": 0.05}]},
+        sale([*again(), {"drain": "c", "of": ""}]),
+        saved(1),
+        begin="registered-once",
+    )
+    yield scenario(
+        "idle-told",
+        "The server tells Idle and closes while nothing is asked: a new connection, and nobody "
+        "is told.",
+        {"server": [send(told("Idle")), {"close": "c"}]},
+        sale(again()),
+        saved(1),
+        begin="registered-once",
+    )
     yield from late()
     yield from unreachable()
 
 
 def late():
-    yield scenario("reply-late", "No reply in time: the connection is closed, and the same bytes go over another one.", sale(
-        [read(ASKED), {"ended": "c"}, *again()], at_least=0.25), saved(1), begin="hurried")
-    yield scenario("reply-late-once", "No reply in time, and one sending allowed.", sale(
-        [read(ASKED), {"ended": "c"}], LOST, at_least=0.25, at_most=3.0), saved(0, ASKED), retry(again(), OK), begin="hurried-once")
-    yield scenario("reply-late-in-header", "A part of the header, then nothing: no reply in time.", sale(
-        [read(ASKED), send(DONE[:30]), {"ended": "c"}, *again()], at_least=0.25), saved(1), begin="hurried")
-    yield scenario("reply-slow-in-pieces", "The limit is for the whole reply: single bytes do not put it off.", sale(
-        [read(ASKED), *[it for at in range(8) for it in (send(DONE[at:at + 1]), {"wait": 0.1})]], LOST, at_most=2.0),
-        saved(0, ASKED), begin="hurried-once")
-    yield scenario("reply-twice", "A reply comes twice: the first is taken, and the second one's connection is left.", sale(
-        [read(ASKED), send(DONE + DONE)]), ask(FIND_ACCOUNTS, ["1"], [
-            accept("d"), *served(frame_of(2, FIND_ACCOUNTS, ["1"]), empty(2, FIND_ACCOUNTS, commit=9), "d"), {"drain": "c", "of": ""}]),
-        saved(2))
+    yield scenario(
+        "reply-late",
+        "No reply in time: the connection is closed, and the same bytes go over another one.",
+        sale([read(ASKED), {"ended": "c"}, *again()], at_least=0.25),
+        saved(1),
+        begin="hurried",
+    )
+    yield scenario(
+        "reply-late-once",
+        "No reply in time, and one sending allowed.",
+        sale([read(ASKED), {"ended": "c"}], LOST, at_least=0.25, at_most=3.0),
+        saved(0, ASKED),
+        retry(again(), OK),
+        begin="hurried-once",
+    )
+    yield scenario(
+        "reply-late-in-header",
+        "A part of the header, then nothing: no reply in time.",
+        sale([read(ASKED), send(DONE[:30]), {"ended": "c"}, *again()], at_least=0.25),
+        saved(1),
+        begin="hurried",
+    )
+    yield scenario(
+        "reply-slow-in-pieces",
+        "The limit is for the whole reply: single bytes do not put it off.",
+        sale(
+            [
+                read(ASKED),
+                *[it for at in range(8) for it in (send(DONE[at : at + 1]), {"wait": 0.1})],
+            ],
+            LOST,
+            at_most=2.0,
+        ),
+        saved(0, ASKED),
+        begin="hurried-once",
+    )
+    yield scenario(
+        "reply-twice",
+        "A reply comes twice: the first is taken, and the second one's connection is left.",
+        sale([read(ASKED), send(DONE + DONE)]),
+        ask(
+            FIND_ACCOUNTS,
+            ["1"],
+            [
+                accept("d"),
+                *served(frame_of(2, FIND_ACCOUNTS, ["1"]), empty(2, FIND_ACCOUNTS, commit=9), "d"),
+                {"drain": "c", "of": ""},
+            ],
+        ),
+        saved(2),
+    )
     asked, done = frame_of(2, FIND_ACCOUNTS, ["1"]), empty(2, FIND_ACCOUNTS, commit=9)
-    yield scenario("reply-twice-late", "The second of two replies comes in place of the next request's reply: BadReply, and the "
-                   "connection is closed.", sale(served(ASKED, DONE)), ask(FIND_ACCOUNTS, ["1"], [
-                       read(asked), send(DONE), {"ended": "c"}], error("BadReply", sent=True)), saved(1, asked),
-                   retry([accept("d"), *served(asked, done, "d")], {"ok": {"records": []}}), saved(2))
+    yield scenario(
+        "reply-twice-late",
+        "The second of two replies comes in place of the next request's reply: BadReply, and the "
+        "connection is closed.",
+        sale(served(ASKED, DONE)),
+        ask(
+            FIND_ACCOUNTS,
+            ["1"],
+            [read(asked), send(DONE), {"ended": "c"}],
+            error("BadReply", sent=True),
+        ),
+        saved(1, asked),
+        retry([accept("d"), *served(asked, done, "d")], {"ok": {"records": []}}),
+        saved(2),
+    )
 
 
 def unreachable():
-    yield scenario("nobody-listens", "Nobody listens: CannotConnect, and it is as if it had not been asked.", {
-        "server": [{"close": "c"}, {"unlisten": "a"}]}, sale((), error("CannotConnect", sent=False), at_least=0.2, at_most=4.0), saved(0),
-        {"server": [{"listen": "a"}]}, ask(FIND_ACCOUNTS, ["1"], [
-            accept("d"), *served(frame_of(1, FIND_ACCOUNTS, ["1"]), empty(1, FIND_ACCOUNTS), "d")]), saved(1), begin="hurried")
-    yield scenario("nobody-listens-prepared", "A prepared request stays in doubt where nobody listens.", {
-        "server": [{"close": "c"}, {"unlisten": "a"}]}, {"call": {"do": "prepare", "session": "s", "operation": NAMES[TRANSFERS],
-                                                                  "items": SALE}, "wants": {"ok": None}},
-        retry((), error("CannotConnect", sent=False)), saved(0, ASKED), {"server": [{"listen": "a"}]}, retry(again(), OK), saved(1),
-        begin="hurried")
-    yield scenario("lost-then-nobody-listens", "The first sending was lost, and then nobody listens: ReplyLost, since it may have been "
-                   "executed.", sale([read(ASKED), {"unlisten": "a"}, {"close": "c"}], error("ReplyLost", sent=True)), saved(0, ASKED),
-                   {"server": [{"listen": "a"}]}, retry(again(), OK), saved(1), begin="hurried")
-    yield scenario("listens-later", "Who calls before the server listens is connected as soon as it does.", {
-        "server": [{"close": "c"}, {"unlisten": "a"}]}, sale([{"wait": 0.3}, {"listen": "a"}, *again()]), saved(1))
-    yield scenario("closed-transport", "A closed transport sends nothing.", close(transport="t"), {"server": [{"ended": "c"}]},
-                   sale((), error("Closed", sent=False)), saved(0))
-    yield scenario("closed-session", "A session's close closes its transport.", close(session="s"), {"server": [{"ended": "c"}]},
-                   sale((), error("Closed", sent=False)), saved(0))
-    yield scenario("closed-twice", "A transport may be closed twice.", close(transport="t"), close(transport="t"))
+    yield scenario(
+        "nobody-listens",
+        "Nobody listens: CannotConnect, and it is as if it had not been asked.",
+        {"server": [{"close": "c"}, {"unlisten": "a"}]},
+        sale((), error("CannotConnect", sent=False), at_least=0.2, at_most=4.0),
+        saved(0),
+        {"server": [{"listen": "a"}]},
+        ask(
+            FIND_ACCOUNTS,
+            ["1"],
+            [accept("d"), *served(frame_of(1, FIND_ACCOUNTS, ["1"]), empty(1, FIND_ACCOUNTS), "d")],
+        ),
+        saved(1),
+        begin="hurried",
+    )
+    yield scenario(
+        "nobody-listens-prepared",
+        "A prepared request stays in doubt where nobody listens.",
+        {"server": [{"close": "c"}, {"unlisten": "a"}]},
+        {
+            "call": {"do": "prepare", "session": "s", "operation": NAMES[TRANSFERS], "items": SALE},
+            "wants": {"ok": None},
+        },
+        retry((), error("CannotConnect", sent=False)),
+        saved(0, ASKED),
+        {"server": [{"listen": "a"}]},
+        retry(again(), OK),
+        saved(1),
+        begin="hurried",
+    )
+    yield scenario(
+        "lost-then-nobody-listens",
+        "The first sending was lost, and then nobody listens: ReplyLost, since it may have been "
+        "executed.",
+        sale([read(ASKED), {"unlisten": "a"}, {"close": "c"}], error("ReplyLost", sent=True)),
+        saved(0, ASKED),
+        {"server": [{"listen": "a"}]},
+        retry(again(), OK),
+        saved(1),
+        begin="hurried",
+    )
+    yield scenario(
+        "listens-later",
+        "Who calls before the server listens is connected as soon as it does.",
+        {"server": [{"close": "c"}, {"unlisten": "a"}]},
+        sale([{"wait": 0.3}, {"listen": "a"}, *again()]),
+        saved(1),
+    )
+    yield scenario(
+        "closed-transport",
+        "A closed transport sends nothing.",
+        close(transport="t"),
+        {"server": [{"ended": "c"}]},
+        sale((), error("Closed", sent=False)),
+        saved(0),
+    )
+    yield scenario(
+        "closed-session",
+        "A session's close closes its transport.",
+        close(session="s"),
+        {"server": [{"ended": "c"}]},
+        sale((), error("Closed", sent=False)),
+        saved(0),
+    )
+    yield scenario(
+        "closed-twice",
+        "A transport may be closed twice.",
+        close(transport="t"),
+        close(transport="t"),
+    )
 
 
 FAULTS = {
     "short-text": b"hello, this is another server\n",
-    "http": b"HTTP/1.1 400 Bad Request\r\nContent-Type: text/plain; charset=utf-8\r\nConnection: close\r\n\r\n400 Bad Request",
+    "http": b"HTTP/1.1 400 Bad Request\r\nContent-Type: text/plain; "
+    b"charset=utf-8\r\nConnection: close\r\n\r\n400 Bad Request",
     "client-zero": reply(1, TRANSFERS, client=0),
     "unknown-operation": reply(1, 133),
     "reserved-30": reply(1, TRANSFERS, zeros=b"\1\0"),
@@ -147,7 +385,11 @@ BODIES = {
     "index-falls": (TRANSFERS, [transfer(11), transfer(12)], results((1, 46), (0, 46))),
     "result-ok": (TRANSFERS, SALE, results((0, 0))),
     "record-not-asked": (FIND_ACCOUNTS, ["1"], account_bytes(account(2))),
-    "records-in-another-order": (FIND_ACCOUNTS, ["1", "2"], account_bytes(account(2)) + account_bytes(account(1))),
+    "records-in-another-order": (
+        FIND_ACCOUNTS,
+        ["1", "2"],
+        account_bytes(account(2)) + account_bytes(account(1)),
+    ),
     "record-twice": (FIND_ACCOUNTS, ["1"], account_bytes(account(1)) * 2),
     "results-of-none": (ACCOUNTS, [], results((0, 21))),
 }
@@ -157,126 +399,433 @@ def bad_replies():
     """Each with the reply it gets, and that the request is in doubt, and its bytes go on."""
     for name, wrong in FAULTS.items():
         body_follows = [{"half": "c"}] if name in ("short-text", "http") else []
-        yield scenario(f"bad-reply-{name}", "What comes is no reply to this request: BadReply, the connection is closed, and the request "
-                       "stays in doubt.", sale([read(ASKED), send(wrong), *body_follows, {"ended": "c"}],
-                                               {"either": [error("BadReply", sent=True), LOST]} if name == "short-text"
-                                               else error("BadReply", sent=True)),
-                       saved(0, ASKED), retry(again(), OK), saved(1), begin="registered-once")
+        yield scenario(
+            f"bad-reply-{name}",
+            "What comes is no reply to this request: BadReply, the connection is closed, and "
+            "the request "
+            "stays in doubt.",
+            sale(
+                [read(ASKED), send(wrong), *body_follows, {"ended": "c"}],
+                {"either": [error("BadReply", sent=True), LOST]}
+                if name == "short-text"
+                else error("BadReply", sent=True),
+            ),
+            saved(0, ASKED),
+            retry(again(), OK),
+            saved(1),
+            begin="registered-once",
+        )
     for name, (operation, items, body) in BODIES.items():
-        asked, right = frame_of(1, operation, items), {"ok": {"records": []} if operation == FIND_ACCOUNTS else {"results": []}}
-        yield scenario(f"bad-body-{name}", "The body is no answer to this request: BadReply, and it stays in doubt.", ask(
-            operation, items, [read(asked), send(reply(1, operation, body)), {"close": "c"}], error("BadReply", sent=True)),
-            saved(0, asked), retry([accept("d"), *served(asked, empty(1, operation), "d")], right), saved(1))
-    yield scenario("bad-reply-to-register", "A register's reply of another client.", {
-        "call": {"do": "register", "session": "s", "transport": "t", "client": "7", "attempts": 1},
-        "server": [accept(), read(registers()), send(registered(client=8)), {"ended": "c"}], "wants": error("BadReply", sent=True)},
-        begin="connected")
-    yield scenario("bad-reply-to-register-session", "A register's reply whose session is not its commit.", {
-        "call": {"do": "register", "session": "s", "transport": "t", "client": "7", "attempts": 1},
-        "server": [accept(), read(registers()), send(u128(7) + registered()[16:36] + (2).to_bytes(8, "little") + bytes(4)),
-                   {"ended": "c"}], "wants": error("BadReply", sent=True)}, begin="connected")
+        asked, right = frame_of(1, operation, items), {
+            "ok": {"records": []} if operation == FIND_ACCOUNTS else {"results": []}
+        }
+        yield scenario(
+            f"bad-body-{name}",
+            "The body is no answer to this request: BadReply, and it stays in doubt.",
+            ask(
+                operation,
+                items,
+                [read(asked), send(reply(1, operation, body)), {"close": "c"}],
+                error("BadReply", sent=True),
+            ),
+            saved(0, asked),
+            retry([accept("d"), *served(asked, empty(1, operation), "d")], right),
+            saved(1),
+        )
+    yield scenario(
+        "bad-reply-to-register",
+        "A register's reply of another client.",
+        {
+            "call": {
+                "do": "register",
+                "session": "s",
+                "transport": "t",
+                "client": "7",
+                "attempts": 1,
+            },
+            "server": [accept(), read(registers()), send(registered(client=8)), {"ended": "c"}],
+            "wants": error("BadReply", sent=True),
+        },
+        begin="connected",
+    )
+    yield scenario(
+        "bad-reply-to-register-session",
+        "A register's reply whose session is not its commit.",
+        {
+            "call": {
+                "do": "register",
+                "session": "s",
+                "transport": "t",
+                "client": "7",
+                "attempts": 1,
+            },
+            "server": [
+                accept(),
+                read(registers()),
+                send(u128(7) + registered()[16:36] + (2).to_bytes(8, "little") + bytes(4)),
+                {"ended": "c"},
+            ],
+            "wants": error("BadReply", sent=True),
+        },
+        begin="connected",
+    )
 
 
-NAMED = ("Idle", "Slow", "Stopping", "ProgramEnded", "Short", "ClientZero", "UnknownOperation", "Reserved", "RegisterNumbers",
-         "RequestZero", "BadLength", "TooMany", "Full", "NewerThanThisClient")
+NAMED = (
+    "Idle",
+    "Slow",
+    "Stopping",
+    "ProgramEnded",
+    "Short",
+    "ClientZero",
+    "UnknownOperation",
+    "Reserved",
+    "RegisterNumbers",
+    "RequestZero",
+    "BadLength",
+    "TooMany",
+    "Full",
+    "NewerThanThisClient",
+)
 
 
 def what_is_told():
     for name in NAMED:
-        yield scenario(f"told-{name}", "The server tells a name in place of a reply, and closes: ReplyLost with that name, and the same "
-                       "bytes again.", sale([read(ASKED), send(told(name)), {"close": "c"}], error("ReplyLost", sent=True, told=name)),
-                       saved(0, ASKED), retry(again(), OK), saved(1), begin="registered-once")
-    yield scenario("told-then-again", "Told ProgramEnded, the client sends the same bytes again at once.", sale(
-        [read(ASKED), send(told("ProgramEnded")), {"close": "c"}, *again()]), saved(1))
+        yield scenario(
+            f"told-{name}",
+            "The server tells a name in place of a reply, and closes: ReplyLost with that name,"
+            " and the same "
+            "bytes again.",
+            sale(
+                [read(ASKED), send(told(name)), {"close": "c"}],
+                error("ReplyLost", sent=True, told=name),
+            ),
+            saved(0, ASKED),
+            retry(again(), OK),
+            saved(1),
+            begin="registered-once",
+        )
+    yield scenario(
+        "told-then-again",
+        "Told ProgramEnded, the client sends the same bytes again at once.",
+        sale([read(ASKED), send(told("ProgramEnded")), {"close": "c"}, *again()]),
+        saved(1),
+    )
     busy = [send(told("Busy")), {"half": "c"}, {"drain": "c", "of": ASKED.hex()}]
-    yield scenario("told-Busy", "Told Busy with one sending allowed.", {"server": [{"close": "c"}]}, sale(
-        [accept(), *busy], error("Busy", sent=True, told="Busy")), saved(0, ASKED), retry(again(), OK), begin="registered-once")
-    yield scenario("told-Busy-then-pause", "Told Busy, the client pauses, the second time twice as long, and sends the same bytes.", {
-        "server": [{"close": "c"}]}, sale(
-        [accept(), *busy, accept("d", not_before=0.07), send(told("Busy"), "d"), {"half": "d"}, {"drain": "d", "of": ASKED.hex()},
-         accept("e", not_before=0.15), *served(ASKED, DONE, "e")]), saved(1), begin="registered-thrice")
-    yield scenario("told-Busy-before-request", "Told Busy and closed before the request was read.", {"server": [{"close": "c"}]}, sale(
-        [accept(), send(told("Busy")), {"close": "c"}, accept("d", not_before=0.07), *served(ASKED, DONE, "d")]), saved(1),
-        begin="registered-thrice")
-    yield scenario("told-in-pieces", "What is told may come in pieces.", sale(
-        [read(ASKED), send(told("Slow"), cuts=[1, 10, 13]), {"close": "c"}], error("ReplyLost", told="Slow")), begin="registered-once")
-    yield scenario("told-nothing", "A connection that is closed with nothing told has no name.", sale(
-        [read(ASKED), {"close": "c"}], LOST), begin="registered-once")
+    yield scenario(
+        "told-Busy",
+        "Told Busy with one sending allowed.",
+        {"server": [{"close": "c"}]},
+        sale([accept(), *busy], error("Busy", sent=True, told="Busy")),
+        saved(0, ASKED),
+        retry(again(), OK),
+        begin="registered-once",
+    )
+    yield scenario(
+        "told-Busy-then-pause",
+        "Told Busy, the client pauses, the second time twice as long, and sends the same bytes.",
+        {"server": [{"close": "c"}]},
+        sale(
+            [
+                accept(),
+                *busy,
+                accept("d", not_before=0.07),
+                send(told("Busy"), "d"),
+                {"half": "d"},
+                {"drain": "d", "of": ASKED.hex()},
+                accept("e", not_before=0.15),
+                *served(ASKED, DONE, "e"),
+            ]
+        ),
+        saved(1),
+        begin="registered-thrice",
+    )
+    yield scenario(
+        "told-Busy-before-request",
+        "Told Busy and closed before the request was read.",
+        {"server": [{"close": "c"}]},
+        sale(
+            [
+                accept(),
+                send(told("Busy")),
+                {"close": "c"},
+                accept("d", not_before=0.07),
+                *served(ASKED, DONE, "d"),
+            ]
+        ),
+        saved(1),
+        begin="registered-thrice",
+    )
+    yield scenario(
+        "told-in-pieces",
+        "What is told may come in pieces.",
+        sale(
+            [read(ASKED), send(told("Slow"), cuts=[1, 10, 13]), {"close": "c"}],
+            error("ReplyLost", told="Slow"),
+        ),
+        begin="registered-once",
+    )
+    yield scenario(
+        "told-nothing",
+        "A connection that is closed with nothing told has no name.",
+        sale([read(ASKED), {"close": "c"}], LOST),
+        begin="registered-once",
+    )
 
 
-STATUSES = {1: "NoSession", 2: "SessionTooLow", 3: "NewerSession", 4: "Older", 5: "Collision", 6: "NewerRequest"}
+STATUSES = {
+    1: "NoSession",
+    2: "SessionTooLow",
+    3: "NewerSession",
+    4: "Older",
+    5: "Collision",
+    6: "NewerRequest",
+}
 
 
 def refusals():
     for status, name in STATUSES.items():
         refused = refusal(1, TRANSFERS, status)
-        yield scenario(f"refused-{name}", "A refusal is no answer: the request stays in doubt, the next one is InDoubt, and a retry sends "
-                       "the same bytes over the same connection.", sale(served(ASKED, refused), error(name, sent=True)), saved(0, ASKED),
-                       ask(FIND_ACCOUNTS, ["1"], (), error("InDoubt", sent=False)), saved(0, ASKED),
-                       retry(served(ASKED, refused), error(name, sent=True)), saved(0, ASKED))
-        yield scenario(f"refused-{name}-after-loss", "The reply was lost, then the request is refused: it may have been executed.", sale(
-            [read(ASKED), {"close": "c"}, accept("d"), *served(ASKED, refused, "d")], error(name, sent=True)), saved(0, ASKED))
+        yield scenario(
+            f"refused-{name}",
+            "A refusal is no answer: the request stays in doubt, the next one is InDoubt, and a"
+            " retry sends "
+            "the same bytes over the same connection.",
+            sale(served(ASKED, refused), error(name, sent=True)),
+            saved(0, ASKED),
+            ask(FIND_ACCOUNTS, ["1"], (), error("InDoubt", sent=False)),
+            saved(0, ASKED),
+            retry(served(ASKED, refused), error(name, sent=True)),
+            saved(0, ASKED),
+        )
+        yield scenario(
+            f"refused-{name}-after-loss",
+            "The reply was lost, then the request is refused: it may have been executed.",
+            sale(
+                [read(ASKED), {"close": "c"}, accept("d"), *served(ASKED, refused, "d")],
+                error(name, sent=True),
+            ),
+            saved(0, ASKED),
+        )
     not_yet = refusal(1, TRANSFERS, 7)
-    yield scenario("refused-NotYet", "NotYet is sent again after a pause, twice as long the second time.", sale(
-        [*served(ASKED, not_yet), read(ASKED, not_before=0.07), send(not_yet), read(ASKED, not_before=0.15), send(DONE)]), saved(1),
-        begin="registered-thrice")
-    yield scenario("refused-NotYet-to-the-end", "NotYet at each sending.", sale(
-        [*served(ASKED, not_yet), *served(ASKED, not_yet)], error("NotYet", sent=True)), saved(0, ASKED),
-        retry(served(ASKED, DONE), OK), saved(1))
-    yield scenario("refused-then-answered", "A refusal may be followed by an answer: as from a server that has caught up.", sale(
-        served(ASKED, refusal(1, TRANSFERS, 6)), error("NewerRequest")), retry(served(ASKED, DONE), OK), saved(1))
+    yield scenario(
+        "refused-NotYet",
+        "NotYet is sent again after a pause, twice as long the second time.",
+        sale(
+            [
+                *served(ASKED, not_yet),
+                read(ASKED, not_before=0.07),
+                send(not_yet),
+                read(ASKED, not_before=0.15),
+                send(DONE),
+            ]
+        ),
+        saved(1),
+        begin="registered-thrice",
+    )
+    yield scenario(
+        "refused-NotYet-to-the-end",
+        "NotYet at each sending.",
+        sale([*served(ASKED, not_yet), *served(ASKED, not_yet)], error("NotYet", sent=True)),
+        saved(0, ASKED),
+        retry(served(ASKED, DONE), OK),
+        saved(1),
+    )
+    yield scenario(
+        "refused-then-answered",
+        "A refusal may be followed by an answer: as from a server that has caught up.",
+        sale(served(ASKED, refusal(1, TRANSFERS, 6)), error("NewerRequest")),
+        retry(served(ASKED, DONE), OK),
+        saved(1),
+    )
     fresh = frame_of(1, TRANSFERS, SALE, session=9, client=8)
-    yield scenario("evicted-and-registered-anew", "After an eviction: a new client, the same records with the same ids, and exists says "
-                   "that it was done.", sale(served(ASKED, refusal(1, TRANSFERS, 1)), error("NoSession")), {
-                       "call": {"do": "register", "session": "u", "transport": "t", "client": "8"},
-                       "server": served(registers(8), registered(9, 8)), "wants": {"ok": {"client": "8", "session": "9"}}},
-                   sale(served(fresh, reply(1, TRANSFERS, results((0, 46)), 9, 8)), {"ok": {"results": [
-                       {"index": 0, "result": "exists"}]}}, session="u"), saved(0, ASKED))
+    yield scenario(
+        "evicted-and-registered-anew",
+        "After an eviction: a new client, the same records with the same ids, and exists says "
+        "that it was done.",
+        sale(served(ASKED, refusal(1, TRANSFERS, 1)), error("NoSession")),
+        {
+            "call": {"do": "register", "session": "u", "transport": "t", "client": "8"},
+            "server": served(registers(8), registered(9, 8)),
+            "wants": {"ok": {"client": "8", "session": "9"}},
+        },
+        sale(
+            served(fresh, reply(1, TRANSFERS, results((0, 46)), 9, 8)),
+            {"ok": {"results": [{"index": 0, "result": "exists"}]}},
+            session="u",
+        ),
+        saved(0, ASKED),
+    )
 
 
 def addresses():
     three = ("a", "b", "c")
     needs = {"needs": ["addresses"], "servers": {it: {} for it in three}}
-    register = {"do": "register", "session": "s", "transport": "t", "client": "7", "attempts": 4, "pause": 0.01}
+    register = {
+        "do": "register",
+        "session": "s",
+        "transport": "t",
+        "client": "7",
+        "attempts": 4,
+        "pause": 0.01,
+    }
     answer = {"ok": {"client": "7", "session": "1"}}
 
     def at(name, server):
         return accept(name, server=server)
 
     def begun(server, timeout=1.0, **more):
-        return [connect(servers=three, timeout=timeout), {"call": register, "server": server, "wants": answer, **more}]
+        return [
+            connect(servers=three, timeout=timeout),
+            {"call": register, "server": server, "wants": answer, **more},
+        ]
 
     first = [at("c", "a"), *served(registers(), registered())]
-    yield scenario("addresses-first", "The first address that answers is used, and kept.", begun(first), sale(served(ASKED, DONE)),
-                   begin=None, **needs)
-    yield scenario("addresses-second", "The first does not listen: the second.", begun(
-        [at("c", "b"), *served(registers(), registered())]), sale(served(ASKED, DONE)), begin=None,
-        needs=["addresses"], servers={"a": {"listens": False}, "b": {}, "c": {}})
-    yield scenario("addresses-third", "Two do not listen: the third.", begun(
-        [at("c", "c"), *served(registers(), registered())]), sale(served(ASKED, DONE)), begin=None,
-        needs=["addresses"], servers={"a": {"listens": False}, "b": {"listens": False}, "c": {}})
-    yield scenario("addresses-none", "None listens: CannotConnect after the timeout, and nothing was sent.", connect(
-        servers=three, timeout=0.3), {"call": register, "wants": error("CannotConnect", sent=False), "at_least": 0.2, "at_most": 4.0},
-        begin=None, needs=["addresses"], servers={it: {"listens": False} for it in three})
-    yield scenario("addresses-lost", "A connection that is lost after the request: the next address gets the same bytes.", begun(first),
-                   sale([read(ASKED), {"close": "c"}, at("d", "b"), *served(ASKED, DONE, "d")]), saved(1),
-                   ask(FIND_ACCOUNTS, ["1"], served(frame_of(2, FIND_ACCOUNTS, ["1"]), empty(2, FIND_ACCOUNTS, commit=9), "d")),
-                   begin=None, **needs)
-    yield scenario("addresses-around", "Behind the last address comes the first.", begun(first), sale(
-        [read(ASKED), {"close": "c"}, at("d", "b"), read(ASKED, "d"), {"close": "d"}, at("e", "c"), read(ASKED, "e"), {"close": "e"},
-         at("f", "a"), *served(ASKED, DONE, "f")]), saved(1), begin=None, **needs)
-    yield scenario("addresses-lost-and-closed", "A connection is lost, and the next address does not listen: the one after it.", begun(
-        first), sale([read(ASKED), {"close": "c"}, at("d", "c"), *served(ASKED, DONE, "d")]), saved(1), begin=None,
-        needs=["addresses"], servers={"a": {}, "b": {"listens": False}, "c": {}})
-    yield scenario("addresses-late", "No reply in time: the next address.", begun(first, timeout=0.3), sale(
-        [read(ASKED), {"ended": "c"}, at("d", "b"), *served(ASKED, DONE, "d")]), saved(1), begin=None, **needs)
-    yield scenario("addresses-busy", "Busy at one address: the next one, after the pause.", begun(first), sale(
-        [read(ASKED), send(told("Busy")), {"close": "c"}, at("d", "b"), *served(ASKED, DONE, "d")]), saved(1), begin=None, **needs)
-    yield scenario("addresses-register-lost", "A register that is lost goes to the next address, the same bytes.", begun(
-        [at("c", "a"), read(registers()), {"close": "c"}, at("d", "b"), *served(registers(), registered(), "d")]),
-        sale(served(ASKED, DONE, "d")), begin=None, **needs)
-    yield scenario("addresses-closed-at-rest", "A connection that was closed while nothing was asked: the next address, and nobody is "
-                   "told.", begun(first), {"server": [{"close": "c"}]}, sale([at("d", "b"), *served(ASKED, DONE, "d")]), saved(1),
-                   begin=None, **needs)
-    yield scenario("addresses-refused-stays", "A refusal is a reply: the connection stays.", begun(first), sale(
-        served(ASKED, refusal(1, TRANSFERS, 6)), error("NewerRequest")), retry(served(ASKED, DONE), OK), begin=None, **needs)
+    yield scenario(
+        "addresses-first",
+        "The first address that answers is used, and kept.",
+        begun(first),
+        sale(served(ASKED, DONE)),
+        begin=None,
+        **needs,
+    )
+    yield scenario(
+        "addresses-second",
+        "The first does not listen: the second.",
+        begun([at("c", "b"), *served(registers(), registered())]),
+        sale(served(ASKED, DONE)),
+        begin=None,
+        needs=["addresses"],
+        servers={"a": {"listens": False}, "b": {}, "c": {}},
+    )
+    yield scenario(
+        "addresses-third",
+        "Two do not listen: the third.",
+        begun([at("c", "c"), *served(registers(), registered())]),
+        sale(served(ASKED, DONE)),
+        begin=None,
+        needs=["addresses"],
+        servers={"a": {"listens": False}, "b": {"listens": False}, "c": {}},
+    )
+    yield scenario(
+        "addresses-none",
+        "None listens: CannotConnect after the timeout, and nothing was sent.",
+        connect(servers=three, timeout=0.3),
+        {
+            "call": register,
+            "wants": error("CannotConnect", sent=False),
+            "at_least": 0.2,
+            "at_most": 4.0,
+        },
+        begin=None,
+        needs=["addresses"],
+        servers={it: {"listens": False} for it in three},
+    )
+    yield scenario(
+        "addresses-lost",
+        "A connection that is lost after the request: the next address gets the same bytes.",
+        begun(first),
+        sale([read(ASKED), {"close": "c"}, at("d", "b"), *served(ASKED, DONE, "d")]),
+        saved(1),
+        ask(
+            FIND_ACCOUNTS,
+            ["1"],
+            served(frame_of(2, FIND_ACCOUNTS, ["1"]), empty(2, FIND_ACCOUNTS, commit=9), "d"),
+        ),
+        begin=None,
+        **needs,
+    )
+    yield scenario(
+        "addresses-around",
+        "Behind the last address comes the first.",
+        begun(first),
+        sale(
+            [
+                read(ASKED),
+                {"close": "c"},
+                at("d", "b"),
+                read(ASKED, "d"),
+                {"close": "d"},
+                at("e", "c"),
+                read(ASKED, "e"),
+                {"close": "e"},
+                at("f", "a"),
+                *served(ASKED, DONE, "f"),
+            ]
+        ),
+        saved(1),
+        begin=None,
+        **needs,
+    )
+    yield scenario(
+        "addresses-lost-and-closed",
+        "A connection is lost, and the next address does not listen: the one after it.",
+        begun(first),
+        sale([read(ASKED), {"close": "c"}, at("d", "c"), *served(ASKED, DONE, "d")]),
+        saved(1),
+        begin=None,
+        needs=["addresses"],
+        servers={"a": {}, "b": {"listens": False}, "c": {}},
+    )
+    yield scenario(
+        "addresses-late",
+        "No reply in time: the next address.",
+        begun(first, timeout=0.3),
+        sale([read(ASKED), {"ended": "c"}, at("d", "b"), *served(ASKED, DONE, "d")]),
+        saved(1),
+        begin=None,
+        **needs,
+    )
+    yield scenario(
+        "addresses-busy",
+        "Busy at one address: the next one, after the pause.",
+        begun(first),
+        sale(
+            [
+                read(ASKED),
+                send(told("Busy")),
+                {"close": "c"},
+                at("d", "b"),
+                *served(ASKED, DONE, "d"),
+            ]
+        ),
+        saved(1),
+        begin=None,
+        **needs,
+    )
+    yield scenario(
+        "addresses-register-lost",
+        "A register that is lost goes to the next address, the same bytes.",
+        begun(
+            [
+                at("c", "a"),
+                read(registers()),
+                {"close": "c"},
+                at("d", "b"),
+                *served(registers(), registered(), "d"),
+            ]
+        ),
+        sale(served(ASKED, DONE, "d")),
+        begin=None,
+        **needs,
+    )
+    yield scenario(
+        "addresses-closed-at-rest",
+        "A connection that was closed while nothing was asked: the next address, and nobody is "
+        "told.",
+        begun(first),
+        {"server": [{"close": "c"}]},
+        sale([at("d", "b"), *served(ASKED, DONE, "d")]),
+        saved(1),
+        begin=None,
+        **needs,
+    )
+    yield scenario(
+        "addresses-refused-stays",
+        "A refusal is a reply: the connection stays.",
+        begun(first),
+        sale(served(ASKED, refusal(1, TRANSFERS, 6)), error("NewerRequest")),
+        retry(served(ASKED, DONE), OK),
+        begin=None,
+        **needs,
+    )

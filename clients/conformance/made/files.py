@@ -2,8 +2,27 @@
 import json
 
 from .frames import (
-    FIND_ACCOUNTS, TRANSFERS, U32, U64, U128, accept, ask, connect, empty, error, frame_of, load, prepare, request, retry,
-    save, saved, scenario, served, transfer)
+    FIND_ACCOUNTS,
+    TRANSFERS,
+    U32,
+    U64,
+    U128,
+    accept,
+    ask,
+    connect,
+    empty,
+    error,
+    frame_of,
+    load,
+    prepare,
+    request,
+    retry,
+    save,
+    saved,
+    scenario,
+    served,
+    transfer,
+)
 
 SALE = [transfer(11)]
 ASKED, DONE, OK = frame_of(1, TRANSFERS), empty(1, TRANSFERS), {"ok": {"results": []}}
@@ -20,105 +39,318 @@ def groups():
 
 
 def saving():
-    yield scenario("save-plain", "What a file has of a session with nothing in doubt.", save(), {"file": "session.json", "is": PLAIN})
-    yield scenario("save-in-doubt", "And of one with a request in doubt.", prepare(TRANSFERS, SALE), save(),
-                   {"file": "session.json", "is": WAITING})
-    yield scenario("save-after-reply", "And after its reply.", ask(TRANSFERS, SALE, served(ASKED, DONE)), save(),
-                   {"file": "session.json", "is": {**PLAIN, "number": 1}})
+    yield scenario(
+        "save-plain",
+        "What a file has of a session with nothing in doubt.",
+        save(),
+        {"file": "session.json", "is": PLAIN},
+    )
+    yield scenario(
+        "save-in-doubt",
+        "And of one with a request in doubt.",
+        prepare(TRANSFERS, SALE),
+        save(),
+        {"file": "session.json", "is": WAITING},
+    )
+    yield scenario(
+        "save-after-reply",
+        "And after its reply.",
+        ask(TRANSFERS, SALE, served(ASKED, DONE)),
+        save(),
+        {"file": "session.json", "is": {**PLAIN, "number": 1}},
+    )
     wide = {"client": str(U128), "session": str(U64), "number": str(U32), "pending": ""}
-    yield scenario("save-greatest", "The greatest numbers of each field.", {
-        "call": {"do": "resume", "session": "s", "transport": "t", "saved": wide}, "wants": {"ok": wide}}, save(), {
-            "file": "session.json", "is": {"client": U128, "session": U64, "number": U32, "pending": ""}}, load({"ok": wide}),
-        begin="connected")
-    yield scenario("save-whole", "A file is replaced, never written over: who holds the old one has the old bytes.", save(), {
-        "file": "session.json", "link": "old.json"}, prepare(TRANSFERS, SALE), save(), {"file": "old.json", "is": PLAIN},
-        {"file": "session.json", "is": WAITING})
-    yield scenario("save-alone", "Nothing is left beside the file.", save(), prepare(TRANSFERS, SALE), save(),
-                   {"file": "session.json", "alone": True})
-    yield scenario("save-over-damaged", "A damaged file is replaced.", {"file": "session.json", "write": "damaged"}, save(),
-                   {"file": "session.json", "is": PLAIN})
-    yield scenario("save-no-folder", "There is no such folder.", save("none/session.json", wants=error("File", sent=False)), saved(0))
-    yield scenario("save-on-folder", "A folder stands there.", {"file": "session.json", "folder": True}, save(
-        wants={"either": [error("File"), error("Invalid", field="path")]}), saved(0))
+    yield scenario(
+        "save-greatest",
+        "The greatest numbers of each field.",
+        {
+            "call": {"do": "resume", "session": "s", "transport": "t", "saved": wide},
+            "wants": {"ok": wide},
+        },
+        save(),
+        {
+            "file": "session.json",
+            "is": {"client": U128, "session": U64, "number": U32, "pending": ""},
+        },
+        load({"ok": wide}),
+        begin="connected",
+    )
+    yield scenario(
+        "save-whole",
+        "A file is replaced, never written over: who holds the old one has the old bytes.",
+        save(),
+        {"file": "session.json", "link": "old.json"},
+        prepare(TRANSFERS, SALE),
+        save(),
+        {"file": "old.json", "is": PLAIN},
+        {"file": "session.json", "is": WAITING},
+    )
+    yield scenario(
+        "save-alone",
+        "Nothing is left beside the file.",
+        save(),
+        prepare(TRANSFERS, SALE),
+        save(),
+        {"file": "session.json", "alone": True},
+    )
+    yield scenario(
+        "save-over-damaged",
+        "A damaged file is replaced.",
+        {"file": "session.json", "write": "damaged"},
+        save(),
+        {"file": "session.json", "is": PLAIN},
+    )
+    yield scenario(
+        "save-no-folder",
+        "There is no such folder.",
+        save("none/session.json", wants=error("File", sent=False)),
+        saved(0),
+    )
+    yield scenario(
+        "save-on-folder",
+        "A folder stands there.",
+        {"file": "session.json", "folder": True},
+        save(wants={"either": [error("File"), error("Invalid", field="path")]}),
+        saved(0),
+    )
     large = {"count": 8190, "first": transfer(1)}
     body = frame_of(1, TRANSFERS, [transfer(1)])[48:]
     header = request(1, TRANSFERS, body * 8190)[:48]
     many = {"header": header.hex(), "first": body.hex(), "count": 8190}
-    yield scenario("save-8190", "The largest request is saved, and loaded.", {
-        "call": {"do": "prepare", "session": "s", "operation": "create_transfers", "items": large}, "wants": {"ok": None}}, save(),
-        {"kill": True}, connect(), load({"ok": {"client": "7", "session": "1", "number": "0", "pending": {"any": True}}}),
-        retry([accept("d"), *served("many", DONE, "d")], OK), frames={"many": many})
+    yield scenario(
+        "save-8190",
+        "The largest request is saved, and loaded.",
+        {
+            "call": {
+                "do": "prepare",
+                "session": "s",
+                "operation": "create_transfers",
+                "items": large,
+            },
+            "wants": {"ok": None},
+        },
+        save(),
+        {"kill": True},
+        connect(),
+        load({"ok": {"client": "7", "session": "1", "number": "0", "pending": {"any": True}}}),
+        retry([accept("d"), *served("many", DONE, "d")], OK),
+        frames={"many": many},
+    )
 
 
 def file(text, **more):
-    return {"file": "session.json", "write": text if isinstance(text, str) else json.dumps(text), **more}
+    return {
+        "file": "session.json",
+        "write": text if isinstance(text, str) else json.dumps(text),
+        **more,
+    }
 
 
 def loading():
     fields = list(WAITING)
-    yield scenario("load-reordered", "Fields in any order, with JSON's white space.", file(
-        "\n{ \"pending\" :\t\"\" ,\r\n \"number\": 4, \"session\":2,\n\n\"client\": 340282366920938463463374607431768211455 }\n"), load(
-            {"ok": {"client": str(U128), "session": "2", "number": "4", "pending": ""}}), begin="connected")
-    yield scenario("load-in-doubt", "A request in doubt is sent by a retry, the same bytes.", file(WAITING), load({"ok": as_answer(WAITING)}),
-                   retry([accept(), *served(ASKED, DONE)], OK), saved(1), begin="connected")
-    yield scenario("load-next-number", "With nothing in doubt the next number follows.", file({**PLAIN, "number": 41}), load(
-        {"ok": as_answer({**PLAIN, "number": 41})}), ask(FIND_ACCOUNTS, ["1"], [accept(), *served(
-            frame_of(42, FIND_ACCOUNTS, ["1"]), empty(42, FIND_ACCOUNTS))]), begin="connected")
-    yield scenario("load-none", "There is no file.", load(error("File", sent=False)), begin="connected")
-    yield scenario("load-folder", "A folder is no session.", {"file": "session.json", "folder": True}, load(
-        {"either": [error("Invalid", field="path"), error("File")]}), begin="connected")
-    yield scenario("load-pipe", "A pipe is no session, and is not waited for.", {"file": "session.json", "pipe": True}, load(
-        {"either": [error("Invalid", field="path"), error("File")]}), begin="connected")
+    yield scenario(
+        "load-reordered",
+        "Fields in any order, with JSON's white space.",
+        file(
+            '\n{ "pending" :\t"" ,\r\n "number": 4, "session":2,\n\n'
+            '"client": 340282366920938463463374607431768211455 }\n'
+        ),
+        load({"ok": {"client": str(U128), "session": "2", "number": "4", "pending": ""}}),
+        begin="connected",
+    )
+    yield scenario(
+        "load-in-doubt",
+        "A request in doubt is sent by a retry, the same bytes.",
+        file(WAITING),
+        load({"ok": as_answer(WAITING)}),
+        retry([accept(), *served(ASKED, DONE)], OK),
+        saved(1),
+        begin="connected",
+    )
+    yield scenario(
+        "load-next-number",
+        "With nothing in doubt the next number follows.",
+        file({**PLAIN, "number": 41}),
+        load({"ok": as_answer({**PLAIN, "number": 41})}),
+        ask(
+            FIND_ACCOUNTS,
+            ["1"],
+            [accept(), *served(frame_of(42, FIND_ACCOUNTS, ["1"]), empty(42, FIND_ACCOUNTS))],
+        ),
+        begin="connected",
+    )
+    yield scenario(
+        "load-none", "There is no file.", load(error("File", sent=False)), begin="connected"
+    )
+    yield scenario(
+        "load-folder",
+        "A folder is no session.",
+        {"file": "session.json", "folder": True},
+        load({"either": [error("Invalid", field="path"), error("File")]}),
+        begin="connected",
+    )
+    yield scenario(
+        "load-pipe",
+        "A pipe is no session, and is not waited for.",
+        {"file": "session.json", "pipe": True},
+        load({"either": [error("Invalid", field="path"), error("File")]}),
+        begin="connected",
+    )
     whole = json.dumps(WAITING)
     for name, text in {
-        "empty": "", "text": "a session", "list": "[]", "null": "null", "number": "7", "cut": whole[:-1], "cut-in-number": whole[:12],
-        "two-fields": whole[:-1] + ', "number": 1}', "two-objects": whole + whole, "comma": whole[:-1] + ",}",
-        "deep": "[" * 100_000, "not-ascii": '{"client": 7, "session": 1, "number": 0, "pending": "\u00e4"}', "comment": whole + "// x",
+        "empty": "",
+        "text": "a session",
+        "list": "[]",
+        "null": "null",
+        "number": "7",
+        "cut": whole[:-1],
+        "cut-in-number": whole[:12],
+        "two-fields": json.dumps(PLAIN)[:-1] + ', "number": 0}',
+        "two-objects": whole + whole,
+        "comma": whole[:-1] + ",}",
+        "deep": "[" * 100_000,
+        "not-ascii": '{"client": 7, "session": 1, "number": 0, "pending": "\u00e4"}',
+        "comment": whole + "// x",
     }.items():
         field = "pending" if name == "not-ascii" else "saved"
-        yield scenario(f"load-{name}", "Damaged: it is refused, and nothing of it is taken.", file(text), load(
-            {"either": [error("Invalid", field=it, sent=False) for it in {field, "saved"}]}), begin="connected")
-    yield scenario("load-5-MiB", "More than a session can have.", {"file": "session.json", "spaces": 5 << 20}, load(
-        error("Invalid", field="saved", sent=False)), begin="connected")
+        yield scenario(
+            f"load-{name}",
+            "Damaged: it is refused, and nothing of it is taken.",
+            file(text),
+            load({"either": [error("Invalid", field=it, sent=False) for it in sorted({field, "saved"})]}),
+            begin="connected",
+        )
+    yield scenario(
+        "load-5-MiB",
+        "More than a session can have.",
+        {"file": "session.json", "spaces": 5 << 20},
+        load(error("Invalid", field="saved", sent=False)),
+        begin="connected",
+    )
     for field in fields:
-        yield scenario(f"load-without-{field}", "A field is missing.", file({it: WAITING[it] for it in fields if it != field}), load(
-            error("Invalid", field=field, sent=False)), begin="connected")
+        yield scenario(
+            f"load-without-{field}",
+            "A field is missing.",
+            file({it: WAITING[it] for it in fields if it != field}),
+            load(error("Invalid", field=field, sent=False)),
+            begin="connected",
+        )
     for field, most in (("client", U128), ("session", U64), ("number", U32)):
-        yield scenario(f"load-wrong-{field}", "Values that the field may not hold.", [
-            step for it in ("-1", str(most + 1), "1.0", "1e0", "true", "null", '"7"', "[7]", *(["0"] if field == "client" else []))
-            for step in (file('{"client": 7, "session": 1, "number": 0, "pending": ""}'.replace(
-                f'"{field}": {PLAIN[field]}', f'"{field}": {it}')), load(error("Invalid", field=field, sent=False)))], begin="connected")
+        yield scenario(
+            f"load-wrong-{field}",
+            "Values that the field may not hold.",
+            [
+                step
+                for it in (
+                    "-1",
+                    str(most + 1),
+                    "1.0",
+                    "1e0",
+                    "true",
+                    "null",
+                    '"7"',
+                    "[7]",
+                    *(["0"] if field == "client" else []),
+                )
+                for step in (
+                    file(
+                        '{"client": 7, "session": 1, "number": 0, "pending": ""}'.replace(
+                            f'"{field}": {PLAIN[field]}', f'"{field}": {it}'
+                        )
+                    ),
+                    load(error("Invalid", field=field, sent=False)),
+                )
+            ],
+            begin="connected",
+        )
     yield from wrong_pending()
 
 
 def wrong_pending():
     register = request(0, 2, session=0)
     wrong = {
-        "no-hex": "zz", "odd": ASKED.hex()[:-1], "cut": ASKED[:-1].hex(), "cut-header": ASKED[:47].hex(), "longer": ASKED.hex() + "00",
-        "other-client": frame_of(1, TRANSFERS, client=8).hex(), "other-session": frame_of(1, TRANSFERS, session=2).hex(),
-        "number-2": frame_of(2, TRANSFERS).hex(), "number-0": request(0, TRANSFERS).hex(), "unknown-operation": request(1, 133).hex(),
-        "reserved": (ASKED[:29] + b"\1" + ASKED[30:]).hex(), "register-of-registered": register.hex(),
+        "no-hex": "zz",
+        "odd": ASKED.hex()[:-1],
+        "cut": ASKED[:-1].hex(),
+        "cut-header": ASKED[:47].hex(),
+        "longer": ASKED.hex() + "00",
+        "other-client": frame_of(1, TRANSFERS, client=8).hex(),
+        "other-session": frame_of(1, TRANSFERS, session=2).hex(),
+        "number-2": frame_of(2, TRANSFERS).hex(),
+        "number-0": request(0, TRANSFERS).hex(),
+        "unknown-operation": request(1, 133).hex(),
+        "reserved": (ASKED[:29] + b"\1" + ASKED[30:]).hex(),
+        "register-of-registered": register.hex(),
         "bad-length": request(1, TRANSFERS, bytes(127)).hex(),
     }
     for name, pending in wrong.items():
-        yield scenario(f"load-pending-{name}", "Bytes in doubt that are not the next request of this session.", file(
-            {**PLAIN, "pending": pending}), load(error("Invalid", field="pending", sent=False)), begin="connected")
+        yield scenario(
+            f"load-pending-{name}",
+            "Bytes in doubt that are not the next request of this session.",
+            file({**PLAIN, "pending": pending}),
+            load(error("Invalid", field="pending", sent=False)),
+            begin="connected",
+        )
     for value in ("7", "null", "[]"):
-        yield scenario(f"load-pending-{ {'7': 'integer', 'null': 'null', '[]': 'list'}[value]}", "Bytes in doubt that are no text.", file(
-            f'{{"client": 7, "session": 1, "number": 0, "pending": {value}}}'), load(error("Invalid", field="pending", sent=False)),
-            begin="connected")
+        yield scenario(
+            f"load-pending-{ {'7': 'integer', 'null': 'null', '[]': 'list'}[value]}",
+            "Bytes in doubt that are no text.",
+            file(f'{{"client": 7, "session": 1, "number": 0, "pending": {value}}}'),
+            load(error("Invalid", field="pending", sent=False)),
+            begin="connected",
+        )
 
 
 def resuming():
     def resume(kept, wants):
-        return {"call": {"do": "resume", "session": "s", "transport": "t", "attempts": 2, "pause": 0.01, "saved": kept}, "wants": wants}
+        return {
+            "call": {
+                "do": "resume",
+                "session": "s",
+                "transport": "t",
+                "attempts": 2,
+                "pause": 0.01,
+                "saved": kept,
+            },
+            "wants": wants,
+        }
 
-    yield scenario("resume", "A session from what a database kept.", resume(as_answer(WAITING), {"ok": as_answer(WAITING)}), retry(
-        [accept(), *served(ASKED, DONE)], OK), saved(1), begin="connected")
+    yield scenario(
+        "resume",
+        "A session from what a database kept.",
+        resume(as_answer(WAITING), {"ok": as_answer(WAITING)}),
+        retry([accept(), *served(ASKED, DONE)], OK),
+        saved(1),
+        begin="connected",
+    )
     for field, most in (("client", U128), ("session", U64), ("number", U32)):
-        bad = [str(most + 1), "-1", {"float": "7.0"}, {"text": "7"}, {"bool": True}, None, *(["0"] if field == "client" else [])]
-        yield scenario(f"resume-wrong-{field}", "Values that the field may not hold.", [resume(
-            {**as_answer(PLAIN), field: it}, {**error("Invalid", field=field, sent=False), "typed": True}) for it in bad], begin="connected")
-    yield scenario("resume-wrong-pending", "Bytes in doubt of another session.", resume(
-        {**as_answer(PLAIN), "pending": frame_of(1, TRANSFERS, session=2).hex()}, error("Invalid", field="pending", sent=False)),
-        begin="connected")
+        bad = [
+            str(most + 1),
+            "-1",
+            {"float": "7.0"},
+            {"text": "7"},
+            {"bool": True},
+            None,
+            *(["0"] if field == "client" else []),
+        ]
+        yield scenario(
+            f"resume-wrong-{field}",
+            "Values that the field may not hold.",
+            [
+                resume(
+                    {**as_answer(PLAIN), field: it},
+                    {**error("Invalid", field=field, sent=False), "typed": True},
+                )
+                for it in bad
+            ],
+            begin="connected",
+        )
+    yield scenario(
+        "resume-wrong-pending",
+        "Bytes in doubt of another session.",
+        resume(
+            {**as_answer(PLAIN), "pending": frame_of(1, TRANSFERS, session=2).hex()},
+            error("Invalid", field="pending", sent=False),
+        ),
+        begin="connected",
+    )

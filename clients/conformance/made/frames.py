@@ -8,15 +8,46 @@ with open(os.path.join(TOP, "tables", "ledger.json"), encoding="utf-8") as it:
     TABLE = json.load(it)
 
 REGISTER, ACCOUNTS, TRANSFERS, FIND_ACCOUNTS, FIND_TRANSFERS = 2, 129, 130, 131, 132
-NAMES = {REGISTER: "register", ACCOUNTS: "create_accounts", TRANSFERS: "create_transfers",
-         FIND_ACCOUNTS: "lookup_accounts", FIND_TRANSFERS: "lookup_transfers"}
+NAMES = {
+    REGISTER: "register",
+    ACCOUNTS: "create_accounts",
+    TRANSFERS: "create_transfers",
+    FIND_ACCOUNTS: "lookup_accounts",
+    FIND_TRANSFERS: "lookup_transfers",
+}
 U16, U32, U64, U128 = (2**bits - 1 for bits in (16, 32, 64, 128))
 CLIENT = 7
 
-ACCOUNT_FIELDS = ("id", "debits_pending", "debits_posted", "credits_pending", "credits_posted", "user_data_128",
-                  "user_data_64", "user_data_32", "reserved", "ledger", "code", "flags", "timestamp")
-TRANSFER_FIELDS = ("id", "debit_account_id", "credit_account_id", "amount", "pending_id", "user_data_128",
-                   "user_data_64", "user_data_32", "timeout", "ledger", "code", "flags", "timestamp")
+ACCOUNT_FIELDS = (
+    "id",
+    "debits_pending",
+    "debits_posted",
+    "credits_pending",
+    "credits_posted",
+    "user_data_128",
+    "user_data_64",
+    "user_data_32",
+    "reserved",
+    "ledger",
+    "code",
+    "flags",
+    "timestamp",
+)
+TRANSFER_FIELDS = (
+    "id",
+    "debit_account_id",
+    "credit_account_id",
+    "amount",
+    "pending_id",
+    "user_data_128",
+    "user_data_64",
+    "user_data_32",
+    "timeout",
+    "ledger",
+    "code",
+    "flags",
+    "timestamp",
+)
 MOST = (U128,) * 6 + (U64, U32, U32, U32, U16, U16, U64)
 ACCOUNT_FLAGS = {row["name"]: row["bit"] for row in TABLE["account_flags"]}
 TRANSFER_FLAGS = {row["name"]: row["bit"] for row in TABLE["transfer_flags"]}
@@ -40,10 +71,24 @@ def registers(client=CLIENT):
     return request(0, REGISTER, session=0, client=client)
 
 
-def reply(number, operation, body=b"", session=1, client=CLIENT, status=0, commit=None, length=None, zeros=b"\0\0",
-          more=b"\0\0\0\0"):
+def reply(
+    number,
+    operation,
+    body=b"",
+    session=1,
+    client=CLIENT,
+    status=0,
+    commit=None,
+    length=None,
+    zeros=b"\0\0",
+    more=b"\0\0\0\0",
+):
     """The frame of a reply, with anything that may be wrong in it."""
-    commit = (0 if status else session + number if operation != REGISTER else session) if commit is None else commit
+    commit = (
+        (0 if status else session + number if operation != REGISTER else session)
+        if commit is None
+        else commit
+    )
     length = len(body) if length is None else length
     numbers = struct.pack("<QIBB", session, number, operation, status)
     return u128(client) + numbers + zeros + struct.pack("<IQ", length, commit) + more + body
@@ -74,7 +119,10 @@ def flags_number(names, given):
 
 
 def record_bytes(fields, names, given):
-    values = [flags_number(names, given.get(it, 0)) if it == "flags" else int(given.get(it, 0)) for it in fields]
+    values = [
+        flags_number(names, given.get(it, 0)) if it == "flags" else int(given.get(it, 0))
+        for it in fields
+    ]
     return b"".join(map(u128, values[:6])) + struct.pack("<QIIIHHQ", *values[6:])
 
 
@@ -92,7 +140,12 @@ def ids_bytes(ids):
 
 def account(id, **fields):
     """An account as a call has it."""
-    return {"id": str(id), "ledger": "700", "code": "10", **{name: text(it) for name, it in fields.items()}}
+    return {
+        "id": str(id),
+        "ledger": "700",
+        "code": "10",
+        **{name: text(it) for name, it in fields.items()},
+    }
 
 
 def transfer(id, amount=100, **fields):
@@ -125,26 +178,48 @@ BODIES = {
     FIND_ACCOUNTS: ids_bytes,
     FIND_TRANSFERS: ids_bytes,
 }
-SOME = {ACCOUNTS: [account(1), account(2)], TRANSFERS: [transfer(11)], FIND_ACCOUNTS: ["1", "2"],
-        FIND_TRANSFERS: ["11"]}
-NOTHING = {ACCOUNTS: {"results": []}, TRANSFERS: {"results": []}, FIND_ACCOUNTS: {"records": []},
-           FIND_TRANSFERS: {"records": []}}
+SOME = {
+    ACCOUNTS: [account(1), account(2)],
+    TRANSFERS: [transfer(11)],
+    FIND_ACCOUNTS: ["1", "2"],
+    FIND_TRANSFERS: ["11"],
+}
+NOTHING = {
+    ACCOUNTS: {"results": []},
+    TRANSFERS: {"results": []},
+    FIND_ACCOUNTS: {"records": []},
+    FIND_TRANSFERS: {"records": []},
+}
 
 
 # Steps
 
 
 def connect(name="t", servers=("a",), timeout=1.0, tls=None):
-    call = {"do": "connect", "transport": name, "addresses": [{"address": it} for it in servers], "timeout": timeout}
+    call = {
+        "do": "connect",
+        "transport": name,
+        "addresses": [{"address": it} for it in servers],
+        "timeout": timeout,
+    }
     return {"call": {**call, "tls": tls} if tls else call}
 
 
 def begins(attempts=2, pause=0.01, timeout=1.0, servers=("a",)):
     """The steps after which client 7 has session 1, over connection c."""
-    call = {"do": "register", "session": "s", "transport": "t", "client": str(CLIENT), "attempts": attempts, "pause": pause}
+    call = {
+        "do": "register",
+        "session": "s",
+        "transport": "t",
+        "client": str(CLIENT),
+        "attempts": attempts,
+        "pause": pause,
+    }
     server = [{"accept": "c"}, {"read": registers().hex()}, {"send": registered().hex()}]
-    return [connect(timeout=timeout, servers=servers),
-            {"call": call, "server": server, "wants": {"ok": {"client": str(CLIENT), "session": "1"}}}]
+    return [
+        connect(timeout=timeout, servers=servers),
+        {"call": call, "server": server, "wants": {"ok": {"client": str(CLIENT), "session": "1"}}},
+    ]
 
 
 BEGINS = {
@@ -163,7 +238,9 @@ def scenario(name, says, *steps, begin="registered", frames=None, **more):
     if begin:
         row["begin"] = [begin]
     if frames:
-        row["frames"] = {key: it.hex() if isinstance(it, bytes) else it for key, it in frames.items()}
+        row["frames"] = {
+            key: it.hex() if isinstance(it, bytes) else it for key, it in frames.items()
+        }
     row["steps"] = [it for step in steps for it in (step if isinstance(step, list) else [step])]
     return row
 
@@ -172,7 +249,12 @@ def ask(operation, items, server=(), wants=None, session="s", **more):
     """A call of an operation, and what the server does meanwhile."""
     call = {"do": "ask", "session": session, "operation": NAMES[operation], "items": items}
     extra = {key: more.pop(key) for key in ("require_ok",) if key in more}
-    return {"call": {**call, **extra}, "server": list(server), "wants": wants or {"ok": NOTHING[operation]}, **more}
+    return {
+        "call": {**call, **extra},
+        "server": list(server),
+        "wants": wants or {"ok": NOTHING[operation]},
+        **more,
+    }
 
 
 def prepare(operation, items=(), wants=None, session="s"):
@@ -184,16 +266,29 @@ def prepare(operation, items=(), wants=None, session="s"):
 
 def retry(server=(), wants=None, session="s", **more):
     extra = {key: more.pop(key) for key in ("require_ok",) if key in more}
-    return {"call": {"do": "retry", "session": session, **extra}, "server": list(server), "wants": wants, **more}
+    return {
+        "call": {"do": "retry", "session": session, **extra},
+        "server": list(server),
+        "wants": wants,
+        **more,
+    }
 
 
 def saved(number, pending=b"", session=1, client=CLIENT, name="s"):
-    wants = {"client": str(client), "session": str(session), "number": str(number), "pending": pending.hex()}
+    wants = {
+        "client": str(client),
+        "session": str(session),
+        "number": str(number),
+        "pending": pending.hex(),
+    }
     return {"call": {"do": "saved", "session": name}, "wants": {"ok": wants}}
 
 
 def save(path="session.json", session="s", wants=None):
-    return {"call": {"do": "save", "session": session, "path": f"$DIR/{path}"}, "wants": wants or {"ok": None}}
+    return {
+        "call": {"do": "save", "session": session, "path": f"$DIR/{path}"},
+        "wants": wants or {"ok": None},
+    }
 
 
 def load(wants, path="session.json", session="s", transport="t", attempts=2):
@@ -236,7 +331,13 @@ LOST = error("ReplyLost", sent=True, told="")
 
 
 def frame_of(number, operation, items=None, session=1, client=CLIENT):
-    return request(number, operation, BODIES[operation](SOME[operation] if items is None else items), session, client)
+    return request(
+        number,
+        operation,
+        BODIES[operation](SOME[operation] if items is None else items),
+        session,
+        client,
+    )
 
 
 def empty(number, operation, session=1, client=CLIENT, commit=None):

@@ -1,19 +1,75 @@
 """What a client sends, byte for byte, and how it reads records and results."""
 from .frames import (
-    ACCOUNT_CODES, ACCOUNT_FIELDS, ACCOUNT_FLAGS, ACCOUNTS, FIND_ACCOUNTS, FIND_TRANSFERS, MOST, NAMES, NOTHING, REGISTER, SOME,
-    TRANSFER_CODES, TRANSFER_FIELDS, TRANSFER_FLAGS, TRANSFERS, U32, U128, account, account_bytes, accept, ask, empty, error,
-    frame_of, read, registered, registers, reply, request, results, retry, saved, scenario, send, served, transfer,
-    transfer_bytes, whole_account, whole_transfer, prepare)
+    ACCOUNT_CODES,
+    ACCOUNT_FIELDS,
+    ACCOUNT_FLAGS,
+    ACCOUNTS,
+    FIND_ACCOUNTS,
+    FIND_TRANSFERS,
+    MOST,
+    NAMES,
+    REGISTER,
+    SOME,
+    TRANSFER_CODES,
+    TRANSFER_FIELDS,
+    TRANSFER_FLAGS,
+    TRANSFERS,
+    U32,
+    U128,
+    account,
+    account_bytes,
+    accept,
+    ask,
+    empty,
+    error,
+    frame_of,
+    read,
+    registered,
+    registers,
+    reply,
+    request,
+    results,
+    retry,
+    saved,
+    scenario,
+    send,
+    served,
+    transfer,
+    transfer_bytes,
+    whole_account,
+    whole_transfer,
+    prepare,
+)
 
 KINDS = {
-    "account": (ACCOUNTS, FIND_ACCOUNTS, ACCOUNT_FIELDS, ACCOUNT_FLAGS, ACCOUNT_CODES, account_bytes, whole_account),
-    "transfer": (TRANSFERS, FIND_TRANSFERS, TRANSFER_FIELDS, TRANSFER_FLAGS, TRANSFER_CODES, transfer_bytes, whole_transfer),
+    "account": (
+        ACCOUNTS,
+        FIND_ACCOUNTS,
+        ACCOUNT_FIELDS,
+        ACCOUNT_FLAGS,
+        ACCOUNT_CODES,
+        account_bytes,
+        whole_account,
+    ),
+    "transfer": (
+        TRANSFERS,
+        FIND_TRANSFERS,
+        TRANSFER_FIELDS,
+        TRANSFER_FLAGS,
+        TRANSFER_CODES,
+        transfer_bytes,
+        whole_transfer,
+    ),
 }
 
 
 def groups():
-    return {"registers": list(register_scenarios()), "requests": list(request_scenarios()), "records": list(record_scenarios()),
-            "results": list(result_scenarios())}
+    return {
+        "registers": list(register_scenarios()),
+        "requests": list(request_scenarios()),
+        "records": list(record_scenarios()),
+        "results": list(result_scenarios()),
+    }
 
 
 def register_call(client=None, wants=None, server=(), **more):
@@ -25,74 +81,233 @@ def register_call(client=None, wants=None, server=(), **more):
 
 def register_scenarios():
     for name, client in (("1", 1), ("7", 7), ("2^64", 2**64), ("2^128-1", U128)):
-        yield scenario(f"register-client-{name}", "A register has the client's id, and nothing else that is not 0.", register_call(
-            client, {"ok": {"client": str(client), "session": "5"}}, [accept(), *served(registers(client), registered(5, client))]),
-            saved(0, session=5, client=client), begin="connected")
-    yield scenario("register-own-id", "Where no id is given the client makes one: not 0, and the reply has it again.", register_call(
-        None, {"ok": {"client": {"any": True}, "session": "1"}},
-        [accept(), read(registers(), any=[[0, 16]]), send(registered(), client=True)]), begin="connected")
-    yield scenario("register-session-2^63", "A session is a number of 64 bits.", register_call(
-        7, {"ok": {"client": "7", "session": str(2**63 - 2)}}, [accept(), *served(registers(), registered(2**63 - 2))]),
-        ask(FIND_ACCOUNTS, ["1"], served(frame_of(1, FIND_ACCOUNTS, ["1"], session=2**63 - 2), reply(
-            1, FIND_ACCOUNTS, session=2**63 - 2, commit=2**63 - 1))), begin="connected")
-    yield scenario("register-lost-reply", "A register whose reply is lost is sent again, the same bytes.", register_call(
-        7, {"ok": {"client": "7", "session": "1"}}, [accept(), read(registers()), {"close": "c"}, accept("d"), read(
-            registers(), "d"), send(registered(), "d")]), begin="connected")
-    yield scenario("register-prepared", "A register may be prepared, and sent by a retry.", {
-        "call": {"do": "open", "session": "s", "transport": "t", "client": "7"}, "wants": {"ok": {"client": "7"}}},
-        prepare(REGISTER), saved(0, registers(), session=0),
-        retry([accept(), *served(registers(), registered(3))], {"ok": {"session": "3"}}), saved(0, session=3), begin="connected")
-    yield scenario("register-twice", "A session is registered once.", prepare(REGISTER, wants=error("InvalidValue", field="session",
-                                                                                                sent=False)))
-    yield scenario("request-before-register", "A request of a session that is not registered is refused, and not sent.", {
-        "call": {"do": "open", "session": "s", "transport": "t", "client": "7"}, "wants": {"ok": {"client": "7"}}},
-        ask(FIND_ACCOUNTS, ["1"], (), error("InvalidValue", field="session", sent=False)), begin="connected")
-    yield scenario("register-refused-older", "A register of a client that goes on elsewhere is refused as Older.", register_call(
-        7, error("Older", sent=True), [accept(), *served(registers(), reply(0, REGISTER, session=0, status=4))]), begin="connected")
+        yield scenario(
+            f"register-client-{name}",
+            "A register has the client's id, and nothing else that is not 0.",
+            register_call(
+                client,
+                {"ok": {"client": str(client), "session": "5"}},
+                [accept(), *served(registers(client), registered(5, client))],
+            ),
+            saved(0, session=5, client=client),
+            begin="connected",
+        )
+    yield scenario(
+        "register-own-id",
+        "Where no id is given the client makes one: not 0, and the reply has it again.",
+        register_call(
+            None,
+            {"ok": {"client": {"any": True}, "session": "1"}},
+            [accept(), read(registers(), any=[[0, 16]]), send(registered(), client=True)],
+        ),
+        begin="connected",
+    )
+    yield scenario(
+        "register-session-2^63",
+        "A session is a number of 64 bits.",
+        register_call(
+            7,
+            {"ok": {"client": "7", "session": str(2**63 - 2)}},
+            [accept(), *served(registers(), registered(2**63 - 2))],
+        ),
+        ask(
+            FIND_ACCOUNTS,
+            ["1"],
+            served(
+                frame_of(1, FIND_ACCOUNTS, ["1"], session=2**63 - 2),
+                reply(1, FIND_ACCOUNTS, session=2**63 - 2, commit=2**63 - 1),
+            ),
+        ),
+        begin="connected",
+    )
+    yield scenario(
+        "register-lost-reply",
+        "A register whose reply is lost is sent again, the same bytes.",
+        register_call(
+            7,
+            {"ok": {"client": "7", "session": "1"}},
+            [
+                accept(),
+                read(registers()),
+                {"close": "c"},
+                accept("d"),
+                read(registers(), "d"),
+                send(registered(), "d"),
+            ],
+        ),
+        begin="connected",
+    )
+    yield scenario(
+        "register-prepared",
+        "A register may be prepared, and sent by a retry.",
+        {
+            "call": {"do": "open", "session": "s", "transport": "t", "client": "7"},
+            "wants": {"ok": {"client": "7"}},
+        },
+        prepare(REGISTER),
+        saved(0, registers(), session=0),
+        retry([accept(), *served(registers(), registered(3))], {"ok": {"session": "3"}}),
+        saved(0, session=3),
+        begin="connected",
+    )
+    yield scenario(
+        "register-twice",
+        "A session is registered once.",
+        prepare(REGISTER, wants=error("InvalidValue", field="session", sent=False)),
+    )
+    yield scenario(
+        "request-before-register",
+        "A request of a session that is not registered is refused, and not sent.",
+        {
+            "call": {"do": "open", "session": "s", "transport": "t", "client": "7"},
+            "wants": {"ok": {"client": "7"}},
+        },
+        ask(FIND_ACCOUNTS, ["1"], (), error("InvalidValue", field="session", sent=False)),
+        begin="connected",
+    )
+    yield scenario(
+        "register-refused-older",
+        "A register of a client that goes on elsewhere is refused as Older.",
+        register_call(
+            7,
+            error("Older", sent=True),
+            [accept(), *served(registers(), reply(0, REGISTER, session=0, status=4))],
+        ),
+        begin="connected",
+    )
 
 
 def request_scenarios():
     for operation in (ACCOUNTS, TRANSFERS, FIND_ACCOUNTS, FIND_TRANSFERS):
         name, items = NAMES[operation].replace("_", "-"), SOME[operation]
-        yield scenario(f"{name}-some", "The bytes of a request, and its reply with nothing in it.", ask(
-            operation, items, served(frame_of(1, operation), empty(1, operation))), saved(1))
-        yield scenario(f"{name}-none", "A request may have no items.", ask(
-            operation, [], served(request(1, operation), empty(1, operation))))
+        yield scenario(
+            f"{name}-some",
+            "The bytes of a request, and its reply with nothing in it.",
+            ask(operation, items, served(frame_of(1, operation), empty(1, operation))),
+            saved(1),
+        )
+        yield scenario(
+            f"{name}-none",
+            "A request may have no items.",
+            ask(operation, [], served(request(1, operation), empty(1, operation))),
+        )
         first = items[0]
         body = frame_of(1, operation, [first])[48:]
         whole = request(1, operation, body * 8190)[:48]
         many = {"header": whole.hex(), "first": body.hex(), "count": 8190}
-        yield scenario(f"{name}-8190", "A request has up to 8190 items.", ask(
-            operation, {"count": 8190, "first": first}, served("many", empty(1, operation))), frames={"many": many})
-        yield scenario(f"{name}-8191", "8191 items are refused, and nothing is sent.", ask(
-            operation, {"count": 8191, "first": first}, (), error("Invalid", sent=False)),
-            ask(operation, items, served(frame_of(1, operation), empty(1, operation))), saved(1))
-    yield scenario("numbers-rise", "Requests are numbered 1, 2, 3 and so on, over one connection.", [ask(
-        FIND_ACCOUNTS, ["1"], served(frame_of(it, FIND_ACCOUNTS, ["1"]), empty(it, FIND_ACCOUNTS, commit=10 + it)))
-        for it in range(1, 8)], saved(7))
-    yield scenario("two-sessions-one-transport", "Sessions over one transport have numbers of their own, and one connection.", {
-        "call": {"do": "register", "session": "u", "transport": "t", "client": "8"},
-        "server": served(registers(8), registered(2, 8)), "wants": {"ok": {"client": "8", "session": "2"}}}, [
-        ask(FIND_ACCOUNTS, ["1"], served(frame_of(1, FIND_ACCOUNTS, ["1"]), empty(1, FIND_ACCOUNTS, commit=3))),
-        ask(FIND_ACCOUNTS, ["2"], served(frame_of(1, FIND_ACCOUNTS, ["2"], 2, 8), empty(1, FIND_ACCOUNTS, 2, 8, 4)), session="u"),
-        ask(FIND_ACCOUNTS, ["3"], served(frame_of(2, FIND_ACCOUNTS, ["3"]), empty(2, FIND_ACCOUNTS, commit=5)))])
+        yield scenario(
+            f"{name}-8190",
+            "A request has up to 8190 items.",
+            ask(operation, {"count": 8190, "first": first}, served("many", empty(1, operation))),
+            frames={"many": many},
+        )
+        yield scenario(
+            f"{name}-8191",
+            "8191 items are refused, and nothing is sent.",
+            ask(operation, {"count": 8191, "first": first}, (), error("Invalid", sent=False)),
+            ask(operation, items, served(frame_of(1, operation), empty(1, operation))),
+            saved(1),
+        )
+    yield scenario(
+        "numbers-rise",
+        "Requests are numbered 1, 2, 3 and so on, over one connection.",
+        [
+            ask(
+                FIND_ACCOUNTS,
+                ["1"],
+                served(
+                    frame_of(it, FIND_ACCOUNTS, ["1"]), empty(it, FIND_ACCOUNTS, commit=10 + it)
+                ),
+            )
+            for it in range(1, 8)
+        ],
+        saved(7),
+    )
+    yield scenario(
+        "two-sessions-one-transport",
+        "Sessions over one transport have numbers of their own, and one connection.",
+        {
+            "call": {"do": "register", "session": "u", "transport": "t", "client": "8"},
+            "server": served(registers(8), registered(2, 8)),
+            "wants": {"ok": {"client": "8", "session": "2"}},
+        },
+        [
+            ask(
+                FIND_ACCOUNTS,
+                ["1"],
+                served(frame_of(1, FIND_ACCOUNTS, ["1"]), empty(1, FIND_ACCOUNTS, commit=3)),
+            ),
+            ask(
+                FIND_ACCOUNTS,
+                ["2"],
+                served(frame_of(1, FIND_ACCOUNTS, ["2"], 2, 8), empty(1, FIND_ACCOUNTS, 2, 8, 4)),
+                session="u",
+            ),
+            ask(
+                FIND_ACCOUNTS,
+                ["3"],
+                served(frame_of(2, FIND_ACCOUNTS, ["3"]), empty(2, FIND_ACCOUNTS, commit=5)),
+            ),
+        ],
+    )
     last = {"client": "7", "session": "1", "number": str(U32 - 1), "pending": ""}
-    yield scenario("last-number", "The last number of a session is 2^32 - 1; after it nothing is sent.", {
-        "call": {"do": "resume", "session": "s", "transport": "t", "saved": last}, "wants": {"ok": last}},
-        ask(FIND_ACCOUNTS, ["1"], [accept(), *served(frame_of(U32, FIND_ACCOUNTS, ["1"]), reply(U32, FIND_ACCOUNTS, commit=9))]),
-        ask(FIND_ACCOUNTS, ["1"], (), error("InvalidValue", field="number", sent=False)), saved(U32), begin="connected")
-    yield scenario("reply-in-pieces", "A reply may come byte by byte.", ask(
-        FIND_TRANSFERS, ["11"], [read(frame_of(1, FIND_TRANSFERS)), send(
-            reply(1, FIND_TRANSFERS, transfer_bytes(transfer(11))), cuts=[1, 16, 47, 48, 49, 100, 175])],
-        {"ok": {"records": [whole_transfer(transfer(11))]}}))
+    yield scenario(
+        "last-number",
+        "The last number of a session is 2^32 - 1; after it nothing is sent.",
+        {
+            "call": {"do": "resume", "session": "s", "transport": "t", "saved": last},
+            "wants": {"ok": last},
+        },
+        ask(
+            FIND_ACCOUNTS,
+            ["1"],
+            [
+                accept(),
+                *served(frame_of(U32, FIND_ACCOUNTS, ["1"]), reply(U32, FIND_ACCOUNTS, commit=9)),
+            ],
+        ),
+        ask(FIND_ACCOUNTS, ["1"], (), error("InvalidValue", field="number", sent=False)),
+        saved(U32),
+        begin="connected",
+    )
+    yield scenario(
+        "reply-in-pieces",
+        "A reply may come byte by byte.",
+        ask(
+            FIND_TRANSFERS,
+            ["11"],
+            [
+                read(frame_of(1, FIND_TRANSFERS)),
+                send(
+                    reply(1, FIND_TRANSFERS, transfer_bytes(transfer(11))),
+                    cuts=[1, 16, 47, 48, 49, 100, 175],
+                ),
+            ],
+            {"ok": {"records": [whole_transfer(transfer(11))]}},
+        ),
+    )
     body = account_bytes(account(1))
-    many = {"header": reply(1, FIND_ACCOUNTS, body * 8190)[:48].hex(), "first": body.hex(), "count": 8190}
-    whole = {"header": request(1, FIND_ACCOUNTS, bytes(16 * 8190))[:48].hex(), "first": (1).to_bytes(16, "little").hex(),
-             "count": 8190}
-    yield scenario("reply-of-8190-records", "A reply has up to 8190 records.", ask(
-        FIND_ACCOUNTS, {"count": 8190, "first": "1"}, served("asked", "found"), {
-            "ok": {"records": {"count": 8190, "first": whole_account(account(1))}}}),
-        frames={"asked": whole, "found": many})
+    many = {
+        "header": reply(1, FIND_ACCOUNTS, body * 8190)[:48].hex(),
+        "first": body.hex(),
+        "count": 8190,
+    }
+    whole = {
+        "header": request(1, FIND_ACCOUNTS, bytes(16 * 8190))[:48].hex(),
+        "first": (1).to_bytes(16, "little").hex(),
+        "count": 8190,
+    }
+    yield scenario(
+        "reply-of-8190-records",
+        "A reply has up to 8190 records.",
+        ask(
+            FIND_ACCOUNTS,
+            {"count": 8190, "first": "1"},
+            served("asked", "found"),
+            {"ok": {"records": {"count": 8190, "first": whole_account(account(1))}}},
+        ),
+        frames={"asked": whole, "found": many},
+    )
 
 
 def record_scenarios():
@@ -103,26 +318,62 @@ def record_scenarios():
             given = {"id": "5", field: str(MOST[at])}
             if field == "id":
                 given = {"id": str(MOST[at])}
-            yield scenario(f"{kind}-{field}", f"The field {field}: its place, its size and its greatest number, both ways.", ask(
-                create, [given], served(request(1, create, to_bytes(given)), empty(1, create))),
-                ask(find, [given["id"]], served(frame_of(2, find, [given["id"]]), reply(2, find, to_bytes(given), commit=9)),
-                    {"ok": {"records": [whole(given)]}}))
+            yield scenario(
+                f"{kind}-{field}",
+                f"The field {field}: its place, its size and its greatest number, both ways.",
+                ask(create, [given], served(request(1, create, to_bytes(given)), empty(1, create))),
+                ask(
+                    find,
+                    [given["id"]],
+                    served(
+                        frame_of(2, find, [given["id"]]), reply(2, find, to_bytes(given), commit=9)
+                    ),
+                    {"ok": {"records": [whole(given)]}},
+                ),
+            )
         for flag in flags:
             given = {"id": "5", "flags": [flag]}
-            yield scenario(f"{kind}-flag-{flag}", f"The flag {flag}, both ways.", ask(
-                create, [given], served(request(1, create, to_bytes(given)), empty(1, create))),
-                ask(find, ["5"], served(frame_of(2, find, ["5"]), reply(2, find, to_bytes(given), commit=9)),
-                    {"ok": {"records": [whole(given)]}}))
+            yield scenario(
+                f"{kind}-flag-{flag}",
+                f"The flag {flag}, both ways.",
+                ask(create, [given], served(request(1, create, to_bytes(given)), empty(1, create))),
+                ask(
+                    find,
+                    ["5"],
+                    served(frame_of(2, find, ["5"]), reply(2, find, to_bytes(given), commit=9)),
+                    {"ok": {"records": [whole(given)]}},
+                ),
+            )
         every = {"id": "5", "flags": list(flags)}
-        yield scenario(f"{kind}-flags-together", "All flags together.", ask(
-            create, [every], served(request(1, create, to_bytes(every)), empty(1, create))),
-            ask(find, ["5"], served(frame_of(2, find, ["5"]), reply(2, find, to_bytes(every), commit=9)),
-                {"ok": {"records": [whole(every)]}}))
-        twice, absent = [whole({"id": "5"}), whole({"id": "5"}), whole({"id": "6"})], ["5", "9", "5", "6"]
+        yield scenario(
+            f"{kind}-flags-together",
+            "All flags together.",
+            ask(create, [every], served(request(1, create, to_bytes(every)), empty(1, create))),
+            ask(
+                find,
+                ["5"],
+                served(frame_of(2, find, ["5"]), reply(2, find, to_bytes(every), commit=9)),
+                {"ok": {"records": [whole(every)]}},
+            ),
+        )
+        twice, absent = [whole({"id": "5"}), whole({"id": "5"}), whole({"id": "6"})], [
+            "5",
+            "9",
+            "5",
+            "6",
+        ]
         body = b"".join(to_bytes(it) for it in ({"id": "5"}, {"id": "5"}, {"id": "6"}))
-        yield scenario(f"lookup-{kind}s-absent-and-twice", "Records come in the order of the ids; an absent one is left out, one asked "
-                       "twice comes twice.", ask(find, absent, served(frame_of(1, find, absent), reply(1, find, body)),
-                                                 {"ok": {"records": twice}}))
+        yield scenario(
+            f"lookup-{kind}s-absent-and-twice",
+            "Records come in the order of the ids; an absent one is left out, one asked "
+            "twice comes twice.",
+            ask(
+                find,
+                absent,
+                served(frame_of(1, find, absent), reply(1, find, body)),
+                {"ok": {"records": twice}},
+            ),
+        )
 
 
 def result_scenarios():
@@ -131,20 +382,81 @@ def result_scenarios():
         count = len(failing)
         items = {"count": count, "first": SOME[create][0]}
         first = frame_of(1, create, [SOME[create][0]])[48:]
-        asked = {"header": request(1, create, first * count)[:48].hex(), "first": first.hex(), "count": count}
+        asked = {
+            "header": request(1, create, first * count)[:48].hex(),
+            "first": first.hex(),
+            "count": count,
+        }
         body = results(*enumerate(failing.values()))
-        yield scenario(f"results-of-{kind}s", "Each result code by its name.", ask(
-            create, items, served("asked", reply(1, create, body)),
-            {"ok": {"results": [{"index": at, "result": name} for at, name in enumerate(failing)]}}), frames={"asked": asked})
-        yield scenario(f"results-of-{kind}s-required", "Events that failed are an error where that is asked for, and the session goes on.",
-                       ask(create, SOME[create], served(frame_of(1, create), reply(1, create, results((0, codes["exists"])))),
-                           error("EventsFailed", results=[{"index": 0, "result": "exists"}]), require_ok=True), saved(1),
-                       ask(create, SOME[create], served(frame_of(2, create), empty(2, create)), require_ok=True))
-        for name, code in (("above", max(codes.values()) + 1), ("18" if kind == "transfer" else "1000", 18 if kind == "transfer" else 1000)):
-            yield scenario(f"results-of-{kind}s-unknown-{name}", "A result code without a name is no reply.", ask(
-                create, SOME[create], [read(frame_of(1, create)), send(reply(1, create, results((0, code)))), {"close": "c"}],
-                error("BadReply", sent=True)), saved(0, frame_of(1, create)))
-    yield scenario("results-of-some", "Events without a result were accepted.", ask(
-        ACCOUNTS, [account(it) for it in range(1, 6)], served(frame_of(1, ACCOUNTS, [account(it) for it in range(1, 6)]), reply(
-            1, ACCOUNTS, results((1, 21), (4, 13)))),
-        {"ok": {"results": [{"index": 1, "result": "exists"}, {"index": 4, "result": "ledger_must_not_be_zero"}]}}), saved(1))
+        yield scenario(
+            f"results-of-{kind}s",
+            "Each result code by its name.",
+            ask(
+                create,
+                items,
+                served("asked", reply(1, create, body)),
+                {
+                    "ok": {
+                        "results": [
+                            {"index": at, "result": name} for at, name in enumerate(failing)
+                        ]
+                    }
+                },
+            ),
+            frames={"asked": asked},
+        )
+        yield scenario(
+            f"results-of-{kind}s-required",
+            "Events that failed are an error where that is asked for, and the session goes on.",
+            ask(
+                create,
+                SOME[create],
+                served(frame_of(1, create), reply(1, create, results((0, codes["exists"])))),
+                error("EventsFailed", results=[{"index": 0, "result": "exists"}]),
+                require_ok=True,
+            ),
+            saved(1),
+            ask(
+                create, SOME[create], served(frame_of(2, create), empty(2, create)), require_ok=True
+            ),
+        )
+        for name, code in (
+            ("above", max(codes.values()) + 1),
+            ("18" if kind == "transfer" else "1000", 18 if kind == "transfer" else 1000),
+        ):
+            yield scenario(
+                f"results-of-{kind}s-unknown-{name}",
+                "A result code without a name is no reply.",
+                ask(
+                    create,
+                    SOME[create],
+                    [
+                        read(frame_of(1, create)),
+                        send(reply(1, create, results((0, code)))),
+                        {"close": "c"},
+                    ],
+                    error("BadReply", sent=True),
+                ),
+                saved(0, frame_of(1, create)),
+            )
+    yield scenario(
+        "results-of-some",
+        "Events without a result were accepted.",
+        ask(
+            ACCOUNTS,
+            [account(it) for it in range(1, 6)],
+            served(
+                frame_of(1, ACCOUNTS, [account(it) for it in range(1, 6)]),
+                reply(1, ACCOUNTS, results((1, 21), (4, 13))),
+            ),
+            {
+                "ok": {
+                    "results": [
+                        {"index": 1, "result": "exists"},
+                        {"index": 4, "result": "ledger_must_not_be_zero"},
+                    ]
+                }
+            },
+        ),
+        saved(1),
+    )

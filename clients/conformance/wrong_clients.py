@@ -1,0 +1,299 @@
+#!/usr/bin/env python3
+"""Sees that the kit catches wrong clients: the client in Python with one thing wrong, each in turn.
+
+    clients/conformance/wrong_clients.py [--only PATTERN] [--jobs N]
+
+Each wrong client is an edit of clients/python/tb_client in a copy of its own. The kit has to fail
+for it; the client as it is has to pass. Prints which scenario caught it, and 'N of M wrong clients
+are caught'. Status 1 where one is not.
+"""
+import argparse
+import concurrent.futures
+import fnmatch
+import os
+import re
+import shutil
+import subprocess
+import sys
+import tempfile
+
+sys.dont_write_bytecode = True
+HERE = os.path.dirname(os.path.abspath(__file__))
+PYTHON = os.path.join(os.path.dirname(HERE), "python")
+
+# Each: what is wrong, the file, the text that stands there once, and the text in its place.
+WRONG = {
+    "a new number for each retry": (
+        "sessions.py",
+        "            attempts, pauses = self._options()\n",
+        "            attempts, pauses = self._options()\n"
+        "            if self.pending[28] != 2 and self._may_be_sent:\n"
+        "                self.number += 1\n"
+        "                self.pending = self.pending[:24] + (self.number + 1).to_bytes(4, "
+        "'little') + self.pending[28:]\n",
+    ),
+    "a new id of the record for each retry": (
+        "sessions.py",
+        "            attempts, pauses = self._options()\n",
+        "            attempts, pauses = self._options()\n"
+        "            if self.pending[28] == 130 and self._may_be_sent:\n"
+        "                self.pending = self.pending[:48] + new_id().to_bytes(16, 'little') + "
+        "self.pending[64:]\n",
+    ),
+    "the next number before the reply": (
+        "sessions.py",
+        "        if self.pending is None:\n            return\n        refusal",
+        "        if self.pending is None:\n            return\n"
+        "        self.number, self.pending = self.number + 1, None\n        return\n        "
+        "refusal",
+    ),
+    "a refusal is taken for an answer": (
+        "sessions.py",
+        "            self._refused = refusal\n            raise refusal(",
+        "            self._refused = refusal\n            self.number, self.pending = "
+        "asked.number, None\n"
+        "            return said_by(asked.operation, b'')\n            raise refusal(",
+    ),
+    "a refusal ends the doubt": (
+        "sessions.py",
+        "            self._refused = refusal\n            raise refusal(",
+        "            self._refused, self.pending = refusal, None\n            raise refusal(",
+    ),
+    "a lost reply ends the doubt": (
+        "sessions.py",
+        "                    if not left:\n                        raise\n",
+        "                    if not left:\n                        self.pending = None\n"
+        "                        raise\n",
+    ),
+    "a request is sent once": (
+        "sessions.py",
+        "                    if not left:\n                        raise\n",
+        "                    if True:\n                        raise\n",
+    ),
+    "one sending too many": (
+        "sessions.py",
+        "in reversed(range(attempts)):",
+        "in reversed(range(attempts + 1)):",
+    ),
+    "no pause where the server is busy": (
+        "sessions.py",
+        "time.sleep(next(pauses))",
+        "next(pauses)",
+    ),
+    "pauses that do not grow": (
+        "sessions.py",
+        "pause = min(2 * pause, greatest)",
+        "pause = min(pause, greatest)",
+    ),
+    "every refusal is sent again": (
+        "sessions.py",
+        "except (ReplyLost, NoMemory, NotYet) as why:",
+        "except (ReplyLost, NoMemory, NotYet, *REFUSALS.values()) as why:",
+    ),
+    "a bad reply is sent again": (
+        "sessions.py",
+        "except (ReplyLost, NoMemory, NotYet) as why:",
+        "except (ReplyLost, NoMemory, NotYet, BadReply) as why:",
+    ),
+    "any reply will do": (
+        "frames.py",
+        "    if asker(reply) == asker(frame):\n        return\n",
+        "    return\n",
+        "sessions.py",
+        "        if (reply.client, reply.number, reply.operation) != (self.client, "
+        "asked.number, asked.operation):\n",
+        "        if False:\n",
+    ),
+    "the session of a reply is not looked at": (
+        "frames.py",
+        "    if asker(reply) == asker(frame):\n        return\n",
+        "    if reply[:16] + reply[24:29] == frame[:16] + frame[24:29]:\n        return\n",
+        "sessions.py",
+        "        if reply.session != session or not session:\n",
+        "        if False:\n",
+    ),
+    "a late reply is waited for on the old connection": (
+        "sockets.py",
+        "            except OSError as error:\n                self._lose()\n",
+        "            except OSError as error:\n                if not isinstance(error, "
+        "socket.timeout):\n                    self._lose()\n",
+    ),
+    "a connection that was closed is not looked at": (
+        "sockets.py",
+        "        if self._socket is not None and _is_left(self._socket):\n            "
+        "self._lose()\n",
+        "",
+    ),
+    "always the first address": (
+        "sockets.py",
+        "        self._at = (self._at + 1) % len(self._addresses)\n",
+        "        self._at = 0\n",
+    ),
+    "TLS without a look at the certificate": (
+        "sockets.py",
+        "        return tls.wrap_socket(it, server_hostname=host)\n",
+        "        tls.check_hostname, tls.verify_mode = False, ssl.CERT_NONE\n"
+        "        return tls.wrap_socket(it, server_hostname=host)\n",
+    ),
+    "the name that the server told is lost": (
+        "sockets.py",
+        "{why and ': ' + why}\", why)",
+        "{why and ': ' + why}\")",
+    ),
+    "what was never sent stays in doubt": (
+        "sessions.py",
+        "                if not self._may_be_sent:  # it is as if it had not been asked for\n"
+        "                    self.pending = None\n",
+        "                pass\n",
+    ),
+    "lost, then nobody listens, is told as not sent": (
+        "sessions.py",
+        "                    if last is None:\n                        raise\n",
+        "                    if True:\n                        raise\n",
+    ),
+    "a file is written over": (
+        "files.py",
+        "        os.replace(beside, path)\n",
+        "        with open(path, 'wb') as over:\n            over.write(data)\n        "
+        "os.unlink(beside)\n",
+    ),
+    "a file forgets the request in doubt": (
+        "sessions.py",
+        '"pending": (self.pending or b"").hex()',
+        '"pending": ""',
+    ),
+    "a file has the number of the request in doubt": (
+        "sessions.py",
+        '"session": self.session, "number": self.number,',
+        '"session": self.session, "number": self.number + (self.pending is not None),',
+    ),
+    "bytes of another session are loaded": (
+        "sessions.py",
+        "    if (asked.client, asked.session, asked.number) != wanted:\n",
+        "    if asked.client != client:\n",
+    ),
+    "two fields of one name: the last one counts": (
+        "files.py",
+        "        if name in found:\n",
+        "        if False:\n",
+    ),
+    "floats are rounded": (
+        "values.py",
+        "        number = int.__index__(operator.index(value))  # type: ignore[arg-type]\n",
+        "        number = int(value)\n",
+    ),
+    "numbers that are too large are cut": (
+        "values.py",
+        "    if not least <= number <= greatest:\n",
+        "    if number > greatest:\n        return number & greatest\n    if not least <= "
+        "number <= greatest:\n",
+    ),
+    "8191 items": ("layout.py", "ITEMS_MAX = 8190", "ITEMS_MAX = 8191"),
+    "ledger and code change places": (
+        "layout.py",
+        'NARROW = struct.Struct("<QIIIHHQ")',
+        'NARROW = struct.Struct("<QIIHIHQ")',
+    ),
+    "unknown result codes are passed over": (
+        "frames.py",
+        "    except ValueError as unknown:\n        raise BadReply(str(unknown)) from None\n",
+        "    except ValueError as unknown:\n        return []\n",
+    ),
+    "records are not compared with the ids": (
+        "frames.py",
+        "        if it.id not in ids:",
+        "        if False:",
+    ),
+    "ids follow the clock back": (
+        "ids.py",
+        "            if now > self.millisecond:\n",
+        "            if now != self.millisecond:\n",
+    ),
+    "ids of one millisecond are drawn anew": (
+        "ids.py",
+        "                self.random += 1\n",
+        "                self.random = int.from_bytes(os.urandom(10), 'little')\n",
+    ),
+    "a closed transport calls again": (
+        "sockets.py",
+        "            if self._closed:\n",
+        "            if False:\n",
+    ),
+}
+
+
+def edited(folder, edits):
+    """A copy of the client with texts in place of others."""
+    shutil.copytree(
+        f"{PYTHON}/tb_client", f"{folder}/tb_client", ignore=shutil.ignore_patterns("__pycache__")
+    )
+    shutil.copy(f"{PYTHON}/conformance_runner.py", folder)
+    for at in range(0, len(edits), 3):
+        path, old, new = edits[at : at + 3]
+        with open(f"{folder}/tb_client/{path}", encoding="utf-8") as it:
+            text = it.read()
+        if text.count(old) != 1:
+            raise LookupError(f"{path} has {text.count(old)} times: {old.strip().splitlines()[0]}")
+        with open(f"{folder}/tb_client/{path}", "w", encoding="utf-8") as it:
+            it.write(text.replace(old, new))
+
+
+def caught(edits, jobs):
+    """The kit's status for an edited client, and the scenario that failed first."""
+    with tempfile.TemporaryDirectory() as folder:
+        edited(folder, edits)
+        runner = [sys.executable, "-B", f"{folder}/conformance_runner.py"]
+        words = [
+            sys.executable,
+            "-B",
+            f"{HERE}/kit.py",
+            "--first",
+            "--jobs",
+            str(jobs),
+            "--",
+            *runner,
+        ]
+        ran = subprocess.run(words, capture_output=True, text=True, timeout=600)
+    first = re.search(r"^FAILED: ([^:]+): (.*)", ran.stdout, re.M)
+    return (
+        ran.returncode,
+        f"{first[1]}: {first[2][:100]}" if first else (ran.stdout + ran.stderr)[-300:],
+    )
+
+
+def words():
+    parser = argparse.ArgumentParser(
+        description=__doc__, formatter_class=argparse.RawDescriptionHelpFormatter
+    )
+    parser.add_argument(
+        "--only", metavar="PATTERN", default="*", help="wrong clients with such a name"
+    )
+    parser.add_argument("--jobs", metavar="N", type=int, default=4, help="kits at once (4)")
+    return parser.parse_args()
+
+
+def main():
+    given = words()
+    chosen = {name: edits for name, edits in WRONG.items() if fnmatch.fnmatch(name, given.only)}
+    status, said = caught((), 4)
+    if status:
+        print(f"FAILED: the client as it is: {said}")
+        return 1
+    missed = 0
+    with concurrent.futures.ThreadPoolExecutor(given.jobs) as pool:
+        runs = {name: pool.submit(caught, edits, 1) for name, edits in chosen.items()}
+        for name, run in runs.items():
+            status, said = run.result()
+            missed += status != 1
+            print(
+                f"caught: {name}: by {said}"
+                if status == 1
+                else f"FAILED: not caught: {name}: {said}",
+                flush=True,
+            )
+    print(f"{len(chosen) - missed} of {len(chosen)} wrong clients are caught")
+    return 1 if missed else 0
+
+
+if __name__ == "__main__":
+    sys.exit(main())
