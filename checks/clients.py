@@ -1,12 +1,20 @@
 #!/usr/bin/env python3
-"""Runs the tests and the example of clients/python on the built program, and what docs/use/CLIENTS.md shows. First build it:
+"""Runs the tests of each client, the conformance kit over each, money that moves amid kills, and
+what the clients' page shows.
 
     (cd crates/tbs && rt run -- run 2) < examples/first.script > /dev/null
-    checks/clients.py
+    checks/clients.py [--only PART ..] [--kills N]
 
-Prints a line for each case, and 'N passed, M failed'. Where mypy is there, types are checked too. PROGRAM names another tbs, TBD another tbd. Where no
-tbd is built, clients/python/stand_in_tbd.py stands in for it.
+The parts are python (the client's tests and examples on the built tbs, its types), pages (what the
+page and the README show), kit (the wrong clients, and the scenarios as data), and a part for each
+language that has a clients/*/conformance.json: its build, its tests, the kit, and the money. A
+language that is not installed is passed over by name. Prints a line for each case, and 'N passed,
+M failed'. Where mypy is there, types are checked too. PROGRAM names another tbs, TBD another tbd.
+Where no tbd is built, clients/python/stand_in_tbd.py stands in for it.
 """
+import argparse
+import glob
+import json
 import os
 import re
 import shlex
@@ -64,7 +72,7 @@ def types():
         print("passed over: mypy is not there")
         return
     with tempfile.TemporaryDirectory() as kept:
-        words = ["mypy", "--strict", "--cache-dir", kept, "tb_client", "tb_listen.py", "example.py", "example_sockets.py", f"{EMBED}/tb_embed.py"]
+        words = ["mypy", "--strict", "--cache-dir", kept, "tb_client", "tb_listen.py", "conformance_runner.py", "example.py", "example_sockets.py", f"{EMBED}/tb_embed.py"]
         ran = subprocess.run(words, cwd=CLIENT, capture_output=True, text=True, timeout=300, env={**os.environ, "MYPYPATH": CLIENT})
     case("types, by mypy --strict", ran.returncode == 0, ran.stdout.strip()[-2000:])
 
@@ -192,7 +200,51 @@ def exits():
     case("exit status of Device", (ran.returncode, ran.stderr) == (rows["Device"][0], b"tbs: Device\n"))
 
 
-def main():
+# Each language
+
+
+def described():
+    """The languages: each with its folder, by what its conformance.json says."""
+    found = {}
+    for path in sorted(glob.glob(f"{TOP}/clients/*/conformance.json")):
+        with open(path, encoding="utf-8") as it:
+            about = json.load(it)
+        found[about["language"].lower()] = {**about, "folder": os.path.dirname(path)}
+    return found
+
+
+def language(about, kills):
+    """Builds a client, and runs its tests, the kit and the money over it."""
+    name, folder = about["language"], about["folder"]
+    missing = [program for program in about["needs"] if not shutil.which(program)]
+    if missing:
+        print(f"passed over: {name}, since {', '.join(missing)} is not there")
+        return
+    for kind in ("build", "tests"):
+        for words in about[kind]:
+            ran = subprocess.run(words, cwd=folder, capture_output=True, text=True, timeout=1200)
+            said = "" if ran.returncode == 0 else (ran.stdout + ran.stderr)[-2000:]
+            if not case(f"{name}: {' '.join(words)}", ran.returncode == 0, said) and kind == "build":
+                return
+    kit = [f"{TOP}/clients/conformance/kit.py", "--"]
+    money = [f"{TOP}/clients/conformance/money.py", "--kills", str(kills), "--server", KEEPER, "--"]
+    for what, words in (("the kit", kit), ("money amid kills", money)):
+        words = [sys.executable, "-B", *words, *about["runner"]]
+        ran = subprocess.run(words, cwd=folder, capture_output=True, text=True, timeout=3600)
+        lines = (ran.stdout + ran.stderr).strip().splitlines() or [""]
+        case(f"{name}: {what}", ran.returncode == 0, lines[-1] if ran.returncode == 0 else "\n".join(lines[-20:]))
+
+
+def kit():
+    """That the scenarios are those that are made, and that each wrong client is caught."""
+    for name in ("make_scenarios", "wrong_clients"):
+        words = [sys.executable, "-B", f"{TOP}/clients/conformance/{name}.py"]
+        ran = subprocess.run(words, capture_output=True, text=True, timeout=3600)
+        lines = (ran.stdout + ran.stderr).strip().splitlines() or [""]
+        case(f"{name}.py", ran.returncode == 0, lines[-1] if ran.returncode == 0 else "\n".join(lines[-20:]))
+
+
+def client_in_python():
     tried.built(PROGRAM)
     tests("the tests of the client in Python", CLIENT)
     tests("the tests of the embedded server's module", EMBED)
@@ -201,10 +253,29 @@ def main():
     output = script("the example over sockets", CLIENT, "example_sockets.py", KEEPER)
     case("what that says", output == OVER_SOCKETS, "" if output == OVER_SOCKETS else output)
     types()
+
+
+def pages():
+    tried.built(PROGRAM)
     blocks()
     readme()
     told()
     exits()
+
+
+def main():
+    languages = described()
+    parts = {"python": client_in_python, "pages": pages, "kit": kit}
+    names = [*parts, *(it for it in languages if it != "python")]
+    parser = argparse.ArgumentParser(description=__doc__, formatter_class=argparse.RawDescriptionHelpFormatter)
+    parser.add_argument("--only", metavar="PART", nargs="+", choices=names, default=names, help=f"one or more of {', '.join(names)}")
+    parser.add_argument("--kills", metavar="N", type=int, default=30, help="how often something is killed in each language (30)")
+    given = parser.parse_args()
+    for name in given.only:
+        if name in parts:
+            parts[name]()
+        if name in languages:
+            language({**languages[name], **({"tests": []} if name == "python" else {})}, given.kills)
     return tried.status()
 
 

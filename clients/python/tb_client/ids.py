@@ -10,10 +10,18 @@ RANDOM_BITS = 80
 MILLISECOND = 1_000_000  # nanoseconds
 
 
+def _now() -> int:
+    return time.time_ns()
+
+
+def _draw(count: int) -> bytes:
+    return os.urandom(count)
+
+
 class Ids:
     """Makes ids. `now` answers nanoseconds since 1970, and `draw` so many random bytes: those of the system where nothing is given."""
 
-    def __init__(self, now: Callable[[], int] = time.time_ns, draw: Callable[[int], bytes] = os.urandom) -> None:
+    def __init__(self, now: Callable[[], int] = _now, draw: Callable[[int], bytes] = _draw) -> None:
         self.now, self.draw = now, draw
         self.lock = threading.Lock()
         self.millisecond = self.random = 0

@@ -1,0 +1,296 @@
+#!/usr/bin/env python3
+"""Money moves once, while the client, the server and the listener are killed.
+
+    clients/conformance/money.py -- python3 -B clients/python/conformance_runner.py
+    clients/conformance/money.py --kills 100 --server crates/tbd/out/tbd -- COMMAND [WORD ..]
+
+A session makes transfers one after another over the listener and a server that keeps its ledger in
+a file, each of another amount, by prepare, save, retry and save. At moments that a seed draws, one of
+the three is killed and started again; the client goes on from what it saved. In the end each transfer
+is there once, and both accounts have the sum of all amounts. Prints what was killed, and the sums.
+Status 1 where money was lost or moved twice.
+"""
+import argparse
+import contextlib
+import os
+import random
+import shlex
+import signal
+import subprocess
+import sys
+import tempfile
+import time
+
+sys.dont_write_bytecode = True
+HERE = os.path.dirname(os.path.abspath(__file__))
+TOP = os.path.dirname(os.path.dirname(HERE))
+sys.path.insert(0, HERE)
+
+from runner import Ended, Runner  # noqa: E402
+
+PYTHON = f"{TOP}/clients/python"
+TBD = f"{TOP}/crates/tbd/out/tbd"
+STAND_IN = f"{sys.executable} -SE {PYTHON}/stand_in_tbd.py"
+CALL = 60.0  # seconds that a call may take, with a server that is started again meanwhile
+KINDS = ("client", "server", "listener")
+
+
+class Wrong(Exception):
+    """Money was lost or moved twice, or a call failed."""
+
+
+class Listening:
+    """The listener and its server, which keep their ledger in a file."""
+
+    def __init__(self, server, folder):
+        self.server, self.folder, self.process = server, folder, None
+        self.start()
+
+    def start(self):
+        """Starts them. The server before may still hold the file for a moment: then again."""
+        listener = [
+            sys.executable,
+            "-B",
+            f"{PYTHON}/tb_listen.py",
+            "--ahead",
+            "60",
+            "--unix",
+            "ledger.sock",
+            "--",
+        ]
+        deadline = time.monotonic() + CALL
+        while time.monotonic() < deadline:
+            self.process = subprocess.Popen(
+                [*listener, *self.server, "run", "ledger.journal", "64"],
+                cwd=self.folder,
+                stderr=subprocess.PIPE,
+                text=True,
+            )
+            line = self.process.stderr.readline()
+            while line and "listens on" not in line:
+                line = self.process.stderr.readline()
+            if line:
+                return
+            self.process.wait()
+            self.process.stderr.close()
+            time.sleep(0.02)
+        raise Wrong("the listener does not start")
+
+    def kill(self):
+        self.process.kill()
+        self.process.wait()
+        self.process.stderr.close()
+
+    def kill_server(self):
+        """Kills the listener's child, if it has one just now."""
+        with contextlib.suppress(OSError):
+            with open(f"/proc/{self.process.pid}/task/{self.process.pid}/children") as it:
+                for number in it.read().split():
+                    os.kill(int(number), signal.SIGKILL)
+
+    def end(self):
+        self.process.terminate()
+        status = self.process.wait(CALL)
+        self.process.stderr.close()
+        if status:
+            raise Wrong(f"the listener ended with status {status}")
+
+
+class Money:
+    def __init__(self, given, folder):
+        self.given, self.folder, self.random = given, folder, random.Random(given.seed)
+        self.runner = Runner(given.command, folder)
+        self.listening = Listening(shlex.split(given.server), folder)
+        self.path = f"{folder}/session.json"
+        self.killed = dict.fromkeys(KINDS, 0)
+        self.made, self.total = 0, 0
+
+    # Calls
+
+    def call(self, line):
+        answer = self.runner.call(line, CALL)
+        if "ok" not in answer:
+            raise Wrong(f"{line['do']} is answered {answer}")
+        return answer["ok"]
+
+    def begin(self):
+        self.runner.start()
+        address = {"unix": f"{self.folder}/ledger.sock"}
+        self.call({"do": "connect", "transport": "t", "addresses": [address], "timeout": 20})
+
+    def ask(self, operation, items):
+        line = {"do": "ask", "session": "s", "operation": operation, "items": items}
+        return self.call(line)
+
+    def opened(self):
+        """A session, two accounts, and the file."""
+        self.begin()
+        self.call({"do": "register", "session": "s", "transport": "t", "attempts": 100})
+        accounts = [{"id": it, "ledger": "700", "code": "10"} for it in ("1", "2")]
+        if self.ask("create_accounts", accounts)["results"]:
+            raise Wrong("the accounts are there already")
+        self.call({"do": "save", "session": "s", "path": self.path})
+
+    def resumed(self):
+        """The client again, from what it saved. The request that was in doubt is answered."""
+        self.begin()
+        line = {"do": "load", "session": "s", "transport": "t", "path": self.path, "attempts": 100}
+        if self.call(line)["pending"]:
+            self.accepted(self.call({"do": "retry", "session": "s"}))
+            self.call({"do": "save", "session": "s", "path": self.path})
+            return True
+        return False
+
+    @staticmethod
+    def accepted(said):
+        if said.get("results"):
+            raise Wrong(f"a transfer was not accepted: {said['results']}")
+
+    # Transfers
+
+    def transfer(self, kind):
+        """One transfer, and a kill of this kind somewhere in its steps, or none. It is made in the
+        end, once."""
+        number = self.made + 1
+        sale = {"id": str(1000 + number), "debit_account_id": "1", "credit_account_id": "2"}
+        sale = {**sale, "amount": str(number), "ledger": "700", "code": "10"}
+        steps = [
+            {"do": "prepare", "session": "s", "operation": "create_transfers", "items": [sale]},
+            {"do": "save", "session": "s", "path": self.path},
+            {"do": "retry", "session": "s"},
+            {"do": "save", "session": "s", "path": self.path},
+        ]
+        struck = self.random.randrange(len(steps)) if kind else None
+        for place, step in enumerate(steps):
+            if place == struck and kind == "client":
+                if self.client_killed(step):
+                    break
+            elif place == struck:
+                self.other_killed(kind, step)
+            else:
+                self.step(step)
+        else:
+            self.count(number)
+            return
+        if self.is_made(number):
+            self.count(number)
+        else:
+            self.transfer(None)
+
+    def count(self, number):
+        self.made, self.total = number, self.total + number
+
+    def step(self, step):
+        said = self.call(step)
+        if step["do"] == "retry":
+            self.accepted(said)
+
+    def client_killed(self, step):
+        """Kills the client within a step, and starts it again."""
+        self.runner.send(step)
+        time.sleep(self.random.random() * self.given.span)
+        self.runner.kill()
+        self.killed["client"] += 1
+        self.resumed()
+        return True
+
+    def other_killed(self, kind, step):
+        """Kills the server or the listener within a step, which goes on."""
+        self.runner.send(step)
+        time.sleep(self.random.random() * self.given.span)
+        if kind == "server":
+            self.listening.kill_server()
+        else:
+            self.listening.kill()
+            self.listening.start()
+        self.killed[kind] += 1
+        answer = self.runner.answer(CALL)
+        if "ok" not in answer:
+            raise Wrong(f"{step['do']} is answered {answer}")
+        if step["do"] == "retry":
+            self.accepted(answer["ok"])
+
+    def is_made(self, number):
+        return bool(self.ask("lookup_transfers", [str(1000 + number)])["records"])
+
+    def run(self):
+        self.opened()
+        kinds = [KINDS[at % len(KINDS)] for at in range(self.given.kills)]
+        for kind in kinds:
+            self.transfer(None)
+            self.transfer(kind)
+        self.compare()
+        self.runner.end()
+        self.listening.end()
+
+    def compare(self):
+        """Each transfer is there once, with its amount, and the accounts have the sum of them."""
+        ids = [str(1000 + it) for it in range(1, self.made + 2)]
+        found = self.ask("lookup_transfers", ids)["records"]
+        amounts = [int(it["amount"]) for it in found]
+        if amounts != list(range(1, self.made + 1)):
+            raise Wrong(f"{len(amounts)} transfers are there, and {self.made} were made")
+        debit, credit = self.ask("lookup_accounts", ["1", "2"])["records"]
+        sums = {int(debit["debits_posted"]), int(credit["credits_posted"]), self.total}
+        if len(sums) != 1:
+            raise Wrong(
+                f"debited {debit['debits_posted']}, credited"
+                f" {credit['credits_posted']}, and {self.total} were moved"
+            )
+
+    def stop(self):
+        self.runner.kill()
+        with contextlib.suppress(OSError, ValueError):
+            self.listening.kill()
+
+
+def words():
+    default = TBD if os.access(TBD, os.X_OK) else STAND_IN
+    parser = argparse.ArgumentParser(
+        description=__doc__, formatter_class=argparse.RawDescriptionHelpFormatter
+    )
+    parser.add_argument(
+        "--kills", metavar="N", type=int, default=30, help="how often something is killed (30)"
+    )
+    parser.add_argument("--seed", metavar="N", type=int, default=1, help="draws the moments (1)")
+    parser.add_argument(
+        "--span",
+        metavar="SECONDS",
+        type=float,
+        default=0.004,
+        help="a kill comes so long after a call at most (0.004)",
+    )
+    parser.add_argument(
+        "--server",
+        metavar="COMMAND",
+        default=default,
+        help="tbd, or another server of its words (tbd where it is built, else its stand-in)",
+    )
+    parser.add_argument(
+        "command", metavar="COMMAND", nargs="+", help="the runner and its words, behind --"
+    )
+    return parser.parse_args()
+
+
+def main():
+    given = words()
+    with tempfile.TemporaryDirectory(prefix="money") as folder:
+        money = Money(given, folder)
+        try:
+            money.run()
+        except (Wrong, Ended) as why:
+            print(f"FAILED: {why}")
+            return 1
+        finally:
+            money.stop()
+    killed = ", ".join(f"the {kind} {count} times" for kind, count in money.killed.items())
+    print(f"killed: {killed}")
+    print(
+        f"{money.made} transfers moved {money.total}, each once"
+        f" ({'tbd' if given.server != STAND_IN else 'the stand-in of tbd'})"
+    )
+    return 0
+
+
+if __name__ == "__main__":
+    sys.exit(main())

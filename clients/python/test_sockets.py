@@ -1,0 +1,140 @@
+"""Sockets to several addresses, what a server tells, replies of other requests, and TLS's
+arguments."""
+import os
+import socket
+import ssl
+import struct
+import tempfile
+import threading
+import time
+import unittest
+
+import tb_client as tb
+from tb_client import Socket
+from tb_client.ids import Ids
+
+
+def register(client):
+    return client.to_bytes(16, "little") + struct.pack("<QIB3xI12x", 0, 0, 2, 0)
+
+
+def registered(client, session=1):
+    return tb.Reply(client, session, 0, 2, 0, session, b"").to_bytes()
+
+
+class Server:
+    """Listens at a path, and gives each connection the next of some answers: bytes after a request,
+    or None to close at once."""
+
+    def __init__(self, path, *answers):
+        self.path, self.answers, self.requests, self.left = path, answers, [], []
+        self.socket = socket.socket(socket.AF_UNIX)
+        self.socket.bind(path)
+        self.socket.listen()
+        self.thread = threading.Thread(target=self.serve)
+        self.thread.start()
+
+    def serve(self):
+        for answer in self.answers:
+            it, _ = self.socket.accept()
+            with it:
+                it.settimeout(10)
+                self.requests.append(it.recv(48, socket.MSG_WAITALL))
+                if answer is not None:
+                    it.sendall(answer)
+                    if not answer.startswith(b"tb_listen"):
+                        self.left.append(it.recv(1))  # nothing, once the client has closed it
+
+    def end(self):
+        self.thread.join()
+        self.socket.close()
+
+
+class Addresses(unittest.TestCase):
+    def setUp(self):
+        self.folder = tempfile.TemporaryDirectory()
+        self.addCleanup(self.folder.cleanup)
+
+    def path(self, name):
+        return os.path.join(self.folder.name, name)
+
+    def test_the_next_one_where_none_listens(self):
+        server = Server(self.path("b"), registered(7))
+        with Socket([self.path("a"), self.path("b")]) as it:
+            self.assertEqual(it.exchange(0, register(7)), registered(7))
+            self.assertEqual(it.address, self.path("b"))
+        server.end()
+
+    def test_the_next_one_where_it_is_lost(self):
+        first, second = Server(self.path("a"), None), Server(self.path("b"), registered(7))
+        with tb.Session.register(
+            Socket([self.path("a"), self.path("b")]), 7, attempts=2
+        ) as session:
+            self.assertEqual(session.session, 1)
+        first.end()
+        second.end()
+        self.assertEqual(first.requests, second.requests)
+
+    def test_none_listens(self):
+        began = time.monotonic()
+        with Socket([self.path(it) for it in "abc"], timeout=0.3) as it, self.assertRaises(
+            tb.CannotConnect
+        ):
+            it.exchange(0, register(7))
+        self.assertGreaterEqual(time.monotonic() - began, 0.3, "it calls for all of its time")
+
+    def test_wrong_lists(self):
+        for wrong, error in (
+            ([], tb.InvalidValue),
+            (["a", 5], tb.InvalidType),
+            ([("h", 0)], tb.InvalidValue),
+            ((), tb.InvalidType),
+        ):
+            with self.assertRaises(error):
+                Socket(wrong)
+
+    def test_a_reply_of_another_request_ends_the_connection(self):
+        server = Server(self.path("a"), registered(8), registered(7))
+        with Socket(self.path("a")) as it:
+            with self.assertRaises(tb.BadReply) as fault:
+                it.exchange(0, register(7))
+            self.assertIn("of client 8", str(fault.exception))
+            self.assertEqual(it.exchange(0, register(7)), registered(7))
+        server.end()
+        self.assertEqual(server.left, [b"", b""])
+
+    def test_what_the_server_tells(self):
+        for name, kind in (
+            ("Busy", tb.Busy),
+            ("Starting", tb.Busy),
+            ("Full", tb.ReplyLost),
+            ("Slow", tb.ReplyLost),
+        ):
+            server = Server(self.path(name), f"tb_listen: {name}\n".encode())
+            with Socket(self.path(name)) as it, self.assertRaises(tb.ReplyLost) as lost:
+                it.exchange(0, register(7))
+            server.end()
+            self.assertEqual((type(lost.exception), lost.exception.told), (kind, name))
+
+
+class Tls(unittest.TestCase):
+    def test_wrong_arguments(self):
+        context = ssl.create_default_context()
+        with self.assertRaises(tb.InvalidType):
+            Socket(("localhost", 1), tls=True)
+        with self.assertRaises(tb.InvalidValue):
+            Socket("ledger.sock", tls=context)
+        with self.assertRaises(tb.InvalidValue):
+            Socket([("localhost", 1), "ledger.sock"], tls=context)
+        Socket([("localhost", 1), ("::1", 2)], tls=context).close()
+
+
+class OwnIds(unittest.TestCase):
+    def test_a_clock_that_is_set_back(self):
+        times, drawn = iter([5, 4, 6]), iter([b"\1" + bytes(9), b"\2" + bytes(9)])
+        ids = Ids(lambda: next(times) * 1_000_000, lambda count: next(drawn))
+        self.assertEqual([ids.next() for _ in range(3)], [5 << 80 | 1, 5 << 80 | 2, 6 << 80 | 2])
+
+
+if __name__ == "__main__":
+    unittest.main()
