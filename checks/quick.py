@@ -28,8 +28,11 @@ CHECKS = {
     "cited": ["checks/cited.py", "--bounds"],
     "runs": ["checks/runs.py"],
     "edits": ["checks/edits.py", "--texts"],
+    "tables": ["checks/tables.py"],
     "names": ["checks/embed/names.py"],
     "frames": ["checks/embed/frames.py"],
+    "scenarios": ["clients/conformance/make_scenarios.py"],
+    "kit": ["clients/conformance/kit.py", "--", sys.executable, "-B", "clients/python/conformance_runner.py"],
 }
 
 

@@ -184,7 +184,7 @@ def compare(table):
 
 # Whether each comparison can fail
 
-PROSE = ("says", "holds", "unit", "type", "group")
+PROSE = ("says", "holds", "unit", "type", "group", "executed")
 IN_ORDER = (
     "operations",
     "statuses",

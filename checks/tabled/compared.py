@@ -426,6 +426,11 @@ def clients(table, sources):
         tests,
         lambda: order_in_python(sources.read(frames), "reply_fault"),
     )
+    yield (
+        "told: the names in the listener",
+        sorted(row["name"] for row in table["told"]),
+        lambda: told(sources.read("clients/python/tb_listen.py"), sources.read(frames)),
+    )
     refusals = [row["name"] for row in table["statuses"] if row["number"]]
     yield (
         "statuses: the refusals in Python",
@@ -439,6 +444,12 @@ def clients(table, sources):
             )[1],
         ),
     )
+
+
+def told(listener, frames):
+    """The names that the listener gives before it closes a connection: its own, and faults."""
+    own = r'(?:Told\(|given\.(?:idle|slow), |stop\(|return |else )"([A-Z]\w+)"'
+    return sorted({*re.findall(own, listener), *order_in_python(frames, "request_fault")})
 
 
 def order_in_python(text, name):

@@ -66,7 +66,12 @@ def block(about, rows):
 def numbered(kind, rows):
     name, under, prefix, about = KINDS[kind]
     constants = [(name_of(prefix, word), name, number, says) for number, word, says in rows]
-    lines = [f"// {name} {about}", f"type {name} {under}", "", block(f"// All of {name}.", constants)]
+    lines = [
+        f"// {name} {about}",
+        f"type {name} {under}",
+        "",
+        block(f"// All of {name}.", constants),
+    ]
     table = f"{name[:1].lower()}{name[1:]}Names"
     wide = max(len(it[0]) for it in constants)
     lines += [f"var {table} = map[{name}]string{{"]

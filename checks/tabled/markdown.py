@@ -26,6 +26,10 @@ def pages(table):
         "dump-faults": numbered(table["dump_faults"], "Fault"),
         "run-faults": numbered(table["run_faults"], "Fault"),
         "embed-statuses": numbered(table["embed_statuses"], "Status"),
+        "told": rows(
+            ("Name", "Why", "Executed"),
+            [(it["name"], it["says"], it["executed"]) for it in table["told"]],
+        ),
         "limits": rows(
             ("What", "Limit"), [(it["says"], shown(it["value"])) for it in table["limits"]]
         ),

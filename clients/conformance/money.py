@@ -5,10 +5,10 @@
     clients/conformance/money.py --kills 100 --server crates/tbd/out/tbd -- COMMAND [WORD ..]
 
 A session makes transfers one after another over the listener and a server that keeps its ledger in
-a file, each of another amount, by prepare, save, retry and save. At moments that a seed draws, one of
-the three is killed and started again; the client goes on from what it saved. In the end each transfer
-is there once, and both accounts have the sum of all amounts. Prints what was killed, and the sums.
-Status 1 where money was lost or moved twice.
+a file, each of another amount, by prepare, save, retry and save. At moments that a seed draws, one
+of the three is killed and started again; the client goes on from what it saved. In the end each
+transfer is there once, and both accounts have the sum of all amounts. Prints what was killed, and
+the sums. Status 1 where money was lost or moved twice.
 """
 import argparse
 import contextlib

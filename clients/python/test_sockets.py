@@ -106,7 +106,6 @@ class Addresses(unittest.TestCase):
     def test_what_the_server_tells(self):
         for name, kind in (
             ("Busy", tb.Busy),
-            ("Starting", tb.Busy),
             ("Full", tb.ReplyLost),
             ("Slow", tb.ReplyLost),
         ):

@@ -22,7 +22,6 @@ Address = Union[str, "os.PathLike[str]", Tuple[str, int]]
 FIRST_PAUSE = 0.02  # seconds, before the server is called again; doubled each time
 LAST_PAUSE = 0.5
 TOLD = b"tb_listen: "  # begins what a server says before it closes a connection: fewer bytes than a frame has
-LATER = ("Busy", "Starting")  # what a server says that takes the request later
 
 
 class Socket(Closing):
@@ -183,7 +182,7 @@ def _is_left(it: socket.socket) -> bool:
 def _closed(said: bytes) -> ReplyLost:
     """What to raise where the server closed the connection after these bytes: with the name that it told, where it told one."""
     why = bytes(said[len(TOLD) :]).decode("ascii", "replace").strip() if said.startswith(TOLD) else ""
-    kind = Busy if why in LATER else ReplyLost
+    kind = Busy if why == "Busy" else ReplyLost
     return kind(f"the server closed the connection{why and ': ' + why}", why)
 
 
