@@ -33,7 +33,9 @@ CLIENT = f"{TOP}/clients/python"
 EMBED = f"{TOP}/embed/python"
 PROGRAM = os.path.abspath(os.environ.get("PROGRAM", f"{TOP}/crates/tbs/out/tbs"))
 TBD = os.path.abspath(os.environ.get("TBD", f"{TOP}/crates/tbd/out/tbd"))
-KEEPER = shlex.join([TBD] if os.access(TBD, os.X_OK) else [sys.executable, "-SE", f"{CLIENT}/stand_in_tbd.py"])
+KEEPER = shlex.join(
+    [TBD] if os.access(TBD, os.X_OK) else [sys.executable, "-SE", f"{CLIENT}/stand_in_tbd.py"]
+)
 EXAMPLE = """accounts 1 and 2 are created
 a transfer of 100 was sent, and no reply came
 after a crash the same bytes are sent again: credits_posted 100
@@ -51,14 +53,25 @@ OVER_SOCKETS = f"on a Unix socket:\n{KILLS}on a port:\n{KILLS}"
 
 def python(*words, folder=CLIENT):
     there = {**os.environ, "PROGRAM": PROGRAM, "PYTHONPATH": CLIENT}
-    ran = subprocess.run([sys.executable, "-B", *words], cwd=folder, capture_output=True, text=True, timeout=300, env=there)
+    ran = subprocess.run(
+        [sys.executable, "-B", *words],
+        cwd=folder,
+        capture_output=True,
+        text=True,
+        timeout=300,
+        env=there,
+    )
     return ran.returncode, ran.stdout, ran.stderr
 
 
 def tests(name, folder):
     status, _, told = python("-W", "error::ResourceWarning", "-m", "unittest", folder=folder)
     last = told.strip().splitlines()[-1] if told.strip() else ""
-    case(name, status == 0 and last == "OK", told[-2000:] if status or last != "OK" else told.split("\n")[-4])
+    case(
+        name,
+        status == 0 and last == "OK",
+        told[-2000:] if status or last != "OK" else told.split("\n")[-4],
+    )
 
 
 def script(name, folder, *words):
@@ -72,8 +85,26 @@ def types():
         print("passed over: mypy is not there")
         return
     with tempfile.TemporaryDirectory() as kept:
-        words = ["mypy", "--strict", "--cache-dir", kept, "tb_client", "tb_listen.py", "conformance_runner.py", "example.py", "example_sockets.py", f"{EMBED}/tb_embed.py"]
-        ran = subprocess.run(words, cwd=CLIENT, capture_output=True, text=True, timeout=300, env={**os.environ, "MYPYPATH": CLIENT})
+        words = [
+            "mypy",
+            "--strict",
+            "--cache-dir",
+            kept,
+            "tb_client",
+            "tb_listen.py",
+            "conformance_runner.py",
+            "example.py",
+            "example_sockets.py",
+            f"{EMBED}/tb_embed.py",
+        ]
+        ran = subprocess.run(
+            words,
+            cwd=CLIENT,
+            capture_output=True,
+            text=True,
+            timeout=300,
+            env={**os.environ, "MYPYPATH": CLIENT},
+        )
     case("types, by mypy --strict", ran.returncode == 0, ran.stdout.strip()[-2000:])
 
 
@@ -86,9 +117,12 @@ def page():
 
 
 def blocks():
-    """The page's Python runs: a sale, a crash before its reply came, and an eviction while it is in doubt."""
+    """The page's Python runs: a sale, a crash before its reply came, and an eviction while it is in
+    doubt."""
     sale, crash, eviction, over_a_socket = re.findall(r"```python\n(.*?)```", page(), re.S)
-    sent = "session.prepare(Operation.create_transfers, [Transfer(id(), 1, 2, 10, ledger=700, code=10)])\nsession.save('session.json')\n"
+    sale_again = "Transfer(id(), 1, 2, 10, ledger=700, code=10)"
+    sent = f"session.prepare(Operation.create_transfers, [{sale_again}])\n"
+    sent += "session.save('session.json')\n"
     whole = f"""
 import os, tempfile
 from tb_client import *
@@ -113,14 +147,29 @@ transport.close()
 
 def sockets(shown):
     """The page's listener and its client, over a Unix socket."""
-    command = re.search(r"```sh\n(clients/python/tb_listen.py .*?)\n```", page())[1].replace("crates/tbd/out/tbd", KEEPER)
+    command = re.search(r"```sh\n(clients/python/tb_listen.py .*?)\n```", page())[1].replace(
+        "crates/tbd/out/tbd", KEEPER
+    )
     command = shlex.split(command)
     case("the page's listener may be run", os.access(f"{TOP}/{command[0]}", os.X_OK))
     with tempfile.TemporaryDirectory() as folder:
-        listener = subprocess.Popen([sys.executable, "-B", f"{TOP}/{command[0]}", *command[1:]], cwd=folder, stderr=subprocess.PIPE, text=True)
+        listener = subprocess.Popen(
+            [sys.executable, "-B", f"{TOP}/{command[0]}", *command[1:]],
+            cwd=folder,
+            stderr=subprocess.PIPE,
+            text=True,
+        )
         try:
-            case("the page's listener", listener.stderr.readline() == "tb_listen: listens on ledger.sock\n")
-            output = script("the page's Python over a socket", CLIENT, "-c", f"import os\nos.chdir({folder!r})\n{shown}")
+            case(
+                "the page's listener",
+                listener.stderr.readline() == "tb_listen: listens on ledger.sock\n",
+            )
+            output = script(
+                "the page's Python over a socket",
+                CLIENT,
+                "-c",
+                f"import os\nos.chdir({folder!r})\n{shown}",
+            )
             case("what it finds", output == "[]\n", output.strip())
         finally:
             listener.terminate()
@@ -131,47 +180,85 @@ def sockets(shown):
 def readme():
     """The Python of the client's README runs too."""
     with open(f"{CLIENT}/README.md", encoding="utf-8") as it:
-        shown = re.findall(r"```python\n(.*?)```", it.read(), re.S)[0].replace("../../crates/tbs/out/tbs", PROGRAM)
-    output = script("the Python of the client's README", CLIENT, "-c", f"import os, tempfile\nos.chdir(tempfile.mkdtemp())\n{shown}")
+        shown = re.findall(r"```python\n(.*?)```", it.read(), re.S)[0].replace(
+            "../../crates/tbs/out/tbs", PROGRAM
+        )
+    output = script(
+        "the Python of the client's README",
+        CLIENT,
+        "-c",
+        f"import os, tempfile\nos.chdir(tempfile.mkdtemp())\n{shown}",
+    )
     holds = output.count("posted=100") == 2
     case("what that shows", holds, "" if holds else output)
 
 
 def statuses():
-    """The rows of exit statuses of docs/use/TBS.md: the line of each, the status, and what it is of."""
+    """The rows of exit statuses of docs/use/TBS.md: the line of each, the status, and what it is
+    of."""
     with open(f"{TOP}/docs/use/TBS.md", encoding="utf-8") as it:
         part = it.read().split("## Exit statuses")[1].split("\n## ")[0]
     rows, twice = {}, []
     for status, names, of in re.findall(r"^\| (\d) \| ([A-Za-z, ]+) \| ([a-z, ]+) \|", part, re.M):
         for name in names.split(", "):
             twice += [name] if name in rows else []
-            rows[name] = (int(status), ["run", "dump", "replay", "storm"] if of == "all" else of.split(", "))
+            rows[name] = (
+                int(status),
+                ["run", "dump", "replay", "storm"] if of == "all" else of.split(", "),
+            )
     case("one row for each fault", not twice, " ".join(twice))
     return rows
 
 
 def told():
-    """The page's table of what a closed connection is told has the faults of docs/use/FORMATS.md, and the names that the listener has itself."""
+    """The page's table of what a closed connection is told has the faults of docs/use/FORMATS.md,
+    and the names that the listener has itself."""
     rows = page().split("### What a closed connection gets")[1].split("\n### ")[0]
-    shown = {name for names in re.findall(r"^\| ([A-Z][A-Za-z, ]+) \|", rows, re.M) for name in names.split(", ")} - {"Name"}
-    with open(f"{CLIENT}/tb_client/frames.py", encoding="utf-8") as frames, open(f"{CLIENT}/tb_listen.py", encoding="utf-8") as listener:
+    shown = {
+        name
+        for names in re.findall(r"^\| ([A-Z][A-Za-z, ]+) \|", rows, re.M)
+        for name in names.split(", ")
+    } - {"Name"}
+    with open(f"{CLIENT}/tb_client/frames.py", encoding="utf-8") as frames, open(
+        f"{CLIENT}/tb_listen.py", encoding="utf-8"
+    ) as listener:
         tests = frames.read().split("def request_fault")[1].split("\ndef ")[0]
         code = listener.read()
-    wanted = set(re.findall(r'\("(\w+)", ', tests)) | set(re.findall(r'(?:Told\(|given\.(?:idle|slow), |stop\(|return |else )"([A-Z]\w+)"', code))
-    case("a row for each name that a closed connection is told", shown == wanted, " ".join(sorted(shown ^ wanted)))
+    wanted = set(re.findall(r'\("(\w+)", ', tests)) | set(
+        re.findall(r'(?:Told\(|given\.(?:idle|slow), |stop\(|return |else )"([A-Z]\w+)"', code)
+    )
+    case(
+        "a row for each name that a closed connection is told",
+        shown == wanted,
+        " ".join(sorted(shown ^ wanted)),
+    )
 
 
 def names():
-    """The names of the program's faults, as its code has them. ReplyNumbers is of replies, which the program does not read."""
+    """The names of the program's faults, as its code has them. ReplyNumbers is of replies, which
+    the program does not read."""
     found = set()
-    for path in ("tb_records/src/faults.rt", "tb_records/src/dumps.rt", "tb_machine/src/serving.rt", "tb_commands/src/commands.rt", "tb_storm/src/faults.rt"):
+    for path in (
+        "tb_records/src/faults.rt",
+        "tb_records/src/dumps.rt",
+        "tb_machine/src/serving.rt",
+        "tb_commands/src/commands.rt",
+        "tb_storm/src/faults.rt",
+    ):
         with open(f"{TOP}/crates/{path}", encoding="utf-8") as code:
             found |= set(re.findall(r'=> "(\w+)"', code.read()))
     return found - {"ReplyNumbers"}
 
 
 def pair(moment, client, session, number, operation, body=b"", length=None, reserved=0):
-    header = struct.pack("<QIB3sI12x", session, number, operation, bytes([reserved, 0, 0]), len(body) if length is None else length)
+    header = struct.pack(
+        "<QIB3sI12x",
+        session,
+        number,
+        operation,
+        bytes([reserved, 0, 0]),
+        len(body) if length is None else length,
+    )
     return struct.pack("<Q", moment) + client.to_bytes(16, "little") + header + body
 
 
@@ -180,24 +267,56 @@ def faults():
     first = pair(10, 7, 0, 0, 2)
     head = b"TBSDUMP1" + struct.pack("<II", 1, 2)
     run = {
-        "Short": first[:-1], "ClientZero": pair(10, 0, 0, 0, 2), "UnknownOperation": pair(10, 7, 0, 0, 3), "Reserved": pair(10, 7, 0, 0, 2, reserved=1),
-        "RegisterNumbers": pair(10, 7, 1, 0, 2), "RequestZero": pair(10, 7, 1, 0, 129), "BadLength": pair(10, 7, 1, 1, 129, b"1"),
-        "TooMany": pair(10, 7, 1, 1, 129, length=8191 * 128), "TimeExhausted": pair(2**63, 7, 0, 0, 2),
+        "Short": first[:-1],
+        "ClientZero": pair(10, 0, 0, 0, 2),
+        "UnknownOperation": pair(10, 7, 0, 0, 3),
+        "Reserved": pair(10, 7, 0, 0, 2, reserved=1),
+        "RegisterNumbers": pair(10, 7, 1, 0, 2),
+        "RequestZero": pair(10, 7, 1, 0, 129),
+        "BadLength": pair(10, 7, 1, 1, 129, b"1"),
+        "TooMany": pair(10, 7, 1, 1, 129, length=8191 * 128),
+        "TimeExhausted": pair(2**63, 7, 0, 0, 2),
     }
-    replay = {"Head": b"", "Mark": head + struct.pack("<QQ", 0, 3), "NotLegal": head + struct.pack("<Q", 2) + first}
-    return [(["run", "2"], *it) for it in run.items()] + [(["replay"], *it) for it in replay.items()] + [(["run"], "Usage", b"")]
+    replay = {
+        "Head": b"",
+        "Mark": head + struct.pack("<QQ", 0, 3),
+        "NotLegal": head + struct.pack("<Q", 2) + first,
+    }
+    return (
+        [(["run", "2"], *it) for it in run.items()]
+        + [(["replay"], *it) for it in replay.items()]
+        + [(["run"], "Usage", b"")]
+    )
 
 
 def exits():
     rows = statuses()
-    case("a row for each fault of the code", set(rows) == names(), " ".join(sorted(set(rows) ^ names())))
+    case(
+        "a row for each fault of the code",
+        set(rows) == names(),
+        " ".join(sorted(set(rows) ^ names())),
+    )
     for words, name, data in faults():
         ran = subprocess.run([PROGRAM, *words], input=data, capture_output=True, timeout=60)
         status, of = rows.get(name, (None, []))
-        case(f"exit status of {name}", (ran.returncode, ran.stderr, words[0] in of) == (status, f"tbs: {name}\n".encode(), True), f"{ran.returncode} {ran.stderr!r}")
+        case(
+            f"exit status of {name}",
+            (ran.returncode, ran.stderr, words[0] in of)
+            == (status, f"tbs: {name}\n".encode(), True),
+            f"{ran.returncode} {ran.stderr!r}",
+        )
     with open("/dev/full", "wb") as full:
-        ran = subprocess.run([PROGRAM, "run", "2"], input=pair(10, 7, 0, 0, 2), stdout=full, stderr=subprocess.PIPE, timeout=60)
-    case("exit status of Device", (ran.returncode, ran.stderr) == (rows["Device"][0], b"tbs: Device\n"))
+        ran = subprocess.run(
+            [PROGRAM, "run", "2"],
+            input=pair(10, 7, 0, 0, 2),
+            stdout=full,
+            stderr=subprocess.PIPE,
+            timeout=60,
+        )
+    case(
+        "exit status of Device",
+        (ran.returncode, ran.stderr) == (rows["Device"][0], b"tbs: Device\n"),
+    )
 
 
 # Each language
@@ -224,7 +343,10 @@ def language(about, kills):
         for words in about[kind]:
             ran = subprocess.run(words, cwd=folder, capture_output=True, text=True, timeout=1200)
             said = "" if ran.returncode == 0 else (ran.stdout + ran.stderr)[-2000:]
-            if not case(f"{name}: {' '.join(words)}", ran.returncode == 0, said) and kind == "build":
+            if (
+                not case(f"{name}: {' '.join(words)}", ran.returncode == 0, said)
+                and kind == "build"
+            ):
                 return
     kit = [f"{TOP}/clients/conformance/kit.py", "--"]
     money = [f"{TOP}/clients/conformance/money.py", "--kills", str(kills), "--server", KEEPER, "--"]
@@ -232,7 +354,11 @@ def language(about, kills):
         words = [sys.executable, "-B", *words, *about["runner"]]
         ran = subprocess.run(words, cwd=folder, capture_output=True, text=True, timeout=3600)
         lines = (ran.stdout + ran.stderr).strip().splitlines() or [""]
-        case(f"{name}: {what}", ran.returncode == 0, lines[-1] if ran.returncode == 0 else "\n".join(lines[-20:]))
+        case(
+            f"{name}: {what}",
+            ran.returncode == 0,
+            lines[-1] if ran.returncode == 0 else "\n".join(lines[-20:]),
+        )
 
 
 def kit():
@@ -241,7 +367,11 @@ def kit():
         words = [sys.executable, "-B", f"{TOP}/clients/conformance/{name}.py"]
         ran = subprocess.run(words, capture_output=True, text=True, timeout=3600)
         lines = (ran.stdout + ran.stderr).strip().splitlines() or [""]
-        case(f"{name}.py", ran.returncode == 0, lines[-1] if ran.returncode == 0 else "\n".join(lines[-20:]))
+        case(
+            f"{name}.py",
+            ran.returncode == 0,
+            lines[-1] if ran.returncode == 0 else "\n".join(lines[-20:]),
+        )
 
 
 def client_in_python():
@@ -267,15 +397,32 @@ def main():
     languages = described()
     parts = {"python": client_in_python, "pages": pages, "kit": kit}
     names = [*parts, *(it for it in languages if it != "python")]
-    parser = argparse.ArgumentParser(description=__doc__, formatter_class=argparse.RawDescriptionHelpFormatter)
-    parser.add_argument("--only", metavar="PART", nargs="+", choices=names, default=names, help=f"one or more of {', '.join(names)}")
-    parser.add_argument("--kills", metavar="N", type=int, default=30, help="how often something is killed in each language (30)")
+    parser = argparse.ArgumentParser(
+        description=__doc__, formatter_class=argparse.RawDescriptionHelpFormatter
+    )
+    parser.add_argument(
+        "--only",
+        metavar="PART",
+        nargs="+",
+        choices=names,
+        default=names,
+        help=f"one or more of {', '.join(names)}",
+    )
+    parser.add_argument(
+        "--kills",
+        metavar="N",
+        type=int,
+        default=30,
+        help="how often something is killed in each language (30)",
+    )
     given = parser.parse_args()
     for name in given.only:
         if name in parts:
             parts[name]()
         if name in languages:
-            language({**languages[name], **({"tests": []} if name == "python" else {})}, given.kills)
+            language(
+                {**languages[name], **({"tests": []} if name == "python" else {})}, given.kills
+            )
     return tried.status()
 
 

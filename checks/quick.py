@@ -17,6 +17,7 @@ import tried
 
 ROOT = pathlib.Path(__file__).resolve().parent.parent
 SECONDS_MAX = 120
+RUNNER = "clients/python/conformance_runner.py"
 CHECKS = {
     "pages": ["checks/pages.py"],
     "words": ["checks/words.py"],
@@ -32,7 +33,7 @@ CHECKS = {
     "names": ["checks/embed/names.py"],
     "frames": ["checks/embed/frames.py"],
     "scenarios": ["clients/conformance/make_scenarios.py"],
-    "kit": ["clients/conformance/kit.py", "--", sys.executable, "-B", "clients/python/conformance_runner.py"],
+    "kit": ["clients/conformance/kit.py", "--", sys.executable, "-B", RUNNER],
 }
 
 
