@@ -8,6 +8,7 @@ import struct
 import time
 
 HEADER = 48
+FIN_WAIT1 = 4  # the state of a TCP connection whose end the other side has not taken yet
 PATIENCE = 5.0  # seconds that the client may take for what is waited for
 
 
@@ -59,6 +60,18 @@ def readable(it, seconds):
     ready = select.poll()
     ready.register(it, select.POLLIN)
     return bool(ready.poll(max(seconds, 0) * 1000))
+
+
+def end(it):
+    """Closes this side of a connection, and waits until the other side's system has taken that: so
+    that a client that looks at the connection afterwards sees it."""
+    with contextlib.suppress(OSError):
+        it.shutdown(socket.SHUT_WR)
+        deadline = time.monotonic() + PATIENCE
+        while it.family == socket.AF_INET and time.monotonic() < deadline:
+            if it.getsockopt(socket.IPPROTO_TCP, socket.TCP_INFO, 1)[0] != FIN_WAIT1:
+                break
+            time.sleep(0.001)
 
 
 class Connections:
@@ -130,6 +143,7 @@ class Connections:
     def do_close(self, name, _):
         it = self.open.pop(name, None)
         if it is not None:
+            end(it)
             it.close()
 
     def do_reset(self, name, _):
