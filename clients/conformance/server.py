@@ -257,6 +257,8 @@ class Connections:
             if number != numbers.get(client, number - 1) + 1:
                 raise Failed(f"request {number} of a client comes after {numbers[client]}")
             numbers[client] = number
+            if readable(self.open[name], 0.02):
+                raise Failed("the client sends a request before the reply to the one before it")
             self.open[name].sendall(
                 client + struct.pack("<QIBB2xIQ4x", session, number, operation, 0, 0, commit)
             )

@@ -214,6 +214,17 @@ WRONG = {
         "                self.random += 1\n",
         "                self.random = int.from_bytes(os.urandom(10), 'little')\n",
     ),
+    "two requests in flight on a connection": (
+        "sockets.py",
+        "        with self._lock:\n            if self._closed:\n                raise Closed",
+        "        if True:\n            if self._closed:\n                raise Closed",
+    ),
+    "a session that two threads use at once": (
+        "sessions.py",
+        "        self._lock = threading.RLock()\n",
+        "        self._lock = type('None_', (), {'__enter__': lambda it: it, "
+        "'__exit__': lambda it, *a: None})()\n",
+    ),
     "a closed transport calls again": (
         "sockets.py",
         "            if self._closed:\n",

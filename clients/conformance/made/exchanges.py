@@ -203,6 +203,7 @@ def lost():
         saved(1),
         begin="registered-once",
     )
+    yield from conversation()
     yield from late()
     yield from unreachable()
 
@@ -274,6 +275,31 @@ def late():
         saved(1, asked),
         retry([accept("d"), *served(asked, done, "d")], {"ok": {"records": []}}),
         saved(2),
+    )
+
+
+def conversation():
+    """Many requests, of which some are lost before or after they were executed."""
+    steps, name = [], "c"
+    for number in range(1, 25):
+        asked, done = frame_of(number, TRANSFERS), empty(number, TRANSFERS, commit=100 + number)
+        server = []
+        for ending in {0: ["cut"], 3: ["lost"], 5: ["lost", "cut", "told"]}.get(number % 7, ()):
+            if ending == "cut":
+                server += [read(asked, name, first=70)]
+            else:
+                server += [read(asked, name)] + [send(told("Slow"), name)] * (ending == "told")
+            server.append({"close": name})
+            name = f"c{number}{ending}"
+            server.append(accept(name))
+        steps.append(sale([*server, *served(asked, done, name)]))
+    yield scenario(
+        "conversation",
+        "24 requests, some of them lost up to three times: the numbers rise by one, and each "
+        "request is the same at each sending.",
+        steps,
+        saved(24),
+        begin="registered-four",
     )
 
 

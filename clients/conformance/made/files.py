@@ -113,6 +113,36 @@ def saving():
         save(wants={"either": [error("File"), error("Invalid", field="path")]}),
         saved(0),
     )
+    whole = json.dumps(WAITING)
+    yield scenario(
+        "save-then-cut",
+        "A file that was cut anywhere is refused.",
+        prepare(TRANSFERS, SALE),
+        [
+            step
+            for length in (0, 1, 12, 30, len(whole) // 2, len(whole) - 1)
+            for step in (
+                save(),
+                {"file": "session.json", "cut": length},
+                load(error("Invalid", sent=False), session="u"),
+            )
+        ],
+        saved(0, ASKED),
+    )
+    for name, pattern, text in (
+        ("number", r'"number": ?0', '"number": 1'),
+        ("session", r'"session": ?1', '"session": 2'),
+        ("client", r'"client": ?7', '"client": 8'),
+    ):
+        yield scenario(
+            f"save-then-edited-{name}",
+            "A file whose numbers no longer fit the bytes in doubt is refused.",
+            prepare(TRANSFERS, SALE),
+            save(),
+            {"file": "session.json", "replace": [pattern, text]},
+            load(error("Invalid", field="pending", sent=False), session="u"),
+            saved(0, ASKED),
+        )
     large = {"count": 8190, "first": transfer(1)}
     body = frame_of(1, TRANSFERS, [transfer(1)])[48:]
     header = request(1, TRANSFERS, body * 8190)[:48]

@@ -227,6 +227,7 @@ BEGINS = {
     "registered": begins(),
     "registered-once": begins(attempts=1),
     "registered-thrice": begins(attempts=3, pause=0.1),
+    "registered-four": begins(attempts=4),
     "patient": begins(pause=2.0),
     "hurried": begins(timeout=0.3),
     "hurried-once": begins(attempts=1, timeout=0.3),
