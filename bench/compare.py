@@ -1,12 +1,15 @@
 #!/usr/bin/env python3
-"""Runs tbs and two plain Rust servers on the same scripts by turns, compares their replies byte for byte, and prints what they cost.
+"""Runs tbs and two plain Rust servers on the same scripts by turns, compares their replies byte for
+byte, and prints what they cost.
 
-compare.py [SIZE [TURNS]]: SIZE events a workload (100000), the least processor time of TURNS turns (3). Needs rustc, and
-crates/tbs/out/tbs as `rt run` in crates/tbs leaves it; PROGRAM names another. Scripts are made from a seed in a temporary folder.
+compare.py [SIZE [TURNS]]: SIZE events a workload (100000), the least processor time of TURNS turns
+(3). Needs rustc, and crates/tbs/out/tbs as `rt run` in crates/tbs leaves it; PROGRAM names another.
+Scripts are made from a seed in a temporary folder.
 
-For each program: processor time in seconds, how much of it the system took, its greatest memory in MiB, and its page faults in
-thousands. The last columns are the ratios of the first one's time to those of the plain servers (plain.rs, and lean.rs, which runs fewer
-instructions), and whether all replies were the same.
+For each program: processor time in seconds, how much of it the system took, its greatest memory in
+MiB, and its page faults in thousands. The last columns are the ratios of the first one's time to
+those of the plain servers (plain.rs, and lean.rs, which runs fewer instructions), and whether all
+replies were the same.
 """
 import filecmp
 import os
@@ -21,24 +24,42 @@ WORKLOADS = ["rising", "pending", "chains", "expiring", "single", "lookups", "mi
 
 
 def run(words, script, replies):
-    """What a program costs: processor time, the system's part of it, memory in MiB, thousand page faults."""
+    """What a program costs: processor time, the system's part of it, memory in MiB, thousand
+    page faults."""
     with open(script, "rb") as source, open(replies, "wb") as sink:
         child = subprocess.Popen(words, stdin=source, stdout=sink)
         _, status, usage = os.wait4(child.pid, 0)
     if status != 0:
         sys.exit(f"{words[0]} ended with {status} on {script}")
-    return usage.ru_utime + usage.ru_stime, usage.ru_stime, usage.ru_maxrss / 1024, usage.ru_minflt / 1000
+    return (
+        usage.ru_utime + usage.ru_stime,
+        usage.ru_stime,
+        usage.ru_maxrss / 1024,
+        usage.ru_minflt / 1000,
+    )
 
 
 def same(left, right):
-    """Whether two files have the same bytes. They are read in pieces: a process that begins counts what this one has in memory as its own."""
+    """Whether two files have the same bytes. They are read in pieces: a process that begins
+    counts what this one has in memory as its own."""
     return filecmp.cmp(left, right, shallow=False)
 
 
 def compile_peer(name, folder):
     """The words that start a plain server, which is built first."""
     program = os.path.join(folder, name)
-    subprocess.run(["rustc", "-O", "-C", "target-cpu=x86-64-v2", os.path.join(HERE, name + ".rs"), "-o", program], check=True)
+    subprocess.run(
+        [
+            "rustc",
+            "-O",
+            "-C",
+            "target-cpu=x86-64-v2",
+            os.path.join(HERE, name + ".rs"),
+            "-o",
+            program,
+        ],
+        check=True,
+    )
     return [program, "64"]
 
 
@@ -46,14 +67,20 @@ def compare(name, count, turns, programs, folder):
     """A row of the table: all programs on one workload, the least of so many turns."""
     script = os.path.join(folder, name)
     with open(script, "wb") as out:
-        subprocess.run([sys.executable, os.path.join(HERE, "make_script.py"), name, str(count), "1"], stdout=out, check=True)
+        subprocess.run(
+            [sys.executable, os.path.join(HERE, "make_script.py"), name, str(count), "1"],
+            stdout=out,
+            check=True,
+        )
     replies = [f"{script}.{k}" for k in range(len(programs))]
     turns = [[run(words, script, to) for words, to in zip(programs, replies)] for _ in range(turns)]
     least = [min(of) for of in zip(*turns)]
     cost = " ".join(f"{it[0]:8.3f} {it[1]:7.3f} {it[2]:6.0f} {it[3]:7.1f}" for it in least)
     ratios = " ".join(f"{least[0][0] / it[0]:6.2f}" for it in least[1:])
     agree = all(same(replies[0], other) for other in replies[1:])
-    print(f"{name:10} {count:8} {cost} {ratios}  {'the same' if agree else 'DIFFERENT'}", flush=True)
+    print(
+        f"{name:10} {count:8} {cost} {ratios}  {'the same' if agree else 'DIFFERENT'}", flush=True
+    )
     for path in [script] + replies:
         os.remove(path)
 
@@ -63,8 +90,12 @@ def main():
     turns = int(sys.argv[2]) if len(sys.argv) > 2 else 3
     with tempfile.TemporaryDirectory() as folder:
         programs = [[TBS, "run", "64"]] + [compile_peer(name, folder) for name in PEERS]
-        head = " ".join(f"{it + ' s':>8} {'system':>7} {'MiB':>6} {'faults':>7}" for it in ["tbs"] + PEERS)
-        print(f"{'workload':10} {'events':>8} {head} {' '.join(f'{it:>6}' for it in PEERS)}  replies")
+        head = " ".join(
+            f"{it + ' s':>8} {'system':>7} {'MiB':>6} {'faults':>7}" for it in ["tbs"] + PEERS
+        )
+        print(
+            f"{'workload':10} {'events':>8} {head} {' '.join(f'{it:>6}' for it in PEERS)}  replies"
+        )
         for name in WORKLOADS:
             compare(name, count, turns, programs, folder)
 

@@ -1,13 +1,16 @@
 #!/usr/bin/env python3
-"""Runs a server without a file and one that keeps its ledger in a file on the same scripts by turns, and prints what they cost.
+"""Runs a server without a file and one that keeps its ledger in a file on the same scripts by
+turns, and prints what they cost.
 
     keep.py [SIZE [TURNS]]
 
-SIZE events a workload (100000), the least processor time of TURNS turns (3). It needs crates/tbs/out/tbs (PROGRAM names another) and
-crates/tbd/out/tbd (TBD names another), as `rt run` leaves them. Scripts are made from a seed in a temporary folder.
+SIZE events a workload (100000), the least processor time of TURNS turns (3). It needs
+crates/tbs/out/tbs (PROGRAM names another) and crates/tbd/out/tbd (TBD names another), as `rt run`
+leaves them. Scripts are made from a seed in a temporary folder.
 
-For each workload: processor seconds of `run` without a file, of `tbd run` over a new file, and of a start over that file; the two ratios
-to the first; syncs a request (by strace, where it is there); and whether the replies were the same.
+For each workload: processor seconds of `run` without a file, of `tbd run` over a new file, and of a
+start over that file; the two ratios to the first; syncs a request (by strace, where it is there);
+and whether the replies were the same.
 """
 import os
 import re
@@ -43,7 +46,12 @@ def syncs(words, script, folder):
         return None
     log = os.path.join(folder, "syncs")
     with open(script, "rb") as source:
-        subprocess.run(["strace", "-f", "-qq", "-e", "trace=fsync,fdatasync", "-o", log, *words], stdin=source, stdout=subprocess.DEVNULL, check=True)
+        subprocess.run(
+            ["strace", "-f", "-qq", "-e", "trace=fsync,fdatasync", "-o", log, *words],
+            stdin=source,
+            stdout=subprocess.DEVNULL,
+            check=True,
+        )
     with open(log, encoding="utf-8") as told:
         return len(re.findall(r"sync\(", told.read()))
 
@@ -51,7 +59,11 @@ def syncs(words, script, folder):
 def compare(name, count, turns, folder):
     script, file = os.path.join(folder, name), os.path.join(folder, "ledger.tbk")
     with open(script, "wb") as out:
-        subprocess.run([sys.executable, os.path.join(HERE, "make_script.py"), name, str(count), "1"], stdout=out, check=True)
+        subprocess.run(
+            [sys.executable, os.path.join(HERE, "make_script.py"), name, str(count), "1"],
+            stdout=out,
+            check=True,
+        )
     plain, kept, starts = [], [], []
     for _ in range(turns):
         if os.path.exists(file):
@@ -65,7 +77,11 @@ def compare(name, count, turns, folder):
     made = syncs([TBD, "run", file, "64"], script, folder)
     rate = "?" if made is None else f"{made / replies_in(script + '.tbd'):.2f}"
     a, b, c = min(plain), min(kept), min(starts)
-    print(f"{name:10} {count:8} {a:8.3f} {b:8.3f} {c:8.3f} {b / a:6.2f} {c / a:6.2f} {rate:>6}  {'the same' if same else 'DIFFERENT'}", flush=True)
+    print(
+        f"{name:10} {count:8} {a:8.3f} {b:8.3f} {c:8.3f} {b / a:6.2f} {c / a:6.2f} {rate:>6}  "
+        f"{'the same' if same else 'DIFFERENT'}",
+        flush=True,
+    )
     for it in (script, script + ".tbs", script + ".tbd", file):
         os.remove(it)
 
@@ -73,7 +89,10 @@ def compare(name, count, turns, folder):
 def main():
     count = int(sys.argv[1]) if len(sys.argv) > 1 else 100000
     turns = int(sys.argv[2]) if len(sys.argv) > 2 else 3
-    print(f"{'workload':10} {'events':>8} {'run s':>8} {'tbd s':>8} {'start s':>8} {'tbd':>6} {'start':>6} {'syncs':>6}  replies")
+    print(
+        f"{'workload':10} {'events':>8} {'run s':>8} {'tbd s':>8} {'start s':>8} {'tbd':>6} "
+        f"{'start':>6} {'syncs':>6}  replies"
+    )
     with tempfile.TemporaryDirectory() as folder:
         for name in WORKLOADS:
             compare(name, count, turns, folder)

@@ -26,14 +26,42 @@ def u128(n):
 
 def account(id, flags=0, ledger=700, code=10, **more):
     m = more.get
-    return (u128(id) + b"".join(u128(m(k, 0)) for k in ("dpe", "dpo", "cpe", "cpo", "user128"))
-            + struct.pack("<QIIIHHQ", m("user64", 0), m("user32", 0), m("reserved", 0), ledger, code, flags, m("timestamp", 0)))
+    return (
+        u128(id)
+        + b"".join(u128(m(k, 0)) for k in ("dpe", "dpo", "cpe", "cpo", "user128"))
+        + struct.pack(
+            "<QIIIHHQ",
+            m("user64", 0),
+            m("user32", 0),
+            m("reserved", 0),
+            ledger,
+            code,
+            flags,
+            m("timestamp", 0),
+        )
+    )
 
 
 def transfer(id, debit, credit, amount, flags=0, pending=0, timeout=0, ledger=700, code=10, **more):
     m = more.get
-    return (u128(id) + u128(debit) + u128(credit) + u128(amount) + u128(pending) + u128(m("user128", 0))
-            + struct.pack("<QIIIHHQ", m("user64", 0), m("user32", 0), timeout, ledger, code, flags, m("timestamp", 0)))
+    return (
+        u128(id)
+        + u128(debit)
+        + u128(credit)
+        + u128(amount)
+        + u128(pending)
+        + u128(m("user128", 0))
+        + struct.pack(
+            "<QIIIHHQ",
+            m("user64", 0),
+            m("user32", 0),
+            timeout,
+            ledger,
+            code,
+            flags,
+            m("timestamp", 0),
+        )
+    )
 
 
 class Client:
@@ -42,7 +70,9 @@ class Client:
 
     def frame(self, session, number, operation, items):
         body = b"".join(items)
-        return u128(self.id) + struct.pack("<QIB3xI12x", session, number, operation, len(body)) + body
+        return (
+            u128(self.id) + struct.pack("<QIB3xI12x", session, number, operation, len(body)) + body
+        )
 
 
 commit = 0
@@ -98,11 +128,29 @@ def pending():
     accounts_for(c, 10000)
     for first in range(0, size // 2, 4095):
         n = min(size // 2, first + 4095) - first
-        request(c, 130, [transfer(1000000 + first + i, *two(10000), rng.randint(1, 1000), flags=2) for i in range(n)])
+        request(
+            c,
+            130,
+            [
+                transfer(1000000 + first + i, *two(10000), rng.randint(1, 1000), flags=2)
+                for i in range(n)
+            ],
+        )
         events = []
         for i in range(n):
             post = rng.random() < 0.7
-            events.append(transfer(10**9 + first + i, 0, 0, MAX if post else 0, flags=4 if post else 8, pending=1000000 + first + i, ledger=0, code=0))
+            events.append(
+                transfer(
+                    10**9 + first + i,
+                    0,
+                    0,
+                    MAX if post else 0,
+                    flags=4 if post else 8,
+                    pending=1000000 + first + i,
+                    ledger=0,
+                    code=0,
+                )
+            )
         request(c, 130, events)
 
 
@@ -117,7 +165,11 @@ def chains():
             d, k = two(10000)
             broken = (i // 5) % 10 == 9 and i % 5 == 3
             linked = i % 5 != 4 and i + 1 < n
-            events.append(transfer(1000000 + first + i, 99999 if broken else d, k, 1, flags=1 if linked else 0))
+            events.append(
+                transfer(
+                    1000000 + first + i, 99999 if broken else d, k, 1, flags=1 if linked else 0
+                )
+            )
         request(c, 130, events)
 
 
@@ -128,7 +180,14 @@ def expiring():
     accounts_for(c, 10000)
     for first in range(0, size, 819):
         n = min(size, first + 819) - first
-        request(c, 130, [transfer(1000000 + first + i, *two(10000), 5, flags=2, timeout=rng.randint(1, 5)) for i in range(n)])
+        request(
+            c,
+            130,
+            [
+                transfer(1000000 + first + i, *two(10000), 5, flags=2, timeout=rng.randint(1, 5))
+                for i in range(n)
+            ],
+        )
         now += 10**9
 
 
@@ -165,24 +224,50 @@ def mixed():
     few = 12
 
     def any_account():
-        return account(rng.choice([0, MAX] + list(range(1, few)) * 3), flags=rng.choice([0, 0, 0, 1, 1, 2, 4, 6, 8, 16, 32, 64]),
-                       ledger=rng.choice([700] * 8 + [701, 0]), code=rng.choice([10] * 12 + [0, 11]), user128=rng.choice([0] * 9 + [1]),
-                       user64=rng.choice([0] * 9 + [1]), user32=rng.choice([0] * 9 + [1]), reserved=rng.choice([0] * 15 + [1]),
-                       timestamp=rng.choice([0] * 15 + [1]), dpe=rng.choice([0] * 15 + [1]), cpo=rng.choice([0] * 15 + [1]))
+        return account(
+            rng.choice([0, MAX] + list(range(1, few)) * 3),
+            flags=rng.choice([0, 0, 0, 1, 1, 2, 4, 6, 8, 16, 32, 64]),
+            ledger=rng.choice([700] * 8 + [701, 0]),
+            code=rng.choice([10] * 12 + [0, 11]),
+            user128=rng.choice([0] * 9 + [1]),
+            user64=rng.choice([0] * 9 + [1]),
+            user32=rng.choice([0] * 9 + [1]),
+            reserved=rng.choice([0] * 15 + [1]),
+            timestamp=rng.choice([0] * 15 + [1]),
+            dpe=rng.choice([0] * 15 + [1]),
+            cpo=rng.choice([0] * 15 + [1]),
+        )
 
     def any_transfer():
-        kind = rng.choice([0, 0, 0, 2, 2, 2, 4, 4, 8, 8, 16, 32, 48, 18, 66, 130, 194, 12, 6, 64, 256, 80])
+        kind = rng.choice(
+            [0, 0, 0, 2, 2, 2, 4, 4, 8, 8, 16, 32, 48, 18, 66, 130, 194, 12, 6, 64, 256, 80]
+        )
         id = rng.choice([0, MAX] + list(range(1, 80)))
         pending = rng.randint(1, 80) if kind & 12 else rng.choice([0] * 15 + [1])
-        amount = rng.choice([0, MAX, 5, 10, 10, 40, 100]) if kind & 12 else rng.choice([0, 1, 5, 10, 10, 40, 100, MAX, 1 << 127])
+        amount = (
+            rng.choice([0, MAX, 5, 10, 10, 40, 100])
+            if kind & 12
+            else rng.choice([0, 1, 5, 10, 10, 40, 100, MAX, 1 << 127])
+        )
         if kind & 12 and rng.random() < 0.8:
             d = c = ledger = code = 0
         else:
             d, c = rng.randint(0, few), rng.randint(0, few)
             ledger, code = rng.choice([700] * 10 + [701, 0]), rng.choice([10] * 15 + [0, 11])
-        return transfer(id, d, c, amount, flags=kind | (1 if rng.random() < 0.25 else 0), pending=pending,
-                        timeout=rng.choice([0, 1, 2, 4294967295]) if kind & 2 or rng.random() < 0.03 else 0, ledger=ledger, code=code,
-                        user128=rng.choice([0] * 9 + [1]), user64=rng.choice([0] * 9 + [1]), timestamp=rng.choice([0] * 30 + [1]))
+        return transfer(
+            id,
+            d,
+            c,
+            amount,
+            flags=kind | (1 if rng.random() < 0.25 else 0),
+            pending=pending,
+            timeout=rng.choice([0, 1, 2, 4294967295]) if kind & 2 or rng.random() < 0.03 else 0,
+            ledger=ledger,
+            code=code,
+            user128=rng.choice([0] * 9 + [1]),
+            user64=rng.choice([0] * 9 + [1]),
+            timestamp=rng.choice([0] * 30 + [1]),
+        )
 
     last = {}
     for step in range(size):
@@ -191,21 +276,39 @@ def mixed():
         if what < 0.05 and c.id in last:
             send(last[c.id])
         elif what < 0.08:
-            send(c.frame(rng.choice([0, c.session, c.session + 1]), rng.randint(1, c.number + 3), 131, [u128(1)]))
+            send(
+                c.frame(
+                    rng.choice([0, c.session, c.session + 1]),
+                    rng.randint(1, c.number + 3),
+                    131,
+                    [u128(1)],
+                )
+            )
             continue
         elif what < 0.2:
             last[c.id] = request(c, 129, [any_account() for _ in range(rng.randint(0, 6))])
         elif what < 0.7:
             last[c.id] = request(c, 130, [any_transfer() for _ in range(rng.randint(0, 12))])
         elif what < 0.85:
-            last[c.id] = request(c, 131, [u128(rng.randint(0, few + 1)) for _ in range(rng.randint(0, 15))])
+            last[c.id] = request(
+                c, 131, [u128(rng.randint(0, few + 1)) for _ in range(rng.randint(0, 15))]
+            )
         else:
-            last[c.id] = request(c, 132, [u128(rng.randint(0, 82)) for _ in range(rng.randint(0, 40))])
+            last[c.id] = request(
+                c, 132, [u128(rng.randint(0, 82)) for _ in range(rng.randint(0, 40))]
+            )
         now += rng.choice([0, 0, 1, 10, 10**9, 2 * 10**9])
         if rng.random() < 0.001:
             now += 1 << 40
 
 
-{"rising": lambda: bulk(lambda i: 1000000 + i), "random": lambda: bulk(lambda i: rng.getrandbits(127) + 1),
- "pending": pending, "chains": chains, "expiring": expiring, "single": single, "lookups": lookups,
- "mixed": mixed}[workload]()
+{
+    "rising": lambda: bulk(lambda i: 1000000 + i),
+    "random": lambda: bulk(lambda i: rng.getrandbits(127) + 1),
+    "pending": pending,
+    "chains": chains,
+    "expiring": expiring,
+    "single": single,
+    "lookups": lookups,
+    "mixed": mixed,
+}[workload]()

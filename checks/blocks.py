@@ -1,5 +1,6 @@
 #!/usr/bin/env python3
-"""Runs the blocks of README.md, docs/**/*.md and crates/*/CALLING.md, as far as each can be run. First build both programs:
+"""Runs the blocks of README.md, docs/**/*.md and crates/*/CALLING.md, as far as each can be run.
+First build both programs:
 
     (cd crates/tbs && rt run -- run 2) < examples/first.script > /dev/null
     (cd crates/tbt && rt run -- script) < examples/first.text > /dev/null
@@ -9,8 +10,9 @@
 - console: stands in checks/terminal.txt, which checks/text.py types on a terminal.
 - json, directly after statements: the replies to them, as `tbs run` and `tbt replies` give them.
 - python: compiled. sh: read by `bash -n`. c: compiled as far as its syntax goes, where cc is there.
-- rust: stands word for word, but for its imports, in a crate that the gate proves (checks/pages.py); on docs/use/EMBEDDING.md in an example
-  of embed/rust, which checks/embed.py builds and runs.
+- rust: stands word for word, but for its imports, in a crate that the gate proves
+  (checks/pages.py); on docs/use/EMBEDDING.md in an example of embed/rust, which checks/embed.py
+  builds and runs.
 
 Prints a line for each block that fails or is passed over. Ends in 'N passed, 0 failed'.
 """
@@ -30,7 +32,9 @@ ROOT = pages.ROOT
 TBT = ROOT / "crates/tbt/out/tbt"
 TBS = ROOT / "crates/tbs/out/tbs"
 BLOCK = re.compile(r"^```(\w+)\n(.*?)^```$", re.S | re.M)
-STATEMENT = re.compile(r"^(?:(?:at|client|session|request)=\d\w* )+(?:register|create|lookup)", re.M)
+STATEMENT = re.compile(
+    r"^(?:(?:at|client|session|request)=\d\w* )+(?:register|create|lookup)", re.M
+)
 
 
 class Missing(Exception):
@@ -57,9 +61,12 @@ def script_of(text: str) -> bytes:
 
 
 def compare_replies(statements: str, block: str) -> None:
-    """The replies that a page shows are those that the programs give to the statements before them."""
+    """The replies that a page shows are those that the programs give to the statements before
+    them."""
     replies = run(TBT, "replies", given=run(TBS, "run", "64", given=script_of(statements)))
-    got, shown = ([json.loads(line) for line in text.splitlines()] for text in (replies.decode(), block))
+    got, shown = (
+        [json.loads(line) for line in text.splitlines()] for text in (replies.decode(), block)
+    )
     if got != shown:
         raise Wrong(f"the replies are\n{replies.decode()}")
 
@@ -84,7 +91,8 @@ def in_example(block: str) -> bool:
 
 
 def check(kind: str, block: str, before: str | None, name: str) -> bool:
-    """Checks a block, which stands after `before` where that are statements; False where nothing can be run."""
+    """Checks a block, which stands after `before` where that are statements; False where nothing
+    can be run."""
     if kind == "text" and STATEMENT.search(block):
         script_of(block)
     elif kind == "json" and before is not None:
@@ -99,7 +107,9 @@ def check(kind: str, block: str, before: str | None, name: str) -> bool:
     elif kind == "c":
         compile_c(block)
     elif kind == "rust":
-        if not (in_example(block) if name.startswith("docs/use/EMBEDDING.md:") else pages.stands(block)):
+        if not (
+            in_example(block) if name.startswith("docs/use/EMBEDDING.md:") else pages.stands(block)
+        ):
             raise Wrong("stands in no caller")
     else:
         return False
@@ -107,8 +117,13 @@ def check(kind: str, block: str, before: str | None, name: str) -> bool:
 
 
 def blocks():
-    """Each block: its place, its kind, its text, and the statements directly before it on the page."""
-    for page in [ROOT / "README.md", *sorted(ROOT.glob("docs/**/*.md")), *sorted(ROOT.glob("crates/*/CALLING.md"))]:
+    """Each block: its place, its kind, its text, and the statements directly before it on the
+    page."""
+    for page in [
+        ROOT / "README.md",
+        *sorted(ROOT.glob("docs/**/*.md")),
+        *sorted(ROOT.glob("crates/*/CALLING.md")),
+    ]:
         text, before = page.read_text(), None
         for found in BLOCK.finditer(text):
             kind, block = found.groups()

@@ -2,19 +2,23 @@
 """Counts the definitions that public contracts reach.
 
     checks/cited.py [CRATE ..]          a row for each library, and the sum
-    checks/cited.py --bounds            fails where the lines that public contracts reach are more than LINES_MAX
-    checks/cited.py --list [CRATE ..]   also the definitions of specs/ that no public contract reaches
-    checks/cited.py --heads [--write]   tells each file of specs/ whose head does not say who cites it, or writes these heads
+    checks/cited.py --bounds            fails where the lines that public contracts reach are more
+    than LINES_MAX checks/cited.py --list [CRATE ..]   also the definitions of specs/ that no public
+    contract reaches checks/cited.py --heads [--write]   tells each file of specs/ whose head does
+    not say who cites it, or writes these heads
 
-A public contract is one of a function that the crate exports: of a `pub fn` of an exported name or module, of a trait for an exported
-type, and of what a ghost line of such an impl says, but for its invariant, which no caller sees. What it reaches are the definitions of
-specs/ that it names, in its own crate or another, and those that these name, and so on. A line counts where it is no import, no comment
-and not blank.
+A public contract is one of a function that the crate exports: of a `pub fn` of an exported name or
+module, of a trait for an exported type, and of what a ghost line of such an impl says, but for its
+invariant, which no caller sees. What it reaches are the definitions of specs/ that it names, in its
+own crate or another, and those that these name, and so on. A line counts where it is no import, no
+comment and not blank.
 
-The second line of a file of specs/ says who cites it: the modules whose public contracts name one of its definitions; else the files of
-specs/ through which public contracts reach it; else the modules whose private contracts alone name one.
+The second line of a file of specs/ says who cites it: the modules whose public contracts name one
+of its definitions; else the files of specs/ through which public contracts reach it; else the
+modules whose private contracts alone name one.
 
-It reads the sources alone: a name is found by the imports of its file. docs/work/ARCHITECTURE.md gives its numbers.
+It reads the sources alone: a name is found by the imports of its file. docs/work/ARCHITECTURE.md
+gives its numbers.
 """
 import os
 import re
@@ -22,14 +26,25 @@ import sys
 
 TOP = os.path.dirname(os.path.dirname(os.path.abspath(__file__)))
 IMPORT = re.compile(r"\s*(?:ghost )?use Rattle\.(\w+)\.(specs|proofs)\.([\w.]+)\.\{([^}]*)\}")
-HEAD = re.compile(r"^ *((?:abbrev |unfoldable |data |record |pub (?=record|data))*)(?:pub )?((?:record |data )?[^\s(){}:]+)(?= .*:)(?! =)")
+HEAD = re.compile(
+    r"^ *((?:abbrev |unfoldable |data |record |pub (?=record|data))*)(?:pub )?((?:record |data "
+    r")?[^\s(){}:]+)(?= .*:)(?! =)"
+)
 NAME = re.compile(r"[^\s(){}\[\],.;λ]+")
 FUNCTION = re.compile(r"^( *)pub (?:const |unsafe )*fn (\w+)")
 TRAIT_FUNCTION = re.compile(r"^( *)(?:const |unsafe )*fn (\w+)")
 IMPL = re.compile(r"^impl\b(?:<.*?>)? (?:.* for )?&?(?:mut )?(\w+)")
 HEADS = ("-- Cited by", "-- Public contracts reach it", "-- No contract cites it")
 LINES_MAX = 4500
-TOOLS = ("tb_uses", "tb_bench", "tb_read", "tb_recorded", "tb_refusals", "tb_refusing", "tb_fixtures")
+TOOLS = (
+    "tb_uses",
+    "tb_bench",
+    "tb_read",
+    "tb_recorded",
+    "tb_refusals",
+    "tb_refusing",
+    "tb_fixtures",
+)
 
 
 def read(path):
@@ -38,7 +53,9 @@ def read(path):
 
 
 def crates():
-    names = [re.match(r"(\w+)", line)[1] for line in read(f"{TOP}/crates.txt") if re.match(r"\w", line)]
+    names = [
+        re.match(r"(\w+)", line)[1] for line in read(f"{TOP}/crates.txt") if re.match(r"\w", line)
+    ]
     return [it for it in names if it not in TOOLS and not it.endswith("_tests")]
 
 
@@ -102,7 +119,12 @@ def clause_lines(lines, at):
         if line == " " * indent + "{" or line == " " * indent + "}":
             break
         found.append(line)
-        if line.endswith(" {") and not re.search(r"\b(requires|ensures|invariant)\b", line) and line.count("{") > line.count("}") and len(found) == 1:
+        if (
+            line.endswith(" {")
+            and not re.search(r"\b(requires|ensures|invariant)\b", line)
+            and line.count("{") > line.count("}")
+            and len(found) == 1
+        ):
             break
         if line == " " * indent + "{}" or line.endswith(";"):
             break
@@ -117,7 +139,12 @@ def module_of(crate, path):
 
 def sources(crate):
     """The lines of each source file, by its module."""
-    paths = sorted(f"{at}/{file}" for at, _, files in os.walk(f"{TOP}/crates/{crate}/src") for file in files if file.endswith(".rt"))
+    paths = sorted(
+        f"{at}/{file}"
+        for at, _, files in os.walk(f"{TOP}/crates/{crate}/src")
+        for file in files
+        if file.endswith(".rt")
+    )
     return {module_of(crate, path): read(path) for path in paths}
 
 
@@ -135,12 +162,18 @@ def contracts(crate):
                 is_public = bool(impl) and (impl[1] in names or in_module)
                 of_trait = " for " in line
             elif line and not line.startswith((" ", "}", "/", "{", "#", "ghost", ")", "where")):
-                is_public = in_module or any(it in names for it in re.findall(r"(?:fn|struct|enum|trait) (\w+)", line)) and "pub" in line
+                is_public = (
+                    in_module
+                    or any(
+                        it in names for it in re.findall(r"(?:fn|struct|enum|trait) (\w+)", line)
+                    )
+                    and "pub" in line
+                )
                 of_trait = "trait" in line
             text = []
             if is_public and re.match(r"\s+ghost (?!use|invariant)", line):
                 text = [line]
-                for more in lines[number + 1:]:
+                for more in lines[number + 1 :]:
                     if text[-1].rstrip().endswith("};"):
                         break
                     text.append(more)
@@ -167,7 +200,10 @@ def told(crate, found):
     by_crate = {}
     for owner, module in sorted(found, key=lambda it: (it[0] != crate, it)):
         by_crate.setdefault(owner, []).append(module)
-    return "; ".join(("" if owner == crate else f"{owner}: ") + ", ".join(modules) for owner, modules in by_crate.items())
+    return "; ".join(
+        ("" if owner == crate else f"{owner}: ") + ", ".join(modules)
+        for owner, modules in by_crate.items()
+    )
 
 
 def heads(every):
@@ -226,7 +262,9 @@ def main():
         sys.exit(check_heads(every, "--write" in words) > 0)
     listed = "--list" in words
     wanted = [it for it in words if it != "--list"] or crates()
-    reached = reached_from(every, set().union(*(found for crate in crates() for found in contracts(crate).values())))
+    reached = reached_from(
+        every, set().union(*(found for crate in crates() for found in contracts(crate).values()))
+    )
     if "--bounds" in words:
         count = sum(every[it][0] for it in reached)
         print(f"{count} lines that public contracts reach; bound {LINES_MAX}")

@@ -1,12 +1,14 @@
 #!/usr/bin/env python3
-"""Lists what is dear to prove in each crate: the functions, lemma files and definitions whose check took longest.
+"""Lists what is dear to prove in each crate: the functions, lemma files and definitions whose check
+took longest.
 
     python3 checks/costs.py [--most N] [CRATE ..]
 
-A check keeps one file for each part of a function's proof in crates/CRATE/out/incremental, and writes it when the part is
-done. So the time between two files is what the later one took. That holds for a check at one job: run
-`rt check --jobs 1` in a crate that has nothing kept (or `rt all check --jobs N` for all), and then this script.
-Parts that were kept from an earlier check keep their older times and are not counted.
+A check keeps one file for each part of a function's proof in crates/CRATE/out/incremental, and
+writes it when the part is done. So the time between two files is what the later one took. That
+holds for a check at one job: run `rt check --jobs 1` in a crate that has nothing kept (or `rt all
+check --jobs N` for all), and then this script. Parts that were kept from an earlier check keep
+their older times and are not counted.
 """
 import argparse
 import os
@@ -15,9 +17,35 @@ import sys
 ROOT = os.path.dirname(os.path.dirname(os.path.abspath(__file__)))
 # What a function's proof is made of; `Lts` says what the function does, drops included.
 PARTS = {
-    "Answers", "Code", "Given", "Goals", "Invariants", "Key", "Kinds", "Laws", "Layout", "Lts", "Met", "Mir", "Named", "Paired",
-    "Proof", "Reads", "Statement", "Symbol", "TheImpl", "TheInside", "TheLaws", "TheLink", "TheLinks", "TheReach",
-    "TheSendSync", "TheVariants", "TheView", "Tie", "View",
+    "Answers",
+    "Code",
+    "Given",
+    "Goals",
+    "Invariants",
+    "Key",
+    "Kinds",
+    "Laws",
+    "Layout",
+    "Lts",
+    "Met",
+    "Mir",
+    "Named",
+    "Paired",
+    "Proof",
+    "Reads",
+    "Statement",
+    "Symbol",
+    "TheImpl",
+    "TheInside",
+    "TheLaws",
+    "TheLink",
+    "TheLinks",
+    "TheReach",
+    "TheSendSync",
+    "TheVariants",
+    "TheView",
+    "Tie",
+    "View",
 }
 # A longer time than this between two files lies between two checks.
 BREAK = 90.0
@@ -59,7 +87,12 @@ def show(crate, most):
         print(f"{crate}: nothing is kept in crates/{crate}/out/incremental")
         return
     total = {item: sum(parts.values()) for item, parts in items.items()}
-    drops = sum(seconds for parts in items.values() for part, seconds in parts.items() if part.startswith("Lts"))
+    drops = sum(
+        seconds
+        for parts in items.values()
+        for part, seconds in parts.items()
+        if part.startswith("Lts")
+    )
     print(f"{crate}: {sum(total.values()):.0f} seconds, {drops:.0f} of them in Lts parts")
     for item in sorted(total, key=total.get, reverse=True)[:most]:
         parts = sorted(items[item].items(), key=lambda it: -it[1])[:3]
@@ -68,8 +101,12 @@ def show(crate, most):
 
 
 def main():
-    words = argparse.ArgumentParser(description=__doc__, formatter_class=argparse.RawDescriptionHelpFormatter)
-    words.add_argument("--most", type=int, default=10, help="how many items of each crate are listed (10)")
+    words = argparse.ArgumentParser(
+        description=__doc__, formatter_class=argparse.RawDescriptionHelpFormatter
+    )
+    words.add_argument(
+        "--most", type=int, default=10, help="how many items of each crate are listed (10)"
+    )
     words.add_argument("crates", nargs="*", metavar="CRATE")
     given = words.parse_args()
     known = sorted(os.listdir(f"{ROOT}/crates"))

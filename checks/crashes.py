@@ -1,12 +1,15 @@
 #!/usr/bin/env python3
-"""Files that a loss of power may leave of the built tbd's work, by the calls that it made, and a disk that is full.
+"""Files that a loss of power may leave of the built tbd's work, by the calls that it made, and a
+disk that is full.
 
     checks/crashes.py [--tbd PROGRAM] [--rounds N] [--images N] [--seed N]
 
-checks/keep/shim.c, which wants gcc, writes down each write, cut and sync of the file and each write of replies. From them the files are made that the
-disk may have at each moment: what was synced, and of what was written since then any bytes and any length. Each has to be a beginning of the
-history with all that was acknowledged until then, and each tenth is opened by the program. A disk that drops syncs and a program that answers first
-have to be caught. A small file system is filled where this user may mount one. Ends in 'N passed, M failed'.
+checks/keep/shim.c, which wants gcc, writes down each write, cut and sync of the file and each write
+of replies. From them the files are made that the disk may have at each moment: what was synced, and
+of what was written since then any bytes and any length. Each has to be a beginning of the history
+with all that was acknowledged until then, and each tenth is opened by the program. A disk that
+drops syncs and a program that answers first have to be caught. A small file system is filled where
+this user may mount one. Ends in 'N passed, M failed'.
 """
 import argparse
 import functools
@@ -23,7 +26,16 @@ import tried
 ROOT = os.path.dirname(os.path.dirname(os.path.abspath(__file__)))
 sys.path.insert(0, os.path.join(ROOT, "clients", "python"))
 
-from tb_client import HEADER, Account, Operation, Reply, Status, Transfer, reply_length, request_frame  # noqa: E402
+from tb_client import (  # noqa: E402
+    HEADER,
+    Account,
+    Operation,
+    Reply,
+    Status,
+    Transfer,
+    reply_length,
+    request_frame,
+)
 
 CLIENTS = 24
 CASH, SALES = 1, 2
@@ -65,7 +77,9 @@ def records_of(data):
     while at + 1 < len(data) and data[at]:
         length = int.from_bytes(data[at + 1 : at + 4], "little")
         end = at + 8 + length
-        if end > len(data) or checksum(data[at + 1 : at + 4] + data[at + 8 : end]) != int.from_bytes(data[at + 4 : at + 8], "little"):
+        if end > len(data) or checksum(
+            data[at + 1 : at + 4] + data[at + 8 : end]
+        ) != int.from_bytes(data[at + 4 : at + 8], "little"):
             return f"Damaged at {at}"
         records.append(data[at + 8 : end])
         at = end
@@ -80,7 +94,9 @@ class Run:
 
     def __init__(self, tbd, folder, name, rng):
         self.tbd, self.rng, self.moment = tbd, rng, 0
-        self.file, self.log = os.path.join(folder, f"{name}.tbk"), os.path.join(folder, f"{name}.log")
+        self.file, self.log = os.path.join(folder, f"{name}.tbk"), os.path.join(
+            folder, f"{name}.log"
+        )
         self.sent, self.first, self.sessions, self.done, self.wrong = {}, {}, {}, {}, []
 
     def start(self, shim=None, fault=""):
@@ -88,7 +104,9 @@ class Run:
         if shim:
             env.update(LD_PRELOAD=shim, KEEP_FILE=self.file, KEEP_LOG=self.log, KEEP_FAULT=fault)
         words = [self.tbd, "run", self.file, "64"]
-        return subprocess.Popen(words, stdin=subprocess.PIPE, stdout=subprocess.PIPE, stderr=subprocess.PIPE, env=env)
+        return subprocess.Popen(
+            words, stdin=subprocess.PIPE, stdout=subprocess.PIPE, stderr=subprocess.PIPE, env=env
+        )
 
     def frame(self, client):
         """The request that a client has no reply to: its register, or the one behind its last."""
@@ -98,10 +116,16 @@ class Run:
                 made = request_frame(client, 0, 0, Operation.register)
             elif client == CLIENTS and number == 1:
                 body = b"".join(Account(id, ledger=700, code=10).to_bytes() for id in (CASH, SALES))
-                made = request_frame(client, self.sessions[client], 1, Operation.create_accounts, body)
+                made = request_frame(
+                    client, self.sessions[client], 1, Operation.create_accounts, body
+                )
             else:
-                body = Transfer(client << 32 | number, CASH, SALES, self.rng.randint(1, 9), ledger=700, code=10).to_bytes()
-                made = request_frame(client, self.sessions[client], number, Operation.create_transfers, body)
+                body = Transfer(
+                    client << 32 | number, CASH, SALES, self.rng.randint(1, 9), ledger=700, code=10
+                ).to_bytes()
+                made = request_frame(
+                    client, self.sessions[client], number, Operation.create_transfers, body
+                )
             self.sent[client, number] = made
         return self.sent[client, number]
 
@@ -119,7 +143,9 @@ class Run:
         replies = []
         for _ in frames:
             header = process.stdout.read(HEADER)
-            body = process.stdout.read(reply_length(header) - HEADER) if len(header) == HEADER else b""
+            body = (
+                process.stdout.read(reply_length(header) - HEADER) if len(header) == HEADER else b""
+            )
             if len(header) < HEADER or len(header + body) < reply_length(header):
                 break
             replies.append(header + body)
@@ -186,7 +212,8 @@ def changed(image, write):
 
 
 def torn(image, write, rng):
-    """A file that a write or a cut leaves which a loss of power cuts short: any bytes in its range, any length between."""
+    """A file that a write or a cut leaves which a loss of power cuts short: any bytes in its
+    range, any length between."""
     after = changed(image, write)
     if write[0] == b"T":
         return image[: rng.randint(len(after), max(len(image), len(after)))]
@@ -194,7 +221,11 @@ def torn(image, write, rng):
     kind = rng.randrange(5)
     cut = rng.randint(0, len(data))
     if kind == 0:
-        middle = data[:cut] + after[at + cut : at + len(data)] if at + len(data) <= len(image) else data[:cut]
+        middle = (
+            data[:cut] + after[at + cut : at + len(data)]
+            if at + len(data) <= len(image)
+            else data[:cut]
+        )
     elif kind == 1:
         middle = bytes(cut) + data[cut:]
     elif kind == 2:
@@ -241,7 +272,8 @@ class Images:
         self.commit, self.done, self.wrong, self.judged, self.opened = 0, {}, [], 0, 0
 
     def judge(self, image):
-        """A file has the entries of all replies that were written so far, and is a beginning of the history."""
+        """A file has the entries of all replies that were written so far, and is a beginning of
+        the history."""
         self.judged += 1
         records = records_of(image)
         if isinstance(records, str):
@@ -250,18 +282,23 @@ class Images:
         elif records != self.last[: len(records)]:
             self.wrong.append("records that are not those of the history")
         elif len(records) <= self.commit and self.commit:
-            self.wrong.append(f"{len(records)} records, after {self.commit} entries were acknowledged")
+            self.wrong.append(
+                f"{len(records)} records, after {self.commit} entries were acknowledged"
+            )
         elif self.judged % 10 == 0 and records:
             self.open(image, len(records) - 1)
 
     def open(self, image, entries):
-        """The program tells so many entries, and serves on: each client's last request gets its first reply again, one in doubt is done."""
+        """The program tells so many entries, and serves on: each client's last request gets its
+        first reply again, one in doubt is done."""
         self.opened += 1
         with open(self.path, "wb") as file:
             file.write(image)
         told = subprocess.run([self.run.tbd, "check", self.path], capture_output=True, text=True)
         if told.returncode or f"entries {entries}\n" not in told.stdout:
-            self.wrong.append(f"check of {entries} entries: {told.returncode}, {told.stdout!r}, {told.stderr!r}")
+            self.wrong.append(
+                f"check of {entries} entries: {told.returncode}, {told.stdout!r}, {told.stderr!r}"
+            )
         again = Run(self.run.tbd, os.path.dirname(self.path), "image", self.rng)
         process = again.start()
         in_file = {(record[16:32], record[40:44]) for record in self.last[1 : entries + 1]}
@@ -271,7 +308,9 @@ class Images:
             reply = again.ask(process, [self.run.sent[client, number]]) if done else []
             if done and reply != [self.run.first[client, number]]:
                 self.wrong.append(f"client {client}: another reply to request {number}")
-            if behind and [Reply.from_bytes(it).status for it in again.ask(process, [behind])] != [Status.Reply]:
+            if behind and [Reply.from_bytes(it).status for it in again.ask(process, [behind])] != [
+                Status.Reply
+            ]:
                 self.wrong.append(f"client {client}: request {number + 1} in doubt is not done")
         if ended(process):
             self.wrong.append("a start over a file that a loss of power left ends by a fault")
@@ -292,7 +331,9 @@ class Images:
             self.judge(synced)
             for _ in range(self.count if since else 0):
                 before = self.rng.randrange(len(since))
-                self.judge(torn(functools.reduce(changed, since[:before], synced), since[before], self.rng))
+                self.judge(
+                    torn(functools.reduce(changed, since[:before], synced), since[before], self.rng)
+                )
         return self
 
 
@@ -305,16 +346,24 @@ def losses(tbd, folder, shim, rounds, count, rng):
     lives(run, shim, rounds)
     case(f"{len(run.first)} requests in lives that kills end: each has one reply", run.wrong)
     images = Images(run, folder, count, rng).follow()
-    case(f"{images.judged} files that a loss of power may leave, {images.opened} of them opened", images.wrong)
+    case(
+        f"{images.judged} files that a loss of power may leave, {images.opened} of them opened",
+        images.wrong,
+    )
     dumped(run)
 
 
 def dumped(run):
-    """The dump has each acknowledged request once, at the commit that its reply told, and its replay gives each reply."""
+    """The dump has each acknowledged request once, at the commit that its reply told, and its
+    replay gives each reply."""
     got = subprocess.run([run.tbd, "dump", run.file], capture_output=True)
     with open(run.file, "rb") as file:
         records = records_of(file.read())
-    wrong = [] if got.returncode == 0 and got.stdout[16:] == b"".join(records[1:]) else [f"dump: {got.returncode}, {len(got.stdout)} bytes"]
+    wrong = (
+        []
+        if got.returncode == 0 and got.stdout[16:] == b"".join(records[1:])
+        else [f"dump: {got.returncode}, {len(got.stdout)} bytes"]
+    )
     for (client, number), reply in run.first.items():
         record = records[Reply.from_bytes(reply).commit]
         if record[16:] != run.sent[client, number]:
@@ -326,8 +375,14 @@ def dumped(run):
     if not os.access(tbs, os.X_OK):
         print("passed over: the replay of the dump, tbs is not built")
         return
-    replies = list(replies_in(subprocess.run([tbs, "replay"], input=got.stdout, capture_output=True).stdout))
-    wrong = [key for key, reply in run.first.items() if reply not in replies[Reply.from_bytes(reply).commit - 1 :][:1]]
+    replies = list(
+        replies_in(subprocess.run([tbs, "replay"], input=got.stdout, capture_output=True).stdout)
+    )
+    wrong = [
+        key
+        for key, reply in run.first.items()
+        if reply not in replies[Reply.from_bytes(reply).commit - 1 :][:1]
+    ]
     case(f"tbs replay gives the {len(run.first)} replies that were told", wrong)
 
 
@@ -359,7 +414,12 @@ def full(tbd, folder, rng):
     """A file system of 64 KiB is filled. With more room all that was acknowledged is there."""
     room = os.path.join(folder, "room")
     os.mkdir(room)
-    if os.geteuid() or subprocess.run(["mount", "-t", "tmpfs", "-o", "size=64k", "none", room], capture_output=True).returncode:
+    if (
+        os.geteuid()
+        or subprocess.run(
+            ["mount", "-t", "tmpfs", "-o", "size=64k", "none", room], capture_output=True
+        ).returncode
+    ):
         print("passed over: a full file system, this user may mount none")
         return
     try:
@@ -370,7 +430,10 @@ def full(tbd, folder, rng):
             if not run.round(process, run.some()):
                 break
         told = process.stderr.read()
-        case("a full file system ends in Full and status 8", [] if (ended(process), told) == (8, b"tbd: Full\n") else [told])
+        case(
+            "a full file system ends in Full and status 8",
+            [] if (ended(process), told) == (8, b"tbd: Full\n") else [told],
+        )
         run.file = shutil.copy(run.file, os.path.join(folder, "more.tbk"))
     finally:
         subprocess.run(["umount", room], check=True)
@@ -384,7 +447,9 @@ def full(tbd, folder, rng):
 
 
 def main():
-    parser = argparse.ArgumentParser(description=__doc__, formatter_class=argparse.RawDescriptionHelpFormatter)
+    parser = argparse.ArgumentParser(
+        description=__doc__, formatter_class=argparse.RawDescriptionHelpFormatter
+    )
     parser.add_argument("--tbd", default=os.path.join(ROOT, "crates", "tbd", "out", "tbd"))
     parser.add_argument("--rounds", type=int, default=120)
     parser.add_argument("--images", type=int, default=20, help="files that are made at each write")
@@ -394,7 +459,9 @@ def main():
     with tempfile.TemporaryDirectory() as folder:
         shim = os.path.join(folder, "shim.so")
         source = os.path.join(ROOT, "checks", "keep", "shim.c")
-        subprocess.run(["gcc", "-O1", "-Wall", "-Wextra", "-shared", "-fPIC", "-o", shim, source], check=True)
+        subprocess.run(
+            ["gcc", "-O1", "-Wall", "-Wextra", "-shared", "-fPIC", "-o", shim, source], check=True
+        )
         losses(given.tbd, folder, shim, given.rounds, given.images, rng)
         controls(given.tbd, folder, shim, rng)
         full(given.tbd, folder, rng)

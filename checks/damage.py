@@ -1,15 +1,18 @@
 #!/usr/bin/env python3
-"""Damaged frames, scripts and dumps, through the readers and through the built program. First build both:
+"""Damaged frames, scripts and dumps, through the readers and through the built program. First build
+both:
 
     (cd crates/tb_read && rt run) < crates/tb_read/stdin > /dev/null
     (cd crates/tbs && rt run -- run 2) < examples/first.script > /dev/null
     checks/damage.py [FRAMES [SEED]]
 
-FRAMES (20000 by default, 1000000 in the long form of docs/trust/TESTED.md) is how many damaged frames the readers are given, and how many
-the program is, in scripts and dumps. Bytes are flipped, cut off, put in and spliced; lengths, numbers, moments and commits go to their
-limits. A reader of the formats written here from docs/use/FORMATS.md and docs/use/RULES.md, apart from the crates, says what is right: the fault of
-each frame; and of each script and dump the status, the line of the fault, and of each reply all but the results. The program has room for
-one body as large as a header can claim, and no more; a signal, a minute's silence or another answer is a failure. Needs Linux.
+FRAMES (20000 by default, 1000000 in the long form of docs/trust/TESTED.md) is how many damaged
+frames the readers are given, and how many the program is, in scripts and dumps. Bytes are flipped,
+cut off, put in and spliced; lengths, numbers, moments and commits go to their limits. A reader of
+the formats written here from docs/use/FORMATS.md and docs/use/RULES.md, apart from the crates, says
+what is right: the fault of each frame; and of each script and dump the status, the line of the
+fault, and of each reply all but the results. The program has room for one body as large as a header
+can claim, and no more; a signal, a minute's silence or another answer is a failure. Needs Linux.
 """
 import os
 import random
@@ -28,7 +31,24 @@ ITEMS_MAX = 8190
 REGISTER, ACCOUNTS, TRANSFERS, LOOK_ACCOUNTS, LOOK_TRANSFERS = 2, 129, 130, 131, 132
 ASKED = {REGISTER: 0, ACCOUNTS: 128, TRANSFERS: 128, LOOK_ACCOUNTS: 16, LOOK_TRANSFERS: 16}
 ANSWERED = {REGISTER: 0, ACCOUNTS: 8, TRANSFERS: 8, LOOK_ACCOUNTS: 128, LOOK_TRANSFERS: 128}
-NUMBERS = {name: at + 1 for at, name in enumerate(["Short", "ClientZero", "UnknownOperation", "Reserved", "BadLength", "TooMany", "RegisterNumbers", "RequestZero", "Device", "NoMemory", "ReplyNumbers"])}
+NUMBERS = {
+    name: at + 1
+    for at, name in enumerate(
+        [
+            "Short",
+            "ClientZero",
+            "UnknownOperation",
+            "Reserved",
+            "BadLength",
+            "TooMany",
+            "RegisterNumbers",
+            "RequestZero",
+            "Device",
+            "NoMemory",
+            "ReplyNumbers",
+        ]
+    )
+}
 REPLY, NO_SESSION, TOO_LOW, NEWER_SESSION, OLDER, COLLISION, NEWER_REQUEST = range(7)
 
 
@@ -64,7 +84,9 @@ def request_fault(frame):
 def reply_fault(frame):
     if len(frame) < 48:
         return "Short"
-    session, request, operation, status, reserved, length, commit = struct.unpack_from("<QIBB2sIQ", frame, 16)
+    session, request, operation, status, reserved, length, commit = struct.unpack_from(
+        "<QIBB2sIQ", frame, 16
+    )
     if not any(frame[:16]):
         return "ClientZero"
     if operation not in ANSWERED:
@@ -93,14 +115,17 @@ def request_length(frame):
 
 
 class Sessions:
-    """Of each client its session, its last request and that one's commit; the last commit, and the last time."""
+    """Of each client its session, its last request and that one's commit; the last commit, and
+    the last time."""
 
     def __init__(self, clients_max):
         self.clients_max, self.rows, self.commit, self.time = clients_max, {}, 0, 0
 
     def status(self, frame):
         """The status of the answer; None where the request is new."""
-        client, (session, request, operation) = bytes(frame[:16]), struct.unpack_from("<QIB", frame, 16)
+        client, (session, request, operation) = bytes(frame[:16]), struct.unpack_from(
+            "<QIB", frame, 16
+        )
         row = self.rows.get(client)
         if row is None:
             return None if operation == REGISTER else NO_SESSION
@@ -112,7 +137,11 @@ class Sessions:
         if request < last:
             return OLDER
         if request == last:
-            return REPLY if (frame[28], frame[48:]) == (row["frame"][28], row["frame"][48:]) else COLLISION
+            return (
+                REPLY
+                if (frame[28], frame[48:]) == (row["frame"][28], row["frame"][48:])
+                else COLLISION
+            )
         return None if request == last + 1 else NEWER_REQUEST
 
     def least_time(self, frame):
@@ -121,14 +150,20 @@ class Sessions:
 
     def enter(self, frame, time):
         """Executes a new request, and answers the head of its reply, but for its length."""
-        client, session, request, operation = bytes(frame[:16]), *struct.unpack_from("<QIB", frame, 16)
+        client, session, request, operation = bytes(frame[:16]), *struct.unpack_from(
+            "<QIB", frame, 16
+        )
         self.commit, self.time = self.commit + 1, time
         if operation == REGISTER:
             session = self.commit
             if len(self.rows) >= self.clients_max:
                 del self.rows[min(self.rows, key=lambda it: self.rows[it]["commit"])]
         self.rows[client] = {"session": session, "frame": bytes(frame), "commit": self.commit}
-        return Wanted(client + struct.pack("<QIBB2x", session, request, operation, REPLY), self.commit, len(frame[48:]))
+        return Wanted(
+            client + struct.pack("<QIBB2x", session, request, operation, REPLY),
+            self.commit,
+            len(frame[48:]),
+        )
 
     def refuse(self, frame, status):
         return Wanted(bytes(frame[:29]) + bytes([status, 0, 0]), 0, 0)
@@ -139,13 +174,15 @@ class Sessions:
 
 
 class Wanted:
-    """A reply that is wanted: its first 32 bytes, its commit, and the bytes of the request's body."""
+    """A reply that is wanted: its first 32 bytes, its commit, and the bytes of the request's
+    body."""
 
     def __init__(self, head, commit, asked):
         self.head, self.commit, self.asked = head, commit, asked
 
     def fits(self, length):
-        """Whether a body may have this length: a result for some of the events, a record for some of the ids."""
+        """Whether a body may have this length: a result for some of the events, a record for
+        some of the ids."""
         if self.head[29] != REPLY:
             return length == 0
         size = ANSWERED[self.head[28]]
@@ -157,7 +194,8 @@ class Wanted:
 
 
 def right_of_script(script, clients_max):
-    """The replies wanted (a number stands for the reply of that commit, given again), the entries, and the fault."""
+    """The replies wanted (a number stands for the reply of that commit, given again), the
+    entries, and the fault."""
     sessions, wanted, entries, at = Sessions(clients_max), [], [], 0
     while at < len(script):
         frame = script[at + 8 :]
@@ -174,7 +212,9 @@ def right_of_script(script, clients_max):
             wanted.append(sessions.enter(frame, time))
             entries.append((sessions.commit, time, bytes(frame)))
         else:
-            wanted.append(sessions.repeated(frame) if status == REPLY else sessions.refuse(frame, status))
+            wanted.append(
+                sessions.repeated(frame) if status == REPLY else sessions.refuse(frame, status)
+            )
     return wanted, entries, None
 
 
@@ -202,7 +242,11 @@ def right_of_dump(dump):
             return wanted, fault
         frame = frame[: request_length(frame)]
         at += len(frame)
-        if commit != sessions.commit + 1 or not sessions.least_time(frame) <= time <= MAX_TIME or sessions.status(frame) is not None:
+        if (
+            commit != sessions.commit + 1
+            or not sessions.least_time(frame) <= time <= MAX_TIME
+            or sessions.status(frame) is not None
+        ):
             return wanted, "NotLegal"
         wanted.append(sessions.enter(frame, time))
     return wanted, None
@@ -223,7 +267,12 @@ def are_replies(output, wanted):
         length, commit = struct.unpack_from("<IQ", output, at + 32)
         frame = output[at : at + 48 + length]
         at += 48 + length
-        if reply_fault(frame) or frame[:32] != reply.head or commit != reply.commit or not reply.fits(length):
+        if (
+            reply_fault(frame)
+            or frame[:32] != reply.head
+            or commit != reply.commit
+            or not reply.fits(length)
+        ):
             return False
         by_commit[commit] = frame
     return at == len(output)
@@ -233,21 +282,42 @@ def are_replies(output, wanted):
 
 
 def header(client, session, request, operation, length):
-    return client.to_bytes(16, "little") + struct.pack("<QIB3xI12x", session, request, operation, length)
+    return client.to_bytes(16, "little") + struct.pack(
+        "<QIB3xI12x", session, request, operation, length
+    )
 
 
 def body_of(chance, operation):
     count = chance.choice((0, 1, 1, 2, 3))
     if operation == ACCOUNTS:
-        return b"".join(chance.randint(1, 9).to_bytes(16, "little") + bytes(96) + struct.pack("<IHHQ", 700, 10, chance.choice((0, 0, 1, 2, 4)), 0) for _ in range(count))
+        return b"".join(
+            chance.randint(1, 9).to_bytes(16, "little")
+            + bytes(96)
+            + struct.pack("<IHHQ", 700, 10, chance.choice((0, 0, 1, 2, 4)), 0)
+            for _ in range(count)
+        )
     if operation == TRANSFERS:
-        return b"".join(b"".join(it.to_bytes(16, "little") for it in (chance.randint(1, 99), chance.randint(1, 9), chance.randint(1, 9), chance.randint(0, 50), 0, 0))
-                        + struct.pack("<QIIIHHQ", 0, 0, 0, 700, 10, chance.choice((0, 0, 1, 2, 16)), 0) for _ in range(count))
+        return b"".join(
+            b"".join(
+                it.to_bytes(16, "little")
+                for it in (
+                    chance.randint(1, 99),
+                    chance.randint(1, 9),
+                    chance.randint(1, 9),
+                    chance.randint(0, 50),
+                    0,
+                    0,
+                )
+            )
+            + struct.pack("<QIIIHHQ", 0, 0, 0, 700, 10, chance.choice((0, 0, 1, 2, 16)), 0)
+            for _ in range(count)
+        )
     return b"".join(chance.randint(0, 99).to_bytes(16, "little") for _ in range(count))
 
 
 def next_frame(chance, sessions):
-    """A frame that one of five clients may send next: a register, the request that is due, or its last one again."""
+    """A frame that one of five clients may send next: a register, the request that is due, or
+    its last one again."""
     client = chance.randint(1, 5)
     row = sessions.rows.get(client.to_bytes(16, "little"))
     if row is None or chance.random() < 0.05:
@@ -263,15 +333,42 @@ def next_frame(chance, sessions):
 def next_reply(chance):
     operation, status = chance.choice(list(ANSWERED)), chance.choice((0, 0, 0, 1, 2, 4, 5, 7))
     commit = chance.randint(2, 99)
-    session = (commit if operation == REGISTER else chance.randint(1, commit - 1)) if status == 0 else 0 if operation == REGISTER else chance.randint(0, 99)
+    session = (
+        (commit if operation == REGISTER else chance.randint(1, commit - 1))
+        if status == 0
+        else 0
+        if operation == REGISTER
+        else chance.randint(0, 99)
+    )
     body = chance.randbytes(ANSWERED[operation] * chance.choice((0, 1, 2))) if status == 0 else b""
-    head = chance.randint(1, 9).to_bytes(16, "little") + struct.pack("<QIBB2xI", session, 0 if operation == REGISTER else chance.randint(1, 9), operation, status, len(body))
+    head = chance.randint(1, 9).to_bytes(16, "little") + struct.pack(
+        "<QIBB2xI",
+        session,
+        0 if operation == REGISTER else chance.randint(1, 9),
+        operation,
+        status,
+        len(body),
+    )
     return head + struct.pack("<Q4x", 0 if status else commit) + body
 
 
 def limit_of_length(chance):
     size = chance.choice((1, 8, 16, 128))
-    return chance.choice((0, 1, size - 1, size, ITEMS_MAX * size - 1, ITEMS_MAX * size, ITEMS_MAX * size + 1, (ITEMS_MAX + 1) * size, 2**31, 2**32 - size, 2**32 - 1))
+    return chance.choice(
+        (
+            0,
+            1,
+            size - 1,
+            size,
+            ITEMS_MAX * size - 1,
+            ITEMS_MAX * size,
+            ITEMS_MAX * size + 1,
+            (ITEMS_MAX + 1) * size,
+            2**31,
+            2**32 - size,
+            2**32 - 1,
+        )
+    )
 
 
 def damaged(chance, frame, other):
@@ -300,18 +397,24 @@ def damaged(chance, frame, other):
         elif kind == 10 and len(frame) >= 48:
             struct.pack_into("<I", frame, 24, chance.choice((0, 1, 2, 2**31, 2**32 - 1)))
         elif kind == 11 and len(frame) >= 48:
-            frame[chance.choice((28, 29))] = chance.choice((0, 1, 2, 7, 8, 128, 129, 130, 131, 132, 133, 255))
+            frame[chance.choice((28, 29))] = chance.choice(
+                (0, 1, 2, 7, 8, 128, 129, 130, 131, 132, 133, 255)
+            )
     return bytes(frame)
 
 
 def number_near(chance, right):
     """A moment, a time or a commit: right, a little off, or a limit."""
-    return chance.choice([right] * 40 + [right + 1, right + 5, max(right, 1) - 1, 0, 2, MAX_TIME, 2**63, 2**64 - 1])
+    return chance.choice(
+        [right] * 40
+        + [right + 1, right + 5, max(right, 1) - 1, 0, 2, MAX_TIME, 2**63, 2**64 - 1]
+    )
 
 
 def make_stream(chance, sessions, lead_of, goes_on):
-    """Rows of frames behind their leads, damaged; most of those at which a reader would stop are left out, and the first that is not is the last but
-    for what is spliced on. Answers the bytes, and how many frames."""
+    """Rows of frames behind their leads, damaged; most of those at which a reader would stop are
+    left out, and the first that is not is the last but for what is spliced on. Answers the bytes,
+    and how many frames."""
     rows, other = [], header(3, 0, 0, REGISTER, 0)
     while len(rows) < 40:
         right = next_frame(chance, sessions)
@@ -329,7 +432,9 @@ def make_stream(chance, sessions, lead_of, goes_on):
             sessions.enter(frame, time)
     stream = b"".join(rows)
     if chance.random() < 0.2:
-        stream = stream + chance.choice((rows[-1], rows[0], chance.randbytes(chance.choice((1, 7, 8, 15, 16, 60)))))
+        stream = stream + chance.choice(
+            (rows[-1], rows[0], chance.randbytes(chance.choice((1, 7, 8, 15, 16, 60))))
+        )
     if chance.random() < 0.05:
         stream = stream[: chance.randrange(len(stream) + 1)]
     return stream, len(rows)
@@ -337,7 +442,9 @@ def make_stream(chance, sessions, lead_of, goes_on):
 
 def make_script(chance, clients_max):
     def lead_of(sessions, frame):
-        return struct.pack("<Q", number_near(chance, chance.choice((0, sessions.time + 1, sessions.time + 1000))))
+        return struct.pack(
+            "<Q", number_near(chance, chance.choice((0, sessions.time + 1, sessions.time + 1000)))
+        )
 
     def goes_on(sessions, lead, frame):
         time = max(struct.unpack("<Q", lead)[0], sessions.least_time(frame))
@@ -353,12 +460,24 @@ def make_dump(chance):
         head = damaged(chance, head, head)
 
     def lead_of(sessions, frame):
-        mark = struct.pack("<QQ", 0, chance.choice((2, 2, 2, 2, 3, 0))) if chance.random() < 0.02 else b""
-        return mark + struct.pack("<QQ", number_near(chance, sessions.commit + 1), number_near(chance, sessions.least_time(frame)))
+        mark = (
+            struct.pack("<QQ", 0, chance.choice((2, 2, 2, 2, 3, 0)))
+            if chance.random() < 0.02
+            else b""
+        )
+        return mark + struct.pack(
+            "<QQ",
+            number_near(chance, sessions.commit + 1),
+            number_near(chance, sessions.least_time(frame)),
+        )
 
     def goes_on(sessions, lead, frame):
         commit, time = struct.unpack("<QQ", lead[-16:])
-        legal = sessions.status(frame) is None and commit == sessions.commit + 1 and sessions.least_time(frame) <= time <= MAX_TIME
+        legal = (
+            sessions.status(frame) is None
+            and commit == sessions.commit + 1
+            and sessions.least_time(frame) <= time <= MAX_TIME
+        )
         return time if legal else None
 
     stream, count = make_stream(chance, Sessions(clients_max), lead_of, goes_on)
@@ -375,7 +494,9 @@ def limited(kib):
 def run(words, given, kib):
     """Status, output and standard error; no status where it is still running after a minute."""
     try:
-        ran = subprocess.run(words, input=given, capture_output=True, timeout=60, preexec_fn=limited(kib))
+        ran = subprocess.run(
+            words, input=given, capture_output=True, timeout=60, preexec_fn=limited(kib)
+        )
     except subprocess.TimeoutExpired:
         return None, b"", b"still running"
     return ran.returncode, ran.stdout, ran.stderr
@@ -393,16 +514,17 @@ def least_room():
 def entries_of(entries, mark_above):
     """The entries of a dump, with the mark before the first one above a commit."""
     spelled = []
-    for commit, time, frame in entries:
+    for commit, at, frame in entries:
         if mark_above is not None and commit > mark_above:
             spelled.append(struct.pack("<QQ", 0, 2))
             mark_above = None
-        spelled.append(struct.pack("<QQ", commit, time) + frame)
+        spelled.append(struct.pack("<QQ", commit, at) + frame)
     return b"".join(spelled)
 
 
 def one_run(chance, kib):
-    """Gives the program a damaged script or dump. Answers the kind, how many frames it had, the fault, what was wrong, and the bytes."""
+    """Gives the program a damaged script or dump. Answers the kind, how many frames it had, the
+    fault, what was wrong, and the bytes."""
     kind = chance.choice(("run", "run", "dump", "replay", "replay"))
     if kind == "replay":
         given, count = make_dump(chance)
@@ -423,7 +545,9 @@ def one_run(chance, kib):
         wrong = f"{words}: {status}, {told}; wanted {right}"
     elif kind == "dump":
         mark_above = int(words[2]) if len(words) == 3 else None
-        if output != b"TBSDUMP1" + struct.pack("<II", 1, clients_max) + entries_of(entries, mark_above):
+        if output != b"TBSDUMP1" + struct.pack("<II", 1, clients_max) + entries_of(
+            entries, mark_above
+        ):
             wrong = f"{words}: another dump"
     elif not are_replies(output, wanted):
         wrong = f"{words}: other replies"
@@ -440,7 +564,8 @@ def keep(given):
 
 def through_program(chance, frames):
     """The program's runs over so many damaged frames. Answers how many runs were wrong."""
-    # a body as large as a header can claim, and 512 KiB for requests and replies as small as those here
+    # a body as large as a header can claim, and 512 KiB for requests and replies as small as those
+    # here
     kib = least_room() + ITEMS_MAX * 128 // 1024 + 512
     faults, runs, count, failed, slowest = {}, 0, 0, 0, 0.0
     while count < frames:
@@ -452,13 +577,17 @@ def through_program(chance, frames):
         if wrong:
             failed += 1
             print(f"FAILED: {wrong}: {keep(given)}")
-    print(f"the program, in {kib} KiB: {runs} scripts and dumps of {count} frames, {failed} answered wrongly, the slowest in {slowest:.2f} seconds")
+    print(
+        f"the program, in {kib} KiB: {runs} scripts and dumps of {count} frames, {failed} "
+        f"answered wrongly, the slowest in {slowest:.2f} seconds"
+    )
     print("    " + ", ".join(f"{fault} {faults[fault]}" for fault in sorted(faults)))
     return failed
 
 
 def read_batch(chance, count):
-    """Gives the readers so many damaged frames of requests and replies. Answers the faults, and how many were answered wrongly."""
+    """Gives the readers so many damaged frames of requests and replies. Answers the faults, and
+    how many were answered wrongly."""
     sessions, given, wanted, other = Sessions(5), [], [], header(3, 0, 0, REGISTER, 0)
     for _ in range(count):
         if chance.random() < 0.5:
@@ -475,7 +604,10 @@ def read_batch(chance, count):
     answers = output.split(b"\n")[:-1]
     right = [str(NUMBERS[fault] if fault else 0).encode() for fault in wanted]
     if status != 0 or told or len(answers) != count:
-        print(f"FAILED: the readers: {status}, {told}, {len(answers)} of {count} answers: {keep(b''.join(given))}")
+        print(
+            f"FAILED: the readers: {status}, {told}, {len(answers)} of {count} answers: "
+            f"{keep(b''.join(given))}"
+        )
         return wanted, count
     wrong = [at for at in range(count) if answers[at] != right[at]]
     for at in wrong:
@@ -504,7 +636,10 @@ def main():
     print(f"seed {seed}")
     chance, start = random.Random(seed), time.monotonic()
     failed = through_readers(chance, frames) + through_program(chance, frames)
-    print(f"{time.monotonic() - start:.0f} seconds; {'0 failed' if not failed else f'{failed} failed'}")
+    print(
+        f"{time.monotonic() - start:.0f} seconds; "
+        f"{'0 failed' if not failed else f'{failed} failed'}"
+    )
     return 1 if failed else 0
 
 

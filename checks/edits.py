@@ -1,15 +1,17 @@
 #!/usr/bin/env python3
-"""Tries every must-fail edit, as the gate tries those of crates/*/must-fail, side by side on all cores.
+"""Tries every must-fail edit, as the gate tries those of crates/*/must-fail, side by side on all
+cores.
 
     python3 checks/edits.py [--texts] [--jobs N] [CRATE ..]
 
-The gate tries the edits in crates/CRATE/must-fail. This script tries those and the ones in crates/CRATE/must-fail-release:
-it copies the repository, with what is kept of earlier checks, puts all edits of a crate into its must-fail folder there, proves
-the libraries below, and runs `rt must-fail CRATE`, one job a crate. Run it before a release, and whenever a public clause or a
+The gate tries the edits in crates/CRATE/must-fail. This script tries those and the ones in
+crates/CRATE/must-fail-release: it copies the repository, with what is kept of earlier checks, puts
+all edits of a crate into its must-fail folder there, proves the libraries below, and runs `rt
+must-fail CRATE`, one job a crate. Run it before a release, and whenever a public clause or a
 definition changes. Ends in 'N passed, M failed': passed are the edits that the prover refused.
 
-With --texts it proves nothing: it tells each edit whose old text does not stand in its file exactly once, so that `rt must-fail`
-could not apply it. That takes a second, so run it on each change.
+With --texts it proves nothing: it tells each edit whose old text does not stand in its file exactly
+once, so that `rt must-fail` could not apply it. That takes a second, so run it on each change.
 """
 import argparse
 import os
@@ -49,15 +51,23 @@ def edits_of(crate):
 
 
 def copy_into(room, crates):
-    """Copies what git knows of, and what is kept in out/, and puts all edits of the crates where `rt must-fail` looks."""
-    told = subprocess.run(["git", "-C", ROOT, "ls-files", "-co", "--exclude-standard"], check=True, capture_output=True, text=True)
+    """Copies what git knows of, and what is kept in out/, and puts all edits of the crates where
+    `rt must-fail` looks."""
+    told = subprocess.run(
+        ["git", "-C", ROOT, "ls-files", "-co", "--exclude-standard"],
+        check=True,
+        capture_output=True,
+        text=True,
+    )
     for path in told.stdout.splitlines():
         if os.path.isfile(f"{ROOT}/{path}"):
             os.makedirs(os.path.dirname(f"{room}/{path}"), exist_ok=True)
             shutil.copy2(f"{ROOT}/{path}", f"{room}/{path}")
     for crate in deps_of():
         if os.path.isdir(f"{ROOT}/crates/{crate}/out"):
-            shutil.copytree(f"{ROOT}/crates/{crate}/out", f"{room}/crates/{crate}/out", symlinks=True)
+            shutil.copytree(
+                f"{ROOT}/crates/{crate}/out", f"{room}/crates/{crate}/out", symlinks=True
+            )
     for crate, edits in crates.items():
         os.makedirs(f"{room}/crates/{crate}/must-fail", exist_ok=True)
         for name, path in edits.items():
@@ -118,7 +128,15 @@ def try_texts(edits):
 
 def try_crate(room, crate):
     """Runs `rt must-fail` for a crate, and answers its lines."""
-    ran = subprocess.run(["rt", "must-fail", crate], cwd=room, stdin=subprocess.DEVNULL, stdout=subprocess.PIPE, stderr=subprocess.STDOUT, text=True, errors="replace")
+    ran = subprocess.run(
+        ["rt", "must-fail", crate],
+        cwd=room,
+        stdin=subprocess.DEVNULL,
+        stdout=subprocess.PIPE,
+        stderr=subprocess.STDOUT,
+        text=True,
+        errors="replace",
+    )
     return ran.stdout.splitlines()
 
 
@@ -133,8 +151,15 @@ def judge(crate, edits, lines):
 
 
 def main():
-    words = argparse.ArgumentParser(description=__doc__, formatter_class=argparse.RawDescriptionHelpFormatter)
-    words.add_argument("--jobs", type=int, default=len(os.sched_getaffinity(0)), help="how many crates are tried side by side (one a core)")
+    words = argparse.ArgumentParser(
+        description=__doc__, formatter_class=argparse.RawDescriptionHelpFormatter
+    )
+    words.add_argument(
+        "--jobs",
+        type=int,
+        default=len(os.sched_getaffinity(0)),
+        help="how many crates are tried side by side (one a core)",
+    )
     words.add_argument("--texts", action="store_true", help="only whether each edit can be applied")
     words.add_argument("crates", nargs="*", metavar="CRATE")
     given = words.parse_args()
@@ -152,7 +177,12 @@ def main():
     with tempfile.TemporaryDirectory(prefix="edits-") as room:
         copy_into(room, edits)
         for library in below(deps, edits):
-            if subprocess.run(["rt", "lib"], cwd=f"{room}/crates/{library}", stdout=subprocess.DEVNULL, stderr=subprocess.STDOUT).returncode:
+            if subprocess.run(
+                ["rt", "lib"],
+                cwd=f"{room}/crates/{library}",
+                stdout=subprocess.DEVNULL,
+                stderr=subprocess.STDOUT,
+            ).returncode:
                 sys.exit(f"{library} is not proved, so no edit of what stands on it can be judged")
         # The crates with the most edits begin, so that none of them is left for the end.
         dearest = sorted(edits, key=lambda it: -len(edits[it]))

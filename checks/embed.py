@@ -1,14 +1,14 @@
 #!/usr/bin/env python3
-"""Builds the server into programs in C, Rust and Python, and compares what they answer with the program's own replies; and compares the
-names, layouts and frames of the header, the wrapper in Rust and the client with the definitions and with each other. First build the
-library and the program:
+"""Builds the server into programs in C, Rust and Python, and compares what they answer with the
+program's own replies; and compares the names, layouts and frames of the header, the wrapper in Rust
+and the client with the definitions and with each other. First build the library and the program:
 
-    (cd crates/tb_embed && rt lib) && (cd crates/tbs && rt run -- run 2) < examples/first.script > /dev/null
-    checks/embed.py
+    (cd crates/tb_embed && rt lib) && (cd crates/tbs && rt run -- run 2) < examples/first.script >
+    /dev/null checks/embed.py
 
-checks/embed/names.py and checks/embed/frames.py are the parts that need neither. Prints a line for each case, and 'N passed, M
-failed'. Needs cc, c++, rustc and Linux; what is not there is told and passed over. KIT is the toolchain's folder (else `rt doc`
-tells it).
+checks/embed/names.py and checks/embed/frames.py are the parts that need neither. Prints a line for
+each case, and 'N passed, M failed'. Needs cc, c++, rustc and Linux; what is not there is told and
+passed over. KIT is the toolchain's folder (else `rt doc` tells it).
 """
 import os
 import random
@@ -50,7 +50,9 @@ def run(*command, **how):
 
 def built(name, *command):
     ran = run(*command)
-    return case(name, ran.returncode == 0 and not ran.stderr, ran.stderr.decode(errors="replace")[-2000:])
+    return case(
+        name, ran.returncode == 0 and not ran.stderr, ran.stderr.decode(errors="replace")[-2000:]
+    )
 
 
 def kit():
@@ -67,7 +69,11 @@ def made(workload, size, seed, folder):
     """The path of a script, and of the program's replies to it."""
     script, replies = f"{folder}/{workload}", f"{folder}/{workload}.replies"
     with open(script, "wb") as out:
-        subprocess.run([sys.executable, f"{TOP}/bench/make_script.py", workload, str(size), str(seed)], stdout=out, check=True)
+        subprocess.run(
+            [sys.executable, f"{TOP}/bench/make_script.py", workload, str(size), str(seed)],
+            stdout=out,
+            check=True,
+        )
     with open(script, "rb") as source, open(replies, "wb") as out:
         subprocess.run([PROGRAM, "run", "64"], stdin=source, stdout=out, check=True)
     return script, replies
@@ -87,57 +93,186 @@ def headers(folder):
             source = f"{folder}/header.{'c' if compiler == 'cc' else 'cc'}"
             with open(source, "w") as out:
                 out.write(f'#include "{EMBED}/tb_embed.h"\n')
-            built(f"the header by {compiler}, its structs asserted", compiler, word, *CAREFUL, "-c", source, "-o", f"{folder}/header.o")
+            built(
+                f"the header by {compiler}, its structs asserted",
+                compiler,
+                word,
+                *CAREFUL,
+                "-c",
+                source,
+                "-o",
+                f"{folder}/header.o",
+            )
 
 
 def programs(folder):
-    """The programs that serve a script, each as the words of its command before CLIENTS_MAX and PROFILE. The first requests are built
-    beside them, as first_c, first_asan and first_rs."""
+    """The programs that serve a script, each as the words of its command before CLIENTS_MAX and
+    PROFILE. The first requests are built beside them, as first_c, first_asan and first_rs."""
     heap = f"{kit()}/c/liblibc_c.a"
     found, shared = {}, f"{folder}/libtb_embed.so"
     flags = ["-O2", "-Wall", "-Wextra", "-Werror", "-std=gnu11"]
-    built("the first requests in C", "cc", "-O2", "-std=c11", *CAREFUL, f"{EMBED}/c/first.c", LIBRARY, heap, "-o", f"{folder}/first_c")
-    if built("the script in C", "cc", *flags, f"{EMBED}/c/script.c", LIBRARY, heap, "-o", f"{folder}/script_c"):
+    built(
+        "the first requests in C",
+        "cc",
+        "-O2",
+        "-std=c11",
+        *CAREFUL,
+        f"{EMBED}/c/first.c",
+        LIBRARY,
+        heap,
+        "-o",
+        f"{folder}/first_c",
+    )
+    if built(
+        "the script in C",
+        "cc",
+        *flags,
+        f"{EMBED}/c/script.c",
+        LIBRARY,
+        heap,
+        "-o",
+        f"{folder}/script_c",
+    ):
         found["C"] = [f"{folder}/script_c"]
     sanitizers = "-fsanitize=address,undefined"
-    if run("cc", sanitizers, "-x", "c", "-", "-o", f"{folder}/empty", input=b"int main(void) { return 0; }").returncode:
+    if run(
+        "cc",
+        sanitizers,
+        "-x",
+        "c",
+        "-",
+        "-o",
+        f"{folder}/empty",
+        input=b"int main(void) { return 0; }",
+    ).returncode:
         print("passed over: cc has no AddressSanitizer here")
     else:
-        built("the first requests in C under AddressSanitizer", "cc", *flags, "-g", sanitizers, f"{EMBED}/c/first.c", LIBRARY, heap, "-o", f"{folder}/first_asan")
-        if built("the script in C under AddressSanitizer", "cc", *flags, "-g", sanitizers, f"{EMBED}/c/script.c", LIBRARY, heap, "-o", f"{folder}/script_asan"):
+        built(
+            "the first requests in C under AddressSanitizer",
+            "cc",
+            *flags,
+            "-g",
+            sanitizers,
+            f"{EMBED}/c/first.c",
+            LIBRARY,
+            heap,
+            "-o",
+            f"{folder}/first_asan",
+        )
+        if built(
+            "the script in C under AddressSanitizer",
+            "cc",
+            *flags,
+            "-g",
+            sanitizers,
+            f"{EMBED}/c/script.c",
+            LIBRARY,
+            heap,
+            "-o",
+            f"{folder}/script_asan",
+        ):
             found["C under AddressSanitizer"] = [f"{folder}/script_asan"]
     if has("rustc"):
         words = ["rustc", "--edition", "2024", "-O", "-C", "target-cpu=x86-64-v2"]
-        inside = ["-L", f"native={os.path.dirname(LIBRARY)}", "-l", "static=tb_embed", "-L", f"native={os.path.dirname(heap)}", "-l", "static=libc_c"]
-        wrapper = built("the wrapper in Rust", *words, "--crate-type", "lib", "--crate-name", "tb_embed", f"{EMBED}/rust/tb_embed.rs", *inside, "-o", f"{folder}/libtb_embed.rlib")
+        inside = [
+            "-L",
+            f"native={os.path.dirname(LIBRARY)}",
+            "-l",
+            "static=tb_embed",
+            "-L",
+            f"native={os.path.dirname(heap)}",
+            "-l",
+            "static=libc_c",
+        ]
+        wrapper = built(
+            "the wrapper in Rust",
+            *words,
+            "--crate-type",
+            "lib",
+            "--crate-name",
+            "tb_embed",
+            f"{EMBED}/rust/tb_embed.rs",
+            *inside,
+            "-o",
+            f"{folder}/libtb_embed.rlib",
+        )
         linked = ["--extern", f"tb_embed={folder}/libtb_embed.rlib"]
-        if wrapper and built("the script in Rust", *words, f"{EMBED}/rust/script.rs", *linked, "-o", f"{folder}/script_rs"):
+        if wrapper and built(
+            "the script in Rust",
+            *words,
+            f"{EMBED}/rust/script.rs",
+            *linked,
+            "-o",
+            f"{folder}/script_rs",
+        ):
             found["Rust"] = [f"{folder}/script_rs"]
-            built("the first requests in Rust", *words, f"{EMBED}/rust/first.rs", *linked, "-o", f"{folder}/first_rs")
-            for what, name in (("servers in threads, in Rust", "threads"), ("what goes wrong, in Rust", "errors")):
-                built(what, *words, f"{TOP}/checks/embed/{name}.rs", *linked, "-o", f"{folder}/{name}")
-    whole = ["-Wl,--whole-archive", LIBRARY, "-Wl,--no-whole-archive", heap, f"-Wl,--version-script={EMBED}/tb_embed.map", "-Wl,-z,defs"]
+            built(
+                "the first requests in Rust",
+                *words,
+                f"{EMBED}/rust/first.rs",
+                *linked,
+                "-o",
+                f"{folder}/first_rs",
+            )
+            for what, name in (
+                ("servers in threads, in Rust", "threads"),
+                ("what goes wrong, in Rust", "errors"),
+            ):
+                built(
+                    what, *words, f"{TOP}/checks/embed/{name}.rs", *linked, "-o", f"{folder}/{name}"
+                )
+    whole = [
+        "-Wl,--whole-archive",
+        LIBRARY,
+        "-Wl,--no-whole-archive",
+        heap,
+        f"-Wl,--version-script={EMBED}/tb_embed.map",
+        "-Wl,-z,defs",
+    ]
     if built("the shared object", "cc", "-shared", *whole, "-o", shared):
         shown = run("nm", "-D", "--defined-only", shared).stdout.decode().split()[2::3]
         calls = [f"tb_embed_{it}" for it in ("account", "close", "open", "serve", "transfer")]
         case("the shared object shows the calls alone", sorted(shown) == calls, " ".join(shown))
         found["Python"] = [sys.executable, f"{EMBED}/python/script.py", shared]
-    careful = ["cc", *flags, "-Wl,--wrap=malloc,--wrap=realloc", f"{TOP}/checks/embed/careful.c", LIBRARY, heap, "-o", f"{folder}/careful"]
+    careful = [
+        "cc",
+        *flags,
+        "-Wl,--wrap=malloc,--wrap=realloc",
+        f"{TOP}/checks/embed/careful.c",
+        LIBRARY,
+        heap,
+        "-o",
+        f"{folder}/careful",
+    ]
     built("the careful caller in C", *careful)
     return found
 
 
 def first_requests(folder):
     """What the examples print, and that the page shows it."""
-    runs = {language: [f"{folder}/{name}"] for language, name in (("C", "first_c"), ("C under AddressSanitizer", "first_asan"), ("Rust", "first_rs"))}
+    runs = {
+        language: [f"{folder}/{name}"]
+        for language, name in (
+            ("C", "first_c"),
+            ("C under AddressSanitizer", "first_asan"),
+            ("Rust", "first_rs"),
+        )
+    }
     runs = {language: words for language, words in runs.items() if os.path.exists(words[0])}
     if os.path.exists(f"{folder}/libtb_embed.so"):
         runs["Python"] = [sys.executable, f"{EMBED}/python/first.py", f"{folder}/libtb_embed.so"]
     for language, words in runs.items():
         ran = run(*words)
         holds = (ran.returncode, ran.stdout, ran.stderr) == (0, FIRST.encode(), b"")
-        case(f"the first requests in {language}", holds, "" if holds else (ran.stdout + ran.stderr).decode(errors="replace"))
-    case("the page shows what the first requests print", f"```text\n{FIRST}```" in read(f"{TOP}/docs/use/EMBEDDING.md").decode())
+        case(
+            f"the first requests in {language}",
+            holds,
+            "" if holds else (ran.stdout + ran.stderr).decode(errors="replace"),
+        )
+    case(
+        "the page shows what the first requests print",
+        f"```text\n{FIRST}```" in read(f"{TOP}/docs/use/EMBEDDING.md").decode(),
+    )
 
 
 def served(found, script, replies, what, *words):
@@ -145,7 +280,11 @@ def served(found, script, replies, what, *words):
     for language, command in found.items():
         with open(script, "rb") as source:
             ran = subprocess.run([*command, *words], stdin=source, capture_output=True, timeout=300)
-        case(f"{what} in {language}", (ran.returncode, ran.stdout, ran.stderr) == (0, wanted, b""), ran.stderr.decode(errors="replace")[-2000:])
+        case(
+            f"{what} in {language}",
+            (ran.returncode, ran.stdout, ran.stderr) == (0, wanted, b""),
+            ran.stderr.decode(errors="replace")[-2000:],
+        )
 
 
 FORGETFUL = """#include "{header}"
@@ -162,11 +301,31 @@ int main(void) {{
 
 def leaks(folder):
     """AddressSanitizer tells a server that was not closed, and nothing where it was closed."""
-    for what, close, status in (("a server that is not closed leaks", "", 1), ("a closed one does not", "tb_embed_close(server);", 0)):
+    for what, close, status in (
+        ("a server that is not closed leaks", "", 1),
+        ("a closed one does not", "tb_embed_close(server);", 0),
+    ):
         source = FORGETFUL.format(header=f"{EMBED}/tb_embed.h", close=close).encode()
-        run("cc", "-fsanitize=address", "-x", "c", "-", "-x", "none", LIBRARY, f"{kit()}/c/liblibc_c.a", "-o", f"{folder}/forgetful", input=source)
+        run(
+            "cc",
+            "-fsanitize=address",
+            "-x",
+            "c",
+            "-",
+            "-x",
+            "none",
+            LIBRARY,
+            f"{kit()}/c/liblibc_c.a",
+            "-o",
+            f"{folder}/forgetful",
+            input=source,
+        )
         ran = run(f"{folder}/forgetful")
-        case(what, (ran.returncode != 0, b"leaked in" in ran.stderr) == (bool(status), bool(status)), ran.stderr.decode(errors="replace")[-300:] if not status else "")
+        case(
+            what,
+            (ran.returncode != 0, b"leaked in" in ran.stderr) == (bool(status), bool(status)),
+            ran.stderr.decode(errors="replace")[-300:] if not status else "",
+        )
 
 
 def careful(folder, mode, script, replies, what):
@@ -175,33 +334,51 @@ def careful(folder, mode, script, replies, what):
 
 
 def threads(folder, script, replies):
-    """Servers of their own in four threads, and one that four threads share under a mutex, each request sent twice."""
+    """Servers of their own in four threads, and one that four threads share under a mutex, each
+    request sent twice."""
     if os.path.exists(f"{folder}/threads"):
         ran = run(f"{folder}/threads", script, replies)
-        case("servers in threads", (ran.returncode, ran.stdout) == (0, b"credits_posted of account 2: 800\n"), (ran.stdout + ran.stderr).decode(errors="replace")[-500:].strip())
+        case(
+            "servers in threads",
+            (ran.returncode, ran.stdout) == (0, b"credits_posted of account 2: 800\n"),
+            (ran.stdout + ran.stderr).decode(errors="replace")[-500:].strip(),
+        )
 
 
 def errors(folder):
     """What the wrapper in Rust answers where a request is wrong, refused, or not served."""
     if os.path.exists(f"{folder}/errors"):
         ran = run(f"{folder}/errors")
-        case("errors by name, in Rust", (ran.returncode, ran.stdout, ran.stderr) == (0, b"ok\n", b""), ran.stderr.decode(errors="replace")[-1000:])
+        case(
+            "errors by name, in Rust",
+            (ran.returncode, ran.stdout, ran.stderr) == (0, b"ok\n", b""),
+            ran.stderr.decode(errors="replace")[-1000:],
+        )
 
 
 def client(shared):
-    """The client of clients/python, over the embedded server: a lost request and a lost reply, and the money moved once."""
+    """The client of clients/python, over the embedded server: a lost request and a lost reply,
+    and the money moved once."""
     from tb_client import Account, Direct, Faulty, InvalidValue, Session, Transfer, require_ok
     from tb_embed import Closed, Refused, Server
 
     with Server(shared, clients_max=2) as server:
-        session = Session.register(Faulty(Direct(server.serve), requests=[3], replies=[4]), 7, now=lambda: 10)
+        session = Session.register(
+            Faulty(Direct(server.serve), requests=[3], replies=[4]), 7, now=lambda: 10
+        )
         require_ok(session.create_accounts([Account(id, ledger=700, code=10) for id in (1, 2)]))
         require_ok(session.create_transfers([Transfer(11, 1, 2, 100, ledger=700, code=10)]))
         looked_up = session.lookup_accounts([1, 2])
         shown = [Account.from_bytes(server.account(id)) for id in (1, 2)]
-        case("Python's client over the embedded server", looked_up == shown and shown[0].debits_posted == 100 and server.account(3) is None)
+        case(
+            "Python's client over the embedded server",
+            looked_up == shown and shown[0].debits_posted == 100 and server.account(3) is None,
+        )
         moved = Transfer.from_bytes(server.transfer(11))
-        case("the transfer as it was recorded", (moved.amount, moved.timestamp, server.transfer(12)) == (100, 13, None))
+        case(
+            "the transfer as it was recorded",
+            (moved.amount, moved.timestamp, server.transfer(12)) == (100, 13, None),
+        )
         try:
             server.serve(10, b"no frame")
             case("bytes that are no frame", False)
@@ -220,17 +397,22 @@ def client(shared):
 
 
 def damaged(shared):
-    """The second frame of the first script with bytes changed at random: malformed where `tbs` finds a fault in it, else the
-    reply that `tbs` gives. A wrong length is always malformed: the bytes are one frame, and no stream."""
+    """The second frame of the first script with bytes changed at random: malformed where `tbs`
+    finds a fault in it, else the reply that `tbs` gives. A wrong length is always malformed: the
+    bytes are one frame, and no stream."""
     from tb_embed import Refused, Server
 
     script, chance, same, faults = read(f"{TOP}/examples/first.script"), random.Random(5), True, 0
     for _ in range(300):
         frame = bytearray(script[64:368])
         for _ in range(chance.choice((1, 1, 2))):
-            frame[chance.randrange(56 if chance.random() < 0.7 else len(frame))] = chance.choice((0, 1, 2, 129, 130, 131, 255))
+            frame[chance.randrange(56 if chance.random() < 0.7 else len(frame))] = chance.choice(
+                (0, 1, 2, 129, 130, 131, 255)
+            )
         wrong_length = frame[32:36] != script[96:100]
-        ran = subprocess.run([PROGRAM, "run", "2"], input=script[:64] + bytes(frame), capture_output=True)
+        ran = subprocess.run(
+            [PROGRAM, "run", "2"], input=script[:64] + bytes(frame), capture_output=True
+        )
         malformed = wrong_length or ran.returncode == 2
         with Server(shared, clients_max=2) as server:
             first = server.serve(10, script[8:56])
@@ -243,11 +425,16 @@ def damaged(shared):
 
 
 def calls_a_second(found, folder):
-    """Requests of one transfer; the processor of a busy machine makes these numbers low, so compare them with each other."""
+    """Requests of one transfer; the processor of a busy machine makes these numbers low, so
+    compare them with each other."""
     script, replies = made("single", 100000, 1, folder)
     careful(folder, "time", script, replies, "calls a second in C, replies compared")
     count = 110000 + 61
-    for language, command in (("Rust, by pipes", found.get("Rust")), ("Python, by pipes", found.get("Python")), ("tbs run, by files", [PROGRAM, "run"])):
+    for language, command in (
+        ("Rust, by pipes", found.get("Rust")),
+        ("Python, by pipes", found.get("Python")),
+        ("tbs run, by files", [PROGRAM, "run"]),
+    ):
         if command:
             least = 1e9
             for _ in range(3):
@@ -255,11 +442,17 @@ def calls_a_second(found, folder):
                     start = time.monotonic()
                     subprocess.run([*command, "64"], stdin=source, stdout=sink, check=True)
                     least = min(least, time.monotonic() - start)
-            print(f"calls a second in {language}, with starting and reading: {1e-6 * count / least:.2f} million")
+            print(
+                f"calls a second in {language}, with starting and reading: "
+                f"{1e-6 * count / least:.2f} million"
+            )
 
 
 def main():
-    for path, how in ((LIBRARY, "`rt lib` in crates/tb_embed"), (PROGRAM, "`rt run` in crates/tbs")):
+    for path, how in (
+        (LIBRARY, "`rt lib` in crates/tb_embed"),
+        (PROGRAM, "`rt run` in crates/tbs"),
+    ):
         if not os.path.exists(path):
             sys.exit(f"{path} is not there: {how} builds it")
     for part in (names.comparisons(), frames.cases()):
@@ -275,7 +468,12 @@ def main():
         served(found, *mixed, "a random script of everything, right and wrong,", "64")
         careful(folder, "small", *mixed, "a room too small by one byte")
         careful(folder, "memory", *first, "each allocation failing, in the first script")
-        careful(folder, "memory", *made("mixed", 120, 3, folder), "each allocation failing, in a random script")
+        careful(
+            folder,
+            "memory",
+            *made("mixed", 120, 3, folder),
+            "each allocation failing, in a random script",
+        )
         if "C under AddressSanitizer" in found:
             leaks(folder)
         threads(folder, *mixed)

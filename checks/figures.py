@@ -1,12 +1,13 @@
 #!/usr/bin/env python3
 """Writes the figures that pages quote from docs/work/runs.csv, and checks that they are up to date.
 
-    checks/figures.py           ends in 'N passed, 0 failed'; a line for each block that is not what runs.csv gives
-    checks/figures.py --write   writes the blocks
+    checks/figures.py           ends in 'N passed, 0 failed'; a line for each block that is not what
+    runs.csv gives checks/figures.py --write   writes the blocks
 
-A row of runs.csv is one run of the gate, of a crate, of a benchmark or of a check; docs/work/PROVING.md has its columns. A block of a
-page stands between `<!-- figures: NAME -->` and `<!-- end of figures -->`. A block that no page has, a block without a writer, a row
-with an unknown kind, without a date or with a commit that git does not know are failures too.
+A row of runs.csv is one run of the gate, of a crate, of a benchmark or of a check;
+docs/work/PROVING.md has its columns. A block of a page stands between `<!-- figures: NAME -->` and
+`<!-- end of figures -->`. A block that no page has, a block without a writer, a row with an unknown
+kind, without a date or with a commit that git does not know are failures too.
 """
 import collections
 import csv
@@ -19,10 +20,36 @@ import tried
 
 ROOT = pathlib.Path(__file__).resolve().parent.parent
 RUNS = ROOT / "docs/work/runs.csv"
-COLUMNS = ["kind", "date", "commit", "kit", "machine", "subject", "peer", "size", "value", "unit",
-           "cpu_minutes", "passed", "failed", "note"]
-KINDS = {"gate", "start", "crate", "bench", "bound", "instructions", "reads", "check", "edits", "edit",
-         "mutants", "form"}
+COLUMNS = [
+    "kind",
+    "date",
+    "commit",
+    "kit",
+    "machine",
+    "subject",
+    "peer",
+    "size",
+    "value",
+    "unit",
+    "cpu_minutes",
+    "passed",
+    "failed",
+    "note",
+]
+KINDS = {
+    "gate",
+    "start",
+    "crate",
+    "bench",
+    "bound",
+    "instructions",
+    "reads",
+    "check",
+    "edits",
+    "edit",
+    "mutants",
+    "form",
+}
 BLOCK = re.compile(r"(<!-- figures: (\w+) -->\n)(.*?)(<!-- end of figures -->)", re.S)
 LOADS = {
     "rising": "rising: batches of 8190, rising ids",
@@ -69,8 +96,10 @@ def state() -> str:
     last, whole = runs[0], next(row for row in runs if is_whole(row))
     first = {row["machine"]: row for row in of_kind("start") if "tb_script" in row["subject"]}
     return (
-        f"Version {version()} (CHANGELOG.md). The last `rt ci` ({when(last)}) ended in {outcome(last)}; the last whole one that was green\n"
-        f"({when(whole)}) took {whole['value']} minutes on four cores. The first line took {first['fast']['value']} to {first['slow']['value']} minutes in an "
+        f"Version {version()} (CHANGELOG.md). The last `rt ci` ({when(last)}) ended in "
+        f"{outcome(last)}; the last whole one that was green\n"
+        f"({when(whole)}) took {whole['value']} minutes on four cores. The first line took "
+        f"{first['fast']['value']} to {first['slow']['value']} minutes in an "
         "earlier, shorter form (docs/work/PROVING.md).\n"
     )
 
@@ -83,15 +112,21 @@ def version() -> str:
 def gate() -> str:
     """The last runs of the gate; runs.csv has those before."""
     lines = [
-        f"| {row['date']} | {row['commit']} | {row['kit']} | {row['machine']} | {row['subject']} | {outcome(row)} | "
+        f"| {row['date']} | {row['commit']} | {row['kit']} | {row['machine']} | {row['subject']} "
+        f"| {outcome(row)} | "
         f"{row['value']} | {row['cpu_minutes']} | {row['note']} |"
         for row in of_kind("gate")[:6]
     ]
-    return table("| Date | Commit | Kit | Machine | Command | Result | Minutes | CPU minutes | |", lines)
+    return table(
+        "| Date | Commit | Kit | Machine | Command | Result | Minutes | CPU minutes | |", lines
+    )
 
 
 def first_reply() -> str:
-    lines = [f"| {row['subject']} | {row['machine']} | {row['value']} | {row['note']} |" for row in of_kind("start")]
+    lines = [
+        f"| {row['subject']} | {row['machine']} | {row['value']} | {row['note']} |"
+        for row in of_kind("start")
+    ]
     return table("| To a first reply, on a fresh clone | Machine | Minutes | |", lines)
 
 
@@ -101,9 +136,14 @@ def crates() -> str:
     for row in of_kind("crate"):
         minutes[row["subject"]][row["machine"]] = row["value"]
     fast = sorted(minutes, key=lambda it: -float(minutes[it].get("fast", "0")))
-    lines = [f"| {it} | {minutes[it].get('slow', '')} | {minutes[it].get('fast', '')} |" for it in fast[:12]]
+    lines = [
+        f"| {it} | {minutes[it].get('slow', '')} | {minutes[it].get('fast', '')} |"
+        for it in fast[:12]
+    ]
     for name, those in ((f"the other {len(fast) - 12}", fast[12:]), ("all", fast)):
-        total = [sum(float(minutes[it].get(machine, 0)) for it in those) for machine in ("slow", "fast")]
+        total = [
+            sum(float(minutes[it].get(machine, 0)) for it in those) for machine in ("slow", "fast")
+        ]
         lines.append(f"| {name} | {total[0]:.1f} | {total[1]:.1f} |")
     return table("| Crate | slow machine | fast machine |", lines)
 
@@ -111,15 +151,27 @@ def crates() -> str:
 def edits() -> str:
     """The must-fail edits of each crate, and at what the last try refused those of the release."""
     lines = [
-        f"| {it['subject']} | {it['value']} | {it['passed']} | {' | '.join(re.findall(r'[0-9]+', it['note']))} |" for it in of_kind("edit")
+        f"| {it['subject']} | {it['value']} | {it['passed']} | "
+        f"{' | '.join(re.findall(r'[0-9]+', it['note']))} |"
+        for it in of_kind("edit")
     ]
     last, count = of_kind("edits")[0], sum(int(it["value"]) for it in of_kind("edit"))
-    tried_last = f"Last tried: {when(last)}. {last['passed']} of {count} were refused ({last['note']}).\n\n"
-    return tried_last + table("| Crate | Edits | In the gate | Of the release: at a printed goal | inside an answer | at a limit |", lines)
+    tried_last = (
+        f"Last tried: {when(last)}. {last['passed']} of {count} were refused ({last['note']}).\n\n"
+    )
+    return tried_last + table(
+        "| Crate | Edits | In the gate | Of the release: at a printed goal | inside an answer | "
+        "at a limit |",
+        lines,
+    )
 
 
 def ratio(subject: str, peer: str, size: str, kind: str = "bench") -> str:
-    found = [it for it in of_kind(kind) if (it["subject"], it["peer"], it["size"]) == (subject, peer, size)]
+    found = [
+        it
+        for it in of_kind(kind)
+        if (it["subject"], it["peer"], it["size"]) == (subject, peer, size)
+    ]
     return found[0]["value"] if found else "none"
 
 
@@ -127,46 +179,77 @@ def run() -> str:
     """CPU time of `tbs run`, compared with both baselines."""
     lines = []
     for load, text in LOADS.items():
-        cells = [ratio(f"tbs run, {load}", peer, size) for size in ("100000", "1000000") for peer in ("plain.rs", "lean.rs")]
-        cells += [ratio(f"tbs run, {load}", "plain.rs", size, "bound") for size in ("100000", "1000000")]
+        cells = [
+            ratio(f"tbs run, {load}", peer, size)
+            for size in ("100000", "1000000")
+            for peer in ("plain.rs", "lean.rs")
+        ]
+        cells += [
+            ratio(f"tbs run, {load}", "plain.rs", size, "bound") for size in ("100000", "1000000")
+        ]
         lines.append(f"| {text} | {' | '.join(cells)} |")
-    head = "| Load | 100,000: over plain.rs | over lean.rs | 1,000,000: over plain.rs | over lean.rs | bound over plain.rs, 100,000 | 1,000,000 |"
+    head = (
+        "| Load | 100,000: over plain.rs | over lean.rs | 1,000,000: over plain.rs | over lean.rs | "
+        "bound over plain.rs, 100,000 | 1,000,000 |"
+    )
     return table(head, lines)
 
 
 def instructions() -> str:
     lines = []
     for load, text in LOADS.items():
-        mine, plain, lean = (int(ratio(f"run, {load}", it, "20000", "instructions")) for it in ("tbs", "plain.rs", "lean.rs"))
-        lines.append(f"| {text} | {mine:,} | {plain:,} | {lean:,} | {mine / plain:.2f} | {mine / lean:.2f} |")
+        mine, plain, lean = (
+            int(ratio(f"run, {load}", it, "20000", "instructions"))
+            for it in ("tbs", "plain.rs", "lean.rs")
+        )
+        lines.append(
+            f"| {text} | {mine:,} | {plain:,} | {lean:,} | {mine / plain:.2f} | {mine / lean:.2f} |"
+        )
     return table("| Load | tbs | plain.rs | lean.rs | over plain.rs | over lean.rs |", lines)
 
 
 def takes() -> str:
     wanted = {it["subject"]: it["value"] for it in of_kind("bound")}
-    lines = [f"| {it['subject']} | {it['value']} | {wanted.get(it['subject'], '')} |" for it in of_kind("bench") if it["peer"] == "apply"]
+    lines = [
+        f"| {it['subject']} | {it['value']} | {wanted.get(it['subject'], '')} |"
+        for it in of_kind("bench")
+        if it["peer"] == "apply"
+    ]
     return table("| | CPU time over that of an apply | bound |", lines)
 
 
 def ports() -> str:
     wanted = {it["subject"]: it["value"] for it in of_kind("bound")}
     lines = [
-        f"| {it['subject']} | {it['value']} | {wanted.get(it['subject'].split(',')[0], '')} | {it['note']} |"
-        for it in of_kind("bench") if it["peer"] == "Mutex"
+        f"| {it['subject']} | {it['value']} | {wanted.get(it['subject'].split(',')[0], '')} | "
+        f"{it['note']} |"
+        for it in of_kind("bench")
+        if it["peer"] == "Mutex"
     ]
     return table("| Ports | time over that behind a Mutex | bound | |", lines)
 
 
 def checks() -> str:
-    lines = [f"| {it['subject']} | {when(it)} | {it['passed']} passed, {it['failed']} failed {it['note']} |" for it in of_kind("check")]
-    return table("| Check of the built programs | Last run | Result |", [re.sub(r" +\|", " |", it) for it in lines])
+    lines = [
+        f"| {it['subject']} | {when(it)} | {it['passed']} passed, {it['failed']} failed "
+        f"{it['note']} |"
+        for it in of_kind("check")
+    ]
+    return table(
+        "| Check of the built programs | Last run | Result |",
+        [re.sub(r" +\|", " |", it) for it in lines],
+    )
 
 
 def mutants() -> str:
     found = of_kind("mutants")
     if not found:
         return "No run of mutation testing is recorded in runs.csv yet.\n"
-    lines = [f"| {it['subject']} | {when(it)} | {it['passed']} caught, {it['failed']} not | {it['note']} |" for it in found]
+    lines = [
+        f"| {it['subject']} | {when(it)} | {it['passed']} caught, {it['failed']} not | "
+        f"{it['note']} |"
+        for it in found
+    ]
     return table("| Mutants of | Run | Result | |", lines)
 
 
@@ -177,11 +260,30 @@ def form() -> str:
     for it in of_kind("form"):
         by_subject[it["subject"]][it["commit"]] = it["value"]
         by_subject[it["subject"]].setdefault("bound", it["note"])
-    lines = [f"| {it} | {found['bound']} | {' | '.join(found.get(at, '') for at in commits)} |" for it, found in by_subject.items()]
+    lines = [
+        f"| {it} | {found['bound']} | {' | '.join(found.get(at, '') for at in commits)} |"
+        for it, found in by_subject.items()
+    ]
     return table(f"| Figure | Wanted | {' | '.join(commits)} |", lines)
 
 
-WRITERS = {it.__name__: it for it in (state, gate, first_reply, crates, edits, run, instructions, takes, ports, checks, mutants, form)}
+WRITERS = {
+    it.__name__: it
+    for it in (
+        state,
+        gate,
+        first_reply,
+        crates,
+        edits,
+        run,
+        instructions,
+        takes,
+        ports,
+        checks,
+        mutants,
+        form,
+    )
+}
 
 
 def pages() -> list[pathlib.Path]:
@@ -189,14 +291,24 @@ def pages() -> list[pathlib.Path]:
 
 
 def check_rows() -> None:
-    """Each row has a known kind, and where it is a run a date and a commit that is in the history."""
+    """Each row has a known kind, and where it is a run a date and a commit that is in the
+    history."""
     for number, row in enumerate(rows(), 2):
         wrong = [] if list(row) == COLUMNS and None not in row else ["other columns"]
         wrong += [] if row["kind"] in KINDS else [f"unknown kind {row['kind']}"]
-        wrong += [] if row["kind"] == "bound" or re.fullmatch(r"\d{4}-\d\d-\d\d", row["date"]) else ["no date"]
+        wrong += (
+            []
+            if row["kind"] == "bound" or re.fullmatch(r"\d{4}-\d\d-\d\d", row["date"])
+            else ["no date"]
+        )
         tried.case(f"runs.csv, line {number}", not wrong, ", ".join(wrong), quietly=True)
     for commit in sorted({row["commit"] for row in rows()} - {""}):
-        known = subprocess.run(["git", "-C", ROOT, "cat-file", "-e", f"{commit}^{{commit}}"], capture_output=True).returncode == 0
+        known = (
+            subprocess.run(
+                ["git", "-C", ROOT, "cat-file", "-e", f"{commit}^{{commit}}"], capture_output=True
+            ).returncode
+            == 0
+        )
         tried.case(f"runs.csv: commit {commit}", known, "git does not know it", quietly=True)
 
 
@@ -210,8 +322,14 @@ def main() -> int:
             seen.add(found[2])
             block = WRITERS[found[2]]() if found[2] in WRITERS else found[3]
             holds = found[2] in WRITERS and (writes or block == found[3])
-            tried.case(f"{page.relative_to(ROOT)}: {found[2]}", holds, "not what runs.csv gives: checks/figures.py --write", quietly=True)
+            tried.case(
+                f"{page.relative_to(ROOT)}: {found[2]}",
+                holds,
+                "not what runs.csv gives: checks/figures.py --write",
+                quietly=True,
+            )
             return found[1] + block + found[4]
+
         new = BLOCK.sub(written, text)
         if writes and new != text:
             page.write_text(new)

@@ -1,12 +1,15 @@
 #!/usr/bin/env python3
-"""Runs the gate and tells what it took: processor minutes of each crate by its passes, as a table in Markdown.
+"""Runs the gate and tells what it took: processor minutes of each crate by its passes, as a table
+in Markdown.
 
     python3 checks/gate.py [--log FILE] [WORD ..]
 
-The words are given to `rt ci` (`--anew` proves all; names prove these crates and those below them alone). What it prints goes to FILE, its
-last lines and the table to standard output. "Proof" is the proof of a library or program and its building, "tests" the second proof of a
-crate with its tests, "base" the proof over which its edits are tried, "edits" all tries of its edits. Twice a second the script
-looks at the provers that run and at what they have used, so what a prover uses in its last half second is not counted.
+The words are given to `rt ci` (`--anew` proves all; names prove these crates and those below them
+alone). What it prints goes to FILE, its last lines and the table to standard output. "Proof" is the
+proof of a library or program and its building, "tests" the second proof of a crate with its tests,
+"base" the proof over which its edits are tried, "edits" all tries of its edits. Twice a second the
+script looks at the provers that run and at what they have used, so what a prover uses in its last
+half second is not counted.
 """
 import argparse
 import os
@@ -22,7 +25,8 @@ PAUSE = 0.5
 
 
 def stat_of(pid):
-    """The parent of a process, and the seconds that it and the children that it waited for have used."""
+    """The parent of a process, and the seconds that it and the children that it waited for have
+    used."""
     with open(f"/proc/{pid}/stat", encoding="utf-8", errors="replace") as file:
         fields = file.read().rpartition(")")[2].split()
     own, waited = sum(map(int, fields[11:13])), sum(map(int, fields[13:15]))
@@ -46,7 +50,8 @@ def pass_of(pid, words):
 
 
 def processes():
-    """All processes that can be looked at: by number, its parent, its seconds, those of its children that ended, its words."""
+    """All processes that can be looked at: by number, its parent, its seconds, those of its
+    children that ended, its words."""
     found = {}
     for name in filter(str.isdigit, os.listdir("/proc")):
         try:
@@ -67,7 +72,8 @@ def below(found, top):
 
 
 def look(gate, used):
-    """Notes what each prover below the gate has used so far. Those below a prover are its own forks."""
+    """Notes what each prover below the gate has used so far. Those below a prover are its own
+    forks."""
     found = processes()
     for pid in below(found, gate):
         try:
@@ -94,11 +100,19 @@ def table(used):
 
 def main():
     parser = argparse.ArgumentParser(description=__doc__.splitlines()[0])
-    parser.add_argument("--log", default="/tmp/gate.log", help="where what the gate prints goes (/tmp/gate.log)")
+    parser.add_argument(
+        "--log", default="/tmp/gate.log", help="where what the gate prints goes (/tmp/gate.log)"
+    )
     options, words = parser.parse_known_args()
     begun, used = time.monotonic(), {}
     with open(options.log, "w", encoding="utf-8") as log:
-        gate = subprocess.Popen(["rt", "ci", *words], cwd=ROOT, stdin=subprocess.DEVNULL, stdout=log, stderr=subprocess.STDOUT)
+        gate = subprocess.Popen(
+            ["rt", "ci", *words],
+            cwd=ROOT,
+            stdin=subprocess.DEVNULL,
+            stdout=log,
+            stderr=subprocess.STDOUT,
+        )
         while gate.poll() is None:
             look(gate.pid, used)
             time.sleep(PAUSE)

@@ -1,15 +1,17 @@
 #!/usr/bin/env python3
 """Checks what pages say of the code, as far as a search can tell.
 
-- Each Rust example of a page CALLING.md stands word for word, but for its imports, in a crate that the gate proves.
-- The head of each crate's lib.rt or main.rt lists the modules of that crate, all of them and no other; where it lists those of a module,
-  these too.
+- Each Rust example of a page CALLING.md stands word for word, but for its imports, in a crate that
+  the gate proves.
+- The head of each crate's lib.rt or main.rt lists the modules of that crate, all of them and no
+  other; where it lists those of a module, these too.
 - The first statements of README.md are those of examples/retry.text, which its first command reads.
-- Each name that a walk of docs/work/ARCHITECTURE.md gives as `module::function` or `Type::call` is there, in the crate that stands before it;
-  so is each file that docs/work/ARCHITECTURE.md names, with the names in brackets behind it, or before it as `name of` it.
+- Each name that a walk of docs/work/ARCHITECTURE.md gives as `module::function` or `Type::call` is
+  there, in the crate that stands before it; so is each file that docs/work/ARCHITECTURE.md names,
+  with the names in brackets behind it, or before it as `name of` it.
 - Each definition that docs/trust/BELIEVE.md lists is in the file that it names.
-- Each name that docs/work/GLOSSARY.md gives a word in the code stands in the sources, the definitions or the Python client, and
-  where it gives a crate with the name, there.
+- Each name that docs/work/GLOSSARY.md gives a word in the code stands in the sources, the
+  definitions or the Python client, and where it gives a crate with the name, there.
 
 Usage: checks/pages.py. Ends in 'N passed, 0 failed'. checks/blocks.py looks at the examples too.
 """
@@ -32,7 +34,7 @@ def without_imports(block: str) -> str:
     """The example behind its last import."""
     lines = block.splitlines(keepends=True)
     imports = [at for at, line in enumerate(lines) if line.startswith(("use ", "ghost use "))]
-    return "".join(lines[imports[-1] + 1 if imports else 0:]).lstrip("\n")
+    return "".join(lines[imports[-1] + 1 if imports else 0 :]).lstrip("\n")
 
 
 @functools.cache
@@ -50,7 +52,9 @@ def examples():
     """Each example: where it stands, and what is wrong with it."""
     for page in sorted(ROOT.glob("crates/*/CALLING.md")):
         for block in BLOCK.findall(page.read_text()):
-            yield page.relative_to(ROOT), None if stands(block) else f"stands in no caller: {block.splitlines()[0]}"
+            yield page.relative_to(ROOT), None if stands(
+                block
+            ) else f"stands in no caller: {block.splitlines()[0]}"
 
 
 def modules(text: str) -> set[str]:
@@ -66,11 +70,15 @@ def heads():
             if path.exists():
                 text = path.read_text()
                 wrong = modules(text) ^ set(re.findall(r"^//! - `(\w+)`:", text, re.M))
-                for module, nested in re.findall(r"^//! - `(\w+)`:.*\n((?://!   .*\n)+)", text, re.M):
+                for module, nested in re.findall(
+                    r"^//! - `(\w+)`:.*\n((?://!   .*\n)+)", text, re.M
+                ):
                     listed = set(re.findall(r"^//!   - `(\w+)`:", nested, re.M))
                     if listed:
                         wrong |= modules((crate / "src" / f"{module}.rt").read_text()) ^ listed
-                yield path.relative_to(ROOT), f"not listed, or not there: {' '.join(sorted(wrong))}" if wrong else None
+                yield path.relative_to(
+                    ROOT
+                ), f"not listed, or not there: {' '.join(sorted(wrong))}" if wrong else None
 
 
 @functools.cache
@@ -83,7 +91,11 @@ def is_there(crate: str, name: str) -> bool:
     """Says that a crate has a call of a type, or an item in a module."""
     *place, item = name.split("::")
     if place[0][0].isupper():
-        text = sources(crate) if re.search(rf"\b(?:struct|enum|trait) {place[0]}\b", sources(crate)) else ""
+        text = (
+            sources(crate)
+            if re.search(rf"\b(?:struct|enum|trait) {place[0]}\b", sources(crate))
+            else ""
+        )
     else:
         path = CRATES.joinpath(crate, "src", *place).with_suffix(".rt")
         text = path.read_text() if path.exists() else ""
@@ -94,15 +106,17 @@ def walks():
     """Each name of a walk, where it is not in the crate that stands before it."""
     page = ROOT / "docs/work/ARCHITECTURE.md"
     text = page.read_text()
-    walked = text[text.index("\n## Walks\n"):]
-    walked = walked[:walked.index("\n## ", 1)]
+    walked = text[text.index("\n## Walks\n") :]
+    walked = walked[: walked.index("\n## ", 1)]
     for step in re.split(r"\n(?=\d+\. |#)", walked):
         crate = None
         for name, named in NAME.findall(step):
             if named:
                 crate = named
             elif "module::" not in name and "Type::" not in name:
-                yield page.relative_to(ROOT), None if crate and is_there(crate, name) else f"{name} is not in {crate}"
+                yield page.relative_to(ROOT), None if crate and is_there(
+                    crate, name
+                ) else f"{name} is not in {crate}"
 
 
 def file_named(name: str) -> pathlib.Path | None:
@@ -116,7 +130,11 @@ def named_files():
     text = " ".join(page.read_text().split())
     for name in FILE.findall(text):
         yield page.relative_to(ROOT), None if file_named(name) else f"{name} is not there"
-    said = [(file, name) for file, names in re.findall(r"`([\w./-]+)` \(([^)]*)\)", text) for name in re.findall(r"`(\w+)`", names)]
+    said = [
+        (file, name)
+        for file, names in re.findall(r"`([\w./-]+)` \(([^)]*)\)", text)
+        for name in re.findall(r"`(\w+)`", names)
+    ]
     said += [(file, name) for name, file in re.findall(r"`(\w+)` of `([\w./-]+)`", text)]
     for file, name in said:
         path = file_named(file)
@@ -126,10 +144,13 @@ def named_files():
 
 
 def first_statements():
-    """The statements that a reader of README.md meets first, and the file that they are run from."""
+    """The statements that a reader of README.md meets first, and the file that they are run
+    from."""
     shown = re.search(r"```text\n(.*?)```", (ROOT / "README.md").read_text(), re.S)
     lines = (ROOT / "examples" / "retry.text").read_text().splitlines(keepends=True)
-    same = shown is not None and shown[1] == "".join(line for line in lines if not line.startswith("#"))
+    same = shown is not None and shown[1] == "".join(
+        line for line in lines if not line.startswith("#")
+    )
     yield "README.md", None if same else "the first statements are not those of examples/retry.text"
 
 
@@ -141,8 +162,16 @@ def believed():
     for row in re.findall(r"^\| (.*) \|$", text, re.M):
         cells = row.split(" | ")
         file = cells[0].strip("| ") if cells[0].endswith(".antt") else file
-        named += [(file, name) for name in re.findall(r"`(\w+)`", cells[1])] if len(cells) == 3 and file else []
-    named += [(file, name) for file, names in re.findall(r"(\w+/specs/\w+\.antt)\s\(([^)]*)\)", text) for name in re.findall(r"`(\w+)`", names)]
+        named += (
+            [(file, name) for name in re.findall(r"`(\w+)`", cells[1])]
+            if len(cells) == 3 and file
+            else []
+        )
+    named += [
+        (file, name)
+        for file, names in re.findall(r"(\w+/specs/\w+\.antt)\s\(([^)]*)\)", text)
+        for name in re.findall(r"`(\w+)`", names)
+    ]
     for file, name in named:
         path = CRATES / file
         found = path.exists() and re.search(rf"^ *(?:\w+ )*{name}\b", path.read_text(), re.M)
@@ -150,17 +179,24 @@ def believed():
 
 
 def homes(cell: str):
-    """The crates and files of a row, such as 'tb_keep, specs/Steps' or 'tb_service, module `rule`'."""
+    """The crates and files of a row, such as 'tb_keep, specs/Steps' or 'tb_service, module
+    `rule`'."""
     found = re.fullmatch(r"((?:\w+ and )?\w+), (?:specs/(\w+)|module `([\w:]+)`)", cell)
     if found:
         for crate in found[1].split(" and "):
-            inner = f"specs/{found[2]}.antt" if found[2] else f"src/{found[3].replace('::', '/')}.rt"
+            inner = (
+                f"specs/{found[2]}.antt" if found[2] else f"src/{found[3].replace('::', '/')}.rt"
+            )
             yield crate, CRATES / crate / inner
 
 
 def glossed():
     """Each name in the code that the glossary gives."""
-    files = [*CRATES.glob("*/src/**/*.rt"), *CRATES.glob("*/specs/**/*.antt"), *ROOT.glob("clients/python/tb_client/*.py")]
+    files = [
+        *CRATES.glob("*/src/**/*.rt"),
+        *CRATES.glob("*/specs/**/*.antt"),
+        *ROOT.glob("clients/python/tb_client/*.py"),
+    ]
     text = "\n".join(path.read_text() for path in files)
     there = set(re.findall(r"\w+", text)) | {path.name for path in CRATES.iterdir()}
     page, named = ROOT / "docs/work/GLOSSARY.md", []
@@ -173,7 +209,9 @@ def glossed():
             named = re.findall(r"`(\w+)`", cells[0]) or named
             for crate, place in homes(cells[1]):
                 found = re.search(rf"\b{named[0]}\b", place.read_text() if place.exists() else "")
-                yield page.relative_to(ROOT), None if found else f"{named[0]} is not in {crate}, {place.name}"
+                yield page.relative_to(
+                    ROOT
+                ), None if found else f"{named[0]} is not in {crate}, {place.name}"
 
 
 def main() -> int:

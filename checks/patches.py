@@ -3,9 +3,10 @@
 
     python3 checks/patches.py [NAME ..]
 
-A patch names a crate and a test in its first lines. This script applies it to a copy of the repository and runs the crate's
-tests there by `rt try --test`, with checks in place of proofs. It passes where that test does not, and every other test does.
-First it runs the tests of each crate without a patch: all of them must pass. Ends in 'N passed, M failed'.
+A patch names a crate and a test in its first lines. This script applies it to a copy of the
+repository and runs the crate's tests there by `rt try --test`, with checks in place of proofs. It
+passes where that test does not, and every other test does. First it runs the tests of each crate
+without a patch: all of them must pass. Ends in 'N passed, M failed'.
 """
 import argparse
 import os
@@ -23,7 +24,12 @@ SECONDS = "60"
 
 def copied(room):
     """Copies what git knows of, with what is not committed, to a folder."""
-    told = subprocess.run(["git", "-C", ROOT, "ls-files", "-co", "--exclude-standard"], check=True, capture_output=True, text=True)
+    told = subprocess.run(
+        ["git", "-C", ROOT, "ls-files", "-co", "--exclude-standard"],
+        check=True,
+        capture_output=True,
+        text=True,
+    )
     for path in told.stdout.splitlines():
         if os.path.isfile(f"{ROOT}/{path}"):
             os.makedirs(os.path.dirname(f"{room}/{path}"), exist_ok=True)
@@ -33,13 +39,24 @@ def copied(room):
 def tests_of(room, crate):
     """The tests of a crate that passed and those that did not, in a copy."""
     words = ["rt", "try", "--test", "--seconds", SECONDS]
-    ran = subprocess.run(words, cwd=f"{room}/crates/{crate}", stdin=subprocess.DEVNULL, stdout=subprocess.PIPE, stderr=subprocess.STDOUT, text=True, errors="replace")
+    ran = subprocess.run(
+        words,
+        cwd=f"{room}/crates/{crate}",
+        stdin=subprocess.DEVNULL,
+        stdout=subprocess.PIPE,
+        stderr=subprocess.STDOUT,
+        text=True,
+        errors="replace",
+    )
     told = dict(re.findall(r"^test (\S+) \.\.\. (.*)$", ran.stdout, re.M))
-    return {it for it, said in told.items() if said == "ok"}, {it for it, said in told.items() if said != "ok"}
+    return {it for it, said in told.items() if said == "ok"}, {
+        it for it, said in told.items() if said != "ok"
+    }
 
 
 def judge(name, whole):
-    """Why a patch is not refused as it should be, None where it is; `whole` has the tests of each crate without a patch."""
+    """Why a patch is not refused as it should be, None where it is; `whole` has the tests of
+    each crate without a patch."""
     path = f"{FOLDER}/{name}.patch"
     with open(path, encoding="utf-8") as file:
         text = file.read()
@@ -62,7 +79,9 @@ def judge(name, whole):
 
 
 def main():
-    words = argparse.ArgumentParser(description=__doc__, formatter_class=argparse.RawDescriptionHelpFormatter)
+    words = argparse.ArgumentParser(
+        description=__doc__, formatter_class=argparse.RawDescriptionHelpFormatter
+    )
     words.add_argument("names", nargs="*", metavar="NAME")
     given = words.parse_args()
     known = sorted(it[: -len(".patch")] for it in os.listdir(FOLDER) if it.endswith(".patch"))

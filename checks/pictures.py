@@ -4,9 +4,10 @@
     checks/pictures.py           ends in 'N passed, 0 failed'; a line for each picture that differs
     checks/pictures.py --write   writes them
 
-The crates come from crates.txt, the bars from docs/work/runs.csv, the other pictures from this file. A picture is an SVG with its own
-colours for light and dark. A crate that the picture of the crates does not place, a picture that no page shows, and a file in
-docs/pictures that is not drawn here fail too.
+The crates come from crates.txt, the bars from docs/work/runs.csv, the other pictures from this
+file. A picture is an SVG with its own colours for light and dark. A crate that the picture of the
+crates does not place, a picture that no page shows, and a file in docs/pictures that is not drawn
+here fail too.
 """
 import pathlib
 import re
@@ -19,15 +20,22 @@ import tried
 ROOT = pathlib.Path(__file__).resolve().parent.parent
 FOLDER = ROOT / "docs/pictures"
 STYLE = """<style>
-  .page { fill: #ffffff; } .ink { fill: #1f2328; } .soft { fill: #59636e; } .line { stroke: #59636e; fill: none; }
-  .box { fill: #eef2f6; stroke: #8b98a5; } .deep { fill: #d7e6f7; stroke: #3572b0; } .warm { fill: #fbe7cf; stroke: #b3701a; }
-  .bar1 { fill: #3572b0; } .bar2 { fill: #c9822b; } .bar3 { fill: #5d8f4e; } .bar4 { fill: #9a6bb0; } .mark { stroke: #c0392b; }
+  .page { fill: #ffffff; } .ink { fill: #1f2328; } .soft { fill: #59636e; }
+  .line { stroke: #59636e; fill: none; }
+  .box { fill: #eef2f6; stroke: #8b98a5; } .deep { fill: #d7e6f7; stroke: #3572b0; }
+  .warm { fill: #fbe7cf; stroke: #b3701a; }
+  .bar1 { fill: #3572b0; } .bar2 { fill: #c9822b; } .bar3 { fill: #5d8f4e; }
+  .bar4 { fill: #9a6bb0; } .mark { stroke: #c0392b; }
   .tip { fill: #59636e; }
-  text { font: 13px system-ui, 'DejaVu Sans', sans-serif; } .small { font-size: 11px; } .head { font-size: 15px; font-weight: 600; }
+  text { font: 13px system-ui, 'DejaVu Sans', sans-serif; } .small { font-size: 11px; }
+  .head { font-size: 15px; font-weight: 600; }
   @media (prefers-color-scheme: dark) {
-    .page { fill: #0d1117; } .ink { fill: #e6edf3; } .soft { fill: #9aa7b4; } .line { stroke: #9aa7b4; }
-    .box { fill: #1c242d; stroke: #5b6773; } .deep { fill: #17304a; stroke: #4f93d6; } .warm { fill: #3c2b14; stroke: #d39a4a; }
-    .bar1 { fill: #4f93d6; } .bar2 { fill: #d39a4a; } .bar3 { fill: #7db36c; } .bar4 { fill: #b58acb; } .mark { stroke: #ff7b6b; }
+    .page { fill: #0d1117; } .ink { fill: #e6edf3; } .soft { fill: #9aa7b4; }
+    .line { stroke: #9aa7b4; }
+    .box { fill: #1c242d; stroke: #5b6773; } .deep { fill: #17304a; stroke: #4f93d6; }
+    .warm { fill: #3c2b14; stroke: #d39a4a; }
+    .bar1 { fill: #4f93d6; } .bar2 { fill: #d39a4a; } .bar3 { fill: #7db36c; }
+    .bar4 { fill: #b58acb; } .mark { stroke: #ff7b6b; }
     .tip { fill: #9aa7b4; }
   }
 </style>"""
@@ -40,8 +48,14 @@ def text(x, y, words, kind="ink", anchor="start") -> str:
 def box(x, y, width, height, lines, kind="box") -> str:
     """A box with lines of text, centred."""
     first = y + height / 2 - 8 * (len(lines) - 1) + 4.5
-    said = [text(x + width / 2, first + 16 * at, line, "ink" if at == 0 else "soft small", "middle") for at, line in enumerate(lines)]
-    return f'<rect x="{x:g}" y="{y:g}" width="{width:g}" height="{height:g}" rx="5" class="{kind}"/>' + "".join(said)
+    said = [
+        text(x + width / 2, first + 16 * at, line, "ink" if at == 0 else "soft small", "middle")
+        for at, line in enumerate(lines)
+    ]
+    return (
+        f'<rect x="{x:g}" y="{y:g}" width="{width:g}" height="{height:g}" rx="5" class="{kind}"/>'
+        + "".join(said)
+    )
 
 
 def arrow(points, dashed=False) -> str:
@@ -50,7 +64,8 @@ def arrow(points, dashed=False) -> str:
     (x0, y0), (x, y) = points[-2:]
     length = ((x - x0) ** 2 + (y - y0) ** 2) ** 0.5 or 1
     u, v = (x - x0) / length, (y - y0) / length
-    tip = f"{x:g},{y:g} {x - 8 * u - 4 * v:g},{y - 8 * v + 4 * u:g} {x - 8 * u + 4 * v:g},{y - 8 * v - 4 * u:g}"
+    base_x, base_y = x - 8 * u, y - 8 * v
+    tip = f"{x:g},{y:g} {base_x - 4 * v:g},{base_y + 4 * u:g} {base_x + 4 * v:g},{base_y - 4 * u:g}"
     dash = ' stroke-dasharray="5 4"' if dashed else ""
     return f'<path d="{path}" class="line"{dash}/><polygon points="{tip}" class="tip"/>'
 
@@ -58,13 +73,15 @@ def arrow(points, dashed=False) -> str:
 def picture(width, height, title, parts) -> str:
     body = "\n".join(parts)
     return (
-        f'<svg xmlns="http://www.w3.org/2000/svg" viewBox="0 0 {width} {height}" width="{width}" height="{height}" role="img">\n'
+        f'<svg xmlns="http://www.w3.org/2000/svg" viewBox="0 0 {width} {height}" '
+        f'width="{width}" height="{height}" role="img">\n'
         f"<title>{escape(title)}</title>\n{STYLE}\n"
         f'<rect width="{width}" height="{height}" class="page"/>\n{body}\n</svg>\n'
     )
 
 
 # The crates
+
 
 def crates_listed() -> dict[str, list[str]]:
     """The product's crates, each with those of the repository that it names."""
@@ -79,17 +96,24 @@ def crates_listed() -> dict[str, list[str]]:
 
 def direct(crates: dict[str, list[str]]) -> dict[str, list[str]]:
     """Of each crate those that it names, but for those that it reaches through others."""
+
     def reach(name: str) -> set[str]:
         return {it for below in crates[name] for it in {below} | reach(below)}
-    return {name: [it for it in below if not any(it in reach(other) for other in below)] for name, below in crates.items()}
+
+    return {
+        name: [it for it in below if not any(it in reach(other) for other in below)]
+        for name, below in crates.items()
+    }
 
 
 def crates() -> str:
-    """What each crate of the product is built on: levels from the bottom, an arrow to each crate below."""
+    """What each crate of the product is built on: levels from the bottom, an arrow to each crate
+    below."""
     below = direct(crates_listed())
 
     def level(name: str) -> int:
         return 1 + max((level(it) for it in below[name]), default=-1)
+
     levels: dict[int, list[str]] = {}
     for name in below:
         levels.setdefault(level(name), []).append(name)
@@ -101,7 +125,11 @@ def crates() -> str:
     for at, names in levels.items():
         step = width / len(names)
         if at:
-            names = sorted(names, key=lambda it: sum(place[below_it][0] for below_it in below[it]) / max(1, len(below[it])))
+            names = sorted(
+                names,
+                key=lambda it: sum(place[below_it][0] for below_it in below[it])
+                / max(1, len(below[it])),
+            )
         for index, name in enumerate(names):
             place[name] = (step * (index + 0.5), height - 30 - at * gap)
     for name, those in below.items():
@@ -110,11 +138,21 @@ def crates() -> str:
             shift = (to_x - x) * 0.12
             parts.append(arrow([(x + shift, y + high / 2), (to_x - shift, to_y - high / 2)]))
     for name, (x, y) in place.items():
-        parts.append(box(x - wide / 2, y - high / 2, wide, high, [name], "warm" if name in programs else "deep"))
+        parts.append(
+            box(
+                x - wide / 2,
+                y - high / 2,
+                wide,
+                high,
+                [name],
+                "warm" if name in programs else "deep",
+            )
+        )
     return picture(round(width), round(height), "The crates and what each is built on", parts)
 
 
 # A request's way through one thread
+
 
 def request() -> str:
     steps = [
@@ -128,10 +166,23 @@ def request() -> str:
     ]
     parts = [text(16, 26, "A request's way through one thread", "head ink")]
     for at, lines in enumerate(steps):
-        parts.append(box(40, 44 + 66 * at, 330, 46, lines, "deep" if "ledger" in lines[0] or "sessions" in lines[0] else "box"))
+        parts.append(
+            box(
+                40,
+                44 + 66 * at,
+                330,
+                46,
+                lines,
+                "deep" if "ledger" in lines[0] or "sessions" in lines[0] else "box",
+            )
+        )
         if at:
             parts.append(arrow([(205, 24 + 66 * at), (205, 43 + 66 * at)]))
-    branches = [(3, "repeat: the stored reply"), (3, "any other class: a refusal"), (4, "out of memory: nothing changed")]
+    branches = [
+        (3, "repeat: the stored reply"),
+        (3, "any other class: a refusal"),
+        (4, "out of memory: nothing changed"),
+    ]
     for index, (at, said) in enumerate(branches):
         y = 44 + 66 * at + (12 if index == 0 else 34 if index == 1 else 23)
         parts += [arrow([(370, y), (420, y)]), text(428, y + 4, said, "soft")]
@@ -140,27 +191,46 @@ def request() -> str:
 
 # Writer, copies and seats
 
+
 def copies() -> str:
     parts = [text(16, 26, "One writer, two copies, many seats", "head ink")]
     for at in range(3):
-        parts += [box(20, 60 + 62 * at, 120, 42, ["client thread", f"port {at}, seat {at}"]),
-                  arrow([(140, 75 + 62 * at), (196, 143)])]
+        parts += [
+            box(20, 60 + 62 * at, 120, 42, ["client thread", f"port {at}, seat {at}"]),
+            arrow([(140, 75 + 62 * at), (196, 143)]),
+        ]
     parts += [
         box(198, 122, 104, 42, ["queue", "64 orders at most"]),
         arrow([(302, 143), (348, 143)]),
-        box(350, 100, 150, 86, ["server's thread", "place, gate, moment", "history, machine"], "deep"),
-        arrow([(500, 128), (570, 92)]), arrow([(500, 158), (570, 194)]),
+        box(
+            350,
+            100,
+            150,
+            86,
+            ["server's thread", "place, gate, moment", "history, machine"],
+            "deep",
+        ),
+        arrow([(500, 128), (570, 92)]),
+        arrow([(500, 158), (570, 194)]),
         box(572, 66, 150, 52, ["copy that is shown", "a prefix of the history"], "warm"),
         box(572, 168, 150, 52, ["other copy", "takes new entries in"]),
-        arrow([(640, 168), (640, 120)]), text(650, 148, "swap", "soft small"),
+        arrow([(640, 168), (640, 120)]),
+        text(650, 148, "swap", "soft small"),
         '<path d="M647 66 L647 42 L80 42 L80 58" class="line" stroke-dasharray="5 4"/>',
         '<polygon points="80,59 76,51 84,51" class="tip"/>',
-        text(330, 58, "seats read the shown copy, without a lock and without waiting", "soft small", "middle"),
+        text(
+            330,
+            58,
+            "seats read the shown copy, without a lock and without waiting",
+            "soft small",
+            "middle",
+        ),
     ]
     return picture(740, 262, "One writer, two copies, many seats", parts)
 
 
 # What a crash leaves
+
 
 def crash() -> str:
     steps = [
@@ -171,7 +241,9 @@ def crash() -> str:
         ("sync", "the latch is durable", "the records and the whole batch"),
         ("reply", "replies are written", "the records and the whole batch"),
     ]
-    parts = [text(16, 26, "A commit, step by step, and what a crash leaves after each step", "head ink")]
+    parts = [
+        text(16, 26, "A commit, step by step, and what a crash leaves after each step", "head ink")
+    ]
     wide = 148
     for at, (name, said, left) in enumerate(steps):
         x = 16 + at * (wide + 12)
@@ -179,20 +251,45 @@ def crash() -> str:
         parts.append(box(x, 44, wide, 40, [name]))
         words, lines = said.split(), [""]
         for word in words:
-            lines = [*lines, word] if len(lines[-1]) + len(word) > 21 else [*lines[:-1], f"{lines[-1]} {word}".strip()]
-        parts += [text(x + wide / 2, 104 + 14 * row, line, "soft small", "middle") for row, line in enumerate(lines)]
+            lines = (
+                [*lines, word]
+                if len(lines[-1]) + len(word) > 21
+                else [*lines[:-1], f"{lines[-1]} {word}".strip()]
+            )
+        parts += [
+            text(x + wide / 2, 104 + 14 * row, line, "soft small", "middle")
+            for row, line in enumerate(lines)
+        ]
         words, lines = left.split(), [""]
         for word in words:
-            lines = [*lines, word] if len(lines[-1]) + len(word) > 19 else [*lines[:-1], f"{lines[-1]} {word}".strip()]
+            lines = (
+                [*lines, word]
+                if len(lines[-1]) + len(word) > 19
+                else [*lines[:-1], f"{lines[-1]} {word}".strip()]
+            )
         parts.append(f'<rect x="{x}" y="142" width="{wide}" height="66" rx="5" class="{kind}"/>')
-        parts += [text(x + wide / 2, 172 - 8 * (len(lines) - 1) + 16 * row + 4, line, "ink", "middle") for row, line in enumerate(lines)]
+        parts += [
+            text(x + wide / 2, 172 - 8 * (len(lines) - 1) + 16 * row + 4, line, "ink", "middle")
+            for row, line in enumerate(lines)
+        ]
         if at:
             parts.append(arrow([(x - 12, 64), (x - 1, 64)]))
-    parts.append(text(16, 232, "What a torn write left behind the records is cut off at the next start; none of it was acknowledged.", "soft small"))
-    return picture(16 + len(steps) * (wide + 12), 246, "What a crash leaves at each step of a commit", parts)
+    parts.append(
+        text(
+            16,
+            232,
+            "What a torn write left behind the records is cut off at the next start; none of it "
+            "was acknowledged.",
+            "soft small",
+        )
+    )
+    return picture(
+        16 + len(steps) * (wide + 12), 246, "What a crash leaves at each step of a commit", parts
+    )
 
 
 # Bars
+
 
 def bars(title, rows, names, unit, bounds=None, scale=None) -> str:
     """Groups of bars: a row has a name and a value for each of the names; a red mark is a bound."""
@@ -200,7 +297,10 @@ def bars(title, rows, names, unit, bounds=None, scale=None) -> str:
     most = scale or max(value for _, values in rows for value in values if value is not None) * 1.05
     parts, y = [text(16, 26, title, "head ink")], 44
     for at, name in enumerate(names):
-        parts += [f'<rect x="{16 + 190 * at}" y="{y}" width="12" height="12" class="bar{at + 1}"/>', text(33 + 190 * at, y + 11, name, "soft small")]
+        parts += [
+            f'<rect x="{16 + 190 * at}" y="{y}" width="12" height="12" class="bar{at + 1}"/>',
+            text(33 + 190 * at, y + 11, name, "soft small"),
+        ]
     y += 30
     top = y - 6
     for row, (label, values) in enumerate(rows):
@@ -208,15 +308,24 @@ def bars(title, rows, names, unit, bounds=None, scale=None) -> str:
 
         def after(end, bound=bound):
             """Where a bar's number begins: behind the bar, and clear of the bound's mark."""
-            return max(end, bound) + 5 if bound is not None and end - 3 < bound < end + 34 else end + 5
+            return (
+                max(end, bound) + 5 if bound is not None and end - 3 < bound < end + 34 else end + 5
+            )
+
         parts.append(text(left - 10, y + len(values) * high / 2 + 4, label, "ink", "end"))
         for at, value in enumerate(values):
             if value is not None:
                 length = min(value, most) / most * wide
-                parts += [f'<rect x="{left}" y="{y + at * high}" width="{length:.1f}" height="{high - 2}" class="bar{at + 1}"/>',
-                          text(after(left + length), y + at * high + 10, f"{value:g}", "soft small")]
+                parts += [
+                    f'<rect x="{left}" y="{y + at * high}" width="{length:.1f}" '
+                    f'height="{high - 2}" class="bar{at + 1}"/>',
+                    text(after(left + length), y + at * high + 10, f"{value:g}", "soft small"),
+                ]
         if bound is not None:
-            parts.append(f'<path d="M{bound:.1f} {y - 3} V{y + len(values) * high}" class="mark" stroke-width="2"/>')
+            parts.append(
+                f'<path d="M{bound:.1f} {y - 3} V{y + len(values) * high}" '
+                'class="mark" stroke-width="2"/>'
+            )
         y += len(values) * high + gap
     parts.append(f'<path d="M{left} {top} V{y - 6}" class="line"/>')
     parts.append(text(left, y + 10, unit, "soft small"))
@@ -229,29 +338,68 @@ def number(subject: str, peer: str, size: str, kind: str = "bench"):
 
 
 def speed() -> str:
-    rows = [(load, [number(f"tbs run, {load}", peer, size) for peer, size in
-                    (("plain.rs", "100000"), ("plain.rs", "1000000"), ("lean.rs", "100000"), ("lean.rs", "1000000"))]) for load in figures.LOADS]
+    rows = [
+        (
+            load,
+            [
+                number(f"tbs run, {load}", peer, size)
+                for peer, size in (
+                    ("plain.rs", "100000"),
+                    ("plain.rs", "1000000"),
+                    ("lean.rs", "100000"),
+                    ("lean.rs", "1000000"),
+                )
+            ],
+        )
+        for load in figures.LOADS
+    ]
     bounds = [number(f"tbs run, {load}", "plain.rs", "100000", "bound") for load in figures.LOADS]
-    names = ["over plain.rs, 100,000", "over plain.rs, 1,000,000", "over lean.rs, 100,000", "over lean.rs, 1,000,000"]
-    unit = "CPU time of tbs run over that of a baseline; below 1 is faster. Red: the bound over plain.rs at 100,000 events"
+    names = [
+        "over plain.rs, 100,000",
+        "over plain.rs, 1,000,000",
+        "over lean.rs, 100,000",
+        "over lean.rs, 1,000,000",
+    ]
+    unit = (
+        "CPU time of tbs run over that of a baseline; below 1 is faster. "
+        "Red: the bound over plain.rs at 100,000 events"
+    )
     return bars("tbs run compared with two baselines", rows, names, unit, bounds)
 
 
 def kept() -> str:
     loads = [it for it in figures.LOADS if number(f"tbd run, {it}", "tbs run", "100000")]
-    rows = [(it, [number(f"{form}, {it}", "tbs run", "100000") for form in ("tbd run", "tbd start")]) for it in loads]
+    rows = [
+        (it, [number(f"{form}, {it}", "tbs run", "100000") for form in ("tbd run", "tbd start")])
+        for it in loads
+    ]
     bounds = [number("tbd run", "tbs run", "100000", "bound")] * len(rows)
-    return bars("A ledger in a file compared with tbs run", rows, ["tbd run", "a start over the file"],
-                "CPU time over that of tbs run, 100,000 events. Red: the bound of tbd run", bounds)
+    return bars(
+        "A ledger in a file compared with tbs run",
+        rows,
+        ["tbd run", "a start over the file"],
+        "CPU time over that of tbs run, 100,000 events. Red: the bound of tbd run",
+        bounds,
+    )
 
 
 def reads() -> str:
     found = {(it["subject"], it["peer"]): float(it["value"]) for it in figures.of_kind("reads")}
     subjects = list(dict.fromkeys(subject.rsplit(", ", 1)[0] for subject, _ in found))
-    kinds = [("seats", "no writer"), ("RwLock", "no writer"), ("seats", "a writer"), ("RwLock", "a writer")]
+    kinds = [
+        ("seats", "no writer"),
+        ("RwLock", "no writer"),
+        ("seats", "a writer"),
+        ("RwLock", "a writer"),
+    ]
     rows = [(it, [found[f"{it}, {writer}", peer] for peer, writer in kinds]) for it in subjects]
-    return bars("Reads in each thread: seats compared with a lock", rows, [f"{peer}, {writer}" for peer, writer in kinds],
-                "nanoseconds a read; longer bars are cut at 900", scale=900)
+    return bars(
+        "Reads in each thread: seats compared with a lock",
+        rows,
+        [f"{peer}, {writer}" for peer, writer in kinds],
+        "nanoseconds a read; longer bars are cut at 900",
+        scale=900,
+    )
 
 
 PICTURES = {it.__name__: it for it in (crates, request, copies, crash, speed, kept, reads)}
@@ -259,16 +407,25 @@ PICTURES = {it.__name__: it for it in (crates, request, copies, crash, speed, ke
 
 def main() -> int:
     writes = "--write" in sys.argv[1:]
-    shown = set(re.findall(r"pictures/(\w+)\.svg", "".join(it.read_text() for it in figures.pages())))
+    shown = set(
+        re.findall(r"pictures/(\w+)\.svg", "".join(it.read_text() for it in figures.pages()))
+    )
     for name, draw in PICTURES.items():
         path, drawn = FOLDER / f"{name}.svg", draw()
         if writes:
             FOLDER.mkdir(exist_ok=True)
             path.write_text(drawn)
-        tried.case(path.relative_to(ROOT), path.exists() and path.read_text() == drawn, "not as drawn: checks/pictures.py --write", quietly=True)
+        tried.case(
+            path.relative_to(ROOT),
+            path.exists() and path.read_text() == drawn,
+            "not as drawn: checks/pictures.py --write",
+            quietly=True,
+        )
         tried.case(f"{name} is shown by a page", name in shown, quietly=True)
     for path in FOLDER.glob("*"):
-        tried.case(path.relative_to(ROOT), path.stem in PICTURES, "no picture of this script", quietly=True)
+        tried.case(
+            path.relative_to(ROOT), path.stem in PICTURES, "no picture of this script", quietly=True
+        )
     return tried.status()
 
 

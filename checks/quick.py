@@ -1,10 +1,11 @@
 #!/usr/bin/env python3
-"""Runs the checks that need no prover and no built program, side by side: what to run before a push.
+"""Runs the checks that need no prover and no built program, side by side: what to run before a
+push.
 
     checks/quick.py [SCRIPT ..]     all of them, or those that are named
 
-Each has two minutes. Prints a line for each, and what a failed one printed; ends in 'N passed, 0 failed'. flake8 is left out, with a
-word, where it is not installed.
+Each has two minutes. Prints a line for each, and what a failed one printed; ends in 'N passed, 0
+failed'. flake8 is left out, with a word, where it is not installed.
 """
 import concurrent.futures
 import pathlib
@@ -61,7 +62,9 @@ def main() -> int:
     with concurrent.futures.ThreadPoolExecutor() as pool:
         for name, (status, seconds, said) in zip(commands, pool.map(run, commands.values())):
             last = said.splitlines()[-1] if said else ""
-            tried.case(name, status == 0, f"{last} ({seconds:.0f} s)" if status == 0 else said[-4000:])
+            tried.case(
+                name, status == 0, f"{last} ({seconds:.0f} s)" if status == 0 else said[-4000:]
+            )
     return tried.status()
 
 

@@ -1,13 +1,15 @@
 #!/usr/bin/env python3
-"""Looks for data races in the programs that have threads: the module that the kit's compiler makes of each is compiled a second time, with
-ThreadSanitizer, which knows atomics, and run. First build the programs:
+"""Looks for data races in the programs that have threads: the module that the kit's compiler makes
+of each is compiled a second time, with ThreadSanitizer, which knows atomics, and run. First build
+the programs:
 
     (cd crates/tbs && rt run -- run 2) < examples/first.script > /dev/null
     (cd crates/tb_recorded && rt run -- 8 500 1)
     checks/races.py [TIMES]
 
-TIMES (3 by default) is how often each run is made. Each prints what the program prints as it was built, and no report; and as a control, the same
-module with its atomic stores made plain has to be reported. Needs cc with libtsan, and the kit's clang. Prints 'N passed, M failed'.
+TIMES (3 by default) is how often each run is made. Each prints what the program prints as it was
+built, and no report; and as a control, the same module with its atomic stores made plain has to be
+reported. Needs cc with libtsan, and the kit's clang. Prints 'N passed, M failed'.
 """
 import os
 import re
@@ -17,7 +19,10 @@ import sys
 import tempfile
 
 TOP = os.path.dirname(os.path.dirname(os.path.abspath(__file__)))
-RUNS = {"tbs": [["storm", "2", "3"], ["storm", "16", "1000"]], "tb_recorded": [["4", "500", "2"], ["8", "500", "1"], ["16", "200", "3"]]}
+RUNS = {
+    "tbs": [["storm", "2", "3"], ["storm", "16", "1000"]],
+    "tb_recorded": [["4", "500", "2"], ["8", "500", "1"], ["16", "200", "3"]],
+}
 TARGET = ["--target=x86_64-unknown-linux-gnu", "--no-default-config"]
 
 # clang calls these by names of its own, which the runtime of cc does not have
@@ -45,7 +50,8 @@ def below(crate, uses):
 
 
 def module_of(crate, kit, folder):
-    """Builds the crate's program once more, from what its check kept, and answers its module: a compiler that keeps it stands before the kit's."""
+    """Builds the crate's program once more, from what its check kept, and answers its module: a
+    compiler that keeps it stands before the kit's."""
     tools = f"{folder}/toolchain"
     os.makedirs(f"{tools}/bin")
     os.symlink(f"{kit}/toolchain/lib", f"{tools}/lib")
@@ -53,23 +59,68 @@ def module_of(crate, kit, folder):
         if tool != "clang":
             os.symlink(f"{kit}/toolchain/bin/{tool}", f"{tools}/bin/{tool}")
     with open(f"{tools}/bin/clang", "w", encoding="utf-8") as file:
-        file.write(f"#!/bin/sh\ncp module.bc {folder}/module.bc\nexec {kit}/toolchain/bin/clang \"$@\"\n")
+        file.write(
+            f'#!/bin/sh\ncp module.bc {folder}/module.bc\nexec {kit}/toolchain/bin/clang "$@"\n'
+        )
     os.chmod(f"{tools}/bin/clang", 0o755)
     copy, uses = f"{folder}/{crate}", libraries()
     shutil.copytree(f"{TOP}/crates/{crate}", copy)
-    words = [f"{kit}/bin/rattle", "build", "--crate-name", crate, "src/main.rt", "--extern", f"std={kit}/rlibs/std.rlib", "-L", f"dependency={kit}/rlibs"]
+    words = [
+        f"{kit}/bin/rattle",
+        "build",
+        "--crate-name",
+        crate,
+        "src/main.rt",
+        "--extern",
+        f"std={kit}/rlibs/std.rlib",
+        "-L",
+        f"dependency={kit}/rlibs",
+    ]
     for name in uses[crate]:
         here = f"{TOP}/crates/{name}/out/rlib/{name}.rlib"
         words += ["--extern", f"{name}={here if name in uses else f'{kit}/rlibs/{name}.rlib'}"]
     for name in below(crate, uses):
         words += ["-L", f"dependency={TOP}/crates/{name}/out/rlib"]
-    words += ["--antt-project", f"{kit}/rattle/logic/antt-project.json", "--logic-built", f"{kit}/logic_built", "--links", f"{crate}=", "--jobs", "1"]
-    words += ["--toolchain", tools, "--backend", "llvm", "--incremental", "out/incremental", "-o", "out/module.o"]
+    words += [
+        "--antt-project",
+        f"{kit}/rattle/logic/antt-project.json",
+        "--logic-built",
+        f"{kit}/logic_built",
+        "--links",
+        f"{crate}=",
+        "--jobs",
+        "1",
+    ]
+    words += [
+        "--toolchain",
+        tools,
+        "--backend",
+        "llvm",
+        "--incremental",
+        "out/incremental",
+        "-o",
+        "out/module.o",
+    ]
     ran = subprocess.run(words, cwd=copy, stdout=subprocess.PIPE, stderr=subprocess.STDOUT)
     if ran.returncode:
         sys.exit(f"{crate} is not built: {ran.stdout.decode()[-2000:]}")
     module = f"{folder}/module.ll"
-    subprocess.run([f"{kit}/toolchain/bin/clang", *TARGET, "-S", "-emit-llvm", "-Xclang", "-disable-llvm-passes", "-x", "ir", f"{folder}/module.bc", "-o", module], check=True)
+    subprocess.run(
+        [
+            f"{kit}/toolchain/bin/clang",
+            *TARGET,
+            "-S",
+            "-emit-llvm",
+            "-Xclang",
+            "-disable-llvm-passes",
+            "-x",
+            "ir",
+            f"{folder}/module.bc",
+            "-o",
+            module,
+        ],
+        check=True,
+    )
     with open(module, encoding="utf-8") as file:
         return file.read()
 
@@ -84,19 +135,37 @@ def linked(module, name, kit, folder):
     """The program of a module."""
     with open(f"{folder}/{name}.ll", "w", encoding="utf-8") as file:
         file.write(module)
-    clang = [f"{kit}/toolchain/bin/clang", *TARGET, "-fsanitize=thread", "-march=x86-64", "-O2", "-fPIE", "-c", "-x", "ir", f"{folder}/{name}.ll", "-o", f"{folder}/{name}.o"]
+    clang = [
+        f"{kit}/toolchain/bin/clang",
+        *TARGET,
+        "-fsanitize=thread",
+        "-march=x86-64",
+        "-O2",
+        "-fPIE",
+        "-c",
+        "-x",
+        "ir",
+        f"{folder}/{name}.ll",
+        "-o",
+        f"{folder}/{name}.o",
+    ]
     subprocess.run(clang, check=True)
     with open(f"{folder}/shim.c", "w", encoding="utf-8") as file:
         file.write(SHIM)
     program = f"{folder}/{name}"
     given = [f"{folder}/{name}.o", f"{folder}/shim.c", f"{kit}/c/libos_c.a", f"{kit}/c/liblibc_c.a"]
-    subprocess.run(["cc", "-fsanitize=thread", "-O2", "-fno-builtin", "-pie", *given, "-o", program], check=True)
+    subprocess.run(
+        ["cc", "-fsanitize=thread", "-O2", "-fno-builtin", "-pie", *given, "-o", program],
+        check=True,
+    )
     return program
 
 
 def run(program, words):
     """Status, output and reports."""
-    ran = subprocess.run([program, *words], stdin=subprocess.DEVNULL, capture_output=True, timeout=1200)
+    ran = subprocess.run(
+        [program, *words], stdin=subprocess.DEVNULL, capture_output=True, timeout=1200
+    )
     return ran.returncode, ran.stdout, ran.stderr.count(b"WARNING: ThreadSanitizer")
 
 
@@ -108,14 +177,23 @@ def main():
         with tempfile.TemporaryDirectory() as folder:
             module = instrumented(module_of(crate, kit, folder))
             program = linked(module, "instrumented", kit, folder)
-            control = linked(re.sub(r"store atomic (.*) seq_cst, align", r"store \1, align", module), "control", kit, folder)
+            control = linked(
+                re.sub(r"store atomic (.*) seq_cst, align", r"store \1, align", module),
+                "control",
+                kit,
+                folder,
+            )
             reports = run(control, runs[0])[2]
             print(f"{crate} {' '.join(runs[0])}, atomic stores made plain: {reports} reports")
             passed, failed = passed + (reports > 0), failed + (reports == 0)
             for words in runs:
                 wanted = (*run(f"{TOP}/crates/{crate}/out/{crate}", words)[:2], 0)
                 right = sum(run(program, words) == wanted for _ in range(times))
-                print(f"{crate} {' '.join(words)}: {right} of {times} with the same output and no report", flush=True)
+                print(
+                    f"{crate} {' '.join(words)}: {right} of {times} with the same output and no "
+                    "report",
+                    flush=True,
+                )
                 passed, failed = passed + right, failed + times - right
     print(f"{passed} passed, {failed} failed")
     return 1 if failed else 0

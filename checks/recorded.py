@@ -1,12 +1,14 @@
 #!/usr/bin/env python3
-"""Runs recorded runs: hostile client threads against one server, each answer written down and checked afterwards.
+"""Runs recorded runs: hostile client threads against one server, each answer written down and
+checked afterwards.
 
     (cd crates/tb_recorded && rt run -- 8 500 1)
     checks/recorded.py [ANSWERS [SEED]]
 
-Run after run, of 4 to 16 clients and with seeds from SEED (1 by default) on, until ANSWERS (50000 by default, 1000000 and more in the long form of
-docs/trust/TESTED.md) were checked. Prints a line for each run, what the clients met, and 'N answers checked, M wrong'. The replies of
-each status have to be among them, and lookups.
+Run after run, of 4 to 16 clients and with seeds from SEED (1 by default) on, until ANSWERS (50000
+by default, 1000000 and more in the long form of docs/trust/TESTED.md) were checked. Prints a line
+for each run, what the clients met, and 'N answers checked, M wrong'. The replies of each status
+have to be among them, and lookups.
 """
 import os
 import re
@@ -23,7 +25,10 @@ STEPS = 5000
 
 def counts_of(told):
     """What standard error tells: a number behind each name."""
-    return {name: int(number) for name, number in re.findall(r"([A-Za-z][A-Za-z ]*) ([0-9]+)", told.decode())}
+    return {
+        name: int(number)
+        for name, number in re.findall(r"([A-Za-z][A-Za-z ]*) ([0-9]+)", told.decode())
+    }
 
 
 def main():
@@ -34,20 +39,34 @@ def main():
     met = {}
     while checked < answers:
         clients, start = 4 + seed * 5 % 13, time.monotonic()
-        ran = subprocess.run([PROGRAM, str(clients), str(STEPS), str(seed)], stdin=subprocess.DEVNULL, capture_output=True, timeout=3600)
+        ran = subprocess.run(
+            [PROGRAM, str(clients), str(STEPS), str(seed)],
+            stdin=subprocess.DEVNULL,
+            capture_output=True,
+            timeout=3600,
+        )
         wanted = f"clients {clients}\nseed {seed}\nanswers {clients * STEPS}\n0 wrong\n".encode()
         if (ran.returncode, ran.stdout) != (0, wanted):
             failed += 1
-            print(f"FAILED: {clients} clients, seed {seed}: {ran.returncode}, {ran.stdout}, {ran.stderr}")
+            print(
+                f"FAILED: {clients} clients, seed {seed}: {ran.returncode}, {ran.stdout}, "
+                f"{ran.stderr}"
+            )
         counts = counts_of(ran.stderr)
         for name, number in counts.items():
             met[name] = met.get(name, 0) + number
         checked += clients * STEPS
-        print(f"{clients} clients, seed {seed}: {clients * STEPS} answers, {counts.get('commits')} commits, {time.monotonic() - start:.1f} seconds")
+        print(
+            f"{clients} clients, seed {seed}: {clients * STEPS} answers, {counts.get('commits')} "
+            f"commits, {time.monotonic() - start:.1f} seconds"
+        )
         seed += 1
     print(", ".join(f"{name} {met[name]}" for name in met))
     missing = [name for name, number in met.items() if not number]
-    print(f"{checked} answers checked, {failed} runs wrong" + (f"; never met: {missing}" if missing else ""))
+    print(
+        f"{checked} answers checked, {failed} runs wrong"
+        + (f"; never met: {missing}" if missing else "")
+    )
     return 1 if failed or missing or len(met) != 11 else 0
 
 

@@ -1,14 +1,15 @@
 #!/usr/bin/env python3
-"""Refuses each growth, each read and each write of the built programs in turn, once each, and looks at what they answer.
-First build them:
+"""Refuses each growth, each read and each write of the built programs in turn, once each, and looks
+at what they answer. First build them:
 
     (cd crates/tbs && rt run -- run 2) < examples/first.script > /dev/null
     (cd crates/tb_refusals && rt run -- take 2) < examples/first.script > /dev/null
     checks/refusals.py
 
-`tb_refusals` serves a script by each call that may want memory, and makes what was refused again. What is right comes from the
-frames of this file, from examples/first.replies, and from `tbs` when nothing is refused. A loop that refuses nothing shows
-nothing: each case counts its refusals and has a least number of them. Prints a line for each case, and 'N passed, M failed'.
+`tb_refusals` serves a script by each call that may want memory, and makes what was refused again.
+What is right comes from the frames of this file, from examples/first.replies, and from `tbs` when
+nothing is refused. A loop that refuses nothing shows nothing: each case counts its refusals and has
+a least number of them. Prints a line for each case, and 'N passed, M failed'.
 checks/refusals/refuse.c, which the programs are run over, needs cc and Linux.
 """
 import collections
@@ -33,7 +34,9 @@ def case(name, why, told=""):
 
 
 def account(id, flags=0):
-    return id.to_bytes(16, "little") + bytes(80) + struct.pack("<QIIIHHQ", 0, 0, 0, 700, 10, flags, 0)
+    return (
+        id.to_bytes(16, "little") + bytes(80) + struct.pack("<QIIIHHQ", 0, 0, 0, 700, 10, flags, 0)
+    )
 
 
 def transfer(id, debit, credit, amount, pending=0, flags=0, timeout=0):
@@ -48,7 +51,9 @@ class Script:
         self.moment, self.number, self.pairs = moment, 0, []
 
     def pair(self, client, session, number, operation, body=b""):
-        header = client.to_bytes(16, "little") + struct.pack("<QIB3xI12x", session, number, operation, len(body))
+        header = client.to_bytes(16, "little") + struct.pack(
+            "<QIB3xI12x", session, number, operation, len(body)
+        )
         self.pairs.append(struct.pack("<Q", self.moment) + header + body)
 
     def next(self, operation, *items):
@@ -91,17 +96,31 @@ def rows():
 
 
 def chains():
-    """The broken chain, a chain that breaks behind its post, and what is pending, posted, voided and closed."""
+    """The broken chain, a chain that breaks behind its post, and what is pending, posted, voided
+    and closed."""
     script = Script()
     script.pair(7, 0, 0, 2)
     script.next(ACCOUNTS, account(1), account(2))
-    script.next(TRANSFERS, transfer(50, 1, 2, 1, flags=LINKED), transfer(51, 99, 2, 1, flags=LINKED), transfer(52, 1, 2, 1))
+    script.next(
+        TRANSFERS,
+        transfer(50, 1, 2, 1, flags=LINKED),
+        transfer(51, 99, 2, 1, flags=LINKED),
+        transfer(52, 1, 2, 1),
+    )
     script.next(TRANSFERS, transfer(64, 1, 2, 40, flags=PENDING))
-    script.next(TRANSFERS, transfer(65, 0, 0, (1 << 128) - 1, 64, POST | LINKED), transfer(66, 99, 2, 1))
+    script.next(
+        TRANSFERS, transfer(65, 0, 0, (1 << 128) - 1, 64, POST | LINKED), transfer(66, 99, 2, 1)
+    )
     script.next(TRANSFERS, transfer(65, 0, 0, (1 << 128) - 1, 64, POST))
     script.next(TRANSFERS, transfer(67, 1, 2, 7, flags=PENDING), transfer(68, 0, 0, 0, 67, VOID))
     script.next(TRANSFERS, transfer(40, 1, 2, 0, flags=PENDING | CLOSING), transfer(41, 1, 2, 1))
-    script.next(TRANSFERS, *(transfer(100 + k, 1 + k % 2, 2 - k % 2, 5, flags=PENDING, timeout=k % 3) for k in range(20)))
+    script.next(
+        TRANSFERS,
+        *(
+            transfer(100 + k, 1 + k % 2, 2 - k % 2, 5, flags=PENDING, timeout=k % 3)
+            for k in range(20)
+        ),
+    )
     script.moment = 2 * 10**9
     script.next(LOOK_TRANSFERS, ids(50, 51, 52, 64, 65, 66, 67, 68, 40, 41, 100, 119))
     script.next(LOOK_ACCOUNTS, ids(1, 2))
@@ -123,7 +142,13 @@ def run(program, words, script, environment):
     report = environment.get("REFUSE_REPORT")
     asked = refused = blocks = 0
     try:
-        ran = subprocess.run([program, *map(str, words)], input=script, capture_output=True, env=environment, timeout=SECONDS)
+        ran = subprocess.run(
+            [program, *map(str, words)],
+            input=script,
+            capture_output=True,
+            env=environment,
+            timeout=SECONDS,
+        )
         status, output, lines = ran.returncode, ran.stdout, ran.stderr.decode().splitlines()
     except subprocess.TimeoutExpired:
         status, output, lines = None, b"", ["still running"]
@@ -143,15 +168,24 @@ class Refuser:
     def __init__(self, folder):
         self.shared, self.report = f"{folder}/refuse.so", f"{folder}/report"
         source = f"{TOP}/checks/refusals/refuse.c"
-        subprocess.run(["cc", "-Wall", "-Wextra", "-shared", "-fPIC", "-O2", source, "-o", self.shared], check=True)
+        subprocess.run(
+            ["cc", "-Wall", "-Wextra", "-shared", "-fPIC", "-O2", source, "-o", self.shared],
+            check=True,
+        )
 
     def run(self, program, words, script, kind, at, **most):
-        environment = {"LD_PRELOAD": self.shared, "REFUSE": kind, "REFUSE_AT": str(at), "REFUSE_REPORT": self.report}
+        environment = {
+            "LD_PRELOAD": self.shared,
+            "REFUSE": kind,
+            "REFUSE_AT": str(at),
+            "REFUSE_REPORT": self.report,
+        }
         environment |= {f"REFUSE_{side.upper()}": str(count) for side, count in most.items()}
         return run(program, words, script, environment)
 
     def in_turn(self, program, words, script, kind="growth", **most):
-        """The run with the first call of this kind refused, with the second, and so on, up to the first that refuses none."""
+        """The run with the first call of this kind refused, with the second, and so on, up to
+        the first that refuses none."""
         at = 0
         while True:
             at += 1
@@ -173,13 +207,15 @@ def told(counts):
     return ", ".join(f"{count} {name}" for name, count in sorted(counts.items()))
 
 
-# What is refused of the program's own, and where no call says so: a block that would have become smaller
+# What is refused of the program's own, and where no call says so: a block that would have become
+# smaller
 OWN = "SetUp", "copy NoMemory", "no call"
 
 
 def each_growth(refuser, name, form, clients, script, judge, least, wanted):
-    """Each growth refused in turn while a form serves a script: what `judge` says of each run, all memory given back, and at
-    least so many refusals of calls, each of the wanted kinds among them."""
+    """Each growth refused in turn while a form serves a script: what `judge` says of each run, all
+    memory given back, and at least so many refusals of calls, each of the wanted kinds among them.
+    """
     counts, whys, runs = collections.Counter(), [], 0
     for at, ran in refuser.in_turn(AGAIN, [form, clients], script):
         runs = at
@@ -202,7 +238,9 @@ def refusal_of(ran):
     for line in ran.lines:
         if line.startswith(("frame", "entering")):
             return f"{line.split()[0]} NoMemory"
-        if line == "SetUp" or line.endswith(("NoMemory", "NoPlace", "NoCopy", "NoThread", "before", "behind", "Unpublished")):
+        if line == "SetUp" or line.endswith(
+            ("NoMemory", "NoPlace", "NoCopy", "NoThread", "before", "behind", "Unpublished")
+        ):
             return "enter NoMemory" if line.startswith("refused") else line
         if line.startswith(("stopped", "run")):
             return "run NoMemory"
@@ -215,28 +253,38 @@ def set_up(ran):
 
 def answers(wanted):
     """The whole right answer, whatever was refused once."""
+
     def judge(ran):
         if set_up(ran) or (ran.status, ran.output) == (0, wanted):
             return ""
         return f"status {ran.status}, {ran.lines}, {len(ran.output)} bytes of {len(wanted)}"
+
     return judge
 
 
 def calls_answer(replies, history):
     """As `answers`, or a server that ended for want of memory, and a beginning of both."""
+
     def judge(ran):
         if set_up(ran) or (ran.status, ran.output) == (0, replies + history):
             return ""
         if ran.status == 4 and "run NoMemory" in ran.lines:
             for at in range(0, len(replies) + 1):
-                if ran.output[:at] == replies[:at] and ran.output[at:at + 8] == history[:8] and history.startswith(ran.output[at:]):
+                if (
+                    ran.output[:at] == replies[:at]
+                    and ran.output[at : at + 8] == history[:8]
+                    and history.startswith(ran.output[at:])
+                ):
                     return ""
         return f"status {ran.status}, {ran.lines}"
+
     return judge
 
 
 def offers_stand(pairs, clients):
-    """The history is that of the requests that were taken, without those at the places that were refused."""
+    """The history is that of the requests that were taken, without those at the places that were
+    refused."""
+
     def judge(ran):
         if set_up(ran):
             return ""
@@ -251,6 +299,7 @@ def offers_stand(pairs, clients):
         if ran.output != right(["dump", clients], left):
             return f"another history, {ran.lines}"
         return ""
+
     return judge
 
 
@@ -264,8 +313,9 @@ def ends(pairs, first=0):
 
 
 def faults(script, starts, header, written):
-    """A run that ends at its fault: Frame(NoMemory) behind a header whose body finds no room, NoMemory behind a whole pair, or
-    before the first byte; and the output is what belongs to all pairs before."""
+    """A run that ends at its fault: Frame(NoMemory) behind a header whose body finds no room,
+    NoMemory behind a whole pair, or before the first byte; and the output is what belongs to all
+    pairs before."""
     whole = len(script)
 
     def judge(ran):
@@ -283,10 +333,15 @@ def faults(script, starts, header, written):
         if kind == "frame" and at in begun:
             return "" if ran.output == written[begun.index(at)] else f"another output at byte {at}"
         if kind == "entering" and at in starts[1:]:
-            return "" if ran.output == written[starts.index(at) - 1] else f"another output at byte {at}"
+            return (
+                ""
+                if ran.output == written[starts.index(at) - 1]
+                else f"another output at byte {at}"
+            )
         if kind == "entering" and at <= 16:
             return "" if ran.output in (b"", written[0]) else f"another output at byte {at}"
         return f"{ran.lines[0]} at byte {at}"
+
     return judge
 
 
@@ -308,52 +363,142 @@ def beginnings(words, pairs, head=b""):
 
 def growths(refuser):
     clients = 2
-    for name, script in ("the rows", rows()), ("the broken chains", chains()), ("evictions", evictions()):
-        replies, history = right(["run", clients], script.bytes), right(["dump", clients], script.bytes)
-        each_growth(refuser, f"apply, {name}", "apply", clients, script.bytes, answers(replies), 4, ["apply NoMemory"])
-        taken = ["open NoMemory", "take NoMemory", "take Unpublished behind"] + ["answer NoMemory"] * (name != "evictions")
-        each_growth(refuser, f"open, take and answer, {name}", "take", clients, script.bytes, answers(replies + history), 20, taken)
-        offered = ["open NoMemory", "service NoMemory", "enter NoMemory", "run NoMemory", "offered_by NoMemory"]
-        each_growth(refuser, f"offers and a server, {name}", "offer", clients, script.bytes, offers_stand(script.pairs, clients), 30, offered)
+    for name, script in (
+        ("the rows", rows()),
+        ("the broken chains", chains()),
+        ("evictions", evictions()),
+    ):
+        replies, history = right(["run", clients], script.bytes), right(
+            ["dump", clients], script.bytes
+        )
+        each_growth(
+            refuser,
+            f"apply, {name}",
+            "apply",
+            clients,
+            script.bytes,
+            answers(replies),
+            4,
+            ["apply NoMemory"],
+        )
+        taken = ["open NoMemory", "take NoMemory", "take Unpublished behind"] + [
+            "answer NoMemory"
+        ] * (name != "evictions")
+        each_growth(
+            refuser,
+            f"open, take and answer, {name}",
+            "take",
+            clients,
+            script.bytes,
+            answers(replies + history),
+            20,
+            taken,
+        )
+        offered = [
+            "open NoMemory",
+            "service NoMemory",
+            "enter NoMemory",
+            "run NoMemory",
+            "offered_by NoMemory",
+        ]
+        each_growth(
+            refuser,
+            f"offers and a server, {name}",
+            "offer",
+            clients,
+            script.bytes,
+            offers_stand(script.pairs, clients),
+            30,
+            offered,
+        )
         served(refuser, name, script, clients)
     for name, script in ("the rows", rows()), ("evictions", evictions()):
-        replies, history = right(["run", clients], script.bytes), right(["dump", clients], script.bytes)
-        each_growth(refuser, f"calls beside a server, {name}", "call", clients, script.bytes, calls_answer(replies, history), 30, ["enter NoMemory", "join NoThread"])
+        replies, history = right(["run", clients], script.bytes), right(
+            ["dump", clients], script.bytes
+        )
+        each_growth(
+            refuser,
+            f"calls beside a server, {name}",
+            "call",
+            clients,
+            script.bytes,
+            calls_answer(replies, history),
+            30,
+            ["enter NoMemory", "join NoThread"],
+        )
 
 
 def storms(refuser):
-    """A storm with each growth refused in turn: its four lines, or NoMemory, or a client that gave up, and all memory given back."""
+    """A storm with each growth refused in turn: its four lines, or NoMemory, or a client that
+    gave up, and all memory given back."""
     words = ["storm", 2, 3]
     wanted, counts, whys = plain(PROGRAM, words, b"").output, collections.Counter(), []
-    rights = {(0, wanted, ()): "made up for", (1, b"", ("tbs: NoMemory",)): "NoMemory", (3, b"", ("tbs: GaveUp",)): "GaveUp"}
+    rights = {
+        (0, wanted, ()): "made up for",
+        (1, b"", ("tbs: NoMemory",)): "NoMemory",
+        (3, b"", ("tbs: GaveUp",)): "GaveUp",
+    }
     for at, ran in refuser.in_turn(PROGRAM, words, b""):
         how = rights.get((ran.status, ran.output, tuple(ran.lines)))
         if not how or ran.blocks:
-            whys.append(f"growth {at}: status {ran.status}, {ran.output}, {ran.lines}, {ran.blocks} blocks left")
+            whys.append(
+                f"growth {at}: status {ran.status}, {ran.output}, {ran.lines}, {ran.blocks} "
+                "blocks left"
+            )
         counts[how or "wrong"] += ran.refused
     if sum(counts.values()) < 400:
         whys.append("too few growths were refused")
-    case("storm 2 3", "; ".join(whys[:3]), f"{sum(counts.values())} growths refused: {told(counts)}")
+    case(
+        "storm 2 3", "; ".join(whys[:3]), f"{sum(counts.values())} growths refused: {told(counts)}"
+    )
 
 
 def served(refuser, name, script, clients):
     """`run`, `dump` with a mark, and `replay`."""
     starts = [0] + ends(script.pairs)
     written = beginnings(["run", clients], script.pairs)
-    each_growth(refuser, f"run, {name}", "run", clients, script.bytes, faults(script.bytes, starts, 56, written), 8, [])
+    each_growth(
+        refuser,
+        f"run, {name}",
+        "run",
+        clients,
+        script.bytes,
+        faults(script.bytes, starts, 56, written),
+        8,
+        [],
+    )
     written = beginnings(["dump", clients, 2], script.pairs)
-    each_growth(refuser, f"dump, {name}", "dump", clients, script.bytes, faults(script.bytes, starts, 56, written), 8, [])
+    each_growth(
+        refuser,
+        f"dump, {name}",
+        "dump",
+        clients,
+        script.bytes,
+        faults(script.bytes, starts, 56, written),
+        8,
+        [],
+    )
     head, entries = dumped(script.bytes, clients)
     written = beginnings(["replay"], entries, head)
     dump = head + b"".join(entries)
-    each_growth(refuser, f"replay, {name}", "replay", clients, dump, faults(dump, [16] + ends(entries, 16), 64, written), 4, [])
+    each_growth(
+        refuser,
+        f"replay, {name}",
+        "replay",
+        clients,
+        dump,
+        faults(dump, [16] + ends(entries, 16), 64, written),
+        4,
+        [],
+    )
 
 
 MOST = 40
 
 
 def each_read(refuser, name, words, script, written, starts):
-    """Each read fails in turn, of 40 bytes at the most: Device, and the output is that of all pairs read in full."""
+    """Each read fails in turn, of 40 bytes at the most: Device, and the output is that of all
+    pairs read in full."""
     whys, count = [], 0
     for at, ran in refuser.in_turn(PROGRAM, words, script, "read", read=MOST):
         if not ran.refused:
@@ -363,15 +508,19 @@ def each_read(refuser, name, words, script, written, starts):
         whole = sum(it <= read for it in starts) - 1
         wanted = written[whole] if whole >= 0 else b""
         if (ran.status, ran.output, ran.lines, ran.blocks) != (1, wanted, ["tbs: Device"], 0):
-            whys.append(f"read {at}: status {ran.status}, {len(ran.output)} bytes for {len(wanted)}, {ran.lines}, {ran.blocks} blocks left")
+            whys.append(
+                f"read {at}: status {ran.status}, {len(ran.output)} bytes for {len(wanted)}, "
+                f"{ran.lines}, {ran.blocks} blocks left"
+            )
     if count < len(script) // MOST:
         whys.append(f"only {count} reads were refused")
     case(name, "; ".join(whys[:3]), f"{count} reads refused")
 
 
 def each_write(refuser, name, words, script, kind, wanted, **most):
-    """Each write fails in turn, or takes nothing, once: replies that are passed on before a read, and are not taken then, are
-    offered again, and nothing is lost; else it is Device, and the output is a beginning of the right one."""
+    """Each write fails in turn, or takes nothing, once: replies that are passed on before a read,
+    and are not taken then, are offered again, and nothing is lost; else it is Device, and the
+    output is a beginning of the right one."""
     whys, count, again = [], 0, 0
     for at, ran in refuser.in_turn(PROGRAM, words, script, kind, write=MOST, **most):
         count += ran.refused
@@ -385,8 +534,8 @@ def each_write(refuser, name, words, script, kind, wanted, **most):
 
 
 def writes_stop(refuser, name, words, script, kind, wanted, **most):
-    """From the first write on, from the second, and so on, all fail or take nothing: Device, and the output is a beginning of
-    the right one."""
+    """From the first write on, from the second, and so on, all fail or take nothing: Device, and
+    the output is a beginning of the right one."""
     whys, count = [], 0
     for at, ran in refuser.in_turn(PROGRAM, words, script, kind, write=MOST, on=1, **most):
         if ran.refused:
@@ -404,7 +553,10 @@ def stopped_wrongly(name, ran, wanted):
     stopped = (ran.status, ran.lines, ran.blocks) == (1, ["tbs: Device"], 0) and ran.refused
     if stopped and wanted.startswith(ran.output) and len(ran.output) < len(wanted):
         return []
-    return [f"{name}: status {ran.status}, {len(ran.output)} bytes, {ran.lines}, {ran.blocks} blocks left"]
+    return [
+        f"{name}: status {ran.status}, {len(ran.output)} bytes, {ran.lines}, {ran.blocks} blocks "
+        "left"
+    ]
 
 
 def devices(refuser):
@@ -414,18 +566,54 @@ def devices(refuser):
     dump = head + b"".join(entries)
     forms = [
         ("run", ["run", 2], script.bytes, beginnings(["run", 2], script.pairs), starts),
-        ("run by profile 2", ["run", 2, 2], script.bytes, beginnings(["run", 2, 2], script.pairs), starts),
+        (
+            "run by profile 2",
+            ["run", 2, 2],
+            script.bytes,
+            beginnings(["run", 2, 2], script.pairs),
+            starts,
+        ),
         ("dump", ["dump", 2], script.bytes, beginnings(["dump", 2], script.pairs), starts),
-        ("dump with a mark", ["dump", 2, 2], script.bytes, beginnings(["dump", 2, 2], script.pairs), starts),
-        ("replay", ["replay"], dump, beginnings(["replay"], entries, head), [16] + ends(entries, 16)),
+        (
+            "dump with a mark",
+            ["dump", 2, 2],
+            script.bytes,
+            beginnings(["dump", 2, 2], script.pairs),
+            starts,
+        ),
+        (
+            "replay",
+            ["replay"],
+            dump,
+            beginnings(["replay"], entries, head),
+            [16] + ends(entries, 16),
+        ),
     ]
     for name, words, source, written, begins in forms:
         each_read(refuser, f"{name}, each read fails", words, source, written, begins)
         for kind, how in ("write", "fails"), ("stall", "takes nothing"):
             each_write(refuser, f"{name}, each write {how}", words, source, kind, written[-1])
-            each_write(refuser, f"{name}, each write {how} in a conversation", words, source, kind, written[-1], read=MOST)
-            writes_stop(refuser, f"{name}, each write {how} from one on", words, source, kind, written[-1])
-            writes_stop(refuser, f"{name}, each write {how} from one on in a conversation", words, source, kind, written[-1], read=MOST)
+            each_write(
+                refuser,
+                f"{name}, each write {how} in a conversation",
+                words,
+                source,
+                kind,
+                written[-1],
+                read=MOST,
+            )
+            writes_stop(
+                refuser, f"{name}, each write {how} from one on", words, source, kind, written[-1]
+            )
+            writes_stop(
+                refuser,
+                f"{name}, each write {how} from one on in a conversation",
+                words,
+                source,
+                kind,
+                written[-1],
+                read=MOST,
+            )
 
 
 def main():

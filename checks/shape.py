@@ -2,18 +2,20 @@
 """Measures the form of the code: how long clauses are, how many a function has.
 
     checks/shape.py [CRATE ..]           a row for each crate, and the sum
-    checks/shape.py --list [CRATE ..]    also each clause over 160 columns, and each function with more than 8 clauses
+    checks/shape.py --list [CRATE ..]    also each clause over 160 columns, and each function with
+    more than 8 clauses
                                          or 40 lines
     checks/shape.py --at REV [CRATE ..]  the same of an earlier commit
     checks/shape.py --bounds             only the figures with a bound; fails where one is above it
 
-`lines` are those of source, definitions and proofs together. `cited` are the lines of the definitions that public
-contracts cite: of the files of specs/ that Lib.antt does not list for private functions alone. A clause is measured
-joined: its lines put together with single spaces, without the indent, since `rt fmt` wraps long ones. `public >160` are
-those of functions that are `pub`. `casts` are result codes that become numbers by `as`.
+`lines` are those of source, definitions and proofs together. `cited` are the lines of the
+definitions that public contracts cite: of the files of specs/ that Lib.antt does not list for
+private functions alone. A clause is measured joined: its lines put together with single spaces,
+without the indent, since `rt fmt` wraps long ones. `public >160` are those of functions that are
+`pub`. `casts` are result codes that become numbers by `as`.
 
-The bounds hold for the product's crates (in crates.txt before the line '# Tools'), those of bodies and casts for all.
-A bound is what the code has today; where a figure falls, lower its bound.
+The bounds hold for the product's crates (in crates.txt before the line '# Tools'), those of bodies
+and casts for all. A bound is what the code has today; where a figure falls, lower its bound.
 
 It reads the sources alone.
 """
@@ -27,8 +29,22 @@ import tempfile
 import tried
 
 TOP = os.path.dirname(os.path.dirname(os.path.abspath(__file__)))
-COLUMNS = ("crate", "lines", "src", "specs", "cited", "proofs", "functions", "clauses", ">100", ">160", "public >160",
-           ">8 clauses", ">=40 lines", "casts")
+COLUMNS = (
+    "crate",
+    "lines",
+    "src",
+    "specs",
+    "cited",
+    "proofs",
+    "functions",
+    "clauses",
+    ">100",
+    ">160",
+    "public >160",
+    ">8 clauses",
+    ">=40 lines",
+    "casts",
+)
 CLAUSES_OVER_100 = 0.177  # wanted: 0.10
 # Each figure with a bound: what it has today, and what is wanted.
 BOUNDS = {">160": (83, 0), ">8 clauses": (1, 0), ">=40 lines": (1, 0), "casts": (7, 0)}
@@ -64,7 +80,11 @@ def functions(path):
             if body is None and text[to] == f"{found[1]}{{}}":
                 yield found[2], at + 1, 0, clauses
                 break
-            if text[to] == f"{found[1]}{{" or (to == at or body is None) and text[to].endswith(" {"):
+            if (
+                text[to] == f"{found[1]}{{"
+                or (to == at or body is None)
+                and text[to].endswith(" {")
+            ):
                 body = to
             if body is None and text[to].endswith(";") and not CLAUSE.match(text[to]):
                 break
@@ -74,9 +94,10 @@ def functions(path):
 
 
 def joined(text, at):
-    """The length of a clause that begins at this line, its lines put together with single spaces."""
+    """The length of a clause that begins at this line, its lines put together with single
+    spaces."""
     clause = text[at].strip()
-    for line in text[at + 1:]:
+    for line in text[at + 1 :]:
         if clause.count("{") <= clause.count("}"):
             break
         clause += " " + line.strip()
@@ -125,7 +146,9 @@ def measured(crate, listed):
 
 def unpacked(rev, room):
     """The sources of an earlier commit, in a folder."""
-    packed = subprocess.run(["git", "-C", TOP, "archive", rev, "crates", "crates.txt"], check=True, capture_output=True)
+    packed = subprocess.run(
+        ["git", "-C", TOP, "archive", rev, "crates", "crates.txt"], check=True, capture_output=True
+    )
     subprocess.run(["tar", "-x", "-C", room], input=packed.stdout, check=True)
     return room
 
@@ -136,7 +159,11 @@ def crates_listed(product=False):
         text = file.read()
     if product:
         text = text.split("\n# Tools")[0]
-    return [line.split(":")[0].split()[0] for line in text.splitlines() if ":" in line and not line.startswith("#")]
+    return [
+        line.split(":")[0].split()[0]
+        for line in text.splitlines()
+        if ":" in line and not line.startswith("#")
+    ]
 
 
 def summed(rows):
@@ -156,8 +183,12 @@ def check_bounds():
     product = summed(measured(it, False) for it in crates_listed(product=True))
     every = summed(measured(it, False) for it in crates_listed())
     share = product[">100"] / product["clauses"]
-    tried.case("joined clauses over 100 columns", round(share, 3) <= CLAUSES_OVER_100,
-               f"{product['>100']} of {product['clauses']}, {share:.1%}; bound {CLAUSES_OVER_100:.1%}, wanted 10.0%")
+    tried.case(
+        "joined clauses over 100 columns",
+        round(share, 3) <= CLAUSES_OVER_100,
+        f"{product['>100']} of {product['clauses']}, {share:.1%}; bound {CLAUSES_OVER_100:.1%}, "
+        "wanted 10.0%",
+    )
     for figure, (bound, wanted) in BOUNDS.items():
         found = product[figure] if figure == ">160" else every[figure]
         tried.case(figure, found <= bound, f"{found}; bound {bound}, wanted {wanted}")
@@ -168,9 +199,13 @@ def main():
     global TOP
     parser = argparse.ArgumentParser(description="Measures the form of the code.")
     parser.add_argument("crates", nargs="*", metavar="CRATE")
-    parser.add_argument("--list", action="store_true", help="also name the clauses and functions that are too long")
+    parser.add_argument(
+        "--list", action="store_true", help="also name the clauses and functions that are too long"
+    )
     parser.add_argument("--at", metavar="REV", help="measure an earlier commit")
-    parser.add_argument("--bounds", action="store_true", help="fail where a figure is above its bound")
+    parser.add_argument(
+        "--bounds", action="store_true", help="fail where a figure is above its bound"
+    )
     given = parser.parse_args()
     with tempfile.TemporaryDirectory() as room:
         if given.at:

@@ -1,11 +1,12 @@
 #!/usr/bin/env python3
-"""Runs storms of the built program again and again: many client threads at once, and the same four lines each time.
+"""Runs storms of the built program again and again: many client threads at once, and the same four
+lines each time.
 
     (cd crates/tbs && rt run -- run 2) < examples/first.script > /dev/null
     checks/storms.py [TIMES]
 
-TIMES (3 by default, 100 in the long form of docs/trust/TESTED.md) is how often each storm is run. Prints a line for each storm, and
-'N passed, M failed'.
+TIMES (3 by default, 100 in the long form of docs/trust/TESTED.md) is how often each storm is run.
+Prints a line for each storm, and 'N passed, M failed'.
 """
 import os
 import subprocess
@@ -19,10 +20,13 @@ PROGRAM = f"{TOP}/crates/tbs/out/tbs"
 
 
 def totals(clients, transfers):
-    """A register and a request for all accounts, then a register and the transfers 1, 2, 3 and so on of each client."""
+    """A register and a request for all accounts, then a register and the transfers 1, 2, 3 and
+    so on of each client."""
     commits = 2 + clients * (transfers + 1)
     credited = clients * transfers * (transfers + 1) // 2
-    return f"clients {clients}\ncommits {commits}\ntransfers {clients * transfers}\ncredited {credited}\n".encode()
+    counts = {"clients": clients, "commits": commits, "transfers": clients * transfers}
+    counts["credited"] = credited
+    return "".join(f"{name} {count}\n" for name, count in counts.items()).encode()
 
 
 def main():
@@ -33,14 +37,25 @@ def main():
         wanted, spent, right = (0, totals(clients, transfers), b""), [], 0
         for _ in range(times):
             start = time.monotonic()
-            ran = subprocess.run([PROGRAM, "storm", str(clients), str(transfers)], stdin=subprocess.DEVNULL, capture_output=True, timeout=600)
+            ran = subprocess.run(
+                [PROGRAM, "storm", str(clients), str(transfers)],
+                stdin=subprocess.DEVNULL,
+                capture_output=True,
+                timeout=600,
+            )
             spent.append(time.monotonic() - start)
             if (ran.returncode, ran.stdout, ran.stderr) == wanted:
                 right += 1
             else:
-                print(f"FAILED: storm {clients} {transfers}: {ran.returncode}, {ran.stdout}, {ran.stderr}")
+                print(
+                    f"FAILED: storm {clients} {transfers}: {ran.returncode}, {ran.stdout}, "
+                    f"{ran.stderr}"
+                )
         passed, failed = passed + right, failed + times - right
-        print(f"storm {clients} {transfers}: {right} of {times} with the four lines, {min(spent):.3f} to {max(spent):.3f} seconds each")
+        print(
+            f"storm {clients} {transfers}: {right} of {times} with the four lines, "
+            f"{min(spent):.3f} to {max(spent):.3f} seconds each"
+        )
     print(f"{passed} passed, {failed} failed")
     return 1 if failed else 0
 

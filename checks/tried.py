@@ -1,4 +1,5 @@
-"""What the scripts of checks/ share: cases that are counted and told, and programs that have to be there."""
+"""What the scripts of checks/ share: cases that are counted and told, and programs that have to
+be there."""
 import os
 import sys
 
@@ -6,7 +7,8 @@ passed = failed = 0
 
 
 def case(name, holds, said="", quietly=False):
-    """Counts a case and tells it, with what is said of it; quietly only where it fails. Answers whether it holds."""
+    """Counts a case and tells it, with what is said of it; quietly only where it fails. Answers
+    whether it holds."""
     global passed, failed
     passed, failed = passed + bool(holds), failed + (not holds)
     if not (holds and quietly):

@@ -2,10 +2,12 @@
 """Checks the language of the pages: README.md, CONTRIBUTING.md, CHANGELOG.md and docs/.
 
 - All pages together have at most 40,000 words, README.md at most 90 lines.
-- No sentence has more than 40 words. A code span counts as one word; a list item and a cell of a table are looked at alone.
+- No sentence has more than 40 words. A code span counts as one word; a list item and a cell of a
+  table are looked at alone.
 - None has a word of the list below, for which the field has a common term.
 
-Usage: checks/words.py [--count]. Ends in 'N passed, 0 failed'; --count prints the words of each page.
+Usage: checks/words.py [--count]. Ends in 'N passed, 0 failed'; --count prints the words of each
+page.
 """
 import pathlib
 import re
@@ -36,7 +38,9 @@ PLAIN = {
     r"parts of 100": "per cent",
 }
 # The definition of a word may name it, and a quoted fault says what it says.
-ALLOWED = {"for good": ("moved for good", "there for good", "failed for good", "id_already_failed"), }
+ALLOWED = {
+    "for good": ("moved for good", "there for good", "failed for good", "id_already_failed"),
+}
 
 
 def pages():
@@ -82,7 +86,7 @@ def uncommon_words(text: str):
         unit = re.sub(r"`[^`]*`", "", unit)
         for pattern, plain in PLAIN.items():
             for found in re.finditer(pattern, unit, re.I):
-                around = unit[max(0, found.start() - 30):found.end() + 20]
+                around = unit[max(0, found.start() - 30) : found.end() + 20]
                 if not any(it in around for it in ALLOWED.get(found[0].lower(), ())):
                     yield f"line {line}: '{found[0]}' (say {plain}): ..{around}.."
 

@@ -1,5 +1,6 @@
 #!/usr/bin/env python3
-"""Writes first.script, first.replies and the listing first.txt: client 7 registers, creates accounts 1 and 2, and looks up 2, 9, 1."""
+"""Writes first.script, first.replies and the listing first.txt: client 7 registers, creates
+accounts 1 and 2, and looks up 2, 9, 1."""
 import struct
 
 
@@ -12,7 +13,11 @@ def request(client, session, number, operation, body):
 
 
 def reply(client, session, number, operation, status, commit, body):
-    return u128(client) + struct.pack("<QIBB2xIQ4x", session, number, operation, status, len(body), commit) + body
+    return (
+        u128(client)
+        + struct.pack("<QIBB2xIQ4x", session, number, operation, status, len(body), commit)
+        + body
+    )
 
 
 def account(id, timestamp=0):
@@ -25,13 +30,19 @@ def moment(n):
 
 requests = [
     ("client 7 registers", request(7, 0, 0, 2, b"")),
-    ("request 1 of session 1: create accounts 1 and 2", request(7, 1, 1, 129, account(1) + account(2))),
+    (
+        "request 1 of session 1: create accounts 1 and 2",
+        request(7, 1, 1, 129, account(1) + account(2)),
+    ),
     ("request 2: look up accounts 2, 9 and 1", request(7, 1, 2, 131, u128(2) + u128(9) + u128(1))),
 ]
 replies = [
     ("session 1, commit 1", reply(7, 1, 0, 2, 0, 1, b"")),
     ("commit 2, no result: both accounts were created", reply(7, 1, 1, 129, 0, 2, b"")),
-    ("commit 3: account 2, then account 1; 9 is not there", reply(7, 1, 2, 131, 0, 3, account(2, 12) + account(1, 11))),
+    (
+        "commit 3: account 2, then account 1; 9 is not there",
+        reply(7, 1, 2, 131, 0, 3, account(2, 12) + account(1, 11)),
+    ),
 ]
 
 
