@@ -189,7 +189,8 @@ def run() -> str:
         ]
         lines.append(f"| {text} | {' | '.join(cells)} |")
     head = (
-        "| Load | 100,000: over plain.rs | over lean.rs | 1,000,000: over plain.rs | over lean.rs | "
+        "| Load | 100,000: over plain.rs | over lean.rs "
+        "| 1,000,000: over plain.rs | over lean.rs | "
         "bound over plain.rs, 100,000 | 1,000,000 |"
     )
     return table(head, lines)

@@ -159,9 +159,9 @@ def believed():
     page, file = ROOT / "docs/trust/BELIEVE.md", None
     text = page.read_text()
     named = []
-    for row in re.findall(r"^\| (.*) \|$", text, re.M):
-        cells = row.split(" | ")
-        file = cells[0].strip("| ") if cells[0].endswith(".antt") else file
+    for row in re.findall(r"^\|(.*)\|$", text, re.M):
+        cells = [it.strip() for it in row.split("|")]
+        file = cells[0] if cells[0].endswith(".antt") else file
         named += (
             [(file, name) for name in re.findall(r"`(\w+)`", cells[1])]
             if len(cells) == 3 and file
