@@ -259,7 +259,7 @@ def form() -> str:
     commits = list(dict.fromkeys(it["commit"] for it in of_kind("form")))
     by_subject: dict[str, dict[str, str]] = collections.defaultdict(dict)
     for it in of_kind("form"):
-        by_subject[it["subject"]][it["commit"]] = it["value"]
+        by_subject[it["subject"]][it["commit"]] = f"{it['value']} {it['unit']}".strip()
         by_subject[it["subject"]].setdefault("bound", it["note"])
     lines = [
         f"| {it} | {found['bound']} | {' | '.join(found.get(at, '') for at in commits)} |"
