@@ -2,13 +2,13 @@
 """Runs tbs and two plain Rust servers on the same scripts by turns, compares their replies byte for
 byte, and prints what they cost.
 
-compare.py [SIZE [TURNS]]: SIZE events a workload (100000), the least processor time of TURNS turns
+compare.py [SIZE [TURNS]]: SIZE events a workload (100000), the least CPU time of TURNS turns
 (3). Needs rustc, and crates/tbs/out/tbs as `rt run` in crates/tbs leaves it; PROGRAM names another.
 Scripts are made from a seed in a temporary folder.
 
-For each program: processor time in seconds, how much of it the system took, its greatest memory in
+For each program: CPU time in seconds, how much of it the system took, its greatest memory in
 MiB, and its page faults in thousands. The last columns are the ratios of the first one's time to
-those of the plain servers (plain.rs, and lean.rs, which runs fewer instructions), and whether all
+those of the baselines (plain.rs, and lean.rs, which runs fewer instructions), and whether all
 replies were the same.
 """
 import filecmp
@@ -24,7 +24,7 @@ WORKLOADS = ["rising", "pending", "chains", "expiring", "single", "lookups", "mi
 
 
 def run(words, script, replies):
-    """What a program costs: processor time, the system's part of it, memory in MiB, thousand
+    """What a program costs: CPU time, the system's part of it, memory in MiB, thousand
     page faults."""
     with open(script, "rb") as source, open(replies, "wb") as sink:
         child = subprocess.Popen(words, stdin=source, stdout=sink)
@@ -46,7 +46,7 @@ def same(left, right):
 
 
 def compile_peer(name, folder):
-    """The words that start a plain server, which is built first."""
+    """The words that start a baseline, which is built first."""
     program = os.path.join(folder, name)
     subprocess.run(
         [

@@ -4,11 +4,11 @@ turns, and prints what they cost.
 
     keep.py [SIZE [TURNS]]
 
-SIZE events a workload (100000), the least processor time of TURNS turns (3). It needs
+SIZE events a workload (100000), the least CPU time of TURNS turns (3). It needs
 crates/tbs/out/tbs (PROGRAM names another) and crates/tbd/out/tbd (TBD names another), as `rt run`
 leaves them. Scripts are made from a seed in a temporary folder.
 
-For each workload: processor seconds of `run` without a file, of `tbd run` over a new file, and of a
+For each workload: CPU seconds of `run` without a file, of `tbd run` over a new file, and of a
 start over that file; the two ratios to the first; syncs a request (by strace, where it is there);
 and whether the replies were the same.
 """
@@ -31,7 +31,7 @@ WORKLOADS = ["rising", "chains", "expiring", "single", "lookups", "mixed"]
 
 
 def replies_in(path):
-    """How many frames of replies stand in a file."""
+    """How many frames of replies a file has."""
     with open(path, "rb") as file:
         data = file.read()
     at, count = 0, 0

@@ -1,13 +1,13 @@
 #!/usr/bin/env python3
-"""What published copies and ports cost: takes beside the one-thread machine, reads beside a busy
+"""What published copies and ports cost: takes next to the one-thread machine, reads next to a busy
 writer and orders of ports, against plain Rust.
 
   (cd crates/tb_bench && rt run)                    # builds crates/tb_bench/out/tb_bench
-  python3 bench/threads.py [TURNS [TABLE..]]        # prints the tables; the least of TURNS turns
+  python3 bench/threads.py [TURNS [TABLE..]]        # prints the tables; the best of TURNS runs
   (5)
 
 A TABLE is takes, reads, ports or memory; with none, all four. Programs that are compared run by
-turns. Memory is the growth of the resident size over 50 batches of 8190 transfers, in bytes a
+turns. Memory is what is added to the resident size over 50 batches of 8190 transfers, in bytes a
 transfer.
 """
 import os

@@ -7,10 +7,10 @@ First build both programs:
     checks/blocks.py
 
 - text: statements are read by `tbt script`; any other text is left alone.
-- console: stands in checks/terminal.txt, which checks/text.py types on a terminal.
+- console: is in checks/terminal.txt, which checks/text.py types on a terminal.
 - json, directly after statements: the replies to them, as `tbs run` and `tbt replies` give them.
 - python: compiled. sh: read by `bash -n`. c: compiled as far as its syntax goes, where cc is there.
-- rust: stands word for word, but for its imports, in a crate that the gate proves
+- rust: is there word for word, but for its imports, in a crate that the gate proves
   (checks/pages.py); on docs/use/EMBEDDING.md in an example of embed/rust, which checks/embed.py
   builds and runs.
 
@@ -86,12 +86,12 @@ def compile_python(block: str, name: str) -> None:
 
 
 def in_example(block: str) -> bool:
-    """Says that lines stand in an example of the embedded server."""
+    """Says that lines are in an example of the embedded server."""
     return any(block in path.read_text() for path in ROOT.glob("embed/rust/*.rs"))
 
 
 def check(kind: str, block: str, before: str | None, name: str) -> bool:
-    """Checks a block, which stands after `before` where that are statements; False where nothing
+    """Checks a block, which comes after `before` where that are statements; False where nothing
     can be run."""
     if kind == "text" and STATEMENT.search(block):
         script_of(block)
@@ -99,7 +99,7 @@ def check(kind: str, block: str, before: str | None, name: str) -> bool:
         compare_replies(before, block)
     elif kind == "console":
         if block not in (ROOT / "checks" / "terminal.txt").read_text():
-            raise Wrong("stands not in checks/terminal.txt")
+            raise Wrong("is not in checks/terminal.txt")
     elif kind == "python":
         compile_python(block, name)
     elif kind == "sh":
@@ -110,7 +110,7 @@ def check(kind: str, block: str, before: str | None, name: str) -> bool:
         if not (
             in_example(block) if name.startswith("docs/use/EMBEDDING.md:") else pages.stands(block)
         ):
-            raise Wrong("stands in no caller")
+            raise Wrong("is in no caller")
     else:
         return False
     return True

@@ -1,5 +1,5 @@
 #!/usr/bin/env python3
-"""Files that a loss of power may leave of the built tbd's work, by the calls that it made, and a
+"""Files that a power loss may leave of the built tbd's work, by the calls that it made, and a
 disk that is full.
 
     checks/crashes.py [--tbd PROGRAM] [--rounds N] [--images N] [--seed N]
@@ -212,7 +212,7 @@ def changed(image, write):
 
 
 def torn(image, write, rng):
-    """A file that a write or a cut leaves which a loss of power cuts short: any bytes in its
+    """A file that a write or a cut leaves which a power loss cuts short: any bytes in its
     range, any length between."""
     after = changed(image, write)
     if write[0] == b"T":
@@ -262,7 +262,7 @@ def replies_in(data):
 
 
 class Images:
-    """The files that a loss of power may leave, each judged."""
+    """The files that a power loss may leave, each judged."""
 
     def __init__(self, run, folder, count, rng):
         with open(run.file, "rb") as file:

@@ -194,7 +194,7 @@ class Wanted:
 
 
 def right_of_script(script, clients_max):
-    """The replies wanted (a number stands for the reply of that commit, given again), the
+    """The replies wanted (a number means the reply of that commit, given again), the
     entries, and the fault."""
     sessions, wanted, entries, at = Sessions(clients_max), [], [], 0
     while at < len(script):

@@ -10,7 +10,7 @@ all edits of a crate into its must-fail folder there, proves the libraries below
 must-fail CRATE`, one job a crate. Run it before a release, and whenever a public clause or a
 definition changes. Ends in 'N passed, M failed': passed are the edits that the prover refused.
 
-With --texts it proves nothing: it tells each edit whose old text does not stand in its file exactly
+With --texts it proves nothing: it tells each edit whose old text is not in its file exactly
 once, so that `rt must-fail` could not apply it. That takes a second, so run it on each change.
 """
 import argparse
@@ -75,7 +75,7 @@ def copy_into(room, crates):
 
 
 def below(deps, crates):
-    """The libraries below the crates, each behind those that it stands on."""
+    """The libraries below the crates, each behind those that it uses."""
     order = []
 
     def visit(name):

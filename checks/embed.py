@@ -107,7 +107,7 @@ def headers(folder):
 
 def programs(folder):
     """The programs that serve a script, each as the words of its command before CLIENTS_MAX and
-    PROFILE. The first requests are built beside them, as first_c, first_asan and first_rs."""
+    PROFILE. The first requests are built next to them, as first_c, first_asan and first_rs."""
     heap = f"{kit()}/c/liblibc_c.a"
     found, shared = {}, f"{folder}/libtb_embed.so"
     flags = ["-O2", "-Wall", "-Wextra", "-Werror", "-std=gnu11"]

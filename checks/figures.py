@@ -5,7 +5,7 @@
     runs.csv gives checks/figures.py --write   writes the blocks
 
 A row of runs.csv is one run of the gate, of a crate, of a benchmark or of a check;
-docs/work/PROVING.md has its columns. A block of a page stands between `<!-- figures: NAME -->` and
+docs/work/PROVING.md has its columns. A block of a page is between `<!-- figures: NAME -->` and
 `<!-- end of figures -->`. A block that no page has, a block without a writer, a row with an unknown
 kind, without a date or with a commit that git does not know are failures too.
 """

@@ -1,5 +1,5 @@
 #!/usr/bin/env python3
-"""Runs the gate and tells what it took: processor minutes of each crate by its passes, as a table
+"""Runs the gate and tells what it took: CPU minutes of each crate by its passes, as a table
 in Markdown.
 
     python3 checks/gate.py [--log FILE] [WORD ..]
@@ -62,7 +62,7 @@ def processes():
 
 
 def below(found, top):
-    """The processes that stand below one, itself among them."""
+    """The processes below one, itself among them."""
     tree = {top}
     while True:
         more = {pid for pid, it in found.items() if it[0] in tree} - tree

@@ -1,16 +1,16 @@
 #!/usr/bin/env python3
 """Checks what pages say of the code, as far as a search can tell.
 
-- Each Rust example of a page CALLING.md stands word for word, but for its imports, in a crate that
-  the gate proves.
+- Each Rust example of a page CALLING.md is there word for word, but for its imports, in a crate
+  that the gate proves.
 - The head of each crate's lib.rt or main.rt lists the modules of that crate, all of them and no
   other; where it lists those of a module, these too.
 - The first statements of README.md are those of examples/retry.text, which its first command reads.
 - Each name that a walk of docs/work/ARCHITECTURE.md gives as `module::function` or `Type::call` is
-  there, in the crate that stands before it; so is each file that docs/work/ARCHITECTURE.md names,
+  there, in the crate that comes before it; so is each file that docs/work/ARCHITECTURE.md names,
   with the names in brackets behind it, or before it as `name of` it.
 - Each definition that docs/trust/BELIEVE.md lists is in the file that it names.
-- Each name that docs/work/GLOSSARY.md gives a word in the code stands in the sources, the
+- Each name that docs/work/GLOSSARY.md gives a word in the code is in the sources, the
   definitions or the Python client, and where it gives a crate with the name, there.
 
 Usage: checks/pages.py. Ends in 'N passed, 0 failed'. checks/blocks.py looks at the examples too.
@@ -44,17 +44,17 @@ def code() -> str:
 
 
 def stands(block: str) -> bool:
-    """Says that an example stands in a crate."""
+    """Says that an example is in a crate."""
     return without_imports(block) in code()
 
 
 def examples():
-    """Each example: where it stands, and what is wrong with it."""
+    """Each example: where it is, and what is wrong with it."""
     for page in sorted(ROOT.glob("crates/*/CALLING.md")):
         for block in BLOCK.findall(page.read_text()):
             yield page.relative_to(ROOT), None if stands(
                 block
-            ) else f"stands in no caller: {block.splitlines()[0]}"
+            ) else f"is in no caller: {block.splitlines()[0]}"
 
 
 def modules(text: str) -> set[str]:
@@ -103,7 +103,7 @@ def is_there(crate: str, name: str) -> bool:
 
 
 def walks():
-    """Each name of a walk, where it is not in the crate that stands before it."""
+    """Each name of a walk, where it is not in the crate that comes before it."""
     page = ROOT / "docs/work/ARCHITECTURE.md"
     text = page.read_text()
     walked = text[text.index("\n## Walks\n") :]

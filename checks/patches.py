@@ -1,5 +1,5 @@
 #!/usr/bin/env python3
-"""Tries wrong bodies that no contract refuses, but a test does: each a patch in checks/patches.
+"""Tries mutants that no contract refuses, but a test does: each a patch in checks/patches.
 
     python3 checks/patches.py [NAME ..]
 

@@ -344,7 +344,7 @@ def sessions():
 
 
 def many_items():
-    """8190 accounts and their look-up: a body and a reply of more bytes than the program holds
+    """8190 accounts and their lookup: a body and a reply of more bytes than the program holds
     at a time."""
     numbers = range(1, 8191)
     create = pair(10, 7, 1, 1, 129, b"".join(account(id) for id in numbers))
@@ -447,7 +447,7 @@ def entry(commit, time, timed):
     return struct.pack("<QQ", commit, time) + timed[8:]
 
 
-# the register has the time 10, the two accounts the time 12, the look-up 13
+# the register has the time 10, the two accounts the time 12, the lookup 13
 ENTRIES = [entry(1, 10, FIRST), entry(2, 12, SCRIPT[56:368]), entry(3, 13, SCRIPT[368:])]
 DUMP = HEAD + b"".join(ENTRIES)
 DUMPED, REPLAY = ["dump", "2"], ["replay"]

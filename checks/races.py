@@ -34,14 +34,14 @@ void *__tsan_memset(void *to, int byte, size_t n) { return memset(to, byte, n); 
 
 
 def libraries():
-    """Of each crate what it stands on, by crates.txt."""
+    """Of each crate what it is built on, by crates.txt."""
     with open(f"{TOP}/crates.txt", encoding="utf-8") as lines:
         rows = [line.split("#")[0].split(":") for line in lines if ":" in line.split("#")[0]]
     return {row[0].split()[0]: row[1].split() for row in rows}
 
 
 def below(crate, uses):
-    """All crates of the repository that a crate stands on."""
+    """All crates of the repository that a crate is built on."""
     found = []
     for name in uses[crate]:
         if name in uses and name not in found:
@@ -51,7 +51,7 @@ def below(crate, uses):
 
 def module_of(crate, kit, folder):
     """Builds the crate's program once more, from what its check kept, and answers its module: a
-    compiler that keeps it stands before the kit's."""
+    compiler that keeps it comes before the kit's."""
     tools = f"{folder}/toolchain"
     os.makedirs(f"{tools}/bin")
     os.symlink(f"{kit}/toolchain/lib", f"{tools}/lib")

@@ -1,6 +1,6 @@
 #!/usr/bin/env python3
-"""Refuses each growth, each read and each write of the built programs in turn, once each, and looks
-at what they answer. First build them:
+"""Refuses each allocation, each read and each write of the built programs in turn, once each, and
+looks at what they answer. First build them:
 
     (cd crates/tbs && rt run -- run 2) < examples/first.script > /dev/null
     (cd crates/tb_refusals && rt run -- take 2) < examples/first.script > /dev/null
@@ -213,8 +213,9 @@ OWN = "SetUp", "copy NoMemory", "no call"
 
 
 def each_growth(refuser, name, form, clients, script, judge, least, wanted):
-    """Each growth refused in turn while a form serves a script: what `judge` says of each run, all
-    memory given back, and at least so many refusals of calls, each of the wanted kinds among them.
+    """Each allocation refused in turn while a form serves a script: what `judge` says of each run,
+    all memory given back, and at least so many refusals of calls, each of the wanted kinds among
+    them.
     """
     counts, whys, runs = collections.Counter(), [], 0
     for at, ran in refuser.in_turn(AGAIN, [form, clients], script):
@@ -263,7 +264,7 @@ def answers(wanted):
 
 
 def calls_answer(replies, history):
-    """As `answers`, or a server that ended for want of memory, and a beginning of both."""
+    """As `answers`, or a server that ended since memory ran out, and a beginning of both."""
 
     def judge(ran):
         if set_up(ran) or (ran.status, ran.output) == (0, replies + history):
@@ -429,7 +430,7 @@ def growths(refuser):
 
 
 def storms(refuser):
-    """A storm with each growth refused in turn: its four lines, or NoMemory, or a client that
+    """A storm with each allocation refused in turn: its four lines, or NoMemory, or a client that
     gave up, and all memory given back."""
     words = ["storm", 2, 3]
     wanted, counts, whys = plain(PROGRAM, words, b"").output, collections.Counter(), []
