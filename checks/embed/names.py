@@ -20,12 +20,48 @@ sys.path[:0] = [f"{TOP}/embed/python", f"{TOP}/clients/python"]
 KINDS = [
     ("Operations", "operation_code", "operation_name", "tb_operation", "OPERATION", "Operation"),
     ("Messages", "status_code", "status_name", "tb_reply_status", "REPLY_STATUS", "Status"),
-    ("AccountFlags", "account_flag_bit", "account_flag_name", "tb_account_flags", "ACCOUNT", "AccountFlags"),
-    ("TransferFlags", "transfer_flag_bit", "transfer_flag_name", "tb_transfer_flags", "TRANSFER", "TransferFlags"),
-    ("AccountResults", "account_result_code", "account_result_name", "tb_create_account_result", "CREATE_ACCOUNT", "CreateAccountResult"),
-    ("TransferResults", "transfer_result_code", "transfer_result_name", "tb_create_transfer_result", "CREATE_TRANSFER", "CreateTransferResult"),
+    (
+        "AccountFlags",
+        "account_flag_bit",
+        "account_flag_name",
+        "tb_account_flags",
+        "ACCOUNT",
+        "AccountFlags",
+    ),
+    (
+        "TransferFlags",
+        "transfer_flag_bit",
+        "transfer_flag_name",
+        "tb_transfer_flags",
+        "TRANSFER",
+        "TransferFlags",
+    ),
+    (
+        "AccountResults",
+        "account_result_code",
+        "account_result_name",
+        "tb_create_account_result",
+        "CREATE_ACCOUNT",
+        "CreateAccountResult",
+    ),
+    (
+        "TransferResults",
+        "transfer_result_code",
+        "transfer_result_name",
+        "tb_create_transfer_result",
+        "CREATE_TRANSFER",
+        "CreateTransferResult",
+    ),
 ]
-RUST_SIZES = {"u8": 1, "u16": 2, "u32": 4, "u64": 8, "u128": 16, "AccountFlags": 2, "TransferFlags": 2}
+RUST_SIZES = {
+    "u8": 1,
+    "u16": 2,
+    "u32": 4,
+    "u64": 8,
+    "u128": 16,
+    "AccountFlags": 2,
+    "TransferFlags": 2,
+}
 
 
 def read(path):
@@ -92,7 +128,14 @@ LAYOUTS = [
 
 def limits():
     """Sizes and limits, by their names in Rust; C has TB_ before them."""
-    header, record, result = (layout(*it)[0] for it in (("Frames", "header_bytes"), ("RecordBytes", "account_bytes"), ("RecordBytes", "result_bytes")))
+    header, record, result = (
+        layout(*it)[0]
+        for it in (
+            ("Frames", "header_bytes"),
+            ("RecordBytes", "account_bytes"),
+            ("RecordBytes", "result_bytes"),
+        )
+    )
     items = only(re.findall(r"^items_max = (\d+)$", spec("Messages"), re.M))
     return {
         "HEADER_SIZE": header,
@@ -111,26 +154,62 @@ def limits():
 
 
 def enums_in_c(header):
-    return {tag: {name: int(number) for name, number in re.findall(r"\bTB_(\w+) = (\d+)", body)} for tag, body in re.findall(r"^enum (\w+) \{\n(.*?)^\};", header, re.M | re.S)}
+    return {
+        tag: {name: int(number) for name, number in re.findall(r"\bTB_(\w+) = (\d+)", body)}
+        for tag, body in re.findall(r"^enum (\w+) \{\n(.*?)^\};", header, re.M | re.S)
+    }
 
 
 def texts_in_c(header):
-    return {tag: dict(re.findall(r'case TB_(\w+): return "([^"]+)";', body)) for tag, body in re.findall(r"^static inline const char \*(\w+)_name\(.*?\{\n(.*?)^\}", header, re.M | re.S)}
+    return {
+        tag: dict(re.findall(r'case TB_(\w+): return "([^"]+)";', body))
+        for tag, body in re.findall(
+            r"^static inline const char \*(\w+)_name\(.*?\{\n(.*?)^\}", header, re.M | re.S
+        )
+    }
 
 
 def enums_in_rust(source):
     """Each enum and each set of flags: its variants, with numbers and texts."""
-    blocks = re.findall(r"^(?:numbered|flags)! \{\n(?:    ///[^\n]*\n)*    (\w+) \{\n(.*?)^    \}", source, re.M | re.S)
-    return {name: {variant: (int(number), text) for variant, number, text in re.findall(r'(\w+) = (\d+) "(\w+)",', body)} for name, body in blocks}
+    blocks = re.findall(
+        r"^(?:numbered|flags)! \{\n(?:    ///[^\n]*\n)*    (\w+) \{\n(.*?)^    \}",
+        source,
+        re.M | re.S,
+    )
+    return {
+        name: {
+            variant: (int(number), text)
+            for variant, number, text in re.findall(r'(\w+) = (\d+) "(\w+)",', body)
+        }
+        for name, body in blocks
+    }
 
 
 def layouts_in_rust(source):
-    blocks = re.findall(r"^record! \{\n(?:    ///[^\n]*\n)*    (\w+), (\w+) \{\n(.*?)^    \}", source, re.M | re.S)
-    return {name: (size, [(int(at), field, RUST_SIZES[kind]) for at, field, kind in re.findall(r"(\d+) (\w+): (\w+),", body)]) for name, size, body in blocks}
+    blocks = re.findall(
+        r"^record! \{\n(?:    ///[^\n]*\n)*    (\w+), (\w+) \{\n(.*?)^    \}", source, re.M | re.S
+    )
+    return {
+        name: (
+            size,
+            [
+                (int(at), field, RUST_SIZES[kind])
+                for at, field, kind in re.findall(r"(\d+) (\w+): (\w+),", body)
+            ],
+        )
+        for name, size, body in blocks
+    }
 
 
 def faults_in_rust(source):
-    return {name: int(number) for name, number in re.findall(r"^    (\w+) = (\d+),", re.search(r"^pub enum Fault \{\n(.*?)^\}", source, re.M | re.S).group(1), re.M)}
+    return {
+        name: int(number)
+        for name, number in re.findall(
+            r"^    (\w+) = (\d+),",
+            re.search(r"^pub enum Fault \{\n(.*?)^\}", source, re.M | re.S).group(1),
+            re.M,
+        )
+    }
 
 
 # The comparisons
@@ -138,15 +217,29 @@ def faults_in_rust(source):
 
 def asserted(what, lines):
     """Whether these asserts hold over the header, as the compiler sees it."""
-    source = "\n".join(['#include "tb_embed.h"', *(f'TB_ASSERT({it}, "{it}");' for it in lines), ""])
-    ran = subprocess.run(["cc", "-std=c11", "-fsyntax-only", "-x", "c", f"-I{TOP}/embed", "-"], input=source.encode(), capture_output=True)
-    return what, ran.returncode == 0, "; ".join(re.findall(r"error: (.*)", ran.stderr.decode(errors="replace")))
+    source = "\n".join(
+        ['#include "tb_embed.h"', *(f'TB_ASSERT({it}, "{it}");' for it in lines), ""]
+    )
+    ran = subprocess.run(
+        ["cc", "-std=c11", "-fsyntax-only", "-x", "c", f"-I{TOP}/embed", "-"],
+        input=source.encode(),
+        capture_output=True,
+    )
+    return (
+        what,
+        ran.returncode == 0,
+        "; ".join(re.findall(r"error: (.*)", ran.stderr.decode(errors="replace"))),
+    )
 
 
 def same(what, wanted, got):
     """Whether two dicts are the same, and where they are not."""
     keys = [key for key in {**wanted, **got} if wanted.get(key) != got.get(key)]
-    return what, bool(wanted) and not keys, "; ".join(f"{key} is {wanted.get(key)}, not {got.get(key)}" for key in keys)
+    return (
+        what,
+        bool(wanted) and not keys,
+        "; ".join(f"{key} is {wanted.get(key)}, not {got.get(key)}" for key in keys),
+    )
 
 
 def comparisons():
@@ -169,40 +262,82 @@ def statuses_of_outcomes():
 def in_c(header):
     enums, named = enums_in_c(header), texts_in_c(header)
     kinds = {"tb_fault", "tb_status", *(it[3] for it in KINDS)}
-    yield "the header's enums are those that are compared", enums.keys() == kinds, ", ".join(enums.keys() ^ kinds)
+    yield "the header's enums are those that are compared", enums.keys() == kinds, ", ".join(
+        enums.keys() ^ kinds
+    )
     for file, number_word, text_word, tag, prefix, _ in KINDS:
         rows = defined(file, number_word, text_word)
-        word = {variant: f"{prefix}_{text.upper() if text.islower() else upper(variant)}" for variant, (_, text) in rows.items()}
-        yield same(f"{tag} in C", {word[it]: number for it, (number, _) in rows.items()}, enums[tag])
+        word = {
+            variant: f"{prefix}_{text.upper() if text.islower() else upper(variant)}"
+            for variant, (_, text) in rows.items()
+        }
+        yield same(
+            f"{tag} in C", {word[it]: number for it, (number, _) in rows.items()}, enums[tag]
+        )
         if "flags" not in tag:
-            yield same(f"{tag} in C, by name", {word[it]: text for it, (_, text) in rows.items()}, named[tag])
+            yield same(
+                f"{tag} in C, by name",
+                {word[it]: text for it, (_, text) in rows.items()},
+                named[tag],
+            )
     faults = defined("Faults", "fault_number", "fault_name")
-    yield same("tb_fault in C", {"FAULT_NONE": 0, **{f"FAULT_{upper(it)}": number for it, (number, _) in faults.items()}}, enums["tb_fault"])
-    yield same("tb_fault in C, by name", {"FAULT_NONE": "none", **{f"FAULT_{upper(it)}": text for it, (_, text) in faults.items()}}, named["tb_fault"])
+    yield same(
+        "tb_fault in C",
+        {"FAULT_NONE": 0, **{f"FAULT_{upper(it)}": number for it, (number, _) in faults.items()}},
+        enums["tb_fault"],
+    )
+    yield same(
+        "tb_fault in C, by name",
+        {"FAULT_NONE": "none", **{f"FAULT_{upper(it)}": text for it, (_, text) in faults.items()}},
+        named["tb_fault"],
+    )
     statuses = statuses_of_outcomes()
-    yield same("tb_status in C", {upper(it): number for it, number in statuses.items()}, enums["tb_status"])
-    yield same("tb_status in C, by name", {upper(it): upper(it).lower().replace("_", " ") for it in statuses}, named["tb_status"])
-    yield asserted("sizes and limits in C", [f"TB_{name} == {value}" for name, value in limits().items()])
+    yield same(
+        "tb_status in C", {upper(it): number for it, number in statuses.items()}, enums["tb_status"]
+    )
+    yield same(
+        "tb_status in C, by name",
+        {upper(it): upper(it).lower().replace("_", " ") for it in statuses},
+        named["tb_status"],
+    )
+    yield asserted(
+        "sizes and limits in C", [f"TB_{name} == {value}" for name, value in limits().items()]
+    )
     for file, word, tag, _ in LAYOUTS:
         size, fields = layout(file, word)
         lines = [f"sizeof({tag}) == {size}"]
         for at, name, bytes_of in fields:
-            halves = [("commit_low", at, 4), ("commit_high", at + 4, 4)] if name == "commit" else [(name, at, bytes_of)]
-            lines += [f"offsetof({tag}, {half}) == {place} && sizeof((({tag} *)0)->{half}) == {length}" for half, place, length in halves]
+            halves = (
+                [("commit_low", at, 4), ("commit_high", at + 4, 4)]
+                if name == "commit"
+                else [(name, at, bytes_of)]
+            )
+            lines += [
+                f"offsetof({tag}, {half}) == {place} && sizeof((({tag} *)0)->{half}) == {length}"
+                for half, place, length in halves
+            ]
         yield asserted(f"{tag}: {len(fields)} fields in {size} bytes", lines)
 
 
 def in_rust(source):
     enums, layouts = enums_in_rust(source), layouts_in_rust(source)
     kinds = {it[5] for it in KINDS}
-    yield "Rust's enums and flags are those that are compared", enums.keys() == kinds, ", ".join(enums.keys() ^ kinds)
+    yield "Rust's enums and flags are those that are compared", enums.keys() == kinds, ", ".join(
+        enums.keys() ^ kinds
+    )
     for file, number_word, text_word, _, _, name in KINDS:
         rows = defined(file, number_word, text_word)
-        yield same(f"{name} in Rust", {upper(it) if "Flags" in name else it: row for it, row in rows.items()}, enums[name])
+        yield same(
+            f"{name} in Rust",
+            {upper(it) if "Flags" in name else it: row for it, row in rows.items()},
+            enums[name],
+        )
     yield same("Fault in Rust", numbers(spec("Faults"), "fault_number"), faults_in_rust(source))
     refusals = re.findall(r"^        (\d+) => Err\(Refusal::(\w+)", source, re.M)
     shown = statuses_of_outcomes()
-    known = {name: number for name, number in shown.items() if name not in ("Done", "Closed", "Absent")}
+    known = {
+        name: number for name, number in shown.items() if name not in ("Done", "Closed", "Absent")
+    }
     yield same("Refusal in Rust", known, {name: int(number) for number, name in refusals})
     constants = dict(re.findall(r"^pub const (\w+): \w+ = ([^;]+);", source, re.M))
     values = {name: eval_rust(value, constants) for name, value in constants.items()}
@@ -211,12 +346,17 @@ def in_rust(source):
         if name:
             size, fields = layout(file, word)
             size_name, found = layouts[name]
-            yield f"{name} in Rust: {len(fields)} fields in {size} bytes", (size, fields) == (values[size_name], found), f"{fields} are wanted, not {found}"
+            yield f"{name} in Rust: {len(fields)} fields in {size} bytes", (size, fields) == (
+                values[size_name],
+                found,
+            ), f"{fields} are wanted, not {found}"
 
 
 def eval_rust(expression, constants):
     """The value of a constant: numbers, sums and products of constants, and the greatest numbers of types."""
-    text = expression.replace("i64::MAX as u64", str(2**63 - 1)).replace("u128::MAX", str(2**128 - 1))
+    text = expression.replace("i64::MAX as u64", str(2**63 - 1)).replace(
+        "u128::MAX", str(2**128 - 1)
+    )
     while names := set(re.findall(r"[A-Z_]+", text)):
         for name in names:
             text = re.sub(rf"\b{name}\b", f"({constants[name]})", text)
@@ -234,25 +374,52 @@ def in_python():
         found = {it: int(value) for it, value in getattr(tb_client, name).__members__.items()}
         yield same(f"{name} in Python", {text: number for number, text in rows.values()}, found)
     statuses = statuses_of_outcomes()
-    yield same("REFUSALS in Python", {number: it for it, number in statuses.items() if number}, tb_embed.REFUSALS)
+    yield same(
+        "REFUSALS in Python",
+        {number: it for it, number in statuses.items() if number},
+        tb_embed.REFUSALS,
+    )
     wanted = limits()
-    found = {"HEADER_SIZE": sizes.HEADER, "RECORD_SIZE": sizes.RECORD, "ID_SIZE": sizes.ID, "ITEMS_MAX": sizes.ITEMS_MAX}
+    found = {
+        "HEADER_SIZE": sizes.HEADER,
+        "RECORD_SIZE": sizes.RECORD,
+        "ID_SIZE": sizes.ID,
+        "ITEMS_MAX": sizes.ITEMS_MAX,
+    }
     found |= {"REPLY_MAX": tb_embed.REPLY_MAX, "TIME_MAX": values.MOMENT_MAX}
     yield same("sizes and limits in Python", {name: wanted[name] for name in found}, found)
 
 
 def in_pages(page):
     """What docs/use/FORMATS.md says of operations, statuses, flags and faults."""
-    by_number = {name: {number: text for number, text in defined(file, number_word, text_word).values()} for file, number_word, text_word, _, _, name in KINDS}
-    operations = {int(number): name for number, name in re.findall(r"^\| (\d+) (\w+) \|", page, re.M)}
+    by_number = {
+        name: {number: text for number, text in defined(file, number_word, text_word).values()}
+        for file, number_word, text_word, _, _, name in KINDS
+    }
+    operations = {
+        int(number): name for number, name in re.findall(r"^\| (\d+) (\w+) \|", page, re.M)
+    }
     yield same("operations on the page of formats", by_number["Operation"], operations)
-    statuses = {int(number): name for number, name in re.findall(r"^\| (\d) \| (\w+) \| (?:is|has|skips)", page, re.M)}
+    statuses = {
+        int(number): name
+        for number, name in re.findall(r"^\| (\d) \| (\w+) \| (?:is|has|skips)", page, re.M)
+    }
     yield same("statuses on the page of formats", by_number["Status"], statuses)
-    for name, listed in zip(("AccountFlags", "TransferFlags"), re.findall(r"^Flags: (.*?)\.$", page, re.M | re.S)):
-        yield same(f"{name} on the page of formats", by_number[name], {int(bit): flag for bit, flag in re.findall(r"(\d+) (\w+)", listed)})
+    for name, listed in zip(
+        ("AccountFlags", "TransferFlags"), re.findall(r"^Flags: (.*?)\.$", page, re.M | re.S)
+    ):
+        yield same(
+            f"{name} on the page of formats",
+            by_number[name],
+            {int(bit): flag for bit, flag in re.findall(r"(\d+) (\w+)", listed)},
+        )
     (listed,) = re.findall(r"`FrameFault::number` answers (.*?);", page, re.S)
     faults = {int(number): name for number, name in re.findall(r"(\d+) (\w+)", listed)}
-    yield same("faults on the page of formats", {number: it for it, number in numbers(spec("Faults"), "fault_number").items()}, faults)
+    yield same(
+        "faults on the page of formats",
+        {number: it for it, number in numbers(spec("Faults"), "fault_number").items()},
+        faults,
+    )
 
 
 def main():

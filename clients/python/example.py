@@ -1,5 +1,6 @@
 #!/usr/bin/env python3
-"""Moves money between two accounts, once, though a reply is lost, the client crashes, its session ends, and the server is killed.
+"""Moves money between two accounts, once, though a reply is lost, the client crashes, its session
+ends, and the server is killed.
 
     example.py [PATH OF tbs]        (crates/tbs/out/tbs of this repository where none is given)
 """
@@ -9,10 +10,25 @@ import tempfile
 from typing import Sequence, Union
 
 import tb_client as tb
-from tb_client import Account, Evicted, Faulty, Operation, Program, ReplyLost, Session, Transfer, id, require_ok
+from tb_client import (
+    Account,
+    Evicted,
+    Faulty,
+    Operation,
+    Program,
+    ReplyLost,
+    Session,
+    Transfer,
+    id,
+    require_ok,
+)
 
 here = os.path.dirname(os.path.abspath(__file__))
-path = sys.argv[1] if len(sys.argv) > 1 else os.path.join(here, "..", "..", "crates", "tbs", "out", "tbs")
+path = (
+    sys.argv[1]
+    if len(sys.argv) > 1
+    else os.path.join(here, "..", "..", "crates", "tbs", "out", "tbs")
+)
 CASH, SALES = 1, 2
 
 
@@ -20,7 +36,9 @@ def credited(session: Session) -> int:
     return session.lookup_accounts([SALES])[0].credits_posted
 
 
-def create(session: Session, kept: str, operation: Operation, records: Sequence[Union[Account, Transfer]]) -> None:
+def create(
+    session: Session, kept: str, operation: Operation, records: Sequence[Union[Account, Transfer]]
+) -> None:
     """The way that survives a crash: prepare, save, and only then send."""
     session.prepare(operation, records)
     session.save(kept)
@@ -28,16 +46,26 @@ def create(session: Session, kept: str, operation: Operation, records: Sequence[
     session.save(kept)
 
 
-with tempfile.TemporaryDirectory() as folder, Program(path, clients_max=1, restarts=True) as program:
+with tempfile.TemporaryDirectory() as folder, Program(
+    path, clients_max=1, restarts=True
+) as program:
     kept = os.path.join(folder, "session.json")
 
     # The first life of a client.
     session = Session.register(program)
-    create(session, kept, Operation.create_accounts, [Account(it, ledger=700, code=10) for it in (CASH, SALES)])
+    create(
+        session,
+        kept,
+        Operation.create_accounts,
+        [Account(it, ledger=700, code=10) for it in (CASH, SALES)],
+    )
     print("accounts 1 and 2 are created")
 
-    sale = Transfer(id(), debit_account_id=CASH, credit_account_id=SALES, amount=100, ledger=700, code=10)
-    session.transport = Faulty(program, replies=range(1, 6))  # it reaches the server, and no reply comes back
+    sale = Transfer(
+        id(), debit_account_id=CASH, credit_account_id=SALES, amount=100, ledger=700, code=10
+    )
+    # it reaches the server, and no reply comes back
+    session.transport = Faulty(program, replies=range(1, 6))
     try:
         create(session, kept, Operation.create_transfers, [sale])
     except ReplyLost:
@@ -50,8 +78,11 @@ with tempfile.TemporaryDirectory() as folder, Program(path, clients_max=1, resta
     session.save(kept)
     print(f"after a crash the same bytes are sent again: credits_posted {credited(session)}")
 
-    # Another client takes the only place, and the session ends: whether the transfer was made is in doubt.
-    second = Transfer(id(), debit_account_id=CASH, credit_account_id=SALES, amount=10, ledger=700, code=10)
+    # Another client takes the only place, and the session ends: whether the transfer was made is in
+    # doubt.
+    second = Transfer(
+        id(), debit_account_id=CASH, credit_account_id=SALES, amount=10, ledger=700, code=10
+    )
     Session.register(program)
     try:
         create(session, kept, Operation.create_transfers, [second])
@@ -62,9 +93,13 @@ with tempfile.TemporaryDirectory() as folder, Program(path, clients_max=1, resta
         results = session.create_transfers(doubt.items)
         require_ok([it for it in results if it.result != tb.CreateTransferResult.exists])
         session.save(kept)  # from here on the old session is not needed
-        print(f"after an eviction the same records are created again: credits_posted {credited(session)}")
+        print(
+            "after an eviction the same records are created again: credits_posted "
+            f"{credited(session)}"
+        )
 
-    # The server is killed. Its history was in its memory alone, and comes back from the script that restarts=True keeps.
+    # The server is killed. Its history was in its memory alone, and comes back from the script that
+    # restarts=True keeps.
     assert program.process is not None
     program.process.kill()
     print(f"after a restart: credits_posted {credited(session)}")

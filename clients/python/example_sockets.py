@@ -38,7 +38,9 @@ def work(address: Address, kept: str) -> None:
             session = Session.register(transport)
         session.save(kept)
         while session.number < COUNT:
-            session.prepare(Operation.create_transfers, [Transfer(id(), CASH, SALES, 1, ledger=700, code=10)])
+            session.prepare(
+                Operation.create_transfers, [Transfer(id(), CASH, SALES, 1, ledger=700, code=10)]
+            )
             session.save(kept)
             require_ok(session.retry())
             session.save(kept)
@@ -62,8 +64,23 @@ class Listening:
 
     def __init__(self, command: List[str], place: List[str], folder: str) -> None:
         self.folder = folder
-        named = ["sh", "-c", 'echo $$ > "$0"; exec "$@"', os.path.join(folder, "server.pid"), *command]
-        self.words = [sys.executable, os.path.join(here, "tb_listen.py"), *place, "--", *named, "run", os.path.join(folder, "ledger.journal"), "8"]
+        named = [
+            "sh",
+            "-c",
+            'echo $$ > "$0"; exec "$@"',
+            os.path.join(folder, "server.pid"),
+            *command,
+        ]
+        self.words = [
+            sys.executable,
+            os.path.join(here, "tb_listen.py"),
+            *place,
+            "--",
+            *named,
+            "run",
+            os.path.join(folder, "ledger.journal"),
+            "8",
+        ]
         self.start()
 
     def start(self) -> None:
@@ -99,10 +116,14 @@ class Listening:
 
 
 def client(address: Address, kept: str) -> "subprocess.Popen[bytes]":
-    return subprocess.Popen([sys.executable, os.path.abspath(__file__), "client", json.dumps(address), kept])
+    return subprocess.Popen(
+        [sys.executable, os.path.abspath(__file__), "client", json.dumps(address), kept]
+    )
 
 
-def wait_until(count: int, files: List[str], clients: "List[subprocess.Popen[bytes]]", listening: Listening) -> None:
+def wait_until(
+    count: int, files: List[str], clients: "List[subprocess.Popen[bytes]]", listening: Listening
+) -> None:
     """Waits until the clients know so many transfers to be made. Ends the example where they cannot make them any more."""
     deadline = time.monotonic() + PATIENCE
     while sum(map(done, files)) < count:
@@ -128,15 +149,21 @@ def run(command: List[str], place: List[str], folder: str) -> None:
             it.wait()
 
 
-def work_amid_kills(listening: Listening, clients: "List[subprocess.Popen[bytes]]", place: List[str], folder: str) -> None:
+def work_amid_kills(
+    listening: Listening, clients: "List[subprocess.Popen[bytes]]", place: List[str], folder: str
+) -> None:
     address: Address = listening.place
     if place[0] == "--tcp":
         host, _, port = listening.place.rpartition(":")
         address = host, int(port)
-        listening.words[listening.words.index("--tcp") + 1] = listening.place  # from now on the same port
+        listening.words[
+            listening.words.index("--tcp") + 1
+        ] = listening.place  # from now on the same port
 
     with Session.register(Socket(address)) as session:
-        require_ok(session.create_accounts([Account(it, ledger=700, code=10) for it in (CASH, SALES)]))
+        require_ok(
+            session.create_accounts([Account(it, ledger=700, code=10) for it in (CASH, SALES)])
+        )
     files = [os.path.join(folder, f"session{number}.json") for number in range(CLIENTS)]
     clients += [client(address, kept) for kept in files]
 
@@ -178,7 +205,11 @@ def main(words: List[str]) -> None:
     for name, place in (("a Unix socket", "--unix"), ("a port", "--tcp")):
         with tempfile.TemporaryDirectory() as folder:
             print(f"on {name}:")
-            run(command, [place, "127.0.0.1:0" if place == "--tcp" else os.path.join(folder, "ledger.sock")], folder)
+            run(
+                command,
+                [place, "127.0.0.1:0" if place == "--tcp" else os.path.join(folder, "ledger.sock")],
+                folder,
+            )
 
 
 if __name__ == "__main__":

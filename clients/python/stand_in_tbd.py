@@ -5,9 +5,10 @@
     stand_in_tbd.py dump FILE
     stand_in_tbd.py check FILE
 
-It has tbd's command line, lines and exit statuses. Its ledger knows few rules, and its file has a dump's bytes and no checksums:
-nothing of money is to be kept in it. FAIL makes `run` end at its Nth pair: FAIL=NAME:STATUS:N with that fault, and
-FAIL=SIGNAL:PLACE:N by that signal (as SIGKILL:read:3) at one of these places:
+It has tbd's command line, lines and exit statuses. Its ledger knows few rules, and its file has a
+dump's bytes and no checksums: nothing of money is to be kept in it. FAIL makes `run` end at its Nth
+pair: FAIL=NAME:STATUS:N with that fault, and FAIL=SIGNAL:PLACE:N by that signal (as SIGKILL:read:3)
+at one of these places:
 
     read   the pair was read, and nothing was done with it
     half   one byte of its entry is missing in the file
@@ -36,7 +37,8 @@ class Fault(Exception):
 
 
 class Ledger:
-    """Sessions as docs/use/RULES.md has them, accounts, and transfers that are refused where they exist or an account does not."""
+    """Sessions as docs/use/RULES.md has them, accounts, and transfers that are refused where
+    they exist or an account does not."""
 
     def __init__(self, clients_max):
         self.clients_max = clients_max
@@ -58,7 +60,9 @@ class Ledger:
         return 4 if number < row[1] else None if number == row[1] + 1 else 6
 
     def next_time(self, moment, frame):
-        time = max(moment, self.time + max(1, (len(frame) - 48) // 128 if frame[28] in EXISTS else 1))
+        time = max(
+            moment, self.time + max(1, (len(frame) - 48) // 128 if frame[28] in EXISTS else 1)
+        )
         if time > LAST_TIME:
             raise Fault("TimeExhausted", 2)
         return time
@@ -73,8 +77,14 @@ class Ledger:
                 del self.sessions[min(self.sessions, key=lambda it: self.sessions[it][4])]
         size = 128 if operation in EXISTS else 16
         items = [frame[at : at + size] for at in range(48, len(frame), size)]
-        body = self.create(operation, items) if operation in EXISTS else self.look_up(operation, items)
-        reply = frame[:16] + struct.pack("<QIBB2xIQ4x", session, number, operation, 0, len(body), self.commit) + body
+        body = (
+            self.create(operation, items) if operation in EXISTS else self.look_up(operation, items)
+        )
+        reply = (
+            frame[:16]
+            + struct.pack("<QIBB2xIQ4x", session, number, operation, 0, len(body), self.commit)
+            + body
+        )
         self.sessions[frame[:16]] = session, number, frame, reply, self.commit
         return reply
 
@@ -84,14 +94,25 @@ class Ledger:
             debit, credit = self.accounts.get(it[16:32]), self.accounts.get(it[32:48])
             result = EXISTS[operation] if it[:16] in rows else 0
             if operation == TRANSFERS and not result:
-                result = DEBIT_ACCOUNT_NOT_FOUND if debit is None else CREDIT_ACCOUNT_NOT_FOUND if credit is None else 0
+                result = (
+                    DEBIT_ACCOUNT_NOT_FOUND
+                    if debit is None
+                    else CREDIT_ACCOUNT_NOT_FOUND
+                    if credit is None
+                    else 0
+                )
             if result:
                 results += struct.pack("<II", index, result)
                 continue
-            rows[it[:16]] = bytearray(it[:120] + struct.pack("<Q", self.time - len(items) + index + 1))
+            rows[it[:16]] = bytearray(
+                it[:120] + struct.pack("<Q", self.time - len(items) + index + 1)
+            )
             if operation == TRANSFERS:
                 for row, at in ((debit, 32), (credit, 64)):
-                    row[at : at + 16] = (int.from_bytes(row[at : at + 16], "little") + int.from_bytes(it[48:64], "little")).to_bytes(16, "little")
+                    row[at : at + 16] = (
+                        int.from_bytes(row[at : at + 16], "little")
+                        + int.from_bytes(it[48:64], "little")
+                    ).to_bytes(16, "little")
         return results
 
     def look_up(self, operation, items):
@@ -135,7 +156,10 @@ def read(data):
     _, profile, clients_max = HEAD.unpack_from(data)
     ledger, at = Ledger(clients_max), HEAD.size
     while len(data) - at >= 64:
-        (commit, time), frame = ENTRY.unpack_from(data, at), data[at + 16 : at + 64 + int.from_bytes(data[at + 48 : at + 52], "little")]
+        (commit, time), frame = (
+            ENTRY.unpack_from(data, at),
+            data[at + 16 : at + 64 + int.from_bytes(data[at + 48 : at + 52], "little")],
+        )
         if len(frame) < 48 + int.from_bytes(frame[32:36], "little"):
             break
         if commit != ledger.commit + 1 or ledger.status(frame) is not None:
@@ -173,7 +197,9 @@ def pairs():
     while True:
         while len(data) >= 56 and len(data) >= (size := 56 + int.from_bytes(data[40:44], "little")):
             pair, data = data[:size], data[size:]
-            yield int.from_bytes(pair[:8], "little"), pair[8:], len(data) >= 56 and len(data) >= 56 + int.from_bytes(data[40:44], "little")
+            yield int.from_bytes(pair[:8], "little"), pair[8:], len(data) >= 56 and len(
+                data
+            ) >= 56 + int.from_bytes(data[40:44], "little")
         more = os.read(0, 1 << 20)
         if not more:
             if data:
@@ -199,14 +225,22 @@ def serve(file, ledger, ending):
             replies += ledger.sessions[frame[:16]][3]
         else:
             session, number, operation = struct.unpack_from("<QIB", frame, 16)
-            replies += frame[:16] + struct.pack("<QIBB2xIQ4x", session, number, operation, status, 0, 0)
+            replies += frame[:16] + struct.pack(
+                "<QIBB2xIQ4x", session, number, operation, status, 0, 0
+            )
         if not is_more or count == ending.number:
-            commit(file, entries, replies, lambda place, count=count: ending.is_at(count, place) and ending.take())
+            commit(
+                file,
+                entries,
+                replies,
+                lambda place, count=count: ending.is_at(count, place) and ending.take(),
+            )
             entries = replies = b""
 
 
 def commit(file, entries, replies, ends_at):
-    """Writes entries to the file, syncs them, and writes their replies. `ends_at` ends the process where it is to end at a place."""
+    """Writes entries to the file, syncs them, and writes their replies. `ends_at` ends the
+    process where it is to end at a place."""
     write(file, entries[:-1])
     ends_at("half")
     write(file, entries[-1:])
@@ -219,18 +253,37 @@ def commit(file, entries, replies, ends_at):
 
 
 def tell(word, data):
-    """The dump of a file, or what it stands for. One whose head was torn when it was made stands for nothing."""
+    """The dump of a file, or what it stands for. One whose head was torn when it was made stands
+    for nothing."""
     if len(data) < HEAD.size and data.startswith(b"TBSDUMP1"):
-        write(1, b"" if word == "dump" else f"records 0\nentries 0\nlast time 0\ntorn bytes {len(data)}\n".encode())
+        write(
+            1,
+            b""
+            if word == "dump"
+            else f"records 0\nentries 0\nlast time 0\ntorn bytes {len(data)}\n".encode(),
+        )
         return
     profile, ledger, end = read(data)
-    lines = ("records", 1 + ledger.commit), ("entries", ledger.commit), ("profile", profile), ("clients_max", ledger.clients_max), ("last time", ledger.time)
-    told = "".join(f"{name} {number}\n" for name, number in (*lines, ("torn bytes", len(data) - end)))
+    lines = (
+        ("records", 1 + ledger.commit),
+        ("entries", ledger.commit),
+        ("profile", profile),
+        ("clients_max", ledger.clients_max),
+        ("last time", ledger.time),
+    )
+    told = "".join(
+        f"{name} {number}\n" for name, number in (*lines, ("torn bytes", len(data) - end))
+    )
     write(1, data[:end] if word == "dump" else told.encode())
 
 
 def main(words):
-    if len(words) in (3, 4) and words[0] == "run" and all(it.isdigit() for it in words[2:]) and 1 <= int(words[2]) <= 64:
+    if (
+        len(words) in (3, 4)
+        and words[0] == "run"
+        and all(it.isdigit() for it in words[2:])
+        and 1 <= int(words[2]) <= 64
+    ):
         file, ledger = begin(words[1], int(words[2]), int(words[3]) if len(words) == 4 else 1)
         serve(file, ledger, Ending(os.environ.get("FAIL")))
     elif len(words) == 2 and words[0] in ("dump", "check"):

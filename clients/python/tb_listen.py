@@ -36,7 +36,19 @@ import stat
 import struct
 import sys
 import time
-from typing import Any, Awaitable, Callable, Deque, Iterator, List, Optional, Sequence, Set, Tuple, TypeVar
+from typing import (
+    Any,
+    Awaitable,
+    Callable,
+    Deque,
+    Iterator,
+    List,
+    Optional,
+    Sequence,
+    Set,
+    Tuple,
+    TypeVar,
+)
 
 from tb_client import Operation
 from tb_client.frames import reply_fault, reply_length, request_fault
@@ -51,7 +63,12 @@ ACCEPT_AGAIN = 0.5  # seconds before a connection is taken again for which there
 LAST_WORDS = 1.0  # seconds for which what a command wrote may still come when it has ended
 WATCH = 0.1  # seconds after which a command is looked at again, to see whether it has ended
 LAST_READ = 1.0  # seconds for which a client that is told why may still send, so that it reads why and is not cut off before
-PAUSES = (0.1, 0.5, 2.0, 5.0)  # seconds before the command is started again; the last one from then on
+PAUSES = (
+    0.1,
+    0.5,
+    2.0,
+    5.0,
+)  # seconds before the command is started again; the last one from then on
 STEADY = 60.0  # seconds after which a command that ends is one that was well until then
 LAG = 60  # seconds by which the clock may run away from the moments before that is said
 WANTS = (errno.EMFILE, errno.ENFILE, errno.EAGAIN, errno.ENOMEM)
@@ -114,7 +131,12 @@ class Moments:
     fall, and grow by no more than the time that goes by and a thousandth of it, measured by a clock that nobody sets: so a clock that is
     set far ahead does not take the ledger along."""
 
-    def __init__(self, last: int = 0, clock: Callable[[], int] = time.time_ns, running: Callable[[], int] = running_ns) -> None:
+    def __init__(
+        self,
+        last: int = 0,
+        clock: Callable[[], int] = time.time_ns,
+        running: Callable[[], int] = running_ns,
+    ) -> None:
         self.clock, self.running = clock, running
         self.last, self.at = max(last, clock()), running()
         self.is_said = False
@@ -126,7 +148,9 @@ class Moments:
             self.last, self.at = min(clock, self.last + gone + gone // 1000), running
         lag = (clock - self.last) // SECOND
         if lag >= LAG and not self.is_said:
-            say(f"the clock is {lag} s ahead of where it should be, and requests get moments without that: if it is right now, start tb_listen again")
+            say(
+                f"the clock is {lag} s ahead of where it should be, and requests get moments without that: if it is right now, start tb_listen again"
+            )
         self.is_said = lag >= LAG
         return self.last
 
@@ -138,7 +162,12 @@ def journal_at(words: Sequence[str]) -> Optional[int]:
     """Which word of a command is the file that it keeps its ledger in: FILE of `run FILE CLIENTS_MAX [PROFILE]` at its end. None where
     there is no such word, as in `tbs run CLIENTS_MAX [PROFILE]`."""
     for at in (len(words) - 2, len(words) - 3):
-        if at > 1 and words[at - 1] == "run" and not _is_number(words[at]) and all(map(_is_number, words[at + 1 :])):
+        if (
+            at > 1
+            and words[at - 1] == "run"
+            and not _is_number(words[at])
+            and all(map(_is_number, words[at + 1 :]))
+        ):
             return at
     return None
 
@@ -173,7 +202,9 @@ async def last_time(words: Sequence[str], at: int) -> int:
 async def _started(words: Sequence[str], stdin: int) -> asyncio.subprocess.Process:
     pipe = asyncio.subprocess.PIPE
     try:
-        return await asyncio.create_subprocess_exec(*words, stdin=stdin, stdout=pipe, stderr=pipe, start_new_session=True)
+        return await asyncio.create_subprocess_exec(
+            *words, stdin=stdin, stdout=pipe, stderr=pipe, start_new_session=True
+        )
     except OSError as error:
         kind = Wanting if error.errno in WANTS else Ended
         raise kind(f"{words[0]} does not start: {error.strerror}", 1) from None
@@ -222,7 +253,9 @@ class Command:
     def __init__(self, words: Sequence[str], moments: Moments, patience: float) -> None:
         self.words, self.moments, self.patience = words, moments, patience
         self.keeps = journal_at(words) is not None
-        self.process: Optional[asyncio.subprocess.Process] = None  # while pairs may be written to it
+        self.process: Optional[
+            asyncio.subprocess.Process
+        ] = None  # while pairs may be written to it
         self.waiting: Deque[Tuple[bytes, asyncio.Future[bytes]]] = collections.deque()
         self.sending, self.ready, self.stopping = asyncio.Lock(), asyncio.Event(), asyncio.Event()
         self.is_closed = self.is_over = False
@@ -281,7 +314,9 @@ class Command:
         self.ready.set()
         try:
             await _first(reading, watching)
-            await asyncio.wait([reading], timeout=LAST_WORDS)  # what it wrote before it ended is read to its end
+            await asyncio.wait(
+                [reading], timeout=LAST_WORDS
+            )  # what it wrote before it ended is read to its end
         finally:
             self.process = None
             self.ready.clear()
@@ -293,7 +328,12 @@ class Command:
         reading.result()
         return watching.result(), _last_line(telling.result())
 
-    async def _wait_for_end(self, process: asyncio.subprocess.Process, watching: asyncio.Future[int], pipes: List[asyncio.Task[Any]]) -> None:
+    async def _wait_for_end(
+        self,
+        process: asyncio.subprocess.Process,
+        watching: asyncio.Future[int],
+        pipes: List[asyncio.Task[Any]],
+    ) -> None:
         """Waits until a process that gets no more requests has ended, and what it started. Ends them where they do not."""
         await asyncio.wait([watching], timeout=self.patience)
         if watching.done():
@@ -305,7 +345,9 @@ class Command:
             it.cancel()
         await asyncio.wait([watching, *pipes])
 
-    async def _read_replies(self, process: asyncio.subprocess.Process, stdout: asyncio.StreamReader) -> None:
+    async def _read_replies(
+        self, process: asyncio.subprocess.Process, stdout: asyncio.StreamReader
+    ) -> None:
         """Brings each reply to who asked for it, until there are no more."""
         with contextlib.suppress(asyncio.IncompleteReadError, asyncio.CancelledError):
             while True:
@@ -364,7 +406,9 @@ async def _drain(stream: asyncio.StreamReader) -> None:
 async def _close_pipes(stdin: asyncio.StreamWriter, stdout: asyncio.StreamReader) -> None:
     """Waits for the ends of pipes, so that none is open when the listener ends."""
     for end in (stdin.wait_closed(), _drain(stdout)):
-        with contextlib.suppress(asyncio.TimeoutError, OSError):  # that a pipe broke was seen where replies are read
+        with contextlib.suppress(
+            asyncio.TimeoutError, OSError
+        ):  # that a pipe broke was seen where replies are read
             await asyncio.wait_for(end, LAST_WORDS)
     await asyncio.sleep(0.01)
 
@@ -394,13 +438,21 @@ class Listener:
         assert task is not None
         self.open.add(task)
         try:
-            writer.transport.set_write_buffer_limits(0)  # so that a reply has left this process before the next request is read
-            why = await self._serve(task, reader, writer) if len(self.served) < self.given.connections else "Busy"
+            writer.transport.set_write_buffer_limits(
+                0
+            )  # so that a reply has left this process before the next request is read
+            why = (
+                await self._serve(task, reader, writer)
+                if len(self.served) < self.given.connections
+                else "Busy"
+            )
             await self._close(reader, writer, why)
         finally:
             self.open.discard(task)
 
-    async def _serve(self, task: asyncio.Task[None], reader: asyncio.StreamReader, writer: asyncio.StreamWriter) -> str:
+    async def _serve(
+        self, task: asyncio.Task[None], reader: asyncio.StreamReader, writer: asyncio.StreamWriter
+    ) -> str:
         """Answers requests until the connection is to be closed, and then why that is."""
         self.served.add(task)
         try:
@@ -429,7 +481,11 @@ class Listener:
             if fault:
                 raise Told(fault)
             length = reply_length(header) - HEADER
-            return header + await in_time(reader.readexactly(length), self.given.slow, "Slow") if length else header
+            return (
+                header + await in_time(reader.readexactly(length), self.given.slow, "Slow")
+                if length
+                else header
+            )
         except asyncio.IncompleteReadError as end:
             if end.expected == HEADER:
                 raise
@@ -437,13 +493,24 @@ class Listener:
         finally:
             self.at_rest.discard(task)
 
-    async def _close(self, reader: asyncio.StreamReader, writer: asyncio.StreamWriter, why: str) -> None:
+    async def _close(
+        self, reader: asyncio.StreamReader, writer: asyncio.StreamWriter, why: str
+    ) -> None:
         """Tells why, where there is something to tell, and closes the connection."""
-        if why not in ("", "Short", "Stopping", "ProgramEnded"):  # who is gone amid a frame is no fault to be told here
+        if why not in (
+            "",
+            "Short",
+            "Stopping",
+            "ProgramEnded",
+        ):  # who is gone amid a frame is no fault to be told here
             say(f"a connection is closed: {why}")
-        with contextlib.suppress(OSError, asyncio.TimeoutError, asyncio.CancelledError):  # nothing is left to be done
+        with contextlib.suppress(
+            OSError, asyncio.TimeoutError, asyncio.CancelledError
+        ):  # nothing is left to be done
             try:
-                if why and not writer.transport.get_write_buffer_size():  # behind a part of a reply nothing can be told
+                if (
+                    why and not writer.transport.get_write_buffer_size()
+                ):  # behind a part of a reply nothing can be told
                     writer.write(f"tb_listen: {why}\n".encode("ascii"))
                     writer.write_eof()
                     await self._read_on(reader)
@@ -566,7 +633,9 @@ def bound(given: argparse.Namespace) -> Iterator[socket.socket]:
         with contextlib.suppress(OSError):
             if mine is not None:
                 with folder_of(given.unix):
-                    if os.path.samestat(mine, os.lstat(given.unix)):  # else another one is there by now
+                    if os.path.samestat(
+                        mine, os.lstat(given.unix)
+                    ):  # else another one is there by now
                         os.unlink(given.unix)
         place.close()
 
@@ -585,7 +654,10 @@ def make_room(connections: int) -> None:
     if soft == resource.RLIM_INFINITY or soft >= wanted:
         return
     if hard != resource.RLIM_INFINITY and hard < wanted:
-        raise Ended(f"--connections {connections} takes {wanted} open files, and {hard} are allowed (ulimit -n)", 1)
+        raise Ended(
+            f"--connections {connections} takes {wanted} open files, and {hard} are allowed (ulimit -n)",
+            1,
+        )
     resource.setrlimit(resource.RLIMIT_NOFILE, (wanted, hard))
 
 
@@ -595,14 +667,19 @@ async def begin(given: argparse.Namespace) -> Moments:
     last = 0 if at is None else await last_time(given.command, at)
     ahead = (last - time.time_ns()) / SECOND
     if ahead > given.ahead:
-        raise Ended(f"the ledger's last time is {ahead:.3f} s ahead of this computer's clock: set the clock right, or allow it by --ahead SECONDS", 1)
+        raise Ended(
+            f"the ledger's last time is {ahead:.3f} s ahead of this computer's clock: set the clock right, or allow it by --ahead SECONDS",
+            1,
+        )
     return Moments(last)
 
 
 async def listen(given: argparse.Namespace) -> None:
     """Listens before the command, until a signal comes or the command ends."""
     loop, stopped = asyncio.get_running_loop(), asyncio.Event()
-    loop.set_exception_handler(lambda _, context: say("{}: {!r}".format(context["message"], context.get("exception"))))
+    loop.set_exception_handler(
+        lambda _, context: say("{}: {!r}".format(context["message"], context.get("exception")))
+    )
     for number in (signal.SIGTERM, signal.SIGINT):
         loop.add_signal_handler(number, stopped.set)
     beginning, stopping = asyncio.ensure_future(begin(given)), asyncio.ensure_future(stopped.wait())
@@ -661,12 +738,16 @@ async def _begin(it: socket.socket, listener: Listener) -> None:
     reader = asyncio.StreamReader(limit=READ_AHEAD)
     loop: Any = asyncio.get_running_loop()  # mypy 1.0 knows no connect_accepted_socket
     try:
-        await loop.connect_accepted_socket(lambda: asyncio.StreamReaderProtocol(reader, listener.take), it)
+        await loop.connect_accepted_socket(
+            lambda: asyncio.StreamReaderProtocol(reader, listener.take), it
+        )
     except OSError:
         it.close()
 
 
-async def _listen_on(place: socket.socket, command: Command, given: argparse.Namespace, stopping: asyncio.Future[Any]) -> None:
+async def _listen_on(
+    place: socket.socket, command: Command, given: argparse.Namespace, stopping: asyncio.Future[Any]
+) -> None:
     listener = Listener(command, given)
     running = asyncio.ensure_future(command.run())
     taking = asyncio.ensure_future(_take_connections(place, listener))
@@ -694,18 +775,46 @@ async def _listen_on(place: socket.socket, command: Command, given: argparse.Nam
 def words(given: Sequence[str]) -> argparse.Namespace:
     """The words of the command line. A wrong one is told, and ends the program with status 2."""
     usage = "%(prog)s [OPTIONS] -- COMMAND [WORD ..]"
-    parser = argparse.ArgumentParser(usage=usage, description=__doc__, formatter_class=argparse.RawDescriptionHelpFormatter, allow_abbrev=False)
+    parser = argparse.ArgumentParser(
+        usage=usage,
+        description=__doc__,
+        formatter_class=argparse.RawDescriptionHelpFormatter,
+        allow_abbrev=False,
+    )
     place = parser.add_mutually_exclusive_group()
-    place.add_argument("--unix", metavar="PATH", type=_path, help="listen on a Unix socket, which its owner alone may use")
+    place.add_argument(
+        "--unix",
+        metavar="PATH",
+        type=_path,
+        help="listen on a Unix socket, which its owner alone may use",
+    )
     tcp = "listen on TCP (127.0.0.1:3001 where nothing is given; port 0 is any that is free; [::1]:3001 for IPv6)"
-    place.add_argument("--tcp", metavar="HOST:PORT", type=_address, default=("127.0.0.1", 3001), help=tcp)
-    parser.add_argument("--connections", metavar="N", type=_count, default=256, help="connections at a time (256); one more is told Busy")
-    parser.add_argument("--idle", metavar="SECONDS", type=_seconds, default=300.0, help="how long a connection may take until a request begins (300)")
-    slow = "how long a request may take to come, a client to read a reply, and the command to end (30)"
+    place.add_argument(
+        "--tcp", metavar="HOST:PORT", type=_address, default=("127.0.0.1", 3001), help=tcp
+    )
+    parser.add_argument(
+        "--connections",
+        metavar="N",
+        type=_count,
+        default=256,
+        help="connections at a time (256); one more is told Busy",
+    )
+    parser.add_argument(
+        "--idle",
+        metavar="SECONDS",
+        type=_seconds,
+        default=300.0,
+        help="how long a connection may take until a request begins (300)",
+    )
+    slow = (
+        "how long a request may take to come, a client to read a reply, and the command to end (30)"
+    )
     parser.add_argument("--slow", metavar="SECONDS", type=_seconds, default=30.0, help=slow)
     ahead = "how far the ledger's last time may lie ahead of the clock when the command is started first (0)"
     parser.add_argument("--ahead", metavar="SECONDS", type=_ahead, default=0.0, help=ahead)
-    parser.add_argument("command", metavar="COMMAND", nargs="+", help="the server and its words, behind --")
+    parser.add_argument(
+        "command", metavar="COMMAND", nargs="+", help="the server and its words, behind --"
+    )
     found = parser.parse_args(given)
     if not found.command[0]:
         parser.error("an empty word is no COMMAND")
@@ -722,7 +831,13 @@ def _address(text: str) -> Tuple[str, int]:
     host, colon, port = text.rpartition(":")
     is_bracketed = host[:1] == "[" and host[-1:] == "]"
     name = host[1:-1] if is_bracketed else host
-    if not name or set("[]") & set(name) or ":" in name and not is_bracketed or not (colon and _is_number(port) and int(port) < 1 << 16):
+    if (
+        not name
+        or set("[]") & set(name)
+        or ":" in name
+        and not is_bracketed
+        or not (colon and _is_number(port) and int(port) < 1 << 16)
+    ):
         raise argparse.ArgumentTypeError(f"{text!r} is no HOST:PORT")
     return name, int(port)
 
@@ -739,7 +854,9 @@ def _seconds(text: str, least: float = 0.001, greatest: int = 10**6) -> float:
     except ValueError:
         value = -1.0
     if not least <= value <= greatest:
-        raise argparse.ArgumentTypeError(f"{text!r} is no number of seconds from {least:g} to {greatest}")
+        raise argparse.ArgumentTypeError(
+            f"{text!r} is no number of seconds from {least:g} to {greatest}"
+        )
     return value
 
 

@@ -103,20 +103,30 @@ class Doubt(unittest.TestCase):
         with mock.patch("time.sleep") as sleep:
             session = self.session(self.failing(error, 10**9), attempts=attempts, **options)
             self.assertRaises(type(error), session.create_accounts, [account(1)])
-        self.assertEqual((len(self.sent), len(set(self.sent)), session.in_doubt.items), (attempts, 1, (account(1),)))
+        self.assertEqual(
+            (len(self.sent), len(set(self.sent)), session.in_doubt.items),
+            (attempts, 1, (account(1),)),
+        )
         return [it.args[0] for it in sleep.call_args_list]
 
     def test_pauses_where_the_server_says_to_come_later(self):
-        """docs/use/CLIENTS.md: `pause` seconds (0.05), each time twice as many, up to a second, or to `pause` where that is longer."""
+        """docs/use/CLIENTS.md: `pause` seconds (0.05), each time twice as many, up to a second,
+        or to `pause` where that is longer."""
         for error in (tb.Busy("busy"), tb.NoMemory("no memory")):
             self.assertEqual(self.paused(error), [0.05, 0.1, 0.2, 0.4])
             self.assertEqual(self.paused(error, attempts=1), [])
-            self.assertEqual(self.paused(error, attempts=9), [0.05, 0.1, 0.2, 0.4, 0.8, 1.0, 1.0, 1.0])
-            self.assertEqual(self.paused(error, attempts=2000)[5:], [1.0] * 1994, "they stay bounded")
+            self.assertEqual(
+                self.paused(error, attempts=9), [0.05, 0.1, 0.2, 0.4, 0.8, 1.0, 1.0, 1.0]
+            )
+            self.assertEqual(
+                self.paused(error, attempts=2000)[5:], [1.0] * 1994, "they stay bounded"
+            )
             self.assertEqual(self.paused(error, pause=0.3), [0.3, 0.6, 1.0, 1.0])
             self.assertEqual(self.paused(error, pause=7), [7, 7, 7, 7])
             self.assertEqual(self.paused(error, pause=0), [0, 0, 0, 0])
-        self.assertEqual(self.paused(tb.ReplyLost("lost")), [], "a reply that was lost is asked for at once")
+        self.assertEqual(
+            self.paused(tb.ReplyLost("lost")), [], "a reply that was lost is asked for at once"
+        )
         with mock.patch("time.sleep") as sleep:
             session = self.session(lambda frame: reply(frame, status=tb.Status.NotYet))
             self.assertRaises(tb.NotYet, session.lookup_accounts, [1])
@@ -126,29 +136,52 @@ class Doubt(unittest.TestCase):
         serve = Direct(lambda moment, frame: reply(frame))
         with tempfile.TemporaryDirectory() as folder:
             path = os.path.join(folder, "session.json")
-            made = [Session(serve, 7, pause=3), Session.register(serve, pause=3), Session.resumed(serve, Session(serve, 7).saved, pause=3)]
+            made = [
+                Session(serve, 7, pause=3),
+                Session.register(serve, pause=3),
+                Session.resumed(serve, Session(serve, 7).saved, pause=3),
+            ]
             made[0].save(path)
             made.append(Session.load(serve, path, pause=3))
         self.assertEqual([it.pause for it in made], [3] * 4)
 
     def test_options_that_were_changed_to_what_they_may_not_be(self):
-        for field, value in (("attempts", 0), ("attempts", -1), ("attempts", 1.5), ("attempts", "5"), ("pause", -1), ("pause", None), ("pause", "1"), ("jump_max", "60"), ("jump_max", -1), ("now", None), ("transport", None)):
+        for field, value in (
+            ("attempts", 0),
+            ("attempts", -1),
+            ("attempts", 1.5),
+            ("attempts", "5"),
+            ("pause", -1),
+            ("pause", None),
+            ("pause", "1"),
+            ("jump_max", "60"),
+            ("jump_max", -1),
+            ("now", None),
+            ("transport", None),
+        ):
             session = self.session(lambda frame: reply(frame))
             setattr(session, field, value)
             with self.assertRaises(tb.Invalid) as raised:
                 session.create_accounts([account(1)])
-            self.assertEqual((raised.exception.field, self.sent, session.pending), (field, [], None))
+            self.assertEqual(
+                (raised.exception.field, self.sent, session.pending), (field, [], None)
+            )
 
     def test_what_is_in_doubt_can_be_read(self):
         lost = self.failing(tb.ReplyLost("lost"), 10**9)
         for call, items, operation in (
-            ("create_accounts", (account(1), account(2)), 129), ("create_transfers", (transfer(1, 2, 3, 4, flags=tb.TransferFlags.pending),), 130),
-            ("lookup_accounts", (1, tb.amount_max), 131), ("lookup_transfers", (), 132),
+            ("create_accounts", (account(1), account(2)), 129),
+            ("create_transfers", (transfer(1, 2, 3, 4, flags=tb.TransferFlags.pending),), 130),
+            ("lookup_accounts", (1, tb.amount_max), 131),
+            ("lookup_transfers", (), 132),
         ):
             session = self.session(lost)
             self.assertRaises(tb.ReplyLost, getattr(session, call), items)
             self.assertEqual(session.in_doubt, tb.Request(7, 1, 1, tb.Operation(operation), items))
-            self.assertEqual(Session.resumed(session.transport, json.loads(json.dumps(session.saved))).in_doubt, session.in_doubt)
+            self.assertEqual(
+                Session.resumed(session.transport, json.loads(json.dumps(session.saved))).in_doubt,
+                session.in_doubt,
+            )
 
     def test_what_a_retry_says_can_be_required(self):
         failed = [tb.EventResult(0, tb.CreateTransferResult.exists)]
@@ -196,13 +229,20 @@ class Doubt(unittest.TestCase):
         session = self.session(self.failing(tb.ReplyLost("lost"), 1), now=lambda: next(moments))
         with self.assertRaises(tb.ReplyLost) as lost:
             session.create_accounts([account(1)])
-        self.assertRegex(str(lost.exception), "^lost; it was not sent again: the clock is .* s ahead of where it should be")
+        self.assertRegex(
+            str(lost.exception),
+            "^lost; it was not sent again: the clock is .* s ahead of where it should be",
+        )
         self.assertIsInstance(lost.exception.__cause__, tb.ClockJumped)
         self.assertEqual((len(self.sent), session.in_doubt.items), (1, (account(1),)))
 
     def test_what_was_sent_once_is_never_told_as_not_sent(self):
         for first in (tb.ReplyLost("lost"), tb.NoMemory("lost")):
-            for then in (tb.CannotConnect("nobody listens"), tb.Closed("closed"), tb.CannotStart("no program")):
+            for then in (
+                tb.CannotConnect("nobody listens"),
+                tb.Closed("closed"),
+                tb.CannotStart("no program"),
+            ):
                 faults = [first, then]
 
                 def serve(frame):
@@ -251,7 +291,9 @@ class Doubt(unittest.TestCase):
 
     def test_a_clock_that_goes_back_and_comes_again(self):
         at = [0]
-        session = self.session(lambda frame: reply(frame, commit=2), now=lambda: time.time_ns() - at[0])
+        session = self.session(
+            lambda frame: reply(frame, commit=2), now=lambda: time.time_ns() - at[0]
+        )
         for at[0] in (0, 3600 * SECOND, 0, 7200 * SECOND, 0):
             session.lookup_accounts([1])
 
@@ -289,7 +331,8 @@ class OnTheProgram(unittest.TestCase):
         return transport
 
     def test_an_eviction_keeps_what_is_in_doubt(self):
-        """The reply to the transfer is lost, others register, and the session ends: the transfer was made, and is not made again."""
+        """The reply to the transfer is lost, others register, and the session ends: the transfer
+        was made, and is not made again."""
         for executed in (False, True):
             program = self.program(1)
             first = Session.register(program, 7, now=at_ten)
@@ -297,7 +340,9 @@ class OnTheProgram(unittest.TestCase):
             ids = [tb.id(), tb.id()]
             lossy = tb.Faulty(program, **{"replies" if executed else "requests": range(1, 6)})
             first.transport = lossy
-            self.assertRaises(tb.ReplyLost, first.create_transfers, [transfer(it, 1, 2, 50) for it in ids])
+            self.assertRaises(
+                tb.ReplyLost, first.create_transfers, [transfer(it, 1, 2, 50) for it in ids]
+            )
             Session.register(program, 8, now=at_ten)
             first.transport = program
             saved = json.loads(json.dumps(first.saved))
@@ -306,7 +351,10 @@ class OnTheProgram(unittest.TestCase):
                 self.assertEqual(again.saved, saved)
                 with self.assertRaises(tb.InDoubt) as raised:
                     again.lookup_accounts([1])
-                self.assertEqual(str(raised.exception), "the session has ended (NoSession): register anew, and see in_doubt")
+                self.assertEqual(
+                    str(raised.exception),
+                    "the session has ended (NoSession): register anew, and see in_doubt",
+                )
                 second = Session.register(program, now=at_ten)
                 made = second.create_transfers(again.in_doubt.items)
                 was_there = executed or again is not first
@@ -314,7 +362,8 @@ class OnTheProgram(unittest.TestCase):
                 self.assertEqual([it.credits_posted for it in second.lookup_accounts([2])], [100])
 
     def test_a_crash_at_each_step(self):
-        """The client ends before or after each exchange, and between preparing and saving. Its next life goes on from the file."""
+        """The client ends before or after each exchange, and between preparing and saving. Its
+        next life goes on from the file."""
         with tempfile.TemporaryDirectory() as folder:
             path = os.path.join(folder, "session.json")
             ended = 0
@@ -363,23 +412,34 @@ class OnTheProgram(unittest.TestCase):
         return crashes
 
     def test_a_client_killed_at_any_time(self):
-        """A client in a process of its own is killed again and again, while the server goes on. Its file is all that it has."""
+        """A client in a process of its own is killed again and again, while the server goes on.
+        Its file is all that it has."""
         chance, program, lives = random.Random(3), self.program(), 0
-        tb.require_ok(Session.register(program, 9, now=at_ten).create_accounts([account(1), account(2)]))
+        tb.require_ok(
+            Session.register(program, 9, now=at_ten).create_accounts([account(1), account(2)])
+        )
         with tempfile.TemporaryDirectory() as folder:
             path, there = os.path.join(folder, "session.json"), {**os.environ, "PYTHONPATH": HERE}
             status, deadline = None, time.monotonic() + 120
             while status != 0 and time.monotonic() < deadline:
                 lives += 1
-                life = subprocess.Popen([sys.executable, "-B", "-c", CLIENT, path], stdin=subprocess.PIPE, stdout=subprocess.PIPE, env=there)
+                life = subprocess.Popen(
+                    [sys.executable, "-B", "-c", CLIENT, path],
+                    stdin=subprocess.PIPE,
+                    stdout=subprocess.PIPE,
+                    env=there,
+                )
                 status = self.serve(life, program, chance.randrange(0, 12))
             self.assertEqual(status, 0)
         self.assertGreater(lives, 3)
         session = Session.register(program, 9 + 1, now=at_ten)
-        self.assertEqual([it.credits_posted for it in session.lookup_accounts([2])], [sum(range(1, 31))])
+        self.assertEqual(
+            [it.credits_posted for it in session.lookup_accounts([2])], [sum(range(1, 31))]
+        )
 
     def serve(self, life, program, most):
-        """Serves so many requests of a client's process, 0 for all, and kills it before or after the last one's reply. Answers its status."""
+        """Serves so many requests of a client's process, 0 for all, and kills it before or after
+        the last one's reply. Answers its status."""
         served = 0
         with life, life.stdin, life.stdout:
             while head := life.stdout.read(56):
@@ -399,7 +459,8 @@ class OnTheProgram(unittest.TestCase):
         return life.wait()
 
     def test_what_was_seen_of_a_lost_reply_outlives_the_program(self):
-        """One session's reply is not awaited, another sees what that request did: after a kill it is still there."""
+        """One session's reply is not awaited, another sees what that request did: after a kill
+        it is still there."""
         program = self.program(restarts=True)
         first, second = (Session.register(program, it, now=at_ten) for it in (7, 8))
         tb.require_ok(first.create_accounts([account(1), account(2)]))
@@ -416,15 +477,18 @@ class OnTheProgram(unittest.TestCase):
         self.assertEqual(first.retry(), [])
         self.assertEqual([it.credits_posted for it in first.lookup_accounts([2])], [100])
 
-
     def test_a_request_that_ends_the_program_is_not_kept(self):
         program = self.program(restarts=True)
         tb.require_ok(Session.register(program, 7, now=at_ten).create_accounts([account(1)]))
         last = Session.register(program, 8, now=lambda: 2**63 - 1, jump_max=None)
         for _ in range(2):
-            self.assertRaises(tb.ProgramEnded, last.retry if last.pending else lambda: last.lookup_accounts([1]))
+            self.assertRaises(
+                tb.ProgramEnded, last.retry if last.pending else lambda: last.lookup_accounts([1])
+            )
             self.assertEqual(len(program.script), 3)
-        repeated = tb.Reply.from_bytes(program.exchange(10, tb.request_frame(7, 1, 1, 129, account(1).to_bytes())))
+        repeated = tb.Reply.from_bytes(
+            program.exchange(10, tb.request_frame(7, 1, 1, 129, account(1).to_bytes()))
+        )
         self.assertEqual((repeated.status, repeated.commit), (0, 2))
 
     def test_a_program_that_is_killed_while_it_comes_back(self):
@@ -446,11 +510,16 @@ class OnTheProgram(unittest.TestCase):
         self.assertEqual([it.credits_posted for it in session.retry()], [3000])
 
     def test_a_moment_far_ahead_ends_what_others_hold(self):
-        """What `jump_max` is for: a clock an hour ahead would end another client's pending transfer."""
+        """What `jump_max` is for: a clock an hour ahead would end another client's pending
+        transfer."""
         program = self.program()
         first = Session.register(program, 7)
         tb.require_ok(first.create_accounts([account(1), account(2)]))
-        tb.require_ok(first.create_transfers([transfer(11, 1, 2, 100, timeout=600, flags=tb.TransferFlags.pending)]))
+        tb.require_ok(
+            first.create_transfers(
+                [transfer(11, 1, 2, 100, timeout=600, flags=tb.TransferFlags.pending)]
+            )
+        )
         second = Session.register(program, 8)
         second.now = lambda: time.time_ns() + 3600 * SECOND
         self.assertRaises(tb.ClockJumped, second.lookup_accounts, [1])

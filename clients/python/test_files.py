@@ -1,5 +1,6 @@
 #!/usr/bin/env python3
-"""The file of a session: damaged ones are refused by name, and a save that fails leaves the old one."""
+"""The file of a session: damaged ones are refused by name, and a save that fails leaves the old
+one."""
 import contextlib
 import errno
 import json
@@ -46,9 +47,26 @@ class Damaged(InAFolder):
     def test_text_that_is_no_session(self):
         whole = json.dumps(SAVED).encode()
         for data in (
-            b"", b" \n", b"{", whole[:-1], whole + b"}", whole + whole, b"session", b"\0" * 100, b"\xff" * 100, b"'" + whole, b"\xef\xbb\xbf" + whole, whole.decode().encode("utf-16"),
-            whole.replace(b"pending", "p\u00e9nding".encode()), b"[" * 1000, b"[" * 100_000, b"[" * 100_000 + b"]" * 100_000, b'{"a":' * 100_000, b'{"client": ' + b"9" * 5000 + b"}",
-            whole.replace(b"7", b"[" * 100_000 + b"]" * 100_000), b" " * (1 << 22) + whole,
+            b"",
+            b" \n",
+            b"{",
+            whole[:-1],
+            whole + b"}",
+            whole + whole,
+            b"session",
+            b"\0" * 100,
+            b"\xff" * 100,
+            b"'" + whole,
+            b"\xef\xbb\xbf" + whole,
+            whole.decode().encode("utf-16"),
+            whole.replace(b"pending", "p\u00e9nding".encode()),
+            b"[" * 1000,
+            b"[" * 100_000,
+            b"[" * 100_000 + b"]" * 100_000,
+            b'{"a":' * 100_000,
+            b'{"client": ' + b"9" * 5000 + b"}",
+            whole.replace(b"7", b"[" * 100_000 + b"]" * 100_000),
+            b" " * (1 << 22) + whole,
         ):
             with self.subTest(data=data[:50]):
                 self.write(data)
@@ -60,21 +78,61 @@ class Damaged(InAFolder):
         self.assertEqual(self.load().saved, SAVED)
 
     def test_values_of_each_field(self):
-        types, values = (b"1.0", b"0.5", b"1e3", b"NaN", b"Infinity", b"-Infinity", b"1e400", b'"1"', b"null", b"true", b"[1]", b"{}"), (b"-1", b"340282366920938463463374607431768211456")
+        types, values = (
+            b"1.0",
+            b"0.5",
+            b"1e3",
+            b"NaN",
+            b"Infinity",
+            b"-Infinity",
+            b"1e400",
+            b'"1"',
+            b"null",
+            b"true",
+            b"[1]",
+            b"{}",
+        ), (b"-1", b"340282366920938463463374607431768211456")
         for field in SAVED:
-            for value in (types + values if field != "pending" else (b"1", b"null", b"[]", b'"zz"', b'"0"', b'"00"', b"NaN", b'"\\ud800"')):
+            for value in (
+                types + values
+                if field != "pending"
+                else (b"1", b"null", b"[]", b'"zz"', b'"0"', b'"00"', b"NaN", b'"\\ud800"')
+            ):
                 with self.subTest(field=field, value=value):
-                    fields = {name: json.dumps(it).encode() for name, it in SAVED.items()} | {field: value}
-                    self.write(b"{" + b", ".join(b'"%s": %s' % (name.encode(), it) for name, it in fields.items()) + b"}")
-                    self.refused(f"saved['{field}']", self.load, kind=tb.InvalidType if field != "pending" and value in types else tb.Invalid)
+                    fields = {name: json.dumps(it).encode() for name, it in SAVED.items()} | {
+                        field: value
+                    }
+                    self.write(
+                        b"{"
+                        + b", ".join(
+                            b'"%s": %s' % (name.encode(), it) for name, it in fields.items()
+                        )
+                        + b"}"
+                    )
+                    self.refused(
+                        f"saved['{field}']",
+                        self.load,
+                        kind=tb.InvalidType
+                        if field != "pending" and value in types
+                        else tb.Invalid,
+                    )
 
     def test_fields(self):
         for field in SAVED:
-            self.write(json.dumps({name: it for name, it in SAVED.items() if name != field}).encode())
-            self.assertEqual(self.refused(f"saved['{field}']", self.load), f"saved['{field}'] is missing")
+            self.write(
+                json.dumps({name: it for name, it in SAVED.items() if name != field}).encode()
+            )
+            self.assertEqual(
+                self.refused(f"saved['{field}']", self.load), f"saved['{field}'] is missing"
+            )
             for value in (SAVED[field], 8):
-                self.write(json.dumps(SAVED)[:-1].encode() + b', "%s": %s}' % (field.encode(), json.dumps(value).encode()))
-                self.assertEqual(self.refused("saved", self.load), f"saved has two fields '{field}'")
+                self.write(
+                    json.dumps(SAVED)[:-1].encode()
+                    + b', "%s": %s}' % (field.encode(), json.dumps(value).encode())
+                )
+                self.assertEqual(
+                    self.refused("saved", self.load), f"saved has two fields '{field}'"
+                )
         self.write(json.dumps({**SAVED, "note": "mine"}).encode())
         self.assertEqual(self.load().saved, SAVED, "another field is passed over")
 
@@ -85,7 +143,10 @@ class Damaged(InAFolder):
             path = os.path.join(self.folder, name)
             before = stat.S_IFMT(os.stat(path).st_mode)
             for call in (lambda: Session.load(SERVE, path), lambda: Session(SERVE, 7).save(path)):
-                self.assertEqual(self.refused("path", call, kind=tb.InvalidValue), "path is no file, but a folder, a pipe or a device")
+                self.assertEqual(
+                    self.refused("path", call, kind=tb.InvalidValue),
+                    "path is no file, but a folder, a pipe or a device",
+                )
             self.assertEqual(stat.S_IFMT(os.stat(path).st_mode), before)
         with socket.socket(socket.AF_UNIX) as it:
             it.bind(os.path.join(self.folder, "socket"))
@@ -129,7 +190,10 @@ class Saving(InAFolder):
         self.later.prepare(tb.Operation.create_accounts, [account(it) for it in range(1, 100)])
 
     def is_old(self):
-        self.assertEqual((Session.load(SERVE, self.path).saved, os.listdir(self.folder)), (SAVED, ["session.json"]))
+        self.assertEqual(
+            (Session.load(SERVE, self.path).saved, os.listdir(self.folder)),
+            (SAVED, ["session.json"]),
+        )
         self.later.save(self.path)  # and the next one that does not fail is kept
         self.assertEqual(Session.load(SERVE, self.path).saved, self.later.saved)
         Session(SERVE, 7, session=1).save(self.path)
@@ -137,12 +201,16 @@ class Saving(InAFolder):
     def test_each_call_that_fails(self):
         for name in ("open", "ftruncate", "fsync", "replace"):
             for code in (errno.ENOSPC, errno.EROFS, errno.EIO):
-                with mock.patch(f"os.{name}", side_effect=OSError(code, os.strerror(code))), self.assertRaises(OSError) as raised:
+                with mock.patch(
+                    f"os.{name}", side_effect=OSError(code, os.strerror(code))
+                ), self.assertRaises(OSError) as raised:
                     self.later.save(self.path)
                 self.assertEqual(raised.exception.errno, code)
                 self.is_old()
         for name in ("fsync", "replace"):
-            with mock.patch(f"os.{name}", side_effect=KeyboardInterrupt), self.assertRaises(KeyboardInterrupt):
+            with mock.patch(f"os.{name}", side_effect=KeyboardInterrupt), self.assertRaises(
+                KeyboardInterrupt
+            ):
                 self.later.save(self.path)
             self.is_old()
 
@@ -160,11 +228,18 @@ class Saving(InAFolder):
         with open(f"{self.path}.new", "w") as file:
             file.write("the half of a session" * 10_000)
         self.later.save(self.path)
-        self.assertEqual((Session.load(SERVE, self.path).saved, os.listdir(self.folder)), (self.later.saved, ["session.json"]))
+        self.assertEqual(
+            (Session.load(SERVE, self.path).saved, os.listdir(self.folder)),
+            (self.later.saved, ["session.json"]),
+        )
 
     def test_what_else_stands_beside_it(self):
         beside, mine = f"{self.path}.new", os.path.join(self.folder, "mine")
-        for make, remove in ((os.mkdir, os.rmdir), (os.mkfifo, os.unlink), (lambda it: os.symlink(mine, it), os.unlink)):
+        for make, remove in (
+            (os.mkdir, os.rmdir),
+            (os.mkfifo, os.unlink),
+            (lambda it: os.symlink(mine, it), os.unlink),
+        ):
             make(beside)
             self.assertRaises(OSError, self.later.save, self.path)
             self.assertEqual(Session.load(SERVE, self.path).saved, SAVED)
@@ -189,9 +264,18 @@ class Saving(InAFolder):
             except BaseException as fault:
                 faults.append(fault)
 
-        script = "import sys\nfrom tb_client import *\nit = Session(Direct(len), 7, session=1)\nfor _ in range(60): it.save(sys.argv[1])"
-        other = subprocess.Popen([sys.executable, "-B", "-c", script, self.path], cwd=os.path.dirname(os.path.abspath(__file__)))
-        threads = [threading.Thread(target=work, args=(it,)) for it in (self.later, Session(SERVE, 7, session=1), self.later)] + [threading.Thread(target=read)]
+        script = (
+            "import sys\nfrom tb_client import *\nit = Session(Direct(len), 7, session=1)\n"
+            "for _ in range(60): it.save(sys.argv[1])"
+        )
+        other = subprocess.Popen(
+            [sys.executable, "-B", "-c", script, self.path],
+            cwd=os.path.dirname(os.path.abspath(__file__)),
+        )
+        threads = [
+            threading.Thread(target=work, args=(it,))
+            for it in (self.later, Session(SERVE, 7, session=1), self.later)
+        ] + [threading.Thread(target=read)]
         for it in threads:
             it.start()
         for it in threads[:-1]:

@@ -47,7 +47,9 @@ class Ids(unittest.TestCase):
     def test_they_rise_where_the_clock_stands_or_goes_back(self):
         from tb_client.ids import Ids
 
-        with unittest.mock.patch("time.time_ns", side_effect=[5 * 10**6, 5 * 10**6, 3 * 10**6, 0, 6 * 10**6]):
+        with unittest.mock.patch(
+            "time.time_ns", side_effect=[5 * 10**6, 5 * 10**6, 3 * 10**6, 0, 6 * 10**6]
+        ):
             ids = Ids()
             made = [ids.next() for _ in range(5)]
         self.assertEqual(made, sorted(set(made)))
@@ -56,7 +58,9 @@ class Ids(unittest.TestCase):
     def test_past_the_end_of_the_random_part(self):
         from tb_client.ids import Ids
 
-        with unittest.mock.patch("time.time_ns", lambda: 5 * 10**6), unittest.mock.patch("os.urandom", lambda size: b"\xff" * size):
+        with unittest.mock.patch("time.time_ns", lambda: 5 * 10**6), unittest.mock.patch(
+            "os.urandom", lambda size: b"\xff" * size
+        ):
             ids = Ids()
             made = [ids.next() for _ in range(3)]
         self.assertEqual(made, [(6 << 80) - 1, 6 << 80, (6 << 80) + 1])
@@ -104,7 +108,13 @@ class Sharing(unittest.TestCase):
             return reply(frame, commit=2)
 
         direct = Direct(serve)
-        in_threads(8, lambda number: [Session(direct, number + 1, session=1, now=at_ten).lookup_accounts([]) for _ in range(5)])
+        in_threads(
+            8,
+            lambda number: [
+                Session(direct, number + 1, session=1, now=at_ten).lookup_accounts([])
+                for _ in range(5)
+            ],
+        )
         self.assertEqual(most, [1])
 
     def test_threads_save_a_session_to_one_file(self):
@@ -136,22 +146,35 @@ class Programs(unittest.TestCase):
 
     def test_threads_share_a_program(self):
         program = self.program()
-        tb.require_ok(Session.register(program, 1, now=at_ten).create_accounts([account(1), account(2)]))
+        tb.require_ok(
+            Session.register(program, 1, now=at_ten).create_accounts([account(1), account(2)])
+        )
 
         def work(number):
             session = Session.register(program, 100 + number, now=at_ten)
             for at in range(30):
                 mine = transfer(1000 * (number + 1) + at, 1, 2, 1, user_data_32=number)
                 tb.require_ok(session.create_transfers([mine]))
-                self.assertEqual([(it.id, it.user_data_32) for it in session.lookup_transfers([mine.id])], [(mine.id, number)])
+                self.assertEqual(
+                    [(it.id, it.user_data_32) for it in session.lookup_transfers([mine.id])],
+                    [(mine.id, number)],
+                )
 
         in_threads(8, work)
-        self.assertEqual([it.credits_posted for it in Session.register(program, 2, now=at_ten).lookup_accounts([2])], [240])
+        self.assertEqual(
+            [
+                it.credits_posted
+                for it in Session.register(program, 2, now=at_ten).lookup_accounts([2])
+            ],
+            [240],
+        )
 
     def test_threads_share_a_program_that_is_killed_and_loses_replies(self):
         program = self.program(restarts=True)
         lossy = tb.Faulty(program, requests=range(7, 2000, 11), replies=range(9, 2000, 7))
-        tb.require_ok(Session.register(lossy, 1, now=at_ten).create_accounts([account(1), account(2)]))
+        tb.require_ok(
+            Session.register(lossy, 1, now=at_ten).create_accounts([account(1), account(2)])
+        )
 
         def work(number):
             if number == 8:
@@ -163,10 +186,18 @@ class Programs(unittest.TestCase):
                 return
             session = Session.register(lossy, 100 + number, now=at_ten, attempts=50)
             for at in range(30):
-                tb.require_ok(session.create_transfers([transfer(1000 * (number + 1) + at, 1, 2, 1)]))
+                tb.require_ok(
+                    session.create_transfers([transfer(1000 * (number + 1) + at, 1, 2, 1)])
+                )
 
         in_threads(9, work)
-        self.assertEqual([it.credits_posted for it in Session.register(program, 2, now=at_ten).lookup_accounts([2])], [240])
+        self.assertEqual(
+            [
+                it.credits_posted
+                for it in Session.register(program, 2, now=at_ten).lookup_accounts([2])
+            ],
+            [240],
+        )
 
     def test_threads_share_a_session(self):
         session = Session.register(self.program(), 7, now=at_ten)
@@ -179,7 +210,10 @@ class Programs(unittest.TestCase):
                 self.assertEqual([it.id for it in session.lookup_transfers([id])], [id])
 
         in_threads(8, work)
-        self.assertEqual((session.number, [it.credits_posted for it in session.lookup_accounts([2])]), (481, [240]))
+        self.assertEqual(
+            (session.number, [it.credits_posted for it in session.lookup_accounts([2])]),
+            (481, [240]),
+        )
 
     def test_a_closed_program_stays_closed(self):
         for restarts in (False, True):
@@ -225,7 +259,10 @@ class Programs(unittest.TestCase):
         for _ in range(2):
             with self.assertRaises(tb.ScriptFull) as raised:
                 session.lookup_accounts([1])
-            self.assertEqual(str(raised.exception), "the script for restarts would have 440 bytes, and script_max is 368")
+            self.assertEqual(
+                str(raised.exception),
+                "the script for restarts would have 440 bytes, and script_max is 368",
+            )
             self.assertEqual((session.pending, session.number), (None, 1))
         program.script_max = None
         program.process.kill()
@@ -241,7 +278,15 @@ class Programs(unittest.TestCase):
         program = self.program()
         session = Session.register(program, 7, now=at_ten)
         frame = tb.request_frame(7, session.session, 1, 131, bytes(16))
-        wrong = [b"", frame[:-1], frame + b"\0", frame[:29] + b"\1" + frame[30:], bytes(16) + frame[16:], frame[:28] + b"\x07" + frame[29:], frame[:24] + bytes(4) + frame[28:]]
+        wrong = [
+            b"",
+            frame[:-1],
+            frame + b"\0",
+            frame[:29] + b"\1" + frame[30:],
+            bytes(16) + frame[16:],
+            frame[:28] + b"\x07" + frame[29:],
+            frame[:24] + bytes(4) + frame[28:],
+        ]
         wrong += [frame[:24] + bytes(4) + b"\2" + frame[29:], None, "x", 5]
         for it in wrong:
             self.assertRaises(tb.Invalid, program.exchange, 10, it)
@@ -253,7 +298,11 @@ class Programs(unittest.TestCase):
 
     def failing(self, session, pipe, call, error, is_done=True):
         """A patch by which the next read or write of the program's pipes fails once, behind what it does or before."""
-        true, number, left = getattr(os, call), getattr(session.transport.process, pipe).fileno(), [1]
+        true, number, left = (
+            getattr(os, call),
+            getattr(session.transport.process, pipe).fileno(),
+            [1],
+        )
 
         def broken(file, *rest):
             result = true(file, *rest) if is_done or file != number or not left else None
@@ -266,7 +315,9 @@ class Programs(unittest.TestCase):
 
     def interrupted(self, session, pipe, call):
         """A transfer amid which a signal's handler raises."""
-        with self.failing(session, pipe, call, KeyboardInterrupt), self.assertRaises(KeyboardInterrupt):
+        with self.failing(session, pipe, call, KeyboardInterrupt), self.assertRaises(
+            KeyboardInterrupt
+        ):
             session.create_transfers([transfer(11, 1, 2, 100)])
         self.assertEqual(session.in_doubt.items, (transfer(11, 1, 2, 100),))
 
@@ -275,22 +326,37 @@ class Programs(unittest.TestCase):
             for code in (errno.EIO, errno.ENOMEM):
                 for is_done in (False, True):
                     session = self.begun(restarts=True)
-                    with self.failing(session, pipe, call, OSError(code, os.strerror(code)), is_done):
+                    with self.failing(
+                        session, pipe, call, OSError(code, os.strerror(code)), is_done
+                    ):
                         self.assertEqual(session.create_transfers([transfer(11, 1, 2, 100)]), [])
-                    self.assertEqual([it.credits_posted for it in session.lookup_accounts([2])], [100])
+                    self.assertEqual(
+                        [it.credits_posted for it in session.lookup_accounts([2])], [100]
+                    )
                     session = self.begun()
-                    with self.failing(session, pipe, call, OSError(code, os.strerror(code)), is_done), self.assertRaises(tb.ProgramEnded):
+                    with self.failing(
+                        session, pipe, call, OSError(code, os.strerror(code)), is_done
+                    ), self.assertRaises(tb.ProgramEnded):
                         session.create_transfers([transfer(11, 1, 2, 100)])
                     self.assertEqual(session.in_doubt.items, (transfer(11, 1, 2, 100),))
             session = self.begun()
             with self.failing(session, pipe, call, BlockingIOError(errno.EAGAIN, "not now"), False):
-                self.assertEqual(session.create_transfers([transfer(11, 1, 2, 100)]), [], "a pipe that is not ready after all")
+                self.assertEqual(
+                    session.create_transfers([transfer(11, 1, 2, 100)]),
+                    [],
+                    "a pipe that is not ready after all",
+                )
 
     def test_no_file_to_wait_for_pipes(self):
         session = self.begun()
-        with unittest.mock.patch("selectors.DefaultSelector", side_effect=OSError(errno.EMFILE, os.strerror(errno.EMFILE))), self.assertRaises(tb.ReplyLost) as raised:
+        with unittest.mock.patch(
+            "selectors.DefaultSelector",
+            side_effect=OSError(errno.EMFILE, os.strerror(errno.EMFILE)),
+        ), self.assertRaises(tb.ReplyLost) as raised:
             session.create_transfers([transfer(11, 1, 2, 100)])
-        self.assertEqual(str(raised.exception), "the pipes of the program failed: Too many open files")
+        self.assertEqual(
+            str(raised.exception), "the pipes of the program failed: Too many open files"
+        )
         self.assertEqual(session.retry(), [])
         self.assertEqual([it.credits_posted for it in session.lookup_accounts([2])], [100])
 
@@ -311,7 +377,9 @@ class Programs(unittest.TestCase):
             for _ in range(2):
                 with self.assertRaises(tb.ProgramEnded) as raised:
                     session.retry()
-                self.assertEqual(str(raised.exception), "interrupted amid its pipes, and killed (status -9)")
+                self.assertEqual(
+                    str(raised.exception), "interrupted amid its pipes, and killed (status -9)"
+                )
 
     def test_a_lock_of_popen_that_was_not_given_back(self):
         """As it is where a signal's handler raises amid Popen.wait. No call waits for that lock."""
@@ -330,7 +398,9 @@ class Programs(unittest.TestCase):
 
     def test_a_signal_while_a_reply_is_waited_for(self):
         session = self.begun()
-        with unittest.mock.patch("selectors.DefaultSelector.select", side_effect=KeyboardInterrupt), self.assertRaises(KeyboardInterrupt):
+        with unittest.mock.patch(
+            "selectors.DefaultSelector.select", side_effect=KeyboardInterrupt
+        ), self.assertRaises(KeyboardInterrupt):
             session.create_transfers([transfer(11, 1, 2, 100)])
         self.assertEqual(session.retry(), [])
         self.assertEqual([it.credits_posted for it in session.lookup_accounts([2])], [100])
@@ -341,7 +411,10 @@ class Programs(unittest.TestCase):
             session.transport.timeout = value
             with self.assertRaises(tb.Invalid) as raised:
                 session.lookup_accounts([1])
-            self.assertEqual((raised.exception.field, session.pending, session.transport.sent), ("timeout", None, 2))
+            self.assertEqual(
+                (raised.exception.field, session.pending, session.transport.sent),
+                ("timeout", None, 2),
+            )
         session.transport.timeout = 30
         self.assertEqual(session.number, 1)
 
@@ -357,7 +430,6 @@ class Programs(unittest.TestCase):
             os._exit(4)
         self.assertEqual(os.waitpid(child, 0)[1] >> 8, 3)
         self.assertEqual(session.lookup_accounts([1]), [])
-
 
     def test_a_forked_child_closes_what_another_thread_holds(self):
         """A child may leave the `with` of its parent's transport at any time: it closes its copy, and the parent's goes on."""
@@ -400,7 +472,9 @@ class FakePrograms(unittest.TestCase):
         self.addCleanup(folder.cleanup)
         path = os.path.join(folder.name, "tbs")
         with open(path, "w", encoding="ascii") as file:
-            file.write(f'#!/bin/sh\ncd "{folder.name}"\necho >> lives\nif [ $(wc -l < lives) -le {times} ]; then head -c 56 > /dev/null; {last}; fi\nexec "{PROGRAM}" "$@"\n')
+            file.write(
+                f'#!/bin/sh\ncd "{folder.name}"\necho >> lives\nif [ $(wc -l < lives) -le {times} ]; then head -c 56 > /dev/null; {last}; fi\nexec "{PROGRAM}" "$@"\n'
+            )
         os.chmod(path, os.stat(path).st_mode | stat.S_IXUSR)
         program = Program(path, 2, timeout=30, **options)
         self.addCleanup(program.close)
@@ -412,10 +486,17 @@ class FakePrograms(unittest.TestCase):
         self.assertRaises(tb.NoMemory, Session.register, self.begun(5, no_memory, restarts=True), 7)
         with self.assertRaises(tb.ProgramEnded) as raised:
             Session.register(self.begun(1, no_memory), 7)
-        self.assertEqual((raised.exception.fault, raised.exception.status, str(raised.exception)), ("NoMemory", 1, "NoMemory (status 1)"))
+        self.assertEqual(
+            (raised.exception.fault, raised.exception.status, str(raised.exception)),
+            ("NoMemory", 1, "NoMemory (status 1)"),
+        )
 
     def test_other_ends(self):
-        for last, said in (("echo 'tbs: Device' >&2; exit 1", "Device (status 1)"), ("exit 0", "the program ended (status 0)"), ("kill -9 $$", "killed by SIGKILL (status -9)")):
+        for last, said in (
+            ("echo 'tbs: Device' >&2; exit 1", "Device (status 1)"),
+            ("exit 0", "the program ended (status 0)"),
+            ("kill -9 $$", "killed by SIGKILL (status -9)"),
+        ):
             with self.assertRaises(tb.ProgramEnded) as raised:
                 Session.register(self.begun(1, last), 7)
             self.assertEqual(str(raised.exception), said)

@@ -1,5 +1,6 @@
 #!/usr/bin/env python3
-"""Tests of the client: its frames, its retries over transports that fail on purpose, and worked rows on the program itself.
+"""Tests of the client: its frames, its retries over transports that fail on purpose, and worked
+rows on the program itself.
 
     python3 -m unittest        (in this folder; PROGRAM names another tbs than crates/tbs/out/tbs)
 """
@@ -13,29 +14,48 @@ import time
 import unittest
 
 import tb_client as tb
-from tb_client import Account, AccountFlags, Direct, Faulty, Program, Session, Transfer, TransferFlags
+from tb_client import (
+    Account,
+    AccountFlags,
+    Direct,
+    Faulty,
+    Program,
+    Session,
+    Transfer,
+    TransferFlags,
+)
 
 HERE = os.path.dirname(os.path.abspath(__file__))
 PROGRAM = os.environ.get("PROGRAM", os.path.join(HERE, "..", "..", "crates", "tbs", "out", "tbs"))
 has_program = unittest.skipUnless(os.access(PROGRAM, os.X_OK), f"{PROGRAM} is not built")
 
+
 def reply(frame, status=0, session=1, commit=None, body=b""):
-    """A reply to the request of a frame, with a commit number that goes with status and session where none is given."""
+    """A reply to the request of a frame, with a commit number that goes with status and session
+    where none is given."""
     if commit is None:
         commit = 0 if status else session + (frame[28] != tb.Operation.register)
-    header = frame[:16] + struct.pack("<QIBB2xIQ4x", session, *struct.unpack_from("<IB", frame, 24), status, len(body), commit)
+    header = frame[:16] + struct.pack(
+        "<QIBB2xIQ4x", session, *struct.unpack_from("<IB", frame, 24), status, len(body), commit
+    )
     return header + body
 
 
 def wrong_replies():
     """A reply with each fault that a header can have, to the request 1 of client 7 in session 1."""
+
     def it(client=7, session=1, number=1, operation=129, status=0, commit=2, body=b""):
         return tb.Reply(client, session, number, operation, status, commit, body).to_bytes()
 
     return {
-        "ClientZero": it(client=0), "UnknownOperation": it(operation=133), "Reserved": it()[:47] + b"\1",
-        "RegisterNumbers": it(operation=2, commit=1), "RequestZero": it(number=0), "ReplyNumbers": it(commit=1),
-        "BadLength": it(body=b"1234567"), "TooMany": it(body=bytes(8191 * 8)),
+        "ClientZero": it(client=0),
+        "UnknownOperation": it(operation=133),
+        "Reserved": it()[:47] + b"\1",
+        "RegisterNumbers": it(operation=2, commit=1),
+        "RequestZero": it(number=0),
+        "ReplyNumbers": it(commit=1),
+        "BadLength": it(body=b"1234567"),
+        "TooMany": it(body=bytes(8191 * 8)),
     }
 
 
@@ -59,23 +79,66 @@ class Frames(unittest.TestCase):
     def test_request(self):
         self.assertEqual(tb.request_frame(7, 0, 0, 2).hex(), "07" + "00" * 27 + "02" + "00" * 19)
         body = account(1).to_bytes() + account(2).to_bytes()
-        header = "07" + "00" * 15 + "01" + "00" * 7 + "01000000" + "81000000" + "00010000" + "00" * 12
+        header = (
+            "07" + "00" * 15 + "01" + "00" * 7 + "01000000" + "81000000" + "00010000" + "00" * 12
+        )
         self.assertEqual(tb.request_frame(7, 1, 1, 129, body)[:48].hex(), header)
         self.assertEqual(body[:128].hex(), "01" + "00" * 111 + "bc0200000a0000000000000000000000")
 
     def test_records(self):
-        whole = Account(2**128 - 1, 1, 2, 3, 4, 5, 6, 7, 0, 700, 10, AccountFlags.linked | AccountFlags.closed, 9)
+        whole = Account(
+            2**128 - 1,
+            1,
+            2,
+            3,
+            4,
+            5,
+            6,
+            7,
+            0,
+            700,
+            10,
+            AccountFlags.linked | AccountFlags.closed,
+            9,
+        )
         self.assertEqual(Account.from_bytes(whole.to_bytes()), whole)
-        moved = Transfer(1, 2, 3, tb.MAX, 4, 5, 6, 7, 8, 700, 10, TransferFlags.pending | TransferFlags.closing_debit, 9)
+        moved = Transfer(
+            1,
+            2,
+            3,
+            tb.MAX,
+            4,
+            5,
+            6,
+            7,
+            8,
+            700,
+            10,
+            TransferFlags.pending | TransferFlags.closing_debit,
+            9,
+        )
         self.assertEqual(Transfer.from_bytes(moved.to_bytes()), moved)
         self.assertEqual(moved.to_bytes()[118:120].hex(), "4200")
 
     def test_requests_there_and_back(self):
-        for operation, items in ((2, ()), (129, (account(1), account(2))), (130, (transfer(1, 1, 2, 10),)), (131, (1, tb.MAX)), (132, ())):
+        for operation, items in (
+            (2, ()),
+            (129, (account(1), account(2))),
+            (130, (transfer(1, 1, 2, 10),)),
+            (131, (1, tb.MAX)),
+            (132, ()),
+        ):
             session, number = (0, 0) if operation == 2 else (5, 6)
             made = tb.Request(7, session, number, tb.Operation(operation), items)
             self.assertEqual(tb.Request.from_bytes(made.to_bytes()), made)
-        for operation, items in ((2, (1,)), (129, (transfer(1, 1, 2, 10),)), (130, (account(1),)), (131, (account(1),)), (133, ()), (129, 5)):
+        for operation, items in (
+            (2, (1,)),
+            (129, (transfer(1, 1, 2, 10),)),
+            (130, (account(1),)),
+            (131, (account(1),)),
+            (133, ()),
+            (129, 5),
+        ):
             with self.assertRaises(tb.Invalid, msg=str(operation)):
                 tb.Request(7, 5, 6, operation, items).to_bytes()
 
@@ -94,28 +157,69 @@ class Frames(unittest.TestCase):
                 tb.Reply(7, 1, 1, operation, 0, 2, body).items
 
     def test_reply(self):
-        frame = bytes.fromhex("07" + "00" * 15 + "01" + "00" * 7 + "01000000" + "8100" + "0000" + "08000000" + "0200000000000000" + "00" * 4 + "0100000015000000")
+        frame = bytes.fromhex(
+            "07"
+            + "00" * 15
+            + "01"
+            + "00" * 7
+            + "01000000"
+            + "8100"
+            + "0000"
+            + "08000000"
+            + "0200000000000000"
+            + "00" * 4
+            + "0100000015000000"
+        )
         read = tb.Reply.from_bytes(frame)
-        self.assertEqual((read.client, read.session, read.number, read.operation, read.status, read.commit), (7, 1, 1, 129, 0, 2))
+        self.assertEqual(
+            (read.client, read.session, read.number, read.operation, read.status, read.commit),
+            (7, 1, 1, 129, 0, 2),
+        )
         self.assertEqual(read.body, b"\1\0\0\0\x15\0\0\0")
         for wrong in (frame[:47], frame[:-1], frame + b"\0"):
             self.assertRaises(tb.BadReply, tb.Reply.from_bytes, wrong)
 
     def test_headers_that_are_cut(self):
         """Short is the first fault of docs/use/FORMATS.md: fewer than 48 bytes are there."""
-        request, answer = tb.request_frame(7, 1, 1, 131, bytes(16)), tb.Reply(7, 1, 1, 129, 0, 2, bytes(8)).to_bytes()
+        request, answer = (
+            tb.request_frame(7, 1, 1, 131, bytes(16)),
+            tb.Reply(7, 1, 1, 129, 0, 2, bytes(8)).to_bytes(),
+        )
         for count in range(48):
-            self.assertEqual((tb.request_fault(request[:count]), tb.frames.reply_fault(answer[:count])), ("Short", "Short"), count)
+            self.assertEqual(
+                (tb.request_fault(request[:count]), tb.frames.reply_fault(answer[:count])),
+                ("Short", "Short"),
+                count,
+            )
             for call in (tb.reply_length, tb.frames.test_reply):
                 with self.assertRaisesRegex(tb.BadReply, "Short", msg=count):
                     call(answer[:count])
-        self.assertEqual((tb.request_fault(request, 17), tb.request_fault(request, 10**9), tb.request_fault(b"12" + request, 2)), ("Short", "Short", None))
-        self.assertEqual((tb.reply_length(answer), tb.reply_length(b"123" + answer, 3), tb.reply_length(request)), (56, 56, 64))
+        self.assertEqual(
+            (
+                tb.request_fault(request, 17),
+                tb.request_fault(request, 10**9),
+                tb.request_fault(b"12" + request, 2),
+            ),
+            ("Short", "Short", None),
+        )
+        self.assertEqual(
+            (
+                tb.reply_length(answer),
+                tb.reply_length(b"123" + answer, 3),
+                tb.reply_length(request),
+            ),
+            (56, 56, 64),
+        )
         self.assertRaises(tb.BadReply, tb.reply_length, answer, 9)
 
     def test_headers_of_each_type(self):
         request = tb.request_frame(7, 1, 1, 131)
-        for call in (tb.request_fault, tb.reply_length, tb.frames.reply_fault, tb.frames.test_reply):
+        for call in (
+            tb.request_fault,
+            tb.reply_length,
+            tb.frames.reply_fault,
+            tb.frames.test_reply,
+        ):
             for value in (None, 5, "x" * 48, [0] * 48, {}, request.hex(), object()):
                 with self.assertRaises(tb.InvalidType) as raised:
                     call(value)
@@ -125,35 +229,58 @@ class Frames(unittest.TestCase):
                     call(request, value)
                 self.assertEqual(raised.exception.field, "at")
         for like in (bytearray, memoryview):
-            self.assertEqual((tb.request_fault(like(request)), tb.request_fault(like(bytes(48))), tb.reply_length(like(request))), (None, "ClientZero", 48))
+            self.assertEqual(
+                (
+                    tb.request_fault(like(request)),
+                    tb.request_fault(like(bytes(48))),
+                    tb.reply_length(like(request)),
+                ),
+                (None, "ClientZero", 48),
+            )
 
     def test_bodies_of_a_reply_that_is_made(self):
         for body in (None, 5, "x", [1], [b"1"]):
-            for call in (lambda: tb.Reply(7, 1, 1, 129, 0, 2, body).to_bytes(), lambda: tb.Reply(7, 1, 1, 129, 0, 2, body).items):
+            for call in (
+                lambda: tb.Reply(7, 1, 1, 129, 0, 2, body).to_bytes(),
+                lambda: tb.Reply(7, 1, 1, 129, 0, 2, body).items,
+            ):
                 with self.assertRaises(tb.InvalidType) as raised:
                     call()
                 self.assertEqual(raised.exception.field, "Reply.body")
 
     def test_each_fault_of_a_reply(self):
-        """Nothing is read of a reply that has a fault of docs/use/FORMATS.md, and the error names it."""
+        """Nothing is read of a reply that has a fault of docs/use/FORMATS.md, and the error
+        names it."""
         for name, wrong in wrong_replies().items():
             with self.assertRaises(tb.BadReply) as raised:
                 tb.Reply.from_bytes(wrong)
             self.assertEqual(str(raised.exception), f"what came is no frame of a reply ({name})")
-        for field, value in (("client", -1), ("session", 2**64), ("number", 2**32), ("operation", 256), ("status", -1), ("commit", 2**64)):
+        for field, value in (
+            ("client", -1),
+            ("session", 2**64),
+            ("number", 2**32),
+            ("operation", 256),
+            ("status", -1),
+            ("commit", 2**64),
+        ):
             with self.assertRaises(tb.InvalidValue) as refused:
                 dataclasses.replace(tb.Reply(7, 1, 1, 129, 0, 2, b""), **{field: value}).to_bytes()
             self.assertEqual(refused.exception.field, f"Reply.{field}")
 
 
 class Programs(unittest.TestCase):
-    """What is told of a program that is no server, or ends amid a reply. The programs are shell scripts."""
+    """What is told of a program that is no server, or ends amid a reply. The programs are shell
+    scripts."""
 
     def asked(self, answer, then, timeout=0.5):
-        """What a session gets from a program that writes these bytes and then does this, and from the same transport asked again."""
+        """What a session gets from a program that writes these bytes and then does this, and
+        from the same transport asked again."""
         with tempfile.TemporaryDirectory() as folder:
             path, answers = os.path.join(folder, "it"), os.path.join(folder, "answer")
-            for name, data in ((path, f"#!/bin/sh\ncat {answers}\n{then}\n".encode()), (answers, answer)):
+            for name, data in (
+                (path, f"#!/bin/sh\ncat {answers}\n{then}\n".encode()),
+                (answers, answer),
+            ):
                 with open(name, "wb") as file:
                     file.write(data)
             os.chmod(path, 0o755)
@@ -174,17 +301,30 @@ class Programs(unittest.TestCase):
             fault = (tb.BadReply, f"what came is no frame of a reply ({name})")
             told, took = self.asked(wrong, "exec sleep 5", timeout=3)
             self.assertEqual(told, [fault, fault], name)
-            self.assertLess(took, 6, "a wrong header is told at once, and its body is not waited for")
-        told, _ = self.asked(b"Usage: it is a program, and no server. It writes a text.\n", "exec sleep 5", timeout=3)
-        self.assertEqual(told[0], (tb.BadReply, "what came is no frame of a reply (UnknownOperation): 'Usage: it is a program, and no server. It writes'"))
+            self.assertLess(
+                took, 6, "a wrong header is told at once, and its body is not waited for"
+            )
+        told, _ = self.asked(
+            b"Usage: it is a program, and no server. It writes a text.\n", "exec sleep 5", timeout=3
+        )
+        self.assertEqual(
+            told[0],
+            (
+                tb.BadReply,
+                "what came is no frame of a reply (UnknownOperation): 'Usage: it is a program, "
+                "and no server. It writes'",
+            ),
+        )
         right = tb.Reply(7, 1, 1, 129, 0, 2, b"").to_bytes()
         told, _ = self.asked(right[:32] + b"\xff" * 4 + right[36:], "exec sleep 5", timeout=3)
         self.assertEqual(told[0], (tb.BadReply, f"a reply with a body of {2**32 - 1} bytes"))
 
     def test_a_program_that_holds_its_pipes(self):
-        """One that writes no more and does not end is killed; what one started and left does not hold up its end."""
+        """One that writes no more and does not end is killed; what one started and left does not
+        hold up its end."""
         for then, said in (
-            ("exec >&-; exec sleep 5", "killed by SIGKILL (status -9)"), ("exec >&- 2>&-; exec sleep 5", "killed by SIGKILL (status -9)"),
+            ("exec >&-; exec sleep 5", "killed by SIGKILL (status -9)"),
+            ("exec >&- 2>&-; exec sleep 5", "killed by SIGKILL (status -9)"),
             ("sleep 5 >&- & exit 3", "the program ended (status 3)"),
         ):
             told, took = self.asked(b"", then, timeout=0.3)
@@ -199,7 +339,11 @@ class Programs(unittest.TestCase):
     def test_a_program_that_ends_amid_a_reply(self):
         whole = tb.Reply(7, 1, 1, 129, 0, 2, bytes(80)).to_bytes()
         for cut in (0, 1, 47, 48, 49, len(whole) - 1):
-            for then, said in (("exit 0", "the program ended (status 0)"), ("echo tbs: Device >&2; exit 1", "Device (status 1)"), ("kill -9 $$", "killed by SIGKILL (status -9)")):
+            for then, said in (
+                ("exit 0", "the program ended (status 0)"),
+                ("echo tbs: Device >&2; exit 1", "Device (status 1)"),
+                ("kill -9 $$", "killed by SIGKILL (status -9)"),
+            ):
                 fault = (tb.ProgramEnded, said)
                 self.assertEqual(self.asked(whole[:cut], then, timeout=3)[0], [fault, fault])
         late = (tb.ReplyLost, "no reply within 0.2 seconds")
@@ -241,62 +385,104 @@ class Retries(unittest.TestCase):
             session = self.session(lambda frame: reply(frame, status=status, commit=0))
             with self.assertRaises(tb.Refused) as raised:
                 session.lookup_accounts([1])
-            self.assertEqual((type(raised.exception).__name__, raised.exception.status), (status.name, status))
-            self.assertEqual(isinstance(raised.exception, tb.Evicted), status in (tb.Status.NoSession, tb.Status.SessionTooLow))
-            self.assertEqual((session.number, session.pending, session.in_doubt.items), (0, self.sent[0], (1,)))
+            self.assertEqual(
+                (type(raised.exception).__name__, raised.exception.status), (status.name, status)
+            )
+            self.assertEqual(
+                isinstance(raised.exception, tb.Evicted),
+                status in (tb.Status.NoSession, tb.Status.SessionTooLow),
+            )
+            self.assertEqual(
+                (session.number, session.pending, session.in_doubt.items), (0, self.sent[0], (1,))
+            )
             self.assertTrue(str(raised.exception).startswith("request 1 of session 1 is refused: "))
             self.assertEqual(len(self.sent), 5 if status == tb.Status.NotYet else 1)
             self.assertRaises(tb.InDoubt, session.lookup_accounts, [1])
 
     def test_replies_to_something_else(self):
         other = tb.request_frame(7, 1, 2, 131)
-        for wrong in (lambda frame: reply(other), lambda frame: reply(frame, session=2), lambda frame: reply(frame, status=9), lambda frame: reply(frame, body=b"1234567")):
+        for wrong in (
+            lambda frame: reply(other),
+            lambda frame: reply(frame, session=2),
+            lambda frame: reply(frame, status=9),
+            lambda frame: reply(frame, body=b"1234567"),
+        ):
             session = self.session(wrong)
             self.assertRaises(tb.BadReply, session.lookup_accounts, [1])
         session = self.session(lambda frame: reply(frame, body=struct.pack("<II", 0, 99)))
         self.assertRaises(tb.BadReply, session.create_transfers, [transfer(1, 1, 2, 1)])
 
     def test_a_refusal_of_another_session(self):
-        """A refusal repeats the request's session (docs/use/FORMATS.md). One that does not is no answer, and the request stays in doubt."""
+        """A refusal repeats the request's session (docs/use/FORMATS.md). One that does not is no
+        answer, and the request stays in doubt."""
         for status in tb.Status:
             for other in (0, 2, 2**64 - 1):
                 if status != tb.Status.Reply:
                     session = self.session(lambda frame: reply(frame, status=status, session=other))
                     with self.assertRaises(tb.BadReply) as raised:
                         session.create_accounts([account(1)])
-                    self.assertEqual(str(raised.exception), f"a refusal in session {other} came for request 1 of session 1")
-                    self.assertEqual((len(self.sent), session.pending, session.in_doubt.items), (1, self.sent[0], (account(1),)))
+                    self.assertEqual(
+                        str(raised.exception),
+                        f"a refusal in session {other} came for request 1 of session 1",
+                    )
+                    self.assertEqual(
+                        (len(self.sent), session.pending, session.in_doubt.items),
+                        (1, self.sent[0], (account(1),)),
+                    )
                     with self.assertRaises(tb.InDoubt) as doubt:
                         session.lookup_accounts([1])
-                    self.assertEqual(str(doubt.exception), "the last request has no reply yet: retry it", "it is not told as refused")
+                    self.assertEqual(
+                        str(doubt.exception),
+                        "the last request has no reply yet: retry it",
+                        "it is not told as refused",
+                    )
                     session.transport = Direct(lambda moment, frame: reply(frame))
                     self.assertEqual((session.retry(), session.number), ([], 1))
 
     def test_results_of_no_event(self):
-        """A create's body lists the events that were not accepted (docs/use/CLIENTS.md), by their index in the request."""
+        """A create's body lists the events that were not accepted (docs/use/CLIENTS.md), by
+        their index in the request."""
         exists = 46
         for rows, said in (
-            ([(2, exists)], "a result of event 2 came for 2 events"), ([(2**32 - 1, exists)], f"a result of event {2**32 - 1} came for 2 events"),
-            ([(0, exists), (0, exists)], "a result of event 0 came behind that of event 0"), ([(1, exists), (0, exists)], "a result of event 0 came behind that of event 1"),
+            ([(2, exists)], "a result of event 2 came for 2 events"),
+            ([(2**32 - 1, exists)], f"a result of event {2**32 - 1} came for 2 events"),
+            ([(0, exists), (0, exists)], "a result of event 0 came behind that of event 0"),
+            ([(1, exists), (0, exists)], "a result of event 0 came behind that of event 1"),
             ([(1, 0)], "event 1 came as ok among those that failed"),
         ):
-            session = self.session(lambda frame: reply(frame, body=b"".join(struct.pack("<II", *it) for it in rows)))
+            session = self.session(
+                lambda frame: reply(frame, body=b"".join(struct.pack("<II", *it) for it in rows))
+            )
             with self.assertRaises(tb.BadReply) as raised:
                 session.create_transfers([transfer(1, 1, 2, 1), transfer(2, 1, 2, 1)])
-            self.assertEqual((str(raised.exception), session.number, session.pending), (said, 0, self.sent[0]))
-        session = self.session(lambda frame: reply(frame, body=struct.pack("<IIII", 0, exists, 1, exists)))
-        self.assertEqual(results(session.create_transfers([transfer(1, 1, 2, 1)] * 2)), [(0, "exists"), (1, "exists")])
+            self.assertEqual(
+                (str(raised.exception), session.number, session.pending), (said, 0, self.sent[0])
+            )
+        session = self.session(
+            lambda frame: reply(frame, body=struct.pack("<IIII", 0, exists, 1, exists))
+        )
+        self.assertEqual(
+            results(session.create_transfers([transfer(1, 1, 2, 1)] * 2)),
+            [(0, "exists"), (1, "exists")],
+        )
 
     def test_records_that_were_not_looked_up(self):
         """A look-up answers the records that are there, in the order of the ids."""
         for found in ([4], [1, 1], [2, 1], [1, 2, 3, 3], [1, 2, 3, 1]):
-            session = self.session(lambda frame: reply(frame, body=b"".join(account(it).to_bytes() for it in found)))
+            session = self.session(
+                lambda frame: reply(frame, body=b"".join(account(it).to_bytes() for it in found))
+            )
             with self.assertRaises(tb.BadReply) as raised:
                 session.lookup_accounts([1, 2, 3])
-            self.assertEqual(str(raised.exception), f"a record with id {found[-1]} came, which was not looked up there")
+            self.assertEqual(
+                str(raised.exception),
+                f"a record with id {found[-1]} came, which was not looked up there",
+            )
             self.assertEqual(session.in_doubt.items, (1, 2, 3))
         for found in ([], [1], [3], [1, 3], [1, 2, 3]):
-            session = self.session(lambda frame: reply(frame, body=b"".join(account(it).to_bytes() for it in found)))
+            session = self.session(
+                lambda frame: reply(frame, body=b"".join(account(it).to_bytes() for it in found))
+            )
             self.assertEqual([it.id for it in session.lookup_accounts([1, 2, 3])], found)
         session = self.session(lambda frame: reply(frame, body=account(1).to_bytes() * 3))
         self.assertEqual(len(session.lookup_accounts([1, 1, 1])), 3)
@@ -326,9 +512,26 @@ class Worked(unittest.TestCase):
     def test_accounts(self):
         session = self.begun()
         self.assertEqual(session.session, 1)
-        self.assertEqual(session.lookup_accounts([2, 9, 1]), [account(2, timestamp=12), account(1, timestamp=11)])
-        again = session.create_accounts([account(0), account(1), Account(1, ledger=701, code=10), account(3, flags=AccountFlags(6))])
-        self.assertEqual(results(again), [(0, "id_must_not_be_zero"), (1, "exists"), (2, "exists_with_different_ledger"), (3, "flags_are_mutually_exclusive")])
+        self.assertEqual(
+            session.lookup_accounts([2, 9, 1]), [account(2, timestamp=12), account(1, timestamp=11)]
+        )
+        again = session.create_accounts(
+            [
+                account(0),
+                account(1),
+                Account(1, ledger=701, code=10),
+                account(3, flags=AccountFlags(6)),
+            ]
+        )
+        self.assertEqual(
+            results(again),
+            [
+                (0, "id_must_not_be_zero"),
+                (1, "exists"),
+                (2, "exists_with_different_ledger"),
+                (3, "flags_are_mutually_exclusive"),
+            ],
+        )
 
     def test_money_moves_once(self):
         # exchanges 1 and 2 register and create; 3 loses the request, 4 and 5 the reply
@@ -340,10 +543,18 @@ class Worked(unittest.TestCase):
 
     def test_failed_events(self):
         session = self.begun()
-        chain = [transfer(50, 1, 2, 1, flags=TransferFlags.linked), transfer(51, 99, 2, 1, flags=TransferFlags.linked), transfer(52, 1, 2, 1)]
+        chain = [
+            transfer(50, 1, 2, 1, flags=TransferFlags.linked),
+            transfer(51, 99, 2, 1, flags=TransferFlags.linked),
+            transfer(52, 1, 2, 1),
+        ]
         with self.assertRaises(tb.EventsFailed) as raised:
             tb.require_ok(session.create_transfers(chain))
-        self.assertEqual(str(raised.exception), "event 0: linked_event_failed, event 1: debit_account_not_found, event 2: linked_event_failed")
+        self.assertEqual(
+            str(raised.exception),
+            "event 0: linked_event_failed, event 1: debit_account_not_found, event 2: "
+            "linked_event_failed",
+        )
         tb.require_ok(session.create_transfers([transfer(53, 1, 2, 1)]))
         many = tb.EventsFailed(session.create_transfers([transfer(0, 1, 2, 1)] * 8190))
         self.assertTrue(str(many).endswith("event 9: id_must_not_be_zero, and 8180 more"))
@@ -362,7 +573,8 @@ class Worked(unittest.TestCase):
         with self.assertRaises(tb.ProgramEnded) as raised:
             session.lookup_accounts([1])
         self.assertEqual((raised.exception.fault, raised.exception.status), ("TimeExhausted", 2))
-        self.assertRaises(tb.ProgramEnded, session.retry)  # the history is gone with the process, and no empty one takes its place
+        # the history is gone with the process, and no empty one takes its place
+        self.assertRaises(tb.ProgramEnded, session.retry)
 
     def test_reply_comes_too_late(self):
         session = self.begun()
@@ -375,7 +587,8 @@ class Worked(unittest.TestCase):
             os.kill(program.process.pid, signal.SIGCONT)
         program.timeout = 30
         self.assertEqual(session.retry(), [])
-        self.assertEqual((program.sent, program.seen), (3, 3))  # it was on its way, and was not put behind itself
+        # it was on its way, and was not put behind itself
+        self.assertEqual((program.sent, program.seen), (3, 3))
         self.assertEqual([it.credits_posted for it in session.lookup_accounts([2])], [100])
 
     def test_killed_program(self):
@@ -384,11 +597,14 @@ class Worked(unittest.TestCase):
         for id in (12, 13):
             session.transport.process.kill()
             self.assertEqual(session.create_transfers([transfer(id, 1, 2, 1)]), [])
-        self.assertEqual([it.timestamp for it in session.lookup_transfers([11, 12, 13])], [13, 14, 15])
+        self.assertEqual(
+            [it.timestamp for it in session.lookup_transfers([11, 12, 13])], [13, 14, 15]
+        )
         self.assertEqual([it.debits_posted for it in session.lookup_accounts([1])], [102])
 
     def test_killed_client(self):
-        """What was saved before the sending suffices to go on, whether the request had been sent or not."""
+        """What was saved before the sending suffices to go on, whether the request had been sent
+        or not."""
         session = self.begun()
         session.prepare(tb.Operation.create_transfers, [transfer(11, 1, 2, 100)])
         saved = json.loads(json.dumps(session.saved))
@@ -403,7 +619,9 @@ class Worked(unittest.TestCase):
         for _ in range(2):
             with self.assertRaises(tb.ProgramEnded) as raised:
                 session.lookup_accounts([1]) if session.pending is None else session.retry()
-            self.assertEqual((raised.exception.fault, raised.exception.status), ("killed by SIGKILL", -9))
+            self.assertEqual(
+                (raised.exception.fault, raised.exception.status), ("killed by SIGKILL", -9)
+            )
         self.assertEqual(session.in_doubt.items, (1,))
 
     def test_bodies_past_every_buffer(self):

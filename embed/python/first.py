@@ -1,6 +1,6 @@
 #!/usr/bin/env python3
-"""The first requests of a client: it registers, creates two accounts, and moves 100 from one to the other. It never sees that reply,
-and sends the same bytes again: the money moves once.
+"""The first requests of a client: it registers, creates two accounts, and moves 100 from one to the
+other. It never sees that reply, and sends the same bytes again: the money moves once.
 
     first.py LIBRARY
 """
@@ -8,9 +8,20 @@ import os
 import sys
 
 # The client's package, where it is not installed.
-sys.path.append(os.path.join(os.path.dirname(os.path.abspath(__file__)), "..", "..", "clients", "python"))
+sys.path.append(
+    os.path.join(os.path.dirname(os.path.abspath(__file__)), "..", "..", "clients", "python")
+)
 
-from tb_client import Account, AccountFlags, ClientError, Operation, Reply, Request, Status, Transfer  # noqa: E402
+from tb_client import (  # noqa: E402
+    Account,
+    AccountFlags,
+    ClientError,
+    Operation,
+    Reply,
+    Request,
+    Status,
+    Transfer,
+)
 from tb_embed import Server  # noqa: E402
 
 CASH, SALES, CLIENT = 1, 2, 7
@@ -38,22 +49,40 @@ def first_requests(server: Server) -> None:
     print(f"register: entry {reply.commit}, session {session}")
 
     limited = AccountFlags.debits_must_not_exceed_credits
-    accounts = Account(CASH, ledger=700, code=10), Account(SALES, ledger=700, code=10, flags=limited)
+    accounts = Account(CASH, ledger=700, code=10), Account(
+        SALES, ledger=700, code=10, flags=limited
+    )
     reply = executed(server, Request(CLIENT, session, 1, Operation.create_accounts, accounts))
     print(f"create_accounts: entry {reply.commit}, {len(reply.items)} failed")
 
-    sale = Request(CLIENT, session, 2, Operation.create_transfers, (Transfer(11, CASH, SALES, 100, ledger=700, code=10),))
+    sale = Request(
+        CLIENT,
+        session,
+        2,
+        Operation.create_transfers,
+        (Transfer(11, CASH, SALES, 100, ledger=700, code=10),),
+    )
     executed(server, sale)
     print("create_transfers: the reply is lost")
-    print_transfers("create_transfers, sent again", executed(server, sale))  # the same bytes: the first reply
+    # the same bytes: the first reply
+    print_transfers("create_transfers, sent again", executed(server, sale))
 
-    refund = Request(CLIENT, session, 3, Operation.create_transfers, (Transfer(12, SALES, CASH, 250, ledger=700, code=10),))
+    refund = Request(
+        CLIENT,
+        session,
+        3,
+        Operation.create_transfers,
+        (Transfer(12, SALES, CASH, 250, ledger=700, code=10),),
+    )
     print_transfers("create_transfers", executed(server, refund))
 
     reply = executed(server, Request(CLIENT, session, 4, Operation.lookup_accounts, (CASH, SALES)))
     print(f"lookup_accounts: entry {reply.commit}, {len(reply.items)} found")
     for it in reply.items:
-        print(f"  account {it.id}: debits_posted {it.debits_posted}, credits_posted {it.credits_posted}")
+        print(
+            f"  account {it.id}: debits_posted {it.debits_posted}, credits_posted "
+            f"{it.credits_posted}"
+        )
 
 
 if __name__ == "__main__":

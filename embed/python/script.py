@@ -1,6 +1,6 @@
 #!/usr/bin/env python3
-"""Serves a script of pairs, a moment and the frame of a request each, from standard input, and writes the replies to standard
-output: what `tbs run CLIENTS_MAX [PROFILE]` does, in Python.
+"""Serves a script of pairs, a moment and the frame of a request each, from standard input, and
+writes the replies to standard output: what `tbs run CLIENTS_MAX [PROFILE]` does, in Python.
 
     script.py LIBRARY [CLIENTS_MAX [PROFILE]]
 """
@@ -9,7 +9,9 @@ import struct
 import sys
 
 # The client's package, where it is not installed.
-sys.path.append(os.path.join(os.path.dirname(os.path.abspath(__file__)), "..", "..", "clients", "python"))
+sys.path.append(
+    os.path.join(os.path.dirname(os.path.abspath(__file__)), "..", "..", "clients", "python")
+)
 
 from tb_client import ClientError  # noqa: E402
 from tb_embed import Server  # noqa: E402

@@ -1,5 +1,6 @@
 #!/usr/bin/env python3
-"""Tests of the module over a library that answers what it is told to. checks/embed.py has those over the true one.
+"""Tests of the module over a library that answers what it is told to. checks/embed.py has those
+over the true one.
 
     PYTHONPATH=../../clients/python python3 -m unittest
 """
@@ -18,7 +19,9 @@ import time
 import unittest
 import unittest.mock
 
-sys.path.append(os.path.join(os.path.dirname(os.path.abspath(__file__)), "..", "..", "clients", "python"))
+sys.path.append(
+    os.path.join(os.path.dirname(os.path.abspath(__file__)), "..", "..", "clients", "python")
+)
 
 import tb_client  # noqa: E402
 import tb_embed  # noqa: E402
@@ -44,8 +47,18 @@ class Library:
         time.sleep(0.0005)
         self.inside -= 1
         self.calls.append((moment, request))
-        session, number = int.from_bytes(request[16:24], "little"), int.from_bytes(request[24:28], "little")
-        reply = tb_client.Reply(int.from_bytes(request[:16], "little"), session or 1, number, request[28], 0, 9 if session else 1, b"").to_bytes()
+        session, number = int.from_bytes(request[16:24], "little"), int.from_bytes(
+            request[24:28], "little"
+        )
+        reply = tb_client.Reply(
+            int.from_bytes(request[:16], "little"),
+            session or 1,
+            number,
+            request[28],
+            0,
+            9 if session else 1,
+            b"",
+        ).to_bytes()
         written.value = len(reply)
         if self.statuses:
             return self.statuses.pop(0)
@@ -97,7 +110,9 @@ class Embedded(unittest.TestCase):
         unittest.mock.patch.stopall()
         with self.assertRaises(tb_client.CannotStart) as raised:
             Server("/nowhere/libtb_embed.so")
-        self.assertTrue(str(raised.exception).startswith("the library does not load: /nowhere/libtb_embed.so: "))
+        self.assertTrue(
+            str(raised.exception).startswith("the library does not load: /nowhere/libtb_embed.so: ")
+        )
 
     def test_what_is_no_library_of_the_server(self):
         for path in ("", "a\0b", "\ud800"):
@@ -115,21 +130,35 @@ class Embedded(unittest.TestCase):
                 self.library.statuses = [status]
                 with self.assertRaises(tb_embed.Refused) as raised:
                     self.server.serve(10, frame)
-                self.assertEqual((str(raised.exception), type(raised.exception).__name__, raised.exception.status), (name, name, status))
+                self.assertEqual(
+                    (
+                        str(raised.exception),
+                        type(raised.exception).__name__,
+                        raised.exception.status,
+                    ),
+                    (name, name, status),
+                )
                 self.assertIsInstance(raised.exception, tb_client.ClientError)
-        self.assertTrue(issubclass(tb_embed.NoMemory, tb_client.NoMemory) and issubclass(tb_embed.Closed, tb_client.Closed))
+        self.assertTrue(
+            issubclass(tb_embed.NoMemory, tb_client.NoMemory)
+            and issubclass(tb_embed.Closed, tb_client.Closed)
+        )
 
     def test_want_of_memory_is_tried_again(self):
         with unittest.mock.patch("time.sleep"):
             self.library.statuses = [3, 3, 3, 3]
             session = Session.register(Direct(self.server.serve), 7, now=lambda: 10)
-            self.assertEqual((session.session, len(self.library.calls), len(set(self.library.calls))), (1, 5, 1))
+            self.assertEqual(
+                (session.session, len(self.library.calls), len(set(self.library.calls))), (1, 5, 1)
+            )
             self.library.statuses = [3] * 5
             self.assertRaises(tb_client.NoMemory, session.lookup_accounts, [])
             self.assertEqual(session.retry(), [])
 
     def test_a_room_that_is_too_small(self):
-        self.assertEqual(len(Server("libtb_embed.so", room=1).serve(10, tb_client.request_frame(7, 0, 0, 2))), 48)
+        self.assertEqual(
+            len(Server("libtb_embed.so", room=1).serve(10, tb_client.request_frame(7, 0, 0, 2))), 48
+        )
 
     def test_closed(self):
         with self.server as server:
@@ -140,7 +169,14 @@ class Embedded(unittest.TestCase):
         self.assertIsNone(session.pending)
 
     def test_threads_share_a_server(self):
-        threads = [threading.Thread(target=lambda: [self.server.serve(10, tb_client.request_frame(7, 0, 0, 2)) for _ in range(20)]) for _ in range(8)]
+        threads = [
+            threading.Thread(
+                target=lambda: [
+                    self.server.serve(10, tb_client.request_frame(7, 0, 0, 2)) for _ in range(20)
+                ]
+            )
+            for _ in range(8)
+        ]
         for it in threads:
             it.start()
         for it in threads:
@@ -154,8 +190,12 @@ FAKE = """
 #include <string.h>
 typedef struct { void *at; uint8_t is_open; } tb_server;
 static int times;
-uint32_t tb_embed_open(tb_server *s, uint32_t profile, uint32_t clients) { s->is_open = 1; return profile == 2 && clients == 64 ? 0 : 2; }
-uint32_t tb_embed_serve(tb_server *s, uint64_t moment, const char *request, size_t length, char *reply, size_t room, size_t *written) {
+uint32_t tb_embed_open(tb_server *s, uint32_t profile, uint32_t clients) {
+    s->is_open = 1;
+    return profile == 2 && clients == 64 ? 0 : 2;
+}
+uint32_t tb_embed_serve(tb_server *s, uint64_t moment, const char *request, size_t length,
+                        char *reply, size_t room, size_t *written) {
     if (!s->is_open) return 1;
     if (moment == 3) return ++times < 3 ? 3 : 0;
     *written = length + 8;
@@ -172,25 +212,39 @@ uint32_t tb_embed_account(tb_server *s, uint64_t low, uint64_t high, char *recor
     memcpy(record + 8, &high, 8);
     return 0;
 }
-uint32_t tb_embed_transfer(tb_server *s, uint64_t low, uint64_t high, char *record, size_t room) { return tb_embed_account(s, low, high, record, room); }
+uint32_t tb_embed_transfer(tb_server *s, uint64_t low, uint64_t high, char *record, size_t room) {
+    return tb_embed_account(s, low, high, record, room);
+}
 void tb_embed_close(tb_server *s) { s->is_open = 0; }
 """
 
 
 @unittest.skipUnless(shutil.which("cc"), "cc is not there")
 class OverCtypes(unittest.TestCase):
-    """What goes through ctypes arrives whole: by a library in C that gives back what it was given."""
+    """What goes through ctypes arrives whole: by a library in C that gives back what it was
+    given."""
 
     def test_values(self):
         with tempfile.TemporaryDirectory() as folder:
             path = pathlib.Path(folder, "libfake.so")
-            subprocess.run(["cc", "-shared", "-fPIC", "-x", "c", "-", "-o", path], input=FAKE.encode(), check=True)
+            subprocess.run(
+                ["cc", "-shared", "-fPIC", "-x", "c", "-", "-o", path],
+                input=FAKE.encode(),
+                check=True,
+            )
             with self.assertRaises(tb_embed.Usage):
                 Server(path, 64, 1)
             with Server(path, 64, 2, room=48) as server:
                 for moment in (0, 5, 2**63 - 1):
-                    for request in (b"", b"\0\1\0" * 13, bytes(range(256)) * 4000, bytearray(b"ab\0c")):
-                        self.assertEqual(server.serve(moment, request), moment.to_bytes(8, "little") + request)
+                    for request in (
+                        b"",
+                        b"\0\1\0" * 13,
+                        bytes(range(256)) * 4000,
+                        bytearray(b"ab\0c"),
+                    ):
+                        self.assertEqual(
+                            server.serve(moment, request), moment.to_bytes(8, "little") + request
+                        )
                 for id in (0, 1, 2**64, 2**128 - 1):
                     self.assertEqual(server.account(id), id.to_bytes(16, "little") + bytes(112))
                 self.assertIsNone(server.transfer(9))
@@ -200,28 +254,51 @@ class OverCtypes(unittest.TestCase):
 
 
 class Examples(unittest.TestCase):
-    """What the examples say where they are called wrongly. checks/embed.py runs them over the true library."""
+    """What the examples say where they are called wrongly. checks/embed.py runs them over the
+    true library."""
 
     def test_words(self):
         here = os.path.dirname(os.path.abspath(__file__))
         for words, said in (
-            (["first.py"], "usage: first.py LIBRARY"), (["first.py", "a", "b"], "usage: first.py LIBRARY"), (["first.py", ""], "first: path is no path"),
-            (["first.py", "/nowhere"], "first: the library does not load: /nowhere: "), (["script.py"], "usage: script.py LIBRARY [CLIENTS_MAX [PROFILE]]"),
-            (["script.py", "a", "x"], "usage: script.py LIBRARY [CLIENTS_MAX [PROFILE]]"), (["script.py", "a", "65"], "script: clients_max must be 1 to 64, not 65"),
-            (["script.py", "a", "64", "3"], "script: profile must be 1 to 2, not 3"), (["script.py", "/nowhere"], "script: the library does not load: /nowhere: "),
+            (["first.py"], "usage: first.py LIBRARY"),
+            (["first.py", "a", "b"], "usage: first.py LIBRARY"),
+            (["first.py", ""], "first: path is no path"),
+            (["first.py", "/nowhere"], "first: the library does not load: /nowhere: "),
+            (["script.py"], "usage: script.py LIBRARY [CLIENTS_MAX [PROFILE]]"),
+            (["script.py", "a", "x"], "usage: script.py LIBRARY [CLIENTS_MAX [PROFILE]]"),
+            (["script.py", "a", "65"], "script: clients_max must be 1 to 64, not 65"),
+            (["script.py", "a", "64", "3"], "script: profile must be 1 to 2, not 3"),
+            (["script.py", "/nowhere"], "script: the library does not load: /nowhere: "),
         ):
-            ran = subprocess.run([sys.executable, "-B", os.path.join(here, words[0]), *words[1:]], stdin=subprocess.DEVNULL, capture_output=True, text=True, timeout=60)
-            self.assertEqual((ran.returncode, ran.stdout, ran.stderr.startswith(said), ran.stderr.count("\n")), (1, "", True, 1), ran.stderr)
+            ran = subprocess.run(
+                [sys.executable, "-B", os.path.join(here, words[0]), *words[1:]],
+                stdin=subprocess.DEVNULL,
+                capture_output=True,
+                text=True,
+                timeout=60,
+            )
+            self.assertEqual(
+                (ran.returncode, ran.stdout, ran.stderr.startswith(said), ran.stderr.count("\n")),
+                (1, "", True, 1),
+                ran.stderr,
+            )
 
     def test_scripts(self):
         import script
 
         register = b"\x0a" + bytes(7) + tb_client.request_frame(7, 0, 0, 2)
         cut = b"\x0a" + bytes(7) + tb_client.request_frame(7, 1, 1, 131, bytes(16))
-        for data, served, said in ((register * 2, 2, None), (register + cut[:-1], 1, "script: a cut script"), (register[:55], 0, "script: a cut script"), (b"", 0, None)):
+        for data, served, said in (
+            (register * 2, 2, None),
+            (register + cut[:-1], 1, "script: a cut script"),
+            (register[:55], 0, "script: a cut script"),
+            (b"", 0, None),
+        ):
             server, output = unittest.mock.Mock(), io.BytesIO()
             server.serve.return_value = b"reply"
-            with unittest.mock.patch("sys.stdin", io.TextIOWrapper(io.BytesIO(data))), unittest.mock.patch("sys.stdout", io.TextIOWrapper(output)):
+            with unittest.mock.patch(
+                "sys.stdin", io.TextIOWrapper(io.BytesIO(data))
+            ), unittest.mock.patch("sys.stdout", io.TextIOWrapper(output)):
                 if said is None:
                     script.serve(server)
                 else:
