@@ -5,12 +5,12 @@ what the clients' page shows.
     (cd crates/tbs && rt run -- run 2) < examples/first.script > /dev/null
     checks/clients.py [--only PART ..] [--kills N]
 
-The parts are python (the client's tests and examples on the built tbs, its types), pages (what the
-page and the README show), kit (the wrong clients, and the scenarios as data), and a part for each
-language that has a clients/*/conformance.json: its build, its tests, the kit, and the money. A
-language that is not installed is passed over by name. Prints a line for each case, and 'N passed,
-M failed'. Where mypy is there, types are checked too. PROGRAM names another tbs, TBD another tbd.
-Where no tbd is built, clients/python/stand_in_tbd.py stands in for it.
+The parts are one for each language that has a clients/*/conformance.json (its build, its tests,
+the kit, and the money), kit (the scenarios as data, and the wrong clients), types, examples (on the
+built tbs) and pages (what the page and the README show). A language that is not installed is passed
+over by name. Prints a line for each case, and 'N passed, M failed'. PROGRAM names another tbs, TBD
+another tbd. Where no tbd is built, clients/python/stand_in_tbd.py is in its place. Where mypy is
+not there, no types are checked.
 """
 import argparse
 import glob
@@ -332,6 +332,17 @@ def described():
     return found
 
 
+def done(what, words, folder=TOP, seconds=3600):
+    """Runs a command, tells a case by its last line, and answers whether it went well."""
+    there = {**os.environ, "PROGRAM": PROGRAM, "TBD": TBD}
+    ran = subprocess.run(
+        words, cwd=folder, capture_output=True, text=True, timeout=seconds, env=there
+    )
+    lines = (ran.stdout + ran.stderr).strip().splitlines() or [""]
+    said = lines[-1] if ran.returncode == 0 else "\n".join(lines[-20:])
+    return case(what, ran.returncode == 0, said)
+
+
 def language(about, kills):
     """Builds a client, and runs its tests, the kit and the money over it."""
     name, folder = about["language"], about["folder"]
@@ -339,50 +350,30 @@ def language(about, kills):
     if missing:
         print(f"passed over: {name}, since {', '.join(missing)} is not there")
         return
-    for kind in ("build", "tests"):
-        for words in about[kind]:
-            ran = subprocess.run(words, cwd=folder, capture_output=True, text=True, timeout=1200)
-            said = "" if ran.returncode == 0 else (ran.stdout + ran.stderr)[-2000:]
-            if (
-                not case(f"{name}: {' '.join(words)}", ran.returncode == 0, said)
-                and kind == "build"
-            ):
-                return
-    kit = [f"{TOP}/clients/conformance/kit.py", "--"]
-    money = [f"{TOP}/clients/conformance/money.py", "--kills", str(kills), "--server", KEEPER, "--"]
-    for what, words in (("the kit", kit), ("money amid kills", money)):
-        words = [sys.executable, "-B", *words, *about["runner"]]
-        ran = subprocess.run(words, cwd=folder, capture_output=True, text=True, timeout=3600)
-        lines = (ran.stdout + ran.stderr).strip().splitlines() or [""]
-        case(
-            f"{name}: {what}",
-            ran.returncode == 0,
-            lines[-1] if ran.returncode == 0 else "\n".join(lines[-20:]),
-        )
+    if not all(done(f"{name}: {' '.join(words)}", words, folder) for words in about["build"]):
+        return
+    for words in about["tests"]:
+        done(f"{name}: {' '.join(words)}", words, folder)
+    kit = [sys.executable, "-B", f"{TOP}/clients/conformance/kit.py", "--"]
+    done(f"{name}: the kit", [*kit, *about["runner"]], folder)
+    money = [sys.executable, "-B", f"{TOP}/clients/conformance/money.py", "--server", KEEPER]
+    words = [*money, "--kills", str(kills), "--", *about["runner"]]
+    done(f"{name}: money amid kills", words, folder)
 
 
 def kit():
     """That the scenarios are those that are made, and that each wrong client is caught."""
     for name in ("make_scenarios", "wrong_clients"):
-        words = [sys.executable, "-B", f"{TOP}/clients/conformance/{name}.py"]
-        ran = subprocess.run(words, capture_output=True, text=True, timeout=3600)
-        lines = (ran.stdout + ran.stderr).strip().splitlines() or [""]
-        case(
-            f"{name}.py",
-            ran.returncode == 0,
-            lines[-1] if ran.returncode == 0 else "\n".join(lines[-20:]),
-        )
+        done(f"{name}.py", [sys.executable, "-B", f"{TOP}/clients/conformance/{name}.py"])
 
 
-def client_in_python():
+def examples():
     tried.built(PROGRAM)
-    tests("the tests of the client in Python", CLIENT)
     tests("the tests of the embedded server's module", EMBED)
     output = script("the example of the client in Python", CLIENT, "example.py", PROGRAM)
     case("what the example says", output == EXAMPLE, "" if output == EXAMPLE else output)
     output = script("the example over sockets", CLIENT, "example_sockets.py", KEEPER)
     case("what that says", output == OVER_SOCKETS, "" if output == OVER_SOCKETS else output)
-    types()
 
 
 def pages():
@@ -395,8 +386,8 @@ def pages():
 
 def main():
     languages = described()
-    parts = {"python": client_in_python, "pages": pages, "kit": kit}
-    names = [*parts, *(it for it in languages if it != "python")]
+    parts = {"kit": kit, "types": types, "examples": examples, "pages": pages}
+    names = [*languages, *parts]
     parser = argparse.ArgumentParser(
         description=__doc__, formatter_class=argparse.RawDescriptionHelpFormatter
     )
@@ -417,12 +408,10 @@ def main():
     )
     given = parser.parse_args()
     for name in given.only:
-        if name in parts:
-            parts[name]()
         if name in languages:
-            language(
-                {**languages[name], **({"tests": []} if name == "python" else {})}, given.kills
-            )
+            language(languages[name], given.kills)
+        else:
+            parts[name]()
     return tried.status()
 
 
