@@ -1,10 +1,12 @@
 #!/usr/bin/env python3
-"""Compares the numbers, names and layouts of the definitions in specs/ with those of embed/tb_embed.h, embed/rust/tb_embed.rs, the
-client in Python and docs/use/FORMATS.md: each has just what the definitions have. Needs no library.
+"""Compares the numbers, names and layouts of the definitions in specs/ with those of
+embed/tb_embed.h, embed/rust/tb_embed.rs, the client in Python and docs/use/FORMATS.md: each has
+just what the definitions have. Needs no library.
 
     checks/embed/names.py
 
-Prints a line for each comparison, and 'N passed, M failed'. checks/embed.py does the same among other things.
+Prints a line for each comparison, and 'N passed, M failed'. checks/embed.py does the same among
+other things.
 """
 import os
 import re
@@ -15,8 +17,8 @@ TOP = os.path.dirname(os.path.dirname(os.path.dirname(os.path.abspath(__file__))
 sys.dont_write_bytecode = True
 sys.path[:0] = [f"{TOP}/embed/python", f"{TOP}/clients/python"]
 
-# Each kind: the file of its definitions with the words for the number and the text, the enum and the prefix in C, the name in Rust
-# and in Python.
+# Each kind: the file of its definitions with the words for the number and the text, the enum and
+# the prefix in C, the name in Rust and in Python.
 KINDS = [
     ("Operations", "operation_code", "operation_name", "tb_operation", "OPERATION", "Operation"),
     ("Messages", "status_code", "status_name", "tb_reply_status", "REPLY_STATUS", "Status"),
@@ -88,7 +90,8 @@ def upper(variant):
 
 
 def numbers(text, word):
-    """The numbers of variants: those of `word Variant = 5`, with or without what the variant holds."""
+    """The numbers of variants: those of `word Variant = 5`, with or without what the variant
+    holds."""
     rows = re.findall(rf"^{word} \(?(\w+)[^=\n]*\)? = (\d+)$", text, re.M)
     assert rows, word
     return {variant: int(number) for variant, number in rows}
@@ -107,7 +110,8 @@ def defined(file, number_word, text_word):
 
 
 def layout(file, word):
-    """The fields of a record or header: the place, the name and the size of each. Zero bytes have no name."""
+    """The fields of a record or header: the place, the name and the size of each. Zero bytes
+    have no name."""
     body = re.search(rf"^{word} [\w ]+ =\n?((?:\s+.*\n)+|.*\n)", spec(file), re.M).group(1)
     at, fields = 0, []
     for size, name, zeros in re.findall(r"le_bytes (\d+) (?:\w\.)?(\w+)|replicate (\d+) 0", body):
@@ -252,7 +256,8 @@ def comparisons():
 
 
 def statuses_of_outcomes():
-    """The statuses by the names of outcomes. Of outcomes with one status a caller sees the first: want of memory has one, wherever it was met."""
+    """The statuses by the names of outcomes. Of outcomes with one status a caller sees the
+    first: want of memory has one, wherever it was met."""
     first = {}
     for name, number in numbers(spec("Outcomes", "tb_embed"), "status_of").items():
         first.setdefault(number, name)
@@ -353,7 +358,8 @@ def in_rust(source):
 
 
 def eval_rust(expression, constants):
-    """The value of a constant: numbers, sums and products of constants, and the greatest numbers of types."""
+    """The value of a constant: numbers, sums and products of constants, and the greatest numbers
+    of types."""
     text = expression.replace("i64::MAX as u64", str(2**63 - 1)).replace(
         "u128::MAX", str(2**128 - 1)
     )

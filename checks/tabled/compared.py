@@ -438,7 +438,7 @@ def clients(table, sources):
         lambda: re.findall(
             r"(\w+)(?=[,)])",
             r.first(
-                r"^REFUSALS = .* in (\(.*\))\}",
+                r"^REFUSALS = \{[^(]* in (\(.*\))\s*\}",
                 sources.read("clients/python/tb_client/errors.py"),
                 "REFUSALS",
             )[1],

@@ -1,7 +1,9 @@
 #!/usr/bin/env python3
-"""Clients move money over sockets, each transfer once, though the server, a client and the listener are killed amid the work.
+"""Clients move money over sockets, each transfer once, though the server, a client and the listener
+are killed amid the work.
 
-    example_sockets.py [COMMAND]        (crates/tbd/out/tbd of this repository where none is given, or what stands in for it)
+    example_sockets.py [COMMAND]        (crates/tbd/out/tbd of this repository where none is given,
+    or what stands in for it)
 
 It is run twice: on a Unix socket, and on a port of this computer.
 """
@@ -28,7 +30,8 @@ Address = Union[str, Tuple[str, int]]
 
 
 def work(address: Address, kept: str) -> None:
-    """Makes COUNT transfers of 1, by the way that survives a crash: prepare, save, and only then send."""
+    """Makes COUNT transfers of 1, by the way that survives a crash: prepare, save, and only then
+    send."""
     with Socket(address, timeout=20.0) as transport:
         if os.path.exists(kept):
             session = Session.load(transport, kept)
@@ -84,7 +87,8 @@ class Listening:
         self.start()
 
     def start(self) -> None:
-        """Starts it. While the server of a listener that was killed still ends, the file is Locked."""
+        """Starts it. While the server of a listener that was killed still ends, the file is
+        Locked."""
         for _ in range(100):
             self.process = subprocess.Popen(self.words, stderr=subprocess.PIPE, text=True)
             assert self.process.stderr
@@ -124,7 +128,8 @@ def client(address: Address, kept: str) -> "subprocess.Popen[bytes]":
 def wait_until(
     count: int, files: List[str], clients: "List[subprocess.Popen[bytes]]", listening: Listening
 ) -> None:
-    """Waits until the clients know so many transfers to be made. Ends the example where they cannot make them any more."""
+    """Waits until the clients know so many transfers to be made. Ends the example where they
+    cannot make them any more."""
     deadline = time.monotonic() + PATIENCE
     while sum(map(done, files)) < count:
         for it in clients:

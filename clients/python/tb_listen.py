@@ -4,19 +4,22 @@
     tb_listen.py [OPTIONS] -- COMMAND [WORD ..]
     tb_listen.py --unix ledger.sock -- crates/tbd/out/tbd run ledger.journal 64
 
-It runs the command, which reads pairs of a moment and a request, and writes replies in their order, as `tbd run` and `tbs run` do.
-On a socket it takes requests without a moment, one after another on each connection, gives each its moment, and brings each reply to
-the connection that asked. docs/use/CLIENTS.md says how to use it; `tb_client.Socket` is the client's side.
+It runs the command, which reads pairs of a moment and a request, and writes replies in their order,
+as `tbd run` and `tbs run` do. On a socket it takes requests without a moment, one after another on
+each connection, gives each its moment, and brings each reply to the connection that asked.
+docs/use/CLIENTS.md says how to use it; `tb_client.Socket` is the client's side.
 
-A command that ends in the words `run FILE CLIENTS_MAX [PROFILE]`, as that of `tbd`, keeps its ledger in FILE (a name of digits alone is
-given with its folder, as ./64). Where a signal ended it, it is started again. Before it is started for the first time, the same
-command with `check FILE` in their place tells the ledger's last time, which must not lie ahead of the clock. Any other command is
-taken for one that keeps its ledger in memory: it is never started again.
+A command that ends in the words `run FILE CLIENTS_MAX [PROFILE]`, as that of `tbd`, keeps its
+ledger in FILE (a name of digits alone is given with its folder, as ./64). Where a signal ended it,
+it is started again. Before it is started for the first time, the same command with `check FILE` in
+their place tells the ledger's last time, which must not lie ahead of the clock. Any other command
+is taken for one that keeps its ledger in memory: it is never started again.
 
-What a client may do wrong ends its own connection alone. Before it is closed it is told why, by a line of fewer bytes than a frame
-has: `tb_listen: ` and a name. Status 0: ended by SIGTERM or SIGINT, with all that was taken answered. Status 1: it cannot listen, the
-ledger lies ahead of the clock, or the command failed. Status 2: wrong arguments. A fault that the command named is handed on, with its
-own line and status.
+What a client may do wrong ends its own connection alone. Before it is closed it is told why, by a
+line of fewer bytes than a frame has: `tb_listen: ` and a name. Status 0: ended by SIGTERM or
+SIGINT, with all that was taken answered. Status 1: it cannot listen, the ledger lies ahead of the
+clock, or the command failed. Status 2: wrong arguments. A fault that the command named is handed
+on, with its own line and status.
 """
 from __future__ import annotations
 
@@ -62,7 +65,9 @@ BACKLOG = 1024  # connections that wait to be taken
 ACCEPT_AGAIN = 0.5  # seconds before a connection is taken again for which there was no file
 LAST_WORDS = 1.0  # seconds for which what a command wrote may still come when it has ended
 WATCH = 0.1  # seconds after which a command is looked at again, to see whether it has ended
-LAST_READ = 1.0  # seconds for which a client that is told why may still send, so that it reads why and is not cut off before
+# seconds for which a client that is told why may still send, so that it reads why and is not cut
+# off before
+LAST_READ = 1.0
 PAUSES = (
     0.1,
     0.5,
@@ -77,14 +82,16 @@ EMPTY = 10  # bytes below which a journal's file has no entry
 
 
 def say(text: str) -> None:
-    """Says a line on standard error, where that takes it at once. Who reads nothing there holds up no client."""
+    """Says a line on standard error, where that takes it at once. Who reads nothing there holds
+    up no client."""
     with contextlib.suppress(OSError, ValueError):
         if sys.stderr is not None and _takes_a_line():
             print(f"tb_listen: {text}"[: LINES // 4], file=sys.stderr, flush=True)
 
 
 def _takes_a_line() -> bool:
-    """Whether there is room for a line on standard error: a pipe that tells so has room for 4096 bytes."""
+    """Whether there is room for a line on standard error: a pipe that tells so has room for 4096
+    bytes."""
     try:
         number = sys.stderr.fileno()
     except OSError:  # it is no file of the system
@@ -107,7 +114,8 @@ class Ended(Exception):
 
 
 class Wanting(Ended):
-    """The command does not start for want of what there may be enough of later, as files or memory."""
+    """The command does not start for want of what there may be enough of later, as files or
+    memory."""
 
 
 async def in_time(awaited: Awaitable[T], seconds: float, name: str) -> T:
@@ -122,14 +130,16 @@ async def in_time(awaited: Awaitable[T], seconds: float, name: str) -> T:
 
 
 def running_ns() -> int:
-    """A clock that nobody sets: it counts while the computer sleeps too, where the system has such a clock."""
+    """A clock that nobody sets: it counts while the computer sleeps too, where the system has
+    such a clock."""
     return time.clock_gettime_ns(getattr(time, "CLOCK_BOOTTIME", time.CLOCK_MONOTONIC))
 
 
 class Moments:
-    """The moments of requests, in nanoseconds since 1970. They begin with the clock, or with `last` where that is later. They never
-    fall, and grow by no more than the time that goes by and a thousandth of it, measured by a clock that nobody sets: so a clock that is
-    set far ahead does not take the ledger along."""
+    """The moments of requests, in nanoseconds since 1970. They begin with the clock, or with `last`
+    where that is later. They never fall, and grow by no more than the time that goes by and a
+    thousandth of it, measured by a clock that nobody sets: so a clock that is set far ahead does
+    not take the ledger along."""
 
     def __init__(
         self,
@@ -149,7 +159,8 @@ class Moments:
         lag = (clock - self.last) // SECOND
         if lag >= LAG and not self.is_said:
             say(
-                f"the clock is {lag} s ahead of where it should be, and requests get moments without that: if it is right now, start tb_listen again"
+                f"the clock is {lag} s ahead of where it should be, and requests get moments "
+                "without that: if it is right now, start tb_listen again"
             )
         self.is_said = lag >= LAG
         return self.last
@@ -159,8 +170,9 @@ class Moments:
 
 
 def journal_at(words: Sequence[str]) -> Optional[int]:
-    """Which word of a command is the file that it keeps its ledger in: FILE of `run FILE CLIENTS_MAX [PROFILE]` at its end. None where
-    there is no such word, as in `tbs run CLIENTS_MAX [PROFILE]`."""
+    """Which word of a command is the file that it keeps its ledger in: FILE of `run FILE
+    CLIENTS_MAX [PROFILE]` at its end. None where there is no such word, as in `tbs run CLIENTS_MAX
+    [PROFILE]`."""
     for at in (len(words) - 2, len(words) - 3):
         if (
             at > 1
@@ -177,7 +189,8 @@ def _is_number(word: str) -> bool:
 
 
 async def last_time(words: Sequence[str], at: int) -> int:
-    """The last time of a ledger, in nanoseconds, as `check FILE` tells it. 0 where no entry is there."""
+    """The last time of a ledger, in nanoseconds, as `check FILE` tells it. 0 where no entry is
+    there."""
     try:
         if os.stat(words[at]).st_size < EMPTY:
             return 0
@@ -222,7 +235,8 @@ def _last_line(told: bytes) -> str:
 
 
 def _signal_of(status: int) -> int:
-    """The signal that ended a process, or what it started for that: a shell tells it by 128 and its number. 0 where none did."""
+    """The signal that ended a process, or what it started for that: a shell tells it by 128 and
+    its number. 0 where none did."""
     return -status if status < 0 else status - 128 if 128 < status < 128 + signal.NSIG else 0
 
 
@@ -236,19 +250,22 @@ def _end_of(status: int) -> str:
 
 
 async def _exited(process: asyncio.subprocess.Process) -> int:
-    """The status of a process, once it has ended. What it started may hold its pipes open beyond that, and `wait` would wait for these."""
+    """The status of a process, once it has ended. What it started may hold its pipes open beyond
+    that, and `wait` would wait for these."""
     while process.returncode is None:
         await asyncio.sleep(WATCH)
     return process.returncode
 
 
 def asker(header: bytes) -> bytes:
-    """What a reply repeats of its request: client, session, request and operation. The session of a register is new."""
+    """What a reply repeats of its request: client, session, request and operation. The session
+    of a register is new."""
     return header[:16] + header[24:29] if header[28] == Operation.register else header[:29]
 
 
 class Command:
-    """The command as a process. Pairs go to it in one order, and its replies come back in that order."""
+    """The command as a process. Pairs go to it in one order, and its replies come back in that
+    order."""
 
     def __init__(self, words: Sequence[str], moments: Moments, patience: float) -> None:
         self.words, self.moments, self.patience = words, moments, patience
@@ -261,8 +278,8 @@ class Command:
         self.is_closed = self.is_over = False
 
     async def run(self) -> None:
-        """Runs the command until its input is closed, and again where a signal ended it and it keeps its ledger. Raises `Ended` where it
-        ends for another reason."""
+        """Runs the command until its input is closed, and again where a signal ended it and it
+        keeps its ledger. Raises `Ended` where it ends for another reason."""
         try:
             lives = quick = 0
             while True:
@@ -295,7 +312,8 @@ class Command:
         return ended
 
     async def _pause(self, ended: str, seconds: float) -> None:
-        """Waits before the command is started again. Raises `Ended` where the listener is to end meanwhile."""
+        """Waits before the command is started again. Raises `Ended` where the listener is to end
+        meanwhile."""
         say(f"{ended}, and is started again in {seconds:g} s")
         with contextlib.suppress(asyncio.TimeoutError):
             await asyncio.wait_for(self.stopping.wait(), seconds)
@@ -334,7 +352,8 @@ class Command:
         watching: asyncio.Future[int],
         pipes: List[asyncio.Task[Any]],
     ) -> None:
-        """Waits until a process that gets no more requests has ended, and what it started. Ends them where they do not."""
+        """Waits until a process that gets no more requests has ended, and what it started. Ends
+        them where they do not."""
         await asyncio.wait([watching], timeout=self.patience)
         if watching.done():
             await asyncio.wait(pipes, timeout=LAST_WORDS)
@@ -520,8 +539,9 @@ class Listener:
                 writer.transport.abort()
 
     async def _read_on(self, reader: asyncio.StreamReader) -> None:
-        """Reads what still comes, and does nothing with it. A connection that is closed before it is read cuts its client off, and
-        what the client was told may be lost. No more connections stay so than may be served."""
+        """Reads what still comes, and does nothing with it. A connection that is closed before it
+        is read cuts its client off, and what the client was told may be lost. No more connections
+        stay so than may be served."""
         if self.leaving >= self.given.connections:
             return
         self.leaving += 1
@@ -552,7 +572,8 @@ class Listener:
 
 @contextlib.contextmanager
 def folder_of(path: str) -> Iterator[None]:
-    """Holds the folder of a path, so that listeners look for a socket there, make it and remove it one after another."""
+    """Holds the folder of a path, so that listeners look for a socket there, make it and remove
+    it one after another."""
     folder = os.open(os.path.dirname(path) or ".", os.O_RDONLY | os.O_DIRECTORY)
     try:
         with contextlib.suppress(OSError):  # a file system without such locks
@@ -563,7 +584,8 @@ def folder_of(path: str) -> Iterator[None]:
 
 
 def unix_socket(path: str) -> socket.socket:
-    """A socket at this path, which its owner alone may use. One that nobody listens on any more gives way."""
+    """A socket at this path, which its owner alone may use. One that nobody listens on any more
+    gives way."""
     it = socket.socket(socket.AF_UNIX, socket.SOCK_STREAM)
     before = os.umask(0o177)
     try:
@@ -648,27 +670,31 @@ def shown(host: str, port: int, *_: object) -> str:
 
 
 def make_room(connections: int) -> None:
-    """Lets this process have as many open files as its connections may take: those that are served, and those that are told why."""
+    """Lets this process have as many open files as its connections may take: those that are
+    served, and those that are told why."""
     wanted = 2 * connections + 64
     soft, hard = resource.getrlimit(resource.RLIMIT_NOFILE)
     if soft == resource.RLIM_INFINITY or soft >= wanted:
         return
     if hard != resource.RLIM_INFINITY and hard < wanted:
         raise Ended(
-            f"--connections {connections} takes {wanted} open files, and {hard} are allowed (ulimit -n)",
+            f"--connections {connections} takes {wanted} open files, and {hard} are allowed "
+            "(ulimit -n)",
             1,
         )
     resource.setrlimit(resource.RLIMIT_NOFILE, (wanted, hard))
 
 
 async def begin(given: argparse.Namespace) -> Moments:
-    """Moments that go on where the ledger is. Raises `Ended` where it lies ahead of the clock, and more than was allowed."""
+    """Moments that go on where the ledger is. Raises `Ended` where it lies ahead of the clock,
+    and more than was allowed."""
     at = journal_at(given.command)
     last = 0 if at is None else await last_time(given.command, at)
     ahead = (last - time.time_ns()) / SECOND
     if ahead > given.ahead:
         raise Ended(
-            f"the ledger's last time is {ahead:.3f} s ahead of this computer's clock: set the clock right, or allow it by --ahead SECONDS",
+            f"the ledger's last time is {ahead:.3f} s ahead of this computer's clock: set the "
+            "clock right, or allow it by --ahead SECONDS",
             1,
         )
     return Moments(last)
@@ -702,7 +728,8 @@ async def _first(*futures: asyncio.Future[Any]) -> None:
 
 
 async def _take_connections(place: socket.socket, listener: Listener) -> None:
-    """Takes connections one after another. Where there is no file for one more, those that call wait until there is."""
+    """Takes connections one after another. Where there is no file for one more, those that call
+    wait until there is."""
     is_said = False
     place.setblocking(False)
     while True:
@@ -724,7 +751,8 @@ async def _take_connections(place: socket.socket, listener: Listener) -> None:
 
 
 async def _called(place: socket.socket) -> None:
-    """Waits until someone calls. It takes no connection, so that none is lost where it is cancelled."""
+    """Waits until someone calls. It takes no connection, so that none is lost where it is
+    cancelled."""
     loop, called = asyncio.get_running_loop(), asyncio.Event()
     loop.add_reader(place, called.set)
     try:
@@ -788,7 +816,10 @@ def words(given: Sequence[str]) -> argparse.Namespace:
         type=_path,
         help="listen on a Unix socket, which its owner alone may use",
     )
-    tcp = "listen on TCP (127.0.0.1:3001 where nothing is given; port 0 is any that is free; [::1]:3001 for IPv6)"
+    tcp = (
+        "listen on TCP (127.0.0.1:3001 where nothing is given; port 0 is any that is free; "
+        "[::1]:3001 for IPv6)"
+    )
     place.add_argument(
         "--tcp", metavar="HOST:PORT", type=_address, default=("127.0.0.1", 3001), help=tcp
     )
@@ -810,7 +841,10 @@ def words(given: Sequence[str]) -> argparse.Namespace:
         "how long a request may take to come, a client to read a reply, and the command to end (30)"
     )
     parser.add_argument("--slow", metavar="SECONDS", type=_seconds, default=30.0, help=slow)
-    ahead = "how far the ledger's last time may lie ahead of the clock when the command is started first (0)"
+    ahead = (
+        "how far the ledger's last time may lie ahead of the clock "
+        "when the command is started first (0)"
+    )
     parser.add_argument("--ahead", metavar="SECONDS", type=_ahead, default=0.0, help=ahead)
     parser.add_argument(
         "command", metavar="COMMAND", nargs="+", help="the server and its words, behind --"

@@ -1,5 +1,6 @@
 #!/usr/bin/env python3
-"""A Program, a session and `id` shared by threads; programs that end, are closed, or were forked."""
+"""A Program, a session and `id` shared by threads; programs that end, are closed, or were
+forked."""
 import errno
 import os
 import signal
@@ -17,7 +18,8 @@ from test_tb_client import PROGRAM, account, at_ten, has_program, reply, transfe
 
 
 def in_threads(count, work):
-    """Calls `work` with 0, 1 and so on in threads that start together. Raises what one of them raised."""
+    """Calls `work` with 0, 1 and so on in threads that start together. Raises what one of them
+    raised."""
     faults, start = [], threading.Barrier(count)
 
     def run(number):
@@ -297,7 +299,8 @@ class Programs(unittest.TestCase):
         self.assertEqual((program.sent, session.lookup_accounts([1])), (1, []))
 
     def failing(self, session, pipe, call, error, is_done=True):
-        """A patch by which the next read or write of the program's pipes fails once, behind what it does or before."""
+        """A patch by which the next read or write of the program's pipes fails once, behind what
+        it does or before."""
         true, number, left = (
             getattr(os, call),
             getattr(session.transport.process, pipe).fileno(),
@@ -366,7 +369,8 @@ class Programs(unittest.TestCase):
         return session
 
     def test_a_signal_amid_a_read_or_a_write(self):
-        """How much went over the pipe is not known then. Nothing is sent twice over it: the program is started anew, or it has ended."""
+        """How much went over the pipe is not known then. Nothing is sent twice over it: the
+        program is started anew, or it has ended."""
         for pipe, call in (("stdin", "write"), ("stdout", "read")):
             session = self.begun(restarts=True)
             self.interrupted(session, pipe, call)
@@ -432,7 +436,8 @@ class Programs(unittest.TestCase):
         self.assertEqual(session.lookup_accounts([1]), [])
 
     def test_a_forked_child_closes_what_another_thread_holds(self):
-        """A child may leave the `with` of its parent's transport at any time: it closes its copy, and the parent's goes on."""
+        """A child may leave the `with` of its parent's transport at any time: it closes its
+        copy, and the parent's goes on."""
         program = self.program()
         session = Session.register(program, 7, now=at_ten)
         for lock in (program._lock, program.process._waitpid_lock):
@@ -441,7 +446,8 @@ class Programs(unittest.TestCase):
 
 
 def closed_in_a_child(transport, lock):
-    """The status of a forked child that closes a transport while a thread of its parent has this lock."""
+    """The status of a forked child that closes a transport while a thread of its parent has this
+    lock."""
     held, done = threading.Event(), threading.Event()
 
     def hold():
@@ -473,7 +479,9 @@ class FakePrograms(unittest.TestCase):
         path = os.path.join(folder.name, "tbs")
         with open(path, "w", encoding="ascii") as file:
             file.write(
-                f'#!/bin/sh\ncd "{folder.name}"\necho >> lives\nif [ $(wc -l < lives) -le {times} ]; then head -c 56 > /dev/null; {last}; fi\nexec "{PROGRAM}" "$@"\n'
+                f'#!/bin/sh\ncd "{folder.name}"\necho >> lives\n'
+                f"if [ $(wc -l < lives) -le {times} ]; then head -c 56 > /dev/null; {last}; fi\n"
+                f'exec "{PROGRAM}" "$@"\n'
             )
         os.chmod(path, os.stat(path).st_mode | stat.S_IXUSR)
         program = Program(path, 2, timeout=30, **options)

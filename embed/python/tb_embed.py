@@ -1,10 +1,11 @@
-"""The ledger server inside a Python program, over ctypes and a shared object of the library (docs/use/EMBEDDING.md says how to make it).
+"""The ledger server inside a Python program, over ctypes and a shared object of the library
+(docs/use/EMBEDDING.md says how to make it).
 
     server = Server("./libtb_embed.so")
     reply = server.serve(moment, request)           # frames, as bytes: docs/use/FORMATS.md
 
-With clients/python, whose package it needs beside it: `Session.register(Direct(server.serve))`. Errors of both stand below
-`tb_client.ClientError`.
+With clients/python, whose package it needs beside it: `Session.register(Direct(server.serve))`.
+Errors of both stand below `tb_client.ClientError`.
 """
 from __future__ import annotations
 
@@ -35,7 +36,8 @@ ABSENT, TOO_SMALL = 6, 7
 
 
 class Refused(tb_client.ClientError):
-    """A call did not do what it is for; `status` is its number, and the text its name, which a subclass has too."""
+    """A call did not do what it is for; `status` is its number, and the text its name, which a
+    subclass has too."""
 
     def __init__(self, status: int) -> None:
         super().__init__(status)
@@ -54,7 +56,8 @@ class Usage(Refused):
 
 
 class NoMemory(Refused, tb_client.NoMemory):
-    """There was no memory. The server is as it was, and the same bytes may be sent again: a Session does so."""
+    """There was no memory. The server is as it was, and the same bytes may be sent again: a
+    Session does so."""
 
 
 class Malformed(Refused):
@@ -65,10 +68,22 @@ class TimeExhausted(Refused):
     """The request is new, and no time is left for it."""
 
 
-_REFUSALS: Dict[int, Type[Refused]] = {1: Closed, 2: Usage, 3: NoMemory, 4: Malformed, 5: TimeExhausted}
+_REFUSALS: Dict[int, Type[Refused]] = {
+    1: Closed,
+    2: Usage,
+    3: NoMemory,
+    4: Malformed,
+    5: TimeExhausted,
+}
 
 
-_CALLS = ("tb_embed_open", "tb_embed_serve", "tb_embed_account", "tb_embed_transfer", "tb_embed_close")
+_CALLS = (
+    "tb_embed_open",
+    "tb_embed_serve",
+    "tb_embed_account",
+    "tb_embed_transfer",
+    "tb_embed_close",
+)
 
 
 class _Handle(ctypes.Structure):
@@ -88,25 +103,57 @@ def _library(path: str) -> Any:
         raise tb_client.CannotStart(f"the library does not load: {error}") from None
     except AttributeError as error:
         raise tb_client.CannotStart(f"it is no library of the server: {error}") from None
-    handle, bytes_in, room, size = ctypes.POINTER(_Handle), ctypes.c_char_p, ctypes.POINTER(ctypes.c_char), ctypes.c_size_t
+    handle, bytes_in, room, size = (
+        ctypes.POINTER(_Handle),
+        ctypes.c_char_p,
+        ctypes.POINTER(ctypes.c_char),
+        ctypes.c_size_t,
+    )
     u32, u64 = ctypes.c_uint32, ctypes.c_uint64
     library.tb_embed_open.argtypes = [handle, u32, u32]
-    library.tb_embed_serve.argtypes = [handle, u64, bytes_in, size, room, size, ctypes.POINTER(size)]
-    library.tb_embed_account.argtypes = library.tb_embed_transfer.argtypes = [handle, u64, u64, room, size]
+    library.tb_embed_serve.argtypes = [
+        handle,
+        u64,
+        bytes_in,
+        size,
+        room,
+        size,
+        ctypes.POINTER(size),
+    ]
+    library.tb_embed_account.argtypes = library.tb_embed_transfer.argtypes = [
+        handle,
+        u64,
+        u64,
+        room,
+        size,
+    ]
     library.tb_embed_close.argtypes = [handle]
     library.tb_embed_close.restype = None
-    for call in (library.tb_embed_open, library.tb_embed_serve, library.tb_embed_account, library.tb_embed_transfer):
+    for call in (
+        library.tb_embed_open,
+        library.tb_embed_serve,
+        library.tb_embed_account,
+        library.tb_embed_transfer,
+    ):
         call.restype = u32
     return library
 
 
 class Server(Closing):
-    """A server by profile 1 or 2, where 1 to 64 clients can have a session at one time. Threads may share it: it takes one call
-    at a time."""
+    """A server by profile 1 or 2, where 1 to 64 clients can have a session at one time. Threads may
+    share it: it takes one call at a time."""
 
-    def __init__(self, path: Union[str, os.PathLike[str]], clients_max: int = CLIENTS_MAX, profile: int = 1, room: int = 4096) -> None:
+    def __init__(
+        self,
+        path: Union[str, os.PathLike[str]],
+        clients_max: int = CLIENTS_MAX,
+        profile: int = 1,
+        room: int = 4096,
+    ) -> None:
         name = path_of("path", path)
-        places, profile = whole("clients_max", clients_max, CLIENTS_MAX, 1), whole("profile", profile, 2, 1)
+        places, profile = whole("clients_max", clients_max, CLIENTS_MAX, 1), whole(
+            "profile", profile, 2, 1
+        )
         self._room = ctypes.create_string_buffer(whole("room", room, REPLY_MAX, 1))
         self._lock = threading.Lock()
         self._library, self._handle, self._written = _library(name), _Handle(), ctypes.c_size_t()
@@ -119,7 +166,8 @@ class Server(Closing):
             raise tb_client.InvalidType("request", f"must be bytes, not {kind_of(request)}")
         with self._lock:
             status = self._serve(moment, bytes(request))
-            if status == TOO_SMALL:  # it was served: a larger room, and the request again, which gets its reply
+            # it was served: a larger room, and the request again, which gets its reply
+            if status == TOO_SMALL:
                 self._room = ctypes.create_string_buffer(self._written.value)
                 status = self._serve(moment, bytes(request))
             self._check(status)
@@ -139,7 +187,9 @@ class Server(Closing):
             self._library.tb_embed_close(self._handle)
 
     def _serve(self, moment: int, request: bytes) -> int:
-        status: int = self._library.tb_embed_serve(self._handle, moment, request, len(request), self._room, len(self._room), self._written)
+        status: int = self._library.tb_embed_serve(
+            self._handle, moment, request, len(request), self._room, len(self._room), self._written
+        )
         return status
 
     def _record(self, call: Any, id: int) -> Optional[bytes]:

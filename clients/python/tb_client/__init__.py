@@ -1,15 +1,16 @@
 """A client of the ledger server, in the standard library alone.
 
-A `Session` is a client that is registered: it numbers its requests, sends one at a time, and sends the same bytes again until
-it has the reply. It works over any transport, an object with a call `exchange(moment, frame)` that gives back the frame of the
-reply or raises `ReplyLost`:
+A `Session` is a client that is registered: it numbers its requests, sends one at a time, and sends
+the same bytes again until it has the reply. It works over any transport, an object with a call
+`exchange(moment, frame)` that gives back the frame of the reply or raises `ReplyLost`:
 
     Program    `tbs run` as a process, over two pipes
     Socket     a server that listens, as tb_listen.py does
     Direct     a function that serves one frame, as that of embed/python/tb_embed.py
     Faulty     another transport, of which it loses the requests and replies that it is told to lose
 
-docs/use/CLIENTS.md says how to use it, docs/use/FORMATS.md has the frames, docs/use/RULES.md the result codes.
+docs/use/CLIENTS.md says how to use it, docs/use/FORMATS.md has the frames, docs/use/RULES.md the
+result codes.
 """
 from .errors import (
     REFUSALS,
@@ -45,7 +46,14 @@ from .frames import Reply, Request, reply_length, request_fault, request_frame
 from .ids import id
 from .layout import AMOUNT_MAX as amount_max  # as the amount of a post: all of the pending amount
 from .layout import HEADER, ITEMS_MAX, NUMBER_MAX
-from .names import AccountFlags, CreateAccountResult, CreateTransferResult, Operation, Status, TransferFlags
+from .names import (
+    AccountFlags,
+    CreateAccountResult,
+    CreateTransferResult,
+    Operation,
+    Status,
+    TransferFlags,
+)
 from .program import Program
 from .records import Account, EventResult, Transfer
 from .sessions import Saved, Session, require_ok
@@ -55,9 +63,60 @@ from .transports import Direct, Faulty, Transport
 MAX = amount_max
 
 __all__ = [
-    "Account", "AccountFlags", "BadReply", "Busy", "CannotConnect", "CannotStart", "ClientError", "ClockJumped", "Closed", "Collision", "CreateAccountResult", "CreateTransferResult",
-    "Direct", "EventResult", "EventsFailed", "Evicted", "Faulty", "HEADER", "ITEMS_MAX", "InDoubt", "Invalid", "InvalidType", "InvalidValue", "MAX", "NUMBER_MAX",
-    "NewerRequest", "NewerSession", "NoMemory", "NoSession", "NotSent", "NotYet", "NothingInDoubt", "Older", "Operation", "Program", "ProgramEnded", "REFUSALS",
-    "Refused", "Reply", "ReplyLost", "Request", "Saved", "ScriptFull", "Session", "SessionTooLow", "Socket", "Status", "Transfer", "TransferFlags", "Transport", "amount_max",
-    "id", "reply_length", "request_fault", "request_frame", "require_ok",
+    "Account",
+    "AccountFlags",
+    "BadReply",
+    "Busy",
+    "CannotConnect",
+    "CannotStart",
+    "ClientError",
+    "ClockJumped",
+    "Closed",
+    "Collision",
+    "CreateAccountResult",
+    "CreateTransferResult",
+    "Direct",
+    "EventResult",
+    "EventsFailed",
+    "Evicted",
+    "Faulty",
+    "HEADER",
+    "ITEMS_MAX",
+    "InDoubt",
+    "Invalid",
+    "InvalidType",
+    "InvalidValue",
+    "MAX",
+    "NUMBER_MAX",
+    "NewerRequest",
+    "NewerSession",
+    "NoMemory",
+    "NoSession",
+    "NotSent",
+    "NotYet",
+    "NothingInDoubt",
+    "Older",
+    "Operation",
+    "Program",
+    "ProgramEnded",
+    "REFUSALS",
+    "Refused",
+    "Reply",
+    "ReplyLost",
+    "Request",
+    "Saved",
+    "ScriptFull",
+    "Session",
+    "SessionTooLow",
+    "Socket",
+    "Status",
+    "Transfer",
+    "TransferFlags",
+    "Transport",
+    "amount_max",
+    "id",
+    "reply_length",
+    "request_fault",
+    "request_frame",
+    "require_ok",
 ]

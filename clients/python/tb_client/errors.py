@@ -1,4 +1,5 @@
-"""What goes wrong, as exceptions below one base, `ClientError`. That of embed/python/tb_embed.py stand below it too."""
+"""What goes wrong, as exceptions below one base, `ClientError`. That of embed/python/tb_embed.py
+stand below it too."""
 from __future__ import annotations
 
 from typing import TYPE_CHECKING, Sequence
@@ -51,7 +52,8 @@ class NothingInDoubt(NotSent, ValueError):
 
 
 class ClockJumped(NotSent):
-    """The clock is further ahead than `jump_max` allows. The ledger's time would go there for good."""
+    """The clock is further ahead than `jump_max` allows. The ledger's time would go there for
+    good."""
 
 
 class Closed(NotSent):
@@ -59,7 +61,8 @@ class Closed(NotSent):
 
 
 class ScriptFull(NotSent):
-    """The requests that a Program keeps for its restarts would take more than `script_max` bytes."""
+    """The requests that a Program keeps for its restarts would take more than `script_max`
+    bytes."""
 
 
 class CannotStart(NotSent):
@@ -74,8 +77,8 @@ class CannotConnect(NotSent):
 
 
 class ReplyLost(ClientError):
-    """No reply came. The request may have been executed or not: send the same bytes again. `told` is the name that the server gave
-    before it closed the connection, where it gave one."""
+    """No reply came. The request may have been executed or not: send the same bytes again. `told`
+    is the name that the server gave before it closed the connection, where it gave one."""
 
     def __init__(self, text: str = "", told: str = "") -> None:
         super().__init__(text)
@@ -87,12 +90,14 @@ class Busy(ReplyLost):
 
 
 class NoMemory(ClientError):
-    """The server had no memory for the request, and did not execute it: send the same bytes again."""
+    """The server had no memory for the request, and did not execute it: send the same bytes
+    again."""
 
 
 class ProgramEnded(ClientError):
-    """The program ended, with this fault's name (as its line on standard error has it) and this exit status. Its history has
-    ended with it. A negative status is the number of the signal that killed it."""
+    """The program ended, with this fault's name (as its line on standard error has it) and this
+    exit status. Its history has ended with it. A negative status is the number of the signal that
+    killed it."""
 
     def __init__(self, fault: str, status: int) -> None:
         super().__init__(fault, status)
@@ -107,14 +112,16 @@ class BadReply(ClientError):
 
 
 class Refused(ClientError):
-    """The server refused the request, and changed nothing. `status` says why; a subclass has the status's name."""
+    """The server refused the request, and changed nothing. `status` says why; a subclass has the
+    status's name."""
 
     status: Status
     reason: str
 
 
 class Evicted(Refused):
-    """The session has ended, and its requests are refused for ever. The last one may have been executed before that."""
+    """The session has ended, and its requests are refused for ever. The last one may have been
+    executed before that."""
 
 
 class NoSession(Evicted):
@@ -152,7 +159,10 @@ class NotYet(Refused):
     reason = "it is not shown yet"
 
 
-REFUSALS = {it.status: it for it in (NoSession, SessionTooLow, NewerSession, Older, Collision, NewerRequest, NotYet)}
+REFUSALS = {
+    it.status: it
+    for it in (NoSession, SessionTooLow, NewerSession, Older, Collision, NewerRequest, NotYet)
+}
 
 
 class EventsFailed(ClientError):

@@ -62,7 +62,8 @@ def _one_of_each(pairs: list[tuple[str, Any]]) -> dict[str, Any]:
 
 
 def write_whole(path: str, data: bytes) -> None:
-    """Puts a file at this path, with these bytes. Where that fails the old file is left, and nothing beside it."""
+    """Puts a file at this path, with these bytes. Where that fails the old file is left, and
+    nothing beside it."""
     with contextlib.suppress(FileNotFoundError):
         _test_is_file(os.stat(path))
     folder = os.open(os.path.dirname(os.path.abspath(path)), os.O_RDONLY | os.O_CLOEXEC)
@@ -89,7 +90,9 @@ def _replace(path: str, beside: str, data: bytes) -> None:
 def _begun(path: str) -> int:
     """A file at this path that nobody else writes to until it is closed."""
     while True:
-        it = os.open(path, os.O_WRONLY | os.O_CREAT | os.O_NOFOLLOW | os.O_NONBLOCK | os.O_CLOEXEC, 0o666)
+        it = os.open(
+            path, os.O_WRONLY | os.O_CREAT | os.O_NOFOLLOW | os.O_NONBLOCK | os.O_CLOEXEC, 0o666
+        )
         try:
             _test_is_file(os.fstat(it))
             with contextlib.suppress(OSError):  # a file system without such locks

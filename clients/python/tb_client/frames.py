@@ -2,10 +2,34 @@
 from __future__ import annotations
 
 import dataclasses
-from typing import Any, Callable, Iterable, Iterator, List, Optional, Sequence, Tuple, TypeVar, Union, cast
+from typing import (
+    Any,
+    Callable,
+    Iterable,
+    Iterator,
+    List,
+    Optional,
+    Sequence,
+    Tuple,
+    TypeVar,
+    Union,
+    cast,
+)
 
 from .errors import BadReply, InvalidType, InvalidValue
-from .layout import HEADER, ID, ITEM_NAMES, ITEM_SIZES, ITEMS_MAX, RECORD, REPLY, REPLY_SIZES, REQUEST, RESULT, RESULT_FORMAT
+from .layout import (
+    HEADER,
+    ID,
+    ITEM_NAMES,
+    ITEM_SIZES,
+    ITEMS_MAX,
+    RECORD,
+    REPLY,
+    REPLY_SIZES,
+    REQUEST,
+    RESULT,
+    RESULT_FORMAT,
+)
 from .names import CreateAccountResult, CreateTransferResult, Operation, Status
 from .records import Account, EventResult, Transfer, u128, u128_at
 from .values import U8, U32, U64, U128, kind_of, listed, shown, viewed, whole
@@ -21,13 +45,17 @@ def operation_of(value: object) -> Operation:
     try:
         return Operation(whole("operation", value, U128, -U128))
     except ValueError:
-        raise InvalidValue("operation", f"must be one of {', '.join(it.name for it in Operation)}") from None
+        raise InvalidValue(
+            "operation", f"must be one of {', '.join(it.name for it in Operation)}"
+        ) from None
 
 
 # Requests
 
 
-def request_frame(client: int, session: int, number: int, operation: int, body: bytes = b"") -> bytes:
+def request_frame(
+    client: int, session: int, number: int, operation: int, body: bytes = b""
+) -> bytes:
     """The frame of a request. One that the server would find malformed, and end at, is refused."""
     kind = operation_of(operation)
     client = whole("client", client, U128, 1)
@@ -48,7 +76,9 @@ def _test_body(operation: Operation, body: object) -> None:
         return
     count, rest = divmod(len(body), ITEM_SIZES[operation])
     if rest:
-        raise InvalidValue("body", f"of {len(body)} bytes has no whole items of {ITEM_SIZES[operation]} bytes")
+        raise InvalidValue(
+            "body", f"of {len(body)} bytes has no whole items of {ITEM_SIZES[operation]} bytes"
+        )
     if count > ITEMS_MAX:
         raise InvalidValue("body", f"must have at most {ITEMS_MAX} items, not {count}")
 
@@ -66,7 +96,10 @@ def body_of(operation: Operation, items: Iterable[object]) -> bytes:
     kind: Any = Account if operation == Operation.create_accounts else Transfer
     for at, it in enumerate(given):
         if not isinstance(it, kind):
-            raise InvalidType(f"{name}[{at}]", f"must be {'an' if kind is Account else 'a'} {kind.__name__}, not {kind_of(it)}")
+            raise InvalidType(
+                f"{name}[{at}]",
+                f"must be {'an' if kind is Account else 'a'} {kind.__name__}, not {kind_of(it)}",
+            )
     return b"".join(map(kind.to_bytes, given))
 
 
@@ -95,7 +128,9 @@ class Request:
     def to_bytes(self) -> bytes:
         """The request's frame. Items of another kind than the operation takes are refused."""
         kind = operation_of(self.operation)
-        return request_frame(self.client, self.session, self.number, kind, body_of(kind, self.items))
+        return request_frame(
+            self.client, self.session, self.number, kind, body_of(kind, self.items)
+        )
 
 
 def _parts(frame: bytes) -> tuple[int, int, int, Operation, bytes]:
@@ -107,14 +142,17 @@ def _parts(frame: bytes) -> tuple[int, int, int, Operation, bytes]:
     session, number, operation, length = REQUEST.unpack_from(frame, 16)
     client, body = u128_at(frame, 0), bytes(frame[HEADER:])
     if length != len(body):
-        raise InvalidValue("frame", f"has a body of {len(body)} bytes, and its header says {length}")
+        raise InvalidValue(
+            "frame", f"has a body of {len(body)} bytes, and its header says {length}"
+        )
     if request_frame(client, session, number, operation, body) != frame:
         raise InvalidValue("frame", "has reserved bytes that are not 0")
     return client, session, number, Operation(operation), body
 
 
 def header_of(frame: bytes) -> Request:
-    """A request without its items. Bytes that the server would find malformed, and end at, are refused."""
+    """A request without its items. Bytes that the server would find malformed, and end at, are
+    refused."""
     client, session, number, operation, _ = _parts(frame)
     return Request(client, session, number, operation, ())
 
@@ -131,8 +169,8 @@ def _header_at(data: object, at: int) -> bytes:
 
 
 def request_fault(data: bytes, at: int = 0) -> Optional[str]:
-    """What is wrong with the header of a request at this place, by the tests of docs/use/FORMATS.md in their order. A server that reads
-    pairs ends at such a frame, for all."""
+    """What is wrong with the header of a request at this place, by the tests of docs/use/FORMATS.md
+    in their order. A server that reads pairs ends at such a frame, for all."""
     header = _header_at(data, at)
     if len(header) < HEADER:
         return "Short"
@@ -154,7 +192,8 @@ def request_fault(data: bytes, at: int = 0) -> Optional[str]:
 
 
 def reply_length(data: bytes, at: int = 0) -> int:
-    """The length of the frame whose header of 48 bytes stands at this place. `BadReply` where fewer bytes are there."""
+    """The length of the frame whose header of 48 bytes stands at this place. `BadReply` where
+    fewer bytes are there."""
     header = _header_at(data, at)
     if len(header) < HEADER:
         raise BadReply(f"{len(header)} bytes are no header of a frame (Short)")
@@ -166,13 +205,24 @@ def _length_of(header: bytes) -> int:
 
 
 def reply_fault(data: bytes, at: int = 0) -> Optional[str]:
-    """What is wrong with the header of a reply at this place, by the tests of docs/use/FORMATS.md in their order."""
+    """What is wrong with the header of a reply at this place, by the tests of
+    docs/use/FORMATS.md in their order."""
     header = _header_at(data, at)
     if len(header) < HEADER:
         return "Short"
     session, number, operation, status, length, commit = REPLY.unpack_from(header, 16)
-    is_register, is_refusal, size = operation == Operation.register, status != Status.Reply, REPLY_SIZES.get(operation, RESULT)
-    has_numbers = commit == 0 if is_refusal else 0 < session == commit if is_register else 0 < session < commit
+    is_register, is_refusal, size = (
+        operation == Operation.register,
+        status != Status.Reply,
+        REPLY_SIZES.get(operation, RESULT),
+    )
+    has_numbers = (
+        commit == 0
+        if is_refusal
+        else 0 < session == commit
+        if is_register
+        else 0 < session < commit
+    )
     tests = (
         ("ClientZero", not any(header[:16])),
         ("UnknownOperation", not is_register and operation not in REPLY_SIZES),
@@ -187,18 +237,24 @@ def reply_fault(data: bytes, at: int = 0) -> Optional[str]:
 
 
 def test_reply(data: bytes, at: int = 0) -> None:
-    """Raises BadReply where no header of a reply stands at this place: before its body is waited for."""
+    """Raises BadReply where no header of a reply stands at this place: before its body is waited
+    for."""
     first = _header_at(data, at)
     fault = reply_fault(first)
     if fault in ("BadLength", "TooMany") and _length_of(first) > HEADER + ITEMS_MAX * RECORD:
         raise BadReply(f"a reply with a body of {_length_of(first) - HEADER} bytes")
     if fault is not None:
-        text = f": {first.decode('ascii').splitlines()[0]!r}" if first and first.isascii() and first[:8].decode("ascii").isprintable() else ""
+        text = (
+            f": {first.decode('ascii').splitlines()[0]!r}"
+            if first and first.isascii() and first[:8].decode("ascii").isprintable()
+            else ""
+        )
         raise BadReply(f"what came is no frame of a reply ({fault}){text}")
 
 
 def asker(header: bytes) -> bytes:
-    """What a reply repeats of its request: client, session, number and operation. The session of a register is new."""
+    """What a reply repeats of its request: client, session, number and operation. The session of
+    a register is new."""
     return header[:16] + header[24:29] if header[28] == Operation.register else header[:29]
 
 
@@ -225,10 +281,19 @@ class Reply:
     body: bytes
 
     def to_bytes(self) -> bytes:
-        for field, greatest in (("client", U128), ("session", U64), ("number", U32), ("operation", U8), ("status", U8), ("commit", U64)):
+        for field, greatest in (
+            ("client", U128),
+            ("session", U64),
+            ("number", U32),
+            ("operation", U8),
+            ("status", U8),
+            ("commit", U64),
+        ):
             whole(f"Reply.{field}", getattr(self, field), greatest)
         body = self._body()
-        header = REPLY.pack(self.session, self.number, self.operation, self.status, len(body), self.commit)
+        header = REPLY.pack(
+            self.session, self.number, self.operation, self.status, len(body), self.commit
+        )
         return u128(self.client) + header + body
 
     def _body(self) -> bytes:
@@ -246,11 +311,14 @@ class Reply:
             raise BadReply(f"{len(frame)} bytes are no frame of a reply")
         test_reply(frame)
         session, number, operation, status, _, commit = REPLY.unpack_from(frame, 16)
-        return cls(u128_at(frame, 0), session, number, operation, status, commit, bytes(frame[HEADER:]))
+        return cls(
+            u128_at(frame, 0), session, number, operation, status, commit, bytes(frame[HEADER:])
+        )
 
     @property
     def items(self) -> Said:
-        """What the body says, of a reply with status 0: the results of a create, the records of a look-up, None of a register."""
+        """What the body says, of a reply with status 0: the results of a create, the records of
+        a look-up, None of a register."""
         try:
             operation = Operation(self.operation)
         except ValueError:
@@ -266,9 +334,14 @@ def said_by(operation: Operation, body: bytes) -> Said:
         return _items(body, RECORD, Account.from_bytes)
     if operation == Operation.lookup_transfers:
         return _items(body, RECORD, Transfer.from_bytes)
-    names: Any = CreateAccountResult if operation == Operation.create_accounts else CreateTransferResult
+    names: Any = (
+        CreateAccountResult if operation == Operation.create_accounts else CreateTransferResult
+    )
     try:
-        return [EventResult(index, names(result)) for index, result in _items(body, RESULT, RESULT_FORMAT.unpack)]
+        return [
+            EventResult(index, names(result))
+            for index, result in _items(body, RESULT, RESULT_FORMAT.unpack)
+        ]
     except ValueError as unknown:
         raise BadReply(str(unknown)) from None
 
@@ -278,7 +351,9 @@ def test_said(frame: bytes, operation: Operation, said: Said) -> None:
     if operation in (Operation.create_accounts, Operation.create_transfers):
         _test_results((len(frame) - HEADER) // RECORD, cast(List[EventResult], said))
     elif operation != Operation.register:
-        _test_found((u128_at(frame, at) for at in range(HEADER, len(frame), ID)), cast(List[Account], said))
+        _test_found(
+            (u128_at(frame, at) for at in range(HEADER, len(frame), ID)), cast(List[Account], said)
+        )
 
 
 def _test_results(count: int, results: Sequence[EventResult]) -> None:

@@ -19,7 +19,8 @@ def _draw(count: int) -> bytes:
 
 
 class Ids:
-    """Makes ids. `now` answers nanoseconds since 1970, and `draw` so many random bytes: those of the system where nothing is given."""
+    """Makes ids. `now` answers nanoseconds since 1970, and `draw` so many random bytes: those of
+    the system where nothing is given."""
 
     def __init__(self, now: Callable[[], int] = _now, draw: Callable[[int], bytes] = _draw) -> None:
         self.now, self.draw = now, draw
@@ -30,7 +31,9 @@ class Ids:
         with self.lock:
             now = self.now() // MILLISECOND
             if now > self.millisecond:
-                self.millisecond, self.random = now, int.from_bytes(self.draw(RANDOM_BITS // 8), "little")
+                self.millisecond, self.random = now, int.from_bytes(
+                    self.draw(RANDOM_BITS // 8), "little"
+                )
             else:
                 self.random += 1
             # The random part went past its end: the ids rise into the next millisecond.
@@ -52,6 +55,6 @@ os.register_at_fork(after_in_child=_begin_anew)
 
 
 def id() -> int:
-    """A new id of 128 bits: 48 bits of milliseconds since 1970, and 80 random ones. It is above each earlier one of this process, in
-    any thread, and neither 0 nor 2^128 - 1."""
+    """A new id of 128 bits: 48 bits of milliseconds since 1970, and 80 random ones. It is above
+    each earlier one of this process, in any thread, and neither 0 nor 2^128 - 1."""
     return _ids.next()

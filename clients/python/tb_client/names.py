@@ -31,8 +31,9 @@ class Status(enum.IntEnum):
 
 
 def _kept_apart(kind: Type[F]) -> Type[F]:
-    """Flags go together with others of their kind and with numbers. Those of the other kind of record have other meanings: it is a
-    TypeError to join one with the other, or to test one by the other."""
+    """Flags go together with others of their kind and with numbers. Those of the other kind of
+    record have other meanings: it is a TypeError to join one with the other, or to test one by the
+    other."""
 
     def among_its_kind(operation: Callable[[Any, int], int]) -> Callable[[Any, int], int]:
         def tested(flags: Any, other: int) -> int:

@@ -23,15 +23,18 @@ LONGEST = 3600.0  # seconds of one wait for the pipes: the system takes no numbe
 
 
 class Program(Closing):
-    """`tbs run` as a process, to which requests go one by one over a pipe, and from which replies come over another.
+    """`tbs run` as a process, to which requests go one by one over a pipe, and from which replies
+    come over another.
 
-    Replies come in the order of the requests. So the reply to the request that was sent as the nth is the nth, and one that
-    comes too late is passed over. Threads may share a Program: an exchange is one thread's from its first byte to its last.
+    Replies come in the order of the requests. So the reply to the request that was sent as the nth
+    is the nth, and one that comes too late is passed over. Threads may share a Program: an exchange
+    is one thread's from its first byte to its last.
 
-    The program keeps its history in memory, and the history ends with the process: each exchange afterwards is `ProgramEnded`.
-    With restarts=True every request that was answered is kept in this process, up to `script_max` bytes in all (`ScriptFull` is
-    raised where the next one would not fit; None is no bound). A program that ended is then started anew on this script by the
-    next exchange: the same script makes the same history."""
+    The program keeps its history in memory, and the history ends with the process: each exchange
+    afterwards is `ProgramEnded`. With restarts=True every request that was answered is kept in this
+    process, up to `script_max` bytes in all (`ScriptFull` is raised where the next one would not
+    fit; None is no bound). A program that ended is then started anew on this script by the next
+    exchange: the same script makes the same history."""
 
     def __init__(
         self,
@@ -58,7 +61,9 @@ class Program(Closing):
 
     def _start(self) -> None:
         try:
-            self.process = subprocess.Popen(self.command, stdin=subprocess.PIPE, stdout=subprocess.PIPE, stderr=subprocess.PIPE)
+            self.process = subprocess.Popen(
+                self.command, stdin=subprocess.PIPE, stdout=subprocess.PIPE, stderr=subprocess.PIPE
+            )
         except OSError as error:
             raise CannotStart(f"{self.command[0]} does not start: {error.strerror}") from None
         self._is_amid = True
@@ -84,12 +89,15 @@ class Program(Closing):
         with self._lock:
             self._be_ready()
             deadline = time.monotonic() + seconds("timeout", self.timeout, 0)
-            if self.seen == self.sent or self.last != frame:  # else it is on its way already, and its reply is waited for
+            # else it is on its way already, and its reply is waited for
+            if self.seen == self.sent or self.last != frame:
                 self._queue(pair)
             try:
                 return self._awaited(deadline)
             except OSError as error:
-                raise ReplyLost(f"the pipes of the program failed: {error.strerror or error}") from None
+                raise ReplyLost(
+                    f"the pipes of the program failed: {error.strerror or error}"
+                ) from None
 
     def _be_ready(self) -> None:
         """Starts the program anew where that was asked for, else tells why it takes no more."""
@@ -104,7 +112,10 @@ class Program(Closing):
     def _queue(self, pair: bytes) -> None:
         size = self.script_bytes + len(pair)
         if self.restarts and self.script_max is not None and size > self.script_max:
-            raise ScriptFull(f"the script for restarts would have {size} bytes, and script_max is {self.script_max}")
+            raise ScriptFull(
+                f"the script for restarts would have {size} bytes, and script_max is "
+                f"{self.script_max}"
+            )
         self._is_amid = True
         if self.restarts:
             self.script.append(pair)
@@ -114,7 +125,8 @@ class Program(Closing):
         self._is_amid = False
 
     def _awaited(self, deadline: float) -> bytes:
-        """The reply to what was sent last. What is left to be sent goes out as the pipe takes it."""
+        """The reply to what was sent last. What is left to be sent goes out as the pipe takes
+        it."""
         stdin, stdout, _ = self._pipes()
         with selectors.DefaultSelector() as ready:
             ready.register(stdout, selectors.EVENT_READ)
@@ -162,7 +174,9 @@ class Program(Closing):
     def _write(self, stdin: IO[bytes], ready: selectors.BaseSelector) -> None:
         self._is_amid = True
         try:
-            self.out_at += os.write(stdin.fileno(), memoryview(self.out)[self.out_at : self.out_at + CHUNK])
+            self.out_at += os.write(
+                stdin.fileno(), memoryview(self.out)[self.out_at : self.out_at + CHUNK]
+            )
             is_done = self.out_at == len(self.out)
         except BlockingIOError:
             is_done = False
@@ -173,27 +187,36 @@ class Program(Closing):
             ready.unregister(stdin)
 
     def _ended(self, how: str = "") -> Exception:
-        """What to raise where the program is gone: it was killed, or ended by itself and says why."""
+        """What to raise where the program is gone: it was killed, or ended by itself and says
+        why."""
         process = cast("subprocess.Popen[bytes]", self.process)
         fault = self._last_words(self._pipes()[2]).decode(errors="replace").strip()
         fault = fault[len("tbs: ") :] if fault.startswith("tbs: ") else fault
-        status = _end_of(process, self.timeout)  # one that writes no more replies, and does not end, is killed
-        # No reply after these was given out. The next one is at fault, or was not executed as far as anyone can know.
+        # one that writes no more replies, and does not end, is killed
+        status = _end_of(process, self.timeout)
+        # No reply after these was given out. The next one is at fault, or was not executed as far
+        # as anyone can know.
         del self.script[self.answered :]
         self.script_bytes = sum(map(len, self.script))
         if status < 0 or how:
             fault = how or f"killed by {_signal_name(-status)}"
         if not self.restarts:
-            self._end = ProgramEnded(fault, status)  # before it is let go: an empty ledger never takes its place
+            # before it is let go: an empty ledger never takes its place
+            self._end = ProgramEnded(fault, status)
         self._let_go()
         if self._end is not None:
             return self._end
         if status < 0 or how:
             return ReplyLost(f"the program was {fault}")
-        return NoMemory("the program had no memory, and ended") if fault == "NoMemory" else ProgramEnded(fault, status)
+        return (
+            NoMemory("the program had no memory, and ended")
+            if fault == "NoMemory"
+            else ProgramEnded(fault, status)
+        )
 
     def _last_words(self, stderr: IO[bytes]) -> bytes:
-        """What the program says at its end. What it started may hold the pipe open beyond that: it is read for `timeout` at most."""
+        """What the program says at its end. What it started may hold the pipe open beyond that:
+        it is read for `timeout` at most."""
         said, deadline = b"", time.monotonic() + self.timeout
         with selectors.DefaultSelector() as ready:
             ready.register(stderr, selectors.EVENT_READ)
@@ -216,7 +239,8 @@ class Program(Closing):
         _end_of(process, self.timeout)
 
     def close(self) -> None:
-        """Ends the script, and waits for the program's end. Each exchange afterwards is `Closed`."""
+        """Ends the script, and waits for the program's end. Each exchange afterwards is
+        `Closed`."""
         if self._owner != os.getpid():
             self._close_copies()
             return
@@ -225,7 +249,8 @@ class Program(Closing):
             self._let_go()
 
     def _close_copies(self) -> None:
-        """Closes the pipes that a forked child has. The program is its parent's, and a thread that is not here may hold the lock."""
+        """Closes the pipes that a forked child has. The program is its parent's, and a thread
+        that is not here may hold the lock."""
         if self.process is not None:
             for pipe in self._pipes():
                 with contextlib.suppress(BrokenPipeError):
@@ -233,8 +258,9 @@ class Program(Closing):
 
 
 def _end_of(process: subprocess.Popen[bytes], patience: float) -> int:
-    """The exit status of a process. Where it does not end in so many seconds it is killed. The system is asked itself: a lock that
-    `Popen.wait` holds is never given back where a signal's handler raises at the wrong moment."""
+    """The exit status of a process. Where it does not end in so many seconds it is killed. The
+    system is asked itself: a lock that `Popen.wait` holds is never given back where a signal's
+    handler raises at the wrong moment."""
     deadline, pause = time.monotonic() + patience, 0.0005
     while process.returncode is None:
         try:

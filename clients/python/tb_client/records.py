@@ -23,7 +23,8 @@ def u128_at(data: bytes, at: int) -> int:
 
 
 def _flags(field: str, value: object, kind: Type[Flags]) -> Flags:
-    """Flags of this kind, or their number. Those of another kind have other meanings, and are refused."""
+    """Flags of this kind, or their number. Those of another kind have other meanings, and are
+    refused."""
     if isinstance(value, enum.Enum) and not isinstance(value, kind):
         raise InvalidType(field, f"must be {kind.__name__}, not {kind_of(value)}")
     return kind(whole(field, value, U16))

@@ -4,28 +4,80 @@ from __future__ import annotations
 import json
 import threading
 import time
-from typing import Any, Callable, Iterable, Iterator, List, Mapping, Optional, Type, TypedDict, TypeVar, Union, cast
+from typing import (
+    Any,
+    Callable,
+    Iterable,
+    Iterator,
+    List,
+    Mapping,
+    Optional,
+    Type,
+    TypedDict,
+    TypeVar,
+    Union,
+    cast,
+)
 
-from .errors import REFUSALS, BadReply, Busy, ClockJumped, EventsFailed, Evicted, InDoubt, InvalidType, InvalidValue, NoMemory, NothingInDoubt, NotSent, NotYet, ReplyLost
+from .errors import (
+    REFUSALS,
+    BadReply,
+    Busy,
+    ClockJumped,
+    EventsFailed,
+    Evicted,
+    InDoubt,
+    InvalidType,
+    InvalidValue,
+    NoMemory,
+    NothingInDoubt,
+    NotSent,
+    NotYet,
+    ReplyLost,
+)
 from .files import Path, read_saved, write_whole
-from .frames import Item, Reply, Request, Said, body_of, header_of, operation_of, request_frame, said_by, test_said
+from .frames import (
+    Item,
+    Reply,
+    Request,
+    Said,
+    body_of,
+    header_of,
+    operation_of,
+    request_frame,
+    said_by,
+    test_said,
+)
 from .ids import id as new_id
 from .layout import NUMBER_MAX, SECOND
 from .names import Operation, Status
 from .records import Account, EventResult, Transfer
 from .transports import Closing, Transport, close_transport, transport_of
-from .values import MOMENT_MAX, U32, U64, U128, callable_of, kind_of, listed, path_of, seconds, whole
+from .values import (
+    MOMENT_MAX,
+    U32,
+    U64,
+    U128,
+    callable_of,
+    kind_of,
+    listed,
+    path_of,
+    seconds,
+    whole,
+)
 
 ATTEMPTS = 5
 JUMP_MAX = 60.0  # seconds
-PAUSE = 0.05  # seconds, before a request is sent again where the server said to come later; doubled each time
+# seconds, before a request is sent again where the server said to come later; doubled each time
+PAUSE = 0.05
 PAUSE_MAX = 1.0  # seconds, beyond which it is doubled no more
 
 S = TypeVar("S", bound="Session")
 
 
 class Saved(TypedDict):
-    """What outlives a client: its id, its session, the number of its last answered request, and the bytes in doubt in hex."""
+    """What outlives a client: its id, its session, the number of its last answered request, and
+    the bytes in doubt in hex."""
 
     client: int
     session: int
@@ -34,7 +86,8 @@ class Saved(TypedDict):
 
 
 def _running_ns() -> int:
-    """A clock that nobody sets: it counts while the computer sleeps too, where the system has such a clock."""
+    """A clock that nobody sets: it counts while the computer sleeps too, where the system has
+    such a clock."""
     return time.clock_gettime_ns(getattr(time, "CLOCK_BOOTTIME", time.CLOCK_MONOTONIC))
 
 
@@ -47,8 +100,9 @@ def _pauses(first: float) -> Iterator[float]:
 
 
 class _Moments:
-    """Reads a clock, and refuses a moment that is too far ahead of where the clock should be by now: at first where this
-    computer's clock is, then the furthest moment so far and the time that has gone by since."""
+    """Reads a clock, and refuses a moment that is too far ahead of where the clock should be by
+    now: at first where this computer's clock is, then the furthest moment so far and the time that
+    has gone by since."""
 
     def __init__(self) -> None:
         self.ahead = time.time_ns() - _running_ns()
@@ -59,7 +113,10 @@ class _Moments:
         ahead = moment - _running_ns()
         jump = ahead - self.ahead
         if jump_max is not None and jump > jump_max * SECOND:
-            raise ClockJumped(f"the clock is {jump / SECOND:.3f} s ahead of where it should be, and jump_max is {jump_max:g} s")
+            raise ClockJumped(
+                f"the clock is {jump / SECOND:.3f} s ahead of where it should be, and jump_max is "
+                f"{jump_max:g} s"
+            )
         self.ahead = ahead if self.is_first else max(self.ahead, ahead)
         self.is_first = False
         return moment
@@ -68,14 +125,16 @@ class _Moments:
 class Session(Closing):
     """The session of a client, whose id is any number from 1 to 2^128 - 1 that no other client has.
 
-    `saved` is what outlives the client. Whoever keeps it between `prepare` and `retry` can go on after a crash, by
-    `Session.resumed`, and knows after `retry` what the last request did. `save` and `load` keep it in a file.
+    `saved` is what outlives the client. Whoever keeps it between `prepare` and `retry` can go on
+    after a crash, by `Session.resumed`, and knows after `retry` what the last request did. `save`
+    and `load` keep it in a file.
 
-    A request is sent `attempts` times at most in a call, and then stays in doubt. Where the server said to come later (Busy,
-    NoMemory, NotYet), `pause` seconds go by before it is sent again, each time twice as many, up to a second or `pause`, whichever
-    is longer. `now` gives the moments, in nanoseconds; one that is more than `jump_max` seconds too far ahead is `ClockJumped` and
-    is not sent (None: no such test). Threads may share a session: their requests go one after another. At the end of a `with` the
-    transport is closed."""
+    A request is sent `attempts` times at most in a call, and then stays in doubt. Where the server
+    said to come later (Busy, NoMemory, NotYet), `pause` seconds go by before it is sent again, each
+    time twice as many, up to a second or `pause`, whichever is longer. `now` gives the moments, in
+    nanoseconds; one that is more than `jump_max` seconds too far ahead is `ClockJumped` and is not
+    sent (None: no such test). Threads may share a session: their requests go one after another. At
+    the end of a `with` the transport is closed."""
 
     def __init__(
         self,
@@ -115,8 +174,16 @@ class Session(Closing):
         jump_max: Optional[float] = JUMP_MAX,
         pause: float = PAUSE,
     ) -> S:
-        """Registers the client, and answers its new session. Where no id is given the client has a new one."""
-        self = cls(transport, new_id() if client is None else client, attempts=attempts, now=now, jump_max=jump_max, pause=pause)
+        """Registers the client, and answers its new session. Where no id is given the client has
+        a new one."""
+        self = cls(
+            transport,
+            new_id() if client is None else client,
+            attempts=attempts,
+            now=now,
+            jump_max=jump_max,
+            pause=pause,
+        )
         self._ask(Operation.register, ())
         return self
 
@@ -131,26 +198,45 @@ class Session(Closing):
         jump_max: Optional[float] = JUMP_MAX,
         pause: float = PAUSE,
     ) -> S:
-        """The session as it was when `saved` was taken. Where a request was in doubt, `retry` it first."""
+        """The session as it was when `saved` was taken. Where a request was in doubt, `retry` it
+        first."""
         if not isinstance(saved, Mapping):
             raise InvalidType("saved", f"must be a dict, not {kind_of(saved)}")
         for field in Saved.__annotations__:
             if field not in saved:
                 raise InvalidValue(f"saved['{field}']", "is missing")
         client = whole("saved['client']", saved["client"], U128, 1)
-        session, number = whole("saved['session']", saved["session"], U64), whole("saved['number']", saved["number"], U32)
+        session, number = whole("saved['session']", saved["session"], U64), whole(
+            "saved['number']", saved["number"], U32
+        )
         pending = _frame_of("saved['pending']", saved["pending"])
         _test_pending("saved['pending']", pending, client, session, number)
-        return cls(transport, client, session, number, pending, attempts=attempts, now=now, jump_max=jump_max, pause=pause)
+        return cls(
+            transport,
+            client,
+            session,
+            number,
+            pending,
+            attempts=attempts,
+            now=now,
+            jump_max=jump_max,
+            pause=pause,
+        )
 
     @property
     def saved(self) -> Saved:
         with self._lock:
-            return {"client": self.client, "session": self.session, "number": self.number, "pending": (self.pending or b"").hex()}
+            return {
+                "client": self.client,
+                "session": self.session,
+                "number": self.number,
+                "pending": (self.pending or b"").hex(),
+            }
 
     def save(self, path: Path) -> None:
-        """Keeps `saved` in a file, whole: after a crash the file has it as it is now or as it was before. Where it fails the file is
-        as it was before, or as it is now where only its folder could not be synced."""
+        """Keeps `saved` in a file, whole: after a crash the file has it as it is now or as it was
+        before. Where it fails the file is as it was before, or as it is now where only its folder
+        could not be synced."""
         name = path_of("path", path)
         with self._lock:
             write_whole(name, json.dumps(self.saved).encode("ascii"))
@@ -166,13 +252,22 @@ class Session(Closing):
         jump_max: Optional[float] = JUMP_MAX,
         pause: float = PAUSE,
     ) -> S:
-        """The session that `save` kept in a file. Where a request was in doubt, `retry` it first."""
-        return cls.resumed(transport, read_saved(path_of("path", path)), attempts=attempts, now=now, jump_max=jump_max, pause=pause)
+        """The session that `save` kept in a file. Where a request was in doubt, `retry` it
+        first."""
+        return cls.resumed(
+            transport,
+            read_saved(path_of("path", path)),
+            attempts=attempts,
+            now=now,
+            jump_max=jump_max,
+            pause=pause,
+        )
 
     @property
     def in_doubt(self) -> Optional[Request]:
-        """The request that has no reply yet, with its records or ids. It is kept over refusals, since it may have been executed
-        before: after an eviction create its records again, with the same ids, in a new session."""
+        """The request that has no reply yet, with its records or ids. It is kept over refusals,
+        since it may have been executed before: after an eviction create its records again, with the
+        same ids, in a new session."""
         with self._lock:
             return None if self.pending is None else Request.from_bytes(self.pending)
 
@@ -228,12 +323,16 @@ class Session(Closing):
         if refusal is None:
             raise InDoubt("the last request has no reply yet: retry it")
         if issubclass(refusal, Evicted):
-            raise InDoubt(f"the session has ended ({refusal.__name__}): register anew, and see in_doubt")
-        raise InDoubt(f"the last request was refused ({refusal.__name__}), and is in doubt: see in_doubt")
+            raise InDoubt(
+                f"the session has ended ({refusal.__name__}): register anew, and see in_doubt"
+            )
+        raise InDoubt(
+            f"the last request was refused ({refusal.__name__}), and is in doubt: see in_doubt"
+        )
 
     def retry(self) -> Any:
-        """Sends the request in doubt, the same bytes each time, until its reply has come. Answers what it says: results of a
-        create, records of a look-up, None of a register."""
+        """Sends the request in doubt, the same bytes each time, until its reply has come. Answers
+        what it says: results of a create, records of a look-up, None of a register."""
         with self._lock:
             if self.pending is None:
                 raise NothingInDoubt("no request is in doubt")
@@ -256,7 +355,8 @@ class Session(Closing):
             raise AssertionError("attempts is 1 at least")
 
     def _options(self) -> tuple[int, Iterator[float]]:
-        """How often the request is sent, and the pauses between. Options may have been changed since they were given: they are tested."""
+        """How often the request is sent, and the pauses between. Options may have been changed
+        since they were given: they are tested."""
         transport_of("transport", self.transport)
         callable_of("now", self.now)
         if self.jump_max is not None:
@@ -275,18 +375,30 @@ class Session(Closing):
         return reply
 
     def _take(self, reply: Reply) -> Said:
-        """Takes the reply to the request in doubt, which is in doubt no longer: the session goes on behind it. A refusal leaves
-        it in doubt, since it may have been executed before."""
+        """Takes the reply to the request in doubt, which is in doubt no longer: the session goes on
+        behind it. A refusal leaves it in doubt, since it may have been executed before."""
         asked = header_of(cast(bytes, self.pending))
         session = asked.session
-        if (reply.client, reply.number, reply.operation) != (self.client, asked.number, asked.operation):
-            raise BadReply(f"a reply to request {reply.number} of client {reply.client} came for request {asked.number}")
+        if (reply.client, reply.number, reply.operation) != (
+            self.client,
+            asked.number,
+            asked.operation,
+        ):
+            raise BadReply(
+                f"a reply to request {reply.number} of client {reply.client} came for request "
+                f"{asked.number}"
+            )
         if reply.status != Status.Reply:
             if reply.session != session:
-                raise BadReply(f"a refusal in session {reply.session} came for request {asked.number} of session {session}")
+                raise BadReply(
+                    f"a refusal in session {reply.session} came for request {asked.number} of "
+                    f"session {session}"
+                )
             refusal = REFUSALS[Status(reply.status)]
             self._refused = refusal
-            raise refusal(f"request {asked.number} of session {session} is refused: {refusal.reason}")
+            raise refusal(
+                f"request {asked.number} of session {session} is refused: {refusal.reason}"
+            )
         if asked.operation == Operation.register:
             session = reply.session
         if reply.session != session or not session:
@@ -311,7 +423,9 @@ def _frame_of(field: str, text: object) -> Optional[bytes]:
         raise InvalidValue(field, "is no hex") from None
 
 
-def _test_pending(field: str, pending: Optional[bytes], client: int, session: int, number: int) -> None:
+def _test_pending(
+    field: str, pending: Optional[bytes], client: int, session: int, number: int
+) -> None:
     """Refuses bytes in doubt that are not the next request of just this session."""
     if pending is None:
         return
@@ -327,7 +441,12 @@ def _test_pending(field: str, pending: Optional[bytes], client: int, session: in
 
 
 def require_ok(results: Optional[Iterable[object]]) -> None:
-    """Raises `EventsFailed` where an event was not accepted. What else a reply says, as the records of a look-up, is passed over."""
-    failed = [] if results is None else [it for it in listed("results", results) if isinstance(it, EventResult)]
+    """Raises `EventsFailed` where an event was not accepted. What else a reply says, as the
+    records of a look-up, is passed over."""
+    failed = (
+        []
+        if results is None
+        else [it for it in listed("results", results) if isinstance(it, EventResult)]
+    )
     if failed:
         raise EventsFailed(failed)

@@ -21,18 +21,27 @@ Address = Union[str, "os.PathLike[str]", Tuple[str, int]]
 
 FIRST_PAUSE = 0.02  # seconds, before the server is called again; doubled each time
 LAST_PAUSE = 0.5
-TOLD = b"tb_listen: "  # begins what a server says before it closes a connection: fewer bytes than a frame has
+# begins what a server says before it closes a connection: fewer bytes than a frame has
+TOLD = b"tb_listen: "
 
 
 class Socket(Closing):
-    """A connection to a server at a Unix socket's path, or at a host and a port; or to one of several, in a list.
+    """A connection to a server at a Unix socket's path, or at a host and a port; or to one of
+    several, in a list.
 
-    The server gives the moments: the one that `exchange` is given is not sent. A connection that broke, that the server closed, or on
-    which no reply came in time, is closed, and the next exchange makes a new one, to the next address where there are several; where
-    none can be made within `timeout` seconds nothing is sent, and it is `CannotConnect`. With `tls` connections to a host go over TLS,
-    by that context. Threads may share a Socket: an exchange is one thread's from its first byte to its last."""
+    The server gives the moments: the one that `exchange` is given is not sent. A connection that
+    broke, that the server closed, or on which no reply came in time, is closed, and the next
+    exchange makes a new one, to the next address where there are several; where none can be made
+    within `timeout` seconds nothing is sent, and it is `CannotConnect`. With `tls` connections to a
+    host go over TLS, by that context. Threads may share a Socket: an exchange is one thread's from
+    its first byte to its last."""
 
-    def __init__(self, address: Union[Address, List[Address]], timeout: float = 5.0, tls: Optional[ssl.SSLContext] = None) -> None:
+    def __init__(
+        self,
+        address: Union[Address, List[Address]],
+        timeout: float = 5.0,
+        tls: Optional[ssl.SSLContext] = None,
+    ) -> None:
         self._addresses = _addresses_of(address)
         self._at = 0
         self.timeout = seconds("timeout", timeout, 0.001)
@@ -63,7 +72,11 @@ class Socket(Closing):
             except OSError as error:
                 self._lose()
                 late = isinstance(error, socket.timeout)
-                raise ReplyLost(f"no reply within {self.timeout:g} seconds" if late else f"the connection broke: {error}") from None
+                raise ReplyLost(
+                    f"no reply within {self.timeout:g} seconds"
+                    if late
+                    else f"the connection broke: {error}"
+                ) from None
             except BaseException:
                 self._lose()
                 raise
@@ -79,17 +92,21 @@ class Socket(Closing):
                 break
             left = deadline - time.monotonic()
             if left <= 0 or isinstance(fault, ssl.SSLCertVerificationError):
-                raise CannotConnect(f"{_shown(self.address)}: {fault.strerror or fault}{_hint(self.address)}") from None
+                raise CannotConnect(
+                    f"{_shown(self.address)}: {fault.strerror or fault}{_hint(self.address)}"
+                ) from None
             time.sleep(min(pause, left))
             pause = min(2 * pause, LAST_PAUSE)
         return cast(socket.socket, self._socket)
 
     def _call_each(self, deadline: float) -> Optional[OSError]:
-        """Calls the addresses in turn, from the present one on, until one answers. Answers the last fault where none does."""
+        """Calls the addresses in turn, from the present one on, until one answers. Answers the
+        last fault where none does."""
         fault: Optional[OSError] = None
         for left in range(len(self._addresses), 0, -1):
             try:
-                share = (deadline - time.monotonic()) / left  # of the time, so that one that does not answer leaves some
+                # of the time, so that one that does not answer leaves some
+                share = (deadline - time.monotonic()) / left
                 self._socket = _call(self.address, max(share, 0.001), self._tls)
                 return None
             except OSError as error:
@@ -106,7 +123,8 @@ class Socket(Closing):
         self._next()
 
     def _send(self, it: socket.socket, frame: bytes) -> None:
-        """Sends the request. Where the server closed the connection, what it said before that is told."""
+        """Sends the request. Where the server closed the connection, what it said before that is
+        told."""
         try:
             it.sendall(frame)
         except ConnectionError:
@@ -154,7 +172,8 @@ class Socket(Closing):
     def close(self) -> None:
         """Closes the connection. Each exchange afterwards is `Closed`."""
         if self._owner != os.getpid():
-            self._hang_up()  # the copy that a forked child has. A thread that is not here may hold the lock
+            # the copy that a forked child has. A thread that is not here may hold the lock
+            self._hang_up()
             return
         with self._lock:
             self._closed = True
@@ -162,7 +181,8 @@ class Socket(Closing):
 
 
 def _is_left(it: socket.socket) -> bool:
-    """Whether the server closed a connection, or told why it will: it says nothing else before it is asked."""
+    """Whether the server closed a connection, or told why it will: it says nothing else before
+    it is asked."""
     ready = select.poll()
     ready.register(it, select.POLLIN)
     if not ready.poll(0):
@@ -180,8 +200,11 @@ def _is_left(it: socket.socket) -> bool:
 
 
 def _closed(said: bytes) -> ReplyLost:
-    """What to raise where the server closed the connection after these bytes: with the name that it told, where it told one."""
-    why = bytes(said[len(TOLD) :]).decode("ascii", "replace").strip() if said.startswith(TOLD) else ""
+    """What to raise where the server closed the connection after these bytes: with the name that
+    it told, where it told one."""
+    why = (
+        bytes(said[len(TOLD) :]).decode("ascii", "replace").strip() if said.startswith(TOLD) else ""
+    )
     kind = Busy if why == "Busy" else ReplyLost
     return kind(f"the server closed the connection{why and ': ' + why}", why)
 

@@ -12,10 +12,12 @@ Self = TypeVar("Self", bound="Closing")
 
 
 class Transport(Protocol):
-    """Carries frames. `exchange` gives back the reply's frame, or raises `ReplyLost` where none came (`Busy` where the server said
-    to come later) and `NoMemory` where the server had none. Where it sends nothing it raises a `NotSent`."""
+    """Carries frames. `exchange` gives back the reply's frame, or raises `ReplyLost` where none
+    came (`Busy` where the server said to come later) and `NoMemory` where the server had none.
+    Where it sends nothing it raises a `NotSent`."""
 
-    def exchange(self, moment: int, frame: bytes) -> bytes: ...
+    def exchange(self, moment: int, frame: bytes) -> bytes:
+        ...
 
 
 class Closing:
@@ -27,13 +29,18 @@ class Closing:
     def __enter__(self: Self) -> Self:
         return self
 
-    def __exit__(self, kind: Optional[Type[BaseException]], error: Optional[BaseException], trace: Optional[TracebackType]) -> None:
+    def __exit__(
+        self,
+        kind: Optional[Type[BaseException]],
+        error: Optional[BaseException],
+        trace: Optional[TracebackType],
+    ) -> None:
         self.close()
 
 
 class Direct(Closing):
-    """A function that takes a moment and the frame of a request, and gives back the frame of the reply. It is called by one
-    thread at a time."""
+    """A function that takes a moment and the frame of a request, and gives back the frame of the
+    reply. It is called by one thread at a time."""
 
     def __init__(self, serve: Callable[[int, bytes], bytes]) -> None:
         self._serve, self._lock, self._closed = callable_of("serve", serve), threading.Lock(), False
@@ -50,9 +57,12 @@ class Direct(Closing):
 
 
 class Faulty(Closing):
-    """Another transport, of which the exchanges with these numbers, from 1, lose their request or their reply."""
+    """Another transport, of which the exchanges with these numbers, from 1, lose their request
+    or their reply."""
 
-    def __init__(self, inner: Transport, requests: Iterable[int] = (), replies: Iterable[int] = ()) -> None:
+    def __init__(
+        self, inner: Transport, requests: Iterable[int] = (), replies: Iterable[int] = ()
+    ) -> None:
         self.inner = transport_of("inner", inner)
         self.requests, self.replies = _numbers("requests", requests), _numbers("replies", replies)
         self.count = 0
@@ -76,7 +86,10 @@ class Faulty(Closing):
 def transport_of(field: str, value: Any) -> Any:
     """What has the call of a transport."""
     if not callable(getattr(value, "exchange", None)):
-        raise InvalidType(field, f"must have a call exchange, as Program and Direct have, and {kind_of(value)} has none")
+        raise InvalidType(
+            field,
+            f"must have a call exchange, as Program and Direct have, and {kind_of(value)} has none",
+        )
     return value
 
 

@@ -18,7 +18,8 @@ def kind_of(value: object) -> str:
 
 
 def shown(number: int) -> str:
-    """A number as an error shows it: the greatest of its bits as a power, and none that fills the page."""
+    """A number as an error shows it: the greatest of its bits as a power, and none that fills
+    the page."""
     bits = number.bit_length()
     if bits > 128:
         return f"a number of {bits} bits"
@@ -26,7 +27,8 @@ def shown(number: int) -> str:
 
 
 def whole(field: str, value: object, greatest: int, least: int = 0) -> int:
-    """An integer within its range, by `__index__` alone: what would have to be rounded or read is refused, and truth values too."""
+    """An integer within its range, by `__index__` alone: what would have to be rounded or read
+    is refused, and truth values too."""
     if isinstance(value, bool):
         raise InvalidType(field, "must be an int, not bool")
     try:
@@ -44,19 +46,25 @@ def seconds(field: str, value: object, least: float) -> float:
     if isinstance(value, bool) or not isinstance(value, (int, float)):
         raise InvalidType(field, f"must be a number of seconds, not {kind_of(value)}")
     if not least <= value <= U32:  # which no nan is
-        raise InvalidValue(field, f"must be {least:g} to {shown(U32)} seconds, not {shown(value) if isinstance(value, int) else value}")
+        raise InvalidValue(
+            field,
+            f"must be {least:g} to {shown(U32)} seconds, not "
+            f"{shown(value) if isinstance(value, int) else value}",
+        )
     return float(value)
 
 
 def listed(name: str, items: Iterable[object], most: Optional[int] = None) -> list[object]:
-    """What was given as a list, of at most so many items. Text, bytes and mappings are no lists, though Python goes over them."""
+    """What was given as a list, of at most so many items. Text, bytes and mappings are no lists,
+    though Python goes over them."""
     if isinstance(items, (str, bytes, bytearray, memoryview, Mapping)):
         raise InvalidType(name, f"must be a list, not {kind_of(items)}")
     try:
         each = iter(items)
     except TypeError:
         raise InvalidType(name, f"must be a list, not {kind_of(items)}") from None
-    given = list(each if most is None else itertools.islice(each, most + 1))  # which may have no end
+    # which may have no end
+    given = list(each if most is None else itertools.islice(each, most + 1))
     if most is not None and len(given) > most:
         raise InvalidValue(name, f"must have at most {most} items")
     return given
