@@ -10,6 +10,7 @@
   there, in the crate that comes before it; so is each file that docs/work/ARCHITECTURE.md names,
   with the names in brackets behind it, or before it as `name of` it.
 - Each definition that docs/trust/BELIEVE.md lists is in the file that it names.
+- Each file that a page names by its path from the top is there, but for what is built.
 - Each name that docs/work/GLOSSARY.md gives a word in the code is in the sources, the
   definitions or the Python client, and where it gives a crate with the name, there.
 
@@ -27,6 +28,11 @@ ROOT = pathlib.Path(__file__).resolve().parent.parent
 CRATES = ROOT / "crates"
 BLOCK = re.compile(r"```rust\n(.*?)```", re.S)
 NAME = re.compile(r"`([A-Za-z_]+(?:::[A-Za-z_]+)+)`|\b(tb_\w+|avl_tree|tbs|tbd|tbt)\b")
+PATH = re.compile(
+    r"(?<![\w/.*])((?:docs|checks|bench|clients|embed|crates|examples|tables)/[\w./-]*\w)(?![\w*/])"
+)
+# Of a folder out/, and what a page says may not be there.
+ABSENT = re.compile(r"/out(?:/|$)|^checks/mutants\.py$|^crates/NAME")
 FILE = re.compile(r"`([\w./-]+\.(?:antt|rt|py|rs|h|md|txt))`")
 
 
@@ -143,6 +149,16 @@ def named_files():
             yield page.relative_to(ROOT), None if found else f"{name} is not in {file}"
 
 
+def paths():
+    """Each path that a page names from the top."""
+    pages = [*ROOT.glob("*.md"), *ROOT.glob("docs/**/*.md"), *ROOT.glob("crates/*/CALLING.md")]
+    for page in sorted(pages):
+        for path in sorted(set(PATH.findall(page.read_text()))):
+            if not ABSENT.search(path):
+                there = (ROOT / path).exists()
+                yield page.relative_to(ROOT), None if there else f"{path} is not there"
+
+
 def first_statements():
     """The statements that a reader of README.md meets first, and the file that they are run
     from."""
@@ -215,7 +231,7 @@ def glossed():
 
 
 def main() -> int:
-    for check in (examples, heads, first_statements, walks, named_files, believed, glossed):
+    for check in (examples, heads, first_statements, walks, named_files, paths, believed, glossed):
         for place, wrong in check():
             tried.case(place, wrong is None, wrong, quietly=True)
     return tried.status()
