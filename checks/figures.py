@@ -197,16 +197,17 @@ def run() -> str:
 
 
 def instructions() -> str:
-    lines = []
-    for load, text in LOADS.items():
-        mine, plain, lean = (
-            int(ratio(f"run, {load}", it, "20000", "instructions"))
-            for it in ("tbs", "plain.rs", "lean.rs")
+    """Of an event the instructions, compared with both baselines."""
+    said = []
+    for peer in ("plain.rs", "lean.rs"):
+        shares = sorted(
+            (int(mine) / int(ratio(f"run, {load}", peer, "20000", "instructions")), load)
+            for load in LOADS
+            if (mine := ratio(f"run, {load}", "tbs", "20000", "instructions"))
         )
-        lines.append(
-            f"| {text} | {mine:,} | {plain:,} | {lean:,} | {mine / plain:.2f} | {mine / lean:.2f} |"
-        )
-    return table("| Load | tbs | plain.rs | lean.rs | over plain.rs | over lean.rs |", lines)
+        (least, first), (most, last) = shares[0], shares[-1]
+        said.append(f"{least:.2f} ({first}) to {most:.2f} ({last}) of those of {peer}")
+    return f"By callgrind, over 20,000 events, `tbs` runs {said[0]},\nand {said[1]}.\n"
 
 
 def takes() -> str:
