@@ -28,10 +28,12 @@ def name_of(prefix, name):
 
 
 def whole(table):
-    lines = [HEAD, f"package {PACKAGE}\n", 'import "strconv"\n', constants(table)]
+    imports = 'import (\n\t"encoding/binary"\n\t"strconv"\n)\n'
+    lines = [HEAD, f"package {PACKAGE}\n", imports, constants(table)]
     kinds = t.kinds(table)
     lines += [numbered(kind, kinds[kind]) for kind in KINDS]
     lines += [flags(kind, rows) for kind, rows in t.flags(table).items()]
+    lines += [record(table, kind) for kind in t.flags(table)]
     lines += [sizes_of(table), places(table)]
     return "\n".join(lines)
 
@@ -145,6 +147,59 @@ def flags(kind, rows):
             "",
         ]
     return "\n".join(lines)
+
+
+def record(table, kind):
+    """A record as a struct, and its bytes both ways."""
+    name, fields = t.camel(kind), t.fields(table, kind)
+    article = "an" if kind == "account" else "a"
+    rows = [
+        (name_of("", it["name"]), go_type(kind, it), f"at{name}{name_of('', it['name'])}", it)
+        for it in fields
+    ]
+    wide = max(len(field) for field, _, _, _ in rows)
+    long = max(len(type_) for _, type_, _, _ in rows)
+    lines = [f"// {name} is {article} {kind}, with the fields of its record.", f"type {name} struct {{"]
+    for field, type_, _, it in rows:
+        unit = f" // {it['unit']}" if it.get("unit") else ""
+        lines.append(f"\t{field:<{wide}} {type_:<{long}} `json:\"{it['name']}\"`{unit}")
+    lines += [
+        "}",
+        "",
+        "// encode writes the record into its place in a body.",
+        f"func (it *{name}) encode(data []byte) {{",
+    ]
+    for field, type_, at, it in rows:
+        if type_ == "Uint128":
+            lines.append(f"\tit.{field}.encode(data[{at}:])")
+        else:
+            plain = f"uint16(it.{field})" if it["name"] == "flags" else f"it.{field}"
+            lines.append(f"\tbinary.LittleEndian.Put{bits(it)}(data[{at}:], {plain})")
+    lines += [
+        "}",
+        "",
+        f"// decode{name} reads the record at the front of a body.",
+        f"func decode{name}(data []byte) {name} {{",
+        f"\treturn {name}{{",
+    ]
+    for field, type_, at, it in rows:
+        read = f"binary.LittleEndian.{bits(it)}(data[{at}:])"
+        if type_ == "Uint128":
+            read = f"decodeUint128(data[{at}:])"
+        elif it["name"] == "flags":
+            read = f"{type_}({read})"
+        lines.append(f"\t\t{field + ':':<{wide + 1}} {read},")
+    return "\n".join([*lines, "\t}", "}", ""])
+
+
+def go_type(kind, field):
+    if field["name"] == "flags":
+        return f"{t.camel(kind)}Flags"
+    return "Uint128" if field["type"] == "u128" else f"uint{field['type'][1:]}"
+
+
+def bits(field):
+    return f"Uint{field['type'][1:]}"
 
 
 def sizes_of(table):

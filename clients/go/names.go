@@ -2,7 +2,10 @@
 
 package tbclient
 
-import "strconv"
+import (
+	"encoding/binary"
+	"strconv"
+)
 
 // Sizes and limits.
 const (
@@ -395,6 +398,112 @@ func (it TransferFlags) String() string {
 		names = joined(names, strconv.FormatUint(uint64(rest), 10))
 	}
 	return names
+}
+
+// Account is an account, with the fields of its record.
+type Account struct {
+	ID             Uint128      `json:"id"`
+	DebitsPending  Uint128      `json:"debits_pending"`
+	DebitsPosted   Uint128      `json:"debits_posted"`
+	CreditsPending Uint128      `json:"credits_pending"`
+	CreditsPosted  Uint128      `json:"credits_posted"`
+	UserData128    Uint128      `json:"user_data_128"`
+	UserData64     uint64       `json:"user_data_64"`
+	UserData32     uint32       `json:"user_data_32"`
+	Reserved       uint32       `json:"reserved"`
+	Ledger         uint32       `json:"ledger"`
+	Code           uint16       `json:"code"`
+	Flags          AccountFlags `json:"flags"`
+	Timestamp      uint64       `json:"timestamp"` // nanoseconds
+}
+
+// encode writes the record into its place in a body.
+func (it *Account) encode(data []byte) {
+	it.ID.encode(data[atAccountID:])
+	it.DebitsPending.encode(data[atAccountDebitsPending:])
+	it.DebitsPosted.encode(data[atAccountDebitsPosted:])
+	it.CreditsPending.encode(data[atAccountCreditsPending:])
+	it.CreditsPosted.encode(data[atAccountCreditsPosted:])
+	it.UserData128.encode(data[atAccountUserData128:])
+	binary.LittleEndian.PutUint64(data[atAccountUserData64:], it.UserData64)
+	binary.LittleEndian.PutUint32(data[atAccountUserData32:], it.UserData32)
+	binary.LittleEndian.PutUint32(data[atAccountReserved:], it.Reserved)
+	binary.LittleEndian.PutUint32(data[atAccountLedger:], it.Ledger)
+	binary.LittleEndian.PutUint16(data[atAccountCode:], it.Code)
+	binary.LittleEndian.PutUint16(data[atAccountFlags:], uint16(it.Flags))
+	binary.LittleEndian.PutUint64(data[atAccountTimestamp:], it.Timestamp)
+}
+
+// decodeAccount reads the record at the front of a body.
+func decodeAccount(data []byte) Account {
+	return Account{
+		ID:             decodeUint128(data[atAccountID:]),
+		DebitsPending:  decodeUint128(data[atAccountDebitsPending:]),
+		DebitsPosted:   decodeUint128(data[atAccountDebitsPosted:]),
+		CreditsPending: decodeUint128(data[atAccountCreditsPending:]),
+		CreditsPosted:  decodeUint128(data[atAccountCreditsPosted:]),
+		UserData128:    decodeUint128(data[atAccountUserData128:]),
+		UserData64:     binary.LittleEndian.Uint64(data[atAccountUserData64:]),
+		UserData32:     binary.LittleEndian.Uint32(data[atAccountUserData32:]),
+		Reserved:       binary.LittleEndian.Uint32(data[atAccountReserved:]),
+		Ledger:         binary.LittleEndian.Uint32(data[atAccountLedger:]),
+		Code:           binary.LittleEndian.Uint16(data[atAccountCode:]),
+		Flags:          AccountFlags(binary.LittleEndian.Uint16(data[atAccountFlags:])),
+		Timestamp:      binary.LittleEndian.Uint64(data[atAccountTimestamp:]),
+	}
+}
+
+// Transfer is a transfer, with the fields of its record.
+type Transfer struct {
+	ID              Uint128       `json:"id"`
+	DebitAccountID  Uint128       `json:"debit_account_id"`
+	CreditAccountID Uint128       `json:"credit_account_id"`
+	Amount          Uint128       `json:"amount"`
+	PendingID       Uint128       `json:"pending_id"`
+	UserData128     Uint128       `json:"user_data_128"`
+	UserData64      uint64        `json:"user_data_64"`
+	UserData32      uint32        `json:"user_data_32"`
+	Timeout         uint32        `json:"timeout"` // seconds
+	Ledger          uint32        `json:"ledger"`
+	Code            uint16        `json:"code"`
+	Flags           TransferFlags `json:"flags"`
+	Timestamp       uint64        `json:"timestamp"` // nanoseconds
+}
+
+// encode writes the record into its place in a body.
+func (it *Transfer) encode(data []byte) {
+	it.ID.encode(data[atTransferID:])
+	it.DebitAccountID.encode(data[atTransferDebitAccountID:])
+	it.CreditAccountID.encode(data[atTransferCreditAccountID:])
+	it.Amount.encode(data[atTransferAmount:])
+	it.PendingID.encode(data[atTransferPendingID:])
+	it.UserData128.encode(data[atTransferUserData128:])
+	binary.LittleEndian.PutUint64(data[atTransferUserData64:], it.UserData64)
+	binary.LittleEndian.PutUint32(data[atTransferUserData32:], it.UserData32)
+	binary.LittleEndian.PutUint32(data[atTransferTimeout:], it.Timeout)
+	binary.LittleEndian.PutUint32(data[atTransferLedger:], it.Ledger)
+	binary.LittleEndian.PutUint16(data[atTransferCode:], it.Code)
+	binary.LittleEndian.PutUint16(data[atTransferFlags:], uint16(it.Flags))
+	binary.LittleEndian.PutUint64(data[atTransferTimestamp:], it.Timestamp)
+}
+
+// decodeTransfer reads the record at the front of a body.
+func decodeTransfer(data []byte) Transfer {
+	return Transfer{
+		ID:              decodeUint128(data[atTransferID:]),
+		DebitAccountID:  decodeUint128(data[atTransferDebitAccountID:]),
+		CreditAccountID: decodeUint128(data[atTransferCreditAccountID:]),
+		Amount:          decodeUint128(data[atTransferAmount:]),
+		PendingID:       decodeUint128(data[atTransferPendingID:]),
+		UserData128:     decodeUint128(data[atTransferUserData128:]),
+		UserData64:      binary.LittleEndian.Uint64(data[atTransferUserData64:]),
+		UserData32:      binary.LittleEndian.Uint32(data[atTransferUserData32:]),
+		Timeout:         binary.LittleEndian.Uint32(data[atTransferTimeout:]),
+		Ledger:          binary.LittleEndian.Uint32(data[atTransferLedger:]),
+		Code:            binary.LittleEndian.Uint16(data[atTransferCode:]),
+		Flags:           TransferFlags(binary.LittleEndian.Uint16(data[atTransferFlags:])),
+		Timestamp:       binary.LittleEndian.Uint64(data[atTransferTimestamp:]),
+	}
 }
 
 // The bytes of an item in the body of a request.

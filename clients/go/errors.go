@@ -1,0 +1,164 @@
+package tbclient
+
+import (
+	"errors"
+	"fmt"
+	"strings"
+)
+
+// kind is an error that others are compared with by errors.Is. It may be of a wider kind.
+type kind struct {
+	text  string
+	wider error
+}
+
+func (it *kind) Error() string { return it.text }
+
+func (it *kind) Unwrap() error { return it.wider }
+
+// The kinds of errors, for errors.Is.
+var (
+	// ErrNotSent is the base of each error of a call that sent nothing.
+	ErrNotSent error = &kind{text: "nothing was sent"}
+	// ErrInvalid says that a value may not be there. See [InvalidError]. Nothing was sent.
+	ErrInvalid error = &kind{"invalid value", ErrNotSent}
+	// ErrInDoubt says that the last request has no reply yet: Retry it before another one is made,
+	// or after an eviction register again. Nothing was sent.
+	ErrInDoubt error = &kind{"the last request is in doubt", ErrNotSent}
+	// ErrNothingInDoubt says that there is no request to be sent again.
+	ErrNothingInDoubt error = &kind{"no request is in doubt", ErrNotSent}
+	// ErrClosed says that the transport was closed, and stays so. Nothing was sent.
+	ErrClosed error = &kind{"the transport was closed", ErrNotSent}
+	// ErrCannotConnect says that no address could be connected to in time, or that TLS was not agreed
+	// on. Nothing was sent.
+	ErrCannotConnect error = &kind{"cannot connect", ErrNotSent}
+
+	// ErrCancelled says that the caller's context ended the call. See [CancelledError].
+	ErrCancelled error = &kind{text: "cancelled"}
+	// ErrReplyLost says that no reply came: the request may have been executed or not. See
+	// [LostError].
+	ErrReplyLost error = &kind{text: "no reply came"}
+	// ErrBusy is an ErrReplyLost: the server has too many connections, and did not take the request.
+	ErrBusy error = &kind{"the server is busy", ErrReplyLost}
+	// ErrBadReply says that what came is no reply to the request that was sent: the server is none,
+	// or broken. What the request did is unknown.
+	ErrBadReply error = &kind{text: "bad reply"}
+	// ErrRefused says that the server refused the request now. See [RefusedError].
+	ErrRefused error = &kind{text: "refused"}
+	// ErrEvicted is an ErrRefused: the session has ended, and refuses its requests forever. The last
+	// one may have been executed before that.
+	ErrEvicted error = &kind{"the session has ended", ErrRefused}
+	// ErrEventsFailed says that events of a batch were not accepted. See [EventsFailedError].
+	ErrEventsFailed error = &kind{text: "events failed"}
+)
+
+// InvalidError is a value that may not be where it is. It is an ErrInvalid.
+type InvalidError struct {
+	Field   string // what holds it, as "transfers" or "saved.number"
+	Problem string
+}
+
+func (it *InvalidError) Error() string { return it.Field + " " + it.Problem }
+
+func (it *InvalidError) Unwrap() error { return ErrInvalid }
+
+func invalid(field, format string, values ...any) error {
+	return &InvalidError{Field: field, Problem: fmt.Sprintf(format, values...)}
+}
+
+// LostError is an ErrReplyLost, and an ErrBusy where the server told Busy. The request stays in
+// doubt: Retry sends the same bytes again.
+type LostError struct {
+	Told string // the name that the server told before it closed the connection, or ""
+	Err  error  // what went wrong
+}
+
+func (it *LostError) Error() string { return fmt.Sprintf("%v: %v", it.Unwrap(), it.Err) }
+
+// Unwrap is the kind. The cause is no part of the chain: one that says that nothing was sent is of
+// the last sending alone.
+func (it *LostError) Unwrap() error {
+	if it.Told == toldBusy {
+		return ErrBusy
+	}
+	return ErrReplyLost
+}
+
+// RefusedError is a request that the server refused, and an ErrRefused. Nothing was changed now; the
+// request may have been executed by an earlier sending, so it stays in doubt. Where the session has
+// ended (NoSession, SessionTooLow) it is an ErrEvicted too.
+type RefusedError struct {
+	Status  Status
+	Session uint64
+	Number  uint32
+}
+
+func (it *RefusedError) Error() string {
+	return fmt.Sprintf("request %d of session %d is refused: %v", it.Number, it.Session, it.Status)
+}
+
+func (it *RefusedError) Unwrap() error {
+	if isEviction(it.Status) {
+		return ErrEvicted
+	}
+	return ErrRefused
+}
+
+func isEviction(status Status) bool {
+	return status == StatusNoSession || status == StatusSessionTooLow
+}
+
+// CancelledError is a call that the caller's context ended. It is an ErrCancelled, what the context
+// says (context.Canceled or context.DeadlineExceeded), and an ErrNotSent where Sent is false. Where
+// Sent is true the request is in doubt.
+type CancelledError struct {
+	Sent bool  // whether this call may have sent the request
+	Err  error // what the context says
+}
+
+func (it *CancelledError) Error() string { return fmt.Sprintf("%v: %v", ErrCancelled, it.Err) }
+
+func (it *CancelledError) Unwrap() error { return it.Err }
+
+// Is reports whether the error is of a kind.
+func (it *CancelledError) Is(target error) bool {
+	return target == ErrCancelled || target == ErrNotSent && !it.Sent
+}
+
+// FailedEvent is an event of a batch that was not accepted.
+type FailedEvent struct {
+	Index  uint32
+	Result fmt.Stringer // a CreateAccountResult or a CreateTransferResult
+}
+
+// EventsFailedError has the events of a batch that were not accepted. It is an ErrEventsFailed. The
+// request has its reply: nothing is in doubt.
+type EventsFailedError struct {
+	Events []FailedEvent
+}
+
+const eventsShown = 10
+
+func (it *EventsFailedError) Error() string {
+	var shown []string
+	for place, event := range it.Events {
+		if place == eventsShown {
+			shown = append(shown, fmt.Sprintf("and %d more", len(it.Events)-place))
+			break
+		}
+		shown = append(shown, fmt.Sprintf("event %d: %v", event.Index, event.Result))
+	}
+	return strings.Join(shown, ", ")
+}
+
+func (it *EventsFailedError) Unwrap() error { return ErrEventsFailed }
+
+// badReply is an ErrBadReply with these words.
+func badReply(format string, values ...any) error {
+	return fmt.Errorf("%w: %s", ErrBadReply, fmt.Sprintf(format, values...))
+}
+
+// mayBeSent reports whether a call that ended in this error may have sent its request.
+func mayBeSent(err error) bool {
+	return !errors.Is(err, ErrNotSent)
+}

@@ -1,0 +1,101 @@
+//go:build unix
+
+package tbclient
+
+import (
+	"errors"
+	"io/fs"
+	"os"
+	"path/filepath"
+	"syscall"
+)
+
+// openRegular opens a file to be read. A pipe or a device, which may wait for others or have no end,
+// and a folder are refused.
+func openRegular(path string) (*os.File, error) {
+	file, err := os.OpenFile(path, os.O_RDONLY|syscall.O_NONBLOCK, 0)
+	if err != nil {
+		return nil, err
+	}
+	if err := testRegular(file.Stat()); err != nil {
+		file.Close()
+		return nil, err
+	}
+	return file, nil
+}
+
+func testRegular(info fs.FileInfo, err error) error {
+	if err == nil && !info.Mode().IsRegular() {
+		return invalid("path", "is no file, but a folder, a pipe or a device")
+	}
+	return err
+}
+
+// writeWhole puts a file at this path, with these bytes. Where that fails the old file is left, and
+// nothing next to it.
+func writeWhole(path string, data []byte) error {
+	if err := testRegular(os.Stat(path)); err != nil && !errors.Is(err, fs.ErrNotExist) {
+		return err
+	}
+	folder, err := os.Open(filepath.Dir(path))
+	if err != nil {
+		return err
+	}
+	defer folder.Close()
+	if err := replace(path, path+".new", data); err != nil {
+		return err
+	}
+	return folder.Sync()
+}
+
+// replace writes the new file under a name of its own, and puts it in place by a rename.
+func replace(path, fresh string, data []byte) error {
+	file, err := openFresh(fresh)
+	if err != nil {
+		return err
+	}
+	defer file.Close() // which gives the lock back
+	if err = fill(file, data); err == nil {
+		err = os.Rename(fresh, path)
+	}
+	if err != nil {
+		os.Remove(fresh)
+	}
+	return err
+}
+
+// openFresh opens a file that nobody else writes to until it is closed.
+func openFresh(path string) (*os.File, error) {
+	for {
+		file, err := os.OpenFile(path, os.O_WRONLY|os.O_CREATE|syscall.O_NOFOLLOW|syscall.O_NONBLOCK, 0o666)
+		if err != nil {
+			return nil, err
+		}
+		info, err := file.Stat()
+		if err := testRegular(info, err); err != nil {
+			file.Close()
+			return nil, err
+		}
+		lock(file)
+		if there, err := os.Lstat(path); err == nil && os.SameFile(info, there) {
+			return file, nil
+		}
+		file.Close() // another one was written meanwhile, and has taken the old one's place
+	}
+}
+
+// lock takes the lock of a file. A file system without such locks does without.
+func lock(file *os.File) {
+	for syscall.Flock(int(file.Fd()), syscall.LOCK_EX) == syscall.EINTR {
+	}
+}
+
+func fill(file *os.File, data []byte) error {
+	if err := file.Truncate(0); err != nil {
+		return err
+	}
+	if _, err := file.Write(data); err != nil {
+		return err
+	}
+	return file.Sync()
+}

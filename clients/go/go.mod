@@ -1,0 +1,3 @@
+module ledger.example/tbclient
+
+go 1.19

@@ -1,0 +1,60 @@
+package tbclient
+
+import (
+	"crypto/rand"
+	"encoding/binary"
+	"io"
+	"sync"
+	"time"
+)
+
+// IDs makes ids from a clock and random bytes. Goroutines may share it. Most programs call [ID],
+// which uses those of the system; a test may want others.
+type IDs struct {
+	now    func() time.Time
+	random io.Reader
+
+	mu   sync.Mutex
+	last Uint128
+}
+
+// NewIDs is a maker of ids with a clock and a source of random bytes of its own.
+func NewIDs(now func() time.Time, random io.Reader) *IDs {
+	return &IDs{now: now, random: random}
+}
+
+var systemIDs = NewIDs(time.Now, rand.Reader)
+
+// ID is a new id of 128 bits, as TigerBeetle's clients make them: 48 bits of milliseconds since
+// 1970, then 80 random ones. It is above each earlier one of this process, also where the clock was
+// set back, and it is neither 0 nor 2^128 - 1. Choose an id before the first sending and keep it: a
+// retry uses the same one.
+//
+// ID panics where the system has no random bytes.
+func ID() Uint128 {
+	return systemIDs.Next()
+}
+
+const (
+	randomBits = 80
+	highBits   = randomBits - 64 // random bits in the high half
+)
+
+// Next is a new id, above all earlier ones of this maker. A later millisecond draws random bits; any
+// other time adds 1 to the last id. Next panics where no random bytes can be read.
+func (it *IDs) Next() Uint128 {
+	it.mu.Lock()
+	defer it.mu.Unlock()
+	now := it.now().UnixMilli()
+	if now <= int64(it.last.Hi>>highBits) {
+		it.last, _ = it.last.Add(ToUint128(1))
+		return it.last
+	}
+	var drawn [randomBits / 8]byte
+	if _, err := io.ReadFull(it.random, drawn[:]); err != nil {
+		panic("tbclient: no random bytes for an id: " + err.Error())
+	}
+	it.last.Lo = binary.LittleEndian.Uint64(drawn[:8])
+	it.last.Hi = uint64(now)<<highBits | uint64(binary.LittleEndian.Uint16(drawn[8:]))
+	return it.last
+}

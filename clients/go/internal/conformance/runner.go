@@ -1,0 +1,522 @@
+package main
+
+import (
+	"bytes"
+	"context"
+	"crypto/tls"
+	"crypto/x509"
+	"encoding/hex"
+	"encoding/json"
+	"errors"
+	"fmt"
+	"os"
+	"runtime"
+	"strings"
+	"sync"
+	"time"
+
+	"ledger.example/tbclient"
+)
+
+var features = []string{"unix", "tcp", "addresses", "tls", "parallel", "cancel"}
+
+// runner has the transports and sessions by the names that the kit gave them.
+type runner struct {
+	calls map[string]func(object) (any, error)
+
+	mu         sync.Mutex // calls may go on at once
+	transports map[string]*tbclient.Socket
+	sessions   map[string]*tbclient.Session
+}
+
+func newRunner() *runner {
+	it := &runner{transports: map[string]*tbclient.Socket{}, sessions: map[string]*tbclient.Session{}}
+	it.calls = map[string]func(object) (any, error){
+		"hello":    it.hello,
+		"reset":    it.reset,
+		"connect":  it.connect,
+		"open":     it.open,
+		"register": it.register,
+		"load":     it.load,
+		"resume":   it.resume,
+		"prepare":  it.prepare,
+		"retry":    it.retry,
+		"ask":      it.ask,
+		"saved":    it.saved,
+		"save":     it.save,
+		"in_doubt": it.inDoubt,
+		"close":    it.close,
+		"drop":     it.drop,
+		"ids":      it.ids,
+		"parallel": it.parallel,
+	}
+	return it
+}
+
+// answer makes a call.
+func (it *runner) answer(line object) object {
+	call, isKnown := it.calls[text(line["do"])]
+	if !isKnown {
+		return object{"unsupported": fmt.Sprintf("no call %v", line["do"])}
+	}
+	value, err := call(line)
+	if err == nil {
+		return object{"ok": value}
+	}
+	var (
+		never   unrepresentable
+		unknown unsupported
+	)
+	switch {
+	case errors.As(err, &never):
+		return object{"unrepresentable": never.Error()}
+	case errors.As(err, &unknown):
+		return object{"unsupported": unknown.Error()}
+	}
+	if shown := shownError(err); shown != nil {
+		return object{"error": shown}
+	}
+	return object{"unsupported": "an error that is none of the client: " + err.Error()}
+}
+
+func text(given any) string {
+	it, _ := given.(string)
+	return it
+}
+
+func (it *runner) session(line object) (*tbclient.Session, error) {
+	it.mu.Lock()
+	defer it.mu.Unlock()
+	session, isThere := it.sessions[text(line["session"])]
+	if !isThere {
+		return nil, unsupported(fmt.Sprintf("no session %v", line["session"]))
+	}
+	return session, nil
+}
+
+func (it *runner) transport(line object) (*tbclient.Socket, error) {
+	it.mu.Lock()
+	defer it.mu.Unlock()
+	transport, isThere := it.transports[text(line["transport"])]
+	if !isThere {
+		return nil, unsupported(fmt.Sprintf("no transport %v", line["transport"]))
+	}
+	return transport, nil
+}
+
+func (it *runner) keep(line object, session *tbclient.Session) {
+	it.mu.Lock()
+	defer it.mu.Unlock()
+	it.sessions[text(line["session"])] = session
+}
+
+// within is the context of a call: the caller's own limit where it has one.
+func within(line object) (context.Context, context.CancelFunc, error) {
+	if line["within"] == nil {
+		return context.Background(), func() {}, nil
+	}
+	limit, err := secondsOf(line["within"])
+	ctx, cancel := context.WithTimeout(context.Background(), limit)
+	return ctx, cancel, err
+}
+
+// Transports
+
+func (it *runner) hello(object) (any, error) {
+	language := "Go " + strings.TrimPrefix(runtime.Version(), "go")
+	return object{"protocol": 1, "client": "tbclient", "language": language, "features": features}, nil
+}
+
+func (it *runner) reset(object) (any, error) {
+	it.mu.Lock()
+	defer it.mu.Unlock()
+	for name, transport := range it.transports {
+		transport.Close()
+		delete(it.transports, name)
+	}
+	for name := range it.sessions {
+		delete(it.sessions, name)
+	}
+	return nil, nil
+}
+
+func (it *runner) connect(line object) (any, error) {
+	given, _ := line["addresses"].([]any)
+	addresses, err := allOf(given, addressOf)
+	if err != nil {
+		return nil, err
+	}
+	var options []tbclient.SocketOption
+	if limit, isGiven := line["timeout"]; isGiven {
+		timeout, err := secondsOf(limit)
+		if err != nil {
+			return nil, err
+		}
+		options = append(options, tbclient.WithTimeout(timeout))
+	}
+	if given, isGiven := line["tls"].(object); isGiven {
+		config, err := configOf(given)
+		if err != nil {
+			return nil, err
+		}
+		options = append(options, tbclient.WithTLS(config))
+	}
+	transport, err := tbclient.NewSocket(addresses, options...)
+	if err != nil {
+		return nil, err
+	}
+	it.mu.Lock()
+	defer it.mu.Unlock()
+	it.transports[text(line["transport"])] = transport
+	return nil, nil
+}
+
+func addressOf(given any) (tbclient.Address, error) {
+	address, _ := given.(object)
+	if path, isUnix := address["unix"].(string); isUnix {
+		return tbclient.Unix(path), nil
+	}
+	port, err := intOf(address["port"])
+	return tbclient.TCP(text(address["host"]), port), err
+}
+
+func configOf(given object) (*tls.Config, error) {
+	authority, err := os.ReadFile(text(given["ca"]))
+	if err != nil {
+		return nil, err
+	}
+	config := &tls.Config{RootCAs: x509.NewCertPool()}
+	config.RootCAs.AppendCertsFromPEM(authority)
+	if path, isGiven := given["cert"].(string); isGiven {
+		pair, err := tls.LoadX509KeyPair(path, text(given["key"]))
+		if err != nil {
+			return nil, err
+		}
+		config.Certificates = []tls.Certificate{pair}
+	}
+	return config, nil
+}
+
+// Sessions
+
+// options are those of a session, and its transport.
+func (it *runner) options(line object) (*tbclient.Socket, []tbclient.SessionOption, error) {
+	var options []tbclient.SessionOption
+	if given, isGiven := line["client"]; isGiven {
+		client, err := uint128Of(given)
+		if err != nil {
+			return nil, nil, err
+		}
+		options = append(options, tbclient.WithClient(client))
+	}
+	if given, isGiven := line["attempts"]; isGiven {
+		attempts, err := intOf(given)
+		if err != nil {
+			return nil, nil, err
+		}
+		options = append(options, tbclient.WithAttempts(attempts))
+	}
+	if given, isGiven := line["pause"]; isGiven {
+		pause, err := secondsOf(given)
+		if err != nil {
+			return nil, nil, err
+		}
+		options = append(options, tbclient.WithPause(pause))
+	}
+	transport, err := it.transport(line)
+	return transport, options, err
+}
+
+func (it *runner) open(line object) (any, error) {
+	transport, options, err := it.options(line)
+	if err != nil {
+		return nil, err
+	}
+	session, err := tbclient.NewSession(transport, options...)
+	if err != nil {
+		return nil, err
+	}
+	it.keep(line, session)
+	return object{"client": session.Client().String()}, nil
+}
+
+func (it *runner) register(line object) (any, error) {
+	transport, options, err := it.options(line)
+	if err != nil {
+		return nil, err
+	}
+	ctx, cancel, err := within(line)
+	if err != nil {
+		return nil, err
+	}
+	defer cancel()
+	session, err := tbclient.Register(ctx, transport, options...)
+	if err != nil {
+		return nil, err
+	}
+	it.keep(line, session)
+	saved := session.Saved()
+	return object{"client": saved.Client.String(), "session": fmt.Sprint(saved.Session)}, nil
+}
+
+func (it *runner) load(line object) (any, error) {
+	transport, options, err := it.options(line)
+	if err != nil {
+		return nil, err
+	}
+	session, err := tbclient.Load(transport, text(line["path"]), options...)
+	if err != nil {
+		return nil, err
+	}
+	it.keep(line, session)
+	return shownSaved(session.Saved()), nil
+}
+
+func (it *runner) resume(line object) (any, error) {
+	transport, options, err := it.options(line)
+	if err != nil {
+		return nil, err
+	}
+	saved, err := savedOf(line["saved"])
+	if err != nil {
+		return nil, err
+	}
+	session, err := tbclient.Resume(transport, saved, options...)
+	if err != nil {
+		return nil, err
+	}
+	it.keep(line, session)
+	return shownSaved(session.Saved()), nil
+}
+
+func savedOf(given any) (saved tbclient.Saved, err error) {
+	fields, _ := given.(object)
+	if saved.Client, err = uint128Of(fields["client"]); err != nil {
+		return saved, err
+	}
+	session, err := integerOf(fields["session"], 64)
+	if err != nil {
+		return saved, err
+	}
+	number, err := integerOf(fields["number"], 32)
+	if err != nil {
+		return saved, err
+	}
+	saved.Session, saved.Number = session.Uint64(), uint32(number.Uint64())
+	saved.Pending, err = hex.DecodeString(text(fields["pending"]))
+	return saved, err
+}
+
+func (it *runner) prepare(line object) (any, error) {
+	session, err := it.session(line)
+	if err != nil {
+		return nil, err
+	}
+	request, err := requestOf(line["operation"], itemsOf(line))
+	if err != nil {
+		return nil, err
+	}
+	return nil, session.Prepare(request)
+}
+
+func itemsOf(line object) any {
+	if items, isGiven := line["items"]; isGiven {
+		return items
+	}
+	return []any{}
+}
+
+func (it *runner) retry(line object) (any, error) {
+	session, err := it.session(line)
+	if err != nil {
+		return nil, err
+	}
+	ctx, cancel, err := within(line)
+	if err != nil {
+		return nil, err
+	}
+	defer cancel()
+	answer, err := session.Retry(ctx)
+	if err != nil {
+		return nil, err
+	}
+	if line["require_ok"] == true {
+		if err := answer.Err(); err != nil {
+			return nil, err
+		}
+	}
+	return shownAnswer(answer), nil
+}
+
+func (it *runner) ask(line object) (any, error) {
+	session, err := it.session(line)
+	if err != nil {
+		return nil, err
+	}
+	request, err := requestOf(line["operation"], itemsOf(line))
+	if err != nil {
+		return nil, err
+	}
+	ctx, cancel, err := within(line)
+	if err != nil {
+		return nil, err
+	}
+	defer cancel()
+	required := line["require_ok"] == true
+	switch given := request.(type) {
+	case tbclient.CreateAccounts:
+		results, err := session.CreateAccounts(ctx, given)
+		return asked("results", results, err, required, shownResults[tbclient.CreateAccountResult], results.Err)
+	case tbclient.CreateTransfers:
+		results, err := session.CreateTransfers(ctx, given)
+		return asked("results", results, err, required, shownResults[tbclient.CreateTransferResult], results.Err)
+	case tbclient.LookupAccounts:
+		found, err := session.LookupAccounts(ctx, given)
+		return object{"records": shownAll(found, shownAccount)}, err
+	case tbclient.LookupTransfers:
+		found, err := session.LookupTransfers(ctx, given)
+		return object{"records": shownAll(found, shownTransfer)}, err
+	}
+	if err := session.Prepare(request); err != nil {
+		return nil, err
+	}
+	answer, err := session.Retry(ctx)
+	return shownAnswer(answer), err
+}
+
+func asked[T any](name string, said T, err error, required bool, shown func(T) []any, test func() error) (any, error) {
+	if err == nil && required {
+		err = test()
+	}
+	return object{name: shown(said)}, err
+}
+
+func (it *runner) saved(line object) (any, error) {
+	session, err := it.session(line)
+	if err != nil {
+		return nil, err
+	}
+	return shownSaved(session.Saved()), nil
+}
+
+func (it *runner) save(line object) (any, error) {
+	session, err := it.session(line)
+	if err != nil {
+		return nil, err
+	}
+	return nil, session.Save(text(line["path"]))
+}
+
+func (it *runner) inDoubt(line object) (any, error) {
+	session, err := it.session(line)
+	if err != nil {
+		return nil, err
+	}
+	asked, isThere := session.InDoubt()
+	if !isThere {
+		return nil, nil
+	}
+	return shownAsked(asked), nil
+}
+
+func (it *runner) close(line object) (any, error) {
+	if _, isSession := line["session"]; isSession {
+		session, err := it.session(line)
+		if err != nil {
+			return nil, err
+		}
+		return nil, session.Close()
+	}
+	transport, err := it.transport(line)
+	if err != nil {
+		return nil, err
+	}
+	return nil, transport.Close()
+}
+
+func (it *runner) drop(line object) (any, error) {
+	it.mu.Lock()
+	defer it.mu.Unlock()
+	delete(it.sessions, text(line["session"]))
+	return nil, nil
+}
+
+// Ids, and calls at once
+
+func (it *runner) ids(line object) (any, error) {
+	if times, isGiven := line["times"].([]any); isGiven {
+		return seamIDs(times, line["random"])
+	}
+	threads, count := 1, 1
+	var err error
+	if given, isGiven := line["threads"]; isGiven {
+		if threads, err = intOf(given); err != nil {
+			return nil, err
+		}
+	}
+	if given, isGiven := line["count"]; isGiven {
+		if count, err = intOf(given); err != nil {
+			return nil, err
+		}
+	}
+	made := make([][]string, threads)
+	together(threads, func(at int) {
+		for number := 0; number < count/threads; number++ {
+			made[at] = append(made[at], tbclient.ID().String())
+		}
+	})
+	all := []string{}
+	for _, ids := range made {
+		all = append(all, ids...)
+	}
+	return all, nil
+}
+
+// seamIDs makes an id for each of some times, with what a source of random bytes gives in turn.
+func seamIDs(times []any, random any) (any, error) {
+	var drawn bytes.Buffer
+	list, _ := random.([]any)
+	for _, it := range list {
+		data, err := hex.DecodeString(text(it))
+		if err != nil {
+			return nil, err
+		}
+		drawn.Write(data)
+	}
+	var now time.Time
+	ids := tbclient.NewIDs(func() time.Time { return now }, &drawn)
+	made := []string{}
+	for _, it := range times {
+		number, _ := it.(json.Number)
+		milliseconds, err := number.Int64()
+		if err != nil {
+			return nil, err
+		}
+		now = time.UnixMilli(milliseconds)
+		made = append(made, ids.Next().String())
+	}
+	return made, nil
+}
+
+func (it *runner) parallel(line object) (any, error) {
+	calls, _ := line["calls"].([]any)
+	answers := make([]object, len(calls))
+	together(len(calls), func(at int) {
+		call, _ := calls[at].(object)
+		answers[at] = it.answer(call)
+	})
+	return answers, nil
+}
+
+// together runs so many goroutines, and waits for all.
+func together(count int, one func(at int)) {
+	var all sync.WaitGroup
+	for at := 0; at < count; at++ {
+		all.Add(1)
+		go func(at int) {
+			defer all.Done()
+			one(at)
+		}(at)
+	}
+	all.Wait()
+}

@@ -1,0 +1,461 @@
+package tbclient
+
+import (
+	"bytes"
+	"context"
+	"crypto/tls"
+	"crypto/x509"
+	"errors"
+	"fmt"
+	"io"
+	"net"
+	"os"
+	"strconv"
+	"strings"
+	"sync"
+	"time"
+)
+
+// Transport carries frames between a session and a server. Goroutines may share one.
+type Transport interface {
+	// Exchange sends the frame of a request, and returns the frame of its reply. An error that is no
+	// ErrNotSent leaves it open whether the request was executed; a [LostError] lets the session send
+	// the same bytes again.
+	Exchange(ctx context.Context, frame []byte) ([]byte, error)
+	// Close closes it. Each Exchange afterwards is an ErrClosed.
+	Close() error
+}
+
+// Address is where a server listens: see [Unix] and [TCP].
+type Address struct {
+	network, name, host string
+}
+
+// Unix is the address of a Unix socket.
+func Unix(path string) Address {
+	return Address{network: "unix", name: path}
+}
+
+// TCP is the address of a host, by name or number, and a port.
+func TCP(host string, port int) Address {
+	return Address{network: "tcp", name: net.JoinHostPort(host, strconv.Itoa(port)), host: host}
+}
+
+// String is the path, or the host and the port.
+func (it Address) String() string { return it.name }
+
+func (it Address) test(field string) error {
+	switch {
+	case it.network == "":
+		return invalid(field, "is no address: Unix and TCP make one")
+	case it.network == "unix" && (it.name == "" || strings.Contains(it.name, "\x00")):
+		return invalid(field, "is no path")
+	case it.network == "tcp" && it.host == "":
+		return invalid(field, "has no host")
+	}
+	_, port, err := net.SplitHostPort(it.name)
+	if number, _ := strconv.Atoi(port); it.network == "tcp" && (err != nil || number < 1 || number > 65535) {
+		return invalid(field, "must have a port from 1 to 65535")
+	}
+	return nil
+}
+
+// DefaultTimeout is how long one sending may take.
+const DefaultTimeout = 5 * time.Second
+
+const (
+	firstPause = 20 * time.Millisecond // before the addresses are called again; doubled each time
+	lastPause  = 500 * time.Millisecond
+	toldBusy   = "Busy"
+)
+
+// toldMark begins what a server says before it closes a connection: a line that is shorter than a
+// header.
+var toldMark = []byte("tb_listen: ")
+
+// SocketOption changes how a [Socket] works.
+type SocketOption func(*Socket) error
+
+// WithTimeout sets how long one sending may take, from the connecting to the reply's last byte. It
+// is DefaultTimeout where it is not given. A call of a session may send several times: its context
+// is the limit of the whole call.
+func WithTimeout(timeout time.Duration) SocketOption {
+	return func(it *Socket) error {
+		if timeout <= 0 {
+			return invalid("timeout", "must be above 0, not %v", timeout)
+		}
+		it.timeout = timeout
+		return nil
+	}
+}
+
+// WithTLS makes each connection go over TLS. Where the configuration has no ServerName, the
+// certificate has to be of the host of the address. All addresses have to be of TCP.
+func WithTLS(config *tls.Config) SocketOption {
+	return func(it *Socket) error {
+		if config == nil {
+			return invalid("tls", "must be a configuration, not nil")
+		}
+		it.tls = config.Clone()
+		return nil
+	}
+}
+
+// Socket is a Transport over a connection to a server that listens.
+//
+// It connects when a request is to be sent, and keeps the connection. An exchange that does not end
+// in its reply closes it, so that a late reply is never taken for another one. The next exchange
+// then connects to the next address, where there are several, behind the last to the first.
+//
+// Goroutines and sessions may share a Socket: their exchanges go one after another.
+type Socket struct {
+	addresses []Address
+	timeout   time.Duration
+	tls       *tls.Config
+
+	turn chan struct{} // holds a value while an exchange goes on
+	at   int           // the address of the connection, or of the next one
+
+	closed chan struct{} // is closed with the Socket
+	mu     sync.Mutex    // of what follows
+	conn   *connection
+	done   bool
+}
+
+var _ Transport = (*Socket)(nil)
+
+// NewSocket is a Socket to a server at these addresses, which all have to serve one ledger. It
+// connects nothing yet.
+func NewSocket(addresses []Address, options ...SocketOption) (*Socket, error) {
+	if len(addresses) == 0 {
+		return nil, invalid("address", "must have one address at least")
+	}
+	it := &Socket{
+		addresses: append([]Address(nil), addresses...),
+		timeout:   DefaultTimeout,
+		turn:      make(chan struct{}, 1),
+		closed:    make(chan struct{}),
+	}
+	for _, option := range options {
+		if err := option(it); err != nil {
+			return nil, err
+		}
+	}
+	for at, address := range it.addresses {
+		if err := address.test(fmt.Sprintf("address[%d]", at)); err != nil {
+			return nil, err
+		}
+		if it.tls != nil && address.network != "tcp" {
+			return nil, invalid("tls", "is for a host and a port, and address[%d] is %v", at, address)
+		}
+	}
+	return it, nil
+}
+
+// Close closes the connection. An exchange that goes on ends with an error; each later one is an
+// ErrClosed.
+func (it *Socket) Close() error {
+	it.mu.Lock()
+	defer it.mu.Unlock()
+	if !it.done {
+		it.done = true
+		close(it.closed)
+	}
+	conn := it.conn
+	it.conn = nil
+	if conn != nil {
+		conn.Close()
+	}
+	return nil
+}
+
+// Exchange sends the frame of a request, and returns the frame of its reply.
+func (it *Socket) Exchange(ctx context.Context, frame []byte) ([]byte, error) {
+	asked, err := decodeRequestHeader(frame) // at a wrong one the server would close the connection
+	if err != nil {
+		return nil, err
+	}
+	select {
+	case <-it.closed: // first, since select takes any of those that are ready
+		return nil, ErrClosed
+	default:
+	}
+	select {
+	case it.turn <- struct{}{}:
+		defer func() { <-it.turn }()
+	case <-it.closed:
+		return nil, ErrClosed
+	case <-ctx.Done():
+		return nil, &CancelledError{Err: ctx.Err()}
+	}
+	within, cancel := context.WithTimeout(ctx, it.timeout)
+	defer cancel()
+	conn, err := it.connected(within)
+	switch {
+	case err == nil:
+	case ctx.Err() != nil:
+		return nil, &CancelledError{Err: ctx.Err()}
+	case it.isClosed():
+		return nil, ErrClosed
+	default:
+		return nil, err
+	}
+	reply, err := conn.exchange(within, frame, asked)
+	if err == nil {
+		return reply, nil
+	}
+	it.lose(conn)
+	return nil, it.failed(ctx, within, err)
+}
+
+// failed is the error of an exchange that did not end in its reply.
+func (it *Socket) failed(ctx, within context.Context, err error) error {
+	var lost *LostError
+	switch {
+	case errors.Is(err, ErrBadReply), errors.As(err, &lost):
+		return err
+	case ctx.Err() != nil:
+		return &CancelledError{Sent: true, Err: ctx.Err()}
+	case it.isClosed():
+		return &LostError{Err: errors.New("the Socket was closed meanwhile")}
+	case within.Err() != nil, errors.Is(err, os.ErrDeadlineExceeded):
+		return &LostError{Err: fmt.Errorf("none within %v", it.timeout)}
+	}
+	return &LostError{Err: fmt.Errorf("the connection broke: %w", err)}
+}
+
+func (it *Socket) isClosed() bool {
+	select {
+	case <-it.closed:
+		return true
+	default:
+		return false
+	}
+}
+
+// connected is the connection: a new one where there is none, or where the server left it.
+func (it *Socket) connected(ctx context.Context) (*connection, error) {
+	it.mu.Lock()
+	conn := it.conn
+	it.mu.Unlock()
+	if conn != nil && conn.isLeft() {
+		it.lose(conn)
+		conn = nil
+	}
+	ctx, cancel := context.WithCancel(ctx)
+	defer cancel()
+	if conn == nil {
+		go func() { // who closes the Socket ends the calls too
+			select {
+			case <-it.closed:
+				cancel()
+			case <-ctx.Done():
+			}
+		}()
+	}
+	for pause := firstPause; conn == nil; pause = doubled(pause, lastPause) {
+		err := error(nil)
+		if conn, err = it.callEach(ctx); err == nil {
+			break
+		}
+		if isCertificate(err) || !sleep(ctx, pause) {
+			return nil, fmt.Errorf("%w: %v", ErrCannotConnect, err)
+		}
+	}
+	return conn, it.keep(conn)
+}
+
+// keep makes this the connection, or closes it where the Socket was closed.
+func (it *Socket) keep(conn *connection) error {
+	it.mu.Lock()
+	defer it.mu.Unlock()
+	if it.done {
+		conn.Close()
+		return ErrClosed
+	}
+	it.conn = conn
+	return nil
+}
+
+// callEach calls the addresses in turn, from the present one on, until one answers. Each gets a
+// share of the time that is left.
+func (it *Socket) callEach(ctx context.Context) (*connection, error) {
+	var fault error
+	for left := len(it.addresses); left > 0; left-- {
+		deadline, _ := ctx.Deadline()
+		share, cancel := context.WithTimeout(ctx, time.Until(deadline)/time.Duration(left))
+		address := it.addresses[it.at]
+		conn, err := call(share, address, it.tls)
+		cancel()
+		if err == nil {
+			return conn, nil
+		}
+		fault = fmt.Errorf("%v: %w", address, err)
+		it.next()
+	}
+	return nil, fault
+}
+
+func (it *Socket) next() {
+	it.at = (it.at + 1) % len(it.addresses)
+}
+
+// lose closes a connection. The next one goes to the next address.
+func (it *Socket) lose(conn *connection) {
+	it.mu.Lock()
+	it.conn = nil
+	it.mu.Unlock()
+	conn.Close()
+	it.next()
+}
+
+// isCertificate reports whether the server's certificate is not one to be trusted: calling again
+// does not help.
+func isCertificate(err error) bool {
+	var (
+		authority x509.UnknownAuthorityError
+		host      x509.HostnameError
+		other     x509.CertificateInvalidError
+	)
+	return errors.As(err, &authority) || errors.As(err, &host) || errors.As(err, &other)
+}
+
+func doubled(pause, most time.Duration) time.Duration {
+	if 2*pause < most {
+		return 2 * pause
+	}
+	return most
+}
+
+// sleep waits, and reports whether the context did not end meanwhile.
+func sleep(ctx context.Context, pause time.Duration) bool {
+	timer := time.NewTimer(pause)
+	defer timer.Stop()
+	select {
+	case <-timer.C:
+		return true
+	case <-ctx.Done():
+		return false
+	}
+}
+
+// connection is a connection to a server. One exchange at a time uses it.
+type connection struct {
+	net.Conn
+	plain *plainConn // below TLS, or the same
+}
+
+// call makes a connection.
+func call(ctx context.Context, address Address, config *tls.Config) (*connection, error) {
+	var dialer net.Dialer
+	made, err := dialer.DialContext(ctx, address.network, address.name)
+	if err != nil {
+		return nil, err
+	}
+	plain := &plainConn{Conn: made}
+	if config == nil {
+		return &connection{Conn: plain, plain: plain}, nil
+	}
+	if config.ServerName == "" {
+		config = config.Clone()
+		config.ServerName = address.host
+	}
+	over := tls.Client(plain, config)
+	if err := over.HandshakeContext(ctx); err != nil {
+		made.Close()
+		return nil, fmt.Errorf("TLS: %w", err)
+	}
+	return &connection{Conn: over, plain: plain}, nil
+}
+
+// Close closes the connection at once: TLS would wait for its last words to be sent.
+func (it *connection) Close() error {
+	return it.plain.Conn.Close()
+}
+
+// isLeft reports whether the server closed the connection, or said something: it says nothing before
+// it is asked.
+func (it *connection) isLeft() bool {
+	it.plain.isProbed = true
+	defer func() { it.plain.isProbed = false }()
+	var data [1]byte
+	_, err := it.Read(data[:])
+	return !errors.Is(err, errNothingYet)
+}
+
+// exchange sends a request and reads its reply, until the context ends.
+func (it *connection) exchange(ctx context.Context, frame []byte, asked requestHeader) ([]byte, error) {
+	defer it.until(ctx)()
+	if _, err := it.Write(frame); err != nil {
+		var said [HeaderSize]byte // what the server said before it closed the connection
+		count, _ := io.ReadFull(it, said[:])
+		return nil, told(said[:count], err)
+	}
+	var header [HeaderSize]byte
+	if count, err := io.ReadFull(it, header[:]); err != nil {
+		return nil, told(header[:count], err)
+	}
+	reply, err := decodeReplyHeader(header[:])
+	if err != nil {
+		return nil, err
+	}
+	if err := reply.answers(asked); err != nil {
+		return nil, err
+	}
+	whole := make([]byte, HeaderSize+reply.length)
+	copy(whole, header[:])
+	_, err = io.ReadFull(it, whole[HeaderSize:])
+	return whole, err
+}
+
+// until ends reads and writes where the context ends. What it returns is called behind the last of
+// them.
+func (it *connection) until(ctx context.Context) func() {
+	it.plain.SetDeadline(time.Time{})
+	finished, ended := make(chan struct{}), make(chan struct{})
+	go func() {
+		defer close(ended)
+		select {
+		case <-ctx.Done():
+			it.plain.SetDeadline(time.Unix(1, 0))
+		case <-finished:
+		}
+	}()
+	return func() {
+		close(finished)
+		<-ended
+	}
+}
+
+// told is a LostError with the name that the server told before it closed the connection, or the
+// other error where it told none.
+func told(said []byte, err error) error {
+	if !bytes.HasPrefix(said, toldMark) {
+		return err
+	}
+	name := strings.TrimSpace(string(said[len(toldMark):]))
+	return &LostError{Told: name, Err: fmt.Errorf("the server closed the connection: %s", name)}
+}
+
+// errNothingYet says that a connection that is probed has nothing to be read. TLS takes it for a
+// read that may be tried again.
+var errNothingYet net.Error = nothingYet{}
+
+type nothingYet struct{}
+
+func (nothingYet) Error() string   { return "nothing to be read yet" }
+func (nothingYet) Timeout() bool   { return true }
+func (nothingYet) Temporary() bool { return true }
+
+// plainConn is a connection whose Read does not wait while it is probed.
+type plainConn struct {
+	net.Conn
+	isProbed bool
+}
+
+func (it *plainConn) Read(data []byte) (int, error) {
+	if it.isProbed {
+		return probe(it.Conn, data)
+	}
+	return it.Conn.Read(data)
+}

@@ -1,0 +1,121 @@
+package tbclient
+
+import (
+	"encoding/binary"
+	"math/big"
+	"math/bits"
+)
+
+// Uint128 is an unsigned integer of 128 bits: an id or an amount. It may be compared by == and be
+// the key of a map. The zero value is 0.
+type Uint128 struct {
+	Hi, Lo uint64
+}
+
+// AmountMax is the largest amount, 2^128 - 1. As the amount of a transfer that posts a pending one
+// it means all of the pending amount.
+var AmountMax = Uint128{Hi: 1<<64 - 1, Lo: 1<<64 - 1}
+
+// ToUint128 is the number with this value.
+func ToUint128(value uint64) Uint128 {
+	return Uint128{Lo: value}
+}
+
+// BigIntToUint128 is the number with this value. A value that is negative or above 2^128 - 1, or
+// nil, is an [InvalidError].
+func BigIntToUint128(value *big.Int) (Uint128, error) {
+	switch {
+	case value == nil:
+		return Uint128{}, invalid("Uint128", "must be an integer, not nil")
+	case value.Sign() < 0:
+		return Uint128{}, invalid("Uint128", "must be 0 at least, and is negative")
+	case value.BitLen() > 128:
+		return Uint128{}, invalid("Uint128", "must be at most 2^128 - 1, not a number of %d bits", value.BitLen())
+	}
+	var data [16]byte
+	value.FillBytes(data[:])
+	return Uint128{Hi: binary.BigEndian.Uint64(data[:8]), Lo: binary.BigEndian.Uint64(data[8:])}, nil
+}
+
+// ParseUint128 reads a number in decimal digits. Anything else, as a sign or a space, is an
+// [InvalidError].
+func ParseUint128(text string) (Uint128, error) {
+	if text == "" || len(text) > 100 {
+		return Uint128{}, invalid("Uint128", "must be decimal digits")
+	}
+	for _, digit := range text {
+		if digit < '0' || digit > '9' {
+			return Uint128{}, invalid("Uint128", "must be decimal digits, not %.40q", text)
+		}
+	}
+	value, _ := new(big.Int).SetString(text, 10)
+	return BigIntToUint128(value)
+}
+
+// BigInt is the number as a new big.Int.
+func (it Uint128) BigInt() *big.Int {
+	var data [16]byte
+	binary.BigEndian.PutUint64(data[:8], it.Hi)
+	binary.BigEndian.PutUint64(data[8:], it.Lo)
+	return new(big.Int).SetBytes(data[:])
+}
+
+// String is the number in decimal digits.
+func (it Uint128) String() string {
+	return it.BigInt().String()
+}
+
+// IsZero reports whether the number is 0.
+func (it Uint128) IsZero() bool {
+	return it == Uint128{}
+}
+
+// Cmp is -1, 0 or 1 where the number is below the other one, equal to it, or above it.
+func (it Uint128) Cmp(other Uint128) int {
+	switch {
+	case it == other:
+		return 0
+	case it.Hi < other.Hi || it.Hi == other.Hi && it.Lo < other.Lo:
+		return -1
+	}
+	return 1
+}
+
+// Add is the sum of two numbers, and whether it fits into 128 bits. Where it does not, the sum is
+// without its 129th bit.
+func (it Uint128) Add(other Uint128) (sum Uint128, fits bool) {
+	lo, carry := bits.Add64(it.Lo, other.Lo, 0)
+	hi, carry := bits.Add64(it.Hi, other.Hi, carry)
+	return Uint128{Hi: hi, Lo: lo}, carry == 0
+}
+
+// Sub is the number less the other one, and whether that is 0 at least. Where it is not, 2^128 is
+// added.
+func (it Uint128) Sub(other Uint128) (rest Uint128, fits bool) {
+	lo, borrow := bits.Sub64(it.Lo, other.Lo, 0)
+	hi, borrow := bits.Sub64(it.Hi, other.Hi, borrow)
+	return Uint128{Hi: hi, Lo: lo}, borrow == 0
+}
+
+// MarshalText is the number in decimal digits: in JSON a string, since many readers round numbers.
+func (it Uint128) MarshalText() ([]byte, error) {
+	return []byte(it.String()), nil
+}
+
+// UnmarshalText reads what MarshalText wrote.
+func (it *Uint128) UnmarshalText(text []byte) error {
+	value, err := ParseUint128(string(text))
+	if err == nil {
+		*it = value
+	}
+	return err
+}
+
+func (it Uint128) encode(data []byte) {
+	binary.LittleEndian.PutUint64(data[:8], it.Lo)
+	binary.LittleEndian.PutUint64(data[8:16], it.Hi)
+}
+
+func decodeUint128(data []byte) Uint128 {
+	return Uint128{Lo: binary.LittleEndian.Uint64(data[:8]), Hi: binary.LittleEndian.Uint64(data[8:16])}
+}
