@@ -159,7 +159,10 @@ def record(table, kind):
     ]
     wide = max(len(field) for field, _, _, _ in rows)
     long = max(len(type_) for _, type_, _, _ in rows)
-    lines = [f"// {name} is {article} {kind}, with the fields of its record.", f"type {name} struct {{"]
+    lines = [
+        f"// {name} is {article} {kind}, with the fields of its record.",
+        f"type {name} struct {{",
+    ]
     for field, type_, _, it in rows:
         unit = f" // {it['unit']}" if it.get("unit") else ""
         lines.append(f"\t{field:<{wide}} {type_:<{long}} `json:\"{it['name']}\"`{unit}")

@@ -19,6 +19,11 @@ type Saved struct {
 	Pending []byte
 }
 
+var (
+	_ json.Marshaler   = Saved{}
+	_ json.Unmarshaler = (*Saved)(nil)
+)
+
 // MarshalJSON is one object in ASCII: three numbers, and the bytes in hex.
 func (it Saved) MarshalJSON() ([]byte, error) {
 	text := fmt.Sprintf(`{"client": %v, "session": %d, "number": %d, "pending": "%x"}`,

@@ -2,7 +2,6 @@ package tbclient
 
 import (
 	"context"
-	"encoding/json"
 	"errors"
 	"fmt"
 	"sync"
@@ -167,8 +166,6 @@ func (it *Session) Save(path string) error {
 	}
 	return writeWhole(path, data)
 }
-
-var _ json.Unmarshaler = (*Saved)(nil)
 
 // InDoubt is the request that has no reply yet, and whether there is one. It is kept over refusals,
 // since it may have been executed before: after an eviction create its records again, with the same

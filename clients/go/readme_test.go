@@ -1,0 +1,88 @@
+package tbclient_test
+
+import (
+	"os"
+	"os/exec"
+	"path/filepath"
+	"regexp"
+	"testing"
+	"time"
+)
+
+// TestProgramOfTheREADME builds the program as printed, kills it while its transfer has no reply, and
+// runs it twice more.
+func TestProgramOfTheREADME(t *testing.T) {
+	program := built(t)
+	it := newLedger(t, t.TempDir())
+	folder := filepath.Dir(it.path)
+	release := it.holds(130) // the transfer is made, and its reply does not come
+	first := exec.Command(program)
+	first.Dir = folder
+	if err := first.Start(); err != nil {
+		t.Fatal(err)
+	}
+	waitUntil(t, func() bool { _, last := it.came(); return last != nil && last[28] == 130 })
+	if err := first.Process.Kill(); err != nil {
+		t.Fatal(err)
+	}
+	first.Wait()
+	release()
+	for run := 0; run < 2; run++ {
+		again := exec.Command(program)
+		again.Dir = folder
+		output, err := again.CombinedOutput()
+		if err != nil || string(output) != "credited: 100\n" {
+			t.Errorf("run %d prints %q, %v", run, output, err)
+		}
+	}
+	if len(it.transfers) != 1 {
+		t.Errorf("%d transfers were made", len(it.transfers))
+	}
+}
+
+func waitUntil(t *testing.T, holds func() bool) {
+	t.Helper()
+	for deadline := time.Now().Add(30 * time.Second); !holds(); time.Sleep(time.Millisecond) {
+		if time.Now().After(deadline) {
+			t.Fatal("it does not come")
+		}
+	}
+}
+
+// built is the README's program, as a module of its own.
+func built(t *testing.T) string {
+	t.Helper()
+	page, err := os.ReadFile("README.md")
+	if err != nil {
+		t.Fatal(err)
+	}
+	shown := regexp.MustCompile("(?s)```go\n(.*?)```").FindSubmatch(page)
+	if shown == nil {
+		t.Fatal("the README shows no program")
+	}
+	client, err := os.Getwd()
+	if err != nil {
+		t.Fatal(err)
+	}
+	folder := t.TempDir()
+	if err := os.WriteFile(filepath.Join(folder, "main.go"), shown[1], 0o600); err != nil {
+		t.Fatal(err)
+	}
+	inside(t, folder, "go", "mod", "init", "sale")
+	inside(t, folder, "go", "mod", "edit", "-require", "ledger.example/tbclient@v0.0.0",
+		"-replace", "ledger.example/tbclient="+client)
+	inside(t, folder, "go", "vet", ".")
+	inside(t, folder, "gofmt", "-l", "-d", ".")
+	inside(t, folder, "go", "build", "-o", "sale", ".")
+	return filepath.Join(folder, "sale")
+}
+
+func inside(t *testing.T, folder string, words ...string) {
+	t.Helper()
+	command := exec.Command(words[0], words[1:]...)
+	command.Dir = folder
+	command.Env = append(os.Environ(), "GOFLAGS=-mod=mod", "GOPROXY=off")
+	if output, err := command.CombinedOutput(); err != nil || words[0] == "gofmt" && len(output) > 0 {
+		t.Fatalf("%v: %v: %s", words, err, output)
+	}
+}

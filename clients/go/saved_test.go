@@ -1,0 +1,96 @@
+package tbclient_test
+
+import (
+	"encoding/json"
+	"errors"
+	"os"
+	"path/filepath"
+	"strings"
+	"testing"
+
+	tb "ledger.example/tbclient"
+)
+
+func TestSavedInJSON(t *testing.T) {
+	wide := tb.Saved{Client: tb.AmountMax, Session: 1<<64 - 1, Number: tb.NumberMax}
+	for text, saved := range map[string]tb.Saved{
+		`{"client":7,"session":1,"number":0,"pending":"00ff"}`:                                    {Client: tb.ToUint128(7), Session: 1, Pending: []byte{0, 255}},
+		`{"client":` + most + `,"session":18446744073709551615,"number":4294967295,"pending":""}`: wide,
+	} {
+		data, err := json.Marshal(saved)
+		if err != nil || string(data) != text {
+			t.Errorf("%s, not %s, %v", data, text, err)
+		}
+		var back tb.Saved
+		if err := json.Unmarshal(data, &back); err != nil || back.Client != saved.Client ||
+			back.Session != saved.Session || back.Number != saved.Number || string(back.Pending) != string(saved.Pending) {
+			t.Errorf("%s comes back as %+v, %v", data, back, err)
+		}
+	}
+}
+
+func TestSavedRefusals(t *testing.T) {
+	for text, field := range map[string]string{
+		`{"client":7,"session":1,"number":0,"pending":"","number":1}`: "saved",
+		`[]`:                                    "saved",
+		`null`:                                  "saved",
+		`{"session":1,"number":0,"pending":""}`: "saved.client",
+		`{"client":7,"session":1e0,"number":0,"pending":""}`:                                         "saved.session",
+		`{"client":7,"session":1,"number":4294967296,"pending":""}`:                                  "saved.number",
+		`{"client":7,"session":1,"number":-1,"pending":""}`:                                          "saved.number",
+		`{"client":7,"session":1,"number":0,"pending":null}`:                                         "saved.pending",
+		`{"client":7,"session":1,"number":0,"pending":"0"}`:                                          "saved.pending",
+		`{"client":7,"session":1,"number":0,"pending":` + strings.Repeat("[", 99999) + `}`:           "saved",
+		`{"client":7,"session":1,"number":0,"pending":"","more":` + strings.Repeat("[", 20000) + `}`: "saved",
+	} {
+		var saved tb.Saved
+		var fault *tb.InvalidError
+		if err := saved.UnmarshalJSON([]byte(text)); !errors.As(err, &fault) || fault.Field != field {
+			t.Errorf("%.60s is answered %v", text, err)
+		}
+	}
+}
+
+func FuzzSaved(f *testing.F) {
+	f.Add([]byte(`{"client": 7, "session": 1, "number": 0, "pending": "00"}`))
+	f.Add([]byte(`{"client": 7, "client": 7}`))
+	f.Add([]byte("{\"\xff\": 7, \"pending\": \"\\ud800\"}"))
+	f.Fuzz(func(t *testing.T, data []byte) {
+		var saved, back tb.Saved
+		if err := saved.UnmarshalJSON(data); err != nil {
+			if !errors.Is(err, tb.ErrInvalid) {
+				t.Fatal(err)
+			}
+			return
+		}
+		text, err := saved.MarshalJSON()
+		if err != nil || back.UnmarshalJSON(text) != nil || back.Client != saved.Client {
+			t.Fatalf("%q comes back as %s, %v", data, text, err)
+		}
+	})
+}
+
+func TestSaveLeavesNothingElse(t *testing.T) {
+	_, session := begun(t)
+	folder := t.TempDir()
+	path := filepath.Join(folder, "session.json")
+	for count := 0; count < 3; count++ {
+		if err := session.Save(path); err != nil {
+			t.Fatal(err)
+		}
+	}
+	// what a client that was killed left is taken
+	if err := os.WriteFile(path+".new", []byte("{\"client\": 7, and much more than the new one has, so that it has to be cut off"), 0o600); err != nil {
+		t.Fatal(err)
+	}
+	if err := session.Save(path); err != nil {
+		t.Fatal(err)
+	}
+	found, err := os.ReadDir(folder)
+	if err != nil || len(found) != 1 {
+		t.Errorf("%v, %v", found, err)
+	}
+	if again, err := tb.Load(newSocket(t, newLedger(t, t.TempDir())), path); err != nil || again.Client() != session.Client() {
+		t.Error(err)
+	}
+}

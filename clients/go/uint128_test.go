@@ -1,0 +1,87 @@
+package tbclient_test
+
+import (
+	"encoding/json"
+	"errors"
+	"math/big"
+	"testing"
+
+	tb "ledger.example/tbclient"
+)
+
+const most = "340282366920938463463374607431768211455"
+
+func TestUint128AndBigInt(t *testing.T) {
+	for _, row := range []struct {
+		text  string
+		value tb.Uint128
+	}{
+		{"0", tb.Uint128{}},
+		{"1", tb.ToUint128(1)},
+		{"18446744073709551615", tb.Uint128{Lo: 1<<64 - 1}},
+		{"18446744073709551616", tb.Uint128{Hi: 1}},
+		{"36893488147419103235", tb.Uint128{Hi: 2, Lo: 3}},
+		{most, tb.AmountMax},
+	} {
+		number, _ := new(big.Int).SetString(row.text, 10)
+		value, err := tb.BigIntToUint128(number)
+		if err != nil || value != row.value {
+			t.Errorf("%s is %+v, %v", row.text, value, err)
+		}
+		if value.BigInt().Cmp(number) != 0 || value.String() != row.text {
+			t.Errorf("%s comes back as %v", row.text, value)
+		}
+		parsed, err := tb.ParseUint128(row.text)
+		if err != nil || parsed != row.value {
+			t.Errorf("%s is parsed as %+v, %v", row.text, parsed, err)
+		}
+	}
+}
+
+func TestUint128Refusals(t *testing.T) {
+	above, _ := new(big.Int).SetString("340282366920938463463374607431768211456", 10)
+	for _, number := range []*big.Int{nil, big.NewInt(-1), above, new(big.Int).Lsh(above, 72)} {
+		if _, err := tb.BigIntToUint128(number); !errors.Is(err, tb.ErrInvalid) {
+			t.Errorf("%v is answered %v", number, err)
+		}
+	}
+	for _, text := range []string{"", "-1", "+1", " 1", "1.0", "1e3", "0x1", "ten", most + "0", "340282366920938463463374607431768211456", "\u0661"} {
+		if _, err := tb.ParseUint128(text); !errors.Is(err, tb.ErrInvalid) {
+			t.Errorf("%q is answered %v", text, err)
+		}
+	}
+}
+
+func TestUint128Sums(t *testing.T) {
+	low := tb.Uint128{Lo: 1<<64 - 1}
+	if sum, fits := low.Add(tb.ToUint128(1)); sum != (tb.Uint128{Hi: 1}) || !fits {
+		t.Errorf("2^64 is %v, %v", sum, fits)
+	}
+	if sum, fits := tb.AmountMax.Add(tb.ToUint128(1)); !sum.IsZero() || fits {
+		t.Errorf("2^128 is %v, %v", sum, fits)
+	}
+	if rest, fits := (tb.Uint128{Hi: 1}).Sub(tb.ToUint128(1)); rest != low || !fits {
+		t.Errorf("2^64 - 1 is %v, %v", rest, fits)
+	}
+	if rest, fits := (tb.Uint128{}).Sub(tb.ToUint128(1)); rest != tb.AmountMax || fits {
+		t.Errorf("-1 is %v, %v", rest, fits)
+	}
+	if low.Cmp(tb.Uint128{Hi: 1}) != -1 || (tb.Uint128{Hi: 1}).Cmp(low) != 1 || low.Cmp(low) != 0 {
+		t.Error("the order of 2^64 - 1 and 2^64")
+	}
+}
+
+func TestRecordsInJSON(t *testing.T) {
+	sale := tb.Transfer{ID: tb.AmountMax, Amount: tb.ToUint128(100), Flags: tb.TransferPending, Timestamp: 1<<64 - 1}
+	data, err := json.Marshal(sale)
+	if err != nil {
+		t.Fatal(err)
+	}
+	var back tb.Transfer
+	if err := json.Unmarshal(data, &back); err != nil || back != sale {
+		t.Errorf("%s comes back as %+v, %v", data, back, err)
+	}
+	if err := json.Unmarshal([]byte(`{"amount": "-1"}`), &back); !errors.Is(err, tb.ErrInvalid) {
+		t.Errorf("an amount of -1 is answered %v", err)
+	}
+}

@@ -1,0 +1,255 @@
+#!/usr/bin/env python3
+"""Sees that the kit catches wrong clients: the client in Go with one thing wrong, each in turn.
+
+    clients/go/wrong_clients.py [--only PATTERN] [--jobs N] [--over KIND]
+
+Each wrong client is an edit of this folder's sources in a copy of its own, which is built. The kit
+has to fail for it; the client as it is has to pass. Prints which scenario caught it, and 'N of M
+wrong clients are caught'. Status 1 where one is not.
+"""
+import argparse
+import concurrent.futures
+import fnmatch
+import os
+import re
+import shutil
+import subprocess
+import sys
+import tempfile
+
+HERE = os.path.dirname(os.path.abspath(__file__))
+KIT = os.path.join(os.path.dirname(HERE), "conformance", "kit.py")
+
+# Each: what is wrong, the file, the text that is there once, and the text in its place.
+WRONG = {
+    "a new number for each retry": (
+        "session.go",
+        "\tframe := it.pending\n\tit.mu.Unlock()\n\tif frame == nil {\n",
+        "\tif len(it.pending) > 0 && it.pending[28] != 2 && it.refusal == 99 {\n"
+        "\t\tit.pending[24]++\n\t}\n\tit.refusal = 99\n"
+        "\tframe := it.pending\n\tit.mu.Unlock()\n\tif frame == nil {\n",
+    ),
+    "a new id of the record for each retry": (
+        "session.go",
+        "\t\tanswer, err := it.exchange(ctx, frame)\n",
+        "\t\tif attempt > 1 && frame[28] == 130 {\n\t\t\tID().encode(frame[48:])\n\t\t}\n"
+        "\t\tanswer, err := it.exchange(ctx, frame)\n",
+    ),
+    "the next number before the reply": (
+        "session.go",
+        "\tif it.pending != nil {\n\t\treturn it.doubt()\n\t}\n",
+        "\tif it.pending != nil {\n\t\tit.number++\n\t}\n",
+    ),
+    "a refusal is taken for an answer": (
+        "session.go",
+        "\t\treturn Answer{}, &RefusedError{",
+        "\t\tit.number, it.pending = header.number, nil\n"
+        "\t\tif header.number > 0 {\n\t\t\treturn Answer{Operation: header.operation}, nil\n\t\t}\n"
+        "\t\treturn Answer{}, &RefusedError{",
+    ),
+    "a refusal ends the doubt": (
+        "session.go",
+        "\t\tit.refusal = header.status\n",
+        "\t\tit.refusal, it.pending = header.status, nil\n",
+    ),
+    "a lost reply ends the doubt": (
+        "session.go",
+        "\tif err != nil && !mayBeSent(err) {\n\t\tit.mu.Lock()\n",
+        "\tif err != nil {\n\t\tit.mu.Lock()\n",
+    ),
+    "a request is sent once": (
+        "session.go",
+        "attempt == it.attempts ||",
+        "attempt == 1 ||",
+    ),
+    "one sending too many": (
+        "session.go",
+        "attempt == it.attempts ||",
+        "attempt > it.attempts ||",
+    ),
+    "pauses that do not grow": (
+        "session.go",
+        "\t\tpause = doubled(pause, longest(it.pause, pauseMax))\n",
+        "",
+    ),
+    "a bad reply is sent again": (
+        "session.go",
+        "\treturn errors.Is(err, ErrReplyLost)\n",
+        "\treturn errors.Is(err, ErrReplyLost) || errors.Is(err, ErrBadReply)\n",
+    ),
+    "lost, then nobody listens, is said to be not sent": (
+        "session.go",
+        "if err != nil && last != nil && !mayBeSent(err) {",
+        "if err != nil && last != nil && !mayBeSent(err) && false {",
+    ),
+    "what was never sent stays in doubt": (
+        "session.go",
+        "\tif err != nil && !mayBeSent(err) {\n\t\tit.mu.Lock()\n",
+        "\tif false {\n\t\tit.mu.Lock()\n",
+    ),
+    "a call that was cancelled ends the doubt": (
+        "session.go",
+        "\tif err != nil && !mayBeSent(err) {\n\t\tit.mu.Lock()\n",
+        "\tif err != nil && (!mayBeSent(err) || errors.Is(err, ErrCancelled)) {\n"
+        "\t\tit.mu.Lock()\n",
+    ),
+    "goroutines send over one session at once": (
+        "session.go",
+        "\tcase it.turn <- struct{}{}:\n\t\treturn nil\n",
+        "\tdefault:\n\t\treturn nil\n",
+        "session.go",
+        "func (it *Session) end() { <-it.turn }\n",
+        "func (it *Session) end() {}\n",
+    ),
+    "any reply will do": (
+        "replies.go",
+        "\tif it.client == asked.client && it.number",
+        "\tif true || it.client == asked.client && it.number",
+    ),
+    "the session of a reply is not tested": (
+        "replies.go",
+        " && it.session == session {",
+        " && (true || it.session == session) {",
+    ),
+    "unknown result codes are passed over": (
+        "replies.go",
+        "\t\tcase !it.Result.Known():\n",
+        "\t\tcase false:\n",
+    ),
+    "records are not compared with the ids": (
+        "replies.go",
+        "\t\tif at == len(ids) {\n",
+        "\t\tif at == len(ids) {\n\t\t\tcontinue\n\t\t}\n\t\tif false {\n",
+    ),
+    "a late reply is waited for on the old connection": (
+        "socket.go",
+        "\tit.lose(conn)\n\treturn nil, it.failed(",
+        "\tif within.Err() == nil {\n\t\tit.lose(conn)\n\t}\n\treturn nil, it.failed(",
+    ),
+    "a connection that was closed is not looked at": (
+        "socket.go",
+        "if conn != nil && conn.isLeft() {",
+        "if conn != nil && conn.isLeft() && false {",
+    ),
+    "always the first address": (
+        "socket.go",
+        "\tit.at = (it.at + 1) % len(it.addresses)\n",
+        "\tit.at = 0\n",
+    ),
+    "two requests in flight on a connection": (
+        "socket.go",
+        "\tcase it.turn <- struct{}{}:\n\t\tdefer func() { <-it.turn }()\n",
+        "\tdefault:\n",
+    ),
+    "TLS without a test of the certificate": (
+        "socket.go",
+        "\tover := tls.Client(plain, config)\n",
+        "\tconfig = config.Clone()\n\tconfig.InsecureSkipVerify = true\n"
+        "\tover := tls.Client(plain, config)\n",
+    ),
+    "the name that the server told is lost": (
+        "socket.go",
+        "&LostError{Told: name, Err:",
+        "&LostError{Err:",
+    ),
+    "a file is written over": (
+        "files_unix.go",
+        "\t\terr = os.Rename(fresh, path)\n",
+        "\t\tos.Remove(fresh)\n\t\terr = os.WriteFile(path, data, 0o666)\n",
+    ),
+    "a file forgets the request in doubt": (
+        "saved.go",
+        "\t\tit.Client, it.Session, it.Number, it.Pending)\n",
+        "\t\tit.Client, it.Session, it.Number, []byte{})\n",
+    ),
+    "bytes of another session are loaded": (
+        "saved.go",
+        "\tif asked.client != it.Client || asked.session",
+        "\tif false && asked.client != it.Client || false && asked.session",
+    ),
+    "two fields of one name: the last one counts": (
+        "saved.go",
+        "isThere := fields[name]; isThere {",
+        "isThere := fields[name]; isThere && false {",
+    ),
+    "ids follow the clock back": (
+        "ids.go",
+        "\tif now <= int64(it.last.Hi>>highBits) {\n",
+        "\tif now == int64(it.last.Hi>>highBits) {\n",
+    ),
+    "8191 items": ("names.go", "ItemsMax   = 8190", "ItemsMax   = 8191"),
+    "ledger and code change places": (
+        "names.go",
+        "\tatTransferLedger          = 112 // u32\n\tatTransferCode            = 116 // u16\n",
+        "\tatTransferLedger          = 114 // u32\n\tatTransferCode            = 112 // u16\n",
+    ),
+}
+
+
+def built(folder, edits):
+    """The runner of a copy of the client with texts in place of others."""
+    copy = os.path.join(folder, "go")
+    shutil.copytree(HERE, copy, ignore=shutil.ignore_patterns("out", "*_test.go"))
+    for at in range(0, len(edits), 3):
+        path, old, new = edits[at : at + 3]
+        with open(os.path.join(copy, path), encoding="utf-8") as it:
+            text = it.read()
+        if text.count(old) != 1:
+            raise LookupError(f"{path} has {text.count(old)} times: {old.strip().splitlines()[0]}")
+        with open(os.path.join(copy, path), "w", encoding="utf-8") as it:
+            it.write(text.replace(old, new))
+    runner = os.path.join(folder, "runner")
+    words = ["go", "build", "-p", "1", "-o", runner, "./internal/conformance"]
+    subprocess.run(words, cwd=copy, check=True, timeout=600)
+    return runner
+
+
+def caught(edits, over):
+    """The kit's status for an edited client, and the scenario that failed first."""
+    with tempfile.TemporaryDirectory() as folder:
+        words = [sys.executable, "-B", KIT, "--first", "--jobs", "1", "--over", over]
+        ran = subprocess.run(
+            [*words, "--", built(folder, edits)], capture_output=True, text=True, timeout=900
+        )
+    first = re.search(r"^FAILED: ([^:]+): (.*)", ran.stdout, re.M)
+    said = f"{first[1]}: {first[2][:100]}" if first else (ran.stdout + ran.stderr)[-300:]
+    return ran.returncode, said
+
+
+def words():
+    parser = argparse.ArgumentParser(
+        description=__doc__, formatter_class=argparse.RawDescriptionHelpFormatter
+    )
+    parser.add_argument(
+        "--only", metavar="PATTERN", default="*", help="wrong clients with such a name"
+    )
+    parser.add_argument("--jobs", metavar="N", type=int, default=2, help="kits at once (2)")
+    parser.add_argument("--over", choices=("unix", "tcp"), default="unix", help="unix, or tcp")
+    return parser.parse_args()
+
+
+def main():
+    given = words()
+    chosen = {name: edits for name, edits in WRONG.items() if fnmatch.fnmatch(name, given.only)}
+    status, said = caught((), given.over)
+    if status:
+        print(f"FAILED: the client as it is: {said}")
+        return 1
+    missed = 0
+    with concurrent.futures.ThreadPoolExecutor(given.jobs) as pool:
+        runs = {name: pool.submit(caught, edits, given.over) for name, edits in chosen.items()}
+        for name, run in runs.items():
+            status, said = run.result()
+            missed += status != 1
+            print(
+                f"caught: {name}: by {said}"
+                if status == 1
+                else f"FAILED: not caught: {name}: {said}",
+                flush=True,
+            )
+    print(f"{len(chosen) - missed} of {len(chosen)} wrong clients are caught")
+    return 1 if missed else 0
+
+
+if __name__ == "__main__":
+    sys.exit(main())
