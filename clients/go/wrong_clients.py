@@ -200,7 +200,9 @@ def built(folder, edits):
             it.write(text.replace(old, new))
     runner = os.path.join(folder, "runner")
     words = ["go", "build", "-p", "1", "-o", runner, "./internal/conformance"]
-    subprocess.run(words, cwd=copy, check=True, timeout=600)
+    ran = subprocess.run(words, cwd=copy, capture_output=True, text=True, timeout=600)
+    if ran.returncode:
+        raise LookupError(f"it does not build: {ran.stderr.strip()}")
     return runner
 
 
@@ -239,7 +241,10 @@ def main():
     with concurrent.futures.ThreadPoolExecutor(given.jobs) as pool:
         runs = {name: pool.submit(caught, edits, given.over) for name, edits in chosen.items()}
         for name, run in runs.items():
-            status, said = run.result()
+            try:
+                status, said = run.result()
+            except LookupError as why:
+                status, said = 2, str(why)
             missed += status != 1
             print(
                 f"caught: {name}: by {said}"

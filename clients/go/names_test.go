@@ -1,0 +1,64 @@
+package tbclient_test
+
+import (
+	"errors"
+	"strings"
+	"testing"
+
+	tb "ledger.example/tbclient"
+)
+
+func TestNames(t *testing.T) {
+	for shown, it := range map[string]interface {
+		String() string
+		Known() bool
+	}{
+		"register":          tb.OperationRegister,
+		"SessionTooLow":     tb.StatusSessionTooLow,
+		"exists":            tb.TransferExists,
+		"id_already_failed": tb.TransferIDAlreadyFailed,
+		"reserved_field":    tb.AccountReservedField,
+	} {
+		if it.String() != shown || !it.Known() {
+			t.Errorf("%v, not %s", it, shown)
+		}
+	}
+	if it := tb.CreateTransferResult(18); it.Known() || it.String() != "18" {
+		t.Errorf("18 is %v", it)
+	}
+	if it := tb.TransferPending | 512; it.String() != "pending|512" {
+		t.Errorf("flags are %v", it)
+	}
+	if it := tb.AccountFlags(0); it.String() != "0" {
+		t.Errorf("no flags are %v", it)
+	}
+}
+
+func TestMostItems(t *testing.T) {
+	it, session := begun(t)
+	ids := make([]tb.Uint128, tb.ItemsMax+1)
+	for at := range ids {
+		ids[at] = tb.ToUint128(1)
+	}
+	var fault *tb.InvalidError
+	if _, err := session.LookupAccounts(background, ids); !errors.As(err, &fault) || fault.Field != "ids" {
+		t.Error(err)
+	}
+	if count, _ := it.came(); count != 2 { // a register and the accounts
+		t.Errorf("%d requests came", count)
+	}
+	found, err := session.LookupAccounts(background, ids[1:])
+	if err != nil || len(found) != tb.ItemsMax || found[0].Ledger != 700 {
+		t.Errorf("%d accounts, %v", len(found), err)
+	}
+	transfers, err := session.LookupTransfers(background, ids[:1])
+	if err != nil || len(transfers) != 0 {
+		t.Errorf("%v, %v", transfers, err)
+	}
+	if err := session.Close(); err != nil {
+		t.Error(err)
+	}
+	if _, err := session.LookupAccounts(background, nil); !errors.Is(err, tb.ErrClosed) || !strings.Contains(err.Error(), "closed") {
+		t.Error(err)
+	}
+}
