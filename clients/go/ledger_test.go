@@ -159,7 +159,7 @@ func (it *ledger) answer(frame []byte) []byte {
 	case string(own.request) == string(frame):
 		return own.reply
 	case session != own.session || number != own.number+1:
-		return framed(frame, session, 5, 0, nil) // Collision stands for all others
+		return framed(frame, session, 5, 0, nil) // Collision, in place of all others
 	default:
 		it.commit++
 	}

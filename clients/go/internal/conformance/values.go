@@ -127,7 +127,7 @@ func setField(field reflect.Value, given any, flag func(uint16) string) error {
 	return err
 }
 
-// listOf is what stands for a list: of these items, or of so many with ids that rise.
+// listOf is the list that is meant: of these items, or of so many with ids that rise.
 func listOf(given any) ([]any, error) {
 	switch it := given.(type) {
 	case []any:
