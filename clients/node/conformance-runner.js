@@ -1,0 +1,303 @@
+#!/usr/bin/env node
+"use strict";
+
+// The runner of this client for the conformance kit: a JSON line in, a JSON line out.
+//
+//     clients/conformance/kit.py -- node clients/node/conformance-runner.js
+
+const { readFileSync } = require("node:fs");
+
+const tb = require("./index.js");
+const { LAYOUTS } = require("./names.js");
+const { Ids } = require("./lib/ids.js");
+
+const FEATURES = ["unix", "tcp", "addresses", "tls", "parallel", "cancel"];
+const CALLS = {
+  create_accounts: "createAccounts",
+  create_transfers: "createTransfers",
+  lookup_accounts: "lookupAccounts",
+  lookup_transfers: "lookupTransfers",
+};
+const FLAGS = { account: tb.AccountFlags, transfer: tb.TransferFlags };
+const WIDE = new Set(
+  [...LAYOUTS.account, ...LAYOUTS.transfer].filter((it) => it.bytes >= 8).map((it) => it.name),
+);
+
+/** The kit asks for what this runner does not know. */
+class Unsupported extends Error {}
+
+/** JavaScript has no such value. */
+class Unrepresentable extends Error {}
+
+// Values
+
+function doubleOf(text, isWide) {
+  const number = Number(text);
+  if (!isWide && Number.isInteger(number)) {
+    throw new Unrepresentable("a double that is whole is an integer");
+  }
+  return number;
+}
+
+/** What a JSON value stands for: a text is an integer, and other kinds are marked. */
+function valueOf(given, isWide) {
+  if (typeof given === "string") return isWide ? BigInt(given) : Number(given);
+  if (typeof given !== "object" || given === null) return given;
+  const [[kind, inside]] = Object.entries(given);
+  return kind === "float" ? doubleOf(inside, isWide) : inside;
+}
+
+function fieldOf(kind, name, given) {
+  if (name === "flags" && Array.isArray(given)) {
+    return given.reduce((flags, it) => flags | FLAGS[kind][it], 0);
+  }
+  return valueOf(given, WIDE.has(name));
+}
+
+function itemOf(operation, given) {
+  if (typeof given !== "object" || given === null || !("kind" in given || "id" in given)) {
+    return valueOf(given, true);
+  }
+  const { kind, ...fields } = given;
+  const of = kind ?? (operation === "create_accounts" ? "account" : "transfer");
+  const pairs = Object.entries(fields).map(([name, it]) => [name, fieldOf(of, name, it)]);
+  const record = Object.fromEntries(pairs);
+  return kind === undefined ? record : tb[kind](record);
+}
+
+function itemsOf(operation, given) {
+  if (Array.isArray(given)) return given.map((it) => itemOf(operation, it));
+  if (typeof given !== "object" || given === null || !("count" in given)) {
+    return valueOf(given, true);
+  }
+  const { count, first } = given;
+  const isId = typeof first === "string";
+  const start = BigInt(isId ? first : first.id);
+  return Array.from({ length: count }, (_, at) => {
+    const id = String(start + BigInt(at));
+    return itemOf(operation, isId ? id : { ...first, id });
+  });
+}
+
+function operationOf(given) {
+  return typeof given === "string" && given in tb.Operation
+    ? tb.Operation[given]
+    : valueOf(given, false);
+}
+
+function shownFlags(kind, flags) {
+  const names = tb.flagNames(FLAGS[kind], flags);
+  const sum = names.reduce((all, it) => all + FLAGS[kind][it], 0);
+  return sum === flags ? names : String(flags);
+}
+
+function shownRecord(record) {
+  const kind = "amount" in record ? "transfer" : "account";
+  const fields = Object.entries(record).map(([name, it]) => [name, String(it)]);
+  return { ...Object.fromEntries(fields), flags: shownFlags(kind, record.flags) };
+}
+
+function shownSaved({ saved }) {
+  return { ...saved, ...shownNumbers(saved) };
+}
+
+function shownNumbers({ client, session, number }) {
+  return { client: String(client), session: String(session), number: String(number) };
+}
+
+function shownError(error) {
+  if (error instanceof Unsupported) return { unsupported: error.message };
+  if (error instanceof Unrepresentable) return { unrepresentable: error.message };
+  if (!(error instanceof tb.ClientError)) throw error;
+  const { field, told, results, sent } = error;
+  const name = error instanceof tb.FileError ? "File" : error.name;
+  return { error: { name, sent, field, told, results } };
+}
+
+/** An option in seconds, as milliseconds, or a marked value. */
+function optionOf(name, given) {
+  if (typeof given === "object") return valueOf(given, true);
+  return name === "attempts" ? given : given * 1000;
+}
+
+function optionsOf(line) {
+  const names = ["attempts", "pause", "within"].filter((name) => name in line);
+  return Object.fromEntries(names.map((name) => [name, optionOf(name, line[name])]));
+}
+
+function clientOf(line) {
+  return "client" in line ? { client: valueOf(line.client, true) } : {};
+}
+
+function secureOf({ ca, cert, key }) {
+  const files = Object.entries({ ca, cert, key }).filter(([, path]) => path !== undefined);
+  return Object.fromEntries(files.map(([name, path]) => [name, readFileSync(path)]));
+}
+
+// Calls
+
+class Runner {
+  #transports = new Map();
+  #sessions = new Map();
+
+  async answer(line) {
+    const call = typeof line.do === "string" && this[`do_${line.do}`];
+    if (!call) return { unsupported: `no call ${line.do}` };
+    try {
+      return { ok: (await call.call(this, line)) ?? null };
+    } catch (error) {
+      return shownError(error);
+    }
+  }
+
+  #session(line) {
+    const found = this.#sessions.get(line.session);
+    if (found === undefined) throw new Unsupported(`no session ${line.session}`);
+    return found;
+  }
+
+  #transport(line) {
+    const found = this.#transports.get(line.transport);
+    if (found === undefined) throw new Unsupported(`no transport ${line.transport}`);
+    return found;
+  }
+
+  #kept(line, session) {
+    this.#sessions.set(line.session, session);
+    return session;
+  }
+
+  do_hello() {
+    const language = `Node ${process.versions.node}`;
+    return { protocol: 1, client: "tb-client", language, features: FEATURES };
+  }
+
+  do_reset() {
+    for (const it of this.#transports.values()) it.close();
+    this.#transports.clear();
+    this.#sessions.clear();
+  }
+
+  do_connect(line) {
+    const addresses = line.addresses.map((it) => it.unix ?? { host: it.host, port: it.port });
+    const options = {};
+    if ("timeout" in line) options.timeout = optionOf("timeout", line.timeout);
+    if ("tls" in line) options.tls = secureOf(line.tls);
+    const place = addresses.length === 1 ? addresses[0] : addresses;
+    this.#transports.set(line.transport, new tb.Socket(place, options));
+  }
+
+  do_open(line) {
+    const options = { ...clientOf(line), ...optionsOf(line) };
+    const session = this.#kept(line, new tb.Session(this.#transport(line), options));
+    return { client: String(session.client) };
+  }
+
+  async do_register(line) {
+    const options = { ...clientOf(line), ...optionsOf(line) };
+    const session = await tb.Session.register(this.#transport(line), options);
+    this.#kept(line, session);
+    return { client: String(session.client), session: String(session.session) };
+  }
+
+  async do_load(line) {
+    const session = await tb.Session.load(this.#transport(line), line.path, optionsOf(line));
+    return shownSaved(this.#kept(line, session));
+  }
+
+  do_resume(line) {
+    const saved = {};
+    for (const [name, it] of Object.entries(line.saved)) {
+      saved[name] = name === "pending" ? it : valueOf(it, name !== "number");
+    }
+    const session = tb.Session.resumed(this.#transport(line), saved, optionsOf(line));
+    return shownSaved(this.#kept(line, session));
+  }
+
+  do_prepare(line) {
+    const { operation, items = [] } = line;
+    this.#session(line).prepare(operationOf(operation), itemsOf(operation, items));
+  }
+
+  async do_retry(line) {
+    const session = this.#session(line);
+    const operation = session.inDoubt?.operation;
+    return this.#said(session, await session.retry(optionsOf(line)), line, operation);
+  }
+
+  async do_ask(line) {
+    const { operation, items = [] } = line;
+    const session = this.#session(line);
+    if (operation in CALLS) {
+      const call = session[CALLS[operation]](itemsOf(operation, items), optionsOf(line));
+      return this.#said(session, await call, line, operation);
+    }
+    session.prepare(operationOf(operation), itemsOf(operation, items));
+    return this.#said(session, await session.retry(optionsOf(line)), line, operation);
+  }
+
+  #said(session, said, line, operation) {
+    if (line.require_ok) tb.requireOk(said);
+    if (said === undefined) return { session: String(session.session) };
+    if (operation.startsWith("create")) return { results: said };
+    return { records: said.map(shownRecord) };
+  }
+
+  do_saved(line) {
+    return shownSaved(this.#session(line));
+  }
+
+  do_save(line) {
+    return this.#session(line).save(line.path);
+  }
+
+  do_in_doubt(line) {
+    const asked = this.#session(line).inDoubt;
+    if (asked === null) return null;
+    const items = asked.items.map((it) => (typeof it === "bigint" ? String(it) : shownRecord(it)));
+    return { ...shownNumbers(asked), operation: asked.operation, items };
+  }
+
+  do_close(line) {
+    ("session" in line ? this.#session(line) : this.#transport(line)).close();
+  }
+
+  do_drop(line) {
+    this.#session(line);
+    this.#sessions.delete(line.session);
+  }
+
+  async do_ids(line) {
+    if ("times" in line) {
+      const times = line.times[Symbol.iterator]();
+      const drawn = line.random[Symbol.iterator]();
+      const draw = () => Buffer.from(drawn.next().value, "hex");
+      const ids = new Ids(() => times.next().value, draw);
+      return line.times.map(() => String(ids.next()));
+    }
+    const { count = 1, threads = 1 } = line;
+    const some = async () => Array.from({ length: count / threads }, () => String(tb.id()));
+    return (await Promise.all(Array.from({ length: threads }, some))).flat();
+  }
+
+  do_parallel(line) {
+    return Promise.all(line.calls.map((it) => this.answer(it)));
+  }
+}
+
+// Lines
+
+async function main() {
+  const runner = new Runner();
+  let rest = "";
+  process.stdin.setEncoding("utf8");
+  for await (const text of process.stdin) {
+    const lines = (rest + text).split("\n");
+    rest = lines.pop();
+    for (const line of lines) {
+      process.stdout.write(`${JSON.stringify(await runner.answer(JSON.parse(line)))}\n`);
+    }
+  }
+}
+
+main();

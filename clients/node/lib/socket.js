@@ -1,0 +1,336 @@
+"use strict";
+
+const net = require("node:net");
+const tls = require("node:tls");
+const { performance } = require("node:perf_hooks");
+
+const { HEADER_SIZE } = require("../names.js");
+const {
+  Busy,
+  Cancelled,
+  CannotConnect,
+  Closed,
+  InvalidType,
+  InvalidValue,
+  ReplyLost,
+} = require("./errors.js");
+const { replyLength, testAsked, testReply, testRequest } = require("./frames.js");
+const { Turns, onAbort, paused, testLimit } = require("./limits.js");
+const { kindOf, milliseconds, narrow, optionsOf, pathOf } = require("./values.js");
+
+const TIMEOUT = 5000; // milliseconds
+const FIRST_PAUSE = 20; // milliseconds, before the server is called again; doubled each time
+const LAST_PAUSE = 500;
+// begins what a server says before it closes a connection: fewer bytes than a frame has
+const TOLD = "tb_listen: ";
+
+/** Lets the system's news of connections come in: all that was there when this was called. */
+function news() {
+  return new Promise((resolve) => {
+    setImmediate(() => setImmediate(resolve));
+  });
+}
+
+/**
+ * What to throw where a connection ended after these bytes: with the name that the server told,
+ * where it told one.
+ */
+function lost(said, how) {
+  const text = said.toString("latin1");
+  if (!text.startsWith(TOLD)) return new ReplyLost(how);
+  const told = text.slice(TOLD.length).trim();
+  const Kind = told === "Busy" ? Busy : ReplyLost;
+  return new Kind(`the server closed the connection: ${told}`, told);
+}
+
+/** One connection, over which one request goes at a time. */
+class Connection {
+  #socket;
+  #said = [];
+  #size = 0;
+  #end = ""; // how it ended
+  #asked; // the request that is in flight
+  #isUsed = false;
+
+  constructor(socket) {
+    this.#socket = socket;
+    socket.on("data", (data) => this.#take(data));
+    socket.on("end", () => this.#ended("the server closed the connection"));
+    socket.on("error", (fault) => this.#ended(`the connection broke: ${fault.message}`));
+    socket.on("close", () => this.#ended("the connection was closed"));
+  }
+
+  /** Whether it ended, or something came while nothing was asked. */
+  get isLeft() {
+    return this.#end !== "" || this.#size > 0;
+  }
+
+  /** Sends a request, and waits for the reply to it. */
+  ask(frame, ms, signal) {
+    this.#socket.ref();
+    this.#isUsed = true;
+    return new Promise((resolve, reject) => {
+      const late = () => this.#finish(new ReplyLost("no reply came in time"));
+      const timer = setTimeout(late, Math.ceil(ms));
+      const asked = { frame, need: HEADER_SIZE, resolve, reject, timer, off: () => {} };
+      this.#asked = asked;
+      if (this.#end === "") this.#socket.write(frame);
+      this.#look();
+      if (this.#asked !== asked) return;
+      asked.off = onAbort(signal, () => this.#finish(new Cancelled(true, signal.reason)));
+    });
+  }
+
+  close() {
+    this.#socket.destroy();
+    this.#ended("this side closed the connection");
+  }
+
+  #take(data) {
+    this.#said.push(data);
+    this.#size += data.length;
+    if (this.#asked !== undefined) this.#look();
+    else if (this.#isUsed) this.#socket.destroy();
+  }
+
+  #ended(how) {
+    if (this.#end === "") this.#end = how;
+    this.#look();
+  }
+
+  /** Takes the reply where it is there, or the end. */
+  #look() {
+    const asked = this.#asked;
+    if (asked === undefined) return;
+    try {
+      while (this.#size >= asked.need) {
+        const data = this.#whole();
+        if (asked.need > HEADER_SIZE) return this.#answer(data, asked.need);
+        const header = data.subarray(0, HEADER_SIZE);
+        testReply(header);
+        testAsked(asked.frame, header);
+        asked.need = replyLength(header);
+        if (asked.need === HEADER_SIZE) return this.#answer(data, HEADER_SIZE);
+      }
+    } catch (fault) {
+      this.#finish(fault);
+      return;
+    }
+    if (this.#end !== "") this.#finish(lost(this.#whole(), this.#end));
+  }
+
+  /** All that came, in one piece. */
+  #whole() {
+    if (this.#said.length !== 1) this.#said = [Buffer.concat(this.#said, this.#size)];
+    return this.#said[0];
+  }
+
+  #answer(data, length) {
+    this.#said = data.length > length ? [data.subarray(length)] : [];
+    this.#size = data.length - length;
+    this.#finish(undefined, data.subarray(0, length));
+  }
+
+  #finish(fault, reply) {
+    const { timer, off, resolve, reject } = this.#asked;
+    this.#asked = undefined;
+    clearTimeout(timer);
+    off();
+    this.#socket.unref(); // a connection at rest does not keep the program from its end
+    if (fault === undefined) resolve(reply);
+    else reject(fault);
+  }
+}
+
+/** Begins to connect: over TLS where there are options for it. */
+function begun(address, secure) {
+  if (typeof address === "string") return net.connect({ path: address });
+  const place = { ...address, noDelay: true, autoSelectFamily: true };
+  if (secure === undefined) return net.connect(place);
+  const name = net.isIP(address.host) ? {} : { servername: address.host };
+  return tls.connect({ rejectUnauthorized: true, ...name, ...secure, ...place });
+}
+
+/** A new connection to an address, within so many milliseconds. */
+function call(address, secure, ms, signal) {
+  return new Promise((resolve, reject) => {
+    const it = begun(address, secure);
+    let off = () => {};
+    const end = (fault) => {
+      clearTimeout(timer);
+      off();
+      it.removeListener("error", end);
+      if (fault === undefined) {
+        resolve(new Connection(it));
+        return;
+      }
+      it.on("error", () => {});
+      it.destroy();
+      reject(fault);
+    };
+    const late = () => end(new Error(`no connection within ${Math.ceil(ms)} ms`));
+    const timer = setTimeout(late, Math.max(Math.ceil(ms), 1));
+    it.once(it instanceof tls.TLSSocket ? "secureConnect" : "connect", () => end(undefined));
+    it.on("error", (fault) => {
+      if (it.authorizationError) fault.isDistrust = true;
+      end(fault);
+    });
+    off = onAbort(signal, () => end(new Cancelled(false, signal.reason)));
+  });
+}
+
+function addressOf(field, address) {
+  if (typeof address === "string") return pathOf(field, address);
+  if (typeof address !== "object" || address === null) {
+    throw new InvalidType(field, `must be a path, or { host, port }, not ${kindOf(address)}`);
+  }
+  const { host, port } = address;
+  if (typeof host !== "string") {
+    throw new InvalidType(`${field}.host`, `must be a string, not ${kindOf(host)}`);
+  }
+  if (!/^[^\s\0]+$/.test(host)) throw new InvalidValue(`${field}.host`, "is no name of a host");
+  return { host, port: narrow(`${field}.port`, port, 65535, 1) };
+}
+
+function addressesOf(address) {
+  if (!Array.isArray(address)) return [addressOf("address", address)];
+  if (address.length === 0) throw new InvalidValue("address", "has no address");
+  return address.map((it, at) => addressOf(`address[${at}]`, it));
+}
+
+function secureOf(secure, addresses) {
+  if (secure === undefined) return undefined;
+  if (addresses.some((it) => typeof it === "string")) {
+    throw new InvalidValue("tls", "is for a host and a port, not for a path");
+  }
+  return { ...optionsOf("tls", secure) };
+}
+
+function shownAddress(address) {
+  if (typeof address === "string") return address;
+  const { host, port } = address;
+  return host.includes(":") ? `[${host}]:${port}` : `${host}:${port}`;
+}
+
+/**
+ * A connection to a server at a Unix socket's path, or at a host and a port; or to one of several,
+ * in an array.
+ *
+ * It is made when a request is to be sent. One that broke, that the server closed, or on which no
+ * reply came in time is closed, and the next exchange makes a new one, to the next address where
+ * there are several. Where none can be made within `timeout` nothing is sent, and it is
+ * CannotConnect. Sessions may share a Socket: their exchanges go one after another.
+ */
+class Socket {
+  #addresses;
+  #at = 0;
+  #timeout;
+  #secure;
+  #connection;
+  #isClosed = false;
+  #turns = new Turns();
+
+  constructor(address, options) {
+    const given = optionsOf("options", options);
+    this.#addresses = addressesOf(address);
+    const { timeout = TIMEOUT, tls: secure } = given;
+    this.#timeout = milliseconds("timeout", timeout, 1);
+    this.#secure = secureOf(secure, this.#addresses);
+  }
+
+  /** Where the connection goes, or the next one. */
+  get address() {
+    const it = this.#addresses[this.#at];
+    return typeof it === "string" ? it : { ...it };
+  }
+
+  /** Sends the frame of a request, and answers the frame of the reply to it. */
+  async exchange(frame, options) {
+    testRequest(frame);
+    const signal = options?.signal;
+    await this.#turns.take(signal);
+    try {
+      this.#testOpen();
+      const deadline = performance.now() + this.#timeout;
+      const connection = await this.#connected(deadline, signal);
+      try {
+        return await connection.ask(frame, deadline - performance.now(), signal);
+      } catch (fault) {
+        this.#lose();
+        throw fault;
+      }
+    } finally {
+      this.#turns.give();
+    }
+  }
+
+  /** Closes the connection, at once: an exchange in flight is ReplyLost. Later ones are Closed. */
+  close() {
+    this.#isClosed = true;
+    this.#connection?.close();
+    this.#connection = undefined;
+  }
+
+  #testOpen() {
+    if (this.#isClosed) throw new Closed("this Socket was closed");
+  }
+
+  /** The connection, made anew where there is none, or where the server closed it since. */
+  async #connected(deadline, signal) {
+    if (this.#connection !== undefined) await news();
+    this.#testOpen();
+    testLimit(signal, false);
+    if (this.#connection?.isLeft) this.#lose();
+    for (let pause = FIRST_PAUSE; this.#connection === undefined; ) {
+      const fault = await this.#callEach(deadline, signal);
+      if (fault === undefined) break;
+      const left = deadline - performance.now();
+      if (left <= 0 || fault.isDistrust) {
+        const why = fault.message || fault.code;
+        throw new CannotConnect(`${shownAddress(this.address)}: ${why}`, { cause: fault });
+      }
+      await paused(Math.min(pause, left), signal, false);
+      this.#testOpen();
+      pause = Math.min(2 * pause, LAST_PAUSE);
+    }
+    return this.#connection;
+  }
+
+  /**
+   * Calls the addresses in turn, from the present one on, until one answers. Answers the last
+   * fault where none does.
+   */
+  async #callEach(deadline, signal) {
+    let fault;
+    for (let left = this.#addresses.length; left > 0; left -= 1) {
+      try {
+        // of the time, so that one that does not answer leaves some
+        const share = (deadline - performance.now()) / left;
+        const connection = await call(this.address, this.#secure, share, signal);
+        await news(); // a server that takes no more says so at once
+        if (this.#isClosed) connection.close();
+        this.#testOpen();
+        this.#connection = connection;
+        return undefined;
+      } catch (why) {
+        if (why instanceof Cancelled || why instanceof Closed) throw why;
+        fault = why;
+        this.#next();
+      }
+    }
+    return fault;
+  }
+
+  #next() {
+    this.#at = (this.#at + 1) % this.#addresses.length;
+  }
+
+  /** Closes the connection. The next one goes to the next address. */
+  #lose() {
+    this.#connection?.close();
+    this.#connection = undefined;
+    this.#next();
+  }
+}
+
+module.exports = { Socket };
