@@ -1,0 +1,356 @@
+// The types of tb-client. They need no others: neither Node's nor the browser's.
+
+import type {
+  Account,
+  CreateAccountResultName,
+  CreateTransferResultName,
+  Operation,
+  OperationName,
+  Status,
+  Transfer,
+} from "./names";
+
+export {
+  AMOUNT_MAX,
+  Account,
+  AccountFlags,
+  CreateAccountResult,
+  CreateAccountResultName,
+  CreateTransferResult,
+  CreateTransferResultName,
+  ITEMS_MAX,
+  NUMBER_MAX,
+  Operation,
+  OperationName,
+  Status,
+  StatusName,
+  Transfer,
+  TransferFlags,
+} from "./names";
+
+// Values
+
+/** An account as the ledger has it, with all its fields. */
+export type AccountRecord = Readonly<Required<Account>>;
+/** A transfer as the ledger has it, with all its fields. */
+export type TransferRecord = Readonly<Required<Transfer>>;
+
+/** An event of a batch that was not accepted: its place in the batch, from 0, and why. */
+export interface EventResult<Name extends string = string> {
+  readonly index: number;
+  readonly result: Name;
+}
+/** An account that was not created, and why. */
+export type AccountResult = EventResult<CreateAccountResultName>;
+/** A transfer that was not made, and why. */
+export type TransferResult = EventResult<CreateTransferResultName>;
+
+/**
+ * A whole account of these fields: each is tested, and those that are left out are 0. Calls take
+ * plain objects too; this tests them early.
+ */
+export declare function account(fields: Account): AccountRecord;
+/** A whole transfer of these fields: each is tested, and those that are left out are 0. */
+export declare function transfer(fields: Transfer): TransferRecord;
+/** The names of the flags that are set: `flagNames(TransferFlags, 3)` is ["linked", "pending"]. */
+export declare function flagNames<Name extends string>(
+  kind: { readonly [name in Name]: number },
+  flags: number,
+): Name[];
+/**
+ * A new id of 128 bits: 48 bits of milliseconds since 1970, and 80 random ones. It is above each
+ * earlier one of this thread, also where the clock is set back.
+ */
+export declare function id(): bigint;
+
+// Calls
+
+/** An AbortSignal, as Node and browsers have it. */
+export interface CallSignal {
+  readonly aborted: boolean;
+  readonly reason?: any;
+  addEventListener(type: "abort", listener: () => void, options?: { once?: boolean }): void;
+  removeEventListener(type: "abort", listener: () => void): void;
+}
+
+/** The caller's own limits of a call: where one comes the call is Cancelled. */
+export interface CallOptions {
+  /** An AbortSignal. */
+  signal?: CallSignal;
+  /** Milliseconds. */
+  within?: number;
+}
+
+/** The options of a session. */
+export interface SessionOptions {
+  /** How often a request is sent in one call: 5. */
+  attempts?: number;
+  /**
+   * Milliseconds before a request is sent again where the server said to come later: 50. It is
+   * doubled each time, up to a second or to `pause`, whichever is longer.
+   */
+  pause?: number;
+}
+
+/** The options of a new session. */
+export interface NewSessionOptions extends SessionOptions {
+  /** The client's id, 1 to 2^128 - 1, that no other client has: else a new one. */
+  client?: bigint;
+}
+
+/** What outlives a client. */
+export interface Saved {
+  /** The client's id. */
+  readonly client: bigint;
+  /** Its session, 0 before it is registered. */
+  readonly session: bigint;
+  /** The number of the last request that was answered. */
+  readonly number: number;
+  /** The bytes of the request in doubt, in hex, or "". */
+  readonly pending: string;
+}
+
+/** What was saved, as JSON with exact integers: what `save` writes. */
+export declare function encodeSaved(saved: Saved): string;
+/** What such JSON says. `Session.resumed` tests the values. */
+export declare function decodeSaved(text: string): Saved;
+
+/** A request that has no reply yet, with its records or ids. */
+export type Request =
+  | RequestOf<"register", never>
+  | RequestOf<"create_accounts", AccountRecord>
+  | RequestOf<"create_transfers", TransferRecord>
+  | RequestOf<"lookup_accounts" | "lookup_transfers", bigint>;
+
+/** A request of some operations. */
+export interface RequestOf<Name extends OperationName, Item> {
+  readonly client: bigint;
+  readonly session: bigint;
+  readonly number: number;
+  readonly operation: Name;
+  readonly items: readonly Item[];
+}
+
+/** What a reply says: results of a create, records of a look-up, undefined of a register. */
+export type Said =
+  | AccountResult[]
+  | TransferResult[]
+  | AccountRecord[]
+  | TransferRecord[]
+  | undefined;
+
+// Transports
+
+/** Carries frames. */
+export interface Transport {
+  /**
+   * Sends the frame of a request, and answers the frame of its reply. Rejects by ReplyLost where
+   * none came, by Busy where the server said to come later, and by a NotSent where nothing was
+   * sent.
+   */
+  exchange(frame: Uint8Array, options?: { signal?: CallSignal }): Promise<Uint8Array>;
+  /** Closes it, at once. */
+  close?(): void;
+}
+
+/** A Unix socket's path, or a host and a port. */
+export type Address = string | { readonly host: string; readonly port: number };
+
+/** The options of `tls.connect`, of which these are the usual ones. */
+export interface TlsOptions {
+  /** The authorities, PEM: else those that Node knows. */
+  ca?: string | Uint8Array | readonly (string | Uint8Array)[];
+  /** The client's own certificate, PEM. */
+  cert?: string | Uint8Array;
+  /** Its key, PEM. */
+  key?: string | Uint8Array;
+  /** The name that the server's certificate has to be of: else the host. */
+  servername?: string;
+  [option: string]: unknown;
+}
+
+/** The options of a Socket. */
+export interface SocketOptions {
+  /** Milliseconds for one sending, from the connecting to the reply's last byte: 5000. */
+  timeout?: number;
+  /** TLS, to a host and a port. */
+  tls?: TlsOptions;
+}
+
+/**
+ * A connection to a server at a Unix socket's path, or at a host and a port; or to one of several,
+ * in an array.
+ *
+ * It is made when a request is to be sent. One that broke, that the server closed, or on which no
+ * reply came in time is closed, and the next exchange makes a new one, to the next address where
+ * there are several. Where none can be made within `timeout` nothing is sent, and it is
+ * CannotConnect. Sessions may share a Socket: their exchanges go one after another.
+ */
+export declare class Socket implements Transport {
+  constructor(address: Address | readonly Address[], options?: SocketOptions);
+  /** Where the connection goes, or the next one. */
+  readonly address: Address;
+  exchange(frame: Uint8Array, options?: { signal?: CallSignal }): Promise<Uint8Array>;
+  /** Closes the connection, at once: an exchange in flight is ReplyLost. Later ones are Closed. */
+  close(): void;
+}
+
+// Sessions
+
+/**
+ * The session of a client.
+ *
+ * `saved` is what outlives the client. Whoever keeps it between `prepare` and `retry` can go on
+ * after a crash, by `Session.resumed`, and knows after `retry` what the last request did. `save`
+ * and `load` keep it in a file.
+ *
+ * A request is sent `attempts` times at most in a call, and then stays in doubt. Calls at once go
+ * one after another: while one is in doubt the others are InDoubt.
+ */
+export declare class Session {
+  /** A session that is not registered: sends nothing. */
+  constructor(transport: Transport, options?: NewSessionOptions);
+  /** Registers a client, and answers its new session. */
+  static register(
+    transport: Transport,
+    options?: NewSessionOptions & CallOptions,
+  ): Promise<Session>;
+  /** The session as it was when `saved` was taken. Where a request was in doubt, `retry` it. */
+  static resumed(transport: Transport, saved: Saved, options?: SessionOptions): Session;
+  /** The session that `save` kept in a file. Where a request was in doubt, `retry` it first. */
+  static load(transport: Transport, path: string, options?: SessionOptions): Promise<Session>;
+
+  /** The client's id. */
+  readonly client: bigint;
+  /** The session, 0 before it is registered. */
+  readonly session: bigint;
+  /** The number of the last request that was answered. */
+  readonly number: number;
+  /** What outlives the client. */
+  readonly saved: Saved;
+  /**
+   * The request that has no reply yet, with its records or ids, or null. It is kept over refusals,
+   * since it may have been executed before: after an eviction create its records again, with the
+   * same ids, in a new session.
+   */
+  readonly inDoubt: Request | null;
+
+  /** Creates accounts. Answers the results of those that were not created, by index. */
+  createAccounts(accounts: readonly Account[], options?: CallOptions): Promise<AccountResult[]>;
+  /** Makes transfers. Answers the results of those that were not made, by index. */
+  createTransfers(transfers: readonly Transfer[], options?: CallOptions): Promise<TransferResult[]>;
+  /** The accounts that are there, in the order of the ids. */
+  lookupAccounts(ids: readonly bigint[], options?: CallOptions): Promise<AccountRecord[]>;
+  /** The transfers that are there, in the order of the ids. */
+  lookupTransfers(ids: readonly bigint[], options?: CallOptions): Promise<TransferRecord[]>;
+
+  /** Makes the next request, which is in doubt from then on: keep `saved`, then `retry`. */
+  prepare(operation: typeof Operation.register | "register"): void;
+  prepare(
+    operation: typeof Operation.create_accounts | "create_accounts",
+    accounts: readonly Account[],
+  ): void;
+  prepare(
+    operation: typeof Operation.create_transfers | "create_transfers",
+    transfers: readonly Transfer[],
+  ): void;
+  prepare(
+    operation:
+      | typeof Operation.lookup_accounts
+      | typeof Operation.lookup_transfers
+      | "lookup_accounts"
+      | "lookup_transfers",
+    ids: readonly bigint[],
+  ): void;
+  /**
+   * Sends the request in doubt, the same bytes each time, until its reply has come. Answers what
+   * it says.
+   */
+  retry(options?: CallOptions): Promise<Said>;
+
+  /** Keeps `saved` in a file, whole: after a crash it has the session as it is now or was before. */
+  save(path: string): Promise<void>;
+  /** Closes the transport. */
+  close(): void;
+}
+
+/**
+ * Throws EventsFailed where an event was not accepted. What else a reply says, as the records of a
+ * look-up, is passed over.
+ */
+export declare function requireOk(results: Said): void;
+
+// Errors
+
+/** The base of all errors of this package. */
+export declare class ClientError extends Error {
+  /** Whether the call may have sent its request. */
+  readonly sent: boolean;
+  /** What it comes from, where there is something. */
+  readonly cause?: unknown;
+}
+
+/** Nothing was sent by this call. */
+export declare class NotSent extends ClientError {
+  readonly sent: false;
+}
+/** A field or an argument, `field`, may not hold what was given. */
+export declare class Invalid extends NotSent {
+  readonly field: string;
+}
+/** It has the wrong type. */
+export declare class InvalidType extends Invalid {}
+/** It is out of its range. */
+export declare class InvalidValue extends Invalid {}
+/** The last request has no reply yet: `retry` it before another one is made. */
+export declare class InDoubt extends NotSent {}
+/** There is no request to be sent again. */
+export declare class NothingInDoubt extends NotSent {}
+/** The transport was closed. */
+export declare class Closed extends NotSent {}
+/** No connection to the server can be made. */
+export declare class CannotConnect extends NotSent {}
+/** The system refused a file: `code` is its error, as ENOENT. */
+export declare class FileError extends NotSent {
+  readonly path: string;
+  readonly code: string;
+}
+
+/** The caller's own limit ended the call: its AbortSignal, or `within`. */
+export declare class Cancelled extends ClientError {}
+/** No reply came. The request may have been executed or not: send the same bytes again. */
+export declare class ReplyLost extends ClientError {
+  /** The name that the server gave before it closed the connection, or "". */
+  readonly told: string;
+}
+/** The server has too many connections, and did not take the request: come later. */
+export declare class Busy extends ReplyLost {}
+/** What came is no reply to the request that was sent. */
+export declare class BadReply extends ClientError {}
+
+/** The server refused the request, and changed nothing. */
+export declare class Refused extends ClientError {
+  /** The number of the reason, in Status. */
+  readonly status: typeof Status[keyof typeof Status];
+}
+/** The session has ended. The last request may have been executed before that. */
+export declare class Evicted extends Refused {}
+/** The client has no session, register anew. */
+export declare class NoSession extends Evicted {}
+/** The client has a later session. */
+export declare class SessionTooLow extends Evicted {}
+/** The server knows no such session. */
+export declare class NewerSession extends Refused {}
+/** A later request of the session was executed. */
+export declare class Older extends Refused {}
+/** The request's number was used for another request. */
+export declare class Collision extends Refused {}
+/** A request before it is missing. */
+export declare class NewerRequest extends Refused {}
+/** The request is not shown yet. */
+export declare class NotYet extends Refused {}
+
+/** Events of a batch were not accepted. */
+export declare class EventsFailed extends ClientError {
+  readonly results: readonly EventResult[];
+}

@@ -1,0 +1,122 @@
+"use strict";
+
+// The package as it is installed: its files, its types, and the README's program as printed, over
+// a listener and a server. What is not installed is passed over.
+
+const assert = require("node:assert/strict");
+const { spawn, spawnSync } = require("node:child_process");
+const { mkdtempSync, readFileSync, rmSync, writeFileSync } = require("node:fs");
+const net = require("node:net");
+const { tmpdir } = require("node:os");
+const path = require("node:path");
+const { after, before, test } = require("node:test");
+
+const TOP = path.dirname(__dirname);
+const PYTHON = path.join(TOP, "..", "python");
+
+const folder = mkdtempSync(path.join(tmpdir(), "tb-client-"));
+after(() => rmSync(folder, { recursive: true }));
+
+function isThere(program) {
+  return spawnSync(program, ["--version"]).error === undefined;
+}
+
+function run(program, words, cwd) {
+  const ran = spawnSync(program, words, { cwd, encoding: "utf8" });
+  assert.equal(ran.status, 0, `${program} ${words.join(" ")}: ${ran.stdout}${ran.stderr}`);
+  return ran.stdout;
+}
+
+const skip = isThere("npm") ? false : "npm is not there";
+
+before(() => {
+  if (skip) return;
+  const [{ filename, files }] = JSON.parse(run("npm", ["pack", "--json", TOP], folder));
+  const kept = files.map((it) => it.path).sort();
+  assert.deepEqual(
+    kept.filter((it) => !it.startsWith("lib/")),
+    ["README.md", "index.d.ts", "index.js", "names.d.ts", "names.js", "package.json"],
+  );
+  assert.deepEqual(kept.filter((it) => !/\.(js|d\.ts|md|json)$/.test(it)), []);
+  writeFileSync(path.join(folder, "package.json"), "{}");
+  run("npm", ["install", "--offline", "--no-audit", "--no-fund", `./${filename}`], folder);
+});
+
+test("its names, by require and by import", { skip }, () => {
+  const required = run("node", ["-p", 'Object.keys(require("tb-client")).join()'], folder).trim();
+  const code = 'import * as it from "tb-client"; console.log(Object.keys(it).join())';
+  const imported = run("node", ["--input-type=module", "-e", code], folder).trim();
+  const names = imported.split(",").filter((it) => it !== "default" && it !== "module.exports");
+  assert.deepEqual(names.sort(), required.split(",").sort());
+  const types = readFileSync(path.join(TOP, "index.d.ts"), "utf8");
+  for (const name of names) assert.match(types, new RegExp(`\\b${name}\\b`), name);
+});
+
+test("the types, by tsc", { skip: isThere("tsc") ? false : "tsc is not there" }, () => {
+  run("tsc", ["-p", "."], TOP);
+});
+
+/** A listener with a server behind it, that keeps its ledger in a file. */
+async function listener() {
+  const server = ["python3", "-SE", path.join(PYTHON, "stand_in_tbd.py")];
+  const words = ["-B", path.join(PYTHON, "tb_listen.py"), "--unix", "real.sock", "--", ...server];
+  const it = spawn("python3", [...words, "run", "ledger.journal", "64"], { cwd: folder });
+  await new Promise((resolve, reject) => {
+    it.stderr.on("data", (said) => String(said).includes("listens on") && resolve());
+    it.on("exit", () => reject(new Error("the listener ended")));
+  });
+  return it;
+}
+
+/**
+ * Passes bytes on to the listener and back. Where `kill` is set, it is called once the listener
+ * has answered a request of create_transfers, and the answer is kept back.
+ */
+function between(place, hooks) {
+  const server = net.createServer((client) => {
+    const to = net.connect(path.join(folder, "real.sock"));
+    let isSale = false;
+    client.on("data", (frame) => {
+      isSale = frame.length > 48 && frame[28] === 130;
+      to.write(frame);
+    });
+    to.on("data", (reply) => (isSale && hooks.kill ? hooks.kill() : client.write(reply)));
+    for (const it of [client, to]) it.on("error", () => {});
+    client.on("close", () => to.destroy());
+    to.on("close", () => client.destroy());
+  });
+  return new Promise((resolve) => server.listen(place, () => resolve(server)));
+}
+
+/** The README's program, once. */
+function once(hooks) {
+  return new Promise((resolve) => {
+    const it = spawn("node", ["money.mjs"], { cwd: folder });
+    if (hooks.kills) hooks.kill = () => it.kill("SIGKILL");
+    let said = "";
+    it.stdout.on("data", (text) => (said += text));
+    it.stderr.on("data", (text) => (said += text));
+    it.on("close", (status, signal) => resolve({ said, status, signal }));
+  });
+}
+
+const needs = skip || (isThere("python3") ? false : "python3 is not there");
+
+test("the README's program, and a kill amid a sale", { skip: needs }, async () => {
+  const readme = readFileSync(path.join(TOP, "README.md"), "utf8");
+  writeFileSync(path.join(folder, "money.mjs"), /```js\n([^]*?)```/.exec(readme)[1]);
+  const process = await listener();
+  const hooks = {};
+  const server = await between(path.join(folder, "ledger.sock"), hooks);
+  try {
+    assert.deepEqual(await once(hooks), { said: "100n\n", status: 0, signal: null });
+    hooks.kills = true;
+    assert.deepEqual(await once(hooks), { said: "", status: null, signal: "SIGKILL" });
+    hooks.kill = hooks.kills = undefined;
+    assert.deepEqual(await once(hooks), { said: "300n\n", status: 0, signal: null });
+  } finally {
+    server.close();
+    process.removeAllListeners("exit");
+    process.kill();
+  }
+});

@@ -1,0 +1,135 @@
+"use strict";
+
+const assert = require("node:assert/strict");
+const { mkdtempSync, readFileSync, readdirSync, rmSync, utimesSync, writeFileSync } =
+  require("node:fs");
+const net = require("node:net");
+const { tmpdir } = require("node:os");
+const path = require("node:path");
+const { after, test } = require("node:test");
+
+const tb = require("../index.js");
+
+const folder = mkdtempSync(path.join(tmpdir(), "tb-client-"));
+const servers = [];
+after(() => {
+  for (const it of servers) it.close();
+  rmSync(folder, { recursive: true });
+});
+
+/** A server at a Unix socket, and what it does with each connection. */
+async function listening(name, serve) {
+  const place = path.join(folder, name);
+  const server = net.createServer(serve);
+  servers.push(server);
+  await new Promise((resolve) => server.listen(place, resolve));
+  return place;
+}
+
+/** Answers each request, which is a header alone or a look-up of one id. */
+function answers(it, pieces = 1) {
+  it.on("error", () => {});
+  it.on("data", (frame) => {
+    const reply = Buffer.alloc(48);
+    frame.copy(reply, 0, 0, 29);
+    const session = frame.readBigUInt64LE(16) || 1n;
+    reply.writeBigUInt64LE(session, 16);
+    reply.writeBigUInt64LE(frame[28] === 2 ? session : session + 1n, 36);
+    const size = 48 / pieces;
+    for (let at = 0; at < 48; at += size) it.write(reply.subarray(at, at + size));
+  });
+}
+
+test("requests over a Unix socket, on one connection", async () => {
+  let count = 0;
+  const place = await listening("one.sock", (it) => {
+    count += 1;
+    answers(it, 48);
+  });
+  const session = await tb.Session.register(new tb.Socket(place));
+  for (let at = 0; at < 5; at += 1) assert.deepEqual(await session.lookupAccounts([1n]), []);
+  assert.deepEqual([count, session.number], [1, 5]);
+  session.close();
+  await assert.rejects(session.lookupAccounts([1n]), tb.Closed);
+  assert.equal(session.inDoubt, null);
+});
+
+test("close ends a call in flight: ReplyLost, and the request stays in doubt", async () => {
+  const place = await listening("silent.sock", (it) => it.on("data", () => session.close()));
+  const saved = { client: 7n, session: 1n, number: 0, pending: "" };
+  const session = tb.Session.resumed(new tb.Socket(place), saved);
+  await assert.rejects(session.lookupAccounts([1n]), { name: "ReplyLost", sent: true });
+  assert.equal(session.inDoubt.number, 1);
+});
+
+test("close ends a call that connects: nothing was sent", async () => {
+  const socket = new tb.Socket(path.join(folder, "none.sock"), { timeout: 60_000 });
+  const call = tb.Session.register(socket);
+  setTimeout(() => socket.close(), 30);
+  await assert.rejects(call, { name: "Closed", sent: false });
+});
+
+test("nobody listens: CannotConnect, with the system's error", async () => {
+  const socket = new tb.Socket(path.join(folder, "none.sock"), { timeout: 50 });
+  await assert.rejects(tb.Session.register(socket), (error) => {
+    assert.ok(error instanceof tb.CannotConnect);
+    assert.equal(error.cause.code, "ENOENT");
+    return true;
+  });
+});
+
+test("a flood while nothing is asked ends the connection, and the next call makes another", async () => {
+  let count = 0;
+  const place = await listening("flood.sock", (it) => {
+    count += 1;
+    answers(it);
+    if (count === 1) it.on("data", () => setTimeout(() => it.write(Buffer.alloc(1 << 16)), 5));
+  });
+  const session = await tb.Session.register(new tb.Socket(place), { attempts: 1 });
+  await new Promise((resolve) => setTimeout(resolve, 40));
+  assert.deepEqual(await session.lookupAccounts([1n]), []);
+  assert.equal(count, 2);
+  session.close();
+});
+
+test("wrong addresses and options", () => {
+  const wrong = [
+    [[7], "address"],
+    [["a\0b"], "address"],
+    [[[]], "address"],
+    [[{ host: "h", port: 0 }], "port"],
+    [[{ host: "", port: 1 }], "host"],
+    [["x.sock", { timeout: NaN }], "timeout"],
+    [["x.sock", { tls: {} }], "tls"],
+    [["x.sock", 5], "options"],
+  ];
+  for (const [words, field] of wrong) {
+    assert.throws(() => new tb.Socket(...words), (error) => {
+      assert.ok(error instanceof tb.Invalid);
+      assert.match(error.field, new RegExp(`\\b${field}$`));
+      return true;
+    });
+  }
+});
+
+test("saves at once leave the last one whole, and nothing beside it", async () => {
+  const place = path.join(folder, "session.json");
+  const left = `${place}.1-0123456789abcdef.new`;
+  writeFileSync(left, "what a crash left");
+  utimesSync(left, 0, 0);
+  const saved = { client: 7n, session: 1n, number: 0, pending: "" };
+  const session = tb.Session.resumed({ exchange() {} }, saved);
+  const saves = [session.save(place), session.save(place)];
+  session.prepare("lookup_accounts", [1n]);
+  saves.push(session.save(place));
+  await Promise.all(saves);
+  assert.equal(tb.decodeSaved(readFileSync(place, "ascii")).pending, session.saved.pending);
+  assert.deepEqual(readdirSync(folder).filter((it) => it.startsWith("session.json")), [
+    "session.json",
+  ]);
+  await assert.rejects(session.save(path.join(folder, "none", "x")), { code: "ENOENT" });
+  await assert.rejects(session.save(folder), { name: "InvalidValue", field: "path" });
+  await assert.rejects(session.save(""), { name: "InvalidValue", field: "path" });
+  const again = await tb.Session.load({ exchange() {} }, place);
+  assert.deepEqual(again.saved, session.saved);
+});
