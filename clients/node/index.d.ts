@@ -268,7 +268,10 @@ export declare class Session {
    */
   retry(options?: CallOptions): Promise<Said>;
 
-  /** Keeps `saved` in a file, whole: after a crash it has the session as it is now or was before. */
+  /**
+   * Keeps `saved` in a file, whole: after a crash the file has it as it is now or as it was
+   * before.
+   */
   save(path: string): Promise<void>;
   /** Closes the transport. */
   close(): void;

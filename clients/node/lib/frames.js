@@ -25,8 +25,21 @@ function placesOf(layout) {
   return Object.fromEntries(LAYOUTS[layout].map((it) => [it.name, it.at]));
 }
 
+/** The places of a header that no field has: their bytes are 0. */
+function gapsOf(layout) {
+  const isField = (place) =>
+    LAYOUTS[layout].some((it) => place >= it.at && place < it.at + it.bytes);
+  return Array.from({ length: HEADER_SIZE }, (_, place) => place).filter((it) => !isField(it));
+}
+
 const REQUEST = placesOf("request_header");
 const REPLY = placesOf("reply_header");
+const REQUEST_GAPS = gapsOf("request_header");
+const REPLY_GAPS = gapsOf("reply_header");
+// what a reply repeats of its request; the session of a register is new
+const REPEATED = LAYOUTS.reply_header.filter((it) =>
+  ["client", "session", "request", "operation"].includes(it.name),
+);
 const RESULT = placesOf("result");
 const STATUS_MAX = Math.max(...Object.values(Status));
 const NAMES = new Map(Object.entries(Operation).map(([name, number]) => [number, name]));
@@ -112,7 +125,7 @@ function requestFault(frame) {
   const size = REQUEST_ITEM_SIZES[operation];
   if (isZero(frame, REQUEST.client, ID_SIZE)) return "ClientZero";
   if (!isRegister && size === undefined) return "UnknownOperation";
-  if (!isZero(frame, 29, 3) || !isZero(frame, 36, 12)) return "Reserved";
+  if (REQUEST_GAPS.some((place) => frame[place] !== 0)) return "Reserved";
   if (isRegister && (session !== 0n || request !== 0)) return "RegisterNumbers";
   if (!isRegister && request === 0) return "RequestZero";
   if (isRegister ? length !== 0 : length % size !== 0) return "BadLength";
@@ -186,7 +199,7 @@ function replyFault(header) {
   const size = REPLY_ITEM_SIZES[operation];
   if (isZero(header, REPLY.client, ID_SIZE)) return "ClientZero";
   if (!isRegister && size === undefined) return "UnknownOperation";
-  if (status > STATUS_MAX || !isZero(header, 30, 2) || !isZero(header, 44, 4)) return "Reserved";
+  if (status > STATUS_MAX || REPLY_GAPS.some((place) => header[place] !== 0)) return "Reserved";
   if (isRegister && (request !== 0 || (isRefusal && !isZero(header, REPLY.session, 8)))) {
     return "RegisterNumbers";
   }
@@ -208,9 +221,10 @@ function testReply(header) {
 /** Throws BadReply where the header of a reply, which has no fault, is not of this request. */
 function testAsked(frame, header) {
   const isRegister = header.readUInt8(REPLY.operation) === Operation.register;
-  const sameSession = isRegister || header.compare(frame, 16, 24, 16, 24) === 0;
-  if (sameSession && !header.compare(frame, 0, 16, 0, 16) && !header.compare(frame, 24, 29, 24, 29))
-    return;
+  const isSame = ({ name, at, bytes }) =>
+    (isRegister && name === "session") ||
+    header.compare(frame, REQUEST[name], REQUEST[name] + bytes, at, at + bytes) === 0;
+  if (REPEATED.every(isSame)) return;
   const request = frame.readUInt32LE(REQUEST.request);
   throw new BadReply(
     `a reply to request ${header.readUInt32LE(REPLY.request)} of client ` +
@@ -233,7 +247,8 @@ function answerOf(reply) {
 function saidBy(frame, reply) {
   const operation = frame.readUInt8(REQUEST.operation);
   if (operation === Operation.register) return undefined;
-  return isCreate(operation) ? resultsOf(frame, reply, operation) : foundBy(frame, reply, operation);
+  const read = isCreate(operation) ? resultsOf : foundBy;
+  return read(frame, reply, operation);
 }
 
 /** Results are of events that failed, in the order of the events. */

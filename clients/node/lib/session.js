@@ -22,9 +22,19 @@ const { decodeSaved, encodeSaved, readText, writeWhole } = require("./files.js")
 const frames = require("./frames.js");
 const { id } = require("./ids.js");
 const { Turns, limited, paused, testLimit } = require("./limits.js");
-const values = require("./values.js");
-
-const { U32, U64, U128, kindOf, listed, milliseconds, narrow, optionsOf, pathOf, wide } = values;
+const {
+  U32,
+  U64,
+  U128,
+  bytesOf,
+  kindOf,
+  listed,
+  milliseconds,
+  narrow,
+  optionsOf,
+  pathOf,
+  wide,
+} = require("./values.js");
 
 const ATTEMPTS = 5;
 // milliseconds, before a request is sent again where the server said to come later; doubled each
@@ -345,7 +355,8 @@ class Session {
    * behind it. A refusal leaves it in doubt, since it may have been executed before.
    */
   #take(frame, data) {
-    const reply = Buffer.from(data.buffer, data.byteOffset, data.byteLength);
+    if (!(data instanceof Uint8Array)) throw new BadReply("what came are no bytes");
+    const reply = bytesOf("reply", data);
     frames.testReply(reply);
     frames.testAsked(frame, reply);
     if (reply.length !== frames.replyLength(reply)) throw new BadReply("the reply is cut");

@@ -16,11 +16,12 @@ const {
 } = require("./errors.js");
 const { replyLength, testAsked, testReply, testRequest } = require("./frames.js");
 const { Turns, onAbort, paused, testLimit } = require("./limits.js");
-const { kindOf, milliseconds, narrow, optionsOf, pathOf } = require("./values.js");
+const { bytesOf, kindOf, milliseconds, narrow, optionsOf, pathOf } = require("./values.js");
 
 const TIMEOUT = 5000; // milliseconds
 const FIRST_PAUSE = 20; // milliseconds, before the server is called again; doubled each time
 const LAST_PAUSE = 500;
+const CLOSED = "this Socket was closed";
 // begins what a server says before it closes a connection: fewer bytes than a frame has
 const TOLD = "tb_listen: ";
 
@@ -151,20 +152,24 @@ function begun(address, secure) {
   return tls.connect({ rejectUnauthorized: true, ...name, ...secure, ...place });
 }
 
-/** A new connection to an address, within so many milliseconds. */
-function call(address, secure, ms, signal) {
+/**
+ * A new connection to an address, within so many milliseconds. `hold` is given what ends the call
+ * before that.
+ */
+function call(address, secure, ms, signal, hold) {
   return new Promise((resolve, reject) => {
     const it = begun(address, secure);
     let off = () => {};
+    let isOver = false;
     const end = (fault) => {
+      if (isOver) return;
+      isOver = true;
       clearTimeout(timer);
       off();
-      it.removeListener("error", end);
       if (fault === undefined) {
         resolve(new Connection(it));
         return;
       }
-      it.on("error", () => {});
       it.destroy();
       reject(fault);
     };
@@ -176,6 +181,7 @@ function call(address, secure, ms, signal) {
       end(fault);
     });
     off = onAbort(signal, () => end(new Cancelled(false, signal.reason)));
+    hold(end);
   });
 }
 
@@ -227,6 +233,7 @@ class Socket {
   #timeout;
   #secure;
   #connection;
+  #endCall; // ends the connecting
   #isClosed = false;
   #turns = new Turns();
 
@@ -246,7 +253,8 @@ class Socket {
 
   /** Sends the frame of a request, and answers the frame of the reply to it. */
   async exchange(frame, options) {
-    testRequest(frame);
+    const request = bytesOf("frame", frame);
+    testRequest(request);
     const signal = options?.signal;
     await this.#turns.take(signal);
     try {
@@ -254,7 +262,7 @@ class Socket {
       const deadline = performance.now() + this.#timeout;
       const connection = await this.#connected(deadline, signal);
       try {
-        return await connection.ask(frame, deadline - performance.now(), signal);
+        return await connection.ask(request, deadline - performance.now(), signal);
       } catch (fault) {
         this.#lose();
         throw fault;
@@ -267,12 +275,13 @@ class Socket {
   /** Closes the connection, at once: an exchange in flight is ReplyLost. Later ones are Closed. */
   close() {
     this.#isClosed = true;
+    this.#endCall?.(new Closed(CLOSED));
     this.#connection?.close();
     this.#connection = undefined;
   }
 
   #testOpen() {
-    if (this.#isClosed) throw new Closed("this Socket was closed");
+    if (this.#isClosed) throw new Closed(CLOSED);
   }
 
   /** The connection, made anew where there is none, or where the server closed it since. */
@@ -306,7 +315,10 @@ class Socket {
       try {
         // of the time, so that one that does not answer leaves some
         const share = (deadline - performance.now()) / left;
-        const connection = await call(this.address, this.#secure, share, signal);
+        const hold = (end) => {
+          this.#endCall = end;
+        };
+        const connection = await call(this.address, this.#secure, share, signal, hold);
         await news(); // a server that takes no more says so at once
         if (this.#isClosed) connection.close();
         this.#testOpen();

@@ -70,6 +70,14 @@ function listed(name, items, most = Infinity) {
   return items;
 }
 
+/** Bytes, as a Buffer over the same memory. */
+function bytesOf(field, data) {
+  if (!(data instanceof Uint8Array)) {
+    throw new InvalidType(field, `must be a Uint8Array, not ${kindOf(data)}`);
+  }
+  return Buffer.from(data.buffer, data.byteOffset, data.byteLength);
+}
+
 /** A path that the system can take. */
 function pathOf(field, path) {
   if (typeof path !== "string") {
@@ -93,6 +101,7 @@ module.exports = {
   U32,
   U64,
   U128,
+  bytesOf,
   kindOf,
   listed,
   milliseconds,

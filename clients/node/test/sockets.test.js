@@ -78,7 +78,7 @@ test("nobody listens: CannotConnect, with the system's error", async () => {
   });
 });
 
-test("a flood while nothing is asked ends the connection, and the next call makes another", async () => {
+test("a flood while nothing is asked ends the connection: the next call makes one", async () => {
   let count = 0;
   const place = await listening("flood.sock", (it) => {
     count += 1;

@@ -188,7 +188,7 @@ test("the items are those of the call, however they change while it waits", asyn
   assert.equal(transport.sent[1].slice(96, 98), "01");
 });
 
-test("a caller's limit ends a call that waits for its turn, and nothing of it is sent", async () => {
+test("a caller's limit ends a call that waits for its turn: nothing is sent", async () => {
   const held = {};
   const transport = direct((frame) => new Promise((resolve) => {
     held.answer = () => resolve(reply(frame));

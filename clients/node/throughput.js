@@ -1,0 +1,181 @@
+#!/usr/bin/env node
+"use strict";
+
+// Requests and transfers in a second, by this client and by the one in Python.
+//
+//     node throughput.js [SERVER [WORD ..]]
+//
+// SERVER is tbd, or another program of its words, behind the listener. Where none is given a
+// program answers each request at once and keeps nothing: the figures are of the clients alone.
+// Each figure is of one run, whose load on the machine is printed with it. In brackets:
+// microseconds of the client's own CPU for each.
+
+const { spawn, spawnSync } = require("node:child_process");
+const { mkdtempSync, rmSync } = require("node:fs");
+const net = require("node:net");
+const { cpus, loadavg, tmpdir } = require("node:os");
+const path = require("node:path");
+const { performance } = require("node:perf_hooks");
+
+const tb = require("./index.js");
+const { HEADER_SIZE, LAYOUTS } = require("./names.js");
+
+const PYTHON = path.join(__dirname, "..", "python");
+const SINGLES = 4800; // requests of one transfer each
+const CONNECTIONS = 24;
+const BATCHES = 10;
+const ANSWER = "--answer";
+
+const IN_PYTHON = `
+import sys, threading, time
+import tb_client as tb
+place, singles, connections, batches = sys.argv[1], *map(int, sys.argv[2:])
+def sale():
+    return tb.Transfer(tb.id(), 1, 2, 1, ledger=700, code=10)
+def some(count):
+    with tb.Session.register(tb.Socket(place)) as session:
+        for _ in range(count):
+            tb.require_ok(session.create_transfers([sale()]))
+def measured(count, call):
+    began, used = time.monotonic(), time.process_time()
+    call()
+    each = (time.process_time() - used) / count * 1e6
+    print(round(count / (time.monotonic() - began)), round(each, 1))
+def all_at_once():
+    each = (singles // connections,)
+    threads = [threading.Thread(target=some, args=each) for _ in range(connections)]
+    for it in threads: it.start()
+    for it in threads: it.join()
+def batched():
+    with tb.Session.register(tb.Socket(place, timeout=60)) as session:
+        for _ in range(batches):
+            tb.require_ok(session.create_transfers([sale() for _ in range(tb.ITEMS_MAX)]))
+some(100)
+measured(singles, lambda: some(singles))
+measured(singles, all_at_once)
+measured(batches * tb.ITEMS_MAX, batched)
+`;
+
+function sale() {
+  const accounts = { debit_account_id: 1n, credit_account_id: 2n };
+  return { id: tb.id(), ...accounts, amount: 1n, ledger: 700, code: 10 };
+}
+
+async function some(place, count) {
+  const session = await tb.Session.register(new tb.Socket(place));
+  for (let at = 0; at < count; at += 1) tb.requireOk(await session.createTransfers([sale()]));
+  session.close();
+}
+
+async function batched(place) {
+  const session = await tb.Session.register(new tb.Socket(place, { timeout: 60_000 }));
+  for (let at = 0; at < BATCHES; at += 1) {
+    const sales = Array.from({ length: tb.ITEMS_MAX }, sale);
+    tb.requireOk(await session.createTransfers(sales));
+  }
+  session.close();
+}
+
+async function measured(count, call) {
+  const began = performance.now();
+  const used = process.cpuUsage();
+  await call();
+  const { user, system } = process.cpuUsage(used);
+  return [Math.round((1000 * count) / (performance.now() - began)), (user + system) / count];
+}
+
+async function here(place) {
+  await some(place, 100);
+  const each = SINGLES / CONNECTIONS;
+  const atOnce = () => Promise.all(Array.from({ length: CONNECTIONS }, () => some(place, each)));
+  return [
+    await measured(SINGLES, () => some(place, SINGLES)),
+    await measured(SINGLES, atOnce),
+    await measured(BATCHES * tb.ITEMS_MAX, () => batched(place)),
+  ];
+}
+
+function inPython(place) {
+  const counts = [SINGLES, CONNECTIONS, BATCHES].map(String);
+  const env = { ...process.env, PYTHONPATH: PYTHON };
+  const words = ["-B", "-c", IN_PYTHON, place, ...counts];
+  const ran = spawnSync("python3", words, { env, encoding: "utf8" });
+  if (ran.status !== 0) throw new Error(ran.stderr);
+  const lines = ran.stdout.trim().split("\n");
+  return lines.map((it) => it.split(" ").map(Number));
+}
+
+/** The reply to a request at once: each register has a session of its own, and no event fails. */
+function replyTo(frame, sessions) {
+  const at = Object.fromEntries(LAYOUTS.reply_header.map((it) => [it.name, it.at]));
+  const reply = Buffer.alloc(HEADER_SIZE);
+  frame.copy(reply, 0, 0, at.status);
+  const isRegister = frame[at.operation] === tb.Operation.register;
+  const session = isRegister ? BigInt(sessions.push(0)) : frame.readBigUInt64LE(at.session);
+  reply.writeBigUInt64LE(session, at.session);
+  reply.writeBigUInt64LE(isRegister ? session : session + 1n, at.commit);
+  return reply;
+}
+
+function answer(place) {
+  const sessions = [];
+  const length = LAYOUTS.request_header.find((it) => it.name === "length").at;
+  const serve = (it) => {
+    let said = [];
+    it.on("error", () => {});
+    it.on("data", (data) => {
+      said.push(data);
+      const size = said.reduce((all, part) => all + part.length, 0);
+      const first = said[0];
+      if (size < HEADER_SIZE || size < HEADER_SIZE + first.readUInt32LE(length)) return;
+      said = [];
+      it.write(replyTo(first, sessions));
+    });
+  };
+  net.createServer(serve).listen(place, () => console.error("listens on it"));
+}
+
+async function listening(folder, place) {
+  const server = process.argv.slice(2);
+  const listener = ["-B", path.join(PYTHON, "tb_listen.py"), "--unix", place, "--", ...server];
+  const words = server.length
+    ? ["python3", ...listener, "run", "ledger.journal", "64"]
+    : [process.execPath, __filename, ANSWER, place];
+  const options = { cwd: folder, stdio: ["ignore", "ignore", "pipe"] };
+  const it = spawn(words[0], words.slice(1), options);
+  await new Promise((resolve, reject) => {
+    it.stderr.on("data", (said) => String(said).includes("listens on") && resolve());
+    it.on("exit", () => reject(new Error("the listener ended")));
+  });
+  it.removeAllListeners("exit");
+  return it;
+}
+
+function row(name, figures) {
+  const load = loadavg()[0].toFixed(1);
+  const shown = figures.map(([rate, used]) => `${rate.toLocaleString("en")} (${used.toFixed(1)})`);
+  return `| ${name} | ${shown.join(" | ")} | ${load} |`;
+}
+
+async function main() {
+  const folder = mkdtempSync(path.join(tmpdir(), "tb-throughput-"));
+  const place = path.join(folder, "ledger.sock");
+  const listener = await listening(folder, place);
+  try {
+    const session = await tb.Session.register(new tb.Socket(place));
+    await session.createAccounts([1n, 2n].map((id) => ({ id, ledger: 700, code: 10 })));
+    session.close();
+    const of = `load of ${cpus().length} cores`;
+    console.log(`| | 1 connection, requests/s | ${CONNECTIONS} connections, requests/s ` +
+      `| batches of ${tb.ITEMS_MAX}, transfers/s | ${of} |\n|---|---|---|---|---|`);
+    console.log(row(`Node ${process.versions.node}`, await here(place)));
+    console.log(row("Python", inPython(place)));
+    console.log(row(`Node ${process.versions.node}, again`, await here(place)));
+  } finally {
+    listener.kill();
+    rmSync(folder, { recursive: true });
+  }
+}
+
+if (process.argv[2] === ANSWER) answer(process.argv[3]);
+else main();

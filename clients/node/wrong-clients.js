@@ -1,0 +1,257 @@
+#!/usr/bin/env node
+"use strict";
+
+// Sees that the kit catches wrong clients: this client with one thing wrong, each in turn.
+//
+//     node wrong-clients.js [PATTERN]
+//
+// Each wrong client is an edit in a copy. The kit has to fail for it; the client as it is has to
+// pass. Prints which scenario caught it, and 'N of M wrong clients are caught'. Status 1 where one
+// is not.
+
+const { spawnSync } = require("node:child_process");
+const { cpSync, mkdtempSync, readFileSync, rmSync, writeFileSync } = require("node:fs");
+const { tmpdir } = require("node:os");
+const path = require("node:path");
+
+const KIT = path.join(__dirname, "..", "conformance", "kit.py");
+const COPIED = ["index.js", "names.js", "lib", "conformance-runner.js"];
+
+const ONCE = "    const frame = this.#pending;\n";
+const REFUSED = "      throw this.#refused;\n";
+const BEGIN = "    this.#pending = frame;\n";
+const NUMBER = "this.#pending.readUInt32LE(24)";
+
+// Each: what is wrong, the file, the text that stands there once, and the text in its place.
+const WRONG = {
+  "a new number for each retry": [
+    "lib/session.js",
+    ONCE,
+    `    if (wasSent) this.#pending.writeUInt32LE(${NUMBER} + 1, 24);\n${ONCE}`,
+  ],
+  "a new id of the record for each retry": [
+    "lib/session.js",
+    ONCE,
+    `    if (wasSent && this.#pending[28] === 130) this.#pending[48] += 1;\n${ONCE}`,
+  ],
+  "a new client for each retry of a register": [
+    "lib/session.js",
+    ONCE,
+    `    if (wasSent && this.#pending[28] === 2) this.#pending[0] += 1;\n${ONCE}`,
+  ],
+  "the next number before the reply": [
+    "lib/session.js",
+    BEGIN,
+    `${BEGIN}    if (!isRegister) this.#number += 1;\n`,
+  ],
+  "another request while one is in doubt": [
+    "lib/session.js",
+    "    if (this.#pending === undefined) return;\n    const refusal",
+    "    if (this.#pending !== null) return;\n    const refusal",
+  ],
+  "a refusal is taken for an answer": [
+    "lib/session.js",
+    REFUSED,
+    "      this.#number = asked.request;\n      this.#pending = undefined;\n      return [];\n",
+  ],
+  "a refusal ends the doubt": [
+    "lib/session.js",
+    REFUSED,
+    `      this.#pending = undefined;\n${REFUSED}`,
+  ],
+  "each refusal is sent again": [
+    "lib/session.js",
+    "!(why instanceof ReplyLost || why instanceof NotYet)",
+    "!(why instanceof ReplyLost || why.status)",
+  ],
+  "a lost reply ends the doubt": [
+    "lib/session.js",
+    "        if (left <= 1 ||",
+    "        if (left <= 1) this.#pending = undefined;\n        if (left <= 1 ||",
+  ],
+  "one sending more than was asked for": ["lib/session.js", "left <= 1 ||", "left <= 0 ||"],
+  "no pause where the server is busy": [
+    "lib/session.js",
+    "why instanceof Busy || why instanceof NotYet)",
+    "why instanceof NotYet)",
+  ],
+  "pauses that do not grow": ["lib/session.js", "Math.min(2 * pause, most)", "pause"],
+  "what was never sent stays in doubt": [
+    "lib/session.js",
+    "if (why instanceof ClientError && !why.sent && !this.#mayBeSent) {",
+    "if (false) {",
+  ],
+  "lost, then nobody listens, is told as not sent": [
+    "lib/session.js",
+    "if (last === undefined) throw why;",
+    "throw why;",
+  ],
+  "calls at once that do not wait": [
+    "lib/session.js",
+    "    await this.#turns.take(signal);\n",
+    "",
+  ],
+  "any reply will do": [
+    "lib/frames.js",
+    "  const isRegister = header.readUInt8(REPLY.operation) === Operation.register;\n",
+    "  if (header.length > 0) return;\n  const isRegister = false;\n",
+  ],
+  "no look at the reply's numbers": [
+    "lib/frames.js",
+    'if (!areNumbers(header, isRegister, isRefusal)) return "ReplyNumbers";',
+    "",
+  ],
+  "records are not compared with the ids": [
+    "lib/frames.js",
+    "    if (asked >= frame.length) {",
+    "    if (asked > 1e9) {",
+  ],
+  "results of events that were not sent": [
+    "lib/frames.js",
+    "    if (index >= count)",
+    "    if (index > 1e9)",
+  ],
+  "a late reply is waited for on the old connection": [
+    "lib/socket.js",
+    "        this.#lose();\n        throw fault;",
+    '        if (!fault.message.startsWith("no reply")) this.#lose();\n        throw fault;',
+  ],
+  "a connection that was closed is not looked at": [
+    "lib/socket.js",
+    "    if (this.#connection?.isLeft) this.#lose();\n",
+    "",
+  ],
+  "always the first address": [
+    "lib/socket.js",
+    "    this.#at = (this.#at + 1) % this.#addresses.length;\n",
+    "    this.#at = 0;\n",
+  ],
+  "two requests in flight on a connection": [
+    "lib/limits.js",
+    "    if (!this.#isTaken) {",
+    "    if (this.#isTaken !== undefined) {",
+  ],
+  "TLS without a look at the certificate": [
+    "lib/socket.js",
+    "rejectUnauthorized: true",
+    "rejectUnauthorized: false",
+  ],
+  "the caller's limit is passed over": [
+    "lib/limits.js",
+    "controller.abort(new Error(`${within} ms went by`))",
+    "undefined",
+  ],
+  "a limit that ends the doubt": [
+    "lib/session.js",
+    "        if (why instanceof Cancelled) throw why;",
+    "        if (why instanceof Cancelled) {\n          this.#pending = undefined;\n" +
+      "          throw why;\n        }",
+  ],
+  "a file is written over": [
+    "lib/files.js",
+    "      await fs.rename(beside, name);",
+    '      await fs.writeFile(name, text);\n      throw Object.assign(new Error(), { code: "" });',
+  ],
+  "a file forgets the request in doubt": [
+    "lib/files.js",
+    '"pending": "${pending}"',
+    '"pending": ""',
+  ],
+  "two fields of one name: the last one counts": [
+    "lib/json.js",
+    "      if (found.has(name)) throw",
+    "      if (found.size > 99) throw",
+  ],
+  "numbers of a file are doubles": [
+    "lib/json.js",
+    "    return BigInt(text.slice(0, DIGITS_MAX));",
+    "    return BigInt(Number(text));",
+  ],
+  "bytes of another session are loaded": [
+    "lib/session.js",
+    "if (asked.client !== client || asked.session !== session || asked.request !== next) {",
+    "if (asked.client !== client) {",
+  ],
+  "an amount is a double": [
+    "lib/values.js",
+    '  if (typeof value !== "bigint") {\n    throw',
+    '  if (typeof value === "number") return BigInt(Math.round(value));\n' +
+      '  if (typeof value !== "bigint") {\n    throw',
+    "lib/records.js",
+    "    wide(name, value, field.most);\n",
+    "    value = wide(name, value, field.most);\n",
+  ],
+  "what is null is 0": [
+    "lib/records.js",
+    "    if (value === undefined && !(field.name in item)) continue;",
+    "    if (value === undefined || value === null) continue;",
+  ],
+  "8191 items": ["names.js", "const ITEMS_MAX = 8190;", "const ITEMS_MAX = 8191;"],
+  "ledger and code change places": [
+    "lib/records.js",
+    "...it, most: MOST[it.bytes] }));",
+    "...it, at: it.name === 'ledger' ? 114 : it.name === 'code' ? 112 : it.at, " +
+      "most: MOST[it.bytes] }));",
+  ],
+  "ids follow the clock back": [
+    "lib/ids.js",
+    "if (now > this.#millisecond) {",
+    "if (now !== this.#millisecond) {",
+  ],
+  "ids of one millisecond are drawn anew": [
+    "lib/ids.js",
+    "      this.#random += 1n;",
+    "      this.#random = numberOf(randomBytes(10));",
+  ],
+};
+
+/** A copy of the client with texts in place of others. */
+function edited(folder, edits) {
+  for (const it of COPIED) {
+    cpSync(path.join(__dirname, it), path.join(folder, it), { recursive: true });
+  }
+  for (let at = 0; at < edits.length; at += 3) {
+    const [name, old, text] = edits.slice(at, at + 3);
+    const place = path.join(folder, name);
+    const parts = readFileSync(place, "utf8").split(old);
+    if (parts.length !== 2) throw new Error(`${name} has ${parts.length - 1} times: ${old}`);
+    writeFileSync(place, parts.join(text));
+  }
+}
+
+/** The kit's status for an edited client, and the scenario that failed first. */
+function caught(edits) {
+  const folder = mkdtempSync(path.join(tmpdir(), "tb-wrong-"));
+  try {
+    edited(folder, edits);
+    const runner = ["node", path.join(folder, "conformance-runner.js")];
+    const words = ["-B", KIT, "--first", "--jobs", "1", "--", ...runner];
+    const ran = spawnSync("python3", words, { encoding: "utf8" });
+    const first = /^FAILED: ([^:]+): (.*)/m.exec(ran.stdout);
+    const said = first ? `${first[1]}: ${first[2].slice(0, 90)}` : ran.stdout + ran.stderr;
+    return { status: ran.status, said };
+  } finally {
+    rmSync(folder, { recursive: true });
+  }
+}
+
+function main() {
+  const pattern = process.argv[2] ?? "";
+  const chosen = Object.entries(WRONG).filter(([name]) => name.includes(pattern));
+  const asItIs = caught([]);
+  if (asItIs.status !== 0) {
+    console.log(`FAILED: the client as it is: ${asItIs.said}`);
+    return 1;
+  }
+  let missed = 0;
+  for (const [name, edits] of chosen) {
+    const { status, said } = caught(edits);
+    missed += status === 1 ? 0 : 1;
+    const how = status === 1 ? `caught: ${name}: by` : `FAILED: not caught: ${name}:`;
+    console.log(`${how} ${said.trim()}`);
+  }
+  console.log(`${chosen.length - missed} of ${chosen.length} wrong clients are caught`);
+  return missed === 0 ? 0 : 1;
+}
+
+process.exitCode = main();
