@@ -150,7 +150,7 @@ const WRONG = {
   "a file is written over": [
     "lib/files.js",
     "      await fs.rename(beside, name);",
-    '      await fs.writeFile(name, text);\n      throw Object.assign(new Error(), { code: "" });',
+    "      await fs.writeFile(name, text);\n      await fs.rm(beside);",
   ],
   "a file forgets the request in doubt": [
     "lib/files.js",
