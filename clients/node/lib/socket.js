@@ -173,8 +173,8 @@ function call(address, secure, ms, signal, hold) {
       it.destroy();
       reject(fault);
     };
-    const late = () => end(new Error(`no connection within ${Math.ceil(ms)} ms`));
-    const timer = setTimeout(late, Math.max(Math.ceil(ms), 1));
+    const most = Math.max(Math.ceil(ms), 1);
+    const timer = setTimeout(() => end(new Error(`no connection within ${most} ms`)), most);
     it.once(it instanceof tls.TLSSocket ? "secureConnect" : "connect", () => end(undefined));
     it.on("error", (fault) => {
       if (it.authorizationError) fault.isDistrust = true;
