@@ -33,6 +33,14 @@ function news() {
 }
 
 /**
+ * Calls this after so many milliseconds, and not before what came until then is taken: a program
+ * that was busy or stopped meanwhile finds its reply there.
+ */
+function after(ms, call) {
+  return setTimeout(() => news().then(call), Math.max(Math.ceil(ms), 1));
+}
+
+/**
  * What to throw where a connection ended after these bytes: with the name that the server told,
  * where it told one.
  */
@@ -71,9 +79,10 @@ class Connection {
     this.#socket.ref();
     this.#isUsed = true;
     return new Promise((resolve, reject) => {
-      const late = () => this.#finish(new ReplyLost("no reply came in time"));
-      const timer = setTimeout(late, Math.ceil(ms));
-      const asked = { frame, need: HEADER_SIZE, resolve, reject, timer, off: () => {} };
+      const asked = { frame, need: HEADER_SIZE, resolve, reject, off: () => {} };
+      asked.timer = after(ms, () => {
+        if (this.#asked === asked) this.#finish(new ReplyLost("no reply came in time"));
+      });
       this.#asked = asked;
       if (this.#end === "") this.#socket.write(frame);
       this.#look();
@@ -173,8 +182,7 @@ function call(address, secure, ms, signal, hold) {
       it.destroy();
       reject(fault);
     };
-    const most = Math.max(Math.ceil(ms), 1);
-    const timer = setTimeout(() => end(new Error(`no connection within ${most} ms`)), most);
+    const timer = after(ms, () => end(new Error("no connection came in time")));
     it.once(it instanceof tls.TLSSocket ? "secureConnect" : "connect", () => end(undefined));
     it.on("error", (fault) => {
       if (it.authorizationError) fault.isDistrust = true;

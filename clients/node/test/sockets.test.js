@@ -1,10 +1,12 @@
 "use strict";
 
 const assert = require("node:assert/strict");
+const { spawn } = require("node:child_process");
 const { mkdtempSync, readFileSync, readdirSync, rmSync, utimesSync, writeFileSync } =
   require("node:fs");
 const net = require("node:net");
 const { tmpdir } = require("node:os");
+const { performance } = require("node:perf_hooks");
 const path = require("node:path");
 const { after, test } = require("node:test");
 
@@ -90,6 +92,26 @@ test("a flood while nothing is asked ends the connection: the next call makes on
   assert.deepEqual(await session.lookupAccounts([1n]), []);
   assert.equal(count, 2);
   session.close();
+});
+
+test("a program that is busy beyond the timeout finds the reply that came meanwhile", async () => {
+  const place = path.join(folder, "other.sock");
+  const serve = `require("node:net").createServer(${answers})
+    .listen(${JSON.stringify(place)}, () => console.log("listens"))`;
+  const server = spawn(process.execPath, ["-e", serve], { stdio: ["ignore", "pipe", "inherit"] });
+  try {
+    await new Promise((resolve) => server.stdout.once("data", resolve));
+    const socket = new tb.Socket(place, { timeout: 1000 });
+    const session = await tb.Session.register(socket, { attempts: 1 });
+    const call = session.lookupAccounts([1n]);
+    for (let turn = 0; turn < 3; turn += 1) await new Promise(setImmediate); // it is sent
+    const busy = performance.now() + 1500;
+    while (performance.now() < busy);
+    assert.deepEqual(await call, []);
+    session.close();
+  } finally {
+    server.kill();
+  }
 });
 
 test("wrong addresses and options", () => {
