@@ -17,7 +17,14 @@ public final class AccountFlags {
     /** No transfer enters the account but a void. */
     public static final int CLOSED = 32;
 
-    private static final String[] NAMES = {"linked", "debits_must_not_exceed_credits", "credits_must_not_exceed_debits", "history", "imported", "closed"};
+    private static final String[] NAMES = {
+        "linked",
+        "debits_must_not_exceed_credits",
+        "credits_must_not_exceed_debits",
+        "history",
+        "imported",
+        "closed",
+    };
 
     private AccountFlags() {}
 

@@ -3,7 +3,7 @@
 package tbclient;
 
 /** What became of an event of create_accounts. */
-public enum CreateAccountResult {
+public enum CreateAccountResult implements ResultCode {
     /** The account is recorded. */
     OK(0, "ok"),
     /** Another event of its linked chain failed. */
@@ -62,6 +62,7 @@ public enum CreateAccountResult {
      *
      * @return the number
      */
+    @Override
     public int code() {
         return code;
     }
@@ -71,6 +72,7 @@ public enum CreateAccountResult {
      *
      * @return the name
      */
+    @Override
     public String label() {
         return label;
     }

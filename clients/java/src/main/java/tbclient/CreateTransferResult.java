@@ -3,7 +3,7 @@
 package tbclient;
 
 /** What became of an event of create_transfers. */
-public enum CreateTransferResult {
+public enum CreateTransferResult implements ResultCode {
     /** The transfer is recorded. */
     OK(0, "ok"),
     /** Another event of its linked chain failed. */
@@ -138,6 +138,7 @@ public enum CreateTransferResult {
      *
      * @return the number
      */
+    @Override
     public int code() {
         return code;
     }
@@ -147,6 +148,7 @@ public enum CreateTransferResult {
      *
      * @return the name
      */
+    @Override
     public String label() {
         return label;
     }

@@ -23,7 +23,17 @@ public final class TransferFlags {
     /** Refused. */
     public static final int IMPORTED = 256;
 
-    private static final String[] NAMES = {"linked", "pending", "post_pending_transfer", "void_pending_transfer", "balancing_debit", "balancing_credit", "closing_debit", "closing_credit", "imported"};
+    private static final String[] NAMES = {
+        "linked",
+        "pending",
+        "post_pending_transfer",
+        "void_pending_transfer",
+        "balancing_debit",
+        "balancing_credit",
+        "closing_debit",
+        "closing_credit",
+        "imported",
+    };
 
     private TransferFlags() {}
 

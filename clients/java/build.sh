@@ -1,0 +1,43 @@
+#!/bin/sh
+# Builds the client by javac alone, where each warning is an error.
+#
+#     build.sh             makes out/classes, and the runner in out/test-classes
+#     build.sh test        runs the unit tests, over Debian's JUnit
+#     build.sh lint        tests the doc comments, by javadoc
+#     build.sh package     makes the jars, by Maven over Debian's plugins and without a network
+set -eu
+cd "$(dirname "$0")"
+junit=/usr/share/java/junit4.jar:/usr/share/java/hamcrest-core.jar
+repository=/usr/share/maven-repo
+strictly="javac -Xlint:all -Werror --release 17 -encoding UTF-8"
+
+mkdir -p out
+case "${1:-build}" in
+build)
+    $strictly -d out/classes $(find src/main -name '*.java')
+    $strictly -cp out/classes -d out/test-classes $(find src/test -name '*.java' ! -name '*Test.java')
+    ;;
+test)
+    if [ ! -e "${junit%%:*}" ]; then
+        echo "passed over: Debian's junit4 is not there"
+        exit
+    fi
+    $strictly -cp "out/classes:$junit" -d out/test-classes $(find src/test -name '*.java')
+    java -ea -cp "out/classes:out/test-classes:$junit" org.junit.runner.JUnitCore \
+        $(find src/test -name '*Test.java' | sed 's,src/test/java/,,; s,/,.,g; s,\.java$,,' | sort)
+    ;;
+lint)
+    javadoc -quiet -Xdoclint:all -Werror -d out/apidocs $(find src/main -name '*.java')
+    ;;
+package)
+    if [ ! -e "$repository/org/apache/maven/plugins/maven-javadoc-plugin" ]; then
+        echo "passed over: Debian's Maven plugins are not there"
+        exit
+    fi
+    mvn -o -q -Dmaven.repo.local="$repository" package
+    ;;
+*)
+    echo "build.sh: no such word: $1" >&2
+    exit 2
+    ;;
+esac

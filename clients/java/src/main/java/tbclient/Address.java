@@ -1,0 +1,113 @@
+package tbclient;
+
+import java.io.IOException;
+import java.net.InetAddress;
+import java.net.InetSocketAddress;
+import java.net.SocketAddress;
+import java.net.UnixDomainSocketAddress;
+import java.nio.file.InvalidPathException;
+import java.nio.file.Path;
+import java.util.ArrayList;
+import java.util.List;
+
+/** Where a server listens: a Unix socket's path, or a host and a port. */
+public final class Address {
+    private static final int PORT_MAX = 65535;
+
+    private final Path path;
+    private final String host;
+    private final int port;
+
+    private Address(Path path, String host, int port) {
+        this.path = path;
+        this.host = host;
+        this.port = port;
+    }
+
+    /**
+     * A Unix socket.
+     *
+     * @param path its path
+     * @return the address
+     * @throws InvalidValueException where it is no path
+     */
+    public static Address unix(String path) {
+        try {
+            return unix(Path.of(Values.given("address", path)));
+        } catch (InvalidPathException why) {
+            throw new InvalidValueException("address", "is no path: " + why.getMessage());
+        }
+    }
+
+    /**
+     * A Unix socket.
+     *
+     * @param path its path
+     * @return the address
+     * @throws InvalidValueException where the path is empty
+     */
+    public static Address unix(Path path) {
+        if (Values.given("address", path).toString().isEmpty()) {
+            throw new InvalidValueException("address", "is no path: it is empty");
+        }
+        return new Address(path, null, 0);
+    }
+
+    /**
+     * A port of a host.
+     *
+     * @param host the host's name or number. Names are looked up at each connecting
+     * @param port the port, 1 to 65535
+     * @return the address
+     * @throws InvalidValueException where the host is empty, or there is no such port
+     */
+    public static Address tcp(String host, int port) {
+        if (Values.given("address", host).isBlank()) {
+            throw new InvalidValueException("address", "has no name of a host");
+        }
+        return new Address(null, host, (int) Values.within("port", port, 1, PORT_MAX));
+    }
+
+    boolean isUnix() {
+        return path != null;
+    }
+
+    String host() {
+        return host;
+    }
+
+    int port() {
+        return port;
+    }
+
+    /** The places to connect to, in order. */
+    List<SocketAddress> places() throws IOException {
+        List<SocketAddress> found = new ArrayList<>();
+        if (isUnix()) {
+            found.add(UnixDomainSocketAddress.of(path));
+        } else {
+            for (InetAddress it : InetAddress.getAllByName(host)) {
+                found.add(new InetSocketAddress(it, port));
+            }
+        }
+        return found;
+    }
+
+    @Override
+    public boolean equals(Object other) {
+        return other instanceof Address && toString().equals(other.toString());
+    }
+
+    @Override
+    public int hashCode() {
+        return toString().hashCode();
+    }
+
+    @Override
+    public String toString() {
+        if (isUnix()) {
+            return path.toString();
+        }
+        return (host.contains(":") ? "[" + host + "]:" : host + ":") + port;
+    }
+}

@@ -1,0 +1,10 @@
+package tbclient;
+
+/** The server has too many connections, and did not take the request: come later. */
+public final class BusyException extends ReplyLostException {
+    private static final long serialVersionUID = 1L;
+
+    BusyException(String message) {
+        super(message, "Busy", null);
+    }
+}

@@ -1,0 +1,22 @@
+package tbclient;
+
+/**
+ * The caller's own limit on a call went by, or its thread was interrupted. Where the call may have
+ * sent its request, that is in doubt.
+ */
+public final class CancelledException extends ClientException {
+    private static final long serialVersionUID = 1L;
+
+    /** Whether the request may have been sent. */
+    private final boolean sent;
+
+    CancelledException(String message, boolean sent) {
+        super(message);
+        this.sent = sent;
+    }
+
+    @Override
+    public boolean mayHaveSent() {
+        return sent;
+    }
+}

@@ -1,0 +1,287 @@
+package tbclient;
+
+import java.io.IOException;
+import java.io.InterruptedIOException;
+import java.net.SocketAddress;
+import java.net.SocketTimeoutException;
+import java.nio.ByteBuffer;
+import java.nio.charset.StandardCharsets;
+import java.security.cert.CertificateException;
+import java.security.cert.CertPathValidatorException;
+import java.time.Duration;
+import java.util.List;
+import java.util.concurrent.locks.ReentrantLock;
+import javax.net.ssl.SSLContext;
+
+/**
+ * A connection to a server that listens, at one of some addresses.
+ *
+ * <p>It is made when a request is to be sent. One that broke, that the server closed, or on which no
+ * reply came in time, is closed, and the next exchange makes a new one, to the next address where
+ * there are several. Threads and sessions may share a transport: an exchange is one thread's from its
+ * first byte to its last.
+ */
+public final class SocketTransport implements Transport {
+    /** The time that one sending may take where none is given. */
+    public static final Duration TIMEOUT = Duration.ofSeconds(5);
+
+    private static final Duration TIMEOUT_MIN = Duration.ofMillis(1);
+    private static final long FIRST_PAUSE = 20_000_000; // ns, before the servers are called again
+    private static final long LAST_PAUSE = 500_000_000;
+    private static final String TOLD = "tb_listen: "; // begins what is told before a closing
+
+    private final List<Address> addresses;
+    private final Duration timeout;
+    private final SSLContext tls;
+    private final ReentrantLock lock = new ReentrantLock(true);
+    private int at;
+    private Link link;
+    private boolean closed;
+
+    /**
+     * A transport to one address, with {@link #TIMEOUT}, without TLS.
+     *
+     * @param address where the server listens
+     */
+    public SocketTransport(Address address) {
+        this(List.of(Values.given("address", address)), TIMEOUT, null);
+    }
+
+    /**
+     * A transport to one of some addresses.
+     *
+     * @param addresses one or more; they are taken in order, the first behind the last
+     * @param timeout the time for one sending, from the connecting to the reply's last byte: 1 ms to
+     *     2^32 - 1 s
+     * @param tls how TLS is spoken with a host and a port, or null for none. The server's certificate
+     *     has to be of the host
+     * @throws InvalidValueException where there is no address, no such timeout, or TLS for a path
+     */
+    public SocketTransport(List<Address> addresses, Duration timeout, SSLContext tls) {
+        this.addresses = listed(addresses);
+        this.timeout = Values.time("timeout", timeout, TIMEOUT_MIN);
+        this.tls = tls;
+        if (tls != null && this.addresses.stream().anyMatch(Address::isUnix)) {
+            throw new InvalidValueException("tls", "is for a host and a port, not for a path");
+        }
+    }
+
+    private static List<Address> listed(List<Address> addresses) {
+        Address[] given = Values.given("address", addresses).toArray(new Address[0]);
+        if (given.length == 0) {
+            throw new InvalidValueException("address", "has no address");
+        }
+        for (Address it : given) {
+            Values.given("address", it);
+        }
+        return List.of(given);
+    }
+
+    @Override
+    public byte[] exchange(byte[] frame, Duration within) {
+        Frames.testRequest("frame", frame); // the server would close the connection at a wrong one
+        Deadline limit = Deadline.in(within);
+        limit.take(lock);
+        try {
+            if (closed) {
+                throw new ClosedException("this transport was closed");
+            }
+            Deadline until = limit.sooner(timeout.toNanos());
+            connect(until, limit);
+            return exchanged(frame, until, limit);
+        } finally {
+            lock.unlock();
+        }
+    }
+
+    private byte[] exchanged(byte[] frame, Deadline until, Deadline limit) {
+        boolean isDone = false;
+        try {
+            send(frame, until);
+            byte[] reply = reply(frame, until);
+            isDone = true;
+            return reply;
+        } catch (SocketTimeoutException late) {
+            if (limit.isOver()) {
+                throw Deadline.late(true);
+            }
+            throw new ReplyLostException("no reply within " + timeout, "", late);
+        } catch (InterruptedIOException why) {
+            throw Deadline.interrupted(true);
+        } catch (IOException why) {
+            throw new ReplyLostException("the connection broke: " + why.getMessage(), "", why);
+        } finally {
+            if (!isDone) { // a late reply is then never met
+                lose();
+            }
+        }
+    }
+
+    // Connecting
+
+    /** Makes a connection where there is none, or where the server closed it since. */
+    private void connect(Deadline until, Deadline limit) {
+        if (link != null && link.isLeft()) {
+            lose();
+        }
+        long pause = FIRST_PAUSE;
+        while (link == null) {
+            try {
+                IOException fault = callEach(until);
+                if (fault != null && (isOfCertificate(fault) || !until.sleep(pause))) {
+                    if (limit.isOver()) {
+                        throw Deadline.late(false);
+                    }
+                    String why = fault.getMessage() == null ? fault.toString() : fault.getMessage();
+                    throw new CannotConnectException(addresses.get(at) + ": " + why, fault);
+                }
+                pause = Math.min(2 * pause, LAST_PAUSE);
+            } catch (InterruptedIOException | InterruptedException why) {
+                throw Deadline.interrupted(false);
+            }
+        }
+    }
+
+    /** Calls the addresses in order until one answers: the last fault where none does, or null. */
+    private IOException callEach(Deadline until) throws InterruptedIOException {
+        IOException fault = null;
+        for (int left = addresses.size(); left > 0; left--) {
+            try {
+                link = called(addresses.get(at), until.sooner(until.left() / left));
+                return null;
+            } catch (SocketTimeoutException late) {
+                fault = late;
+            } catch (InterruptedIOException why) {
+                throw why;
+            } catch (IOException why) {
+                fault = why;
+            }
+            next();
+        }
+        return fault;
+    }
+
+    private Link called(Address address, Deadline until) throws IOException {
+        List<SocketAddress> places = address.places();
+        for (int left = places.size(); ; left--) {
+            SocketAddress place = places.get(places.size() - left);
+            try {
+                PlainLink plain = PlainLink.to(place, until.sooner(until.left() / left));
+                return tls == null ? plain : TlsLink.over(plain, tls, address, until);
+            } catch (IOException why) {
+                if (left == 1 || isOfCertificate(why)) {
+                    throw why;
+                }
+            }
+        }
+    }
+
+    /** Whether a server's certificate is why: calling it again changes nothing. */
+    private static boolean isOfCertificate(Throwable fault) {
+        for (Throwable it = fault; it != null; it = it.getCause()) {
+            if (it instanceof CertificateException || it instanceof CertPathValidatorException) {
+                return true;
+            }
+        }
+        return false;
+    }
+
+    private void next() {
+        at = (at + 1) % addresses.size();
+    }
+
+    /** Closes the connection. The next one goes to the next address. */
+    private void lose() {
+        hangUp();
+        next();
+    }
+
+    private void hangUp() {
+        Link it = link;
+        link = null;
+        if (it != null) {
+            it.close();
+        }
+    }
+
+    // One exchange
+
+    /** Sends the request. Where the server closed the connection, what it told before is read. */
+    private void send(byte[] frame, Deadline until) throws IOException {
+        try {
+            link.write(ByteBuffer.wrap(frame).asReadOnlyBuffer(), until);
+        } catch (InterruptedIOException why) {
+            throw why;
+        } catch (IOException broke) {
+            ByteBuffer said = ByteBuffer.allocate(Layout.HEADER_SIZE);
+            fill(said, until, broke);
+            throw broke;
+        }
+    }
+
+    private byte[] reply(byte[] frame, Deadline until) throws IOException {
+        ByteBuffer header = ByteBuffer.allocate(Layout.HEADER_SIZE);
+        fill(header, until, null);
+        Frames.testReply(header.array());
+        Frames.testAsked(frame, header.array());
+        int length = (int) Frames.length(header.array()); // of at most 8190 items
+        ByteBuffer whole = ByteBuffer.allocate(Layout.HEADER_SIZE + length);
+        fill(whole.put(header.array()), until, null);
+        return whole.array();
+    }
+
+    /** Reads until it is full. Where the connection ends before, what was told is told. */
+    private void fill(ByteBuffer into, Deadline until, IOException broken) throws IOException {
+        try {
+            while (into.hasRemaining()) {
+                if (!link.read(into, until)) {
+                    throw ended(into, broken);
+                }
+            }
+        } catch (InterruptedIOException why) {
+            throw why;
+        } catch (IOException why) {
+            if (told(into) != null) {
+                throw ended(into, why);
+            }
+            throw why;
+        }
+    }
+
+    /** The name that the server told before it closed the connection, or null where it told none. */
+    private static String told(ByteBuffer came) {
+        String said = new String(came.array(), 0, came.position(), StandardCharsets.ISO_8859_1);
+        return said.startsWith(TOLD) ? said.substring(TOLD.length()).strip() : null;
+    }
+
+    private static ReplyLostException ended(ByteBuffer came, IOException cause) {
+        String told = told(came);
+        if (told == null) {
+            return new ReplyLostException("the server closed the connection", "", cause);
+        }
+        String text = "the server closed the connection: " + told;
+        return told.equals("Busy")
+                ? new BusyException(text)
+                : new ReplyLostException(text, told, cause);
+    }
+
+    /**
+     * Closes the connection. Each exchange afterwards is a {@link ClosedException}; one that goes on
+     * in another thread comes to its end first.
+     */
+    @Override
+    public void close() {
+        lock.lock();
+        try {
+            closed = true;
+            hangUp();
+        } finally {
+            lock.unlock();
+        }
+    }
+
+    @Override
+    public String toString() {
+        return "SocketTransport" + addresses;
+    }
+}

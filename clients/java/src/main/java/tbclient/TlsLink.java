@@ -1,0 +1,193 @@
+package tbclient;
+
+import java.io.EOFException;
+import java.io.IOException;
+import java.nio.ByteBuffer;
+import javax.net.ssl.SSLContext;
+import javax.net.ssl.SSLEngine;
+import javax.net.ssl.SSLEngineResult;
+import javax.net.ssl.SSLEngineResult.HandshakeStatus;
+import javax.net.ssl.SSLParameters;
+
+/** A connection over TLS. The server's certificate has to be of its host. */
+final class TlsLink implements Link {
+    private static final ByteBuffer NOTHING = ByteBuffer.allocate(0);
+
+    private final PlainLink link;
+    private final SSLEngine engine;
+    private final ByteBuffer out; // what was wrapped, to be sent
+    private final ByteBuffer in; // what came, from its beginning to its position
+    private ByteBuffer plain; // what was unwrapped, to be read
+
+    private TlsLink(PlainLink link, SSLEngine engine) {
+        this.link = link;
+        this.engine = engine;
+        out = ByteBuffer.allocate(engine.getSession().getPacketBufferSize());
+        in = ByteBuffer.allocate(engine.getSession().getPacketBufferSize());
+        plain = ByteBuffer.allocate(engine.getSession().getApplicationBufferSize()).flip();
+    }
+
+    /** Agrees on TLS over a connection, which is closed where that fails. */
+    static TlsLink over(PlainLink link, SSLContext context, Address address, Deadline until)
+            throws IOException {
+        try {
+            SSLEngine engine = context.createSSLEngine(address.host(), address.port());
+            engine.setUseClientMode(true);
+            SSLParameters parameters = engine.getSSLParameters();
+            parameters.setEndpointIdentificationAlgorithm("HTTPS");
+            engine.setSSLParameters(parameters);
+            TlsLink it = new TlsLink(link, engine);
+            it.agree(until);
+            return it;
+        } catch (IOException | RuntimeException why) {
+            link.close();
+            throw why;
+        }
+    }
+
+    private void agree(Deadline until) throws IOException {
+        engine.beginHandshake();
+        try {
+            while (step(until)) {
+                continue;
+            }
+        } catch (IOException why) {
+            tell();
+            throw why;
+        }
+    }
+
+    /** One step of the agreeing. Answers whether there is another. */
+    private boolean step(Deadline until) throws IOException {
+        switch (engine.getHandshakeStatus()) {
+            case NEED_WRAP:
+                send(NOTHING.duplicate(), until);
+                return true;
+            case NEED_TASK:
+                for (Runnable it = engine.getDelegatedTask(); it != null; ) {
+                    it.run();
+                    it = engine.getDelegatedTask();
+                }
+                return true;
+            case NEED_UNWRAP:
+            case NEED_UNWRAP_AGAIN:
+                if (unwrap() == SSLEngineResult.Status.CLOSED || isCut() && !link.read(in, until)) {
+                    throw new EOFException("the connection was closed while TLS was agreed on");
+                }
+                return true;
+            default:
+                return false;
+        }
+    }
+
+    private SSLEngineResult.Status last = SSLEngineResult.Status.OK;
+
+    /** Whether the last unwrap needs more bytes. */
+    private boolean isCut() {
+        return last == SSLEngineResult.Status.BUFFER_UNDERFLOW;
+    }
+
+    /** Unwraps one record of what came, where one is there. */
+    private SSLEngineResult.Status unwrap() throws IOException {
+        in.flip();
+        plain.compact();
+        try {
+            last = engine.unwrap(in, plain).getStatus();
+        } finally {
+            plain.flip();
+            in.compact();
+        }
+        if (last == SSLEngineResult.Status.BUFFER_OVERFLOW) {
+            plain = ByteBuffer.allocate(2 * plain.capacity()).put(plain).flip();
+        }
+        return last;
+    }
+
+    /** Wraps and sends until nothing is left. */
+    private void send(ByteBuffer data, Deadline until) throws IOException {
+        do {
+            out.clear();
+            SSLEngineResult.Status status = engine.wrap(data, out).getStatus();
+            link.write(out.flip(), until);
+            if (status == SSLEngineResult.Status.CLOSED) {
+                throw new EOFException("TLS has ended");
+            }
+        } while (data.hasRemaining());
+    }
+
+    /** Does what TLS itself has to do between records. */
+    private void settle(Deadline until) throws IOException {
+        while (engine.getHandshakeStatus() == HandshakeStatus.NEED_TASK
+                || engine.getHandshakeStatus() == HandshakeStatus.NEED_WRAP
+                        && !engine.isOutboundDone()) {
+            step(until);
+        }
+    }
+
+    @Override
+    public boolean isLeft() {
+        try {
+            while (!plain.hasRemaining()) {
+                SSLEngineResult.Status status = unwrap();
+                settle(Deadline.in(java.time.Duration.ZERO));
+                if (status == SSLEngineResult.Status.CLOSED) {
+                    return true;
+                }
+                if (status == SSLEngineResult.Status.BUFFER_UNDERFLOW) {
+                    int count = link.tryRead(in); // it may be TLS's own, as a ticket
+                    if (count <= 0) {
+                        return count < 0;
+                    }
+                }
+            }
+            return true;
+        } catch (IOException broke) {
+            return true;
+        }
+    }
+
+    @Override
+    public void write(ByteBuffer data, Deadline until) throws IOException {
+        send(data, until);
+    }
+
+    @Override
+    public boolean read(ByteBuffer into, Deadline until) throws IOException {
+        while (!plain.hasRemaining()) {
+            SSLEngineResult.Status status = unwrap();
+            settle(until);
+            if (status == SSLEngineResult.Status.CLOSED && !plain.hasRemaining()
+                    || status == SSLEngineResult.Status.BUFFER_UNDERFLOW
+                            && !link.read(in, until)) {
+                return false;
+            }
+        }
+        int count = Math.min(plain.remaining(), into.remaining());
+        into.put(into.position(), plain, plain.position(), count);
+        into.position(into.position() + count);
+        plain.position(plain.position() + count);
+        return true;
+    }
+
+    /** Tells the server of an end or a fault, where that goes at once. */
+    private void tell() {
+        try {
+            engine.closeOutbound();
+            while (!engine.isOutboundDone()) {
+                out.clear();
+                if (engine.wrap(NOTHING.duplicate(), out).bytesProduced() == 0) {
+                    break;
+                }
+                link.tryWrite(out.flip());
+            }
+        } catch (IOException why) {
+            // it is gone either way
+        }
+    }
+
+    @Override
+    public void close() {
+        tell();
+        link.close();
+    }
+}

@@ -1,0 +1,215 @@
+package tbclient;
+
+import static org.junit.Assert.assertEquals;
+import static org.junit.Assert.assertFalse;
+import static org.junit.Assert.assertThrows;
+import static org.junit.Assert.assertTrue;
+
+import java.io.DataInputStream;
+import java.io.IOException;
+import java.io.OutputStream;
+import java.math.BigInteger;
+import java.net.InetAddress;
+import java.net.ServerSocket;
+import java.net.Socket;
+import java.nio.file.Path;
+import java.time.Duration;
+import java.util.ArrayList;
+import java.util.List;
+import java.util.concurrent.Callable;
+import java.util.concurrent.ExecutorService;
+import java.util.concurrent.Executors;
+import java.util.concurrent.Future;
+import java.util.concurrent.atomic.AtomicInteger;
+import java.util.concurrent.atomic.AtomicLong;
+import org.junit.After;
+import org.junit.Before;
+import org.junit.Test;
+
+/** The transport before a small server on a port. */
+public class SocketTransportTest {
+    private static final Duration SHORT = Duration.ofMillis(200);
+    private static final SessionOptions ONCE = new SessionOptions(1, Duration.ofMillis(1));
+
+    private final AtomicLong commits = new AtomicLong();
+    private final AtomicInteger connections = new AtomicInteger();
+    private final AtomicInteger silent = new AtomicInteger(); // requests that get no reply
+    private ServerSocket server;
+
+    @Before
+    public void listen() throws IOException {
+        server = new ServerSocket(0, 50, InetAddress.getLoopbackAddress());
+        start(
+                () -> {
+                    while (true) {
+                        Socket it = server.accept();
+                        connections.incrementAndGet();
+                        start(() -> serve(it));
+                    }
+                });
+    }
+
+    private static void start(Callable<Void> work) {
+        Thread it =
+                new Thread(
+                        () -> {
+                            try {
+                                work.call();
+                            } catch (Exception ended) {
+                                // the client closed it, or the test is over
+                            }
+                        });
+        it.setDaemon(true);
+        it.start();
+    }
+
+    @After
+    public void stop() throws IOException {
+        server.close();
+    }
+
+    /** Registers and empty lookups are answered, one after another. */
+    private Void serve(Socket socket) throws IOException {
+        try (socket) {
+            DataInputStream in = new DataInputStream(socket.getInputStream());
+            OutputStream out = socket.getOutputStream();
+            while (true) {
+                byte[] frame = in.readNBytes(Layout.HEADER_SIZE);
+                if (frame.length < Layout.HEADER_SIZE) {
+                    return null;
+                }
+                in.skipNBytes(Frames.length(frame));
+                if (silent.getAndDecrement() > 0) {
+                    continue;
+                }
+                long commit = commits.incrementAndGet();
+                byte[] reply = frame.clone();
+                Values.putInt(reply, Layout.REPLY_HEADER_LENGTH, 0);
+                Values.putLong(reply, Layout.REPLY_HEADER_COMMIT, commit);
+                if (Frames.operation(frame) == Operation.REGISTER) {
+                    Values.putLong(reply, Layout.REPLY_HEADER_SESSION, commit);
+                }
+                out.write(reply);
+            }
+        }
+    }
+
+    private SocketTransport transport(Duration timeout) {
+        Address address = Address.tcp("127.0.0.1", server.getLocalPort());
+        return new SocketTransport(List.of(address), timeout, null);
+    }
+
+    private static Session registered(Transport transport) {
+        return Session.register(transport, Ids.id(), ONCE, null);
+    }
+
+    @Test(timeout = 30_000)
+    public void aReplyThatDoesNotComeIsLostAndTheConnectionLeft() {
+        try (Session session = registered(transport(SHORT))) {
+            silent.set(1);
+            assertThrows(
+                    ReplyLostException.class, () -> session.lookupAccounts(List.of(BigInteger.ONE)));
+            session.retry();
+            assertEquals(2, connections.get());
+            assertEquals(1, session.number());
+        }
+    }
+
+    @Test(timeout = 30_000)
+    public void aLimitOfTheCallersEndsAWait() {
+        try (Session session = registered(transport(Duration.ofSeconds(20)))) {
+            silent.set(1);
+            CancelledException why =
+                    assertThrows(
+                            CancelledException.class,
+                            () -> session.lookupAccounts(List.of(BigInteger.ONE), SHORT));
+            assertTrue(why.mayHaveSent());
+            session.retry(Duration.ofSeconds(20));
+        }
+    }
+
+    @Test(timeout = 30_000)
+    public void anInterruptEndsAWait() throws Exception {
+        try (Session session = registered(transport(Duration.ofSeconds(20)))) {
+            silent.set(1);
+            Thread caller = Thread.currentThread();
+            start(
+                    () -> {
+                        Thread.sleep(100);
+                        caller.interrupt();
+                        return null;
+                    });
+            CancelledException why =
+                    assertThrows(
+                            CancelledException.class,
+                            () -> session.lookupAccounts(List.of(BigInteger.ONE)));
+            assertTrue(why.mayHaveSent());
+            assertTrue(Thread.interrupted());
+            session.retry();
+        }
+    }
+
+    @Test(timeout = 30_000)
+    public void nobodyListensIsToldAsNotSent() throws IOException {
+        server.close();
+        try (SocketTransport transport = transport(SHORT)) {
+            assertThrows(CannotConnectException.class, () -> registered(transport));
+            CancelledException why =
+                    assertThrows(
+                            CancelledException.class,
+                            () ->
+                                    Session.register(
+                                            transport, Ids.id(), ONCE, Duration.ofMillis(50)));
+            assertFalse(why.mayHaveSent());
+        }
+    }
+
+    @Test(timeout = 30_000)
+    public void whatIsClosedStaysClosed() {
+        Session session = registered(transport(SHORT));
+        session.close();
+        session.close();
+        assertThrows(ClosedException.class, () -> session.lookupAccounts(List.of(BigInteger.ONE)));
+        assertEquals(1, connections.get());
+    }
+
+    @Test(timeout = 60_000)
+    public void threadsShareATransportAndSessions() throws Exception {
+        ExecutorService threads = Executors.newFixedThreadPool(24);
+        try (SocketTransport transport = transport(Duration.ofSeconds(20))) {
+            List<Session> sessions = List.of(registered(transport), registered(transport));
+            List<Future<?>> calls = new ArrayList<>();
+            for (int at = 0; at < 480; at++) {
+                Session session = sessions.get(at % 2);
+                calls.add(threads.submit(() -> session.lookupAccounts(List.of(BigInteger.ONE))));
+            }
+            for (Future<?> it : calls) {
+                it.get();
+            }
+            assertEquals(240, sessions.get(0).number());
+            assertEquals(240, sessions.get(1).number());
+            assertEquals(1, connections.get());
+        } finally {
+            threads.shutdownNow();
+        }
+    }
+
+    @Test
+    public void wrongArgumentsAreRefused() {
+        invalid("address", () -> new SocketTransport((Address) null));
+        invalid("address", () -> new SocketTransport(List.of(), SHORT, null));
+        invalid("timeout", () -> transport(Duration.ZERO));
+        invalid("timeout", () -> transport(null));
+        invalid("port", () -> Address.tcp("localhost", 0));
+        invalid("port", () -> Address.tcp("localhost", 65536));
+        invalid("address", () -> Address.tcp(" ", 1));
+        invalid("address", () -> Address.unix(""));
+        invalid("address", () -> Address.unix("a\0b"));
+        invalid("authorities", () -> Tls.context(null));
+        assertThrows(FileException.class, () -> Tls.context(Path.of("none.pem")));
+    }
+
+    private static void invalid(String field, Runnable call) {
+        assertEquals(field, assertThrows(InvalidValueException.class, call::run).field());
+    }
+}

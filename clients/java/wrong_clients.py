@@ -1,0 +1,262 @@
+#!/usr/bin/env python3
+"""Sees that the conformance kit catches wrong clients: this one with one thing wrong, each in turn.
+
+    wrong_clients.py [--only PATTERN]
+
+Each wrong client is an edit of src/main/java in a copy of its own. The kit has to fail for it; the
+client as it is has to pass. Prints which scenario caught it, and 'N of M wrong clients are caught'.
+Status 1 where one is not.
+"""
+import argparse
+import fnmatch
+import glob
+import os
+import re
+import shutil
+import subprocess
+import sys
+import tempfile
+
+HERE = os.path.dirname(os.path.abspath(__file__))
+KIT = os.path.join(os.path.dirname(HERE), "conformance", "kit.py")
+JAVA = ["java", "-XX:TieredStopAtLevel=1", "-XX:+UseSerialGC", "-Xshare:auto", "-cp"]
+
+# Each: what is wrong, the class, the text that stands there once, and the text in its place.
+WRONG = {
+    "a new number for each retry": (
+        "Session",
+        "            return send(limit);\n        } finally {\n",
+        "            if (mayBeSent && session != 0) {\n"
+        "                number++;\n"
+        "                Values.putInt(pending, Layout.REQUEST_HEADER_REQUEST, number + 1);\n"
+        "            }\n"
+        "            return send(limit);\n        } finally {\n",
+    ),
+    "a new id of the record for each retry": (
+        "Session",
+        "            return send(limit);\n        } finally {\n",
+        "            if (mayBeSent && Frames.operation(pending) == Operation.CREATE_TRANSFERS) {\n"
+        "                Values.putWide(pending, Layout.HEADER_SIZE, Ids.id());\n"
+        "            }\n"
+        "            return send(limit);\n        } finally {\n",
+    ),
+    "the next number before the reply": (
+        "Session",
+        "        if (pending == null) {\n            return;\n        }\n        if (refused",
+        "        if (pending == null) {\n            return;\n        }\n"
+        "        if (mayBeSent) {\n            number++;\n            return;\n        }\n"
+        "        if (refused",
+    ),
+    "a refusal is taken for an answer": (
+        "Session",
+        "            throw refused;\n",
+        "            Values.putInt(reply, Layout.REPLY_HEADER_LENGTH, 0);\n",
+    ),
+    "a refusal ends the doubt": (
+        "Session",
+        "            throw refused;\n",
+        "            pending = null;\n            throw refused;\n",
+    ),
+    "a lost reply ends the doubt": (
+        "Session",
+        "                if (left == 0) {\n                    throw why;\n",
+        "                if (left == 0) {\n                    pending = null;\n"
+        "                    throw why;\n",
+    ),
+    "a request is sent once": (
+        "Session",
+        "                if (left == 0) {\n",
+        "                if (left >= 0) {\n",
+    ),
+    "no pause where the server is busy": (
+        "Session",
+        "                    pause(pause, limit);\n",
+        "",
+    ),
+    "every refusal is sent again": (
+        "Session",
+        "catch (ReplyLostException | NotYetException why) {",
+        "catch (ReplyLostException | RefusedException why) {",
+    ),
+    "what was never sent stays in doubt": (
+        "Session",
+        "            if (!mayBeSent) {\n                pending = null;\n            }\n",
+        "",
+    ),
+    "what was prepared is forgotten by another call": (
+        "Session",
+        "            make(operation, items);\n            return sendOrForget(limit);\n",
+        "            try {\n                make(operation, items);\n"
+        "            } catch (InDoubtException why) {\n                pending = null;\n"
+        "                throw why;\n            }\n            return sendOrForget(limit);\n",
+    ),
+    "lost, then nobody listens, is told as not sent": (
+        "Session",
+        "throw last == null || why.mayHaveSent() ? why : afterSending(last, why);",
+        "throw last == null || why != null ? why : afterSending(last, why);",
+    ),
+    "bytes of another session are loaded": (
+        "Session",
+        "                || Frames.session(frame) != session\n",
+        "",
+    ),
+    "any reply will do": (
+        "Frames",
+        "        if (!isOfIt) {\n",
+        "        if (!isOfIt && frame.length == 0) {\n",
+    ),
+    "unknown result codes are passed over": (
+        "Frames",
+        "            if (result == null || result.code() == 0) {\n",
+        "            if (result == null) {\n                continue;\n            }\n"
+        "            if (result.code() == 0) {\n",
+    ),
+    "records are not compared with the ids": (
+        "Frames",
+        "            if (id >= frame.length) {\n",
+        "            if (id >= frame.length && at < 0) {\n",
+    ),
+    "8191 items": (
+        "Frames",
+        "        if (given.length > Layout.ITEMS_MAX) {\n",
+        "        if (given.length > Layout.ITEMS_MAX + 1) {\n",
+    ),
+    "numbers that are too large are cut": (
+        "Values",
+        "        if (value.signum() < 0 || value.bitLength() > bits) {\n",
+        "        if (value.signum() < 0) {\n",
+    ),
+    "a late reply is waited for on the old connection": (
+        "SocketTransport",
+        "            throw new ReplyLostException(\"no reply within \" + timeout, \"\", late);\n",
+        "            isDone = true;\n"
+        "            throw new ReplyLostException(\"no reply within \" + timeout, \"\", late);\n",
+    ),
+    "a connection that was closed is not looked at": (
+        "SocketTransport",
+        "        if (link != null && link.isLeft()) {\n            lose();\n        }\n",
+        "",
+    ),
+    "always the first address": (
+        "SocketTransport",
+        "        at = (at + 1) % addresses.size();\n",
+        "        at = 0;\n",
+    ),
+    "the name that the server told is lost": (
+        "SocketTransport",
+        "                : new ReplyLostException(text, told, cause);\n",
+        "                : new ReplyLostException(text, \"\", cause);\n",
+    ),
+    "two requests in flight on a connection": (
+        "SocketTransport",
+        "    private final ReentrantLock lock = new ReentrantLock(true);\n",
+        "    private final ReentrantLock lock =\n"
+        "            new ReentrantLock() {\n"
+        "                private static final long serialVersionUID = 1L;\n"
+        "                public boolean tryLock(long time, java.util.concurrent.TimeUnit unit) {\n"
+        "                    return true;\n                }\n"
+        "                public void unlock() {}\n            };\n",
+    ),
+    "a session that two threads use at once": (
+        "Session",
+        "    private final ReentrantLock lock = new ReentrantLock(true);\n",
+        "    private final ReentrantLock lock =\n"
+        "            new ReentrantLock() {\n"
+        "                private static final long serialVersionUID = 1L;\n"
+        "                public boolean tryLock(long time, java.util.concurrent.TimeUnit unit) {\n"
+        "                    return true;\n                }\n"
+        "                public void lock() {}\n"
+        "                public void unlock() {}\n            };\n",
+    ),
+    "the caller's limit is not looked at": (
+        "SocketTransport",
+        "        Deadline limit = Deadline.in(within);\n",
+        "        Deadline limit = Deadline.in(null);\n",
+    ),
+    "TLS without a look at the host's name": (
+        "TlsLink",
+        "            parameters.setEndpointIdentificationAlgorithm(\"HTTPS\");\n",
+        "",
+    ),
+    "a file is written over": (
+        "SavedFile",
+        "            Files.move(\n                    beside,\n                    path,\n"
+        "                    StandardCopyOption.ATOMIC_MOVE,\n"
+        "                    StandardCopyOption.REPLACE_EXISTING);\n",
+        "            Files.write(path, data);\n            Files.delete(beside);\n",
+    ),
+    "a file forgets the request in doubt": (
+        "SavedFile",
+        "                        + saved.pending() + \"\\\"}\";\n",
+        "                        + \"\\\"}\";\n",
+    ),
+    "two fields of one name: the last one counts": (
+        "Json",
+        "                if (found.containsKey(name)) {\n",
+        "                if (found.containsKey(name) && depth > 1) {\n",
+    ),
+    "ids follow the clock back": (
+        "Ids",
+        "        if (now > millisecond) {\n",
+        "        if (now != millisecond) {\n",
+    ),
+}
+
+
+def compiled(folder, edit):
+    """The class path of a client with a text in place of another."""
+    shutil.copytree(f"{HERE}/src", f"{folder}/src")
+    if edit:
+        name, old, new = edit
+        path = f"{folder}/src/main/java/tbclient/{name}.java"
+        with open(path, encoding="utf-8") as it:
+            text = it.read()
+        if text.count(old) != 1:
+            raise LookupError(f"{name} has {text.count(old)} times: {old.strip()}")
+        with open(path, "w", encoding="utf-8") as it:
+            it.write(text.replace(old, new))
+    sources = glob.glob(f"{folder}/src/main/**/*.java", recursive=True)
+    runner = f"{folder}/src/test/java/tbclient/ConformanceRunner.java"
+    words = ["javac", "-nowarn", "--release", "17", "-d", f"{folder}/classes", *sources, runner]
+    ran = subprocess.run(words, capture_output=True, text=True)
+    if ran.returncode:
+        raise LookupError(f"it does not compile: {ran.stderr}")
+    return f"{folder}/classes"
+
+
+def caught(edit):
+    """The kit's status for an edited client, and the scenario that failed first."""
+    with tempfile.TemporaryDirectory() as folder:
+        runner = [*JAVA, compiled(folder, edit), "tbclient.ConformanceRunner"]
+        words = [sys.executable, "-B", KIT, "--first", "--jobs", "1", "--", *runner]
+        ran = subprocess.run(words, capture_output=True, text=True, timeout=600)
+    first = re.search(r"^FAILED: ([^:]+): (.*)", ran.stdout, re.M)
+    said = f"{first[1]}: {first[2][:100]}" if first else (ran.stdout + ran.stderr)[-300:]
+    return ran.returncode, said
+
+
+def main():
+    parser = argparse.ArgumentParser(
+        description=__doc__, formatter_class=argparse.RawDescriptionHelpFormatter
+    )
+    parser.add_argument(
+        "--only", metavar="PATTERN", default="*", help="wrong clients with such a name"
+    )
+    given = parser.parse_args()
+    chosen = {name: edit for name, edit in WRONG.items() if fnmatch.fnmatch(name, given.only)}
+    status, said = caught(None)
+    if status:
+        print(f"FAILED: the client as it is: {said}")
+        return 1
+    missed = 0
+    for name, edit in chosen.items():
+        status, said = caught(edit)
+        missed += status != 1
+        how = "caught: " if status == 1 else "FAILED: not caught: "
+        print(f"{how}{name}: by {said}" if status == 1 else f"{how}{name}: {said}", flush=True)
+    print(f"{len(chosen) - missed} of {len(chosen)} wrong clients are caught")
+    return 1 if missed else 0
+
+
+if __name__ == "__main__":
+    sys.exit(main())
