@@ -28,7 +28,13 @@ def files(table):
 def enum(name, about, rows):
     overrides = ["    @Override"] if name.endswith("Result") else []
     is_result = " implements ResultCode" if name.endswith("Result") else ""
-    lines = [HEAD, f"package {PACKAGE};", "", f"/** {about} */", f"public enum {name}{is_result} {{"]
+    lines = [
+        HEAD,
+        f"package {PACKAGE};",
+        "",
+        f"/** {about} */",
+        f"public enum {name}{is_result} {{",
+    ]
     for place, (number, word, says) in enumerate(rows):
         end = ";" if place == len(rows) - 1 else ","
         lines += [f"    /** {t.sentence(says)} */", f'    {t.upper(word)}({number}, "{word}"){end}']

@@ -16,6 +16,10 @@ case "${1:-build}" in
 build)
     $strictly -d out/classes $(find src/main -name '*.java')
     $strictly -cp out/classes -d out/test-classes $(find src/test -name '*.java' ! -name '*Test.java')
+    if [ ! -e out/test-classes/warm.p12 ]; then
+        keytool -genkeypair -alias warm -keyalg EC -validity 3650 -storetype PKCS12 -storepass warming \
+            -dname CN=localhost -ext san=dns:localhost -keystore out/test-classes/warm.p12 2>/dev/null
+    fi
     ;;
 test)
     if [ ! -e "${junit%%:*}" ]; then

@@ -1,7 +1,7 @@
 #!/usr/bin/env python3
 """Sees that the conformance kit catches wrong clients: this one with one thing wrong, each in turn.
 
-    wrong_clients.py [--only PATTERN]
+    sh build.sh && python3 wrong_clients.py [--only PATTERN]
 
 Each wrong client is an edit of src/main/java in a copy of its own. The kit has to fail for it; the
 client as it is has to pass. Prints which scenario caught it, and 'N of M wrong clients are caught'.
@@ -128,9 +128,9 @@ WRONG = {
     ),
     "a late reply is waited for on the old connection": (
         "SocketTransport",
-        "            throw new ReplyLostException(\"no reply within \" + timeout, \"\", late);\n",
+        '            throw new ReplyLostException("no reply within " + timeout, "", late);\n',
         "            isDone = true;\n"
-        "            throw new ReplyLostException(\"no reply within \" + timeout, \"\", late);\n",
+        '            throw new ReplyLostException("no reply within " + timeout, "", late);\n',
     ),
     "a connection that was closed is not looked at": (
         "SocketTransport",
@@ -145,7 +145,7 @@ WRONG = {
     "the name that the server told is lost": (
         "SocketTransport",
         "                : new ReplyLostException(text, told, cause);\n",
-        "                : new ReplyLostException(text, \"\", cause);\n",
+        '                : new ReplyLostException(text, "", cause);\n',
     ),
     "two requests in flight on a connection": (
         "SocketTransport",
@@ -175,7 +175,7 @@ WRONG = {
     ),
     "TLS without a look at the host's name": (
         "TlsLink",
-        "            parameters.setEndpointIdentificationAlgorithm(\"HTTPS\");\n",
+        '            parameters.setEndpointIdentificationAlgorithm("HTTPS");\n',
         "",
     ),
     "a file is written over": (
@@ -187,8 +187,8 @@ WRONG = {
     ),
     "a file forgets the request in doubt": (
         "SavedFile",
-        "                        + saved.pending() + \"\\\"}\";\n",
-        "                        + \"\\\"}\";\n",
+        '                        + saved.pending() + "\\"}";\n',
+        '                        + "\\"}";\n',
     ),
     "two fields of one name: the last one counts": (
         "Json",
@@ -216,11 +216,12 @@ def compiled(folder, edit):
         with open(path, "w", encoding="utf-8") as it:
             it.write(text.replace(old, new))
     sources = glob.glob(f"{folder}/src/main/**/*.java", recursive=True)
-    runner = f"{folder}/src/test/java/tbclient/ConformanceRunner.java"
-    words = ["javac", "-nowarn", "--release", "17", "-d", f"{folder}/classes", *sources, runner]
+    tests = [f"{folder}/src/test/java/tbclient/{it}.java" for it in ("ConformanceRunner", "WarmTls")]
+    words = ["javac", "-nowarn", "--release", "17", "-d", f"{folder}/classes", *sources, *tests]
     ran = subprocess.run(words, capture_output=True, text=True)
     if ran.returncode:
         raise LookupError(f"it does not compile: {ran.stderr}")
+    shutil.copy(f"{HERE}/out/test-classes/warm.p12", f"{folder}/classes")
     return f"{folder}/classes"
 
 

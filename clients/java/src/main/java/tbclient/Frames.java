@@ -15,7 +15,8 @@ final class Frames {
 
     // Requests
 
-    static byte[] request(BigInteger client, long session, long number, Operation kind, byte[] body) {
+    static byte[] request(
+            BigInteger client, long session, long number, Operation kind, byte[] body) {
         byte[] frame = new byte[Layout.HEADER_SIZE + body.length];
         Values.putWide(frame, Layout.REQUEST_HEADER_CLIENT, client);
         Values.putLong(frame, Layout.REQUEST_HEADER_SESSION, session);
@@ -105,7 +106,8 @@ final class Frames {
             return "RequestZero";
         }
         String fault = lengthFault(length(frame), Layout.requestItemSize(operation));
-        return fault == null && length(frame) != frame.length - Layout.HEADER_SIZE ? "Short" : fault;
+        boolean isWhole = length(frame) == frame.length - Layout.HEADER_SIZE;
+        return fault == null && !isWhole ? "Short" : fault;
     }
 
     /** What is wrong with the length of a body of items of this size; of none where it is 0. */

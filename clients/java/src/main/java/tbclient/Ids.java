@@ -19,15 +19,15 @@ public final class Ids {
     private long millisecond;
     private BigInteger bits = BigInteger.ZERO;
 
-    /** A generator of its own: milliseconds, and ten random bytes at each call, the low one first. */
+    /** A generator of its own: milliseconds, and ten random bytes a call, the low one first. */
     Ids(LongSupplier clock, Supplier<byte[]> random) {
         this.clock = clock;
         this.random = random;
     }
 
     /**
-     * A new id of 128 bits. It is above each earlier one of this process, in any thread, and neither
-     * 0 nor 2^128 - 1. Keep it with its request: a retry never takes a new one.
+     * A new id of 128 bits. It is above each earlier one of this process, in any thread, and
+     * neither 0 nor 2^128 - 1. Keep it with its request: a retry never takes a new one.
      *
      * @return the id
      */

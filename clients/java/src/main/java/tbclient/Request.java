@@ -4,8 +4,8 @@ import java.math.BigInteger;
 import java.util.List;
 
 /**
- * A request, as its frame has it. Of its three lists that of its operation has what it asks for, and
- * the others are empty.
+ * A request, as its frame has it. Of its three lists that of its operation has what it asks for,
+ * and the others are empty.
  *
  * @param client the client's id
  * @param session its session

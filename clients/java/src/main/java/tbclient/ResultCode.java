@@ -1,6 +1,6 @@
 package tbclient;
 
-/** What became of an event, by name: a {@link CreateAccountResult} or {@link CreateTransferResult}. */
+/** What became of an event: a {@link CreateAccountResult} or {@link CreateTransferResult}. */
 public interface ResultCode {
     /**
      * The number in a frame.

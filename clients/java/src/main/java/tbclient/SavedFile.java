@@ -12,6 +12,7 @@ import java.nio.file.NoSuchFileException;
 import java.nio.file.Path;
 import java.nio.file.StandardCopyOption;
 import java.nio.file.StandardOpenOption;
+import java.nio.file.attribute.BasicFileAttributes;
 import java.util.Map;
 import java.util.concurrent.atomic.AtomicLong;
 
@@ -38,8 +39,7 @@ final class SavedFile {
 
     /** Refuses what gives no end or waits for others: a folder, a pipe, a device. */
     private static void testIsFile(Path path) throws IOException {
-        if (!Files.readAttributes(path, java.nio.file.attribute.BasicFileAttributes.class)
-                .isRegularFile()) {
+        if (!Files.readAttributes(path, BasicFileAttributes.class).isRegularFile()) {
             throw new InvalidValueException("path", "is no file, but a folder, a pipe or a device");
         }
     }

@@ -18,6 +18,7 @@ final class TlsLink implements Link {
     private final ByteBuffer out; // what was wrapped, to be sent
     private final ByteBuffer in; // what came, from its beginning to its position
     private ByteBuffer plain; // what was unwrapped, to be read
+    private SSLEngineResult.Status last = SSLEngineResult.Status.OK; // of an unwrap
 
     private TlsLink(PlainLink link, SSLEngine engine) {
         this.link = link;
@@ -79,8 +80,6 @@ final class TlsLink implements Link {
                 return false;
         }
     }
-
-    private SSLEngineResult.Status last = SSLEngineResult.Status.OK;
 
     /** Whether the last unwrap needs more bytes. */
     private boolean isCut() {

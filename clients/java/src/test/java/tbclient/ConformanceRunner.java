@@ -6,7 +6,6 @@ import java.io.InputStreamReader;
 import java.io.PrintStream;
 import java.math.BigDecimal;
 import java.math.BigInteger;
-import java.nio.ByteBuffer;
 import java.nio.charset.StandardCharsets;
 import java.nio.file.Path;
 import java.time.Duration;
@@ -24,8 +23,6 @@ import java.util.concurrent.FutureTask;
 import java.util.function.Consumer;
 import java.util.stream.Stream;
 import javax.net.ssl.SSLContext;
-import javax.net.ssl.SSLEngine;
-import javax.net.ssl.SSLException;
 
 /**
  * The runner of this client for the conformance kit: a JSON line in, a JSON line out.
@@ -162,33 +159,20 @@ public final class ConformanceRunner {
         }
         Duration timeout =
                 line.containsKey("timeout") ? time(line, "timeout") : SocketTransport.TIMEOUT;
-        SSLContext tls = line.containsKey("tls") ? warm(tls(fields(line.get("tls")))) : null;
+        SSLContext tls = line.containsKey("tls") ? tls(fields(line.get("tls"))) : null;
         transports.put(
                 (String) line.get("transport"), new SocketTransport(addresses, timeout, tls));
         return null;
     }
 
     private static SSLContext tls(Map<String, Object> given) {
+        WarmTls.up();
         Path authorities = Path.of((String) given.get("ca"));
         if (!given.containsKey("cert")) {
             return Tls.context(authorities);
         }
         Path certificate = Path.of((String) given.get("cert"));
         return Tls.context(authorities, certificate, Path.of((String) given.get("key")));
-    }
-
-    /** Loads Java's classes of TLS, so that the kit's short timeouts do not measure that. */
-    private static SSLContext warm(SSLContext context) {
-        try {
-            SSLEngine engine = context.createSSLEngine("localhost", 1);
-            engine.setUseClientMode(true);
-            engine.wrap(
-                    ByteBuffer.allocate(0),
-                    ByteBuffer.allocate(engine.getSession().getPacketBufferSize()));
-        } catch (SSLException why) {
-            throw new IllegalStateException(why);
-        }
-        return context;
     }
 
     private Object began(String how, Map<String, Object> line) {
